@@ -1,11 +1,11 @@
 -- The owner that lies at a place, where the numbers fall.
-use Rattle.std.proofs.Common.{◌≡◌, ℕ, zero, suc, ◌+◌, ◌<◌, ◌≤◌, ◌≢◌, Bool, true, false, List, [], ◌∷◌, ◌++◌, length, map, set, get_or, take, drop, arith, refl, ap, sym, ◌∙◌, eq-eqb}
+use Rattle.std.proofs.Common.{◌≡◌, ℕ, zero, suc, ◌+◌, ◌-◌, min, ◌<◌, ◌≤◌, ◌≢◌, Bool, true, false, List, [], ◌∷◌, ◌++◌, length, map, set, get_or, take, drop, arith, refl, ap, sym, ◌∙◌, eq-eqb}
 use Rattle.std.specs.Prelude.{◌==◌, filter, not, if◌then◌else◌, Some, None, Option, IsSome, IsTrue}
 use Rattle.std.specs.Option.{IfNone, option_map_or}
 use Rattle.pgs_step.specs.declared.ids.Item.{Item}
 use Rattle.std.specs.List.{list_any, find, remove}
 use Rattle.std.proofs.lemmas.Bool.{ne_eqb}
-use Rattle.std.proofs.lemmas.List.{length-set, get_or-set_same}
+use Rattle.std.proofs.lemmas.List.{length-set, length-append, length-take, length-drop, get_or-set_same}
 use Rattle.owner_core.specs.Owners.{Owner, Roomy, has_owner, items_of, has_begun, spare_of, changed, without}
 use Rattle.owner_core.specs.Order.{Falls}
 
@@ -91,6 +91,10 @@ pub falls_remove : (rooms : List Roomy) (top place : ℕ) → Falls top rooms �
 falls_remove [] top place f h = absurd (omega (arith, h))
 falls_remove (x ∷ xs) top zero f h = falls_weaker xs x.owner.number top f.1 (omega (arith, f.0))
 falls_remove (x ∷ xs) top (suc place) f h = (f.0, falls_remove xs x.owner.number place f.1 (omega (arith, h)))
+
+pub length_removed : (rooms : List Roomy) (place : ℕ) → length (take place rooms ++ drop (suc place) rooms) ≤ length rooms
+length_removed rooms place =
+    omega (arith, length-append (take place rooms) (drop (suc place) rooms), length-take place rooms, length-drop (suc place) rooms)
 
 pub without_at : (rooms : List Roomy) (top place n : ℕ) (room : Roomy) → Falls top rooms → Lies rooms place n room → owners (take place rooms ++ drop (suc place) rooms) ≡ without n (owners rooms)
 without_at [] top place n room f l = absurd (omega (arith, l.within))
