@@ -128,7 +128,9 @@ impl Sink for MemSink {
         ensures bytes { IfOk result (λ count. self.new.kept ≡ self.old.kept ++ take count buf.now) }
         ensures unchanged { OnErr result (self.new.kept ≡ self.old.kept) }
         ensures no_fault { OnOk result (self.new.failed ≡ self.old.failed) }
-        ensures fault { OnErr result (self.new.failed ≡ counted self.old.failed) }
+        ensures fault { OnErr result (HasRisen self.old.failed self.new.failed) }
+        ensures never_falls { self.old.failed ≤ self.new.failed }
+        ensures failed { OnErr result (self.new.failed ≡ counted self.old.failed) }
         ensures fails { IsErr result ↔ (MustFail self.old.failing self.old.calls ⊎ (length self.old.kept ≡ self.old.room)) }
         ensures count { IfOk result (λ count. count ≡ min (length buf.now) (self.old.room - length self.old.kept)) }
         ensures calls { self.new.calls ≡ counted self.old.calls }

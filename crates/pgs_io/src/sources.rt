@@ -1,5 +1,5 @@
 //! Where bytes come from.
-ghost use Rattle.std.specs.Prelude.{◌≡◌, ◌<◌, ◌≤◌, ◌+◌, ◌↔◌, ℕ, List, [], Option, None, Some, length, take, drop, min, IfOk, IfSome, IsErr, IsTrue, OnOk, OnErr};
+ghost use Rattle.std.specs.Prelude.{◌≡◌, ◌<◌, ◌≤◌, ◌+◌, ◌++◌, ◌↔◌, ℕ, List, [], Option, None, Some, length, take, drop, min, IfOk, IfSome, IsErr, IsTrue, OnOk, OnErr};
 ghost use Rattle.std.specs.Io.KnownBytes.{prepend_known};
 ghost use Rattle.pgs_io.specs.Faults.{HasRisen, counted};
 ghost use Rattle.pgs_io.specs.Memory.{MustFail};
@@ -107,11 +107,13 @@ impl Source for MemSource {
     fn read(&mut self, buf: &mut [u8]) -> Result<usize, Failed>
         requires { 0 < length buf.old }
         ensures bound { IfOk result (λ count. count ≤ length buf.new) }
-        ensures bytes { IfOk result (λ count. Some self.old.unread ≡ prepend_known (take count buf.new) (Some self.new.unread)) }
+        ensures bytes { IfOk result (λ count. self.old.unread ≡ take count buf.new ++ self.new.unread) }
         ensures end { IfOk result (λ count. (count ≡ 0) ↔ (self.old.unread ≡ [])) }
         ensures unchanged { OnErr result (self.new.unread ≡ self.old.unread) }
         ensures no_fault { OnOk result (self.new.failed ≡ self.old.failed) }
-        ensures fault { OnErr result (self.new.failed ≡ counted self.old.failed) }
+        ensures fault { OnErr result (HasRisen self.old.failed self.new.failed) }
+        ensures never_falls { self.old.failed ≤ self.new.failed }
+        ensures failed { OnErr result (self.new.failed ≡ counted self.old.failed) }
         ensures fails { IsErr result ↔ MustFail self.old.failing self.old.calls }
         ensures count { IfOk result (λ count. count ≡ min self.old.piece (min (length buf.old) (length self.old.unread))) }
         ensures calls { self.new.calls ≡ counted self.old.calls }
@@ -133,8 +135,8 @@ impl Source for MemSource {
 /// Counts a call, and answers whether it is one that has to fail.
 ///
 /// The count stands still at 2^64 - 1, and no call behind that one fails.
-pub(crate) fn call_fails(calls: &mut u64, fail_at: &Vec<u64>) -> bool
-    ensures fails { IsTrue result ↔ MustFail fail_at.now.items calls.old }
+pub(crate) fn call_fails(calls: &mut u64, fail_at: &[u64]) -> bool
+    ensures fails { IsTrue result ↔ MustFail fail_at.now calls.old }
     ensures calls { calls.new ≡ counted calls.old }
 {
     let Some(number) = calls.checked_add(1) else {
