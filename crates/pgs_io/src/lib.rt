@@ -1,6 +1,7 @@
 //! Where a program's bytes come from and go to, and the lines and words among them.
 #![tactic(auto)]
 
+mod finding;
 mod lines;
 mod reading;
 mod sinks;

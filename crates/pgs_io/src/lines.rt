@@ -47,12 +47,9 @@ impl LineBuf {
         ensures fits { IsTrue result ↔ (length self.old + length bytes.now ≤ 512) }
         ensures appended { self.new ≡ take 512 (self.old ++ bytes.now) }
     {
-        let room = self.bytes.remaining_capacity();
-        if bytes.len() <= room {
-            return self.bytes.try_extend_from_slice(bytes).is_ok();
-        }
-        let _ = self.bytes.try_extend_from_slice(&bytes[..room]);
-        false
+        let count = bytes.len().min(self.bytes.remaining_capacity());
+        let _ = self.bytes.try_extend_from_slice(&bytes[..count]);
+        count == bytes.len()
     }
 
     /// The bytes.

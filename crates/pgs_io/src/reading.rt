@@ -7,6 +7,7 @@ ghost use Rattle.pgs_io.specs.Answers.{IfLine, IfLast, OnEnd, OnFault, OnTooMuch
 ghost use Rattle.pgs_io.specs.Filling.{TakesPart, Fills, FillsNoFault, Probes};
 
 use crate::Failed;
+use crate::finding::first_of;
 use crate::lines::LineBuf;
 use crate::sources::Source;
 use std::marker::Model;
@@ -87,7 +88,7 @@ impl LineReader {
         ensures line_unchanged { OnPartial result (line.new ≡ line.old) }
     {
         let pending = &self.chunk[self.start..self.end];
-        let Some(at) = pending.iter().position(|byte| *byte == NEWLINE) else {
+        let Some(at) = first_of(pending, NEWLINE) else {
             return Buffered::Partial;
         };
         line.clear();
@@ -131,7 +132,7 @@ impl LineReader {
         ensures { TakesPart self.old self.new line.old line.new result.ended result.cut }
     {
         let pending = &self.chunk[self.start..self.end];
-        match pending.iter().position(|byte| *byte == NEWLINE) {
+        match first_of(pending, NEWLINE) {
             Some(at) => {
                 let fits = line.extend(&pending[..at]);
                 self.start += at + 1;

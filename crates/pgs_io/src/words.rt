@@ -3,6 +3,8 @@ ghost use Rattle.std.specs.Prelude.{◌≡◌, ◌≢◌, ◌≤◌, ◌==◌, �
 ghost use Rattle.std.specs.List.{before_first, after_first};
 ghost use Rattle.std.specs.Fmt.{decimal};
 
+use crate::finding::first_of;
+
 /// Splits at the first space: the bytes before it, and those behind it.
 ///
 /// Without a space the second part is empty. So `a` and `a ` with a space at its end have the same parts.
@@ -13,7 +15,7 @@ pub fn next_token(rest: &[u8]) -> (&[u8], &[u8])
     ensures split { Contains rest.now 32 → result.0.now ++ 32 ∷ result.1.now ≡ rest.now }
     ensures whole { All (λ b. b ≢ 32) rest.now → (result.0.now ≡ rest.now) × (result.1.now ≡ []) }
 {
-    match rest.iter().position(|byte| *byte == b' ') {
+    match first_of(rest, b' ') {
         Some(at) => (&rest[..at], &rest[at + 1..]),
         None => (rest, &[]),
     }
