@@ -55,14 +55,14 @@ pub struct LineReader {
 }
 
 impl Model for LineReader {
-    ghost use Rattle.std.specs.Prelude.{◌≡◌, ◌≤◌, length, slice_range};
+    ghost use Rattle.std.specs.Prelude.{◌≤◌, slice_range};
     ghost use Rattle.pgs_io.specs.Reading.{Reading};
 
     ghost Value = { Reading };
 
     ghost view = { λ r. record { pending = slice_range r.chunk r.start r.end; room = r.room } };
 
-    ghost invariant = { λ r. (r.start ≤ r.end) × (r.end ≤ 4096) × (length r.chunk ≡ 4096) };
+    ghost invariant = { λ r. (r.start ≤ r.end) × (r.end ≤ 4096) };
 }
 
 impl LineReader {
