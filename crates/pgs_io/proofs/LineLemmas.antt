@@ -4,7 +4,7 @@ use Rattle.std.proofs.lemmas.Bool.Decides.{nat_tests}
 use Rattle.std.proofs.lemmas.List.Elements.{All-head, All-tail, All-append, All-nil, All-push}
 use Rattle.std.specs.Prelude.{All, IsTrue, ◌↔◌, Result, Ok, Err, IsOk, OnOk}
 use Rattle.std.proofs.lemmas.Bool.{cases_lt}
-use Rattle.std.proofs.lemmas.List.{take_all, take-take, take-append-le, drop-drop, drop-take}
+use Rattle.std.proofs.lemmas.List.{take_all, take-take, take-append-le, take-append-drop, take_at, drop-drop, drop-take}
 use Rattle.std.proofs.Math.Seq.{take-append-add}
 use Rattle.pgs_io.specs.Lines.{newline, lines_of, ended_lines, onto_first, onto_ended, text_of, HasNoNewline, IsKept}
 
@@ -116,3 +116,10 @@ pub not-fits : (fits : Bool) (m : ℕ) → IsTrue fits ↔ (m ≤ 512) → IsTru
 not-fits true m h = (λ e. cc, λ k. absurd (let small : m ≤ 512 = h.0 refl in omega arith))
 not-fits false m h =
     (λ e. ⊎_elim (λ k. k) (λ k. let bad : false ≡ true = h.1 k in cc) (cases_lt 512 m), λ k. refl)
+
+-- what a piece of the rest of some bytes leaves of a buffer, and of the rest
+pub piece-rest : (bytes buf piece : List ℕ) (at k : ℕ) → piece ≡ take k (drop at bytes) → length piece ≡ k
+    → drop at bytes ≡ take k (piece ++ drop k buf) ++ drop (at + k) bytes
+piece-rest bytes buf piece at k e len =
+    sym (take-append-drop k (drop at bytes)) ∙ ap (λ rest. take k (drop at bytes) ++ rest) (drop-drop k at bytes)
+        ∙ ap (λ l. l ++ drop (at + k) bytes) (sym e ∙ sym (take_at piece (drop k buf) k len))
