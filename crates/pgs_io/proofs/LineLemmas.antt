@@ -106,7 +106,7 @@ OnOk-gives (Err e) P h p = cc
 pub drop-slice_range : (xs : List ℕ) (start end k : ℕ) → start + k ≤ end → slice_range xs (start + k) end ≡ drop k (slice_range xs start end)
 drop-slice_range xs start end k h =
     ap (take (end - (start + k))) (sym (drop-drop k start xs)) ∙ sym (drop-take k (end - (start + k)) (drop start xs))
-        ∙ ap (λ n. drop k (take n (drop start xs))) (omega arith)
+    ∙ ap (λ n. drop k (take n (drop start xs))) (omega arith)
 
 pub length-slice_range-le : (xs : List ℕ) (start end : ℕ) → length (slice_range xs start end) ≤ end - start
 length-slice_range-le xs start end = omega (arith, length-take (end - start) (drop start xs))
@@ -122,4 +122,4 @@ pub piece-rest : (bytes buf piece : List ℕ) (at k : ℕ) → piece ≡ take k 
     → drop at bytes ≡ take k (piece ++ drop k buf) ++ drop (at + k) bytes
 piece-rest bytes buf piece at k e len =
     sym (take-append-drop k (drop at bytes)) ∙ ap (λ rest. take k (drop at bytes) ++ rest) (drop-drop k at bytes)
-        ∙ ap (λ l. l ++ drop (at + k) bytes) (sym e ∙ sym (take_at piece (drop k buf) k len))
+    ∙ ap (λ l. l ++ drop (at + k) bytes) (sym e ∙ sym (take_at piece (drop k buf) k len))

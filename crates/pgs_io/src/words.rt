@@ -1,5 +1,7 @@
 //! The words of a line.
-ghost use Rattle.std.specs.Prelude.{◌≡◌, ◌≢◌, ◌≤◌, ◌==◌, ◌++◌, ◌∷◌, [], ℕ, All, Contains, IfSome, IfNone};
+ghost use Rattle.std.specs.Prelude.{◌≡◌, ◌≢◌, ◌≤◌, ◌==◌, ◌++◌, ◌∷◌, [], ℕ, All, Contains, IfSome, IfNone, ◌<◌, ◌+◌, ◌*◌, ◌^◌};
+ghost use Rattle.std.specs.Option.{SomeIff};
+ghost use Rattle.std.specs.Char.{digit_value};
 ghost use Rattle.std.specs.List.{before_first, after_first};
 ghost use Rattle.std.specs.Fmt.{decimal};
 
@@ -29,15 +31,28 @@ pub fn number(word: &[u8], max: u64) -> Option<u64>
     ensures bound { IfSome result (λ n. n ≤ max) }
     ensures none { IfNone result ((n : ℕ) → n ≤ max → word.now ≢ decimal n) }
 {
-    if matches!(word, [] | [b'0', _, ..]) {
+    if word.is_empty() {
         return None;
     }
-    let mut value: u64 = 0;
-    for byte in word {
-        if !byte.is_ascii_digit() {
+    if word.len() > 1 && word[0] == b'0' {
+        return None;
+    }
+    let mut value = 0;
+    for digit in word {
+        let Some(longer) = with_digit(value, *digit) else {
             return None;
-        }
-        value = value.checked_mul(10)?.checked_add((*byte - b'0') as u64)?;
+        };
+        value = longer;
     }
     if value <= max { Some(value) } else { None }
+}
+
+/// The number with one more decimal digit behind it, where that is a digit and the number fits.
+fn with_digit(value: u64, digit: u8) -> Option<u64>
+    ensures { SomeIff result ((digit_value digit < 10) × (value * 10 + digit_value digit < 2 ^ 64)) (value * 10 + digit_value digit) }
+{
+    if !digit.is_ascii_digit() {
+        return None;
+    }
+    value.checked_mul(10)?.checked_add((digit - b'0') as u64)
 }

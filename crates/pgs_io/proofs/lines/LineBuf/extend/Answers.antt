@@ -10,4 +10,4 @@ returns-clause-appended c =
     let fits : length items + length front ≤ 512 = omega (arith, length-take c.min-count.result c.args.bytes.now, c.remaining_capacity.ensures, c.min-count.ensures) in
     rw (← c.self.view_is)
     (OnOk-gives c.try_extend_from_slice.result _ (c.try_extend_from_slice.ensures.variant.1 fits) c.try_extend_from_slice.ensures.ok
-        ∙ take-append-room 512 items c.args.bytes.now c.min-count.result (omega (arith, c.remaining_capacity.ensures)) (omega (arith, c.remaining_capacity.ensures, c.min-count.ensures)))
+    ∙ take-append-room 512 items c.args.bytes.now c.min-count.result (omega (arith, c.remaining_capacity.ensures)) (omega (arith, c.remaining_capacity.ensures, c.min-count.ensures)))
