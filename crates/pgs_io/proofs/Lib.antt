@@ -1,3 +1,4 @@
 pub mod KnownLemmas
 pub mod LineLemmas
+pub mod NumberLemmas
 pub mod ReadingLemmas
