@@ -1,5 +1,5 @@
 -- What reading a source by lines does.
-use Rattle.std.specs.Prelude.{◌≡◌, ◌<◌, ◌+◌, ℕ, Bool, Option, List, [], ◌∷◌, ◌++◌, length, All}
+use Rattle.std.specs.Prelude.{◌≡◌, ◌<◌, ◌≤◌, ◌+◌, ℕ, Bool, Option, List, [], ◌∷◌, ◌++◌, length, All}
 use Rattle.std.specs.Io.KnownBytes.{prepend_known, IsAtEnd}
 use Rattle.pgs_io.specs.Lines.{newline, text_of, HasNoNewline, IsKept}
 
@@ -67,3 +67,8 @@ pub record HasRead (limit : ℕ) (start now : Option (List ℕ)) (reader : Readi
   pub counted : length taken + reader.room ≡ limit
   pub bytes : taken ≡ text_of lines ++ reader.pending
   pub no_newline : All HasNoNewline lines
+
+-- `taken` came since the source had `start` left, and the reader may take that many
+pub record Took (limit : ℕ) (start now : Option (List ℕ)) (taken : List ℕ) : Type 0 where
+  pub from_source : start ≡ prepend_known taken now
+  pub within : length taken ≤ limit

@@ -43,7 +43,7 @@ returns-then-value-max-clause-read c =
     let some : 0 < length word = grind (arith, nat_tests) in
     let lead : get_or word 0 0 ≡ 48 → length word ≡ 1 =
     λ zero. elim c.else-word-gt1.branch [
-        else-word-gt1-via-then-word-gt1+else-word-eq48 w ↦ absurd (w.if-word-eq48.false zero)
+      | else-word-gt1-via-then-word-gt1+else-word-eq48 w ↦ absurd (w.if-word-eq48.false zero)
       | else-word-gt1-via-else-word-gt1 w ↦ omega arith
     ] in
     decimal-of_digits word all some lead (omega arith) ∙ ap decimal (sym value)
