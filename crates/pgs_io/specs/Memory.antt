@@ -2,7 +2,7 @@
 use Rattle.std.specs.Prelude.{ℕ, ◌+◌, List, Contains}
 
 -- a source that gives bytes of its own
-pub record Feed : Type 0 where
+pub record SourceState : Type 0 where
   pub unread : List ℕ
   pub piece : ℕ
   pub failing : List ℕ
@@ -10,7 +10,7 @@ pub record Feed : Type 0 where
   pub failed : ℕ
 
 -- a sink that keeps the bytes
-pub record Store : Type 0 where
+pub record SinkState : Type 0 where
   pub kept : List ℕ
   pub room : ℕ
   pub failing : List ℕ

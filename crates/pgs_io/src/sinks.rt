@@ -63,9 +63,9 @@ pub struct MemSink {
 
 impl Model for MemSink {
     ghost use Rattle.std.specs.Prelude.{◌≤◌, vec_len, vec_capacity};
-    ghost use Rattle.pgs_io.specs.Memory.{Store};
+    ghost use Rattle.pgs_io.specs.Memory.{SinkState};
 
-    ghost Value = { Store };
+    ghost Value = { SinkState };
 
     ghost view = { λ s. record {
       kept = s.bytes.items;

@@ -44,9 +44,9 @@ pub struct MemSource {
 
 impl Model for MemSource {
     ghost use Rattle.std.specs.Prelude.{◌≤◌, drop, length};
-    ghost use Rattle.pgs_io.specs.Memory.{Feed};
+    ghost use Rattle.pgs_io.specs.Memory.{SourceState};
 
-    ghost Value = { Feed };
+    ghost Value = { SourceState };
 
     ghost view = { λ s. record {
       unread = drop s.at s.bytes.items;
