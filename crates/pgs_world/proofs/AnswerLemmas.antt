@@ -102,3 +102,55 @@ pub Answers-say : (event : What) (es : List Element) (world new : World) (behind
   → Answers (λ w. does_all w (Says event ∷ es) world) world new emitted refusal
 Answers-say event es world new behind emitted refusal joins rest =
     Answers-cons (Says event) es world world new (event ∷ []) behind emitted refusal (λ w l. refl) (omega arith) joins rest
+
+-- a fallible step that was done
+pub Answers-step : (work : SessionState → Ended) (e : Element) (es : List Element) (old mid new : World) (behind emitted : List What → Type 0) (refusal : Option Error)
+  → ((w : Option ℕ) → does w e old ≡ fallible w old work)
+  → mid ≡ record { session = (work old.session).session; calls = old.calls + 1 }
+  → ((ys : List What) → behind ys → emitted ((work old.session).events ++ ys))
+  → Answers (λ w. does_all w es mid) mid new behind refusal
+  → Answers (λ w. does_all w (e ∷ es) old) old new emitted refusal
+Answers-step work e es old mid new behind emitted refusal is_step made joins rest =
+    let calls : mid.calls ≡ old.calls + 1 = ap (λ (z : World). z.calls) made in
+    Answers-cons e es old mid new (work old.session).events behind emitted refusal
+      (λ w l. is_step w ∙ fallible_goes w old work (subst (λ (n : ℕ). IsLater n w) calls l) ∙ ap (λ (z : World). record { world = z; events = (work old.session).events; refusal = None }) (sym made))
+      (omega (arith, calls)) joins rest
+
+-- a fallible step that was refused for want of memory
+pub Answers-stop : (work : SessionState → Ended) (e : Element) (es : List Element) (old new : World) (emitted : List What → Type 0)
+  → ((w : Option ℕ) → does w e old ≡ fallible w old work)
+  → new ≡ record old { calls = old.calls + 1 } → emitted []
+  → Answers (λ w. does_all w (e ∷ es) old) old new emitted (Some (NoMemory new.calls))
+Answers-stop work e es old new emitted is_step unchanged h =
+    let calls : new.calls ≡ old.calls + 1 = ap (λ (z : World). z.calls) unchanged in
+    Answers-want e es old new emitted
+      (λ w f. is_step w ∙ fallible_stops w old work (f ∙ ap Some calls)
+        ∙ ap (λ (z : World). record { world = z; events = []; refusal = Some (NoMemory z.calls) }) (sym unchanged))
+      (omega (arith, calls)) h
+
+-- an end, which never fails
+pub Answers-end : (ending : SessionState → Ended) (e : Element) (es : List Element) (old mid new : World) (behind emitted : List What → Type 0) (refusal : Option Error)
+  → ((w : Option ℕ) → does w e old ≡ unfailing old (ending old.session))
+  → mid ≡ record old { session = (ending old.session).session }
+  → ((ys : List What) → behind ys → emitted ((ending old.session).events ++ ys))
+  → Answers (λ w. does_all w es mid) mid new behind refusal
+  → Answers (λ w. does_all w (e ∷ es) old) old new emitted refusal
+Answers-end ending e es old mid new behind emitted refusal is_end ended joins rest =
+    Answers-cons e es old mid new (ending old.session).events behind emitted refusal
+      (λ w l. is_end w ∙ ap (λ (z : World). record { world = z; events = (ending old.session).events; refusal = None }) (sym ended))
+      (omega (arith, ap (λ (z : World). z.calls) ended)) joins rest
+
+-- the last word of a command that ended well
+pub Answers-ok : (world : World) (emitted : List What → Type 0) → emitted (what.Ok ∷ []) → Answers (λ w. does_all w (Says what.Ok ∷ []) world) world world emitted None
+Answers-ok world emitted h =
+    Answers-say what.Ok [] world world (λ ys. ys ≡ []) emitted None (λ ys e. subst (λ (z : List What). emitted (what.Ok ∷ z)) (sym e) h) (Answers-nil world (λ ys. ys ≡ []) refl)
+
+-- a warning, and the last word
+pub Answers-warn : (warning : What) (world : World) (emitted : List What → Type 0) → emitted (warning ∷ what.Ok ∷ []) → Answers (λ w. does_all w (Says warning ∷ Says what.Ok ∷ []) world) world world emitted None
+Answers-warn warning world emitted h =
+    Answers-say warning (Says what.Ok ∷ []) world world (λ ys. ys ≡ what.Ok ∷ []) emitted None (λ ys e. subst (λ (z : List What). emitted (warning ∷ z)) (sym e) h) (Answers-ok world (λ ys. ys ≡ what.Ok ∷ []) refl)
+
+-- the elements under another name
+pub Answers-elements : (es fs : List Element) (old new : World) (emitted : List What → Type 0) (refusal : Option Error) → es ≡ fs
+  → Answers (λ w. does_all w fs old) old new emitted refusal → Answers (λ w. does_all w es old) old new emitted refusal
+Answers-elements es fs old new emitted refusal e a = subst (λ (z : List Element). Answers (λ w. does_all w z old) old new emitted refusal) (sym e) a

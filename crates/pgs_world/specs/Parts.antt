@@ -1,5 +1,5 @@
 -- How the parts that the code keeps stand for the state of a session.
-use Rattle.std.specs.Prelude.{◌≡◌, ℕ, ◌+◌, ◌<◌, ◌≤◌, ◌^◌, Bool, true, false, if◌then◌else◌, List, [], ◌∷◌, length, Option, Some, None, IsTrue}
+use Rattle.std.specs.Prelude.{◌≡◌, ℕ, ◌+◌, ◌<◌, ◌≤◌, ◌^◌, Bool, true, false, not, ◌&&◌, is_none, if◌then◌else◌, List, [], ◌∷◌, length, Option, Some, None, IsTrue}
 use Rattle.std.specs.Option.{option_map}
 use Rattle.pgs_step.specs.declared.ids.Item.{Item}
 use Rattle.pgs_step.specs.declared.ids.OwnerId.{OwnerId}
@@ -46,10 +46,17 @@ abbrev pub HasOwner : Option ℕ → Type 0
 HasOwner None = ⊥
 HasOwner (Some n) = Unit {0}
 
+-- whether a level is being started: it has no owner yet
+abbrev pub is_starting : LevelState → Bool
+is_starting level = not level.aborted && is_none level.owner
+
+abbrev pub is_starting_in : Option LevelState → Bool
+is_starting_in None = false
+is_starting_in (Some level) = is_starting level
+
 -- No level is being started.
 abbrev pub IsBetweenLines : Option LevelState → Type 0
-IsBetweenLines None = Unit {0}
-IsBetweenLines (Some level) = HasOwner level.owner
+IsBetweenLines level = is_starting_in level ≡ false
 
 -- a level with an owner that isn't aborted
 abbrev pub IsOpen : Option LevelState → Type 0
@@ -59,6 +66,10 @@ IsOpen (Some level) = HasOwner level.owner × (level.aborted ≡ false)
 abbrev pub IsLevel : Option LevelState → Type 0
 IsLevel None = ⊥
 IsLevel (Some level) = Unit {0}
+
+abbrev pub IsInBlock : Option LevelState → Type 0
+IsInBlock None = ⊥
+IsInBlock (Some level) = level.aborted ≡ false
 
 abbrev pub IsAborted : Option LevelState → Type 0
 IsAborted None = ⊥

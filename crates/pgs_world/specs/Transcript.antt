@@ -29,6 +29,12 @@ turn_of done (Some error) =
 unfoldable pub turn : Option ℕ → Option Command → World → Turn
 turn w command world = let done = does_all w (elements_of command world.session) world in turn_of done done.refusal
 
+-- the turn led to this world, with events that were emitted, and met a want of memory or not
+pub record TurnIs (turn : Turn) (new : World) (emitted : List What → Type 0) (wanted : Bool) : Type 0 where
+  pub world : turn.world ≡ new
+  pub events : emitted turn.events
+  pub wanted_is : turn.wanted ≡ wanted
+
 -- where a script stands after some lines: the world, the events so far, how many lines were performed, and whether a want of memory ended it
 pub record Course : Type 0 where
   pub world : World

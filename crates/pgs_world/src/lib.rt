@@ -3,6 +3,7 @@
 
 mod command;
 mod parser;
+mod perform;
 mod pins;
 mod printer;
 mod session;

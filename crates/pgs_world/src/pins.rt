@@ -1,5 +1,5 @@
 //! How often the session pins each buffer.
-ghost use Rattle.std.specs.Prelude.{◌≡◌, ◌<◌, ◌+◌, [], ◌∷◌, ℕ, List, length, slice_index, slice_set, replicate, IfOk};
+ghost use Rattle.std.specs.Prelude.{◌≡◌, ◌<◌, ◌+◌, ◌^◌, [], ◌∷◌, ℕ, List, length, slice_index, slice_set, replicate, IfOk};
 ghost use Rattle.pgs_step.specs.declared.events.What.{What};
 ghost use Rattle.owner_core.specs.Owners.{uses};
 ghost use Rattle.owner_core.specs.Steps.{GivesBack};
@@ -61,4 +61,12 @@ impl Release for Pins {
     fn give_back<E: Emit>(&mut self, item: Item, out: &mut E) {
         self.counts[item.key as usize] -= 1;
     }
+
+    ghost use Rattle.pgs_world.specs.Pins.{PinsDo-nothing, PinsDo-said, PinsDo-more};
+
+    ghost does_nothing = { PinsDo-nothing };
+
+    ghost does_said = { PinsDo-said };
+
+    ghost does_more = { PinsDo-more };
 }

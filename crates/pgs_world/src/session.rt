@@ -5,7 +5,7 @@ ghost use Rattle.pgs_step.specs.declared.errors.Error.TheVariants.{NoMemory};
 ghost use Rattle.owner_core.specs.Owners.{owners_of, uses};
 ghost use Rattle.pgs_world.specs.Pins.{pins_counted};
 ghost use Rattle.pgs_world.specs.Session.{opening, level_made, owner_made, owner_of, pinned_by, release_events, after_release, gone_events, after_gone, committed, aborted, cleaned_up};
-ghost use Rattle.pgs_world.specs.Parts.{level_state, number_in, held_by, IsLive, standing_of, IsOpen, IsLevel, IsAborted, HasRoom};
+ghost use Rattle.pgs_world.specs.Parts.{level_state, number_in, held_by, IsLive, standing_of, is_starting_in, IsOpen, IsLevel, IsAborted, HasRoom};
 
 use crate::pins::Pins;
 use owner_core::Owners;
@@ -77,6 +77,16 @@ impl Session {
             None => Standing::Idle,
             Some(level) if level.aborted => Standing::Aborted,
             Some(_) => Standing::InBlock,
+        }
+    }
+
+    /// Whether a level is being started.
+    pub(crate) fn is_starting(&self) -> bool
+        ensures { result ≡ is_starting_in self.now.session.level }
+    {
+        match self.level {
+            None => false,
+            Some(level) => !level.aborted && level.owner.is_none(),
         }
     }
 

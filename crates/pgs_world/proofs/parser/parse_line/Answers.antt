@@ -1,4 +1,5 @@
-use Rattle.std.proofs.Common.{refl, sym, ◌∙◌, ap}
+use Rattle.std.proofs.Common.{Some}
+use Rattle.pgs_world.specs.declared.command.Command.TheVariants.{Nothing}
 use Rattle.pgs_world.proofs.ScriptLemmas.{read_line-short, read_line-long, command_told, comment_told}
 use Rattle.pgs_world.proofs.parser.parse_line.Goals as goal
 
@@ -7,8 +8,8 @@ returns-then-long c line k = read_line-long line c.args.kept.now c.args.long k c
 
 pub returns-then-is_comment : goal.returns-then-is_comment
 returns-then-is_comment c line k =
-    read_line-short line c.args.kept.now c.args.long c.is_comment.result _ k c.if-long.false c.is_comment.ensures (comment_told _ _ c.if-is_comment.true)
+    read_line-short line c.args.kept.now c.args.long c.is_comment.result (Some Nothing) k c.if-long.false c.is_comment.ensures (comment_told c.args.kept.now _ c.if-is_comment.true)
 
 pub returns : goal.returns
 returns c line k =
-    read_line-short line c.args.kept.now c.args.long c.is_comment.result _ k c.if-long.false c.is_comment.ensures (command_told _ _ _ c.parse_command.ensures c.if-is_comment.false)
+    read_line-short line c.args.kept.now c.args.long c.is_comment.result c.parse_command.result k c.if-long.false c.is_comment.ensures (command_told c.args.kept.now _ _ c.parse_command.ensures c.if-is_comment.false)

@@ -1,0 +1,65 @@
+-- What a run did, by its status.
+use Rattle.std.specs.Prelude.{◌≡◌, ℕ, ◌+◌, ◌^◌, ◌<◌, ◌≤◌, ◌↔◌, List, [], ◌∷◌, ◌++◌, length, take, codes, Option, Some, None, ◌⊎◌}
+use Rattle.std.specs.Io.KnownBytes.{prepend_known, append_known, IsAtEnd}
+use Rattle.pgs_io.specs.Lines.{lines_of, ended_lines}
+use Rattle.pgs_world.specs.declared.run.Outcome.{Outcome}
+use Rattle.pgs_world.specs.Transcript.{transcript, text_of_transcript, errors_in, EndsAt}
+
+-- the most bytes that a script has
+abbrev pub most_bytes : ℕ
+most_bytes = 2 ^ 24
+
+-- what refused words are answered with
+abbrev pub usage_line : List ℕ
+usage_line = codes "usage: pgscript [--space N] [--sessions N] [--descriptors N] [--fail N] [--generate N] [--sweep]\n"
+
+-- A source that had `before` left has `after` left, and gave `taken`.
+abbrev pub HasGiven : List ℕ → Option (List ℕ) → Option (List ℕ) → Type 0
+HasGiven taken before after = before ≡ prepend_known taken after
+
+-- A sink that had taken `before` took the transcript of these lines besides, where w is the fallible call that was refused for want of memory, if any.
+abbrev pub HasWritten : Option ℕ → List (List ℕ) → Option (List ℕ) → Option (List ℕ) → Type 0
+HasWritten w lines before after = after ≡ append_known before (text_of_transcript (transcript w lines))
+
+-- Status 0 or 1: all of the source was read, and its whole transcript was written.
+pub record IsWhole (outcome : Outcome) (left left' written written' : Option (List ℕ)) : Type 0 where
+  pub bytes : List ℕ
+  pub given : HasGiven bytes left left'
+  pub at_end : IsAtEnd left'
+  pub short : length bytes ≤ most_bytes
+  pub lines : outcome.lines ≡ length (lines_of bytes)
+  pub text : HasWritten None (lines_of bytes) written written'
+  pub errors : outcome.errors ≡ errors_in (transcript None (lines_of bytes))
+  pub status : (outcome.status ≡ 1) ↔ (0 < errors_in (transcript None (lines_of bytes)))
+
+-- Status 5 with a call: the transcript in which that call was refused, recovered from and followed by the session's end.
+pub record IsWanted (outcome : Outcome) (left left' written written' : Option (List ℕ)) : Type 0 where
+  pub bytes : List ℕ
+  pub given : HasGiven bytes left left'
+  pub short : length bytes ≤ most_bytes
+  pub defined : EndsAt outcome.call (lines_of bytes) outcome.lines
+  pub text : HasWritten (Some outcome.call) (lines_of bytes) written written'
+  pub errors : outcome.errors ≡ errors_in (transcript (Some outcome.call) (lines_of bytes))
+
+-- Status 3: the source failed, and the transcript of the lines whose newline it had given was written.
+pub record IsCutOff (outcome : Outcome) (left left' written written' : Option (List ℕ)) : Type 0 where
+  pub bytes : List ℕ
+  pub given : HasGiven bytes left left'
+  pub short : length bytes ≤ most_bytes
+  pub lines : outcome.lines ≡ length (ended_lines bytes)
+  pub text : HasWritten None (ended_lines bytes) written written'
+  pub errors : outcome.errors ≡ errors_in (transcript None (ended_lines bytes))
+
+-- Status 6: the source has a byte past the most bytes of a script, and the transcript of the lines whose newline is among those was written.
+pub record IsTooLong (outcome : Outcome) (left left' written written' : Option (List ℕ)) : Type 0 where
+  pub bytes : List ℕ
+  pub over : ℕ
+  pub given : HasGiven (bytes ++ over ∷ []) left left'
+  pub full : length bytes ≡ most_bytes
+  pub lines : outcome.lines ≡ length (ended_lines bytes)
+  pub text : HasWritten None (ended_lines bytes) written written'
+  pub errors : outcome.errors ≡ errors_in (transcript None (ended_lines bytes))
+
+-- the fallible call that an outcome names as refused, if any
+abbrev pub refused_call : ℕ → Option ℕ
+refused_call 0 = None
