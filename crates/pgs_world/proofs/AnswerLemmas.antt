@@ -40,7 +40,7 @@ pub does_all_stops : (w : Option ℕ) (e : Element) (es : List Element) (old mid
 unfolding does_all
 does_all_stops w e es old mid xs error h = ap (λ (d : Done). then_done d.refusal d.world d.events (does_all w es d.world)) h
 
-fits_later : (wanted : Bool) (a b : ℕ) (w : Option ℕ) → Fits wanted b w → a ≤ b → (wanted ≡ true → a < b) → IsLater a w
+pub fits_later : (wanted : Bool) (a b : ℕ) (w : Option ℕ) → Fits wanted b w → a ≤ b → (wanted ≡ true → a < b) → IsLater a w
 fits_later true a b w f h s = subst (IsLater a) (sym f) (s refl)
 fits_later false a b w f h s = IsLater-le w a b f h
 

@@ -8,3 +8,6 @@ pub mod Printing
 pub mod PrintingLaws
 pub mod PrinterView
 pub mod PrinterLaws
+pub mod Outcome
+pub mod Loop
+pub mod Ending

@@ -1,8 +1,8 @@
 -- What a run did, by its status.
-use Rattle.std.specs.Prelude.{◌≡◌, ℕ, ◌+◌, ◌^◌, ◌<◌, ◌≤◌, ◌↔◌, List, [], ◌∷◌, ◌++◌, length, take, codes, Option, Some, None, ◌⊎◌}
+use Rattle.std.specs.Prelude.{◌≡◌, ℕ, ◌+◌, ◌^◌, ◌<◌, ◌≤◌, ◌↔◌, List, [], ◌∷◌, ◌++◌, length, take, codes, Option, Some, None, ◌==◌, if◌then◌else◌}
 use Rattle.std.specs.Io.KnownBytes.{prepend_known, append_known, IsAtEnd}
 use Rattle.pgs_io.specs.Lines.{lines_of, ended_lines}
-use Rattle.pgs_world.specs.declared.run.Outcome.{Outcome}
+use Rattle.pgs_world.specs.declared.program.Outcome.{Outcome}
 use Rattle.pgs_world.specs.Transcript.{transcript, text_of_transcript, errors_in, EndsAt}
 
 -- the most bytes that a script has
@@ -60,6 +60,32 @@ pub record IsTooLong (outcome : Outcome) (left left' written written' : Option (
   pub text : HasWritten None (ended_lines bytes) written written'
   pub errors : outcome.errors ≡ errors_in (transcript None (ended_lines bytes))
 
--- the fallible call that an outcome names as refused, if any
+-- the fallible call that a number names as refused; 0 names none
 abbrev pub refused_call : ℕ → Option ℕ
-refused_call 0 = None
+refused_call call = if call == 0 then None else Some call
+
+-- Status 4: the sink failed, and a front of the transcript of the lines that were performed was written.
+pub record IsUnwritten (outcome : Outcome) (left left' written written' : Option (List ℕ)) : Type 0 where
+  pub bytes : List ℕ
+  pub given : HasGiven bytes left left'
+  pub read : outcome.lines ≤ length (lines_of bytes)
+  pub front : List ℕ
+  pub rest : List ℕ
+  pub parts : front ++ rest ≡ text_of_transcript (transcript (refused_call outcome.call) (take outcome.lines (lines_of bytes)))
+  pub taken : written' ≡ append_known written front
+  pub defined : 0 < outcome.call → EndsAt outcome.call (take outcome.lines (lines_of bytes)) outcome.lines
+  pub errors : outcome.errors ≡ errors_in (transcript (refused_call outcome.call) (take outcome.lines (lines_of bytes)))
+
+-- Status 5 without a call: the session was not started, and nothing was read or written.
+pub record IsNotStarted (outcome : Outcome) (left left' written written' : Option (List ℕ)) : Type 0 where
+  pub lines : outcome.lines ≡ 0
+  pub errors : outcome.errors ≡ 0
+  pub unread : left' ≡ left
+  pub unwritten : written' ≡ written
+
+-- a front of the usage line was written
+pub record IsUsageFront (written written' : Option (List ℕ)) : Type 0 where
+  pub front : List ℕ
+  pub rest : List ℕ
+  pub parts : front ++ rest ≡ usage_line
+  pub taken : written' ≡ append_known written front

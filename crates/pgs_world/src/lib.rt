@@ -4,6 +4,10 @@
 mod command;
 mod parser;
 mod perform;
+mod performing;
 mod pins;
 mod printer;
+mod program;
 mod session;
+
+pub use program::{Outcome, run};

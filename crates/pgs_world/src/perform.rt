@@ -1,5 +1,5 @@
 //! Performs the lines of a script.
-ghost use Rattle.std.specs.Prelude.{◌≡◌, ℕ, true, false, Option, Some, None, [], ◌∷◌, OnOk};
+ghost use Rattle.std.specs.Prelude.{◌≡◌, ◌<◌, ◌≤◌, ℕ, true, false, Option, Some, None, [], ◌∷◌, OnOk};
 ghost use Rattle.pgs_step.specs.declared.events.What.TheVariants as events;
 ghost use Rattle.pgs_world.specs.Session.{Says, MakeLevel, MakeOwner, Enlarge, TakePin, CommitTop, Abort, Cleanup, does_all, idle_elements, block_elements, aborted_elements, elements_of, given_up, recovered, rolled_back, exited, and_then, aborted, cleaned_up};
 ghost use Rattle.pgs_world.specs.Answers.{Answers, Fits, refusal_of, is_want};
@@ -21,6 +21,8 @@ impl Session {
         ensures turn { (w : Option ℕ) → Fits result self.new.calls w → TurnIs (turn w command self.old) self.new (λ xs. E.emits out.old xs out.new) result }
         ensures between { IsBetweenLines self.new.session.level }
         ensures grows { Grows 4 self.old self.new }
+        ensures calls { self.old.calls ≤ self.new.calls }
+        ensures counted { result ≡ true → self.old.calls < self.new.calls }
     {
         match self.perform(command, out) {
             Ok(()) => false,

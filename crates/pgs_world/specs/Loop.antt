@@ -1,0 +1,102 @@
+-- Where the reading loop stands, and how it ends.
+use Rattle.std.specs.Prelude.{◌≡◌, ℕ, ◌+◌, ◌*◌, ◌≤◌, Bool, true, false, List, [], ◌∷◌, ◌++◌, length, Option, Some, None}
+use Rattle.std.specs.Io.KnownBytes.{IsAtEnd}
+use Rattle.pgs_io.specs.Lines.{lines_of, ended_lines}
+use Rattle.pgs_io.specs.Reading.{Reading, HasRead}
+use Rattle.pgs_step.specs.declared.events.What.{What}
+use Rattle.pgs_world.specs.declared.performing.End.{End}
+use Rattle.pgs_world.specs.declared.performing.End.TheVariants as end
+use Rattle.pgs_world.specs.declared.performing.Ended.{Ended}
+use Rattle.pgs_world.specs.Session.{World}
+use Rattle.pgs_world.specs.Answers.{Fits}
+use Rattle.pgs_world.specs.Parts.{IsBetweenLines}
+use Rattle.pgs_world.specs.Transcript.{Course, course_of}
+use Rattle.pgs_world.specs.Outcome.{HasGiven, most_bytes}
+
+-- whether the end came by a want of memory
+abbrev pub is_wanted : End → Bool
+is_wanted end.Whole = false
+is_wanted end.Wanted = true
+is_wanted end.SourceFault = false
+is_wanted end.TooLong = false
+is_wanted end.Unwritten = false
+
+abbrev pub is_wanted_in : Option End → Bool
+is_wanted_in None = false
+is_wanted_in (Some end) = is_wanted end
+
+-- A course led to this world by events that were emitted.
+pub record CourseAt (course : Course) (world : World) (emitted : List What → Type 0) (performed : ℕ) (wanted : Bool) : Type 0 where
+  pub world_is : course.world ≡ world
+  pub events : emitted course.events
+  pub performed_is : course.performed ≡ performed
+  pub wanted_is : course.wanted ≡ wanted
+
+-- The lines led to this world by events that were emitted, whichever later call is refused for want of memory; or, where they met a want, by the refusal of the last call.
+abbrev pub CoursesAre : Bool → List (List ℕ) → World → (List What → Type 0) → Type 0
+CoursesAre wanted lines world emitted = (w : Option ℕ) → Fits wanted world.calls w → CourseAt (course_of w lines) world emitted (length lines) wanted
+
+-- no count of the session is above this bound for so many lines
+pub record IsBounded (lines : ℕ) (world : World) : Type 0 where
+  pub calls : world.calls ≤ 4 * lines + 1
+  pub owners : world.session.next_owner ≤ 4 * lines + 1
+  pub serials : world.session.next_serial ≤ 4 * lines + 1
+
+-- The loop has performed these lines.
+pub record Stands (start now : Option (List ℕ)) (reader : Reading) (world : World) (emitted : List What → Type 0) (lines : List (List ℕ)) : Type 0 where
+  pub read : HasRead most_bytes start now reader lines
+  pub courses : CoursesAre false lines world emitted
+  pub between : IsBetweenLines world.session.level
+  pub bounded : IsBounded (length lines) world
+
+-- the bytes that were given have these lines, and perhaps more
+pub record AreFront (bytes : List ℕ) (lines : List (List ℕ)) (before after : Option (List ℕ)) : Type 0 where
+  pub given : HasGiven bytes before after
+  pub short : length bytes ≤ most_bytes
+  pub more : List (List ℕ)
+  pub front : lines_of bytes ≡ lines ++ more
+
+-- the bytes that were given, by how the loop ended
+abbrev pub EndIs : End → List ℕ → List (List ℕ) → Option (List ℕ) → Option (List ℕ) → Type 0
+EndIs end.Whole bytes lines before after = HasGiven bytes before after × IsAtEnd after × (length bytes ≤ most_bytes) × (lines ≡ lines_of bytes)
+EndIs end.Wanted bytes lines before after = AreFront bytes lines before after
+EndIs end.SourceFault bytes lines before after = HasGiven bytes before after × (length bytes ≤ most_bytes) × (lines ≡ ended_lines bytes)
+EndIs end.TooLong bytes lines before after = (over : ℕ) × HasGiven (bytes ++ over ∷ []) before after × (length bytes ≡ most_bytes) × (lines ≡ ended_lines bytes)
+EndIs end.Unwritten bytes lines before after = AreFront bytes lines before after
+
+-- what the loop did
+pub record Performs (ended : Ended) (before after : Option (List ℕ)) (world : World) (emitted : List What → Type 0) : Type 0 where
+  pub bytes : List ℕ
+  pub lines : List (List ℕ)
+  pub courses : CoursesAre (is_wanted ended.end) lines world emitted
+  pub count : ended.lines ≡ length lines
+  pub how : EndIs ended.end bytes lines before after
+
+-- the ends that a line leads to
+abbrev pub IsLineEnd : End → Bool → Type 0
+IsLineEnd end.Whole failed = ⊥
+IsLineEnd end.Wanted failed = Unit {0}
+IsLineEnd end.SourceFault failed = ⊥
+IsLineEnd end.TooLong failed = ⊥
+IsLineEnd end.Unwritten failed = failed ≡ true
+
+abbrev pub OnSourceFault : End → Type 0 → Type 0
+OnSourceFault end.Whole P = Unit {0}
+OnSourceFault end.Wanted P = Unit {0}
+OnSourceFault end.SourceFault P = P
+OnSourceFault end.TooLong P = Unit {0}
+OnSourceFault end.Unwritten P = Unit {0}
+
+abbrev pub OnNoSourceFault : End → Type 0 → Type 0
+OnNoSourceFault end.Whole P = P
+OnNoSourceFault end.Wanted P = P
+OnNoSourceFault end.SourceFault P = Unit {0}
+OnNoSourceFault end.TooLong P = P
+OnNoSourceFault end.Unwritten P = P
+
+abbrev pub OnUnwritten : End → Type 0 → Type 0
+OnUnwritten end.Whole P = Unit {0}
+OnUnwritten end.Wanted P = Unit {0}
+OnUnwritten end.SourceFault P = Unit {0}
+OnUnwritten end.TooLong P = Unit {0}
+OnUnwritten end.Unwritten P = P

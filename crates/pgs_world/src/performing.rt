@@ -1,0 +1,149 @@
+//! Reads a script line by line, and performs each line.
+ghost use Rattle.std.specs.Prelude.{◌≡◌, ◌<◌, ◌≤◌, ◌+◌, ℕ, List, [], true, false, Option, Some, length, IfSome};
+ghost use Rattle.pgs_io.specs.Faults.{HasRisen};
+ghost use Rattle.pgs_io.specs.Lines.{IsKept};
+ghost use Rattle.pgs_io.specs.Reading.{GivesLine, GivesLast, MeetsEnd, MeetsFault, MeetsLimit};
+ghost use Rattle.pgs_io.specs.Answers.{IfLine, IfLast, OnEnd, OnFault, OnTooMuch, OnNoFault};
+ghost use Rattle.pgs_world.specs.Session.{opening};
+ghost use Rattle.pgs_world.specs.Script.{read_line};
+ghost use Rattle.pgs_world.specs.Answers.{Fits};
+ghost use Rattle.pgs_world.specs.Parts.{IsBetweenLines, HasRoom, Grows};
+ghost use Rattle.pgs_world.specs.PrinterView.{TakesEvents};
+ghost use Rattle.pgs_world.specs.Transcript.{turn, TurnIs};
+ghost use Rattle.pgs_world.specs.Loop.{Performs, is_wanted_in, IsLineEnd, OnSourceFault, OnNoSourceFault, OnUnwritten};
+
+use crate::parser::parse_line;
+use crate::printer::Printer;
+use crate::session::Session;
+use pgs_io::{Buffered, LineBuf, LineReader, Next, Sink, Source};
+
+/// The most bytes that a script has.
+pub(crate) const MOST_BYTES: u64 = 1 << 24;
+
+/// Why the reading of a script ended.
+#[derive(Clone, Copy, PartialEq, Eq)]
+pub(crate) enum End {
+    /// All of it was performed.
+    Whole,
+    /// A line met a want of memory.
+    Wanted,
+    /// The source failed.
+    SourceFault,
+    /// The script has more bytes than it may have.
+    TooLong,
+    /// The sink failed.
+    Unwritten,
+}
+
+/// How the reading of a script ended, and how many lines were performed.
+#[derive(Clone, Copy)]
+pub(crate) struct Ended {
+    pub(crate) end: End,
+    pub(crate) lines: u64,
+}
+
+/// Performs the lines of the source, up to its end or to the first failure.
+pub(crate) fn perform_lines<S: Source, K: Sink>(
+    session: &mut Session,
+    src: &mut S,
+    printer: &mut Printer<'_, K>,
+) -> Ended
+    requires { session.old ≡ opening }
+    ensures performs { Performs result (S.left src.old) (S.left src.new) session.new (λ xs. TakesEvents K.written K.faults printer.old xs printer.new) }
+    ensures fault { OnSourceFault result.end (HasRisen (S.faults src.old) (S.faults src.new)) }
+    ensures no_fault { OnNoSourceFault result.end (S.faults src.new ≡ S.faults src.old) }
+    ensures unwritten { OnUnwritten result.end (printer.new.failed ≡ true) }
+{
+    let mut reader = LineReader::new(MOST_BYTES);
+    let mut line = LineBuf::new();
+    let mut lines = 0;
+    loop {
+        match next_line(&mut reader, src, &mut line, printer) {
+            Next::Line { long } => {
+                let end = perform_line(session, line.as_slice(), long, printer);
+                lines += 1;
+                if let Some(end) = end {
+                    return Ended { end, lines };
+                }
+            }
+            Next::Last { long } => {
+                let end = perform_line(session, line.as_slice(), long, printer);
+                return Ended {
+                    end: end.unwrap_or(End::Whole),
+                    lines: lines + 1,
+                };
+            }
+            Next::End => {
+                return Ended {
+                    end: End::Whole,
+                    lines,
+                };
+            }
+            Next::Fault => {
+                return Ended {
+                    end: End::SourceFault,
+                    lines,
+                };
+            }
+            Next::TooMuch => {
+                return Ended {
+                    end: End::TooLong,
+                    lines,
+                };
+            }
+        }
+    }
+}
+
+/// The next line of the source. What is printed is handed on before the source is read.
+fn next_line<S: Source, K: Sink>(
+    reader: &mut LineReader,
+    src: &mut S,
+    line: &mut LineBuf,
+    printer: &mut Printer<'_, K>,
+) -> Next
+    ensures line { IfLine result (λ long. GivesLine (S.left src.old) (S.left src.new) reader.old reader.new line.new long) }
+    ensures last { IfLast result (λ long. GivesLast (S.left src.old) (S.left src.new) reader.old reader.new line.new long) }
+    ensures end { OnEnd result (MeetsEnd (S.left src.old) (S.left src.new) reader.old reader.new) }
+    ensures at_fault { OnFault result (MeetsFault (S.left src.old) (S.left src.new) reader.old reader.new) }
+    ensures too_much { OnTooMuch result (MeetsLimit (S.left src.old) (S.left src.new) reader.old reader.new) }
+    ensures progress { IfLine result (λ _. length reader.new.pending + reader.new.room < length reader.old.pending + reader.old.room) }
+    ensures no_fault { OnNoFault result (S.faults src.new ≡ S.faults src.old) }
+    ensures fault { OnFault result (HasRisen (S.faults src.old) (S.faults src.new)) }
+    ensures printed { TakesEvents K.written K.faults printer.old [] printer.new }
+{
+    match reader.buffered_line(line) {
+        Buffered::Whole { long } => Next::Line { long },
+        Buffered::Partial => {
+            printer.flush();
+            reader.read_line(src, line)
+        }
+    }
+}
+
+/// Performs a line of which `kept` are the first bytes, and answers whether the script ends with it.
+fn perform_line<K: Sink>(
+    session: &mut Session,
+    kept: &[u8],
+    long: bool,
+    printer: &mut Printer<'_, K>,
+) -> Option<End>
+    requires between { IsBetweenLines session.old.session.level }
+    requires room { HasRoom 4 session.old }
+    ensures turn { (line : List ℕ) → IsKept line kept.now long → (w : Option ℕ) → Fits (is_wanted_in result) session.new.calls w
+        → TurnIs (turn w (read_line line) session.old) session.new (λ xs. TakesEvents K.written K.faults printer.old xs printer.new) (is_wanted_in result) }
+    ensures between { IsBetweenLines session.new.session.level }
+    ensures grows { Grows 4 session.old session.new }
+    ensures calls { session.old.calls ≤ session.new.calls }
+    ensures counted { is_wanted_in result ≡ true → session.old.calls < session.new.calls }
+    ensures end { IfSome result (λ end. IsLineEnd end printer.new.failed) }
+{
+    let wanted = session.take_turn(parse_line(kept, long), printer);
+    if wanted {
+        return Some(End::Wanted);
+    }
+    if printer.has_failed() {
+        return Some(End::Unwritten);
+    }
+    None
+}
