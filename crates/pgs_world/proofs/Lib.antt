@@ -1,6 +1,7 @@
 pub mod AnswerLemmas
 pub mod CourseLemmas
 pub mod ElementLemmas
+pub mod EndingLemmas
 pub mod ErrorLemmas
 pub mod LoopLemmas
 pub mod OwnerLemmas

@@ -67,6 +67,7 @@ module _ (start before after : Option (List ℕ)) (reader reader' : Reading) (wo
         bytes = read.0;
         lines = lines;
         courses = CoursesAre-weaker false lines world emitted emitted' leads s.courses;
+        called = λ e. absurd (cc);
         count = count;
         how = (read.1.from_source, read.3, read.1.within, sym read.2);
       }
@@ -77,6 +78,7 @@ module _ (start before after : Option (List ℕ)) (reader reader' : Reading) (wo
         bytes = read.0;
         lines = lines;
         courses = CoursesAre-weaker false lines world emitted emitted' leads s.courses;
+        called = λ e. absurd (cc);
         count = count;
         how = (read.1.from_source, read.1.within, sym read.2);
       }
@@ -87,6 +89,7 @@ module _ (start before after : Option (List ℕ)) (reader reader' : Reading) (wo
         bytes = read.0;
         lines = lines;
         courses = CoursesAre-weaker false lines world emitted emitted' leads s.courses;
+        called = λ e. absurd (cc);
         count = count;
         how = (read.1, read.2, read.3, sym read.4);
       }
@@ -114,6 +117,7 @@ module _ (start before after : Option (List ℕ)) (reader reader' : Reading) (ol
         bytes = read.0;
         lines = lines ++ g.line ∷ [];
         courses = CoursesAre-line lines g.line old new emitted during emitted' (is_wanted e) s.courses turns rise counted joins;
+        called = λ h. omega (arith, counted h);
         count = more g.line;
         how = front_of g.line e failed h read.0 (record { given = read.1.from_source; short = read.1.within; more = read.2.0; front = read.2.1 });
       }
@@ -126,6 +130,7 @@ module _ (start before after : Option (List ℕ)) (reader reader' : Reading) (ol
         bytes = read.0;
         lines = lines ++ g.line ∷ [];
         courses = CoursesAre-line lines g.line old new emitted during emitted' false s.courses turns rise (λ e. absurd (cc)) joins;
+        called = λ e. absurd (cc);
         count = more g.line;
         how = (read.1.from_source, read.3, read.1.within, sym read.2);
       }
@@ -139,6 +144,7 @@ module _ (start before after : Option (List ℕ)) (reader reader' : Reading) (ol
         bytes = read.0;
         lines = lines ++ g.line ∷ [];
         courses = CoursesAre-line lines g.line old new emitted during emitted' (is_wanted e) s.courses turns rise counted joins;
+        called = λ h. omega (arith, counted h);
         count = more g.line;
         how = front_of g.line e failed h read.0 (record { given = read.1.from_source; short = read.1.within; more = []; front = read.2 ∙ sym (append-nil (lines ++ g.line ∷ [])) });
       }

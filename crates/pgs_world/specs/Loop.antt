@@ -1,5 +1,5 @@
 -- Where the reading loop stands, and how it ends.
-use Rattle.std.specs.Prelude.{◌≡◌, ℕ, ◌+◌, ◌*◌, ◌≤◌, Bool, true, false, List, [], ◌∷◌, ◌++◌, length, Option, Some, None}
+use Rattle.std.specs.Prelude.{◌≡◌, ℕ, ◌+◌, ◌*◌, ◌<◌, ◌≤◌, Bool, true, false, List, [], ◌∷◌, ◌++◌, length, Option, Some, None}
 use Rattle.std.specs.Io.KnownBytes.{IsAtEnd}
 use Rattle.pgs_io.specs.Lines.{lines_of, ended_lines}
 use Rattle.pgs_io.specs.Reading.{Reading, HasRead}
@@ -69,6 +69,7 @@ pub record Performs (ended : Ended) (before after : Option (List ℕ)) (world : 
   pub bytes : List ℕ
   pub lines : List (List ℕ)
   pub courses : CoursesAre (is_wanted ended.end) lines world emitted
+  pub called : is_wanted ended.end ≡ true → 0 < world.calls
   pub count : ended.lines ≡ length lines
   pub how : EndIs ended.end bytes lines before after
 

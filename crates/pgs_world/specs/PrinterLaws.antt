@@ -26,3 +26,10 @@ module _ {K : Type 0} (written : K → Option (List ℕ)) (faults : K → ℕ) w
     errors = q.errors ∙ p.errors;
     session = q.session ∙ p.session;
   }
+
+  -- what is handed on brings no event
+  pub TakesEvents-flush : (a b : Printer K) → TakesBytes written faults a [] b → TakesEvents written faults a [] b
+  TakesEvents-flush a b h = record {
+    same_sink = h.same_sink;
+    prints = record { bytes = h.moves; never_falls = h.never_falls; errors = omega (arith, h.errors); session = h.session };
+  }

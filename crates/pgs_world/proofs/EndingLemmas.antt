@@ -1,0 +1,292 @@
+-- The outcome of a script, from how its reading ended and what was printed.
+use Rattle.std.proofs.Common.{◌≡◌, ◌≢◌, ℕ, ◌+◌, ◌-◌, ◌^◌, ◌<◌, ◌≤◌, Bool, true, false, List, [], ◌∷◌, ◌++◌, length, take, Option, Some, None, ◌⊎◌, inl, inr, refl, sym, ◌∙◌, ap, subst, arith, append-nil, length-append}
+use Rattle.std.specs.Prelude.{min, nat_lt, ◌==◌, if◌then◌else◌, ◌↔◌}
+use Rattle.std.proofs.lemmas.Bool.Decides.{nat_tests}
+use Rattle.std.proofs.Math.Seq.{take-append_seam}
+use Rattle.std.specs.Io.KnownBytes.{append_known, prepend_known, IsAtEnd}
+use Rattle.pgs_io.specs.Faults.{HasRisen}
+use Rattle.pgs_io.specs.Lines.{lines_of, ended_lines, onto_first, onto_ended, newline}
+use Rattle.pgs_step.specs.declared.events.What.{What}
+use Rattle.pgs_world.specs.declared.performing.End.{End}
+use Rattle.pgs_world.specs.declared.performing.End.TheVariants as end
+use Rattle.pgs_world.specs.Session.{World, exited}
+use Rattle.pgs_world.specs.Answers.{Fits}
+use Rattle.pgs_world.specs.Transcript.{Course, course_of, transcript, errors_in, text_of_transcript, EndsAt}
+use Rattle.pgs_step.specs.Text.{texts_of}
+use Rattle.pgs_world.specs.Printing.{Gathering, Prints, Moves, GoesOn, FailsWithin}
+use Rattle.pgs_world.specs.Outcome.{most_bytes, HasGiven, refused_call, IsWhole, IsWanted, IsCutOff, IsTooLong, IsUnwritten}
+use Rattle.pgs_world.specs.Ending.{outcome_of, status_of}
+use Rattle.pgs_world.specs.Loop.{EndIs, AreFront, CoursesAre, CourseAt, is_wanted, OnUnwritten}
+use Rattle.pgs_world.proofs.CourseLemmas.{course_of-stopped}
+use Rattle.pgs_world.proofs.ErrorLemmas.{few_errors}
+
+-- What a sink and the counts show once these events were printed and handed on.
+pub record Printed (written written' : Option (List ℕ)) (faults faults' errors : ℕ) (failed : Bool) (events : List What) : Type 0 where
+  pub text : failed ≡ false → written' ≡ append_known written (text_of_transcript events)
+  pub no_fault : failed ≡ false → faults' ≡ faults
+  pub front : failed ≡ true → (front rest : List ℕ) × (front ++ rest ≡ text_of_transcript events) × (written' ≡ append_known written front)
+  pub risen : failed ≡ true → HasRisen faults faults'
+  pub errors_are : errors ≡ errors_in events
+
+moves_on : (f g : Bool) (old new : Gathering) (text : List ℕ) → f ≡ false → g ≡ false → Moves f g old new text → GoesOn old new text
+moves_on false false old new text a b m = m
+moves_on false true old new text a b m = absurd (cc)
+moves_on true g old new text a b m = absurd (cc)
+
+moves_failed : (f g : Bool) (old new : Gathering) (text : List ℕ) → f ≡ false → g ≡ true → Moves f g old new text → FailsWithin old new text
+moves_failed false true old new text a b m = m
+moves_failed false false old new text a b m = absurd (cc)
+moves_failed true g old new text a b m = absurd (cc)
+
+-- a printer that had printed nothing, and has handed all on
+pub printed_all : (old new : Gathering) (events : List What) → Prints old events new → old.gathered ≡ [] → old.failed ≡ false → old.errors ≡ 0 → old.session ≡ 1
+  → (new.failed ≡ false → new.gathered ≡ []) → new.errors < 2 ^ 64 → errors_in events < 2 ^ 64
+  → Printed old.written new.written old.faults new.faults new.errors new.failed events
+printed_all old new events p empty going none one emptied small few =
+    let texts : List ℕ = text_of_transcript events in
+    let moves : Moves old.failed new.failed old new texts = subst (λ (s : ℕ). Moves old.failed new.failed old new (texts_of [] s events)) one p.bytes in
+    record {
+      text = λ f.
+        let m = moves_on old.failed new.failed old new texts going f moves in
+        m.hands.taken ∙ ap (append_known old.written)
+        (sym (append-nil m.hands.handed) ∙ ap (λ (z : List ℕ). m.hands.handed ++ z) (sym (emptied f)) ∙ m.hands.parts ∙ ap (λ (z : List ℕ). z ++ texts) empty);
+      no_fault = λ f. (moves_on old.failed new.failed old new texts going f moves).no_fault;
+      front = λ f.
+        let m = moves_failed old.failed new.failed old new texts going f moves in
+        (m.hands.handed, m.rest, m.hands.parts ∙ ap (λ (z : List ℕ). z ++ texts) empty, m.hands.taken);
+      risen = λ f. (moves_failed old.failed new.failed old new texts going f moves).risen;
+      errors_are = omega (arith, p.errors, none, small, few);
+    }
+
+-- the lines whose newline stands in a text are the first lines of the text, whatever follows it
+pub ended_front : (bytes behind : List ℕ) → (more : List (List ℕ)) × (lines_of (bytes ++ behind) ≡ ended_lines bytes ++ more)
+ended_front [] behind = (lines_of behind, refl)
+ended_front (b ∷ bytes) behind = front_at (b == newline) b (ended_lines bytes) (lines_of (bytes ++ behind)) (ended_front bytes behind)
+  where
+    front_at : (test : Bool) (b : ℕ) (ended lines : List (List ℕ)) → (more : List (List ℕ)) × (lines ≡ ended ++ more)
+      → (more : List (List ℕ)) × ((if test then [] ∷ lines else onto_first b lines) ≡ (if test then [] ∷ ended else onto_ended b ended) ++ more)
+    front_at true b ended lines h = (h.0, ap (λ (z : List (List ℕ)). [] ∷ z) h.1)
+    front_at false b [] lines h = (onto_first b lines, refl)
+    front_at false b (line ∷ ended) lines h = (h.0, ap (onto_first b) h.1)
+
+no_other : (m : ℕ) → 1 < m → (m ≡ 0) ⊎ (m ≡ 1) → ⊥
+no_other m h c = elim c [ inl p ↦ omega (arith, h, p) | inr p ↦ omega (arith, h, p) ]
+
+not_by_errors : (errors m : ℕ) → 1 < m → (if nat_lt 0 errors then 1 else 0) ≡ m → ⊥
+not_by_errors errors m h e = of_test (nat_lt 0 errors) e
+  where
+    of_test : (b : Bool) → (if b then 1 else 0) ≡ m → ⊥
+    of_test true p = omega (arith, h, p)
+    of_test false p = omega (arith, h, p)
+
+status_one : (errors m : ℕ) → errors ≡ m → (status_of end.Whole false errors ≡ 1) ↔ (0 < m)
+status_one errors m e = (λ h. grind (arith, nat_tests), λ h. grind (arith, nat_tests))
+
+-- All that is known of a script that was played: how the reading ended, and what was printed.
+pub record Facts (e : End) (n calls errors : ℕ) (failed : Bool) (left left' written written' : Option (List ℕ)) (faults faults' : ℕ) : Type 0 where
+  pub bytes : List ℕ
+  pub lines : List (List ℕ)
+  pub how : EndIs e bytes lines left left'
+  pub count : n ≡ length lines
+  pub printed : (w : Option ℕ) → Fits (is_wanted e) calls w → Printed written written' faults faults' errors failed (transcript w lines)
+  pub stopped : is_wanted e ≡ true → EndsAt calls lines n
+  pub called : is_wanted e ≡ true → 0 < calls
+  pub silent : OnUnwritten e (failed ≡ true)
+
+pub a_fit : (calls : ℕ) (e : End) → (w : Option ℕ) × Fits (is_wanted e) calls w
+a_fit calls end.Wanted = (Some calls, refl)
+a_fit calls end.Whole = (None, tt)
+a_fit calls end.SourceFault = (None, tt)
+a_fit calls end.TooLong = (None, tt)
+a_fit calls end.Unwritten = (None, tt)
+
+-- the lines are the first of those of the bytes that were given
+pub record Front (lines : List (List ℕ)) (left left' : Option (List ℕ)) : Type 0 where
+  pub given : List ℕ
+  pub given_is : HasGiven given left left'
+  pub more : List (List ℕ)
+  pub front : lines_of given ≡ lines ++ more
+
+front_of : (e : End) (bytes : List ℕ) (lines : List (List ℕ)) (left left' : Option (List ℕ)) → EndIs e bytes lines left left' → Front lines left left'
+front_of end.Whole bytes lines left left' h = record { given = bytes; given_is = h.0; more = []; front = sym h.3 ∙ sym (append-nil lines) }
+front_of end.Wanted bytes lines left left' h = record { given = bytes; given_is = h.given; more = h.more; front = h.front }
+front_of end.Unwritten bytes lines left left' h = record { given = bytes; given_is = h.given; more = h.more; front = h.front }
+front_of end.SourceFault bytes lines left left' h =
+    let f = ended_front bytes [] in
+    record { given = bytes; given_is = h.0; more = f.0; front = ap lines_of (sym (append-nil bytes)) ∙ f.1 ∙ ap (λ (z : List (List ℕ)). z ++ f.0) (sym h.2) }
+front_of end.TooLong bytes lines left left' h =
+    let f = ended_front bytes (h.0 ∷ []) in
+    record { given = bytes ++ h.0 ∷ []; given_is = h.1; more = f.0; front = f.1 ∙ ap (λ (z : List (List ℕ)). z ++ f.0) (sym h.3) }
+
+first_lines : (n : ℕ) (lines more all : List (List ℕ)) → n ≡ length lines → all ≡ lines ++ more → take n all ≡ lines
+first_lines n lines more all c e = ap (λ (k : ℕ). take k all) c ∙ ap (take (length lines)) e ∙ take-append_seam lines more
+
+-- lines behind the one that met a want of memory change nothing
+transcript-stopped : (calls : ℕ) (lines more : List (List ℕ)) → (course_of (Some calls) lines).wanted ≡ true → transcript (Some calls) (lines ++ more) ≡ transcript (Some calls) lines
+unfolding transcript
+transcript-stopped calls lines more h =
+    ap (λ (c : Course). c.events ++ (exited c.world.session).events) (course_of-stopped (Some calls) lines more h)
+
+module _ (n calls errors : ℕ) (left left' written written' : Option (List ℕ)) (faults faults' : ℕ) where
+  abbrev At : End → Bool → Type 0
+  At e failed = Facts e n calls errors failed left left' written written' faults faults'
+
+  whole_of : At end.Whole false → IsWhole (outcome_of (record { end = end.Whole; lines = n }) calls false errors) left left' written written'
+  whole_of f =
+      let none : Printed written written' faults faults' errors false (transcript None f.lines) = f.printed None tt in
+      let told : Printed written written' faults faults' errors false (transcript None (lines_of f.bytes)) = subst (λ (z : List (List ℕ)). Printed written written' faults faults' errors false (transcript None z)) f.how.3 none in
+      record {
+        bytes = f.bytes;
+        given = f.how.0;
+        at_end = f.how.1;
+        short = f.how.2;
+        lines = f.count ∙ ap length f.how.3;
+        text = told.text refl;
+        errors = told.errors_are;
+        status = status_one errors (errors_in (transcript None (lines_of f.bytes))) told.errors_are;
+      }
+
+  pub whole : (e : End) (failed : Bool) → At e failed → (status_of e failed errors ≡ 0) ⊎ (status_of e failed errors ≡ 1) → IsWhole (outcome_of (record { end = e; lines = n }) calls failed errors) left left' written written'
+  whole end.Whole false f h = whole_of f
+  whole end.Wanted false f h = absurd (no_other 5 (omega arith) h)
+  whole end.SourceFault false f h = absurd (no_other 3 (omega arith) h)
+  whole end.TooLong false f h = absurd (no_other 6 (omega arith) h)
+  whole end.Unwritten false f h = absurd (no_other 4 (omega arith) h)
+  whole e true f h = absurd (no_other 4 (omega arith) h)
+
+  pub cut_off : (e : End) (failed : Bool) → At e failed → status_of e failed errors ≡ 3 → IsCutOff (outcome_of (record { end = e; lines = n }) calls failed errors) left left' written written'
+  cut_off end.SourceFault false f h =
+      let none : Printed written written' faults faults' errors false (transcript None f.lines) = f.printed None tt in
+      let told : Printed written written' faults faults' errors false (transcript None (ended_lines f.bytes)) = subst (λ (z : List (List ℕ)). Printed written written' faults faults' errors false (transcript None z)) f.how.2 none in
+      record { bytes = f.bytes; given = f.how.0; short = f.how.1; lines = f.count ∙ ap length f.how.2; text = told.text refl; errors = told.errors_are }
+  cut_off end.Whole false f h = absurd (not_by_errors errors 3 (omega arith) h)
+  cut_off end.Wanted false f h = absurd (omega (arith, h))
+  cut_off end.TooLong false f h = absurd (omega (arith, h))
+  cut_off end.Unwritten false f h = absurd (omega (arith, h))
+  cut_off e true f h = absurd (omega (arith, h))
+
+  pub too_long : (e : End) (failed : Bool) → At e failed → status_of e failed errors ≡ 6 → IsTooLong (outcome_of (record { end = e; lines = n }) calls failed errors) left left' written written'
+  too_long end.TooLong false f h =
+      let none : Printed written written' faults faults' errors false (transcript None f.lines) = f.printed None tt in
+      let told : Printed written written' faults faults' errors false (transcript None (ended_lines f.bytes)) = subst (λ (z : List (List ℕ)). Printed written written' faults faults' errors false (transcript None z)) f.how.3 none in
+      record { bytes = f.bytes; over = f.how.0; given = f.how.1; full = f.how.2; lines = f.count ∙ ap length f.how.3; text = told.text refl; errors = told.errors_are }
+  too_long end.Whole false f h = absurd (not_by_errors errors 6 (omega arith) h)
+  too_long end.Wanted false f h = absurd (omega (arith, h))
+  too_long end.SourceFault false f h = absurd (omega (arith, h))
+  too_long end.Unwritten false f h = absurd (omega (arith, h))
+  too_long e true f h = absurd (omega (arith, h))
+
+  pub wanted : (e : End) (failed : Bool) → At e failed → status_of e failed errors ≡ 5 → IsWanted (outcome_of (record { end = e; lines = n }) calls failed errors) left left' written written'
+  wanted end.Wanted false f h =
+      let some : Printed written written' faults faults' errors false (transcript (Some calls) f.lines) = f.printed (Some calls) refl in
+      let at : EndsAt calls f.lines n = f.stopped refl in
+      let same : transcript (Some calls) (lines_of f.bytes) ≡ transcript (Some calls) f.lines = ap (transcript (Some calls)) f.how.front ∙ transcript-stopped calls f.lines f.how.more at.wanted in
+      let course : course_of (Some calls) (lines_of f.bytes) ≡ course_of (Some calls) f.lines = ap (course_of (Some calls)) f.how.front ∙ course_of-stopped (Some calls) f.lines f.how.more at.wanted in
+      let told : Printed written written' faults faults' errors false (transcript (Some calls) (lines_of f.bytes)) = subst (λ (z : List What). Printed written written' faults faults' errors false z) (sym same) some in
+      record {
+        bytes = f.bytes;
+        given = f.how.given;
+        short = f.how.short;
+        defined = record { wanted = ap (λ (c : Course). c.wanted) course ∙ at.wanted; line_is = ap (λ (c : Course). c.performed) course ∙ at.line_is };
+        text = told.text refl;
+        errors = told.errors_are;
+      }
+  wanted end.Whole false f h = absurd (not_by_errors errors 5 (omega arith) h)
+  wanted end.SourceFault false f h = absurd (omega (arith, h))
+  wanted end.TooLong false f h = absurd (omega (arith, h))
+  wanted end.Unwritten false f h = absurd (omega (arith, h))
+  wanted e true f h = absurd (omega (arith, h))
+
+  pub called_of : (e : End) (failed : Bool) → At e failed → status_of e failed errors ≡ 5 → 0 < (outcome_of (record { end = e; lines = n }) calls failed errors).call
+  called_of end.Wanted false f h = f.called refl
+  called_of end.Whole false f h = absurd (not_by_errors errors 5 (omega arith) h)
+  called_of end.SourceFault false f h = absurd (omega (arith, h))
+  called_of end.TooLong false f h = absurd (omega (arith, h))
+  called_of end.Unwritten false f h = absurd (omega (arith, h))
+  called_of e true f h = absurd (omega (arith, h))
+
+  -- a refused call that fits, and the one that the outcome names
+  fits_of : (e : End) → At e true → Fits (is_wanted e) calls (refused_call (outcome_of (record { end = e; lines = n }) calls true errors).call)
+  fits_of end.Whole f = tt
+  fits_of end.Wanted f = let more : 0 < calls = f.called refl in let test : (calls == 0) ≡ false = grind (arith, nat_tests) in rw test refl
+  fits_of end.SourceFault f = tt
+  fits_of end.TooLong f = tt
+  fits_of end.Unwritten f = tt
+
+  stopped_of : (e : End) → At e true → (lines : List (List ℕ)) → EndsAt calls lines n → 0 < (outcome_of (record { end = e; lines = n }) calls true errors).call → EndsAt (outcome_of (record { end = e; lines = n }) calls true errors).call lines n
+  stopped_of end.Wanted f lines s h = s
+  stopped_of end.Whole f lines s h = absurd (omega (arith, h))
+  stopped_of end.SourceFault f lines s h = absurd (omega (arith, h))
+  stopped_of end.TooLong f lines s h = absurd (omega (arith, h))
+  stopped_of end.Unwritten f lines s h = absurd (omega (arith, h))
+
+  is_wanted_of : (e : End) → 0 < (outcome_of (record { end = e; lines = n }) calls true errors).call → is_wanted e ≡ true
+  is_wanted_of end.Wanted h = refl
+  is_wanted_of end.Whole h = absurd (omega (arith, h))
+  is_wanted_of end.SourceFault h = absurd (omega (arith, h))
+  is_wanted_of end.TooLong h = absurd (omega (arith, h))
+  is_wanted_of end.Unwritten h = absurd (omega (arith, h))
+
+  failed_of : (e : End) (failed : Bool) → At e failed → status_of e failed errors ≡ 4 → failed ≡ true
+  failed_of e true f h = refl
+  failed_of end.Unwritten false f h = f.silent
+  failed_of end.Whole false f h = absurd (not_by_errors errors 4 (omega arith) h)
+  failed_of end.Wanted false f h = absurd (omega (arith, h))
+  failed_of end.SourceFault false f h = absurd (omega (arith, h))
+  failed_of end.TooLong false f h = absurd (omega (arith, h))
+
+  unwritten_at : (e : End) → At e true → IsUnwritten (outcome_of (record { end = e; lines = n }) calls true errors) left left' written written'
+  unwritten_at e f =
+      let front = front_of e f.bytes f.lines left left' f.how in
+      let w : Option ℕ = refused_call (outcome_of (record { end = e; lines = n }) calls true errors).call in
+      let told : Printed written written' faults faults' errors true (transcript w f.lines) = f.printed w (fits_of e f) in
+      let same : take n (lines_of front.given) ≡ f.lines = first_lines n f.lines front.more (lines_of front.given) f.count front.front in
+      let part = told.front refl in
+      record {
+        bytes = front.given;
+        given = front.given_is;
+        read = omega (arith, f.count, ap length front.front, length-append f.lines front.more);
+        front = part.0;
+        rest = part.1;
+        parts = part.2 ∙ ap (λ (z : List (List ℕ)). text_of_transcript (transcript w z)) (sym same);
+        taken = part.3;
+        defined = λ h. subst (λ (z : List (List ℕ)). EndsAt (outcome_of (record { end = e; lines = n }) calls true errors).call z n) (sym same) (stopped_of e f f.lines (f.stopped (is_wanted_of e h)) h);
+        errors = told.errors_are ∙ ap (λ (z : List (List ℕ)). errors_in (transcript w z)) (sym same);
+      }
+
+  pub unwritten : (e : End) (failed : Bool) → At e failed → status_of e failed errors ≡ 4 → IsUnwritten (outcome_of (record { end = e; lines = n }) calls failed errors) left left' written written'
+  unwritten e true f h = unwritten_at e f
+  unwritten e false f h = absurd (let t : false ≡ true = failed_of e false f h in cc)
+
+  pub sink_fault : (e : End) (failed : Bool) → At e failed → status_of e failed errors ≡ 4 → HasRisen faults faults'
+  sink_fault e failed f h = let fit = a_fit calls e in (f.printed fit.0 fit.1).risen (failed_of e failed f h)
+
+  pub sink_grew : (e : End) (failed : Bool) → At e failed → faults < faults' → status_of e failed errors ≡ 4
+  sink_grew e true f h = refl
+  sink_grew e false f h = let fit = a_fit calls e in absurd (omega (arith, h, (f.printed fit.0 fit.1).no_fault refl))
+
+-- the transcript, from the events of the lines and those of the session's end
+pub transcript_events : (w : Option ℕ) (lines : List (List ℕ)) (world : World) (emitted : List What → Type 0) → (course_of w lines).world ≡ world
+  → emitted ((course_of w lines).events ++ (exited world.session).events) → emitted (transcript w lines)
+unfolding transcript
+transcript_events w lines world emitted e h = subst (λ (z : World). emitted ((course_of w lines).events ++ (exited z.session).events)) (sym e) h
+
+pub ends_at : (calls n : ℕ) (wanted : Bool) (lines : List (List ℕ)) (world : World) (emitted : List What → Type 0) → wanted ≡ true → CourseAt (course_of (Some calls) lines) world emitted (length lines) wanted → n ≡ length lines → EndsAt calls lines n
+ends_at calls n wanted lines world emitted h c count = record { wanted = c.wanted_is ∙ h; line_is = c.performed_is ∙ sym count }
+
+pub fits_wanted : (wanted : Bool) (calls : ℕ) → wanted ≡ true → Fits wanted calls (Some calls)
+fits_wanted true calls h = refl
+fits_wanted false calls h = absurd (cc)
+
+-- a write that has failed stays failed
+pub stays_failed : (f g : Bool) (old new : Gathering) (text : List ℕ) → f ≡ true → Moves f g old new text → g ≡ true
+stays_failed true true old new text h m = refl
+stays_failed true false old new text h m = absurd m
+stays_failed false g old new text h m = absurd (cc)
+
+pub unwritten_leads : (e : End) (P Q : Type 0) → (P → Q) → OnUnwritten e P → OnUnwritten e Q
+unwritten_leads end.Whole P Q leads h = tt
+unwritten_leads end.Wanted P Q leads h = tt
+unwritten_leads end.SourceFault P Q leads h = tt
+unwritten_leads end.TooLong P Q leads h = tt
+unwritten_leads end.Unwritten P Q leads h = leads h
