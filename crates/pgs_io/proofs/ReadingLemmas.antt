@@ -1,8 +1,7 @@
 -- Lemmas on reading a source by lines: the steps within a line, and what a loop over a reader knows.
-use Rattle.std.proofs.Common.{◌≡◌, ◌≢◌, ◌<◌, ◌≤◌, ◌+◌, ℕ, Bool, true, false, ◌||◌, Option, None, Some, IfSome, List, [], ◌∷◌, ◌++◌, length, take, refl, sym, length-take, min, ◌∙◌, ap, subst, append_assoc, append-nil, length-append, arith}
+use Rattle.std.proofs.Common.{◌≡◌, ◌≢◌, ◌<◌, ◌+◌, ℕ, Bool, true, false, ◌||◌, Option, None, Some, IfSome, List, [], ◌∷◌, ◌++◌, length, take, refl, sym, length-take, ◌∙◌, ap, subst, append_assoc, append-nil, length-append, arith}
 use Rattle.std.proofs.lemmas.List.{take_at}
 use Rattle.std.proofs.lemmas.List.Elements.{All-append, All-nil, All-push}
-use Rattle.std.specs.Prelude.{All}
 use Rattle.std.specs.Io.KnownBytes.{prepend_known, IsAtEnd}
 use Rattle.pgs_io.specs.Lines.{newline, lines_of, ended_lines, text_of, HasNoNewline, IsKept}
 use Rattle.pgs_io.specs.Reading.{Reading, Gets, GivesLine, GivesLast, MeetsEnd, MeetsFault, MeetsLimit, HasRead, Took}

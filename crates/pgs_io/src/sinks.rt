@@ -1,6 +1,6 @@
 //! Where bytes go to.
 ghost use Rattle.std.specs.Prelude.{◌≡◌, ◌<◌, ◌≤◌, ◌+◌, ◌-◌, ◌++◌, ◌↔◌, ◌⊎◌, ℕ, List, [], Option, None, Some, length, take, min, IfOk, IsErr, OnOk, OnErr};
-ghost use Rattle.std.specs.Io.KnownBytes.{append_known};
+ghost use Rattle.std.specs.Io.KnownBytes.{append_known, Appends, Keeps};
 ghost use Rattle.pgs_io.specs.Faults.{HasRisen, counted};
 ghost use Rattle.pgs_io.specs.Memory.{MustFail};
 
@@ -158,15 +158,15 @@ pub struct StdSink<W> {
 impl<W> Model for StdSink<W> {
     ghost use Rattle.std.specs.Prelude.{ℕ};
 
-    ghost Value = { ℕ };
+    ghost Value = { W × ℕ };
 
-    ghost view = { λ s. s.faults };
+    ghost view = { λ s. (s.writer, s.faults) };
 }
 
 impl<W: Write + Drop> StdSink<W> {
     /// A sink that has not failed yet.
     pub fn new(writer: W) -> StdSink<W>
-        ensures { result ≡ 0 }
+        ensures { result ≡ (writer, 0) }
     {
         StdSink { writer, faults: 0 }
     }
@@ -175,10 +175,20 @@ impl<W: Write + Drop> StdSink<W> {
 impl<W: Write + Drop> Sink for StdSink<W> {
     ghost written = { λ s. None };
 
-    ghost faults = { λ s. s };
+    ghost faults = { λ s. s.1 };
 
     /// A write that takes nothing fails too.
-    fn write(&mut self, buf: &[u8]) -> Result<usize, Failed> {
+    fn write(&mut self, buf: &[u8]) -> Result<usize, Failed>
+        requires { 0 < length buf.now }
+        ensures some { IfOk result (λ count. 0 < count) }
+        ensures bound { IfOk result (λ count. count ≤ length buf.now) }
+        ensures no_fault { OnOk result (self.new.1 ≡ self.old.1) }
+        ensures fault { OnErr result (HasRisen self.old.1 self.new.1) }
+        ensures never_falls { self.old.1 ≤ self.new.1 }
+        // What the writer took, where it is known what that holds.
+        ensures taken { IfOk result (λ count. Appends (W.contents self.old.0) (W.contents self.new.0) (take count buf.now)) }
+        ensures kept { OnErr result (Keeps (W.contents self.old.0) (W.contents self.new.0)) }
+    {
         match self.writer.write(buf) {
             Ok(count) if count > 0 => Ok(count),
             _ => {

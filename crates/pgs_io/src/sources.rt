@@ -1,6 +1,6 @@
 //! Where bytes come from.
 ghost use Rattle.std.specs.Prelude.{◌≡◌, ◌<◌, ◌≤◌, ◌+◌, ◌++◌, ◌↔◌, ℕ, List, [], Option, None, Some, length, take, drop, min, IfOk, IfSome, IsErr, IsTrue, OnOk, OnErr};
-ghost use Rattle.std.specs.Io.KnownBytes.{prepend_known};
+ghost use Rattle.std.specs.Io.KnownBytes.{prepend_known, Consumes, Keeps, IsAtEnd};
 ghost use Rattle.pgs_io.specs.Faults.{HasRisen, counted};
 ghost use Rattle.pgs_io.specs.Memory.{MustFail};
 
@@ -156,15 +156,15 @@ pub struct StdSource<R> {
 impl<R> Model for StdSource<R> {
     ghost use Rattle.std.specs.Prelude.{ℕ};
 
-    ghost Value = { ℕ };
+    ghost Value = { R × ℕ };
 
-    ghost view = { λ s. s.faults };
+    ghost view = { λ s. (s.reader, s.faults) };
 }
 
 impl<R: Read + Drop> StdSource<R> {
     /// A source that has not failed yet.
     pub fn new(reader: R) -> StdSource<R>
-        ensures { result ≡ 0 }
+        ensures { result ≡ (reader, 0) }
     {
         StdSource { reader, faults: 0 }
     }
@@ -173,9 +173,19 @@ impl<R: Read + Drop> StdSource<R> {
 impl<R: Read + Drop> Source for StdSource<R> {
     ghost left = { λ s. None };
 
-    ghost faults = { λ s. s };
+    ghost faults = { λ s. s.1 };
 
-    fn read(&mut self, buf: &mut [u8]) -> Result<usize, Failed> {
+    fn read(&mut self, buf: &mut [u8]) -> Result<usize, Failed>
+        requires { 0 < length buf.old }
+        ensures bound { IfOk result (λ count. count ≤ length buf.new) }
+        ensures no_fault { OnOk result (self.new.1 ≡ self.old.1) }
+        ensures fault { OnErr result (HasRisen self.old.1 self.new.1) }
+        ensures never_falls { self.old.1 ≤ self.new.1 }
+        // What the reader gave, where it is known what that has.
+        ensures given { IfOk result (λ count. Consumes (R.remaining self.old.0) (R.remaining self.new.0) (take count buf.new)) }
+        ensures end { IfOk result (λ count. count ≡ 0 → IsAtEnd (R.remaining self.new.0)) }
+        ensures kept { OnErr result (Keeps (R.remaining self.old.0) (R.remaining self.new.0)) }
+    {
         match self.reader.read(buf) {
             Ok(count) => Ok(count),
             Err(_) => {

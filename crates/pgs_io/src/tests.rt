@@ -72,33 +72,35 @@ fn a_buffer_takes_bytes(rt: HostRuntime) {
 
 #[test]
 fn words_split_at_a_space(rt: HostRuntime) {
-    let (word, rest) = next_token(b"pin 7 8");
-    assert_eq!(rt; word, b"pin".as_slice());
-    assert_eq!(rt; rest, b"7 8".as_slice());
-    let (word, rest) = next_token(b"pin  7");
-    assert_eq!(rt; word, b"pin".as_slice());
-    assert_eq!(rt; rest, b" 7".as_slice());
-    let (word, rest) = next_token(b"begin");
-    assert_eq!(rt; word, b"begin".as_slice());
-    assert_eq!(rt; rest, b"".as_slice());
-    let (word, rest) = next_token(b"begin ");
-    assert_eq!(rt; word, b"begin".as_slice());
-    assert_eq!(rt; rest, b"".as_slice());
+    let cases: [(&[u8], &[u8], &[u8]); 4] = [
+        (b"pin 7 8", b"pin", b"7 8"),
+        (b"pin  7", b"pin", b" 7"),
+        (b"begin", b"begin", b""),
+        (b"begin ", b"begin", b""),
+    ];
+    for (text, word, rest) in cases {
+        assert_eq!(rt; next_token(text), (word, rest));
+    }
 }
 
 #[test]
 fn numbers_are_decimal(rt: HostRuntime) {
-    let max = u64::from(u32::MAX);
-    assert_eq!(rt; number(b"0", max), Some(0));
-    assert_eq!(rt; number(b"00", max), None);
-    assert_eq!(rt; number(b"01", max), None);
-    assert_eq!(rt; number(b"4294967295", max), Some(4294967295));
-    assert_eq!(rt; number(b"4294967296", max), None);
-    assert_eq!(rt; number(b"", max), None);
-    assert_eq!(rt; number(b"12a", max), None);
-    assert_eq!(rt; number(b"+1", max), None);
-    assert_eq!(rt; number(b"18446744073709551616", u64::MAX), None);
-    assert_eq!(rt; number(b"18446744073709551615", u64::MAX), Some(u64::MAX));
+    let max = 4294967295;
+    let cases: [(&[u8], u64, Option<u64>); 10] = [
+        (b"0", max, Some(0)),
+        (b"00", max, None),
+        (b"01", max, None),
+        (b"4294967295", max, Some(4294967295)),
+        (b"4294967296", max, None),
+        (b"", max, None),
+        (b"12a", max, None),
+        (b"+1", max, None),
+        (b"18446744073709551615", u64::MAX, Some(u64::MAX)),
+        (b"18446744073709551616", u64::MAX, None),
+    ];
+    for (word, max, want) in cases {
+        assert_eq!(rt; number(word, max), want);
+    }
 }
 
 #[test]

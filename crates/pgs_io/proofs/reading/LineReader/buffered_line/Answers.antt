@@ -1,4 +1,4 @@
-use Rattle.std.proofs.Common.{take, drop, ◌+◌, ◌≤◌, ◌++◌, ◌∷◌, [], false, slice_range, ◌∙◌, ap, sym, refl, arith, append-nil}
+use Rattle.std.proofs.Common.{take, ◌+◌, ◌≤◌, ◌++◌, ◌∷◌, [], false, slice_range, ◌∙◌, ap, sym, arith, append-nil}
 use Rattle.pgs_io.proofs.KnownLemmas.{prepend_known-nil}
 use Rattle.pgs_io.proofs.LineLemmas.{drop-slice_range, length-slice_range-le, not-fits, IsKept-nil, IsKept-append}
 use Rattle.pgs_io.specs.Lines.{newline}

@@ -1,8 +1,7 @@
-use Rattle.std.proofs.Common.{◌≡◌, ◌<◌, ◌∙◌, ◌==◌, List, ℕ, [], length, refl, sym, ap, subst, arith, Bool, true, false}
+use Rattle.std.proofs.Common.{◌≡◌, ◌<◌, ◌∙◌, ◌==◌, ℕ, length, refl, sym, ap, arith, false}
 use Rattle.std.proofs.lemmas.Bool.Decides.{nat_tests}
 use Rattle.pgs_io.specs.Reading.{Reading}
-use Rattle.pgs_io.specs.Filling.{TakesPart}
-use Rattle.pgs_io.proofs.ReadingLemmas.{Begun, Begun-start, Begun-ended, Begun-part, Begun-filled, Begun-same, Begun-last, Begun-fault, Begun-limit, GivesLine-progress}
+use Rattle.pgs_io.proofs.ReadingLemmas.{Begun-start, Begun-ended, Begun-part, Begun-filled, Begun-same, Begun-last, Begun-fault, Begun-limit, GivesLine-progress}
 use Rattle.pgs_io.proofs.reading.LineReader.read_line.Goals as goal
 
 not_zero : (m n : ℕ) → m ≡ n → (m == 0) ≡ false → 0 < n

@@ -1,4 +1,4 @@
-use Rattle.std.proofs.Common.{take, drop, ◌+◌, ◌≤◌, ◌++◌, ◌∷◌, slice_range, ◌∙◌, ap, sym, refl, arith}
+use Rattle.std.proofs.Common.{take, ◌+◌, ◌≤◌, ◌++◌, ◌∷◌, slice_range, ◌∙◌, ap, sym, refl, arith}
 use Rattle.pgs_io.proofs.LineLemmas.{drop-slice_range, length-slice_range-le, not-fits}
 use Rattle.pgs_io.specs.Lines.{newline}
 use Rattle.pgs_io.proofs.reading.LineReader.take_part.Goals as goal

@@ -1,4 +1,4 @@
-use Rattle.std.proofs.Common.{◌≡◌, ◌∙◌, length, length-take, take, drop, arith, rules}
+use Rattle.std.proofs.Common.{◌≡◌, length, length-take, take, drop, arith}
 use Rattle.std.proofs.lemmas.List.{take_rest}
 use Rattle.pgs_io.proofs.LineLemmas.{piece-rest}
 use Rattle.pgs_io.proofs.sources.MemSourceSource.read.Goals as goal
