@@ -155,7 +155,7 @@ spare_at rooms top place n room f l =
 -- after a write to the place, the room that was written lies there
 pub lies_set : (rooms : List Roomy) (place n : ℕ) (room new : Roomy) → Lies rooms place n room → new.owner.number ≡ n → Lies (set rooms place new) place n new
 lies_set rooms place n room new l e = record {
-    within = omega (arith, l.within, length-set rooms place new);
-    is = sym (get_or-set_same rooms place new new l.within);
-    numbered = e
+  within = omega (arith, l.within, length-set rooms place new);
+  is = sym (get_or-set_same rooms place new new l.within);
+  numbered = e;
 }

@@ -9,8 +9,8 @@ pub invariant_of-self : goal.invariant_of-self
 invariant_of-self g c =
     let within = c.place_of-place.ensures.within in
     record {
-        falls = rw c.remove.ensures.items (falls_remove c.self.inside.nodes.items c.self.inside.next_owner c.place_of-place.result c.self.invariant.falls (rw c.deref.ensures.value at within));
-        few = rw c.remove.ensures.items (omega (arith, length_removed c.self.inside.nodes.items c.place_of-place.result))
+      falls = rw c.remove.ensures.items (falls_remove c.self.inside.nodes.items c.self.inside.next_owner c.place_of-place.result c.self.invariant.falls (rw c.deref.ensures.value at within));
+      few = rw c.remove.ensures.items (omega (arith, length_removed c.self.inside.nodes.items c.place_of-place.result));
     }
 
 pub returns-clause-owners : goal.returns-clause-owners
