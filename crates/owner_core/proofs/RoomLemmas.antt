@@ -1,12 +1,11 @@
 -- The owner that lies at a place, where the numbers fall.
-use Rattle.std.proofs.Common.{◌≡◌, ℕ, zero, suc, ◌+◌, ◌-◌, min, ◌<◌, ◌≤◌, ◌≢◌, Bool, true, false, List, [], ◌∷◌, ◌++◌, length, map, set, get_or, take, drop, arith, refl, ap, sym, ◌∙◌, eq-eqb}
-use Rattle.std.specs.Prelude.{◌==◌, filter, not, if◌then◌else◌, Some, None, Option, IsSome, IsTrue}
+use Rattle.std.proofs.Common.{◌≡◌, ℕ, zero, suc, ◌<◌, ◌≤◌, ◌≢◌, false, List, [], ◌∷◌, ◌++◌, length, map, set, get_or, take, drop, arith, refl, ap, sym, ◌∙◌, eq-eqb}
+use Rattle.std.specs.Prelude.{◌==◌, if◌then◌else◌, Some, None, Option, IsSome, IsTrue}
 use Rattle.std.specs.Option.{IfNone, option_map_or}
-use Rattle.pgs_step.specs.declared.ids.Item.{Item}
-use Rattle.std.specs.List.{list_any, find, remove}
+use Rattle.std.specs.List.{find}
 use Rattle.std.proofs.lemmas.Bool.{ne_eqb}
 use Rattle.std.proofs.lemmas.List.{length-set, length-append, length-take, length-drop, get_or-set_same}
-use Rattle.owner_core.specs.Owners.{Owner, Roomy, has_owner, items_of, has_begun, spare_of, changed, without}
+use Rattle.owner_core.specs.Owners.{Owner, Roomy, has_owner, items_of, has_begun, changed, without}
 use Rattle.owner_core.specs.Order.{Falls}
 
 -- the owners of the rooms

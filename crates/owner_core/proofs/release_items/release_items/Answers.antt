@@ -1,5 +1,5 @@
 -- Each turn adds the steps of the newest item's release to those that were done.
-use Rattle.std.proofs.Common.{◌≡◌, ◌+◌, [], ◌∷◌, ◌++◌, reverse, arith, ap, refl}
+use Rattle.std.proofs.Common.{[], ◌++◌, reverse, arith, ap, refl}
 use Rattle.owner_core.specs.Owners.{uses}
 use Rattle.owner_core.specs.Steps.{release_of}
 use Rattle.owner_core.proofs.ItemLemmas.{newest_first, uses-cons, releases_more}

@@ -1,7 +1,5 @@
 -- The owner lies at the place that was found.
-use Rattle.std.proofs.Common.{◌≡◌, ◌≤◌, ◌+◌, List, arith, ap, ◌∙◌, sym, rules, length}
-use Rattle.owner_core.specs.Owners.{Roomy}
-use Rattle.owner_core.specs.Order.{Falls}
+use Rattle.std.proofs.Common.{arith}
 use Rattle.owner_core.proofs.RoomLemmas.{lies, falls_remove, length_removed, without_at}
 use Rattle.owner_core.proofs.owners.Owners.discard.Goals as goal
 

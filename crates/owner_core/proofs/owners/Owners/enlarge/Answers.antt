@@ -1,8 +1,7 @@
 -- The owner lies at the place that was found, and is as it was.
-use Rattle.std.proofs.Common.{◌≡◌, ◌≤◌, ◌+◌, List, ap, sym, ◌∙◌, arith, length, refl, set}
+use Rattle.std.proofs.Common.{ap, ◌∙◌, arith, set}
 use Rattle.std.proofs.Math.Seq.{map-set_same}
 use Rattle.std.proofs.lemmas.List.{length-set}
-use Rattle.std.proofs.lemmas.Result.{on_ok_weaker}
 use Rattle.owner_core.specs.Owners.{Owner, Roomy}
 use Rattle.owner_core.proofs.RoomLemmas.{lies, lies_set, falls_set, spare_at, begun_at}
 use Rattle.owner_core.proofs.owners.Owners.enlarge.Goals as goal

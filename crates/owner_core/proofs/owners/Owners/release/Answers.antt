@@ -1,8 +1,8 @@
 -- The owner lies at the place that was found, and the others stay as they are.
-use Rattle.std.proofs.Common.{◌≡◌, ◌≤◌, ◌+◌, List, ◌∷◌, ap, sym, ◌∙◌, arith, length, true, refl}
+use Rattle.std.proofs.Common.{ap, sym, ◌∙◌, arith, true}
 use Rattle.std.proofs.lemmas.List.{length-set}
-use Rattle.owner_core.specs.Owners.{Owner, Roomy}
-use Rattle.owner_core.specs.Owners.{items_of, items_in, items_not_in, uses}
+use Rattle.owner_core.specs.Owners.{Owner}
+use Rattle.owner_core.specs.Owners.{items_not_in}
 use Rattle.owner_core.proofs.RoomLemmas.{lies, changed_at, falls_set, items_at}
 use Rattle.owner_core.proofs.owners.Owners.release.Goals as goal
 

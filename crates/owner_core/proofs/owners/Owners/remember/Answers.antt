@@ -1,7 +1,7 @@
 -- The owner lies at the place that was found, and the others stay as they are.
-use Rattle.std.proofs.Common.{◌≡◌, ◌≤◌, ◌+◌, List, ◌∷◌, ap, sym, ◌∙◌, arith, length, true, refl}
+use Rattle.std.proofs.Common.{◌∷◌, ap, sym, ◌∙◌, arith}
 use Rattle.std.proofs.lemmas.List.{length-set}
-use Rattle.owner_core.specs.Owners.{Owner, Roomy}
+use Rattle.owner_core.specs.Owners.{Owner}
 use Rattle.owner_core.proofs.RoomLemmas.{lies, changed_at, falls_set, spare_at}
 use Rattle.owner_core.proofs.owners.Owners.remember.Goals as goal
 
