@@ -130,8 +130,8 @@ found_somewhere None rooms n has absent = let nowhere : has_owner n (owners room
 found_somewhere (Some i) rooms n has absent = refl
 
 -- the number that is given next is no owner's
-pub next_is_fresh : (rooms : List Roomy) (next : ℕ) → Falls next rooms → IsTrue (has_owner next (owners rooms)) → ⊥
-next_is_fresh rooms next f has = let absent : has_owner next (owners rooms) ≡ false = has_absent rooms next next f (omega arith) in cc
+pub next_is_fresh : (rooms : List Roomy) (next : ℕ) → Falls next rooms → has_owner next (owners rooms) ≡ false
+next_is_fresh rooms next f = has_absent rooms next next f (omega arith)
 
 -- what was found in a view of the rooms
 pub lies : (rooms seen : List Roomy) (place n : ℕ) (room : Roomy) → seen ≡ rooms → place < length seen → ((d : Roomy) → (get_or seen place d).owner.number ≡ n) → room ≡ get_or rooms place room → Lies rooms place n room
