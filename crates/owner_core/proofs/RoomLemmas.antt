@@ -1,12 +1,11 @@
 -- The owner that lies at a place, where the numbers fall.
-use Rattle.std.proofs.Common.{◌≡◌, ℕ, zero, suc, ◌+◌, ◌-◌, min, ◌<◌, ◌≤◌, ◌≢◌, Bool, true, false, List, [], ◌∷◌, ◌++◌, length, map, set, get_or, take, drop, arith, refl, ap, sym, ◌∙◌, eq-eqb}
-use Rattle.std.specs.Prelude.{◌==◌, filter, not, if◌then◌else◌, Some, None, Option, IsSome, IsTrue}
+use Rattle.std.proofs.Common.{◌≡◌, ℕ, zero, suc, ◌<◌, ◌≤◌, ◌≢◌, false, List, [], ◌∷◌, ◌++◌, length, map, set, get_or, take, drop, arith, refl, ap, sym, ◌∙◌, eq-eqb}
+use Rattle.std.specs.Prelude.{◌==◌, if◌then◌else◌, Some, None, Option, IsSome, IsTrue}
 use Rattle.std.specs.Option.{IfNone, option_map_or}
-use Rattle.pgs_step.specs.declared.ids.Item.{Item}
-use Rattle.std.specs.List.{list_any, find, remove}
+use Rattle.std.specs.List.{find}
 use Rattle.std.proofs.lemmas.Bool.{ne_eqb}
 use Rattle.std.proofs.lemmas.List.{length-set, length-append, length-take, length-drop, get_or-set_same}
-use Rattle.owner_core.specs.Owners.{Owner, Roomy, has_owner, items_of, has_begun, spare_of, changed, without}
+use Rattle.owner_core.specs.Owners.{Owner, Roomy, has_owner, items_of, has_begun, changed, without}
 use Rattle.owner_core.specs.Order.{Falls}
 
 -- the owners of the rooms
@@ -131,8 +130,8 @@ found_somewhere None rooms n has absent = let nowhere : has_owner n (owners room
 found_somewhere (Some i) rooms n has absent = refl
 
 -- the number that is given next is no owner's
-pub next_is_fresh : (rooms : List Roomy) (next : ℕ) → Falls next rooms → IsTrue (has_owner next (owners rooms)) → ⊥
-next_is_fresh rooms next f has = let absent : has_owner next (owners rooms) ≡ false = has_absent rooms next next f (omega arith) in cc
+pub next_is_fresh : (rooms : List Roomy) (next : ℕ) → Falls next rooms → has_owner next (owners rooms) ≡ false
+next_is_fresh rooms next f = has_absent rooms next next f (omega arith)
 
 -- what was found in a view of the rooms
 pub lies : (rooms seen : List Roomy) (place n : ℕ) (room : Roomy) → seen ≡ rooms → place < length seen → ((d : Roomy) → (get_or seen place d).owner.number ≡ n) → room ≡ get_or rooms place room → Lies rooms place n room
@@ -155,7 +154,7 @@ spare_at rooms top place n room f l =
 -- after a write to the place, the room that was written lies there
 pub lies_set : (rooms : List Roomy) (place n : ℕ) (room new : Roomy) → Lies rooms place n room → new.owner.number ≡ n → Lies (set rooms place new) place n new
 lies_set rooms place n room new l e = record {
-    within = omega (arith, l.within, length-set rooms place new);
-    is = sym (get_or-set_same rooms place new new l.within);
-    numbered = e
+  within = omega (arith, l.within, length-set rooms place new);
+  is = sym (get_or-set_same rooms place new new l.within);
+  numbered = e;
 }

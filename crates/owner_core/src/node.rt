@@ -27,8 +27,8 @@ impl Model for Node {
     ghost Value = { Roomy };
 
     ghost view = { λ n. record {
-        owner = record { number = n.number; begun = n.begun; items = reverse n.items.items };
-        spare = vec_capacity n.items - vec_len n.items
+      owner = record { number = n.number; begun = n.begun; items = reverse n.items.items };
+      spare = vec_capacity n.items - vec_len n.items;
     } };
 }
 

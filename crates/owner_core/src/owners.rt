@@ -62,7 +62,7 @@ impl Owners {
         ensures next_owner { OnOk result (self.new.next_owner ≡ self.old.next_owner + 1) }
         ensures next_serial { OnOk result (self.new.next_serial ≡ self.old.next_serial) }
         ensures emits { OnOk result (E.emits out.old (What.Owner self.old.next_owner ∷ []) out.new) }
-        ensures fresh { IsTrue (has_owner self.old.next_owner (owners_of self.old)) → ⊥ }
+        ensures fresh { has_owner self.old.next_owner (owners_of self.old) ≡ false }
         ensures refused { OnErr result (self.new ≡ self.old) }
         ensures silent { OnErr result (out.new ≡ out.old) }
         ensures room { IsOk result → length self.old.rooms < MOST_OWNERS }

@@ -5,9 +5,8 @@ use Rattle.owner_core.proofs.release_items.give_back_item.Goals as goal
 
 pub returns-clause-steps : goal.returns-clause-steps
 returns-clause-steps g c =
-    let done = c.give_back.ensures.done in
-    (
-        Release c.args.item c.args.owner ∷ done.0,
-        g.met.R.Release.does_more _ _ _ _ _ _ _ _ _ (g.met.R.Release.does_said _ (Release c.args.item c.args.owner)) done.1 refl refl,
-        g.met.E.Emit.emits_more _ _ _ _ _ _ c.emit.ensures.emitted done.2 refl
+    let done = c.give_back.ensures.done in (
+      Release c.args.item c.args.owner ∷ done.0,
+      g.met.R.Release.does_more _ _ _ _ _ _ _ _ _ (g.met.R.Release.does_said _ (Release c.args.item c.args.owner)) done.1 refl refl,
+      g.met.E.Emit.emits_more _ _ _ _ _ _ c.emit.ensures.emitted done.2 refl,
     )

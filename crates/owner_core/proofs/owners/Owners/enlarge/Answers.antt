@@ -1,8 +1,7 @@
 -- The owner lies at the place that was found, and is as it was.
-use Rattle.std.proofs.Common.{◌≡◌, ◌≤◌, ◌+◌, List, ap, sym, ◌∙◌, arith, length, refl, set}
+use Rattle.std.proofs.Common.{ap, ◌∙◌, arith, set}
 use Rattle.std.proofs.Math.Seq.{map-set_same}
 use Rattle.std.proofs.lemmas.List.{length-set}
-use Rattle.std.proofs.lemmas.Result.{on_ok_weaker}
 use Rattle.owner_core.specs.Owners.{Owner, Roomy}
 use Rattle.owner_core.proofs.RoomLemmas.{lies, lies_set, falls_set, spare_at, begun_at}
 use Rattle.owner_core.proofs.owners.Owners.enlarge.Goals as goal
@@ -11,8 +10,8 @@ pub invariant_of-self : goal.invariant_of-self
 invariant_of-self c =
     let l = lies c.self.inside.nodes.items c.deref.result.now c.place_of-place.result c.args.owner.number c.index_mut-node.result.now c.deref.ensures.value c.place_of-place.ensures.within c.place_of-place.ensures.found c.index_mut-node.ensures.value in
     record {
-        falls = falls_set c.self.inside.nodes.items c.self.inside.next_owner c.place_of-place.result c.args.owner.number c.index_mut-node.result.now c.enlarge.new.self c.self.invariant.falls l (ap (λ (owner : Owner). owner.number) c.enlarge.ensures.owner ∙ l.numbered);
-        few = omega (arith, length-set c.self.inside.nodes.items c.place_of-place.result c.enlarge.new.self)
+      falls = falls_set c.self.inside.nodes.items c.self.inside.next_owner c.place_of-place.result c.args.owner.number c.index_mut-node.result.now c.enlarge.new.self c.self.invariant.falls l (ap (λ (owner : Owner). owner.number) c.enlarge.ensures.owner ∙ l.numbered);
+      few = omega (arith, length-set c.self.inside.nodes.items c.place_of-place.result c.enlarge.new.self);
     }
 
 pub returns-clause-spare : goal.returns-clause-spare

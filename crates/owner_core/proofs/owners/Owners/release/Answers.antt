@@ -1,8 +1,8 @@
 -- The owner lies at the place that was found, and the others stay as they are.
-use Rattle.std.proofs.Common.{◌≡◌, ◌≤◌, ◌+◌, List, ◌∷◌, ap, sym, ◌∙◌, arith, length, true, refl}
+use Rattle.std.proofs.Common.{ap, sym, ◌∙◌, arith, true}
 use Rattle.std.proofs.lemmas.List.{length-set}
-use Rattle.owner_core.specs.Owners.{Owner, Roomy}
-use Rattle.owner_core.specs.Owners.{items_of, items_in, items_not_in, uses}
+use Rattle.owner_core.specs.Owners.{Owner}
+use Rattle.owner_core.specs.Owners.{items_not_in}
 use Rattle.owner_core.proofs.RoomLemmas.{lies, changed_at, falls_set, items_at}
 use Rattle.owner_core.proofs.owners.Owners.release.Goals as goal
 
@@ -15,8 +15,8 @@ pub invariant_of-self : goal.invariant_of-self
 invariant_of-self g c =
     let l = lies c.self.inside.nodes.items c.deref.result.now c.place_of-place.result c.args.owner.number c.index_mut-node.result.now c.deref.ensures.value c.place_of-place.ensures.within c.place_of-place.ensures.found c.index_mut-node.ensures.value in
     record {
-        falls = falls_set c.self.inside.nodes.items c.self.inside.next_owner c.place_of-place.result c.args.owner.number c.index_mut-node.result.now c.release.new.self c.self.invariant.falls l (ap (λ (owner : Owner). owner.number) c.release.ensures.owner ∙ l.numbered);
-        few = omega (arith, length-set c.self.inside.nodes.items c.place_of-place.result c.release.new.self)
+      falls = falls_set c.self.inside.nodes.items c.self.inside.next_owner c.place_of-place.result c.args.owner.number c.index_mut-node.result.now c.release.new.self c.self.invariant.falls l (ap (λ (owner : Owner). owner.number) c.release.ensures.owner ∙ l.numbered);
+      few = omega (arith, length-set c.self.inside.nodes.items c.place_of-place.result c.release.new.self);
     }
 
 pub returns-clause-owners : goal.returns-clause-owners
