@@ -1,0 +1,47 @@
+//! `pgscript`: reads a script on standard input and writes its transcript to standard output.
+#![tactic(auto)]
+
+use pgs_io::{StdSink, StdSource};
+use pgs_world::run;
+use std::alloc::{AllocError, Global};
+use std::env;
+use std::io;
+use std::process::ExitCode;
+
+/// The status where memory was wanted before the run.
+const NO_MEMORY: u8 = 5;
+
+/// The status where an argument isn't text.
+const NO_TEXT: u8 = 7;
+
+fn main(rt: HostRuntime) -> ExitCode {
+    let args = match env::args(&rt) {
+        Ok(args) => args,
+        Err(error) => return ExitCode::from(unread(error.kind())),
+    };
+    match words_of(rt.alloc(), args) {
+        Ok(words) => {
+            let mut source = StdSource::new(rt.reader());
+            let mut sink = StdSink::new(io::writer(&rt));
+            ExitCode::from(run(rt.alloc(), &words, &mut source, &mut sink).status)
+        }
+        Err(_) => ExitCode::from(NO_MEMORY),
+    }
+}
+
+/// The status where the arguments couldn't be read.
+fn unread(kind: io::ErrorKind) -> u8 {
+    match kind {
+        io::ErrorKind::OutOfMemory => NO_MEMORY,
+        _ => NO_TEXT,
+    }
+}
+
+/// The words of the command line, without the program's name.
+fn words_of(alloc: Global, args: env::Args) -> Result<Vec<String>, AllocError> {
+    let mut words = Vec::new(alloc);
+    for word in args.skip(1) {
+        words.push(word)?;
+    }
+    Ok(words)
+}
