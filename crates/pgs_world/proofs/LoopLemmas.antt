@@ -1,6 +1,7 @@
 -- The reading loop: where it stands, and how it ends.
 use Rattle.std.proofs.Common.{◌≡◌, ℕ, ◌+◌, ◌*◌, ◌^◌, ◌<◌, ◌≤◌, Bool, true, false, List, [], ◌∷◌, ◌++◌, length, Option, Some, None, refl, sym, ◌∙◌, ap, subst, arith, length-append, append-nil}
 use Rattle.std.specs.Prelude.{unwrap_or, IfSome}
+use Rattle.std.specs.Io.KnownBytes.{prepend_known}
 use Rattle.pgs_io.specs.Lines.{lines_of, text_of, newline}
 use Rattle.pgs_io.specs.Reading.{Reading, HasRead, GivesLine, GivesLast, MeetsEnd, MeetsFault, MeetsLimit}
 use Rattle.pgs_io.proofs.ReadingLemmas.{HasRead-start, HasRead-line, HasRead-now, HasRead-end, HasRead-last, HasRead-fault, HasRead-too_much}
@@ -92,6 +93,17 @@ module _ (start before after : Option (List ℕ)) (reader reader' : Reading) (wo
         called = λ e. absurd (cc);
         count = count;
         how = (read.1, read.2, read.3, sym read.4);
+      }
+
+  pub ends-unwritten : after ≡ before → Performs (record { end = end.Unwritten; lines = n }) start after world emitted'
+  ends-unwritten same =
+      let read = HasRead-now most_bytes start before reader lines s.read in record {
+        bytes = read.0;
+        lines = lines;
+        courses = CoursesAre-weaker false lines world emitted emitted' leads s.courses;
+        called = λ e. absurd (cc);
+        count = count;
+        how = record { given = read.1.from_source ∙ ap (prepend_known read.0) (sym same); short = read.1.within; more = read.2.0; front = read.2.1 };
       }
 
 -- The ends behind a line.

@@ -11,3 +11,6 @@ mod program;
 mod session;
 
 pub use program::{Outcome, run};
+
+#[cfg(test)]
+mod tests;

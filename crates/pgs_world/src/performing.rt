@@ -1,5 +1,5 @@
 //! Reads a script line by line, and performs each line.
-ghost use Rattle.std.specs.Prelude.{◌≡◌, ◌<◌, ◌≤◌, ◌+◌, ℕ, List, [], true, false, Option, Some, length, IfSome};
+ghost use Rattle.std.specs.Prelude.{◌≡◌, ◌<◌, ◌≤◌, ◌+◌, ℕ, List, [], true, false, Option, Some, length, IfSome, IfNone};
 ghost use Rattle.pgs_io.specs.Faults.{HasRisen};
 ghost use Rattle.pgs_io.specs.Lines.{IsKept};
 ghost use Rattle.pgs_io.specs.Reading.{GivesLine, GivesLast, MeetsEnd, MeetsFault, MeetsLimit};
@@ -58,7 +58,13 @@ pub(crate) fn perform_lines<S: Source, K: Sink>(
     let mut line = LineBuf::new();
     let mut lines = 0;
     loop {
-        match next_line(&mut reader, src, &mut line, printer) {
+        let Some(next) = next_line(&mut reader, src, &mut line, printer) else {
+            return Ended {
+                end: End::Unwritten,
+                lines,
+            };
+        };
+        match next {
             Next::Line { long } => {
                 let end = perform_line(session, line.as_slice(), long, printer);
                 lines += 1;
@@ -95,28 +101,36 @@ pub(crate) fn perform_lines<S: Source, K: Sink>(
     }
 }
 
-/// The next line of the source. What is printed is handed on before the source is read.
+/// The next line of the source, or `None` where the sink failed.
+///
+/// What is printed is handed to the sink before the source is read.
 fn next_line<S: Source, K: Sink>(
     reader: &mut LineReader,
     src: &mut S,
     line: &mut LineBuf,
     printer: &mut Printer<'_, K>,
-) -> Next
-    ensures line { IfLine result (λ long. GivesLine (S.left src.old) (S.left src.new) reader.old reader.new line.new long) }
-    ensures last { IfLast result (λ long. GivesLast (S.left src.old) (S.left src.new) reader.old reader.new line.new long) }
-    ensures end { OnEnd result (MeetsEnd (S.left src.old) (S.left src.new) reader.old reader.new) }
-    ensures at_fault { OnFault result (MeetsFault (S.left src.old) (S.left src.new) reader.old reader.new) }
-    ensures too_much { OnTooMuch result (MeetsLimit (S.left src.old) (S.left src.new) reader.old reader.new) }
-    ensures progress { IfLine result (λ _. length reader.new.pending + reader.new.room < length reader.old.pending + reader.old.room) }
-    ensures no_fault { OnNoFault result (S.faults src.new ≡ S.faults src.old) }
-    ensures fault { OnFault result (HasRisen (S.faults src.old) (S.faults src.new)) }
+) -> Option<Next>
+    ensures line { IfSome result (λ next. IfLine next (λ long. GivesLine (S.left src.old) (S.left src.new) reader.old reader.new line.new long)) }
+    ensures last { IfSome result (λ next. IfLast next (λ long. GivesLast (S.left src.old) (S.left src.new) reader.old reader.new line.new long)) }
+    ensures end { IfSome result (λ next. OnEnd next (MeetsEnd (S.left src.old) (S.left src.new) reader.old reader.new)) }
+    ensures at_fault { IfSome result (λ next. OnFault next (MeetsFault (S.left src.old) (S.left src.new) reader.old reader.new)) }
+    ensures too_much { IfSome result (λ next. OnTooMuch next (MeetsLimit (S.left src.old) (S.left src.new) reader.old reader.new)) }
+    ensures progress { IfSome result (λ next. IfLine next (λ _. length reader.new.pending + reader.new.room < length reader.old.pending + reader.old.room)) }
+    ensures no_fault { IfSome result (λ next. OnNoFault next (S.faults src.new ≡ S.faults src.old)) }
+    ensures fault { IfSome result (λ next. OnFault next (HasRisen (S.faults src.old) (S.faults src.new))) }
     ensures printed { TakesEvents K.written K.faults printer.old [] printer.new }
+    ensures unwritten { IfNone result (printer.new.failed ≡ true) }
+    ensures unread { IfNone result (src.new ≡ src.old) }
+    ensures kept { IfNone result (reader.new ≡ reader.old) }
 {
     match reader.buffered_line(line) {
-        Buffered::Whole { long } => Next::Line { long },
+        Buffered::Whole { long } => Some(Next::Line { long }),
         Buffered::Partial => {
             printer.flush();
-            reader.read_line(src, line)
+            if printer.has_failed() {
+                return None;
+            }
+            Some(reader.read_line(src, line))
         }
     }
 }

@@ -4,13 +4,13 @@ use Rattle.pgs_world.specs.Loop.{Stands}
 use Rattle.pgs_world.proofs.performing.perform_lines.Given as goal
 
 -- the lines so far were performed, and the source has not failed
-abbrev pub invariant-loop-long : goal.invariant-loop-long
-invariant-loop-long g l =
+abbrev pub invariant-loop-next : goal.invariant-loop-next
+invariant-loop-next g l =
     (lines : List (List ℕ))
     × Stands (g.S.Source.left l.initial.src) (g.S.Source.left l.src) l.reader l.session (λ xs. TakesEvents g.K.Sink.written g.K.Sink.faults l.initial.printer xs l.printer) lines
     × (l.lines ≡ length lines)
     × (g.S.Source.faults l.src ≡ g.S.Source.faults l.initial.src)
 
 -- the bytes that may still be read
-abbrev pub decreases-loop-long : goal.decreases-loop-long
-decreases-loop-long g l = length l.reader.pending + l.reader.room
+abbrev pub decreases-loop-next : goal.decreases-loop-next
+decreases-loop-next g l = length l.reader.pending + l.reader.room

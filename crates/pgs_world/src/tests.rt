@@ -1,0 +1,155 @@
+//! The program over a source and a sink in memory.
+ghost use Rattle.std.specs.Prelude.{◌≤◌};
+
+use crate::{Outcome, run};
+use pgs_io::{MemSink, MemSource};
+use std::alloc::{AllocError, Global};
+use std::test::Fail;
+
+const BEGUN: &str = "1 begin level 1\n1 owner o1\n1 ok\n";
+
+const PINNED: &str = "1 begin level 1\n1 owner o1\n1 ok\n1 acquire buffer pin 7 #1 o1\n1 ok\n";
+
+const ROLLED_BACK: &str = "1 abort level 1\n1 release buffer pin 7 #1 o1\n1 cleanup level 1\n1 owner o1 gone\n";
+
+/// What a run left: its outcome and the bytes that were written.
+#[derive(Drop)]
+struct Played {
+    outcome: Outcome,
+    written: Vec<u8>,
+}
+
+/// Plays a script that is read in pieces, with a read and a write that fail; 0 is none.
+fn play(
+    alloc: Global,
+    script: &[u8],
+    piece: u32,
+    bad_read: u64,
+    bad_write: u64,
+) -> Result<Played, AllocError>
+    requires { 1 ≤ piece }
+{
+    let words = Vec::new(alloc);
+    let bytes = Vec::from_slice(alloc, script)?;
+    let mut source = MemSource::new(bytes, piece, vec![in alloc; bad_read]?);
+    let mut sink = MemSink::new(alloc, 4096, vec![in alloc; bad_write]?)?;
+    let outcome = run(alloc, &words, &mut source, &mut sink);
+    let written = Vec::from_slice(alloc, sink.written())?;
+    Ok(Played { outcome, written })
+}
+
+/// The two texts, one behind the other.
+fn joined(alloc: Global, first: &str, second: &str) -> Result<Vec<u8>, AllocError> {
+    let mut both = Vec::from_slice(alloc, first.as_bytes())?;
+    both.extend_from_slice(second.as_bytes())?;
+    Ok(both)
+}
+
+#[test]
+fn an_empty_script(rt: HostRuntime) -> Result<(), Fail> {
+    let played = play(rt.alloc(), b"", 1, 0, 0)?;
+    assert_eq!(rt; played.outcome.status, 0);
+    assert_eq!(rt; played.written.as_slice(), b"1 exit\n".as_slice());
+    Ok(())
+}
+
+#[test]
+fn a_commit_warns_of_a_pin(rt: HostRuntime) -> Result<(), Fail> {
+    let played = play(rt.alloc(), b"begin\npin 7\ncommit\n", 4096, 0, 0)?;
+    let end = "1 commit level 1\n1 warning resource was not closed: buffer pin 7 #1 o1\n1 release buffer pin 7 #1 o1\n1 owner o1 gone\n1 ok\n1 exit\n";
+    let wanted = joined(rt.alloc(), PINNED, end)?;
+    assert_eq!(rt; played.outcome, Outcome { status: 0, call: 0, errors: 0, lines: 3 });
+    assert_eq!(rt; played.written.as_slice(), wanted.as_slice());
+    Ok(())
+}
+
+#[test]
+fn a_rollback_releases_a_pin(rt: HostRuntime) -> Result<(), Fail> {
+    let played = play(rt.alloc(), b"begin\npin 7\nrollback\n", 5, 0, 0)?;
+    let head = joined(rt.alloc(), PINNED, ROLLED_BACK)?;
+    let wanted = [head.as_slice(), b"1 ok\n1 exit\n"].concat(rt.alloc())?;
+    assert_eq!(rt; played.outcome, Outcome { status: 0, call: 0, errors: 0, lines: 3 });
+    assert_eq!(rt; played.written.as_slice(), wanted.as_slice());
+    Ok(())
+}
+
+#[test]
+fn an_aborted_transaction_takes_no_pin(rt: HostRuntime) -> Result<(), Fail> {
+    let played = play(rt.alloc(), b"begin\npin 1024\npin 1\n", 4096, 0, 0)?;
+    let end = "1 ERROR 22023 no such buffer\n1 abort level 1\n1 ERROR 25P02 transaction is aborted\n1 cleanup level 1\n1 owner o1 gone\n1 exit\n";
+    let wanted = joined(rt.alloc(), BEGUN, end)?;
+    assert_eq!(rt; played.outcome, Outcome { status: 1, call: 0, errors: 2, lines: 3 });
+    assert_eq!(rt; played.written.as_slice(), wanted.as_slice());
+    Ok(())
+}
+
+#[test]
+fn a_read_that_fails(rt: HostRuntime) -> Result<(), Fail> {
+    let played = play(rt.alloc(), b"begin\npin 7\nro", 1, 15, 0)?;
+    let head = joined(rt.alloc(), PINNED, ROLLED_BACK)?;
+    let wanted = [head.as_slice(), b"1 exit\n"].concat(rt.alloc())?;
+    assert_eq!(rt; played.outcome, Outcome { status: 3, call: 0, errors: 0, lines: 2 });
+    assert_eq!(rt; played.written.as_slice(), wanted.as_slice());
+    Ok(())
+}
+
+/// How many lines a script of `begin`, `pin 7` and `commit` has given before its n-th byte is read.
+#[test]
+fn each_read_fails_in_turn(rt: HostRuntime) -> Result<(), Fail> {
+    for (call, lines) in [(1, 0), (6, 0), (7, 1), (12, 1), (13, 2), (19, 2), (20, 3)] {
+        let played = play(rt.alloc(), b"begin\npin 7\ncommit\n", 1, call, 0)?;
+        assert_eq!(rt; (played.outcome.status, played.outcome.lines), (3, lines), "read {call}");
+    }
+    Ok(())
+}
+
+#[test]
+fn each_write_fails_in_turn(rt: HostRuntime) -> Result<(), Fail> {
+    let whole = play(rt.alloc(), b"begin\npin 7\ncommit\n", 1, 0, 0)?;
+    for (call, lines) in [(1, 1), (2, 2), (3, 3)] {
+        let played = play(rt.alloc(), b"begin\npin 7\ncommit\n", 1, 0, call)?;
+        assert_eq!(rt; (played.outcome.status, played.outcome.lines), (4, lines), "write {call}");
+        assert!(rt; whole.written.starts_with(played.written.as_slice()), "write {call}");
+    }
+    Ok(())
+}
+
+#[test]
+fn any_word_is_refused(rt: HostRuntime) -> Result<(), Fail> {
+    let alloc = rt.alloc();
+    let words = vec![in alloc; String::from_str(alloc, "--sessions")?]?;
+    let mut source = MemSource::new(Vec::from_slice(alloc, b"begin\n")?, 1, Vec::new(alloc));
+    let mut sink = MemSink::new(alloc, 4096, Vec::new(alloc))?;
+    let outcome = run(alloc, &words, &mut source, &mut sink);
+    let usage = b"usage: pgscript [--space N] [--sessions N] [--descriptors N] [--fail N] [--generate N] [--sweep]\n";
+    assert_eq!(rt; outcome, Outcome { status: 2, call: 0, errors: 0, lines: 0 });
+    assert_eq!(rt; sink.written(), usage.as_slice());
+    Ok(())
+}
+
+/// With ample memory no call is refused: 200 transactions of three pins give no status 5.
+#[test]
+fn plenty_of_memory(rt: HostRuntime) -> Result<(), Fail> {
+    let alloc = rt.alloc();
+    let mut script = Vec::new(alloc);
+    for _ in 0..200 {
+        script.extend_from_slice(b"begin\npin 1\npin 2\npin 1\ncommit\n")?;
+    }
+    let mut source = MemSource::new(script, 4096, Vec::new(alloc));
+    let mut sink = MemSink::new(alloc, 1 << 20, Vec::new(alloc))?;
+    let outcome = run(alloc, &Vec::new(alloc), &mut source, &mut sink);
+    assert_eq!(rt; outcome, Outcome { status: 0, call: 0, errors: 0, lines: 1000 });
+    Ok(())
+}
+
+#[test]
+fn lines_of_512_and_513_bytes(rt: HostRuntime) -> Result<(), Fail> {
+    for (bytes, status) in [(511, 0), (512, 1)] {
+        let alloc = rt.alloc();
+        let mut script = Vec::from_slice(alloc, b"#")?;
+        script.extend_from_slice(&vec![in alloc; b'x'; bytes]?)?;
+        let played = play(alloc, &script, 100, 0, 0)?;
+        assert_eq!(rt; played.outcome.status, status, "{bytes} bytes behind the sign");
+    }
+    Ok(())
+}
