@@ -3,6 +3,7 @@ pub mod CourseLemmas
 pub mod ElementLemmas
 pub mod EndingLemmas
 pub mod ErrorLemmas
+pub mod LineLemmas
 pub mod LoopLemmas
 pub mod OwnerLemmas
 pub mod ScriptLemmas

@@ -10,6 +10,8 @@ mod printer;
 mod program;
 mod session;
 
+pub use command::Command;
+pub use parser::script_lines;
 pub use program::{Outcome, run};
 
 #[cfg(test)]

@@ -1,7 +1,8 @@
 //! Reads the lines of a script.
-ghost use Rattle.std.specs.Prelude.{◌≡◌, ℕ, List};
+ghost use Rattle.std.specs.Prelude.{◌≡◌, ℕ, List, Some};
+ghost use Rattle.pgs_world.specs.declared.command.Command.{Command};
 ghost use Rattle.pgs_io.specs.Lines.{IsKept};
-ghost use Rattle.pgs_world.specs.Script.{read_line, is_comment, command_of, pin_of};
+ghost use Rattle.pgs_world.specs.Script.{IsScriptLine, read_line, is_comment, command_of, pin_of};
 
 use crate::command::Command;
 use pgs_io::number;
@@ -56,4 +57,11 @@ fn parse_pin(line: &[u8]) -> Option<Command>
         Some(buffer) => Some(Command::Pin(buffer as u32)),
         None => None,
     }
+}
+
+/// What is read as a command are just the lines of a script: a law, with nothing to run.
+pub fn script_lines()
+    ensures read { (line : List ℕ) (command : Command) → read_line line ≡ Some command → IsScriptLine line command }
+    ensures only { (line : List ℕ) (command : Command) → IsScriptLine line command → read_line line ≡ Some command }
+{
 }

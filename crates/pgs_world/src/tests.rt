@@ -106,7 +106,7 @@ fn each_read_fails_in_turn(rt: HostRuntime) -> Result<(), Fail> {
 #[test]
 fn each_write_fails_in_turn(rt: HostRuntime) -> Result<(), Fail> {
     let whole = play(rt.alloc(), b"begin\npin 7\ncommit\n", 1, 0, 0)?;
-    for (call, lines) in [(1, 1), (2, 2), (3, 3)] {
+    for (call, lines) in [(1, 1), (2, 2), (3, 3), (4, 3)] {
         let played = play(rt.alloc(), b"begin\npin 7\ncommit\n", 1, 0, call)?;
         assert_eq!(rt; (played.outcome.status, played.outcome.lines), (4, lines), "write {call}");
         assert!(rt; whole.written.starts_with(played.written.as_slice()), "write {call}");
