@@ -1,13 +1,9 @@
-// A library with one function.
+//! Counted references of a session: to relations, catalog entries, tuple descriptors and the like.
 #![tactic(auto)]
 
-ghost use Rattle.std.specs.Prelude.{◌≡◌};
-ghost use Rattle.ref_table.specs.Echo.{echo_of};
+mod table;
 
-// The `ensures` clause is the contract: what `echo` returns is `echo_of` of its argument, a definition
-// in `specs/Echo.antt`, which a caller's clause can cite too.
-pub fn echo(x: usize) -> usize
-    ensures { result ≡ echo_of x }
-{
-    x
-}
+pub use table::{RefError, RefTable};
+
+#[cfg(test)]
+mod tests;
