@@ -1,13 +1,11 @@
-// A library with one function.
+//! The cached plans of a session.
 #![tactic(auto)]
 
-ghost use Rattle.std.specs.Prelude.{◌≡◌};
-ghost use Rattle.plan_store.specs.Echo.{echo_of};
+mod plan;
+mod store;
 
-// The `ensures` clause is the contract: what `echo` returns is `echo_of` of its argument, a definition
-// in `specs/Echo.antt`, which a caller's clause can cite too.
-pub fn echo(x: usize) -> usize
-    ensures { result ≡ echo_of x }
-{
-    x
-}
+pub use plan::{Plan, PlanError};
+pub use store::{PLANS, PlanStore};
+
+#[cfg(test)]
+mod tests;
