@@ -48,7 +48,7 @@ impl<K: Ord + Copy> Counts<K> {
 
     /// Counts a key once more. It fails for want of memory alone.
     pub fn raise(&mut self, key: K) -> Result<(), AllocError>
-        requires room { total self.old < 2 ^ 62 }
+        requires room { count_of K.cmp self.old key < 2 ^ 64 - 1 }
         ensures counted { OnOk result (count_of K.cmp self.new key ≡ count_of K.cmp self.old key + 1) }
         ensures others { OnOk result ((q : K) → is_at (K.cmp key) q ≡ false → count_of K.cmp self.new q ≡ count_of K.cmp self.old q) }
         ensures total { OnOk result (total self.new ≡ total self.old + 1) }
@@ -62,8 +62,8 @@ impl<K: Ord + Copy> Counts<K> {
     /// Counts a key once less, and answers how often it still counts; `None` exactly where it didn't count.
     pub fn lower(&mut self, key: K) -> Option<u64>
         ensures left { MatchOption result (count_of K.cmp self.old key ≡ 0) (λ left. count_of K.cmp self.old key ≡ left + 1) }
-        ensures counted { IfSome result (λ left. count_of K.cmp self.new key ≡ left) }
-        ensures others { OnSome result ((q : K) → is_at (K.cmp key) q ≡ false → count_of K.cmp self.new q ≡ count_of K.cmp self.old q) }
+        ensures counted { count_of K.cmp self.new key ≡ count_of K.cmp self.old key - 1 }
+        ensures others { (q : K) → is_at (K.cmp key) q ≡ false → count_of K.cmp self.new q ≡ count_of K.cmp self.old q }
         ensures total { OnSome result (total self.new + 1 ≡ total self.old) }
         ensures none { IfNone result (self.new ≡ self.old) }
     {

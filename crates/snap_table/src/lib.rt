@@ -1,13 +1,11 @@
-// A library with one function.
+//! The snapshots of a session: the registered ones, and the stack of the active ones.
 #![tactic(auto)]
 
-ghost use Rattle.std.specs.Prelude.{◌≡◌};
-ghost use Rattle.snap_table.specs.Echo.{echo_of};
+mod active;
+mod table;
 
-// The `ensures` clause is the contract: what `echo` returns is `echo_of` of its argument, a definition
-// in `specs/Echo.antt`, which a caller's clause can cite too.
-pub fn echo(x: usize) -> usize
-    ensures { result ≡ echo_of x }
-{
-    x
-}
+pub use active::{Active, SnapError};
+pub use table::SnapTable;
+
+#[cfg(test)]
+mod tests;
