@@ -61,4 +61,4 @@ module _ {K : Type 0} where
   pub length-different : {cmp : K → K → Ordering} → IsTotalOrder cmp → (keys : List K) (entries : List (K × ℕ)) → AreCounts cmp entries → Tallies cmp keys entries → length entries ≡ distinct_count (eq_by_cmp cmp) keys
   length-different {cmp} order keys entries counts tallies =
       sym (length-keys_of entries) ∙ length-from_keys (eq_by_cmp_equiv order) (keys_of entries) keys (IsDistinct-from_sorted cmp (keys_of entries) counts.ordered)
-        (λ q. sym (is_some-lookup (is_at (cmp q)) entries) ∙ some-count (lookup (is_at (cmp q)) entries) (IfSome-lookup_from_All (λ n. 1 ≤ n) (is_at (cmp q)) entries counts.counted) ∙ ap (ltb 0) (sym (tallies q)) ∙ sym (any-count (is_at (cmp q)) keys))
+      (λ q. sym (is_some-lookup (is_at (cmp q)) entries) ∙ some-count (lookup (is_at (cmp q)) entries) (IfSome-lookup_from_All (λ n. 1 ≤ n) (is_at (cmp q)) entries counts.counted) ∙ ap (ltb 0) (sym (tallies q)) ∙ sym (any-count (is_at (cmp q)) keys))

@@ -24,7 +24,7 @@ not_true false h = refl
 pub apart : (class other : KindId) (key q : ℕ) → (other ≡ class → q ≢ key) → is_at (pair_cmp (class.0, key)) (other.0, q) ≡ false
 apart class other key q differs =
     not_true _ (λ h.
-      let both : (nat_cmp class.0 other.0 ≡ Equal) × (nat_cmp key q ≡ Equal) = both_equal (nat_cmp class.0 other.0) (nat_cmp key q) h in
-      let classes : class.0 ≡ other.0 = nat_cmp-IsAntisymmetric class.0 other.0 both.0 in
-      let same : other ≡ class = λ i. record { 0 = sym classes i } in
-      differs same (sym (nat_cmp-IsAntisymmetric key q both.1)))
+    let both : (nat_cmp class.0 other.0 ≡ Equal) × (nat_cmp key q ≡ Equal) = both_equal (nat_cmp class.0 other.0) (nat_cmp key q) h in
+    let classes : class.0 ≡ other.0 = nat_cmp-IsAntisymmetric class.0 other.0 both.0 in
+    let same : other ≡ class = λ i. record { 0 = sym classes i } in
+    differs same (sym (nat_cmp-IsAntisymmetric key q both.1)))

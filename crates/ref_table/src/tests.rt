@@ -11,8 +11,14 @@ fn counts_references(rt: HostRuntime) -> Result<(), Fail> {
     table.add(KindId::RELCACHE_REFERENCE, 6)?;
     assert_eq!(rt; table.distinct(), 2);
     assert_eq!(rt; table.drop_ref(KindId::RELCACHE_REFERENCE, 6), Ok(()));
-    assert_eq!(rt; table.drop_ref(KindId::RELCACHE_REFERENCE, 6), Err(RefError::NotHeld));
-    assert_eq!(rt; table.drop_ref(KindId::TUPLE_DESCRIPTOR_REFERENCE, 7), Err(RefError::NotHeld));
+    assert_eq!(rt;
+        table.drop_ref(KindId::RELCACHE_REFERENCE, 6),
+        Err(RefError::NotHeld)
+    );
+    assert_eq!(rt;
+        table.drop_ref(KindId::TUPLE_DESCRIPTOR_REFERENCE, 7),
+        Err(RefError::NotHeld)
+    );
     assert_eq!(rt; table.distinct(), 1);
     Ok(())
 }
