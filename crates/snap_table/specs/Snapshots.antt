@@ -1,5 +1,5 @@
 -- The snapshots of a session: those that are registered, and the stack of the active ones.
-use Rattle.std.specs.Prelude.{◌≡◌, ℕ, ◌+◌, ◌-◌, ◌==◌, nat_le, nat_lt, Bool, if◌then◌else◌, List, ◌++◌, length, map, filter, reverse, count_by}
+use Rattle.std.specs.Prelude.{◌≡◌, ℕ, ◌+◌, ◌-◌, ◌==◌, nat_le, nat_lt, Bool, if◌then◌else◌, List, length, map, filter, count_by}
 use Rattle.std.specs.Ordering.{nat_cmp}
 use Rattle.std.specs.BTreeMap.{is_at}
 use Rattle.counts.specs.Counts.{count_of, total}

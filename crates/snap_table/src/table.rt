@@ -83,7 +83,12 @@ impl SnapTable {
 
     /// Puts a snapshot of a level on the stack, and emits that. It fails for want of memory alone, and emits
     /// nothing then.
-    pub fn push<E: Emit>(&mut self, snapshot: u32, level: u32, out: &mut E) -> Result<(), AllocError>
+    pub fn push<E: Emit>(
+        &mut self,
+        snapshot: u32,
+        level: u32,
+        out: &mut E,
+    ) -> Result<(), AllocError>
         requires room { size self.old < 2 ^ 62 }
         ensures pushed { OnOk result (self.new ≡ record self.old { stack = self.old.stack ++ record { snapshot = snapshot; level = level } ∷ [] }) }
         ensures emitted { OnOk result (E.emits out.old (What.Push snapshot ∷ []) out.new) }

@@ -43,7 +43,13 @@ fn aborts_newest_first(rt: HostRuntime) -> Result<(), Fail> {
     assert_eq!(rt; table.distinct(), 3);
     table.sub_abort(2, &mut out);
     assert_eq!(rt; table.distinct(), 1);
-    let events = [What::Push(4), What::Push(5), What::Push(6), What::Pop(6), What::Pop(5)];
+    let events = [
+        What::Push(4),
+        What::Push(5),
+        What::Push(6),
+        What::Pop(6),
+        What::Pop(5),
+    ];
     assert_eq!(rt; out.events(), events.as_slice());
     Ok(())
 }

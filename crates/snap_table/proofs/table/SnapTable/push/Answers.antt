@@ -1,4 +1,4 @@
-use Rattle.std.proofs.Common.{ℕ, ◌<◌, ◌≤◌, ◌^◌, sym, subst, arith}
+use Rattle.std.proofs.Common.{◌<◌, ◌≤◌, ◌^◌, sym, subst, arith}
 use Rattle.std.specs.Ordering.{nat_cmp}
 use Rattle.counts.specs.Counts.{count_of}
 use Rattle.snap_table.specs.Snapshots.{Snapshots, size}

@@ -1,4 +1,4 @@
-use Rattle.std.proofs.Common.{◌≡◌, ℕ, ◌+◌, List, count_by, sym, ap, ◌∙◌}
+use Rattle.std.proofs.Common.{ℕ, ◌+◌, List, count_by, sym, ap, ◌∙◌}
 use Rattle.std.specs.Ordering.{nat_cmp}
 use Rattle.std.specs.BTreeMap.{is_at}
 use Rattle.counts.specs.Counts.{count_of}
