@@ -1,0 +1,11 @@
+//! The buffers that a session pins, and how many sessions pin each.
+#![tactic(auto)]
+
+mod pins;
+mod shared;
+
+pub use pins::{PinError, PinTable};
+pub use shared::{BUFFERS, SharedPins};
+
+#[cfg(test)]
+mod tests;

@@ -1,0 +1,35 @@
+use Rattle.std.proofs.Common.{◌≡◌, true, subst, arith}
+use Rattle.plan_store.specs.declared.plan.Plan.{Plan}
+use Rattle.plan_store.specs.Plans.{Plans, IsHeld, IsPlaced}
+use Rattle.plan_store.proofs.PlanLemmas.{are-replaced, are-removed, still-room, references-replaced, references-removed}
+use Rattle.plan_store.proofs.store.PlanStore.discard.Goals as goal
+
+pub invariant_of-self : goal.invariant_of-self
+invariant_of-self c =
+    let plans : Plans = record { standing = c.self.inside.plans.items; reserved = c.self.inside.reserved } in
+    let placed : IsPlaced c.self.inside.plans.items c.args.plan c.in-Some.at c.in-Some.kept = subst (λ xs. IsPlaced xs c.args.plan c.in-Some.at c.in-Some.kept) c.as_slice.ensures.value c.in-Some.ensures in
+    (rw (c.remove.ensures.items, placed.taken) (are-removed plans c.args.plan c.self.invariant.0), still-room _ _ _ _ _ c.remove.ensures.len c.remove.ensures.capacity c.self.invariant.1)
+
+pub returns-then-kept-eq0-clause-total : goal.returns-then-kept-eq0-clause-total
+returns-then-kept-eq0-clause-total c =
+    let plans : Plans = record { standing = c.self.inside.plans.items; reserved = c.self.inside.reserved } in
+    let placed : IsPlaced c.self.inside.plans.items c.args.plan c.in-Some.at c.in-Some.kept = subst (λ xs. IsPlaced xs c.args.plan c.in-Some.at c.in-Some.kept) c.as_slice.ensures.value c.in-Some.ensures in
+    let sums = references-removed plans c.args.plan c.in-Some.kept placed.read in
+    let none : c.in-Some.kept.references ≡ 0 = c.if-kept-eq0.true in
+    rw (← c.self.view_is, c.remove.ensures.items, placed.taken) (omega (arith, sums, none))
+
+pub invariant_of-self-2 : goal.invariant_of-self-2
+invariant_of-self-2 c =
+    let plans : Plans = record { standing = c.self.inside.plans.items; reserved = c.self.inside.reserved } in
+    let placed : IsPlaced c.self.inside.plans.items c.args.plan c.in-Some.at c.in-Some.kept = subst (λ xs. IsPlaced xs c.args.plan c.in-Some.at c.in-Some.kept) c.as_slice.ensures.value c.in-Some.ensures in
+    let other : Plan = record c.in-Some.kept { discarded = true } in
+    let held : IsHeld other = λ _. omega arith in
+    (rw (placed.replaced other) (are-replaced plans c.args.plan other held c.self.invariant.0), c.self.invariant.1)
+
+pub returns-clause-total : goal.returns-clause-total
+returns-clause-total c =
+    let plans : Plans = record { standing = c.self.inside.plans.items; reserved = c.self.inside.reserved } in
+    let placed : IsPlaced c.self.inside.plans.items c.args.plan c.in-Some.at c.in-Some.kept = subst (λ xs. IsPlaced xs c.args.plan c.in-Some.at c.in-Some.kept) c.as_slice.ensures.value c.in-Some.ensures in
+    let other : Plan = record c.in-Some.kept { discarded = true } in
+    let sums = references-replaced plans c.args.plan c.in-Some.kept other placed.read in
+    rw (← c.self.view_is, placed.replaced other) (omega (arith, sums))

@@ -1,0 +1,42 @@
+-- The plans of a session.
+use Rattle.std.specs.Prelude.{◌≡◌, ℕ, ◌<◌, ◌≤◌, Bool, true, false, not, nat_eq, List, length, All, sum_by, Option, None, Some, IfSome, slice_set}
+use Rattle.std.specs.Option.{option_map_or}
+use Rattle.std.specs.List.{IsDistinct, remove}
+use Rattle.std.specs.Map.{keys_of, values_of, lookup, set_value, remove_entry}
+use Rattle.plan_store.specs.declared.plan.Plan.{Plan}
+
+-- the plans that stand, each with its number, in the order in which they were made, and for which number room is reserved
+pub record Plans : Type 0 where
+  pub standing : List (ℕ × Plan)
+  pub reserved : Option ℕ
+
+-- the plan of that number, where one stands
+abbrev pub plan_of : Plans → ℕ → Option Plan
+plan_of plans number = lookup (nat_eq number) plans.standing
+
+-- whether a plan of that number stands that isn't discarded
+abbrev pub is_usable : Plans → ℕ → Bool
+is_usable plans number = option_map_or (λ plan. not plan.discarded) (plan_of plans number) false
+
+-- how many references are held to all plans
+abbrev pub references : Plans → ℕ
+references plans = sum_by (λ plan. plan.references) (values_of plans.standing)
+
+-- a plan that was discarded stands because a reference to it is held
+abbrev pub IsHeld : Plan → Type 0
+IsHeld plan = plan.discarded ≡ true → 1 ≤ plan.references
+
+-- The numbers differ, there are at most 1,024 plans, each discarded one is held, and room is reserved for a new one alone.
+pub record ArePlans (plans : Plans) : Type 0 where
+  pub different : IsDistinct nat_eq (keys_of plans.standing)
+  pub few : length plans.standing ≤ 1024
+  pub held : All IsHeld (values_of plans.standing)
+  pub new : IfSome plans.reserved (λ number. plan_of plans number ≡ None)
+  pub room : IfSome plans.reserved (λ number. length plans.standing < 1024)
+
+-- A plan stands at its place, where it can be read, replaced and taken out.
+pub record IsPlaced (plans : List (ℕ × Plan)) (number place : ℕ) (plan : Plan) : Type 0 where
+  pub within : place < length plans
+  pub read : lookup (nat_eq number) plans ≡ Some plan
+  pub replaced : (other : Plan) → slice_set plans place (number, other) ≡ set_value (nat_eq number) plans other
+  pub taken : remove plans place ≡ remove_entry (nat_eq number) plans
