@@ -1,0 +1,3 @@
+pub mod FileLists
+pub mod Sound
+pub mod Caches

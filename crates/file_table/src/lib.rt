@@ -1,0 +1,10 @@
+//! The files that a session has open, of which only some have a descriptor of the operating system.
+#![tactic(auto)]
+
+mod descriptors;
+mod files;
+
+pub use files::{FileError, FileTable, MAX_FILES};
+
+#[cfg(test)]
+mod tests;

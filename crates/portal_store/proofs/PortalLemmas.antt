@@ -1,0 +1,149 @@
+-- The portal of a name, by its place in the list.
+use Rattle.std.proofs.Common.{◌≡◌, ◌≢◌, ℕ, zero, suc, ◌<◌, ◌≤◌, Bool, true, false, List, [], ◌∷◌, length, map, slice_get, slice_index_or, slice_set, remove, Option, Some, None, position, AllPairs, All, refl, sym, ap, subst, ◌∙◌, arith}
+use Rattle.std.specs.Cmp.Lexicographic.{same_text, other_text}
+use Rattle.std.specs.Prelude.{◌-◌, ◌==◌, ◌++◌, take, if◌then◌else◌, nat_lt, is_some, IsSome, IfSome, option_and_then}
+use Rattle.std.specs.List.{position_or_len}
+use Rattle.std.proofs.lemmas.Bool.Decides.{nat_tests}
+use Rattle.std.proofs.lemmas.List.{length-map, map-append, take-map, drop-map}
+use Rattle.std.proofs.lemmas.List.Edits.{length-remove}
+use Rattle.std.proofs.lemmas.List.Folds.{find_at}
+use Rattle.std.proofs.lemmas.Option.{slice_get_past, slice_get_read}
+use Rattle.std.proofs.Math.Seq.{map-set_same, take-append_seam}
+use Rattle.std.proofs.lemmas.List.Elements.{All-cons, All-nil}
+use Rattle.std.proofs.lemmas.List.Kept.{AllPairs-cons}
+use Rattle.std.proofs.lemmas.List.Quantifiers.{position-Some, all_pairs_remove}
+use Rattle.portal_store.specs.declared.portal.Portal.{Portal}
+use Rattle.portal_store.specs.declared.portal.PortalState.TheVariants.{Failed}
+use Rattle.portal_store.specs.Portal.{to_parent, is_outer, kept_owner, sub_aborted, moved_owner}
+use Rattle.portal_store.specs.Portals.{has_name, portal_named, changed, without, names, IsPortals}
+
+-- i is the place of the first portal of this name, x
+pub record IsPlaceOf (name : List ℕ) (portals : List Portal) (i : ℕ) (x : Portal) : Type 0 where
+  pub within : i < length portals
+  pub here : x ≡ slice_index_or portals i x
+  pub named : has_name name x ≡ true
+  pub first : (k : ℕ) → k < i → has_name name (slice_index_or portals k x) ≡ false
+
+pub place_of : (name : List ℕ) (portals view : List Portal) (i : ℕ) (x : Portal) → portals ≡ view → position (has_name name) view ≡ Some i → x ≡ slice_index_or portals i x → IsPlaceOf name portals i x
+place_of name portals view i x same at_view here =
+    let found : position (has_name name) portals ≡ Some i = ap (position (has_name name)) same ∙ at_view in
+    let told : (i < length portals) × (has_name name (slice_index_or portals i x) ≡ true) × ((k : ℕ) → k < i → has_name name (slice_index_or portals k x) ≡ false) = position-Some (has_name name) portals i x found in
+    record { within = told.0; here = here; named = ap (has_name name) here ∙ told.1; first = told.2 }
+
+behind : (name : List ℕ) (p : Portal) (portals : List Portal) (i : ℕ) (x : Portal) → IsPlaceOf name (p ∷ portals) (suc i) x → IsPlaceOf name portals i x
+behind name p portals i x place = record { within = omega (arith, place.within); here = place.here; named = place.named; first = λ k before. place.first (suc k) (omega arith) }
+
+-- a write to that place changes the portal of the name
+pub changed_set : (name : List ℕ) (change : Portal → Portal) (portals : List Portal) (i : ℕ) (x : Portal) → IsPlaceOf name portals i x → slice_set portals i (change x) ≡ changed name change portals
+changed_set name change [] i x place = absurd (omega (arith, place.within))
+changed_set name change (p ∷ portals) zero x place = let yes : has_name name p ≡ true = ap (has_name name) (sym place.here) ∙ place.named in rw yes (ap (λ y. change y ∷ portals) place.here)
+changed_set name change (p ∷ portals) (suc i) x place = let no : has_name name p ≡ false = place.first 0 (omega arith) in rw no (ap (λ qs. p ∷ qs) (changed_set name change portals i x (behind name p portals i x place)))
+
+-- to take that place out is to take out the portal of the name
+pub without_remove : (name : List ℕ) (portals : List Portal) (i : ℕ) (x : Portal) → IsPlaceOf name portals i x → remove portals i ≡ without name portals
+without_remove name [] i x place = absurd (omega (arith, place.within))
+without_remove name (p ∷ portals) zero x place = let yes : has_name name p ≡ true = ap (has_name name) (sym place.here) ∙ place.named in rw yes refl
+without_remove name (p ∷ portals) (suc i) x place = let no : has_name name p ≡ false = place.first 0 (omega arith) in rw no (ap (λ qs. p ∷ qs) (without_remove name portals i x (behind name p portals i x place)))
+
+-- the portal of the name is the one of that place
+pub named_here : (name : List ℕ) (portals : List Portal) (i : ℕ) (x : Portal) → IsPlaceOf name portals i x → portal_named name portals ≡ Some x
+named_here name [] i x place = absurd (omega (arith, place.within))
+named_here name (p ∷ portals) zero x place = let yes : has_name name p ≡ true = ap (has_name name) (sym place.here) ∙ place.named in rw yes (ap Some (sym place.here))
+named_here name (p ∷ portals) (suc i) x place = let no : has_name name p ≡ false = place.first 0 (omega arith) in rw no (named_here name portals i x (behind name p portals i x place))
+
+-- a name without a place is no portal's
+pub named_nowhere : (name : List ℕ) (portals : List Portal) → position (has_name name) portals ≡ None → portal_named name portals ≡ None
+named_nowhere name portals none = (elim (nat_lt (position_or_len (has_name name) portals) (length portals)) as (λ b. nat_lt (position_or_len (has_name name) portals) (length portals) ≡ b → portal_named name portals ≡ None) [
+  | true ↦ λ found. let some : Some (position_or_len (has_name name) portals) ≡ None = rw found at none in absurd (cc)
+  | false ↦ λ missed. let past : length portals ≤ position_or_len (has_name name) portals = grind (arith, nat_tests) in find_at (has_name name) portals ∙ slice_get_past portals (position_or_len (has_name name) portals) past
+]) refl
+
+-- a portal's name has no place only where it isn't live
+pub not_nowhere : (name : List ℕ) (portals : List Portal) → IsSome (portal_named name portals) → position (has_name name) portals ≡ None → ⊥
+not_nowhere name portals live none = let no : portal_named name portals ≡ None = named_nowhere name portals none in let yes : is_some {T = Portal} None ≡ true = rw no at live in absurd (cc)
+
+pub without_nowhere : (name : List ℕ) (portals : List Portal) → portal_named name portals ≡ None → without name portals ≡ portals
+without_nowhere name [] none = refl
+without_nowhere name (p ∷ portals) none = (elim (has_name name p) as (λ b. has_name name p ≡ b → without name (p ∷ portals) ≡ p ∷ portals) [
+  | true ↦ λ yes. let some : Some p ≡ None = rw yes at none in absurd (cc)
+  | false ↦ λ no. rw no (ap (λ qs. p ∷ qs) (without_nowhere name portals (rw no at none)))
+]) refl
+
+-- the test of a name tells that the names are one
+pub name_is : (name : List ℕ) (x : Portal) → has_name name x ≡ true → x.name ≡ name
+name_is name x named = same_text x.name name (sym named)
+
+-- what holds of all portals stays, where the names stay
+pub IsPortals_renamed : (old new : List Portal) → names new ≡ names old → IsPortals old → IsPortals new
+IsPortals_renamed old new same portals = record {
+  at_most = omega (arith, portals.at_most, ap length same, length-map old (λ (p : Portal). p.name), length-map new (λ (p : Portal). p.name));
+  distinct = subst (λ ns. AllPairs (λ (a b : List ℕ). a ≢ b) ns) (sym same) portals.distinct;
+}
+
+-- a write of a portal with the same name at a place
+pub IsPortals_set : (portals : List Portal) (i : ℕ) (x y : Portal) → x ≡ slice_index_or portals i x → y.name ≡ x.name → IsPortals portals → IsPortals (slice_set portals i y)
+IsPortals_set portals i x y here same whole = IsPortals_renamed portals (slice_set portals i y) (map-set_same (λ (p : Portal). p.name) portals i y x (same ∙ ap (λ (p : Portal). p.name) here)) whole
+
+not_some : {A : Type 0} (o : Option A) → is_some o ≡ false → o ≡ None
+not_some None untrue = refl
+not_some (Some x) untrue = absurd (cc)
+
+differs : (name : List ℕ) (portals : List Portal) → portal_named name portals ≡ None → All (λ b. name ≢ b) (names portals)
+differs name [] none = All-nil _
+differs name (p ∷ portals) none = (elim (has_name name p) as (λ b. has_name name p ≡ b → All (λ b. name ≢ b) (names (p ∷ portals))) [
+  | true ↦ λ yes. let some : Some p ≡ None = rw yes at none in absurd (cc)
+  | false ↦ λ no. All-cons (λ b. name ≢ b) p.name (names portals) (λ same. other_text p.name name (sym no) (sym same)) (differs name portals (rw no at none))
+]) refl
+
+-- one portal more, in front
+pub IsPortals_cons : (p : Portal) (portals : List Portal) → portal_named p.name portals ≡ None → length portals ≤ 1023 → IsPortals portals → IsPortals (p ∷ portals)
+IsPortals_cons p portals none room whole = record {
+  at_most = omega arith;
+  distinct = AllPairs-cons (λ (a b : List ℕ). a ≢ b) p.name (names portals) (differs p.name portals none) whole.distinct;
+}
+
+names_remove : (portals : List Portal) (i : ℕ) → names (remove portals i) ≡ remove (names portals) i
+names_remove portals i = simp (map-append, take-map, drop-map)
+
+-- one portal fewer
+pub IsPortals_remove : (portals : List Portal) (i : ℕ) → i < length portals → IsPortals portals → IsPortals (remove portals i)
+IsPortals_remove portals i within whole = record {
+  at_most = omega (arith, length-remove portals i within, whole.at_most);
+  distinct = subst (λ ns. AllPairs (λ (a b : List ℕ). a ≢ b) ns) (sym (names_remove portals i)) (all_pairs_remove (λ (a b : List ℕ). a ≢ b) (names portals) i (omega (arith, length-map portals (λ (p : Portal). p.name))) whole.distinct);
+}
+
+-- the abort of a subtransaction leaves a portal's name
+pub sub_aborted_name : (level : ℕ) (portal : Portal) → (sub_aborted level portal).name ≡ portal.name
+sub_aborted_name level portal = by_cases (portal.created == level) (is_outer level portal)
+  where
+    by_cases : (own outer : Bool) → (if own then record portal { state = Failed; owner = None; expr = None } else if outer then record portal { active = level - 1; owner = kept_owner portal.state portal.owner } else portal).name ≡ portal.name
+    by_cases true outer = refl
+    by_cases false true = refl
+    by_cases false false = refl
+
+names_to_parent : (level : ℕ) (portals : List Portal) → names (map (to_parent level) portals) ≡ names portals
+names_to_parent level [] = refl
+names_to_parent level (p ∷ portals) = ap (λ ns. p.name ∷ ns) (names_to_parent level portals)
+
+-- the portals behind the commit of a subtransaction, as a vector has them whose elements were all written
+pub IsPortals_to_parent : (level : ℕ) (portals new : List Portal) (len : ℕ) (rest : List Portal) → IsPortals portals → new ≡ map (to_parent level) portals → len ≡ length portals → IsPortals (take len (new ++ rest))
+IsPortals_to_parent level portals new len rest whole written whole_len =
+    let long : length new ≡ length portals = ap length written ∙ length-map portals (to_parent level) in
+    let same : take len (new ++ rest) ≡ new = ap (λ n. take n (new ++ rest)) (whole_len ∙ sym long) ∙ take-append_seam new rest in
+    rw same (IsPortals_renamed portals new (ap names written ∙ names_to_parent level portals) whole)
+
+-- the portals behind `create`
+pub IsPortals_created : (portals new : List Portal) (p : Portal) (done : Bool) → new ≡ (if done then p ∷ portals else portals) → is_some (portal_named p.name portals) ≡ false → length portals ≢ 1024 → IsPortals portals → IsPortals new
+IsPortals_created portals new p true is_new free room whole = rw is_new (IsPortals_cons p portals (not_some (portal_named p.name portals) free) (omega (arith, whole.at_most)) whole)
+IsPortals_created portals new p false is_new free room whole = rw is_new whole
+
+-- the portal of a place, behind the abort of a subtransaction
+pub aborted_at : (level i : ℕ) (portals view : List Portal) (x y : Portal) → portals ≡ view → i < length view → x ≡ slice_index_or portals i x → y ≡ sub_aborted level x → IfSome (slice_get view i) (λ portal. slice_set portals i y ≡ slice_set view i (sub_aborted level portal))
+aborted_at level i portals view x y same within here is_new =
+    let found : slice_get view i ≡ Some x = slice_get_read view (length view) i x refl within (here ∙ ap (λ ps. slice_index_or ps i x) same) in
+    rw found (ap (λ z. slice_set portals i z) is_new ∙ ap (λ ps. slice_set ps i (sub_aborted level x)) same)
+
+pub moved_at : (level i : ℕ) (portals view : List Portal) (x : Portal) → portals ≡ view → i < length view → x ≡ slice_index_or portals i x → moved_owner level x ≡ option_and_then (moved_owner level) (slice_get view i)
+moved_at level i portals view x same within here =
+    let found : slice_get view i ≡ Some x = slice_get_read view (length view) i x refl within (here ∙ ap (λ ps. slice_index_or ps i x) same) in
+    rw found refl

@@ -1,0 +1,2 @@
+pub mod Portal
+pub mod Portals

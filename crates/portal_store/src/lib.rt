@@ -1,0 +1,11 @@
+//! The portals of a session: queries that are open, each with its scan.
+#![tactic(auto)]
+
+mod portal;
+mod portals;
+
+pub use portal::{Portal, PortalError, PortalState};
+pub use portals::{MAX_PORTALS, Portals};
+
+#[cfg(test)]
+mod tests;

@@ -1,0 +1,82 @@
+//! One portal.
+ghost use Rattle.std.specs.Prelude.{◌≡◌, ◌<◌};
+
+use exec_core::Scan;
+use pgs_step::{CtxId, Name, OwnerId};
+
+/// How far a portal is: PostgreSQL's `PortalStatus`.
+#[derive(Clone, Copy, Debug, PartialEq, Eq)]
+pub enum PortalState {
+    /// It is still being made.
+    New,
+    /// Its scan may be fetched from.
+    Ready,
+    /// Its query failed, or the level that made it was aborted.
+    Failed,
+}
+
+/// Why a portal could not be made.
+#[derive(Clone, Copy, Debug, PartialEq, Eq)]
+pub enum PortalError {
+    /// There is a portal of that name.
+    Taken,
+    /// The session has 1,024 portals.
+    TooMany,
+    /// Memory was refused.
+    Memory,
+}
+
+/// A query that is open: PostgreSQL's `Portal`.
+///
+/// `context` is its memory, `expr` the memory of one row below it, `owner` holds what the query uses; each is
+/// there once it has been made. `scan` is where the query stands. `created` is the level that it belongs to,
+/// `active` the deepest level that has fetched from it.
+#[derive(Clone, Copy, Debug, PartialEq, Eq)]
+pub struct Portal {
+    pub name: Name,
+    pub context: Option<CtxId>,
+    pub expr: Option<CtxId>,
+    pub owner: Option<OwnerId>,
+    pub scan: Scan,
+    pub created: u32,
+    pub active: u32,
+    pub state: PortalState,
+}
+
+impl Portal {
+    ghost use Rattle.portal_store.specs.Portal.{to_parent, sub_aborted, moved_owner};
+
+    /// A subtransaction of this level has committed.
+    pub(crate) fn to_parent(&mut self, level: u32)
+        requires { 0 < level }
+        ensures { self.new ≡ to_parent level self.old }
+    {
+        if self.created == level {
+            self.created = level - 1;
+        }
+        if self.active == level {
+            self.active = level - 1;
+        }
+    }
+
+    /// A subtransaction of this level is being aborted. The owner that it gives moves to the level's owner.
+    pub(crate) fn sub_abort(&mut self, level: u32) -> Option<OwnerId>
+        ensures portal { self.new ≡ sub_aborted level self.old }
+        ensures moved { result ≡ moved_owner level self.old }
+    {
+        if self.created == level {
+            self.state = PortalState::Failed;
+            self.owner = None;
+            self.expr = None;
+            return None;
+        }
+        if self.created > level || self.active != level {
+            return None;
+        }
+        self.active = level - 1;
+        match self.state {
+            PortalState::Failed => self.owner.take(),
+            PortalState::New | PortalState::Ready => None,
+        }
+    }
+}

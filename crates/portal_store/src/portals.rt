@@ -1,0 +1,181 @@
+//! The portals of a session.
+ghost use Rattle.std.specs.Prelude.{◌≡◌, ◌↔◌, ◌<◌, ◌≤◌, length, map, position, find, slice_get, slice_set, [], ◌∷◌, OnOk, OnErr, IfOk, IfSome, IsSome, IsNone, IsTrue, is_some, option_copied, option_and_then};
+ghost use Rattle.portal_store.specs.Portal.{to_parent, sub_aborted, moved_owner};
+ghost use Rattle.portal_store.specs.Portals.{has_name, portal_named, new_portal, changed, without, marked_failed, HasDistinctNames};
+
+use crate::portal::{Portal, PortalError, PortalState};
+use exec_core::Scan;
+use pgs_step::{Name, OwnerId};
+use std::alloc::Global;
+use std::marker::Model;
+
+/// The most portals that a session has at once.
+pub const MAX_PORTALS: usize = 1024;
+
+/// The portals of one session, of which there are at most 1,024, no two with one name.
+///
+/// Contracts see the list of the portals, newest first. Only `create` may take memory.
+#[derive(Drop)]
+pub struct Portals {
+    portals: Vec<Portal>,
+}
+
+impl Model for Portals {
+    ghost use Rattle.std.specs.Prelude.{List};
+    ghost use Rattle.portal_store.specs.declared.portal.Portal.{Portal as APortal};
+
+    ghost Value = { List APortal };
+
+    ghost use Rattle.portal_store.specs.Portals.{IsPortals};
+
+    ghost view = { λ p. p.portals.items };
+
+    ghost invariant = { λ p. IsPortals p.portals.items };
+}
+
+impl Portals {
+    /// No portal.
+    pub fn new(alloc: Global) -> Portals
+        ensures { result ≡ [] }
+    {
+        Portals {
+            portals: Vec::new(alloc),
+        }
+    }
+
+    /// Makes a portal at this level. It is new, and has no context and no owner yet.
+    ///
+    /// It answers `Taken` exactly where the name is live, and else `TooMany` exactly where there are 1,024
+    /// portals.
+    pub fn create(&mut self, name: Name, scan: Scan, level: u32) -> Result<(), PortalError>
+        ensures created { OnOk result (self.new ≡ new_portal name scan level ∷ self.old) }
+        ensures taken { (result ≡ Err PortalError.Taken) ↔ IsSome (portal_named name self.old) }
+        ensures too_many { (result ≡ Err PortalError.TooMany) ↔ (IsNone (portal_named name self.old) × (length self.old ≡ 1024)) }
+        ensures err { OnErr result (self.new ≡ self.old) }
+    {
+        if self.is_live(&name) {
+            return Err(PortalError::Taken);
+        }
+        if self.portals.len() == MAX_PORTALS {
+            return Err(PortalError::TooMany);
+        }
+        let portal = Portal {
+            name,
+            context: None,
+            expr: None,
+            owner: None,
+            scan,
+            created: level,
+            active: level,
+            state: PortalState::New,
+        };
+        if self.portals.insert(0, portal).is_err() {
+            return Err(PortalError::Memory);
+        }
+        Ok(())
+    }
+
+    /// The portal of that name.
+    pub fn get(&self, name: &Name) -> Option<&Portal>
+        ensures { option_copied result ≡ portal_named name.now self.now }
+    {
+        self.portals.iter().find(|portal| portal.name.is(name))
+    }
+
+    /// Puts a portal in the place of the one that has its name.
+    pub fn put(&mut self, portal: Portal)
+        requires { IsSome (portal_named portal.name self.old) }
+        ensures { self.new ≡ changed portal.name (λ old. portal) self.old }
+    {
+        if let Some(place) = self.place(&portal.name) {
+            self.portals[place] = portal;
+        }
+    }
+
+    /// How many portals there are.
+    pub fn len(&self) -> usize
+        ensures length { result ≡ length self.now }
+        ensures at_most { length self.now ≤ 1024 }
+        ensures distinct { HasDistinctNames self.now }
+    {
+        self.portals.len()
+    }
+
+    /// Whether there is no portal.
+    pub fn is_empty(&self) -> bool
+        ensures { IsTrue result ↔ (self.now ≡ []) }
+    {
+        self.portals.is_empty()
+    }
+
+    /// The portal of that place, where 0 is the newest.
+    pub fn at(&self, i: usize) -> Option<&Portal>
+        ensures { option_copied result ≡ slice_get self.now i }
+    {
+        self.portals.get(i)
+    }
+
+    /// The query of the portal of that name has failed.
+    pub fn mark_failed(&mut self, name: &Name)
+        requires { IsSome (portal_named name.now self.old) }
+        ensures { self.new ≡ changed name.now marked_failed self.old }
+    {
+        if let Some(place) = self.place(name) {
+            self.portals[place].state = PortalState::Failed;
+        }
+    }
+
+    /// The subtransaction of this level has committed: what was created at it, or active at it, is so now at
+    /// the level before.
+    pub fn to_parent(&mut self, level: u32)
+        requires { 2 ≤ level }
+        ensures { self.new ≡ map (to_parent level) self.old }
+    {
+        to_parent(&mut self.portals, level);
+    }
+
+    /// The subtransaction of this level is being aborted: what that means for the portal of place `i`.
+    ///
+    /// It gives the portal's owner where that has to move to the level's owner: exactly where the portal has
+    /// failed and has an owner, was created before the level and is active at it.
+    pub fn sub_abort(&mut self, i: usize, level: u32) -> Option<OwnerId>
+        requires { i < length self.old }
+        ensures portal { IfSome (slice_get self.old i) (λ portal. self.new ≡ slice_set self.old i (sub_aborted level portal)) }
+        ensures moved { result ≡ option_and_then (moved_owner level) (slice_get self.old i) }
+    {
+        self.portals[i].sub_abort(level)
+    }
+
+    /// Takes the portal of that name out.
+    pub fn take_out(&mut self, name: &Name) -> Option<Portal>
+        ensures taken { result ≡ portal_named name.now self.old }
+        ensures others { self.new ≡ without name.now self.old }
+    {
+        let place = self.place(name)?;
+        Some(self.portals.remove(place))
+    }
+
+    /// Whether there is a portal of that name.
+    fn is_live(&self, name: &Name) -> bool
+        ensures { result ≡ is_some (portal_named name.now self.now) }
+    {
+        self.get(name).is_some()
+    }
+
+    /// Where the portal of that name is.
+    fn place(&self, name: &Name) -> Option<usize>
+        ensures { result ≡ position (has_name name.now) self.now }
+    {
+        self.portals.iter().position(|portal| portal.name.is(name))
+    }
+}
+
+/// Lowers the levels of each portal.
+fn to_parent(portals: &mut [Portal], level: u32)
+    requires { 0 < level }
+    ensures { portals.new ≡ map (to_parent level) portals.old }
+{
+    for portal in portals.iter_mut() {
+        portal.to_parent(level);
+    }
+}
