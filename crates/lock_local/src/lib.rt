@@ -1,0 +1,15 @@
+//! What one session holds of heavyweight locks: how often each of its owners holds each lock.
+#![tactic(auto)]
+
+mod errors;
+mod local_lock;
+mod walks;
+
+
+
+pub use errors::LockError;
+pub use local_lock::OwnerCount;
+
+
+#[cfg(test)]
+mod tests;
