@@ -1,1 +1,4 @@
 pub mod OwnerLemmas
+pub mod OrderLemmas
+pub mod WalkLemmas
+pub mod ChangeLemmas

@@ -1,8 +1,8 @@
 //! Walks over a session's locks.
-ghost use Rattle.std.specs.Prelude.{◌≡◌, ◌++◌, ◌∷◌, [], ℕ, List, map, filter, MatchResult, MatchBool, false};
-ghost use Rattle.pgs_step.specs.declared.events.What.{What};
-ghost use Rattle.lock_shared.specs.Holdings.{Sets};
-ghost use Rattle.lock_local.specs.Locks.{Lock, has_owner, OthersStay, Agrees, IsInOrder, is_held};
+ghost use Rattle.std.specs.Prelude.{◌≡◌, ◌∷◌, [], ℕ, map, filter, MatchResult, MatchBool, false};
+ghost use Rattle.pgs_step.specs.declared.lock_modes.Mode.{Mode};
+ghost use Rattle.lock_shared.specs.Holdings.{Sets, holds};
+ghost use Rattle.lock_local.specs.Locks.{Lock, has_owner, OthersStay, IsInOrder, is_held};
 ghost use Rattle.lock_local.specs.Places.{StandsAt, WouldStandAt};
 ghost use Rattle.lock_local.specs.Changes.{without, passed_lock, release_of, pass_of, release_whole, releases, passes, releases_of_all};
 
@@ -32,8 +32,57 @@ pub fn keep_held(locks: &mut Vec<LocalLock>)
     locks.retain(|lock| lock.has_owner());
 }
 
+/// The owner gives up what it holds, lock by lock.
+pub fn give_up_each<E: Emit>(
+    locks: &mut Vec<LocalLock>,
+    session: u8,
+    owner: u64,
+    shared: &mut SharedLocks,
+    out: &mut E,
+)
+    requires in_order { IsInOrder locks.old.items }
+    requires agrees { (o : ℕ) (m : Mode) → holds shared.old o m session ≡ is_held locks.old.items o m }
+    ensures locks { locks.new.items ≡ map (without owner) locks.old.items }
+    ensures events { E.emits out.old (releases owner locks.old.items) out.new }
+    ensures agrees { (o : ℕ) (m : Mode) → holds shared.new o m session ≡ is_held locks.new.items o m }
+    ensures others { OthersStay session shared.old shared.new }
+{
+    for lock in locks.iter_mut() {
+        give_up(lock, session, owner, shared, out);
+    }
+}
+
+/// One owner's counts go to another, lock by lock.
+pub fn pass_each<E: Emit>(locks: &mut Vec<LocalLock>, from: u64, to: u64, out: &mut E)
+    ensures locks { locks.new.items ≡ map (passed_lock from to) locks.old.items }
+    ensures events { E.emits out.old (passes from to locks.old.items) out.new }
+{
+    for lock in locks.iter_mut() {
+        pass_on(lock, from, to, out);
+    }
+}
+
+/// The session gives up what it holds, lock by lock.
+pub fn release_each<E: Emit>(
+    locks: &[LocalLock],
+    session: u8,
+    top: u64,
+    shared: &mut SharedLocks,
+    out: &mut E,
+)
+    requires in_order { IsInOrder locks.now }
+    requires agrees { (o : ℕ) (m : Mode) → holds shared.old o m session ≡ is_held locks.now o m }
+    ensures events { E.emits out.old (releases_of_all top locks.now) out.new }
+    ensures agrees { (o : ℕ) (m : Mode) → holds shared.new o m session ≡ false }
+    ensures others { OthersStay session shared.old shared.new }
+{
+    for lock in locks {
+        release_lock(lock, session, top, shared, out);
+    }
+}
+
 /// The owner gives up a lock. Where no other owner holds it, the session doesn't any more.
-pub fn give_up<E: Emit>(
+fn give_up<E: Emit>(
     lock: &mut LocalLock,
     session: u8,
     owner: u64,
@@ -59,7 +108,7 @@ pub fn give_up<E: Emit>(
 }
 
 /// One owner's counts of a lock go to another.
-pub fn pass_on<E: Emit>(lock: &mut LocalLock, from: u64, to: u64, out: &mut E)
+fn pass_on<E: Emit>(lock: &mut LocalLock, from: u64, to: u64, out: &mut E)
     ensures lock { lock.new ≡ passed_lock from to lock.old }
     ensures events { E.emits out.old (pass_of from to lock.old) out.new }
 {
@@ -76,7 +125,7 @@ pub fn pass_on<E: Emit>(lock: &mut LocalLock, from: u64, to: u64, out: &mut E)
 }
 
 /// The session gives up a lock, with the sum of its counts, in the name of one owner.
-pub fn release_lock<E: Emit>(
+fn release_lock<E: Emit>(
     lock: &LocalLock,
     session: u8,
     top: u64,
