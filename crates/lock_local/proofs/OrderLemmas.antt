@@ -36,6 +36,9 @@ before_other a i b j c k e f = grind (arith, nat_tests)
 neither : (a i b j : ℕ) → before a i b j ≡ false → same a i b j ≡ false → before b j a i ≡ true
 neither a i b j e f = grind (arith, nat_tests)
 
+after_not_same : (a i b j : ℕ) → before b j a i ≡ true → same a i b j ≡ false
+after_not_same a i b j e = grind (arith, nat_tests)
+
 -- that a lock comes before another
 abbrev pub Before : Lock → Lock → Type 0
 Before l m = comes_before l.object l.mode m.object m.mode ≡ true
@@ -51,6 +54,9 @@ other_lock_left l m o w b e = elim (cases_Bool (is_lock o w l)) as (λ _. is_loc
 
 pub before_lock : (l : Lock) (o : ℕ) (w : Mode) → comes_before l.object l.mode o w ≡ true → is_lock o w l ≡ false
 before_lock l o w e = before_not_same l.object (mode_number l.mode) o (mode_number w) e
+
+pub after_lock : (l : Lock) (o : ℕ) (w : Mode) → comes_before o w l.object l.mode ≡ true → is_lock o w l ≡ false
+after_lock l o w e = after_not_same l.object (mode_number l.mode) o (mode_number w) e
 
 pub lock_not_before : (l : Lock) (o : ℕ) (w : Mode) → is_lock o w l ≡ true → comes_before l.object l.mode o w ≡ false
 lock_not_before l o w e = same_not_before l.object (mode_number l.mode) o (mode_number w) e

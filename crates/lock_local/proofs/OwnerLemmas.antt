@@ -74,8 +74,6 @@ pub counts-added : (owner n : ℕ) (xs : List OwnerCount) → counts (added owne
 counts-added owner n [] = omega (arith, sum_by-cons (λ (c : OwnerCount). c.count) (record { owner = owner; count = n }) [])
 counts-added owner n (x ∷ xs) = by_test (counts-added owner n xs) (is_owner owner x)
   where
-
-
     by_test : (counts (added owner n xs) ≡ counts xs + n) → (t : Bool) → counts (cond t (record { owner = x.owner; count = x.count + n } ∷ xs) (x ∷ added owner n xs)) ≡ counts (x ∷ xs) + n
     by_test ih true = omega (arith, sum_by-cons (λ (c : OwnerCount). c.count) (record { owner = x.owner; count = x.count + n }) xs, sum_by-cons (λ (c : OwnerCount). c.count) x xs)
     by_test ih false = omega (arith, ih, sum_by-cons (λ (c : OwnerCount). c.count) x (added owner n xs), sum_by-cons (λ (c : OwnerCount). c.count) x xs)
@@ -94,9 +92,11 @@ counts-lowered owner (x ∷ xs) h l = by_test (counts-lowered owner xs (All-tail
   where
     one : 1 ≤ x.count
     one = All-head Counted x xs h
+
     by_count : (t : Bool) → nat_eq x.count 1 ≡ t → counts (cond t xs (record { owner = x.owner; count = x.count - 1 } ∷ xs)) + 1 ≡ counts (x ∷ xs)
     by_count true e = omega (arith, eqb-true x.count 1 e, sum_by-cons (λ (c : OwnerCount). c.count) x xs)
     by_count false e = omega (arith, All-head Counted x xs h, sum_by-cons (λ (c : OwnerCount). c.count) x xs, sum_by-cons (λ (c : OwnerCount). c.count) (record { owner = x.owner; count = x.count - 1 }) xs)
+
     by_test : (0 < sum_by (count_if owner) xs → counts (lowered owner xs) + 1 ≡ counts xs) → (t : Bool) → is_owner owner x ≡ t → counts (cond t (less_one x xs) (x ∷ lowered owner xs)) + 1 ≡ counts (x ∷ xs)
     by_test ih true e = by_count (nat_eq x.count 1) refl
     by_test ih false e =
@@ -113,6 +113,7 @@ Counted-lowered owner (x ∷ xs) h = by_test (Counted-lowered owner xs (All-tail
       where
         more : (n : ℕ) → 1 ≤ n → (n ≡ 1 → ⊥) → 1 ≤ n - 1
         more n l h = omega arith
+
     by_test : (All Counted (lowered owner xs)) → (t : Bool) → All Counted (cond t (less_one x xs) (x ∷ lowered owner xs))
     by_test ih true = by_count (nat_eq x.count 1) refl
     by_test ih false = All-cons Counted x (lowered owner xs) (All-head Counted x xs h) ih
@@ -235,3 +236,15 @@ handed_fits from n xs ys f s e = omega (arith, f, s, ap counts e, counts-others 
 pub at_success : {E P : Type 0} (r : Result (Unit {0}) E) → IsOk r → OnOk r P → P
 at_success {E} {P} (Ok u) o h = h
 at_success {E} {P} (Err e) o h = absurd (false≢true o)
+
+pub counts-lowered-le : (owner : ℕ) (xs : List OwnerCount) → counts (lowered owner xs) ≤ counts xs
+counts-lowered-le owner [] = omega arith
+counts-lowered-le owner (x ∷ xs) = by_test (counts-lowered-le owner xs) (is_owner owner x)
+  where
+    by_count : (t : Bool) → counts (cond t xs (record { owner = x.owner; count = x.count - 1 } ∷ xs)) ≤ counts (x ∷ xs)
+    by_count true = omega (arith, sum_by-cons (λ (c : OwnerCount). c.count) x xs)
+    by_count false = omega (arith, sum_by-cons (λ (c : OwnerCount). c.count) x xs, sum_by-cons (λ (c : OwnerCount). c.count) (record { owner = x.owner; count = x.count - 1 }) xs)
+
+    by_test : counts (lowered owner xs) ≤ counts xs → (t : Bool) → counts (cond t (less_one x xs) (x ∷ lowered owner xs)) ≤ counts (x ∷ xs)
+    by_test ih true = by_count (nat_eq x.count 1)
+    by_test ih false = omega (arith, ih, sum_by-cons (λ (c : OwnerCount). c.count) x (lowered owner xs), sum_by-cons (λ (c : OwnerCount). c.count) x xs)

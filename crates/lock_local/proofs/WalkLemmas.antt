@@ -62,6 +62,7 @@ freed_agrees xs i d x y s old new h l e a b had told agrees o m = by_owner (has_
     written =
         is_held-set xs i d y o m h l (a ∙ ap (λ (z : Lock). z.object) e) (b ∙ ap (λ (z : Lock). z.mode) e)
         ∙ ap (λ (z : Lock). cond (is_lock o m z) (has_owner y) (is_held xs o m)) (sym e)
+
     by_owner : (t : Bool) → has_owner y ≡ t → MatchBool t (new ≡ old) (Sets old new x.object x.mode s false) → (u : Bool) → is_lock o m x ≡ u → holds new o m s ≡ cond (is_lock o m x) (has_owner y) (is_held xs o m)
     by_owner true f same true u =
         let test : held_test o m (get_or xs i d) ≡ true = ap (λ (z : Lock). held_test o m z) (sym e) ∙ and_from (is_lock o m x) (has_owner x) u (had f) in
@@ -95,6 +96,7 @@ rest_agrees xs i d x s old new h l e sets agrees o m =
   where
     behind : All (Before x) (drop (i + 1) xs)
     behind = subst (λ (z : Lock). All (Before z) (drop (i + 1) xs)) (sym e) (all_behind xs i d h l)
+
     by_test : (t : Bool) → is_lock o m x ≡ t → cond t false ((t && has_owner x) || is_held (drop (i + 1) xs) o m) ≡ is_held (drop (i + 1) xs) o m
     by_test true u = sym (none_behind x (drop (i + 1) xs) o m behind u)
     by_test false u = refl
@@ -102,3 +104,20 @@ rest_agrees xs i d x s old new h l e sets agrees o m =
 -- one more lock of a walk that writes each over
 pub flat_map_at : {X A : Type 0} (f : X → List A) (g : X → X) (xs ys : List X) (i : ℕ) (d : X) → ys ≡ map g (take i xs) ++ drop i xs → i < length xs → flat_map f (take i xs) ++ f (get_or ys i d) ≡ flat_map f (take (i + 1) xs)
 flat_map_at {X} {A} f g xs ys i d e l = ap (λ (z : X). flat_map f (take i xs) ++ f z) (seam g xs ys i d e l) ∙ flat_map_step f xs i d l
+
+-- a holding may be named by any mode of that number
+pub sets_like : (old new : List Holding) (o : ℕ) (m : Mode) (o' : ℕ) (m' : Mode) (s : ℕ) (b : Bool) → same_lock o m o' m' ≡ true → Sets old new o m s b → Sets old new o' m' s b
+sets_like old new o m o' m' s b e h = record {
+  this = sym (holds_same new o m o' m' s e) ∙ h.this;
+  others_locks = λ a n t other. h.others_locks a n t (not_same a n (λ same. true≢false (sym (same_trans a n o m o' m' same e) ∙ other)));
+  others_sessions = h.others_sessions;
+}
+  where
+    not_same : (a : ℕ) (n : Mode) → (same_lock a n o m ≡ true → ⊥) → same_lock a n o m ≡ false
+    not_same a n h = elim (cases_Bool (same_lock a n o m)) as (λ _. same_lock a n o m ≡ false) [ inl x ↦ absurd (h x) | inr x ↦ x ]
+
+    same_trans : (a : ℕ) (n : Mode) (b : ℕ) (k : Mode) (c : ℕ) (l : Mode) → same_lock a n b k ≡ true → same_lock b k c l ≡ true → same_lock a n c l ≡ true
+    same_trans a n b k c l x y =
+        let p = and_parts (nat_eq a b) (nat_eq (mode_number n) (mode_number k)) x in
+        let q = and_parts (nat_eq b c) (nat_eq (mode_number k) (mode_number l)) y in
+        and_from (nat_eq a c) (nat_eq (mode_number n) (mode_number l)) (eq-eqb a c (eqb-true a b p.0 ∙ eqb-true b c q.0)) (eq-eqb (mode_number n) (mode_number l) (eqb-true (mode_number n) (mode_number k) p.1 ∙ eqb-true (mode_number k) (mode_number l) q.1))

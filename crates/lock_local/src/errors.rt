@@ -8,10 +8,7 @@ pub enum LockError {
     /// Another session holds the object in a conflicting mode. It is the least such session, and its
     /// least such mode.
     #[error("lock is held by session {session} as {mode:?}")]
-    Conflict {
-        session: u8,
-        mode: Mode,
-    },
+    Conflict { session: u8, mode: Mode },
     /// The owner doesn't hold the lock.
     #[error("lock is not held")]
     NotHeld,

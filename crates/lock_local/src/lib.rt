@@ -6,12 +6,9 @@ mod local_lock;
 mod lock_table;
 mod walks;
 
-
-
 pub use errors::LockError;
 pub use local_lock::OwnerCount;
 pub use lock_table::LockTable;
-
 
 #[cfg(test)]
 mod tests;

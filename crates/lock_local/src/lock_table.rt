@@ -11,7 +11,7 @@ ghost use Rattle.lock_local.specs.Changes.{acquired, given_back, released, passe
 
 use crate::errors::LockError;
 use crate::local_lock::LocalLock;
-use crate::walks::{find, give_up_each, keep_held, pass_each, release_each};
+use crate::walks::{find, give_up_each, keep_held, pass_each, put_in, release_each};
 use lock_shared::SharedLocks;
 use pgs_step::{Emit, Mode, OwnerId, What};
 use std::alloc::{AllocError, Global};
@@ -174,7 +174,13 @@ impl LockTable {
     }
 
     /// The owner holds the lock once more. It fails for want of memory alone.
-    fn count_up(&mut self, shared: &mut SharedLocks, owner: u64, object: u32, mode: Mode) -> Result<(), AllocError>
+    fn count_up(
+        &mut self,
+        shared: &mut SharedLocks,
+        owner: u64,
+        object: u32,
+        mode: Mode,
+    ) -> Result<(), AllocError>
         requires agrees { Agrees self.old shared.old }
         requires few { total self.old.locks < 2 ^ 62 }
         ensures ok { OnOk result (self.new ≡ record self.old { locks = acquired owner object mode self.old.locks }) }
@@ -190,7 +196,7 @@ impl LockTable {
                 let lock = LocalLock::new(self.alloc, object, mode, owner)?;
                 self.locks.reserve(1)?;
                 shared.grant(object, mode, self.session)?;
-                let _ = self.locks.insert(at, lock);
+                put_in(&mut self.locks, at, lock);
             }
         }
         Ok(())

@@ -1,5 +1,5 @@
 //! Walks over a session's locks.
-ghost use Rattle.std.specs.Prelude.{◌≡◌, ◌∷◌, [], ℕ, map, filter, MatchResult, MatchBool, false};
+ghost use Rattle.std.specs.Prelude.{◌≡◌, ◌<◌, ◌≤◌, ◌∷◌, [], ℕ, map, filter, insert, vec_len, vec_capacity, MatchResult, MatchBool, false};
 ghost use Rattle.pgs_step.specs.declared.lock_modes.Mode.{Mode};
 ghost use Rattle.lock_shared.specs.Holdings.{Sets, holds};
 ghost use Rattle.lock_local.specs.Locks.{Lock, has_owner, OthersStay, IsInOrder, is_held};
@@ -23,6 +23,15 @@ pub fn find(locks: &[LocalLock], object: u32, mode: Mode) -> Result<usize, usize
     } else {
         Err(at)
     }
+}
+
+/// Puts a lock at its place, where there is room for it.
+pub fn put_in(locks: &mut Vec<LocalLock>, at: usize, lock: LocalLock)
+    requires within { at ≤ vec_len locks.old }
+    requires room { vec_len locks.old < vec_capacity locks.old }
+    ensures { locks.new.items ≡ insert locks.old.items at lock }
+{
+    let _ = locks.insert(at, lock);
 }
 
 /// Takes off the locks that no owner holds.

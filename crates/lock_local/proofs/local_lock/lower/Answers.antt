@@ -12,8 +12,8 @@ returns-then-index-eq1 c =
 pub returns-else-index-eq1 : goal.returns-else-index-eq1
 returns-else-index-eq1 c = lowered_over _ _ _ c.index_mut.result.now (found _ _ _ _ _ _ c.place_of.ensures c.as_slice.ensures.value c.in-Some.is) c.index_mut.ensures.value
     (λ one.
-      let first = found _ _ _ _ _ c.index.result.now c.place_of.ensures c.as_slice.ensures.value c.in-Some.is in
-      c.if-index-eq1.false (ap (λ (x : OwnerCount). x.count) (c.index.ensures ∙ get_or_default _ _ c.index.result.now c.index_mut.result.now first.within ∙ sym c.index_mut.ensures.value) ∙ one))
+    let first = found _ _ _ _ _ c.index.result.now c.place_of.ensures c.as_slice.ensures.value c.in-Some.is in
+    c.if-index-eq1.false (ap (λ (x : OwnerCount). x.count) (c.index.ensures ∙ get_or_default _ _ c.index.result.now c.index_mut.result.now first.within ∙ sym c.index_mut.ensures.value) ∙ one))
 
 pub returns-in_default : goal.returns-in_default
 returns-in_default c =
