@@ -48,7 +48,7 @@ added_none owner n (x ∷ xs) d h =
     ap (λ zs. x ∷ zs) (added_none owner n xs d (λ k l. h (suc k) (omega arith)))
     ∙ ap (λ b. cond b (y ∷ xs) (x ∷ added owner n xs)) (sym (h zero (omega arith)))
 
-abbrev less_one : OwnerCount → List OwnerCount → List OwnerCount
+abbrev pub less_one : OwnerCount → List OwnerCount → List OwnerCount
 less_one c cs = cond (nat_eq c.count 1) cs (record { owner = c.owner; count = c.count - 1 } ∷ cs)
 
 pub lowered_gone : (owner : ℕ) (xs : List OwnerCount) (i : ℕ) (d : OwnerCount) → IsFirstOf owner xs i d → (get_or xs i d).count ≡ 1 → remove xs i ≡ lowered owner xs

@@ -1,5 +1,5 @@
 //! The locks of one session.
-ghost use Rattle.std.specs.Prelude.{◌≡◌, ◌↔◌, ◌<◌, ◌^◌, ℕ, List, [], ◌∷◌, length, IsTrue, OnOk, OnErr, IsErrOf, IsOkUnless};
+ghost use Rattle.std.specs.Prelude.{◌≡◌, ◌↔◌, ◌<◌, ◌≤◌, ◌+◌, ◌^◌, ℕ, List, [], ◌∷◌, length, IsTrue, OnOk, OnErr, IsErrOf, IsOkUnless};
 ghost use Rattle.std.specs.Bool.{OnTrue, OnFalse};
 ghost use Rattle.pgs_step.specs.declared.lock_modes.Mode.{Mode};
 ghost use Rattle.pgs_step.specs.declared.events.What.{What};
@@ -7,6 +7,7 @@ ghost use Rattle.pgs_step.specs.declared.events.What.TheVariants.{AcquireLock, R
 ghost use Rattle.lock_shared.specs.Holdings.{holds, IsConflict};
 ghost use Rattle.lock_local.specs.declared.errors.LockError.TheVariants.{Conflict, NotHeld};
 ghost use Rattle.lock_local.specs.Locks.{Lock, total, count_of, is_held, AreLocks, Agrees, OthersStay};
+ghost use Rattle.lock_local.specs.Counts.{HoldsOneMore, HoldsOneLess, HoldsNothing, HoldsBoth};
 ghost use Rattle.lock_local.specs.Changes.{acquired, given_back, released, passed, releases, passes, releases_of_all};
 
 use crate::errors::LockError;
@@ -70,6 +71,8 @@ impl LockTable {
         ensures held { IsErrOf result LockError.NotHeld → ⊥ }
 
         ensures ok { OnOk result (self.new ≡ record self.old { locks = acquired owner.number object mode self.old.locks }) }
+        ensures counts { OnOk result (HoldsOneMore self.old.locks self.new.locks object mode owner.number) }
+        ensures total { OnOk result (total self.new.locks ≡ total self.old.locks + 1) }
         ensures events { OnOk result (E.emits out.old (AcquireLock object mode owner.number ∷ []) out.new) }
         ensures err { OnErr result (self.new ≡ self.old) }
         ensures err_shared { OnErr result (shared.new ≡ shared.old) }
@@ -107,6 +110,8 @@ impl LockTable {
         ensures only_not_held { IsOkUnless result LockError.NotHeld }
 
         ensures ok { OnOk result (self.new ≡ record self.old { locks = given_back owner.number object mode self.old.locks }) }
+        ensures counts { OnOk result (HoldsOneLess self.old.locks self.new.locks object mode owner.number) }
+        ensures total { total self.new.locks ≤ total self.old.locks }
         ensures events { OnOk result (E.emits out.old (ReleaseLock object mode 1 owner.number ∷ []) out.new) }
         ensures err { OnErr result (self.new ≡ self.old) }
         ensures err_shared { OnErr result (shared.new ≡ shared.old) }
@@ -132,6 +137,8 @@ impl LockTable {
     pub fn release_owner<E: Emit>(&mut self, shared: &mut SharedLocks, owner: OwnerId, out: &mut E)
         requires { Agrees self.old shared.old }
         ensures state { self.new ≡ record self.old { locks = released owner.number self.old.locks } }
+        ensures counts { HoldsNothing self.old.locks self.new.locks owner.number }
+        ensures total { total self.new.locks ≤ total self.old.locks }
         ensures events { E.emits out.old (releases owner.number self.old.locks) out.new }
         ensures agrees { Agrees self.new shared.new }
         ensures others { OthersStay self.old.session shared.old shared.new }
@@ -145,6 +152,8 @@ impl LockTable {
     /// subtransaction. The counts are added to those that `to` has.
     pub fn pass_owner<E: Emit>(&mut self, from: OwnerId, to: OwnerId, out: &mut E)
         ensures state { self.new ≡ record self.old { locks = passed from.number to.number self.old.locks } }
+        ensures counts { HoldsBoth self.old.locks self.new.locks from.number to.number }
+        ensures total { total self.new.locks ≤ total self.old.locks }
         ensures events { E.emits out.old (passes from.number to.number self.old.locks) out.new }
         ensures held { (object : ℕ) (mode : Mode) → is_held self.new.locks object mode ≡ is_held self.old.locks object mode }
         ensures locks { AreLocks self.new.locks }
@@ -184,6 +193,8 @@ impl LockTable {
         requires agrees { Agrees self.old shared.old }
         requires few { total self.old.locks < 2 ^ 62 }
         ensures ok { OnOk result (self.new ≡ record self.old { locks = acquired owner object mode self.old.locks }) }
+        ensures counts { OnOk result (HoldsOneMore self.old.locks self.new.locks object mode owner) }
+        ensures total { OnOk result (total self.new.locks ≡ total self.old.locks + 1) }
         ensures err { OnErr result (self.new ≡ self.old) }
         ensures err_shared { OnErr result (shared.new ≡ shared.old) }
         ensures agrees { Agrees self.new shared.new }
@@ -207,6 +218,8 @@ impl LockTable {
         requires { Agrees self.old shared.old }
         ensures answer { IsTrue result ↔ (0 < count_of self.old.locks object mode owner) }
         ensures yes { OnTrue result (self.new ≡ record self.old { locks = given_back owner object mode self.old.locks }) }
+        ensures yes_counts { OnTrue result (HoldsOneLess self.old.locks self.new.locks object mode owner) }
+        ensures total { total self.new.locks ≤ total self.old.locks }
         ensures no { OnFalse result (self.new ≡ self.old) }
         ensures no_shared { OnFalse result (shared.new ≡ shared.old) }
         ensures agrees { Agrees self.new shared.new }

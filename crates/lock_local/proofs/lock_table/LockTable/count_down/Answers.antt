@@ -1,4 +1,4 @@
-use Rattle.std.proofs.Common.{◌≡◌, List, filter, map, set, ap, sym, subst, ◌∙◌, arith}
+use Rattle.std.proofs.Common.{◌≡◌, List, filter, map, set, ap, sym, subst, ◌∙◌, arith, refl}
 use Rattle.std.specs.Bool.{MatchBool}
 use Rattle.std.specs.Prelude.{false}
 use Rattle.lock_shared.specs.declared.shared_locks.Holding.{Holding}
@@ -6,6 +6,7 @@ use Rattle.lock_shared.specs.Holdings.{Sets}
 use Rattle.lock_local.specs.Locks.{Lock, SessionLocks, count_of, owner_count, has_owner, is_held}
 use Rattle.lock_local.specs.Changes.{counted_down, given_back}
 use Rattle.lock_local.proofs.ChangeLemmas.{stands, would_stand, no_lock, down, down_over, down_agrees, fit_given_back, agrees_by, state_is, count_at, count_missing, is_held-filter, no_answer, freed_yes, freed_no}
+use Rattle.lock_local.proofs.CountLemmas.{counts_less, total_less, counted_there}
 use Rattle.lock_local.proofs.lock_table.LockTable.count_down.Goals as goal
 use Rattle.lock_local.proofs.lock_table.LockTable.count_down.Goals.{then-not-has_owner, else-not-has_owner}
 
@@ -53,3 +54,12 @@ returns-clause-agrees c = λ o m.
 
 pub returns-clause-locks : goal.returns-clause-locks
 returns-clause-locks c = (fit_given_back c.args.owner c.args.object c.args.mode _ _ _ c.self.invariant (lower c) c.keep_held.ensures).0
+
+pub returns-clause-yes_counts : goal.returns-clause-yes_counts
+returns-clause-yes_counts c =
+    counts_less c.args.owner c.args.object c.args.mode _ _ _ _ c.in-Ok.at c.index_mut-lock.result.now c.count_down.new.self _ c.self.view_is c.self.invariant.0
+    (stands _ _ _ _ _ _ c.as_slice.ensures.value (c.in-Ok.ensures c.index_mut-lock.result.now)) (c.count_down.ensures ∙ ap (counted_down c.args.owner) c.index_mut-lock.ensures.value)
+    (counted_there c.args.owner c.count.result _ _ c.index.result.now c.index_mut-lock.result.now (stands _ _ _ _ _ _ c.as_slice.ensures.value (c.in-Ok.ensures no_lock)).within c.index.ensures c.count.ensures c.if-count-eq0.false) refl c.keep_held.ensures
+
+pub returns-clause-total : goal.returns-clause-total
+returns-clause-total c = total_less c.args.owner c.args.object c.args.mode _ _ _ _ _ c.self.view_is (lower c) c.keep_held.ensures

@@ -4,6 +4,7 @@ use Rattle.lock_local.specs.Locks.{Lock, SessionLocks, total}
 use Rattle.lock_local.specs.Places.{StandsAt, WouldStandAt}
 use Rattle.lock_local.specs.Changes.{counted_up, new_lock, acquired}
 use Rattle.lock_local.proofs.ChangeLemmas.{stands, would_stand, no_lock, acquired_over, acquired_new, fit_acquired, agrees_by, state_is, counted_up_agrees, new_agrees}
+use Rattle.lock_local.proofs.CountLemmas.{counts_more, total_more}
 use Rattle.lock_local.proofs.lock_table.LockTable.count_up.Goals as goal
 
 -- what the lock at its place becomes
@@ -61,3 +62,15 @@ returns-in_ok-grant-in-Err-clause-agrees c =
 
 pub returns-in_ok-grant-in-Err-clause-locks : goal.returns-in_ok-grant-in-Err-clause-locks
 returns-in_ok-grant-in-Err-clause-locks c = (fit_acquired c.args.owner c.args.object c.args.mode _ _ c.self.invariant (few _ _ _ c.self.view_is c.requires.few) (put c)).0
+
+pub returns-in_ok-count_up-in-Ok-clause-counts : goal.returns-in_ok-count_up-in-Ok-clause-counts
+returns-in_ok-count_up-in-Ok-clause-counts c = counts_more c.args.owner c.args.object c.args.mode _ _ _ _ c.self.view_is (up c)
+
+pub returns-in_ok-count_up-in-Ok-clause-total : goal.returns-in_ok-count_up-in-Ok-clause-total
+returns-in_ok-count_up-in-Ok-clause-total c = total_more c.args.owner c.args.object c.args.mode _ _ _ _ c.self.view_is (up c)
+
+pub returns-in_ok-grant-in-Err-clause-counts : goal.returns-in_ok-grant-in-Err-clause-counts
+returns-in_ok-grant-in-Err-clause-counts c = counts_more c.args.owner c.args.object c.args.mode _ _ _ _ c.self.view_is (put c)
+
+pub returns-in_ok-grant-in-Err-clause-total : goal.returns-in_ok-grant-in-Err-clause-total
+returns-in_ok-grant-in-Err-clause-total c = total_more c.args.owner c.args.object c.args.mode _ _ _ _ c.self.view_is (put c)

@@ -1,6 +1,7 @@
 use Rattle.std.proofs.Common.{List, ap, sym, ◌∙◌}
 use Rattle.lock_local.specs.Locks.{Lock, SessionLocks, is_held}
 use Rattle.lock_local.proofs.ChangeLemmas.{fit_passed, is_held-passed}
+use Rattle.lock_local.proofs.CountLemmas.{counts_both, total_passed_by}
 use Rattle.lock_local.proofs.lock_table.LockTable.pass_owner.Goals as goal
 
 pub invariant_of-self : goal.invariant_of-self
@@ -14,3 +15,9 @@ returns-clause-held g c = λ o m.
 
 pub returns-clause-locks : goal.returns-clause-locks
 returns-clause-locks g c = (fit_passed c.args.from.number c.args.to.number _ _ c.self.invariant c.pass_each.ensures.locks).0
+
+pub returns-clause-counts : goal.returns-clause-counts
+returns-clause-counts g c = counts_both c.args.from.number c.args.to.number _ _ _ _ c.self.view_is c.pass_each.ensures.locks
+
+pub returns-clause-total : goal.returns-clause-total
+returns-clause-total g c = total_passed_by c.args.from.number c.args.to.number _ _ _ _ c.self.view_is c.pass_each.ensures.locks

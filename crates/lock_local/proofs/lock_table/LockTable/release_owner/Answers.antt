@@ -1,6 +1,7 @@
 use Rattle.std.proofs.Common.{List, ap, sym, ◌∙◌}
 use Rattle.lock_local.specs.Locks.{Lock, is_held}
 use Rattle.lock_local.proofs.ChangeLemmas.{fit_released, is_held-filter, agrees_by}
+use Rattle.lock_local.proofs.CountLemmas.{counts_released, total_released_by}
 use Rattle.lock_local.proofs.lock_table.LockTable.release_owner.Goals as goal
 
 pub give_up_each-requires-clause-agrees : goal.give_up_each-requires-clause-agrees
@@ -16,3 +17,9 @@ returns-clause-agrees g c = λ o m.
 
 pub returns-clause-locks : goal.returns-clause-locks
 returns-clause-locks g c = (fit_released c.args.owner.number _ _ _ c.self.invariant c.give_up_each.ensures.locks c.keep_held.ensures).0
+
+pub returns-clause-counts : goal.returns-clause-counts
+returns-clause-counts g c = counts_released c.args.owner.number _ _ _ _ _ c.self.view_is c.give_up_each.ensures.locks c.keep_held.ensures
+
+pub returns-clause-total : goal.returns-clause-total
+returns-clause-total g c = total_released_by c.args.owner.number _ _ _ _ _ c.self.view_is c.give_up_each.ensures.locks c.keep_held.ensures
