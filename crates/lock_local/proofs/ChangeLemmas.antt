@@ -1,9 +1,8 @@
 -- What the changes of a session's locks keep.
-use Rattle.std.proofs.Common.{◌≡◌, ◌≢◌, ℕ, suc, zero, ◌<◌, ◌≤◌, ◌+◌, ◌-◌, ◌^◌, Bool, true, false, ◌&&◌, ◌||◌, not, cond, nat_eq, nat_lt, List, [], ◌∷◌, ◌++◌, length, get_or, set, take, drop, map, filter, refl, ap, sym, subst, ◌∙◌, arith}
+use Rattle.std.proofs.Common.{◌≡◌, ◌≢◌, ℕ, suc, zero, ◌<◌, ◌≤◌, ◌+◌, ◌^◌, Bool, true, false, ◌&&◌, ◌||◌, not, cond, nat_eq, nat_lt, List, [], ◌∷◌, length, get_or, set, map, filter, refl, ap, sym, subst, ◌∙◌, arith}
 use Rattle.std.specs.Prelude.{All, sum_by, insert}
-use Rattle.std.specs.List.{list_any}
 use Rattle.std.specs.Bool.{MatchBool}
-use Rattle.std.proofs.lemmas.Bool.{true≢false, eqb-false, ltb-true, lt-ltb, cases_Bool, and_from}
+use Rattle.std.proofs.lemmas.Bool.{true≢false, eqb-false, lt-ltb}
 use Rattle.std.proofs.lemmas.List.Elements.{All-nil, All-cons, All-head, All-tail, All-weaker, All-filter, All-map, All-get_or, filter_passes}
 use Rattle.std.proofs.lemmas.List.Sums.{sum_by-cons}
 use Rattle.std.proofs.lemmas.List.Folds.{map_fixed}
@@ -14,8 +13,8 @@ use Rattle.lock_shared.specs.Holdings.{same_lock, holds, Sets}
 use Rattle.lock_local.specs.declared.local_lock.OwnerCount.{OwnerCount}
 use Rattle.lock_local.specs.Locks.{Lock, owner_count, count_if, lock_total, total, is_lock, has_owner, is_held, count_of, comes_before, IsInOrder, AreLocks, SessionLocks, Agrees}
 use Rattle.lock_local.specs.Places.{StandsAt, WouldStandAt}
-use Rattle.lock_local.specs.Changes.{added, lowered, new_lock, counted_up, counted_down, without, passed_lock, acquired, given_back, released, passed}
-use Rattle.lock_local.proofs.OwnerLemmas.{Counted, counts, is_owner, others, counts-added, Counted-added, counts-lowered, Counted-lowered, counts-others, others_le, counts-lowered-le}
+use Rattle.lock_local.specs.Changes.{added, new_lock, counted_up, counted_down, without, passed_lock, acquired, released, passed}
+use Rattle.lock_local.proofs.OwnerLemmas.{Counted, is_owner, counts-added, Counted-added, Counted-lowered, counts-others, counts-lowered-le}
 use Rattle.lock_local.proofs.OrderLemmas.{Before, KeepsLock, IsInOrder-map, IsInOrder-filter, held_test, lock_not_before, before_lock, other_lock, comes_after, after_both, after_lock}
 use Rattle.lock_local.proofs.WalkLemmas.{freed_agrees, holds_after, sets_like, same_back}
 

@@ -1,7 +1,7 @@
 -- How often an owner holds a lock after a change.
-use Rattle.std.proofs.Common.{◌≡◌, ◌≢◌, ℕ, suc, zero, ◌<◌, ◌≤◌, ◌+◌, ◌-◌, Bool, true, false, ◌&&◌, not, cond, nat_eq, nat_lt, List, [], ◌∷◌, length, get_or, set, map, filter, refl, ap, sym, subst, ◌∙◌, arith}
+use Rattle.std.proofs.Common.{◌≡◌, ◌≢◌, ℕ, zero, ◌<◌, ◌≤◌, ◌+◌, ◌-◌, Bool, true, false, ◌&&◌, not, cond, nat_eq, nat_lt, List, [], ◌∷◌, length, get_or, set, map, filter, refl, ap, sym, ◌∙◌, arith}
 use Rattle.std.specs.Prelude.{All, sum_by}
-use Rattle.std.proofs.lemmas.Bool.{true≢false, eqb-true, eq-eqb, lt-ltb, cases_Bool}
+use Rattle.std.proofs.lemmas.Bool.{true≢false, eqb-true, lt-ltb}
 use Rattle.std.proofs.lemmas.Bool.Decides.{nat_tests}
 use Rattle.std.proofs.lemmas.List.{get_or_default}
 use Rattle.std.proofs.lemmas.List.Elements.{All-head, All-tail, All-get_or}
@@ -13,7 +13,7 @@ use Rattle.lock_local.specs.declared.local_lock.OwnerCount.{OwnerCount}
 use Rattle.lock_local.specs.Locks.{Lock, owner_count, count_if, is_lock, has_owner, count_of, comes_before, AreLocks, SessionLocks, total}
 use Rattle.lock_local.specs.Counts.{HoldsOneMore, HoldsOneLess, HoldsNothing, HoldsBoth}
 use Rattle.lock_local.specs.Places.{StandsAt}
-use Rattle.lock_local.specs.Changes.{added, lowered, new_lock, counted_up, counted_down, without, passed_lock, acquired, given_back, released, passed}
+use Rattle.lock_local.specs.Changes.{added, lowered, new_lock, counted_up, counted_down, without, passed_lock, acquired, released, passed}
 use Rattle.lock_local.proofs.OwnerLemmas.{Counted, is_owner, others, less_one}
 use Rattle.lock_local.proofs.ChangeLemmas.{by_passing, table, WellCounted, down, total-acquired, total-released, total-all-passed, total-filter, total-map, total-down}
 

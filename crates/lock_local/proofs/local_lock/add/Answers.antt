@@ -1,4 +1,4 @@
-use Rattle.std.proofs.Common.{sym, ◌∙◌, ap}
+use Rattle.std.proofs.Common.{◌∙◌}
 use Rattle.lock_local.proofs.OwnerLemmas.{added_over, added_none, found, not_found}
 use Rattle.lock_local.proofs.local_lock.add.Goals as goal
 

@@ -2,7 +2,7 @@ use Rattle.std.proofs.Common.{sym, ap, ◌∙◌, ◌++◌, ◌∷◌, [], map, 
 use Rattle.std.proofs.lemmas.List.{map_more}
 use Rattle.lock_local.specs.Locks.{Lock}
 use Rattle.lock_local.specs.Changes.{release_whole}
-use Rattle.lock_local.proofs.WalkLemmas.{rest_agrees, others_more}
+use Rattle.lock_local.proofs.WalkLemmas.{rest_agrees}
 use Rattle.lock_local.proofs.walks.release_each.Goals as goal
 
 pub loop-lock-preserved : goal.loop-lock-preserved

@@ -1,7 +1,6 @@
-use Rattle.std.proofs.Common.{◌≡◌, List, filter, map, set, ap, sym, subst, ◌∙◌, arith, refl}
+use Rattle.std.proofs.Common.{◌≡◌, List, filter, map, set, ap, sym, ◌∙◌, arith, refl}
 use Rattle.std.specs.Bool.{MatchBool}
 use Rattle.std.specs.Prelude.{false}
-use Rattle.lock_shared.specs.declared.shared_locks.Holding.{Holding}
 use Rattle.lock_shared.specs.Holdings.{Sets}
 use Rattle.lock_local.specs.Locks.{Lock, SessionLocks, count_of, owner_count, has_owner, is_held}
 use Rattle.lock_local.specs.Changes.{counted_down, given_back}

@@ -1,7 +1,7 @@
-use Rattle.std.proofs.Common.{◌≡◌, ◌<◌, ◌^◌, List, set, ap, sym, subst, ◌∙◌, arith, refl}
+use Rattle.std.proofs.Common.{◌≡◌, ◌<◌, ◌^◌, List, set, ap, ◌∙◌, arith}
 use Rattle.std.specs.Prelude.{ℕ, insert}
 use Rattle.lock_local.specs.Locks.{Lock, SessionLocks, total}
-use Rattle.lock_local.specs.Places.{StandsAt, WouldStandAt}
+use Rattle.lock_local.specs.Places.{WouldStandAt}
 use Rattle.lock_local.specs.Changes.{counted_up, new_lock, acquired}
 use Rattle.lock_local.proofs.ChangeLemmas.{stands, would_stand, no_lock, acquired_over, acquired_new, fit_acquired, agrees_by, state_is, counted_up_agrees, new_agrees}
 use Rattle.lock_local.proofs.CountLemmas.{counts_more, total_more}

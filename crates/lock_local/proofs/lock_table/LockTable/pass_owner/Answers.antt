@@ -1,4 +1,4 @@
-use Rattle.std.proofs.Common.{List, ap, sym, ◌∙◌}
+use Rattle.std.proofs.Common.{List, ap, ◌∙◌}
 use Rattle.lock_local.specs.Locks.{Lock, SessionLocks, is_held}
 use Rattle.lock_local.proofs.ChangeLemmas.{fit_passed, is_held-passed}
 use Rattle.lock_local.proofs.CountLemmas.{counts_both, total_passed_by}
