@@ -1,0 +1,6 @@
+use Rattle.std.proofs.Common.{arith}
+use Rattle.lock_local.proofs.OwnerLemmas.{sum_so_far}
+use Rattle.lock_local.proofs.local_lock.count_of.Goals as goal
+
+pub overflow_add-count : goal.overflow_add-count
+overflow_add-count c = omega (arith, c.loop-each.invariant, c.requires, sum_so_far c.args.owner c.args.owners.now c.loop-each.each-index (record { owner = 0; count = 0 }) c.loop-each-test.true)

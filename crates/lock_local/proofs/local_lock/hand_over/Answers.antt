@@ -1,0 +1,14 @@
+use Rattle.std.proofs.Common.{arith, ap, ◌∙◌}
+use Rattle.lock_local.specs.Changes.{added}
+use Rattle.lock_local.proofs.OwnerLemmas.{handed_fits, room_left, at_success}
+use Rattle.lock_local.proofs.local_lock.hand_over.Goals as goal
+
+pub add-requires : goal.add-requires
+add-requires c = handed_fits c.args.from _ _ _ c.requires.fits c.requires.count c.take_off.ensures.items
+
+pub returns : goal.returns
+returns c =
+    at_success c.add.result
+    (c.add.ensures.room (room_left c.args.from _ _ _ _ _ _ c.args.owners.now.ok.0 c.args.owners.now.ok.1 c.take_off.new.owners.ok.0 c.take_off.ensures.capacity c.take_off.ensures.items (omega (arith, c.requires.count, c.requires.held))))
+    c.add.ensures.ok
+    ∙ ap (added c.args.to c.args.count) c.take_off.ensures.items

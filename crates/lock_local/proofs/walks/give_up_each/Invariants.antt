@@ -1,0 +1,15 @@
+use Rattle.std.proofs.Common.{◌≡◌, ℕ, ◌++◌, map, take, drop}
+use Rattle.pgs_step.specs.declared.lock_modes.Mode.{Mode}
+use Rattle.lock_shared.specs.Holdings.{holds}
+use Rattle.lock_local.specs.Locks.{IsInOrder, is_held, OthersStay}
+use Rattle.lock_local.specs.Changes.{without, releases}
+use Rattle.lock_local.proofs.walks.give_up_each.Given as goal
+
+abbrev pub invariant-loop-lock : goal.invariant-loop-lock
+invariant-loop-lock g l = record {
+  in_order : IsInOrder l.lock-items;
+  locks : l.lock-items ≡ map (without l.owner) (take l.lock-index l.initial.lock-items) ++ drop l.lock-index l.initial.lock-items;
+  events : g.E.Emit.emits l.initial.out (releases l.owner (take l.lock-index l.initial.lock-items)) l.out;
+  agrees : (o : ℕ) (m : Mode) → holds l.shared o m l.session ≡ is_held l.lock-items o m;
+  others : OthersStay l.session l.initial.shared l.shared;
+}

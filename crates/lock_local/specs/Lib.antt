@@ -1,0 +1,4 @@
+pub mod Locks
+pub mod Counts
+pub mod Places
+pub mod Changes

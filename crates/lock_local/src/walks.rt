@@ -1,0 +1,154 @@
+//! Walks over a session's locks.
+ghost use Rattle.std.specs.Prelude.{◌≡◌, ◌<◌, ◌≤◌, ◌∷◌, [], ℕ, map, filter, insert, vec_len, vec_capacity, MatchResult, MatchBool, false};
+ghost use Rattle.pgs_step.specs.declared.lock_modes.Mode.{Mode};
+ghost use Rattle.lock_shared.specs.Holdings.{Sets, holds};
+ghost use Rattle.lock_local.specs.Locks.{Lock, has_owner, OthersStay, IsInOrder, is_held};
+ghost use Rattle.lock_local.specs.Places.{StandsAt, WouldStandAt};
+ghost use Rattle.lock_local.specs.Changes.{without, passed_lock, release_of, pass_of, release_whole, releases, passes, releases_of_all};
+
+use crate::local_lock::LocalLock;
+use lock_shared::SharedLocks;
+use pgs_step::{Emit, Mode, What};
+
+/// Where the lock stands, or else where it would stand.
+pub fn find(locks: &[LocalLock], object: u32, mode: Mode) -> Result<usize, usize>
+    ensures { (d : Lock) → MatchResult result (λ i. StandsAt object mode locks.now i d) (λ i. WouldStandAt object mode locks.now i d) }
+{
+    let mut at = 0;
+    while at < locks.len() && locks[at].comes_before(object, mode) {
+        at += 1;
+    }
+    if at < locks.len() && locks[at].is(object, mode) {
+        Ok(at)
+    } else {
+        Err(at)
+    }
+}
+
+/// Puts a lock at its place, where there is room for it.
+pub fn put_in(locks: &mut Vec<LocalLock>, at: usize, lock: LocalLock)
+    requires within { at ≤ vec_len locks.old }
+    requires room { vec_len locks.old < vec_capacity locks.old }
+    ensures { locks.new.items ≡ insert locks.old.items at lock }
+{
+    let _ = locks.insert(at, lock);
+}
+
+/// Takes off the locks that no owner holds.
+pub fn keep_held(locks: &mut Vec<LocalLock>)
+    ensures { locks.new.items ≡ filter has_owner locks.old.items }
+{
+    locks.retain(|lock| lock.has_owner());
+}
+
+/// The owner gives up what it holds, lock by lock.
+pub fn give_up_each<E: Emit>(
+    locks: &mut Vec<LocalLock>,
+    session: u8,
+    owner: u64,
+    shared: &mut SharedLocks,
+    out: &mut E,
+)
+    requires in_order { IsInOrder locks.old.items }
+    requires agrees { (o : ℕ) (m : Mode) → holds shared.old o m session ≡ is_held locks.old.items o m }
+    ensures locks { locks.new.items ≡ map (without owner) locks.old.items }
+    ensures events { E.emits out.old (releases owner locks.old.items) out.new }
+    ensures agrees { (o : ℕ) (m : Mode) → holds shared.new o m session ≡ is_held locks.new.items o m }
+    ensures others { OthersStay session shared.old shared.new }
+{
+    for lock in locks.iter_mut() {
+        give_up(lock, session, owner, shared, out);
+    }
+}
+
+/// One owner's counts go to another, lock by lock.
+pub fn pass_each<E: Emit>(locks: &mut Vec<LocalLock>, from: u64, to: u64, out: &mut E)
+    ensures locks { locks.new.items ≡ map (passed_lock from to) locks.old.items }
+    ensures events { E.emits out.old (passes from to locks.old.items) out.new }
+{
+    for lock in locks.iter_mut() {
+        pass_on(lock, from, to, out);
+    }
+}
+
+/// The session gives up what it holds, lock by lock.
+pub fn release_each<E: Emit>(
+    locks: &[LocalLock],
+    session: u8,
+    top: u64,
+    shared: &mut SharedLocks,
+    out: &mut E,
+)
+    requires in_order { IsInOrder locks.now }
+    requires agrees { (o : ℕ) (m : Mode) → holds shared.old o m session ≡ is_held locks.now o m }
+    ensures events { E.emits out.old (releases_of_all top locks.now) out.new }
+    ensures agrees { (o : ℕ) (m : Mode) → holds shared.new o m session ≡ false }
+    ensures others { OthersStay session shared.old shared.new }
+{
+    for lock in locks {
+        release_lock(lock, session, top, shared, out);
+    }
+}
+
+/// The owner gives up a lock. Where no other owner holds it, the session doesn't any more.
+fn give_up<E: Emit>(
+    lock: &mut LocalLock,
+    session: u8,
+    owner: u64,
+    shared: &mut SharedLocks,
+    out: &mut E,
+)
+    ensures lock { lock.new ≡ without owner lock.old }
+    ensures events { E.emits out.old (release_of owner lock.old) out.new }
+    ensures shared { MatchBool (has_owner lock.new) (shared.new ≡ shared.old) (Sets shared.old shared.new lock.old.object lock.old.mode session false) }
+{
+    let count = lock.give_up(owner);
+    if count > 0 {
+        out.emit(What::ReleaseLock {
+            object: lock.object(),
+            mode: lock.mode(),
+            count,
+            owner,
+        });
+    }
+    if !lock.has_owner() {
+        shared.drop_grant(lock.object(), lock.mode(), session);
+    }
+}
+
+/// One owner's counts of a lock go to another.
+fn pass_on<E: Emit>(lock: &mut LocalLock, from: u64, to: u64, out: &mut E)
+    ensures lock { lock.new ≡ passed_lock from to lock.old }
+    ensures events { E.emits out.old (pass_of from to lock.old) out.new }
+{
+    let count = lock.pass(from, to);
+    if count > 0 {
+        out.emit(What::PassLock {
+            object: lock.object(),
+            mode: lock.mode(),
+            count,
+            from,
+            to,
+        });
+    }
+}
+
+/// The session gives up a lock, with the sum of its counts, in the name of one owner.
+fn release_lock<E: Emit>(
+    lock: &LocalLock,
+    session: u8,
+    top: u64,
+    shared: &mut SharedLocks,
+    out: &mut E,
+)
+    ensures events { E.emits out.old (release_whole top lock.now ∷ []) out.new }
+    ensures shared { Sets shared.old shared.new lock.now.object lock.now.mode session false }
+{
+    out.emit(What::ReleaseLock {
+        object: lock.object(),
+        mode: lock.mode(),
+        count: lock.total(),
+        owner: top,
+    });
+    shared.drop_grant(lock.object(), lock.mode(), session);
+}

@@ -1,0 +1,3 @@
+pub mod ModeTable
+pub mod Holdings
+pub mod Blocking
