@@ -1,3 +1,4 @@
 pub mod InOrder
 pub mod LeastSoFar
 pub mod ShelfSteps
+pub mod PendingSteps

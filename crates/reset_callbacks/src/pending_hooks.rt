@@ -28,7 +28,7 @@ impl Pending {
     pub fn push(&mut self, hook: Box<dyn ResetHook>) -> Result<(), Box<dyn ResetHook>>
         ensures ok { OnOk result (pending_hooks hook_meaning self.new ≡ hook_meaning hook ∷ pending_hooks hook_meaning self.old) }
         ensures err { OnErr result (pending_hooks hook_meaning self.new ≡ pending_hooks hook_meaning self.old) }
-        ensures handed_back { IfErr result (λ back. hook_meaning back ≡ hook_meaning hook) }
+        ensures handed_back { IfErr result (λ back. back ≡ hook) }
     {
         match self.hooks.push(Some(hook)) {
             Ok(()) => Ok(()),
