@@ -8,3 +8,6 @@ mod reset_hook;
 pub use hook_shelf::Shelf;
 pub use pending_hooks::Pending;
 pub use reset_hook::ResetHook;
+
+#[cfg(test)]
+mod tests;
