@@ -1,0 +1,7 @@
+use Rattle.std.proofs.Common.{◌≡◌, ℕ, ◌≤◌, length, take, drop, arith, rules, length-append, length-drop}
+use Rattle.std.proofs.lemmas.Grind.{common_steps}
+use Rattle.pgs_step.proofs.NameLemmas.{kept_name}
+use Rattle.pgs_step.proofs.names.Name.new.Goals as goal
+
+pub invariant_of-result : goal.invariant_of-result
+invariant_of-result c = kept_name c.args.word.now _ (search rules) (search rules)

@@ -1,0 +1,4 @@
+pub mod Mode
+pub mod Name
+pub mod EventList
+pub mod Text

@@ -1,0 +1,24 @@
+//! The plain types of the core: names, numbers, errors and events, what it is to emit events, and the
+//! line of text of each event.
+#![tactic(auto)]
+
+mod emitter;
+mod errors;
+mod event_list;
+mod events;
+mod ids;
+mod lock_modes;
+mod names;
+mod texts;
+
+pub use emitter::Emit;
+pub use errors::Error;
+pub use event_list::EventList;
+pub use events::{Event, What};
+pub use ids::{CtxId, Item, KindId, OwnerId, Phase};
+pub use lock_modes::Mode;
+pub use names::Name;
+pub use texts::{text, text_with};
+
+#[cfg(test)]
+mod tests;

@@ -1,0 +1,109 @@
+//! Names that a script gives to contexts, chunks, savepoints and portals.
+ghost use Rattle.std.specs.Prelude.{◌≡◌, ◌↔◌, IsSome, IfSome, IsTrue};
+ghost use Rattle.std.specs.List.{list_all};
+ghost use Rattle.pgs_step.specs.Name.{IsName, is_name_byte};
+
+use std::marker::Model;
+
+/// The most bytes that a name has.
+pub const NAME_BYTES: usize = 32;
+
+/// A name: 1 to 32 of the letters a to z and A to Z, the digits and the underscore.
+///
+/// Contracts see it as the list of its bytes.
+#[derive(Clone, Copy, Debug)]
+pub struct Name {
+    bytes: [u8; 32],
+    len: u8,
+}
+
+impl Model for Name {
+    ghost use Rattle.std.specs.Prelude.{ℕ, List, ◌-◌, ◌++◌, length, take, drop, replicate};
+    ghost use Rattle.std.proofs.Common.{ap, ◌∙◌};
+    ghost use Rattle.pgs_step.specs.Name.{IsKeptName, kept_bytes, kept_length};
+
+    ghost Value = { List ℕ };
+
+    ghost view = { λ n. take n.len n.bytes };
+
+    ghost invariant = { λ n. IsKeptName n.bytes n.len };
+
+    ghost inverse = { λ xs. record { bytes = xs ++ replicate (32 - length xs) 0; len = length xs } };
+
+    ghost inverse_ok = { λ a h. ap (λ (n : ℕ). record { bytes = take a.len a.bytes ++ replicate (32 - length (take a.len a.bytes)) 0; len = n }) (kept_length a.bytes a.len h) ∙ ap (λ (xs : List ℕ). record { bytes = xs; len = a.len }) (kept_bytes a.bytes a.len h) };
+}
+
+impl Name {
+    /// The name that a word is, and `None` exactly where the word isn't a name.
+    pub fn new(word: &[u8]) -> Option<Name>
+        ensures some { IsSome result ↔ IsName word.now }
+        ensures value { IfSome result (λ name. name ≡ word.now) }
+    {
+        if !is_name(word) {
+            return None;
+        }
+        let mut bytes = [0; 32];
+        bytes[..word.len()].copy_from_slice(word);
+        Some(Name {
+            bytes,
+            len: word.len() as u8,
+        })
+    }
+
+    /// The bytes of the name.
+    pub fn as_slice(&self) -> &[u8]
+        ensures value { result.now ≡ self.now }
+        ensures name { IsName self.now }
+    {
+        &self.bytes[..self.len as usize]
+    }
+
+    /// Whether the two names are one.
+    pub fn is(&self, other: &Name) -> bool
+        ensures { IsTrue result ↔ (self.now ≡ other.now) }
+    {
+        self.as_slice() == other.as_slice()
+    }
+}
+
+impl PartialEq for Name {
+    ghost use Rattle.std.specs.Prelude.{◌==◌};
+    ghost use Rattle.std.proofs.Common.{rules};
+    ghost use Rattle.std.specs.Cmp.Rules.{comparing};
+    ghost use lib.Pointwise.{pointwise};
+
+    ghost eq = { pointwise ◌==◌ };
+
+    ghost laws = { Prim.search (comparing, rules) };
+
+    fn eq(&self, other: &Name) -> bool {
+        self.as_slice() == other.as_slice()
+    }
+}
+
+impl Eq for Name {
+    ghost use Rattle.std.proofs.Common.{rules};
+    ghost use Rattle.std.specs.Cmp.Rules.{comparing};
+
+    ghost laws = { Prim.search (comparing, rules) };
+}
+
+fn is_name(word: &[u8]) -> bool
+    ensures { IsTrue result ↔ IsName word.now }
+{
+    !word.is_empty() && word.len() <= NAME_BYTES && all_letters(word)
+}
+
+fn all_letters(word: &[u8]) -> bool
+    ensures { result ≡ list_all is_name_byte word.now }
+{
+    word.iter().all(|b| is_letter(*b))
+}
+
+/// A letter, a digit or an underscore.
+fn is_letter(b: u8) -> bool
+    ensures { result ≡ is_name_byte b }
+{
+    (b'a' <= b && b <= b'z')
+        || ((b'A' <= b && b <= b'Z') || ((b'0' <= b && b <= b'9') || b == b'_'))
+}
