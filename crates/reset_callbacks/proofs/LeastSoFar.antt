@@ -1,5 +1,5 @@
 -- The search for the first of the least numbers of a list, part of the way.
-use Rattle.std.proofs.Common.{◌≡◌, ◌≢◌, ℕ, ◌+◌, ◌<◌, ◌≤◌, List, length, map, get_or, refl, sym, ◌∙◌, ap, subst, below_more, arith}
+use Rattle.std.proofs.Common.{◌≡◌, ℕ, ◌+◌, ◌<◌, ◌≤◌, List, length, map, get_or, sym, ◌∙◌, ap, below_more, arith}
 use Rattle.std.proofs.lemmas.List.{get_or-map, length-map}
 use Rattle.reset_callbacks.specs.Least.{IsFirstLeast}
 

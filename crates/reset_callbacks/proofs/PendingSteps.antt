@@ -1,5 +1,5 @@
 -- What the calls of a list of pending hooks do to its places.
-use Rattle.std.proofs.Common.{◌≡◌, ℕ, ◌<◌, List, [], ◌∷◌, ◌++◌, length, map, reverse, All, refl, sym, ◌∙◌, ap, subst, arith, Option, Some, None, IsSome, IsNone, IfSome, true, false, rules}
+use Rattle.std.proofs.Common.{◌≡◌, ◌<◌, List, [], ◌∷◌, ◌++◌, length, map, reverse, All, refl, ap, arith, Option, Some, None, IsSome, IsNone, IfSome, true, false, rules}
 use Rattle.std.specs.List.{filter_map}
 use Rattle.std.specs.Option.{option_flatten, option_to_list}
 use Rattle.std.proofs.lemmas.List.{map-append, reverse-append}
@@ -33,9 +33,10 @@ pub none_pop :
     {B : Type 0} (xs ys : List (Option B)) (r : Option (Option B)) (meaning : B → Hook) → All IsSome xs →
     xs ≡ ys ++ option_to_list r → (0 < length xs → IsSome r) →
     (IsNone (option_flatten r) → newest_first meaning xs ≡ []) × (newest_first meaning xs ≡ [] → IsNone (option_flatten r))
-none_pop xs ys None meaning filled is some =
-    (λ none. ap (newest_first meaning) (empty_unless xs (λ more. absurd (let no : false ≡ true = some more in cc))),
-      λ none. refl)
+none_pop xs ys None meaning filled is some = (
+  λ none. ap (newest_first meaning) (empty_unless xs (λ more. absurd (let no : false ≡ true = some more in cc))),
+  λ none. refl,
+)
 none_pop xs ys (Some None) meaning filled is some =
     absurd (let no : false ≡ true = (All-pop IsSome xs ys (Some None) is filled).1 in cc)
 none_pop xs ys (Some (Some x)) meaning filled is some = not_none _ _ _ (newest_push ys xs x meaning is)

@@ -5,7 +5,7 @@ use Rattle.std.proofs.lemmas.List.{get_or-map, length-map, map-append, append-ni
 use Rattle.reset_callbacks.specs.Hook.{Hook, Lacks, IsBelow, AreRising, AreDistinct, in_order}
 use Rattle.reset_callbacks.specs.Least.{IsFirstLeast}
 use Rattle.reset_callbacks.specs.ShelfState.{ShelfState, held, taken, finished, returned, renewed}
-use Rattle.reset_callbacks.proofs.InOrder.{in_order-remove, in_order-push, in_order-of_rising, in_order-append_in_order, length-in_order, All-from_in_order, NeverFalls, NeverFalls-in_order, AreDistinct-push, AreDistinct-in_order, AreDistinct-of_rising}
+use Rattle.reset_callbacks.proofs.InOrder.{in_order-remove, in_order-push, in_order-append_in_order, length-in_order, All-from_in_order, NeverFalls, NeverFalls-in_order, AreDistinct-push, AreDistinct-in_order, AreDistinct-of_rising}
 
 pub length-fresh : {B : Type 0} (xs : List B) (meaning : B → Hook) → length (in_order (map meaning xs)) ≡ length xs
 length-fresh xs meaning = length-in_order (map meaning xs) ∙ length-map xs meaning
@@ -30,16 +30,16 @@ pub take_first :
 take_first xs i x ys meaning found is rest =
     let within : i < length xs = subst (λ n. i < n) (length-map xs (λ b. (meaning b).word)) found.within in
     let number : get_or (map (λ b. (meaning b).word) xs) i 0 ≡ (meaning x).word =
-      word_at meaning xs i x within ∙ sym (ap (λ b. (meaning b).word) is)
+    word_at meaning xs i x within ∙ sym (ap (λ b. (meaning b).word) is)
     in
     rw rest
-      (in_order-remove meaning xs i x within is
-        (λ k below.
-          let inside : k < length xs = omega arith in
-          omega (arith, number, word_at meaning xs k x inside, found.first k below))
-        (λ k inside.
-          let reach : k < length (map (λ b. (meaning b).word) xs) = rw (length-map xs (λ b. (meaning b).word)) inside in
-          omega (arith, number, word_at meaning xs k x inside, found.least k reach)))
+    (in_order-remove meaning xs i x within is
+    (λ k below.
+    let inside : k < length xs = omega arith in
+    omega (arith, number, word_at meaning xs k x inside, found.first k below))
+    (λ k inside.
+    let reach : k < length (map (λ b. (meaning b).word) xs) = rw (length-map xs (λ b. (meaning b).word)) inside in
+    omega (arith, number, word_at meaning xs k x inside, found.least k reach)))
 
 -- no word of the others is below its word
 pub take_least :
@@ -56,8 +56,8 @@ pub put_first :
     IsBelow (meaning x).word (in_order (map meaning xs)) → in_order (map meaning ys) ≡ meaning x ∷ in_order (map meaning xs)
 put_first xs ys x meaning is below =
     rw (is, map-append)
-      (in_order-push (map meaning xs) (meaning x)
-        (All-from_in_order (λ other. (meaning x).word < other.word) (map meaning xs) below))
+    (in_order-push (map meaning xs) (meaning x)
+    (All-from_in_order (λ other. (meaning x).word < other.word) (map meaning xs) below))
 
 pub push_spent :
     {B : Type 0} (xs ys : List B) (x : B) (meaning : B → Hook) → ys ≡ xs ++ x ∷ [] →

@@ -12,8 +12,8 @@ pub loop-at-preserved : goal.loop-at-preserved
 loop-at-preserved g c =
     let read = number_of_read _ _ c.loop-at.at _ _ c.loop-at-test.true c.index-hooks-at.is c.word_of-other.ensures in
     elim c.if-other-word.branch [
-      then-other-word w ↦ rw (w.least-is, w.word-is) (so_far_smaller _ _ _ _ _ c.loop-at.invariant read w.if-other-word.true)
-    | else-other-word w ↦ rw (w.least-is, w.word-is) (so_far_other _ _ _ _ _ c.loop-at.invariant read w.if-other-word.false)
+      | then-other-word w ↦ rw (w.least-is, w.word-is) (so_far_smaller _ _ _ _ _ c.loop-at.invariant read w.if-other-word.true)
+      | else-other-word w ↦ rw (w.least-is, w.word-is) (so_far_other _ _ _ _ _ c.loop-at.invariant read w.if-other-word.false)
     ]
 
 pub returns-clause-first : goal.returns-clause-first

@@ -6,8 +6,8 @@ use Rattle.reset_callbacks.proofs.hook_shelf.Shelf.finish.Goals as goal
 pub returns-clause-after : goal.returns-clause-after
 returns-clause-after g c =
     same_state _ _ _ _ _ _ refl
-      (push_spent c.args.self.now.spent.items _ c.args.hook (λ hook. (goal.ResetHook-dyn g (hook.vtable, hook.value)).hook_meaning hook.value) c.push_reserved.ensures.items)
-      refl
+    (push_spent c.args.self.now.spent.items _ c.args.hook (λ hook. (goal.ResetHook-dyn g (hook.vtable, hook.value)).hook_meaning hook.value) c.push_reserved.ensures.items)
+    refl
 
 pub returns-clause-words_differ : goal.returns-clause-words_differ
 returns-clause-words_differ g c =
