@@ -1,13 +1,14 @@
 //! One owner, as its table keeps it.
-ghost use Rattle.std.specs.Prelude.{◌≡◌, ℕ, ◌+◌, ◌<◌, ◌≤◌, Bool, true, false, List, [], ◌∷◌, OnOk, OnErr};
+ghost use Rattle.std.specs.Prelude.{◌≡◌, ◌≢◌, ℕ, ◌+◌, ◌<◌, ◌≤◌, Bool, true, false, List, [], ◌∷◌, IsTrue, IsOk, OnOk, OnErr};
 ghost use Rattle.pgs_step.specs.declared.events.What.{What};
 ghost use Rattle.owner_core.specs.Owners.{Roomy, items_in, items_not_in, uses};
 ghost use Rattle.owner_core.specs.Steps.{releases_of};
 
+use crate::errors::OwnerError;
 use crate::release_items::release_items;
 use crate::table::Release;
 use pgs_step::{Emit, Item, Phase};
-use std::alloc::{AllocError, Global};
+use std::alloc::Global;
 use std::marker::Model;
 
 /// An owner: its number, whether its release has begun, and its items, the oldest first.
@@ -49,12 +50,6 @@ impl Node {
         self.number
     }
 
-    pub fn has_begun(&self) -> bool
-        ensures { result ≡ self.now.owner.begun }
-    {
-        self.begun
-    }
-
     /// For how many more items there is room.
     pub fn spare(&self) -> usize
         ensures { result ≡ self.now.spare }
@@ -62,13 +57,20 @@ impl Node {
         self.items.capacity() - self.items.len()
     }
 
-    /// Makes room for one more item.
-    pub fn enlarge(&mut self) -> Result<(), AllocError>
+    /// Makes room for one more item, unless the release has begun.
+    pub fn enlarge(&mut self) -> Result<(), OwnerError>
         ensures owner { self.new.owner ≡ self.old.owner }
         ensures spare { OnOk result (1 ≤ self.new.spare) }
-        ensures err { OnErr result (self.new.spare ≡ self.old.spare) }
+        ensures not_begun { IsOk result → self.old.owner.begun ≡ false }
+        ensures begun { result ≡ Err OwnerError.Releasing → IsTrue self.old.owner.begun }
+        ensures refused { OnErr result (self.new ≡ self.old) }
+        ensures not_too_many { result ≢ Err OwnerError.TooMany }
     {
-        self.items.reserve(1)
+        if self.begun {
+            return Err(OwnerError::Releasing);
+        }
+        self.items.reserve(1)?;
+        Ok(())
     }
 
     pub fn remember(&mut self, item: Item)

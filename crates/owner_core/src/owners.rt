@@ -1,6 +1,6 @@
 //! The resource owners of a session.
-ghost use Rattle.std.specs.Prelude.{◌≡◌, ◌↔◌, ◌≢◌, ℕ, ◌+◌, ◌<◌, ◌≤◌, ◌^◌, Bool, true, false, List, [], ◌∷◌, length, IsTrue, IsOk, IfOk, OnOk, OnErr, ◌==◌, slice_index_or};
-ghost use Rattle.std.specs.List.{list_any};
+ghost use Rattle.std.specs.Prelude.{◌≡◌, ◌↔◌, ◌≢◌, ℕ, ◌+◌, ◌<◌, ◌≤◌, ◌^◌, Bool, true, false, List, [], ◌∷◌, length, IsTrue, IsOk, IfOk, IfSome, OnOk, OnErr, map, slice_index_or};
+ghost use Rattle.std.specs.Option.{IfNone};
 ghost use Rattle.pgs_step.specs.declared.events.What.{What};
 ghost use Rattle.owner_core.specs.Owners.{Roomy, OwnerTable, owners_of, has_owner, items_of, has_begun, spare_of, without, remembered, released, items_in, uses};
 ghost use Rattle.owner_core.specs.Steps.{releases_of};
@@ -95,11 +95,7 @@ impl Owners {
     {
         let place = place_of(&self.nodes, owner.number);
         let node = &mut self.nodes[place];
-        if node.has_begun() {
-            return Err(OwnerError::Releasing);
-        }
-        node.enlarge()?;
-        Ok(())
+        node.enlarge()
     }
 
     /// For how many more items of the owner there is room.
@@ -194,9 +190,17 @@ impl Owners {
 
 /// Where the owner of that number lies.
 fn place_of(nodes: &[Node], number: u64) -> usize
-    requires live { IsTrue (list_any (λ room. room.owner.number == number) nodes.now) }
+    requires live { IsTrue (has_owner number (map (λ room. room.owner) nodes.now)) }
     ensures within { result < length nodes.now }
     ensures found { (d : Roomy) → (slice_index_or nodes.now result d).owner.number ≡ number }
 {
-    nodes.iter().position(|node| node.number() == number).unwrap()
+    found_place(nodes, number).unwrap()
+}
+
+fn found_place(nodes: &[Node], number: u64) -> Option<usize>
+    ensures within { IfSome result (λ place. place < length nodes.now) }
+    ensures found { IfSome result (λ place. (d : Roomy) → (slice_index_or nodes.now place d).owner.number ≡ number) }
+    ensures absent { IfNone result ((place : ℕ) (d : Roomy) → place < length nodes.now → (slice_index_or nodes.now place d).owner.number ≢ number) }
+{
+    nodes.iter().position(|node| node.number() == number)
 }

@@ -5,12 +5,12 @@ use Rattle.owner_core.specs.Owners.{uses}
 use Rattle.owner_core.specs.Steps.{Step, releases_of}
 use Rattle.owner_core.proofs.release_items.release_items.Given as goal
 
-abbrev pub invariant-loop-items : goal.invariant-loop-items
-invariant-loop-items g l = record {
+abbrev pub invariant-loop-item : goal.invariant-loop-item
+invariant-loop-item g l = record {
   fit : g.R.Release.IsFit l.table;
   counted : (kind key : ℕ) → g.R.Release.counted l.table kind key + uses kind key (reverse l.initial.items.items) ≡ g.R.Release.counted l.initial.table kind key + uses kind key (reverse l.items.items);
   done : (steps : List Step) × (events : List What) × g.R.Release.does l.initial.table steps events l.table × g.E.Emit.emits l.initial.out events l.out × (steps ++ releases_of l.commit l.owner (reverse l.items.items) ≡ releases_of l.commit l.owner (reverse l.initial.items.items))
 }
 
-abbrev pub decreases-loop-items : goal.decreases-loop-items
-decreases-loop-items g l = length l.items.items
+abbrev pub decreases-loop-item : goal.decreases-loop-item
+decreases-loop-item g l = length l.items.items

@@ -1,0 +1,4 @@
+pub mod KnownLemmas
+pub mod LineLemmas
+pub mod NumberLemmas
+pub mod ReadingLemmas

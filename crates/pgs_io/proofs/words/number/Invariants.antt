@@ -1,0 +1,11 @@
+use Rattle.std.proofs.Common.{◌≡◌, take}
+use Rattle.std.specs.Str.Parse.{AllDigits, digits_value}
+use Rattle.pgs_io.proofs.words.number.Given as goal
+
+-- the bytes so far are digits, and `value` is what they write
+abbrev pub invariant-loop-digit : goal.invariant-loop-digit
+invariant-loop-digit l =
+    record {
+      digits : AllDigits 10 (take l.digit-index l.word);
+      value : l.value ≡ digits_value 10 (take l.digit-index l.word);
+    }

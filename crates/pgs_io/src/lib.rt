@@ -1,0 +1,22 @@
+//! Where a program's bytes come from and go to, and the lines and words among them.
+#![tactic(auto)]
+
+mod finding;
+mod lines;
+mod reading;
+mod sinks;
+mod sources;
+mod words;
+
+pub use lines::LineBuf;
+pub use reading::{Buffered, LineReader, Next};
+pub use sinks::{MemSink, Sink, StdSink, put_all};
+pub use sources::{MemSource, Source, StdSource};
+pub use words::{next_token, number};
+
+/// A read or a write failed. The object that failed has counted it among its faults.
+#[derive(Clone, Copy, PartialEq, Eq, Debug)]
+pub struct Failed;
+
+#[cfg(test)]
+mod tests;

@@ -1,0 +1,10 @@
+pub mod Script
+pub mod Session
+pub mod Answers
+pub mod Pins
+pub mod Parts
+pub mod Transcript
+pub mod Printing
+pub mod PrintingLaws
+pub mod PrinterView
+pub mod PrinterLaws

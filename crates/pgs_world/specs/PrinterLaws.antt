@@ -1,0 +1,28 @@
+-- The laws of a printer's events.
+use Rattle.std.specs.Prelude.{◌≡◌, ℕ, List, [], ◌++◌, Option, refl}
+use Rattle.std.proofs.Common.{◌∙◌, arith, subst}
+use Rattle.pgs_step.specs.declared.events.What.{What}
+use Rattle.pgs_world.specs.declared.printer.Printer.{Printer}
+use Rattle.pgs_world.specs.PrinterView.{TakesEvents, TakesBytes, seen}
+use Rattle.pgs_world.specs.Printing.{Moves}
+use Rattle.pgs_world.specs.PrintingLaws.{Prints-none, Prints-more, Moves-more}
+
+module _ {K : Type 0} (written : K → Option (List ℕ)) (faults : K → ℕ) where
+  pub TakesEvents-none : (a : Printer K) → TakesEvents written faults a [] a
+  TakesEvents-none a = record { same_sink = refl; prints = Prints-none (seen written faults a) }
+
+  pub TakesEvents-more : (a b c : Printer K) (xs ys both : List What) → TakesEvents written faults a xs b → TakesEvents written faults b ys c → xs ++ ys ≡ both → TakesEvents written faults a both c
+  TakesEvents-more a b c xs ys both p q e = record {
+    same_sink = q.same_sink ∙ p.same_sink;
+    prints = Prints-more (seen written faults a) (seen written faults b) (seen written faults c) xs ys both p.prints q.prints e;
+  }
+
+  pub TakesBytes-more : (a b c : Printer K) (xs ys both : List ℕ) → TakesBytes written faults a xs b → TakesBytes written faults b ys c → xs ++ ys ≡ both → TakesBytes written faults a both c
+  TakesBytes-more a b c xs ys both p q e = record {
+    same_sink = q.same_sink ∙ p.same_sink;
+    moves = subst (λ (z : List ℕ). Moves a.failed c.failed (seen written faults a) (seen written faults c) z) e
+      (Moves-more a.failed b.failed c.failed (seen written faults a) (seen written faults b) (seen written faults c) xs ys q.never_falls p.moves q.moves);
+    never_falls = omega (arith, p.never_falls, q.never_falls);
+    errors = q.errors ∙ p.errors;
+    session = q.session ∙ p.session;
+  }

@@ -1,0 +1,29 @@
+-- What contracts see of a printer.
+use Rattle.std.specs.Prelude.{◌≡◌, ℕ, ◌≤◌, List, Option}
+use Rattle.pgs_step.specs.declared.events.What.{What}
+use Rattle.pgs_world.specs.declared.printer.Printer.{Printer}
+use Rattle.pgs_world.specs.Printing.{Gathering, Prints, Moves}
+
+module _ {K : Type 0} (written : K → Option (List ℕ)) (faults : K → ℕ) where
+  abbrev pub seen : Printer K → Gathering
+  seen p = record {
+    written = written p.sink.now;
+    faults = faults p.sink.now;
+    gathered = p.gathered.items;
+    failed = p.failed;
+    errors = p.errors;
+    session = p.session
+  }
+
+  -- the printer writes to the same sink as before, and took these events
+  pub record TakesEvents (old : Printer K) (events : List What) (new : Printer K) : Type 0 where
+    pub same_sink : new.sink.ghost_name ≡ old.sink.ghost_name
+    pub prints : Prints (seen old) events (seen new)
+
+  -- the printer took these bytes for the sink, and no event
+  pub record TakesBytes (old : Printer K) (bytes : List ℕ) (new : Printer K) : Type 0 where
+    pub same_sink : new.sink.ghost_name ≡ old.sink.ghost_name
+    pub moves : Moves old.failed new.failed (seen old) (seen new) bytes
+    pub never_falls : faults old.sink.now ≤ faults new.sink.now
+    pub errors : new.errors ≡ old.errors
+    pub session : new.session ≡ old.session

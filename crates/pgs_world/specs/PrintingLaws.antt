@@ -1,0 +1,77 @@
+-- Printing nothing, and printing twice.
+use Rattle.std.proofs.Common.{◌≡◌, ℕ, ◌+◌, ◌≤◌, Bool, true, false, List, [], ◌∷◌, ◌++◌, Option, Some, None, refl, sym, ◌∙◌, ap, subst, arith, append_assoc, append-nil}
+use Rattle.std.specs.Io.KnownBytes.{append_known}
+use Rattle.pgs_io.specs.Faults.{HasRisen}
+use Rattle.pgs_step.specs.declared.events.What.{What}
+use Rattle.pgs_step.specs.Text.{texts_of, text_of}
+use Rattle.pgs_world.specs.Transcript.{errors_in, is_error}
+use Rattle.pgs_world.specs.Printing.{Gathering, HandsOn, FailsWithin, GoesOn, StaysSilent, Moves, Prints}
+use Rattle.std.proofs.lemmas.Grind.{common_steps}
+
+pub append_known-nil : (a : Option (List ℕ)) → a ≡ append_known a []
+append_known-nil None = refl
+append_known-nil (Some x) = ap Some (sym (append-nil x))
+
+pub append_known-append : (a : Option (List ℕ)) (xs ys : List ℕ) → append_known (append_known a xs) ys ≡ append_known a (xs ++ ys)
+append_known-append None xs ys = refl
+append_known-append (Some x) xs ys = ap Some (append_assoc x xs ys)
+
+pub errors_in-append : (xs ys : List What) → errors_in (xs ++ ys) ≡ errors_in xs + errors_in ys
+errors_in-append [] ys = omega arith
+errors_in-append (x ∷ xs) ys = grind (arith, common_steps, errors_in-append xs ys)
+
+pub texts_of-append : (session : ℕ) (xs ys : List What) → texts_of [] session (xs ++ ys) ≡ texts_of [] session xs ++ texts_of [] session ys
+texts_of-append session [] ys = refl
+texts_of-append session (x ∷ xs) ys =
+    ap (λ (z : List ℕ). text_of [] (record { session = session; what = x }) ++ z) (texts_of-append session xs ys)
+    ∙ sym (append_assoc (text_of [] (record { session = session; what = x })) (texts_of [] session xs) (texts_of [] session ys))
+
+pub texts_of-one : (session : ℕ) (what : What) → texts_of [] session (what ∷ []) ≡ text_of [] (record { session = session; what = what })
+texts_of-one session what = append-nil (text_of [] (record { session = session; what = what }))
+
+pub hands_more : (a b c : Gathering) (xs ys rest : List ℕ) → HandsOn a b xs b.gathered → HandsOn b c ys rest → HandsOn a c (xs ++ ys) rest
+hands_more a b c xs ys rest p q = record {
+  handed = p.handed ++ q.handed;
+  parts = append_assoc p.handed q.handed rest ∙ ap (λ (z : List ℕ). p.handed ++ z) q.parts ∙ sym (append_assoc p.handed b.gathered ys)
+    ∙ ap (λ (z : List ℕ). z ++ ys) p.parts ∙ append_assoc a.gathered xs ys;
+  taken = q.taken ∙ ap (λ (z : Option (List ℕ)). append_known z q.handed) p.taken ∙ append_known-append a.written p.handed q.handed;
+}
+
+pub hands_nothing : (a : Gathering) → HandsOn a a [] a.gathered
+hands_nothing a = record { handed = []; parts = sym (append-nil a.gathered); taken = append_known-nil a.written }
+
+-- with more text behind it, more is left
+pub more_left : (handed rest gathered xs ys : List ℕ) → handed ++ rest ≡ gathered ++ xs → handed ++ (rest ++ ys) ≡ gathered ++ (xs ++ ys)
+more_left handed rest gathered xs ys e = sym (append_assoc handed rest ys) ∙ ap (λ (z : List ℕ). z ++ ys) e ∙ append_assoc gathered xs ys
+
+pub Moves-none : (failed : Bool) (a : Gathering) → Moves failed failed a a []
+Moves-none false a = record { hands = hands_nothing a; no_fault = refl }
+Moves-none true a = record { silent = refl }
+
+pub Moves-more : (f g h : Bool) (a b c : Gathering) (xs ys : List ℕ) → b.faults ≤ c.faults → Moves f g a b xs → Moves g h b c ys → Moves f h a c (xs ++ ys)
+Moves-more false false false a b c xs ys n p q = record { hands = hands_more a b c xs ys c.gathered p.hands q.hands; no_fault = q.no_fault ∙ p.no_fault }
+Moves-more false false true a b c xs ys n p q = record { rest = q.rest; hands = hands_more a b c xs ys q.rest p.hands q.hands; risen = subst (λ (z : ℕ). HasRisen z c.faults) p.no_fault q.risen }
+Moves-more false true true a b c xs ys n p q = record {
+  rest = p.rest ++ ys;
+  hands = record { handed = p.hands.handed; parts = more_left p.hands.handed p.rest a.gathered xs ys p.hands.parts; taken = q.silent ∙ p.hands.taken };
+  risen = (omega (arith, n, p.risen.0), omega (arith, n, p.risen.1));
+}
+Moves-more true true true a b c xs ys n p q = record { silent = q.silent ∙ p.silent }
+Moves-more false true false a b c xs ys n p q = absurd q
+Moves-more true false h a b c xs ys n p q = absurd p
+Moves-more true true false a b c xs ys n p q = absurd q
+
+pub Prints-none : (a : Gathering) → Prints a [] a
+Prints-none a = record { bytes = Moves-none a.failed a; never_falls = omega arith; errors = omega arith; session = refl }
+
+pub Prints-more : (a b c : Gathering) (xs ys both : List What) → Prints a xs b → Prints b ys c → xs ++ ys ≡ both → Prints a both c
+Prints-more a b c xs ys both p q e =
+    subst (λ (z : List What). Prints a z c) e
+    (record {
+      bytes = subst (Moves a.failed c.failed a c) (sym (texts_of-append a.session xs ys))
+        (Moves-more a.failed b.failed c.failed a b c (texts_of [] a.session xs) (texts_of [] a.session ys) q.never_falls p.bytes
+          (subst (λ (s : ℕ). Moves b.failed c.failed b c (texts_of [] s ys)) p.session q.bytes));
+      never_falls = omega (arith, p.never_falls, q.never_falls);
+      errors = omega (arith, p.errors, q.errors, errors_in-append xs ys);
+      session = q.session ∙ p.session;
+    })

@@ -1,0 +1,64 @@
+//! How often the session pins each buffer.
+ghost use Rattle.std.specs.Prelude.{◌≡◌, ◌<◌, ◌+◌, [], ◌∷◌, ℕ, List, length, slice_index, slice_set, replicate, IfOk};
+ghost use Rattle.pgs_step.specs.declared.events.What.{What};
+ghost use Rattle.owner_core.specs.Owners.{uses};
+ghost use Rattle.owner_core.specs.Steps.{GivesBack};
+ghost use Rattle.pgs_world.specs.Pins.{pins_counted, PinsDo};
+
+use owner_core::Release;
+use pgs_step::{Emit, Item};
+use std::alloc::{AllocError, Global};
+use std::marker::Model;
+
+/// How many buffers there are.
+pub(crate) const BUFFERS: u32 = 1024;
+
+/// The session's count of pins of each buffer.
+#[derive(Drop)]
+pub(crate) struct Pins {
+    counts: Vec<u64>,
+}
+
+impl Model for Pins {
+    ghost use Rattle.std.specs.Prelude.{List, ℕ, ◌≡◌};
+    ghost use Rattle.std.specs.Vec.{vec_len};
+
+    ghost Value = { List ℕ };
+
+    ghost view = { λ p. p.counts.items };
+
+    ghost invariant = { λ p. vec_len p.counts ≡ 1024 };
+}
+
+impl Pins {
+    /// No buffer is pinned.
+    pub(crate) fn new(alloc: Global) -> Result<Pins, AllocError>
+        ensures { IfOk result (λ pins. pins ≡ replicate 1024 0) }
+    {
+        Ok(Pins {
+            counts: vec![in alloc; 0; BUFFERS as usize]?,
+        })
+    }
+
+    /// Pins the buffer once more.
+    pub(crate) fn pin(&mut self, buffer: u32)
+        requires buffer { buffer < 1024 }
+        requires room { slice_index self.old buffer + 1 < 2 ^ 64 }
+        ensures pinned { self.new ≡ slice_set self.old buffer (slice_index self.old buffer + 1) }
+        ensures buffers { length self.new ≡ 1024 }
+    {
+        self.counts[buffer as usize] += 1;
+    }
+}
+
+impl Release for Pins {
+    ghost IsFit = { λ pins. length pins ≡ 1024 };
+
+    ghost counted = { pins_counted };
+
+    ghost does = { PinsDo };
+
+    fn give_back<E: Emit>(&mut self, item: Item, out: &mut E) {
+        self.counts[item.key as usize] -= 1;
+    }
+}

@@ -1,0 +1,150 @@
+//! Prints the events of a session.
+ghost use Rattle.std.specs.Prelude.{◌≡◌, ◌+◌, ◌≤◌, ◌-◌, ◌^◌, min, false, [], if◌then◌else◌};
+ghost use Rattle.arrayvec.specs.ArrayVec.{array_vec_len};
+ghost use Rattle.pgs_world.specs.PrinterView.{TakesBytes};
+ghost use Rattle.pgs_world.specs.Transcript.{is_error};
+
+use arrayvec::ArrayVec;
+use pgs_io::{Sink, put_all};
+use pgs_step::{Emit, Event, What, text};
+
+/// How many bytes are gathered before they are handed to the sink.
+const GATHERED: usize = 8192;
+
+/// The most bytes of a line of the transcript.
+const LINE: usize = 512;
+
+/// Prints the events of a session into a sink.
+///
+/// Its output is gathered: the sink gets it when `GATHERED` bytes are full and when `flush` is called. Once
+/// a write has failed nothing is written any more. The count of ERROR events stays at 2^64 - 1 once it
+/// would pass it.
+#[derive(Drop)]
+pub(crate) struct Printer<'a, K> {
+    sink: &'a mut K,
+    gathered: ArrayVec<u8, GATHERED>,
+    line: ArrayVec<u8, LINE>,
+    failed: bool,
+    errors: u64,
+    session: u8,
+}
+
+impl<'a, K: Sink> Printer<'a, K> {
+    /// A printer for the events of a session, which has printed nothing.
+    pub(crate) fn new(sink: &'a mut K, session: u8) -> Printer<'a, K>
+        ensures same_sink { result.sink.ghost_name ≡ sink.entry.ghost_name }
+        ensures sink { result.sink.now ≡ sink.old }
+        ensures gathered { result.gathered.items ≡ [] }
+        ensures failed { result.failed ≡ false }
+        ensures errors { result.errors ≡ 0 }
+        ensures session { result.session ≡ session }
+    {
+        Printer {
+            sink,
+            gathered: ArrayVec::new(),
+            line: ArrayVec::new(),
+            failed: false,
+            errors: 0,
+            session,
+        }
+    }
+
+    /// Whether a write has failed.
+    pub(crate) fn has_failed(&self) -> bool
+        ensures { result ≡ self.now.failed }
+    {
+        self.failed
+    }
+
+    /// How many ERROR events were printed.
+    pub(crate) fn errors(&self) -> u64
+        ensures { result ≡ self.now.errors }
+    {
+        self.errors
+    }
+
+    /// Hands all that is gathered to the sink.
+    pub(crate) fn flush(&mut self)
+        ensures bytes { TakesBytes K.written K.faults self.old [] self.new }
+        ensures emptied { self.new.failed ≡ false → self.new.gathered.items ≡ [] }
+        ensures line { self.new.line ≡ self.old.line }
+    {
+        if self.failed {
+            return;
+        }
+        match put_all(&mut *self.sink, self.gathered.as_slice()) {
+            Ok(()) => self.gathered.clear(),
+            Err(_) => self.failed = true,
+        }
+    }
+
+    /// Gathers the line, which is handed on with what comes behind it.
+    fn gather(&mut self)
+        ensures { TakesBytes K.written K.faults self.old self.old.line.items self.new }
+    {
+        if self.gathered.remaining_capacity() < self.line.len() {
+            self.flush_and_append();
+        } else {
+            self.append();
+        }
+    }
+
+    /// Makes room for the line, and appends it.
+    fn flush_and_append(&mut self)
+        requires { array_vec_len self.old.line ≤ LINE }
+        ensures { TakesBytes K.written K.faults self.old self.old.line.items self.new }
+    {
+        self.flush();
+        self.append();
+    }
+
+    /// Appends the line where no write has failed.
+    fn append(&mut self)
+        requires { self.old.failed ≡ false → array_vec_len self.old.gathered + array_vec_len self.old.line ≤ GATHERED }
+        ensures { TakesBytes K.written K.faults self.old self.old.line.items self.new }
+    {
+        if !self.failed {
+            let _ = self.gathered.try_extend_from_slice(self.line.as_slice());
+        }
+    }
+
+    /// Counts the event where it is an ERROR event.
+    fn count(&mut self, what: What)
+        ensures { self.new ≡ record self.old { errors = min (self.old.errors + (if is_error what then 1 else 0)) (2 ^ 64 - 1) } }
+    {
+        if is_error(what) {
+            self.errors = self.errors.saturating_add(1);
+        } else {
+            self.errors = self.errors.saturating_add(0);
+        }
+    }
+}
+
+fn is_error(what: What) -> bool
+    ensures { result ≡ is_error what }
+{
+    matches!(what, What::Error(_))
+}
+
+impl<'a, K: Sink> Emit for Printer<'a, K> {
+    ghost use Rattle.pgs_world.specs.PrinterView.{TakesEvents};
+    ghost use Rattle.pgs_world.specs.PrinterLaws.{TakesEvents-none, TakesEvents-more};
+
+    ghost emits = { TakesEvents K.written K.faults };
+
+    fn emit(&mut self, what: What) {
+        self.count(what);
+        text(
+            &Event {
+                session: self.session,
+                what,
+            },
+            &mut self.line,
+        );
+        self.gather();
+    }
+
+    ghost emits_none = { TakesEvents-none K.written K.faults };
+
+    ghost emits_more = { TakesEvents-more K.written K.faults };
+}
