@@ -1,0 +1,4 @@
+pub mod Different
+pub mod Kind
+pub mod KindTable
+pub mod KindShelf

@@ -1,0 +1,153 @@
+ghost use Rattle.owner_kinds.specs.Different.{AreDifferent, AreDifferent-prop};
+ghost use Rattle.std.specs.Prelude.{◌≡◌, ◌≢◌, ◌+◌, ◌-◌, ◌<◌, ◌≤◌, ◌^◌, [], ◌∷◌, length, map, slice_index_or, slice_get, All, Contains, vec_len, IfOk, OnOk, OnErr, IfSome, IfNone, IsNone, ◌↔◌};
+
+use crate::ext_kind::{ExtKind, KindError};
+use crate::kind_row::KindRow;
+use pgs_step::{KindId, Name, Phase};
+use std::alloc::{AllocError, Global};
+
+/// The extension kinds of the program, at most 16. The first of them is kind 16.
+#[derive(Drop)]
+pub struct KindShelf {
+    kinds: Vec<Box<dyn ExtKind>>,
+    // What never changes of each kind.
+    names: Vec<Name>,
+    rows: Vec<KindRow>,
+    ghost different: { AreDifferent names.items } by { AreDifferent-prop names.items },
+    ghost few: { vec_len kinds ≤ 16 },
+    ghost named: { vec_len names ≡ vec_len kinds },
+    ghost placed: { vec_len rows ≡ vec_len kinds },
+}
+
+// The row of a kind as it stands.
+fn row_of_kind(kind: &Box<dyn ExtKind>) -> KindRow
+    ensures phase { result.phase ≡ (kind_meaning kind.now).phase }
+    ensures priority { result.priority ≡ (kind_meaning kind.now).priority }
+{
+    KindRow {
+        phase: kind.phase(),
+        priority: kind.priority(),
+    }
+}
+
+fn name_of(kind: &Box<dyn ExtKind>) -> Name
+    ensures { result ≡ (kind_meaning kind.now).name }
+{
+    kind.name()
+}
+
+impl KindShelf {
+    ghost use Rattle.owner_kinds.specs.Kind.{opened, closed, changed_at};
+    ghost use Rattle.owner_kinds.specs.KindTable.{IsExtension, phase_of, priority_of, row, row_of};
+    ghost use Rattle.owner_kinds.specs.KindShelf.{kinds_of, table_of};
+
+    /// A shelf of these kinds.
+    pub fn new(alloc: Global, kinds: Vec<Box<dyn ExtKind>>) -> Result<KindShelf, AllocError>
+        requires few { vec_len kinds ≤ 16 }
+        requires different { AreDifferent (map (λ kind. (kind_meaning kind).name) kinds.items) }
+        ensures kinds { IfOk result (λ shelf. kinds_of kind_meaning shelf ≡ map kind_meaning kinds.items) }
+        ensures names { IfOk result (λ shelf. (table_of shelf).names ≡ map (λ kind. (kind_meaning kind).name) kinds.items) }
+        ensures rows { IfOk result (λ shelf. (table_of shelf).rows ≡ map (λ kind. row (kind_meaning kind).phase (kind_meaning kind).priority) kinds.items) }
+    {
+        let mut names = Vec::with_capacity(alloc, kinds.len())?;
+        let mut rows = Vec::with_capacity(alloc, kinds.len())?;
+        for kind in &kinds {
+            names.push_reserved(name_of(kind));
+            rows.push_reserved(row_of_kind(kind));
+        }
+        Ok(KindShelf {
+            kinds,
+            names,
+            rows,
+        })
+    }
+
+    /// The names of the kinds, in their order.
+    pub fn names(&self) -> &[Name]
+        ensures value { result.now ≡ (table_of self.now).names }
+        ensures different { AreDifferent result.now }
+        ensures few { length result.now ≤ 16 }
+    {
+        &self.names
+    }
+
+    /// The kind of the shelf that has this name.
+    pub fn find(&self, name: &Name) -> Option<KindId>
+        ensures none { IsNone result ↔ ¬ Contains (table_of self.now).names name.now }
+        ensures extension { IfSome result (IsExtension (table_of self.now)) }
+        ensures named { IfSome result (λ kind. slice_get (table_of self.now).names (kind.0 - 16) ≡ Some name.now) }
+    {
+        let place = self.names.iter().position(|own| own.is(name))?;
+        Some(KindId(KindId::FIRST_EXTENSION + place as u8))
+    }
+
+    /// When items of this kind are released. Of a number that is no kind's it says nothing of use.
+    pub fn phase(&self, kind: KindId) -> Phase
+        ensures { IfSome (phase_of (table_of self.now) kind) (λ phase. result ≡ phase) }
+    {
+        match self.row(kind) {
+            Some(row) => row.phase,
+            None => Phase::AfterLocks,
+        }
+    }
+
+    /// The place of this kind in its phase. Of a number that is no kind's it says nothing of use.
+    pub fn priority(&self, kind: KindId) -> u32
+        ensures { IfSome (priority_of (table_of self.now) kind) (λ priority. result ≡ priority) }
+    {
+        match self.row(kind) {
+            Some(row) => row.priority,
+            None => 0,
+        }
+    }
+
+    fn row(&self, kind: KindId) -> Option<KindRow>
+        ensures { result ≡ row_of (table_of self.now) kind }
+    {
+        if kind.0 >= KindId::FIRST_EXTENSION {
+            return self.rows.get((kind.0 - KindId::FIRST_EXTENSION) as usize).copied();
+        }
+        if kind.0 == 0 {
+            return None;
+        }
+        BUILT_IN.get((kind.0 - 1) as usize).copied()
+    }
+
+    /// Opens a key of an extension kind.
+    pub fn open(&mut self, kind: KindId, key: u32) -> Result<(), KindError>
+        requires { IsExtension (table_of self.old) kind }
+        ensures ok { OnOk result (kinds_of kind_meaning self.new ≡ changed_at (kind.0 - 16) (opened key) (kinds_of kind_meaning self.old)) }
+        ensures err { OnErr result (kinds_of kind_meaning self.new ≡ kinds_of kind_meaning self.old) }
+        ensures table { table_of self.new ≡ table_of self.old }
+
+        // It answers Full exactly where the kind holds as many keys as it may; memory may want there too.
+        ensures full { result ≡ Err KindError.Full → IfSome (slice_get (kinds_of kind_meaning self.old) (kind.0 - 16)) (λ own. own.limit ≤ length own.held) }
+        ensures room { OnOk result (IfSome (slice_get (kinds_of kind_meaning self.old) (kind.0 - 16)) (λ own. length own.held < own.limit)) }
+    {
+        let own = &mut self.kinds[(kind.0 - KindId::FIRST_EXTENSION) as usize];
+        own.open(key)
+    }
+
+    /// Closes a key of an extension kind, which must hold it. It cannot fail.
+    pub fn close(&mut self, kind: KindId, key: u32)
+        requires extension { IsExtension (table_of self.old) kind }
+        requires held { IfSome (slice_get (kinds_of kind_meaning self.old) (kind.0 - 16)) (λ own. Contains own.held key) }
+        ensures after { kinds_of kind_meaning self.new ≡ changed_at (kind.0 - 16) (closed key) (kinds_of kind_meaning self.old) }
+        ensures table { table_of self.new ≡ table_of self.old }
+    {
+        let own = &mut self.kinds[(kind.0 - KindId::FIRST_EXTENSION) as usize];
+        own.close(key);
+    }
+}
+
+// The kinds that are built in, the first of them kind 1.
+const BUILT_IN: [KindRow; 8] = [
+    KindRow { phase: Phase::BeforeLocks, priority: 200 },
+    KindRow { phase: Phase::BeforeLocks, priority: 300 },
+    KindRow { phase: Phase::AfterLocks, priority: 100 },
+    KindRow { phase: Phase::AfterLocks, priority: 200 },
+    KindRow { phase: Phase::AfterLocks, priority: 300 },
+    KindRow { phase: Phase::AfterLocks, priority: 400 },
+    KindRow { phase: Phase::AfterLocks, priority: 500 },
+    KindRow { phase: Phase::AfterLocks, priority: 600 },
+];
