@@ -1,3 +1,4 @@
+ghost use Rattle.owner_kinds.specs.Kind.{opened, closed};
 ghost use Rattle.owner_kinds.specs.Different.{AreDifferent, AreDifferent-prop};
 ghost use Rattle.std.specs.Prelude.{◌≡◌, ◌≢◌, ◌+◌, ◌-◌, ◌<◌, ◌≤◌, ◌^◌, [], ◌∷◌, length, map, slice_index_or, slice_get, All, Contains, vec_len, IfOk, OnOk, OnErr, IfSome, IfNone, IsNone, ◌↔◌};
 
@@ -36,8 +37,24 @@ fn name_of(kind: &Box<dyn ExtKind>) -> Name
     kind.name()
 }
 
+fn open_key(kind: &mut Box<dyn ExtKind>, key: u32) -> Result<(), KindError>
+    ensures ok { OnOk result (kind_meaning kind.new ≡ opened key (kind_meaning kind.old)) }
+    ensures err { OnErr result (kind_meaning kind.new ≡ kind_meaning kind.old) }
+    ensures full { result ≡ Err KindError.Full → (kind_meaning kind.old).limit ≤ length (kind_meaning kind.old).held }
+    ensures room { OnOk result (length (kind_meaning kind.old).held < (kind_meaning kind.old).limit) }
+{
+    kind.open(key)
+}
+
+fn close_key(kind: &mut Box<dyn ExtKind>, key: u32)
+    requires { Contains (kind_meaning kind.old).held key }
+    ensures { kind_meaning kind.new ≡ closed key (kind_meaning kind.old) }
+{
+    kind.close(key);
+}
+
 impl KindShelf {
-    ghost use Rattle.owner_kinds.specs.Kind.{opened, closed, changed_at};
+    ghost use Rattle.owner_kinds.specs.Kind.{changed_at};
     ghost use Rattle.owner_kinds.specs.KindTable.{IsExtension, phase_of, priority_of, row, row_of};
     ghost use Rattle.owner_kinds.specs.KindShelf.{kinds_of, table_of};
 
@@ -101,6 +118,7 @@ impl KindShelf {
         }
     }
 
+    #[tactic(auto, unfolding(crate::specs::KindTable::row_of))]
     fn row(&self, kind: KindId) -> Option<KindRow>
         ensures { result ≡ row_of (table_of self.now) kind }
     {
@@ -124,8 +142,7 @@ impl KindShelf {
         ensures full { result ≡ Err KindError.Full → IfSome (slice_get (kinds_of kind_meaning self.old) (kind.0 - 16)) (λ own. own.limit ≤ length own.held) }
         ensures room { OnOk result (IfSome (slice_get (kinds_of kind_meaning self.old) (kind.0 - 16)) (λ own. length own.held < own.limit)) }
     {
-        let own = &mut self.kinds[(kind.0 - KindId::FIRST_EXTENSION) as usize];
-        own.open(key)
+        open_key(&mut self.kinds[(kind.0 - KindId::FIRST_EXTENSION) as usize], key)
     }
 
     /// Closes a key of an extension kind, which must hold it. It cannot fail.
@@ -135,8 +152,7 @@ impl KindShelf {
         ensures after { kinds_of kind_meaning self.new ≡ changed_at (kind.0 - 16) (closed key) (kinds_of kind_meaning self.old) }
         ensures table { table_of self.new ≡ table_of self.old }
     {
-        let own = &mut self.kinds[(kind.0 - KindId::FIRST_EXTENSION) as usize];
-        own.close(key);
+        close_key(&mut self.kinds[(kind.0 - KindId::FIRST_EXTENSION) as usize], key);
     }
 }
 
