@@ -1,15 +1,24 @@
 -- When the items of each kind are released.
-use Rattle.std.specs.Prelude.{◌≡◌, ℕ, ◌-◌, ◌<◌, ◌≤◌, nat_lt, ◌==◌, ◌⊎◌, if◌then◌else◌, List, [], ◌∷◌, length, slice_get, Option, Some, None}
+use Rattle.std.specs.Prelude.{◌≡◌, ℕ, ◌-◌, ◌<◌, ◌≤◌, nat_lt, ◌==◌, ◌⊎◌, if◌then◌else◌, List, [], ◌∷◌, length, slice_get, All, Option, Some, None}
 use Rattle.std.specs.Option.{option_map}
 use Rattle.pgs_step.specs.declared.ids.KindId.{KindId}
 use Rattle.pgs_step.specs.declared.ids.Phase.{Phase}
 use Rattle.pgs_step.specs.declared.ids.Phase.TheVariants.{BeforeLocks, AfterLocks}
+use Rattle.owner_kinds.specs.Different.{AreDifferent}
+use Rattle.owner_kinds.specs.Place.{IsPlace}
 use Rattle.owner_kinds.specs.declared.kind_row.KindRow.{KindRow}
 
 -- the names of the extension kinds, and when their items are released; the first of them is kind 16
 pub record KindTable : Type 0 where
   pub names : List (List ℕ)
   pub rows : List KindRow
+
+-- what is true of each shelf of kinds
+pub record IsSound (table : KindTable) : Type 0 where
+  pub different : AreDifferent table.names
+  pub few : length table.names ≤ 16
+  pub whole : length table.rows ≡ length table.names
+  pub places : All IsPlace table.rows
 
 abbrev pub row : Phase → ℕ → KindRow
 row phase priority = record { phase = phase; priority = priority }

@@ -1,5 +1,7 @@
 ghost use Rattle.owner_kinds.specs.Kind.{opened, closed};
+ghost use Rattle.owner_kinds.specs.KindTable.{row};
 ghost use Rattle.owner_kinds.specs.Different.{AreDifferent, AreDifferent-prop};
+ghost use Rattle.owner_kinds.specs.Place.{IsPlace};
 ghost use Rattle.std.specs.Prelude.{◌≡◌, ◌≢◌, ◌+◌, ◌-◌, ◌<◌, ◌≤◌, ◌^◌, [], ◌∷◌, length, map, slice_index_or, slice_get, All, Contains, vec_len, IfOk, OnOk, OnErr, IfSome, IfNone, IsNone, ◌↔◌};
 
 use crate::ext_kind::{ExtKind, KindError};
@@ -18,12 +20,14 @@ pub struct KindShelf {
     ghost few: { vec_len kinds ≤ 16 },
     ghost named: { vec_len names ≡ vec_len kinds },
     ghost placed: { vec_len rows ≡ vec_len kinds },
+    ghost places: { All IsPlace rows.items },
 }
 
 // The row of a kind as it stands.
 fn row_of_kind(kind: &Box<dyn ExtKind>) -> KindRow
     ensures phase { result.phase ≡ (kind_meaning kind.now).phase }
     ensures priority { result.priority ≡ (kind_meaning kind.now).priority }
+    ensures place { IsPlace result }
 {
     KindRow {
         phase: kind.phase(),
@@ -35,6 +39,27 @@ fn name_of(kind: &Box<dyn ExtKind>) -> Name
     ensures { result ≡ (kind_meaning kind.now).name }
 {
     kind.name()
+}
+
+fn names_of(alloc: Global, kinds: &[Box<dyn ExtKind>]) -> Result<Vec<Name>, AllocError>
+    ensures { IfOk result (λ names. names.items ≡ map (λ kind. (kind_meaning kind).name) kinds.now) }
+{
+    let mut names = Vec::with_capacity(alloc, kinds.len())?;
+    for kind in kinds {
+        names.push(name_of(kind))?;
+    }
+    Ok(names)
+}
+
+fn rows_of(alloc: Global, kinds: &[Box<dyn ExtKind>]) -> Result<Vec<KindRow>, AllocError>
+    ensures rows { IfOk result (λ rows. rows.items ≡ map (λ kind. row (kind_meaning kind).phase (kind_meaning kind).priority) kinds.now) }
+    ensures places { IfOk result (λ rows. All IsPlace rows.items) }
+{
+    let mut rows = Vec::with_capacity(alloc, kinds.len())?;
+    for kind in kinds {
+        rows.push(row_of_kind(kind))?;
+    }
+    Ok(rows)
 }
 
 fn open_key(kind: &mut Box<dyn ExtKind>, key: u32) -> Result<(), KindError>
@@ -55,7 +80,7 @@ fn close_key(kind: &mut Box<dyn ExtKind>, key: u32)
 
 impl KindShelf {
     ghost use Rattle.owner_kinds.specs.Kind.{changed_at};
-    ghost use Rattle.owner_kinds.specs.KindTable.{IsExtension, phase_of, priority_of, row, row_of};
+    ghost use Rattle.owner_kinds.specs.KindTable.{IsExtension, IsSound, phase_of, priority_of, row_of};
     ghost use Rattle.owner_kinds.specs.KindShelf.{kinds_of, table_of};
 
     /// A shelf of these kinds.
@@ -65,13 +90,10 @@ impl KindShelf {
         ensures kinds { IfOk result (λ shelf. kinds_of kind_meaning shelf ≡ map kind_meaning kinds.items) }
         ensures names { IfOk result (λ shelf. (table_of shelf).names ≡ map (λ kind. (kind_meaning kind).name) kinds.items) }
         ensures rows { IfOk result (λ shelf. (table_of shelf).rows ≡ map (λ kind. row (kind_meaning kind).phase (kind_meaning kind).priority) kinds.items) }
+        ensures sound { IfOk result (λ shelf. IsSound (table_of shelf)) }
     {
-        let mut names = Vec::with_capacity(alloc, kinds.len())?;
-        let mut rows = Vec::with_capacity(alloc, kinds.len())?;
-        for kind in &kinds {
-            names.push_reserved(name_of(kind));
-            rows.push_reserved(row_of_kind(kind));
-        }
+        let names = names_of(alloc, &kinds)?;
+        let rows = rows_of(alloc, &kinds)?;
         Ok(KindShelf {
             kinds,
             names,
@@ -82,8 +104,7 @@ impl KindShelf {
     /// The names of the kinds, in their order.
     pub fn names(&self) -> &[Name]
         ensures value { result.now ≡ (table_of self.now).names }
-        ensures different { AreDifferent result.now }
-        ensures few { length result.now ≤ 16 }
+        ensures sound { IsSound (table_of self.now) }
     {
         &self.names
     }
@@ -100,7 +121,8 @@ impl KindShelf {
 
     /// When items of this kind are released. Of a number that is no kind's it says nothing of use.
     pub fn phase(&self, kind: KindId) -> Phase
-        ensures { IfSome (phase_of (table_of self.now) kind) (λ phase. result ≡ phase) }
+        ensures value { IfSome (phase_of (table_of self.now) kind) (λ phase. result ≡ phase) }
+        ensures sound { IsSound (table_of self.now) }
     {
         match self.row(kind) {
             Some(row) => row.phase,
@@ -110,7 +132,8 @@ impl KindShelf {
 
     /// The place of this kind in its phase. Of a number that is no kind's it says nothing of use.
     pub fn priority(&self, kind: KindId) -> u32
-        ensures { IfSome (priority_of (table_of self.now) kind) (λ priority. result ≡ priority) }
+        ensures value { IfSome (priority_of (table_of self.now) kind) (λ priority. result ≡ priority) }
+        ensures sound { IsSound (table_of self.now) }
     {
         match self.row(kind) {
             Some(row) => row.priority,
