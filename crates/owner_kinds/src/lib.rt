@@ -7,3 +7,6 @@ mod kind_shelf;
 
 pub use ext_kind::{ExtKind, KindError};
 pub use kind_shelf::KindShelf;
+
+#[cfg(test)]
+mod tests;
