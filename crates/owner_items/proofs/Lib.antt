@@ -1,0 +1,3 @@
+pub mod KindRows
+pub mod NewestFirst
+pub mod NextSoFar
