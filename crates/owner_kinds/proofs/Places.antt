@@ -1,5 +1,5 @@
 -- What a change of one boxed kind does to the kinds.
-use Rattle.std.proofs.Common.{◌≡◌, ℕ, ◌<◌, ◌≤◌, zero, suc, List, [], ◌∷◌, length, map, set, get_or, slice_get, refl, sym, ◌∙◌, ap, subst, arith, Option, Some, None, IfSome, Result, Ok, Err, OnOk, OnErr}
+use Rattle.std.proofs.Common.{◌≡◌, ℕ, ◌<◌, zero, suc, List, [], ◌∷◌, length, map, set, get_or, slice_get, refl, ◌∙◌, ap, subst, arith, IfSome, Result, Ok, Err, OnOk, OnErr}
 use Rattle.owner_kinds.specs.Kind.{Kind, changed_at}
 
 pub changed_place :

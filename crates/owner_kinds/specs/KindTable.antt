@@ -1,5 +1,5 @@
 -- When the items of each kind are released.
-use Rattle.std.specs.Prelude.{◌≡◌, ℕ, ◌-◌, ◌<◌, ◌≤◌, nat_lt, ◌==◌, ◌⊎◌, if◌then◌else◌, List, [], ◌∷◌, length, slice_get, All, Option, Some, None}
+use Rattle.std.specs.Prelude.{◌≡◌, ℕ, ◌-◌, ◌<◌, ◌≤◌, nat_lt, ◌==◌, ◌⊎◌, if◌then◌else◌, List, [], ◌∷◌, length, slice_get, All, Option, None}
 use Rattle.std.specs.Option.{option_map}
 use Rattle.pgs_step.specs.declared.ids.KindId.{KindId}
 use Rattle.pgs_step.specs.declared.ids.Phase.{Phase}
@@ -27,7 +27,7 @@ row phase priority = record { phase = phase; priority = priority }
 abbrev pub built_in_rows : List KindRow
 built_in_rows =
     row BeforeLocks 200 ∷ row BeforeLocks 300 ∷ row AfterLocks 100 ∷ row AfterLocks 200 ∷ row AfterLocks 300
-      ∷ row AfterLocks 400 ∷ row AfterLocks 500 ∷ row AfterLocks 600 ∷ []
+    ∷ row AfterLocks 400 ∷ row AfterLocks 500 ∷ row AfterLocks 600 ∷ []
 
 -- the row of a kind, where it has one
 unfoldable pub row_of : KindTable → KindId → Option KindRow

@@ -1,5 +1,5 @@
 -- When items of a kind may be released.
-use Rattle.std.specs.Prelude.{◌≢◌, ℕ, ◌≤◌}
+use Rattle.std.specs.Prelude.{◌≢◌, ◌≤◌}
 use Rattle.pgs_step.specs.declared.ids.Phase.TheVariants.{Locks}
 use Rattle.owner_kinds.specs.declared.kind_row.KindRow.{KindRow}
 

@@ -94,11 +94,7 @@ impl KindShelf {
     {
         let names = names_of(alloc, &kinds)?;
         let rows = rows_of(alloc, &kinds)?;
-        Ok(KindShelf {
-            kinds,
-            names,
-            rows,
-        })
+        Ok(KindShelf { kinds, names, rows })
     }
 
     /// The names of the kinds, in their order.
@@ -146,7 +142,10 @@ impl KindShelf {
         ensures { result ≡ row_of (table_of self.now) kind }
     {
         if kind.0 >= KindId::FIRST_EXTENSION {
-            return self.rows.get((kind.0 - KindId::FIRST_EXTENSION) as usize).copied();
+            return self
+                .rows
+                .get((kind.0 - KindId::FIRST_EXTENSION) as usize)
+                .copied();
         }
         if kind.0 == 0 {
             return None;
@@ -165,7 +164,10 @@ impl KindShelf {
         ensures full { result ≡ Err KindError.Full → IfSome (slice_get (kinds_of kind_meaning self.old) (kind.0 - 16)) (λ own. own.limit ≤ length own.held) }
         ensures room { OnOk result (IfSome (slice_get (kinds_of kind_meaning self.old) (kind.0 - 16)) (λ own. length own.held < own.limit)) }
     {
-        open_key(&mut self.kinds[(kind.0 - KindId::FIRST_EXTENSION) as usize], key)
+        open_key(
+            &mut self.kinds[(kind.0 - KindId::FIRST_EXTENSION) as usize],
+            key,
+        )
     }
 
     /// Closes a key of an extension kind, which must hold it. It cannot fail.
@@ -175,18 +177,45 @@ impl KindShelf {
         ensures after { kinds_of kind_meaning self.new ≡ changed_at (kind.0 - 16) (closed key) (kinds_of kind_meaning self.old) }
         ensures table { table_of self.new ≡ table_of self.old }
     {
-        close_key(&mut self.kinds[(kind.0 - KindId::FIRST_EXTENSION) as usize], key);
+        close_key(
+            &mut self.kinds[(kind.0 - KindId::FIRST_EXTENSION) as usize],
+            key,
+        );
     }
 }
 
 // The kinds that are built in, the first of them kind 1.
 const BUILT_IN: [KindRow; 8] = [
-    KindRow { phase: Phase::BeforeLocks, priority: 200 },
-    KindRow { phase: Phase::BeforeLocks, priority: 300 },
-    KindRow { phase: Phase::AfterLocks, priority: 100 },
-    KindRow { phase: Phase::AfterLocks, priority: 200 },
-    KindRow { phase: Phase::AfterLocks, priority: 300 },
-    KindRow { phase: Phase::AfterLocks, priority: 400 },
-    KindRow { phase: Phase::AfterLocks, priority: 500 },
-    KindRow { phase: Phase::AfterLocks, priority: 600 },
+    KindRow {
+        phase: Phase::BeforeLocks,
+        priority: 200,
+    },
+    KindRow {
+        phase: Phase::BeforeLocks,
+        priority: 300,
+    },
+    KindRow {
+        phase: Phase::AfterLocks,
+        priority: 100,
+    },
+    KindRow {
+        phase: Phase::AfterLocks,
+        priority: 200,
+    },
+    KindRow {
+        phase: Phase::AfterLocks,
+        priority: 300,
+    },
+    KindRow {
+        phase: Phase::AfterLocks,
+        priority: 400,
+    },
+    KindRow {
+        phase: Phase::AfterLocks,
+        priority: 500,
+    },
+    KindRow {
+        phase: Phase::AfterLocks,
+        priority: 600,
+    },
 ];

@@ -7,11 +7,11 @@ abbrev pub invariant-loop-kind : goal.invariant-loop-kind
 invariant-loop-kind g l =
     record {
       rows :
-        l.rows.items
+          l.rows.items
           ≡ map
-            (λ kind.
-              row ((goal.ExtKind-dyn g (kind.vtable, kind.value)).kind_meaning kind.value).phase
-                ((goal.ExtKind-dyn g (kind.vtable, kind.value)).kind_meaning kind.value).priority)
-            (take l.kind-index l.kinds);
+          (λ kind.
+          row ((goal.ExtKind-dyn g (kind.vtable, kind.value)).kind_meaning kind.value).phase
+          ((goal.ExtKind-dyn g (kind.vtable, kind.value)).kind_meaning kind.value).priority)
+          (take l.kind-index l.kinds);
       places : All IsPlace l.rows.items;
     }

@@ -7,4 +7,4 @@ pub returns-clause-after : goal.returns-clause-after
 returns-clause-after g c =
     let within : c.args.kind.0 - 16 < length c.args.self.now.kinds.items = search rules in
     changed_place c.args.self.now.kinds.items _ _ c.close_key.new.kind (closed c.args.key) (λ kind. (goal.ExtKind-dyn g (kind.vtable, kind.value)).kind_meaning kind.value)
-      within c.index_mut.ensures.value c.close_key.ensures
+    within c.index_mut.ensures.value c.close_key.ensures
