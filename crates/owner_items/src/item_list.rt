@@ -97,11 +97,17 @@ fn newest_of(items: &[Item], kind: KindId, key: u32) -> Option<usize>
 {
     let mut newest = None;
     for (place, item) in items.iter().enumerate() {
-        if item.kind.0 == kind.0 && item.key == key {
+        if is_item_of(item, kind, key) {
             newest = Some(place);
         }
     }
     newest
+}
+
+fn is_item_of(item: &Item, kind: KindId, key: u32) -> bool
+    ensures { result ≡ is_of kind key item.now }
+{
+    item.kind.0 == kind.0 && item.key == key
 }
 
 // The place of the item that is released next in this phase.
