@@ -20,7 +20,7 @@ pub has_row : (table : KindTable) (kind : KindId) → IsKind table kind → IsSo
 unfolding row_of
 has_row table kind (inl built_in) =
     let row : IsSome (slice_get built_in_rows (kind.0 - 1)) =
-      slice_get-within built_in_rows (kind.0 - 1) (omega (arith, built_in.from, built_in.to))
+    slice_get-within built_in_rows (kind.0 - 1) (omega (arith, built_in.from, built_in.to))
     in
     grind (arith, row, built_in.from, built_in.to)
 has_row table kind (inr extension) =

@@ -56,7 +56,7 @@ find_newest test (y ∷ ys) zero x newest is =
     rw (reverse-front y ys, find-append_none test (reverse ys) (y ∷ []) rest) (grind (arith, passes, is))
 find_newest test (y ∷ ys) (suc place) x newest is =
     rw (reverse-front y ys)
-      (find-append_some test (reverse ys) (y ∷ []) x (find_newest test ys place x (newest_of_rest test y ys place newest) is))
+    (find-append_some test (reverse ys) (y ∷ []) x (find_newest test ys place x (newest_of_rest test y ys place newest) is))
 
 pub without_newest_is :
     (test : Item → Bool) (xs : List Item) (place : ℕ) (x : Item) → IsNewest test xs place → x ≡ get_or xs place x →
@@ -69,6 +69,9 @@ without_newest_is test (y ∷ ys) zero x newest is =
     rw (reverse-front y ys, without-append_none test (reverse ys) (y ∷ []) rest, gone) (append-nil (reverse ys))
 without_newest_is test (y ∷ ys) (suc place) x newest is =
     let rest : IsNewest test ys place = newest_of_rest test y ys place newest in
-    rw (reverse-front y ys, without-append_some test (reverse ys) (y ∷ []) x (find_newest test ys place x rest is),
-        without_newest_is test ys place x rest is)
-      (sym (reverse-front y (remove ys place)))
+    rw (
+      reverse-front y ys,
+      without-append_some test (reverse ys) (y ∷ []) x (find_newest test ys place x rest is),
+      without_newest_is test ys place x rest is,
+    )
+    (sym (reverse-front y (remove ys place)))

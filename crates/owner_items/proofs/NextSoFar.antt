@@ -41,10 +41,10 @@ next_taken test rank items n None low none passes new is better =
       passes = passes;
       is = is;
       least =
-        λ k d.
+          λ k d.
           below_more (λ k. test (get_or items k d) ≡ true → new ≤ rank (get_or items k d)) n
-            (λ k below yes. absurd (let fails : test (get_or items k d) ≡ false = none k d below in cc))
-            (λ yes. omega (arith, is d)) k;
+          (λ k below yes. absurd (let fails : test (get_or items k d) ≡ false = none k d below in cc))
+          (λ yes. omega (arith, is d)) k;
       later = λ k d after below yes. absurd (omega arith);
     }
 next_taken test rank items n (Some place) low next passes new is better =
@@ -54,10 +54,10 @@ next_taken test rank items n (Some place) low next passes new is better =
       passes = passes;
       is = is;
       least =
-        λ k d.
+          λ k d.
           below_more (λ k. test (get_or items k d) ≡ true → new ≤ rank (get_or items k d)) n
-            (λ k below yes. omega (arith, lower, next.least k d below yes))
-            (λ yes. omega (arith, is d)) k;
+          (λ k below yes. omega (arith, lower, next.least k d below yes))
+          (λ yes. omega (arith, is d)) k;
       later = λ k d after below yes. absurd (omega arith);
     }
 
@@ -73,26 +73,26 @@ pub next_passed :
     NextYet test rank items (n + 1) found low
 next_passed test rank items n None low none worse =
     let at : (k : ℕ) → k < n + 1 → (d : Item) → test (get_or items k d) ≡ false =
-      below_more (λ k. (d : Item) → test (get_or items k d) ≡ false) n (λ k below d. none k d below)
-        (λ d. no_if_not_yes (test (get_or items n d)) (λ yes. let never : false ≡ true = (worse d yes).0 in absurd cc))
+    below_more (λ k. (d : Item) → test (get_or items k d) ≡ false) n (λ k below d. none k d below)
+    (λ d. no_if_not_yes (test (get_or items n d)) (λ yes. let never : false ≡ true = (worse d yes).0 in absurd cc))
     in
     λ k d below. at k below d
 next_passed test rank items n (Some place) low next worse =
     let after :
-      (k : ℕ) → k < n + 1 → (d : Item) → place < k → test (get_or items k d) ≡ true → low < rank (get_or items k d) =
-      below_more (λ k. (d : Item) → place < k → test (get_or items k d) ≡ true → low < rank (get_or items k d)) n
-        (λ k below d behind yes. next.later k d behind below yes)
-        (λ d behind yes. (worse d yes).1)
+    (k : ℕ) → k < n + 1 → (d : Item) → place < k → test (get_or items k d) ≡ true → low < rank (get_or items k d) =
+    below_more (λ k. (d : Item) → place < k → test (get_or items k d) ≡ true → low < rank (get_or items k d)) n
+    (λ k below d behind yes. next.later k d behind below yes)
+    (λ d behind yes. (worse d yes).1)
     in
     record {
       within = omega (arith, next.within);
       passes = next.passes;
       is = next.is;
       least =
-        λ k d.
+          λ k d.
           below_more (λ k. test (get_or items k d) ≡ true → low ≤ rank (get_or items k d)) n
-            (λ k below yes. next.least k d below yes)
-            (λ yes. omega (arith, (worse d yes).1)) k;
+          (λ k below yes. next.least k d below yes)
+          (λ yes. omega (arith, (worse d yes).1)) k;
       later = λ k d behind below yes. after k below d behind yes;
     }
 
@@ -148,10 +148,10 @@ passes_all test rank items n place low next all d =
     let x = get_or items place d in
     let none_lower : Item → Bool = λ other. not (test other) || nat_le (rank x) (rank other) in
     let each : list_all none_lower items ≡ true =
-      all_pass none_lower items
-        (λ k e below.
-          not_lower (test (get_or items k e)) (rank x) (rank (get_or items k e))
-            (λ yes. omega (arith, next.is d, next.least k e (omega arith) yes)))
+    all_pass none_lower items
+    (λ k e below.
+    not_lower (test (get_or items k e)) (rank x) (rank (get_or items k e))
+    (λ yes. omega (arith, next.is d, next.least k e (omega arith) yes)))
     in
     both (test x) (list_all none_lower (reverse items)) (next.passes d) (list_all-reverse none_lower items ∙ each)
 
@@ -163,11 +163,11 @@ later_fails test rank items n place low next all k d after below =
     let x = get_or items k d in
     let none_lower : Item → Bool = λ other. not (test other) || nat_le (rank x) (rank other) in
     by_test (test x) (list_all none_lower (reverse items))
-      (λ yes.
-        list_all-reverse none_lower items
-          ∙ one_fails none_lower items place d (omega (arith, next.within))
-            (is_lower (test (get_or items place d)) (rank x) (rank (get_or items place d)) (next.passes d)
-              (omega (arith, next.is d, next.later k d after (omega arith) yes))))
+    (λ yes.
+    list_all-reverse none_lower items
+    ∙ one_fails none_lower items place d (omega (arith, next.within))
+    (is_lower (test (get_or items place d)) (rank x) (rank (get_or items place d)) (next.passes d)
+    (omega (arith, next.is d, next.later k d after (omega arith) yes))))
 
 pub newest_all :
     (test : Item → Bool) (items : List Item) (n : ℕ) (found : Option ℕ) →
@@ -178,9 +178,9 @@ newest_all test items n (Some place) next all =
       within = omega (arith, next.within);
       passes = next.passes;
       later =
-        λ k d after below.
+          λ k d after below.
           no_if_not_yes (test (get_or items k d))
-            (λ yes. absurd (let never : 0 < 0 = next.later k d after (omega arith) yes in omega arith));
+          (λ yes. absurd (let never : 0 < 0 = next.later k d after (omega arith) yes in omega arith));
     }
 
 pub next_all :
@@ -201,13 +201,14 @@ pub none_all :
     NextYet test rank items n found low → n ≡ length items →
     (IsNone found → NonePasses test items) × (NonePasses test items → IsNone found)
 none_all test rank items n None low none all = (λ _. λ k d below. none k d (omega arith), λ _. refl)
-none_all test rank items n (Some place) low next all =
-    (λ never. absurd cc,
-      λ none.
-        absurd
-          (let passes : test (get_or items place no_item) ≡ true = next.passes no_item in
-          let fails : test (get_or items place no_item) ≡ false = none place no_item (omega (arith, next.within)) in
-          cc))
+none_all test rank items n (Some place) low next all = (
+  λ never. absurd cc,
+  λ none.
+      absurd
+      (let passes : test (get_or items place no_item) ≡ true = next.passes no_item in
+      let fails : test (get_or items place no_item) ≡ false = none place no_item (omega (arith, next.within)) in
+      cc),
+)
 
 at_any : {Y : Type 0} (f : Item → Y) (items : List Item) (n : ℕ) (d : Item) → n < length items → f (get_or items n d) ≡ f (get_or items n no_item)
 at_any f items n d within = ap f (get_or_default items n d no_item within)
@@ -218,7 +219,7 @@ pub newest_taken :
     NextYet test (λ _. 0) items (n + 1) (Some n) 0
 newest_taken test items n found r so_far within is holds =
     next_taken test (λ _. 0) items n found 0 so_far (λ d. at_any test items n d within ∙ (sym is ∙ holds)) 0 (λ d. refl)
-      (inr (omega arith))
+    (inr (omega arith))
 
 pub newest_passed :
     (test : Item → Bool) (items : List Item) (n : ℕ) (found : Option ℕ) (r : Bool) →
@@ -226,7 +227,7 @@ pub newest_passed :
     NextYet test (λ _. 0) items (n + 1) found 0
 newest_passed test items n found r so_far within is fails =
     next_passed test (λ _. 0) items n found 0 so_far
-      (λ d holds. absurd (let never : true ≡ false = sym holds ∙ (at_any test items n d within ∙ (sym is ∙ fails)) in cc))
+    (λ d holds. absurd (let never : true ≡ false = sym holds ∙ (at_any test items n d within ∙ (sym is ∙ fails)) in cc))
 
 split_true : (t f : Bool) (a b : ℕ) → (t && (f || nat_le a b)) ≡ true → (t ≡ true) × ((f ≡ true) ⊎ (a ≤ b))
 split_true true true a b holds = (refl, inl refl)
@@ -256,11 +257,11 @@ pub lowest_taken :
 lowest_taken test rank items n found low first r new so_far within none is holds new_is =
     let parts = split_true (test (get_or items n no_item)) first (rank (get_or items n no_item)) low (sym is ∙ holds) in
     next_taken test rank items n found low so_far (λ d. at_any test items n d within ∙ parts.0) new
-      (λ d. at_any rank items n d within ∙ sym new_is)
-      (elim parts.1 as (λ _. IsTrue (is_none found) ⊎ (new ≤ low)) [
-        inl is_first ↦ inl (none_found found first none is_first)
+    (λ d. at_any rank items n d within ∙ sym new_is)
+    (elim parts.1 as (λ _. IsTrue (is_none found) ⊎ (new ≤ low)) [
+      | inl is_first ↦ inl (none_found found first none is_first)
       | inr lower ↦ inr (omega (arith, new_is, lower))
-      ])
+    ])
 
 pub lowest_passed :
     (test : Item → Bool) (rank : Item → ℕ) (items : List Item) (n : ℕ) (found : Option ℕ) (low : ℕ) (first r : Bool) →
@@ -269,9 +270,9 @@ pub lowest_passed :
     NextYet test rank items (n + 1) found low
 lowest_passed test rank items n found low first r so_far within none is fails =
     next_passed test rank items n found low so_far
-      (λ d holds.
-        let parts =
-          split_false (test (get_or items n no_item)) first (rank (get_or items n no_item)) low (sym is ∙ fails)
-            (sym (at_any test items n d within) ∙ holds)
-        in
-        (some_found found first none parts.0, omega (arith, at_any rank items n d within, parts.1)))
+    (λ d holds.
+    let parts =
+    split_false (test (get_or items n no_item)) first (rank (get_or items n no_item)) low (sym is ∙ fails)
+    (sym (at_any test items n d within) ∙ holds)
+    in
+    (some_found found first none parts.0, omega (arith, at_any rank items n d within, parts.1)))

@@ -20,8 +20,8 @@ pub taken_rest :
     reverse ys ≡ without_newest (tests items) items
 taken_rest tests xs ys items place x e newest is rest =
     ap (λ z. reverse z) rest
-      ∙ subst (λ z. reverse (remove xs place) ≡ without_newest (tests z) z) e
-        (sym (without_newest_is (tests (reverse xs)) xs place x newest is))
+    ∙ subst (λ z. reverse (remove xs place) ≡ without_newest (tests z) z) e
+    (sym (without_newest_is (tests (reverse xs)) xs place x newest is))
 
 pub none_newest :
     (tests : List Item → Item → Bool) (xs items : List Item) → reverse xs ≡ items → NonePasses (tests (reverse xs)) xs →
@@ -40,7 +40,7 @@ all_newest_first P xs items e all = subst (All P) e (All-permutation P xs (rever
 pub all_oldest_first : (P : Item → Type 0) (xs items : List Item) → reverse xs ≡ items → All P items → All P xs
 all_oldest_first P xs items e all =
     All-permutation P (reverse xs) xs (IsPermutation-sym xs (reverse xs) (IsPermutation-reverse xs))
-      (subst (All P) (sym e) all)
+    (subst (All P) (sym e) all)
 
 -- what `next_of` says of its answer, of all items newest first
 pub none_both :
@@ -54,6 +54,7 @@ pub some_both :
     (test : Item → Bool) (xs items : List Item) → reverse xs ≡ items →
     (true ≡ false → NonePasses test xs) × (NonePasses test xs → true ≡ false) →
     (true ≡ false → All (λ item. test item ≡ false) items) × (All (λ item. test item ≡ false) items → true ≡ false)
-some_both test xs items e both =
-    (λ never. all_newest_first (λ item. test item ≡ false) xs items e (both.0 never),
-      λ all. both.1 (all_oldest_first (λ item. test item ≡ false) xs items e all))
+some_both test xs items e both = (
+  λ never. all_newest_first (λ item. test item ≡ false) xs items e (both.0 never),
+  λ all. both.1 (all_oldest_first (λ item. test item ≡ false) xs items e all),
+)

@@ -25,4 +25,4 @@ priority table item = unwrap_or (priority_of table item.kind) 0
 abbrev pub is_next : KindTable → Phase → List Item → Item → Bool
 is_next table phase items item =
     is_of_phase table phase item
-      && list_all (λ other. not (is_of_phase table phase other) || nat_le (priority table item) (priority table other)) items
+    && list_all (λ other. not (is_of_phase table phase other) || nat_le (priority table item) (priority table other)) items

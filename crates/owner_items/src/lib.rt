@@ -4,3 +4,6 @@
 mod item_list;
 
 pub use item_list::Items;
+
+#[cfg(test)]
+mod tests;

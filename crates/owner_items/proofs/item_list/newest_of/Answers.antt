@@ -10,14 +10,14 @@ loop-place-init c = next_start (is_of c.args.kind c.args.key) (λ _. 0) c.args.i
 pub loop-place-preserved : goal.loop-place-preserved
 loop-place-preserved c =
     elim c.if-is_item_of.branch [
-      then-is_item_of w ↦
-        rw w.newest-is
+      | then-is_item_of w ↦
+          rw w.newest-is
           (newest_taken (is_of c.args.kind c.args.key) c.args.items.now c.loop-place.place c.loop-place.newest _
-            c.loop-place.invariant c.loop-place-test.true c.is_item_of.ensures w.if-is_item_of.true)
-    | else-is_item_of w ↦
-        rw w.newest-is
+          c.loop-place.invariant c.loop-place-test.true c.is_item_of.ensures w.if-is_item_of.true)
+      | else-is_item_of w ↦
+          rw w.newest-is
           (newest_passed (is_of c.args.kind c.args.key) c.args.items.now c.loop-place.place c.loop-place.newest _
-            c.loop-place.invariant c.loop-place-test.true c.is_item_of.ensures w.if-is_item_of.false)
+          c.loop-place.invariant c.loop-place-test.true c.is_item_of.ensures w.if-is_item_of.false)
     ]
 
 pub returns : goal.returns

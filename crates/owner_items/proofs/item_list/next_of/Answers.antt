@@ -12,27 +12,27 @@ loop-place-init g c =
 pub loop-place-preserved : goal.loop-place-preserved
 loop-place-preserved g c =
     elim c.if-goes_before.branch [
-      then-goes_before w ↦
-        rw (w.next-is, w.least-is)
+      | then-goes_before w ↦
+          rw (w.next-is, w.least-is)
           (lowest_taken (is_of_phase (table_of c.args.kinds.now) c.args.phase) (priority (table_of c.args.kinds.now))
-            c.args.items.now c.loop-place.place c.loop-place.next c.loop-place.least _ _ _ c.loop-place.invariant
-            c.loop-place-test.true c.is_none.ensures c.goes_before.ensures w.if-goes_before.true
-            w.priority_of_item-least.ensures)
-    | else-goes_before w ↦
-        rw (w.next-is, w.least-is)
+          c.args.items.now c.loop-place.place c.loop-place.next c.loop-place.least _ _ _ c.loop-place.invariant
+          c.loop-place-test.true c.is_none.ensures c.goes_before.ensures w.if-goes_before.true
+          w.priority_of_item-least.ensures)
+      | else-goes_before w ↦
+          rw (w.next-is, w.least-is)
           (lowest_passed (is_of_phase (table_of c.args.kinds.now) c.args.phase) (priority (table_of c.args.kinds.now))
-            c.args.items.now c.loop-place.place c.loop-place.next c.loop-place.least _ _ c.loop-place.invariant
-            c.loop-place-test.true c.is_none.ensures c.goes_before.ensures w.if-goes_before.false)
+          c.args.items.now c.loop-place.place c.loop-place.next c.loop-place.least _ _ c.loop-place.invariant
+          c.loop-place-test.true c.is_none.ensures c.goes_before.ensures w.if-goes_before.false)
     ]
 
 pub returns-clause-none : goal.returns-clause-none
 returns-clause-none g c =
     let all : c.loop-place.place ≡ length c.args.items.now = search arith in
     none_all (is_of_phase (table_of c.args.kinds.now) c.args.phase) (priority (table_of c.args.kinds.now)) c.args.items.now
-      c.loop-place.place c.loop-place.next c.loop-place.least c.loop-place.invariant all
+    c.loop-place.place c.loop-place.next c.loop-place.least c.loop-place.invariant all
 
 pub returns-clause-next : goal.returns-clause-next
 returns-clause-next g c =
     let all : c.loop-place.place ≡ length c.args.items.now = search arith in
     next_all (is_of_phase (table_of c.args.kinds.now) c.args.phase) (priority (table_of c.args.kinds.now)) c.args.items.now
-      c.loop-place.place c.loop-place.next c.loop-place.least c.loop-place.invariant all
+    c.loop-place.place c.loop-place.next c.loop-place.least c.loop-place.invariant all
