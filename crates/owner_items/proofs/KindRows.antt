@@ -1,5 +1,5 @@
 -- Each kind has a row.
-use Rattle.std.proofs.Common.{◌≡◌, ℕ, ◌+◌, ◌-◌, ◌<◌, ◌≤◌, zero, suc, List, [], ◌∷◌, length, slice_get, IsSome, IfSome, unwrap_or, ap, ◌∙◌, Bool, Option, Some, None, refl, arith, true, false, cond, nat_lt, nat_eq, inl, inr}
+use Rattle.std.proofs.Common.{◌≡◌, ℕ, ◌-◌, ◌<◌, zero, suc, List, [], ◌∷◌, length, slice_get, IsSome, IfSome, unwrap_or, ap, ◌∙◌, Bool, Option, Some, None, refl, arith, false, inl, inr}
 use Rattle.pgs_step.specs.declared.ids.KindId.{KindId}
 use denote.Enum.Bare.{sameb}
 use Rattle.std.specs.Option.{option_map}
@@ -9,7 +9,7 @@ use Rattle.pgs_step.specs.declared.ids.Phase.TheVariants.{BeforeLocks, Locks, Af
 use Rattle.pgs_step.specs.declared.ids.Item.{Item}
 use Rattle.owner_items.specs.Next.{is_phase, is_of_phase, priority}
 use Rattle.owner_kinds.specs.declared.kind_row.KindRow.{KindRow}
-use Rattle.owner_kinds.specs.KindTable.{KindTable, IsKind, IsExtension, IsBuiltIn, row_of, phase_of, priority_of, built_in_rows}
+use Rattle.owner_kinds.specs.KindTable.{KindTable, IsKind, row_of, phase_of, priority_of, built_in_rows}
 
 slice_get-within : {X : Type 0} (xs : List X) (i : ℕ) → i < length xs → IsSome (slice_get xs i)
 slice_get-within [] i within = absurd (omega arith)

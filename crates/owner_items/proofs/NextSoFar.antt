@@ -1,5 +1,5 @@
 -- The search for the item that is released next, part of the way.
-use Rattle.std.proofs.Common.{◌≡◌, ℕ, ◌+◌, ◌<◌, ◌≤◌, zero, suc, Bool, true, false, cond, not, ◌&&◌, ◌||◌, nat_le, List, [], ◌∷◌, length, get_or, Option, Some, None, MatchOption, IsTrue, IsNone, reverse, ◌++◌, is_some, is_none, ◌⊎◌, inl, inr, refl, sym, ◌∙◌, ap, subst, below_more, arith}
+use Rattle.std.proofs.Common.{◌≡◌, ℕ, ◌+◌, ◌<◌, ◌≤◌, zero, suc, Bool, true, false, not, ◌&&◌, ◌||◌, nat_le, List, [], ◌∷◌, length, get_or, Option, Some, None, MatchOption, IsTrue, IsNone, reverse, ◌++◌, is_some, is_none, ◌⊎◌, inl, inr, refl, sym, ◌∙◌, ap, below_more, arith}
 use Rattle.std.specs.List.{list_all}
 use Rattle.std.proofs.lemmas.Grind.{reverse_onto}
 use Rattle.std.proofs.lemmas.List.{get_or_default}

@@ -1,5 +1,5 @@
 -- An item that is taken out of the items.
-use Rattle.std.proofs.Common.{◌≡◌, ℕ, ◌+◌, ◌<◌, Bool, true, false, List, length, reverse, get_or, find, All, Option, Some, None, IsNone, refl, sym, ◌∙◌, ap, subst}
+use Rattle.std.proofs.Common.{◌≡◌, ℕ, Bool, true, false, List, reverse, get_or, find, All, Some, None, refl, sym, ◌∙◌, ap, subst}
 use Rattle.std.specs.List.{remove}
 use Rattle.std.proofs.lemmas.List.Sorted.{All-permutation, IsPermutation-reverse, IsPermutation-sym}
 use Rattle.pgs_step.specs.declared.ids.Item.{Item}

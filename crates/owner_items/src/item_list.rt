@@ -1,4 +1,4 @@
-ghost use Rattle.std.specs.Prelude.{◌≡◌, ◌+◌, ◌<◌, ◌≤◌, [], ◌∷◌, false, ◌&&◌, ◌||◌, nat_le, length, reverse, find, All, OnOk, OnErr, IsNone, ◌↔◌};
+ghost use Rattle.std.specs.Prelude.{◌≡◌, ◌+◌, ◌<◌, ◌≤◌, [], ◌∷◌, false, ◌&&◌, ◌||◌, nat_le, length, reverse, find, All, OnOk, OnErr, IfNone, IsNone, ◌↔◌};
 ghost use Rattle.owner_items.specs.ItemList.{is_of, without_newest};
 ghost use Rattle.owner_items.specs.Newest.{FindsNewest, NonePasses};
 ghost use Rattle.owner_items.specs.Next.{is_next, is_of_phase, priority};
@@ -73,6 +73,7 @@ impl Items {
     pub fn forget(&mut self, kind: KindId, key: u32) -> Option<Item>
         ensures newest { result ≡ find (is_of kind key) self.old.items }
         ensures rest { self.new.items ≡ without_newest (is_of kind key) self.old.items }
+        ensures unchanged { IfNone result (self.new.items ≡ self.old.items) }
     {
         let place = newest_of(&self.items, kind, key)?;
         Some(self.items.remove(place))
@@ -85,6 +86,7 @@ impl Items {
         ensures none { IsNone result ↔ All (λ item. is_of_phase (table_of kinds.now) phase item ≡ false) self.old.items }
         ensures next { result ≡ find (is_next (table_of kinds.now) phase self.old.items) self.old.items }
         ensures rest { self.new.items ≡ without_newest (is_next (table_of kinds.now) phase self.old.items) self.old.items }
+        ensures unchanged { IfNone result (self.new.items ≡ self.old.items) }
     {
         let place = next_of(&self.items, kinds, phase)?;
         Some(self.items.remove(place))

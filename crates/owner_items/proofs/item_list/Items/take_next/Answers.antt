@@ -1,8 +1,8 @@
-use Rattle.std.proofs.Common.{◌≡◌, ap, sym, ◌∙◌, false, IsNone}
+use Rattle.std.proofs.Common.{ap, ◌∙◌}
 use Rattle.owner_kinds.specs.KindTable.{IsKind}
 use Rattle.owner_kinds.specs.KindShelf.{table_of}
 use Rattle.owner_items.specs.Next.{is_next, is_of_phase}
-use Rattle.owner_items.proofs.Taken.{taken_newest, taken_rest, none_newest, none_rest, all_newest_first, all_oldest_first, none_both, some_both}
+use Rattle.owner_items.proofs.Taken.{taken_newest, taken_rest, none_newest, none_rest, all_oldest_first, none_both, some_both}
 use Rattle.owner_items.proofs.item_list.Items.take_next.Goals as goal
 
 pub next_of-requires : goal.next_of-requires
