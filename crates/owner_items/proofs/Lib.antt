@@ -1,0 +1,4 @@
+pub mod KindRows
+pub mod NewestFirst
+pub mod NextSoFar
+pub mod Taken

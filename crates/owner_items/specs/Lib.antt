@@ -1,0 +1,3 @@
+pub mod ItemList
+pub mod Newest
+pub mod Next

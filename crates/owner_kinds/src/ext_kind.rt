@@ -1,0 +1,47 @@
+ghost use Rattle.std.specs.Prelude.{◌≡◌, ◌≢◌, ◌<◌, ◌≤◌, length, Contains, OnOk, OnErr};
+ghost use Rattle.owner_kinds.specs.Kind.{Kind, opened, closed};
+
+use pgs_step::{Name, Phase};
+
+/// Why a kind did not open a key.
+#[derive(Clone, Copy, Debug, PartialEq, Eq)]
+pub enum KindError {
+    /// The kind holds as many keys as it may.
+    Full,
+    /// There was no memory.
+    Memory,
+}
+
+/// A kind of resource that the program adds to those that are built in: PostgreSQL's `ResourceOwnerDesc`.
+pub trait ExtKind: Drop {
+    ghost kind_meaning: { Self → Kind };
+
+    /// The name in events.
+    fn name(&self) -> Name
+        ensures { result ≡ (kind_meaning self.now).name };
+
+    /// When its items are released: before or after the locks.
+    fn phase(&self) -> Phase
+        ensures value { result ≡ (kind_meaning self.now).phase }
+        ensures not_locks { result ≢ Phase.Locks };
+
+    /// The place in its phase: items of a kind with a lower number are released first.
+    fn priority(&self) -> u32
+        ensures value { result ≡ (kind_meaning self.now).priority }
+        ensures least { 1 ≤ result }
+        ensures greatest { result ≤ 1000000 };
+
+    /// Holds the key once more.
+    fn open(&mut self, key: u32) -> Result<(), KindError>
+        ensures ok { OnOk result (kind_meaning self.new ≡ opened key (kind_meaning self.old)) }
+        ensures err { OnErr result (kind_meaning self.new ≡ kind_meaning self.old) }
+
+        // It answers Full exactly where the kind holds as many keys as it may; memory may want there too.
+        ensures full { result ≡ Err KindError.Full → (kind_meaning self.old).limit ≤ length (kind_meaning self.old).held }
+        ensures room { OnOk result (length (kind_meaning self.old).held < (kind_meaning self.old).limit) };
+
+    /// Holds the key once less. It cannot fail.
+    fn close(&mut self, key: u32)
+        requires { Contains (kind_meaning self.old).held key }
+        ensures { kind_meaning self.new ≡ closed key (kind_meaning self.old) };
+}

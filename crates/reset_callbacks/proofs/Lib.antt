@@ -1,0 +1,4 @@
+pub mod InOrder
+pub mod LeastSoFar
+pub mod ShelfSteps
+pub mod PendingSteps

@@ -1,0 +1,4 @@
+pub mod Hook
+pub mod Least
+pub mod PendingState
+pub mod ShelfState
