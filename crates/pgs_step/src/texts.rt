@@ -174,8 +174,8 @@ fn put_item<const N: usize>(out: &mut ArrayVec<u8, N>, item: Item, owner: u64)
     ensures text { out.new.items ≡ out.old.items ++ (codes " " ++ decimal item.key ++ codes " #" ++ decimal item.serial ++ by_owner owner) }
     ensures short { array_vec_len out.new ≤ array_vec_len out.old + 80 }
 {
-    put_counted(out, b" ", item.key as u64);
-    put_counted(out, b" #", item.serial);
+    put_behind(out, b' ', item.key as u64);
+    put_behind_two(out, b' ', b'#', item.serial);
     put_owner(out, owner);
 }
 
@@ -248,17 +248,40 @@ fn put_lock<const N: usize>(out: &mut ArrayVec<u8, N>, word: &[u8], object: u32,
     ensures short { array_vec_len out.new ≤ array_vec_len out.old + 100 }
 {
     put_counted(out, word, object as u64);
-    put(out, b" ");
+    out.push(b' ');
     put(out, mode.name());
 }
 
 /// " oK" of an owner.
+#[inline(always)]
 fn put_owner<const N: usize>(out: &mut ArrayVec<u8, N>, owner: u64)
     requires { array_vec_len out.old + 22 ≤ N }
     ensures text { out.new.items ≡ out.old.items ++ by_owner owner }
     ensures short { array_vec_len out.new ≤ array_vec_len out.old + 22 }
 {
-    put_counted(out, b" o", owner);
+    put_behind_two(out, b' ', b'o', owner);
+}
+
+/// A byte and a number behind it.
+#[inline(always)]
+fn put_behind<const N: usize>(out: &mut ArrayVec<u8, N>, byte: u8, n: u64)
+    requires { array_vec_len out.old + 21 ≤ N }
+    ensures text { out.new.items ≡ out.old.items ++ ((byte ∷ []) ++ decimal n) }
+    ensures short { array_vec_len out.new ≤ array_vec_len out.old + 21 }
+{
+    out.push(byte);
+    put_number(out, n);
+}
+
+/// Two bytes and a number behind them.
+#[inline(always)]
+fn put_behind_two<const N: usize>(out: &mut ArrayVec<u8, N>, first: u8, second: u8, n: u64)
+    requires { array_vec_len out.old + 22 ≤ N }
+    ensures text { out.new.items ≡ out.old.items ++ ((first ∷ second ∷ []) ++ decimal n) }
+    ensures short { array_vec_len out.new ≤ array_vec_len out.old + 22 }
+{
+    out.push(first);
+    put_behind(out, second, n);
 }
 
 /// A word and a number behind it.

@@ -12,6 +12,9 @@ use pgs_step::{Emit, Event, What, append_text};
 /// How many bytes are gathered before they are handed to the sink.
 const GATHERED: usize = 8192;
 
+/// How many of them are blanked at once.
+const PIECE: usize = 1024;
+
 /// The most bytes of a line of the transcript.
 const LINE: usize = 512;
 
@@ -71,7 +74,7 @@ impl<'a, K: Sink> Printer<'a, K> {
             return;
         }
         match put_all(&mut *self.sink, self.gathered.as_slice()) {
-            Ok(()) => self.gathered.clear(),
+            Ok(()) => clear_in_pieces(&mut self.gathered),
             Err(_) => self.failed = true,
         }
     }
@@ -114,6 +117,16 @@ impl<'a, K: Sink> Printer<'a, K> {
             self.errors = self.errors.saturating_add(0);
         }
     }
+}
+
+/// Clears the bytes, which are blanked a piece at a time: that takes fewer steps than at once.
+fn clear_in_pieces(bytes: &mut ArrayVec<u8, GATHERED>)
+    ensures { bytes.new.items ≡ [] }
+{
+    while bytes.len() > PIECE {
+        bytes.truncate(bytes.len() - PIECE);
+    }
+    bytes.clear();
 }
 
 fn is_error(what: What) -> bool
