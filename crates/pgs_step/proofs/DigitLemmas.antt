@@ -1,5 +1,7 @@
 -- The digits of a number, two at a time.
-use Rattle.std.proofs.Common.{◌≡◌, ℕ, ◌+◌, ◌*◌, ◌/◌, ◌%◌, ◌^◌, ◌<◌, ◌≤◌, List, [], ◌∷◌, ◌++◌, ap, sym, ◌∙◌, arith, append_assoc}
+use Rattle.std.proofs.Common.{◌≡◌, ℕ, zero, suc, ◌+◌, ◌-◌, ◌*◌, ◌/◌, ◌%◌, ◌^◌, ◌<◌, ◌≤◌, Bool, true, ◌&&◌, T, eqb, List, [], ◌∷◌, ◌++◌, get_or, ap, sym, ◌∙◌, inl, inr, arith, eq-zero-or-pos, eqb→eq, append_assoc}
+use lib.Ieee.Fits.{and_l, and_r}
+use Rattle.pgs_step.specs.declared.texts.TheConstants.{PAIRS}
 use Rattle.std.specs.Prelude.{decimal}
 use Rattle.std.proofs.lemmas.Fmt.{decimal_digit, decimal_step}
 
@@ -28,3 +30,22 @@ decimal_hundreds n low high =
 pub hundreds_told : (n : ℕ) (old front out : List ℕ) → 100 ≤ n → n < 2 ^ 64 → front ≡ old ++ decimal (n / 100) → out ≡ front ++ two_digits (n % 100) → out ≡ old ++ decimal n
 hundreds_told n old front out low high f o =
     o ∙ ap (λ z. z ++ two_digits (n % 100)) f ∙ append_assoc old (decimal (n / 100)) (two_digits (n % 100)) ∙ ap (λ z. old ++ z) (sym (decimal_hundreds n low high))
+
+-- the table of pairs holds the two digits of each number below n
+abbrev are_pairs : ℕ → Bool
+are_pairs zero = true
+are_pairs (suc p) = (eqb (get_or PAIRS (p * 2) 0) (48 + p / 10) && eqb (get_or PAIRS (p * 2 + 1) 0) (48 + p % 10)) && are_pairs p
+
+pairs_below : (n p : ℕ) → T (are_pairs n) → p < n → (get_or PAIRS (p * 2) 0 ≡ 48 + p / 10) × (get_or PAIRS (p * 2 + 1) 0 ≡ 48 + p % 10)
+pairs_below zero p t h = absurd (omega arith)
+pairs_below (suc n) p t h =
+    elim (eq-zero-or-pos (n - p)) [
+      | inl z ↦ let e : p ≡ n = omega arith in let a = and_l _ (are_pairs n) t in rw e (eqb→eq _ _ (and_l _ _ a), eqb→eq _ _ (and_r _ _ a))
+      | inr g ↦ pairs_below n p (and_r _ (are_pairs n) t) (omega arith)
+    ]
+
+pub pair_told : (n : ℕ) (old one both : List ℕ) → n < 100 → one ≡ old ++ (get_or PAIRS (n * 2) 0 ∷ []) → both ≡ one ++ (get_or PAIRS (n * 2 + 1) 0 ∷ []) → both ≡ old ++ two_digits n
+pair_told n old one both h f b =
+    let p = pairs_below 100 n tt h in
+    b ∙ ap (λ z. z ++ (get_or PAIRS (n * 2 + 1) 0 ∷ [])) f ∙ append_assoc old (get_or PAIRS (n * 2) 0 ∷ []) (get_or PAIRS (n * 2 + 1) 0 ∷ [])
+    ∙ ap (λ d. old ++ (d ∷ get_or PAIRS (n * 2 + 1) 0 ∷ [])) p.0 ∙ ap (λ d. old ++ ((48 + n / 10) ∷ d ∷ [])) p.1

@@ -12,6 +12,10 @@ use crate::names::Name;
 use arrayvec::ArrayVec;
 use itoa::Buffer;
 
+/// The two digits of each number below 100.
+static PAIRS: [u8; 200] =
+    *b"00010203040506070809101112131415161718192021222324252627282930313233343536373839404142434445464748495051525354555657585960616263646566676869707172737475767778798081828384858687888990919293949596979899";
+
 /// Clears `out` and writes the event's line, with its newline, in a program without extension kinds.
 ///
 /// The text of an event of a kind that isn't built in is empty.
@@ -362,8 +366,10 @@ fn put_pair<const N: usize>(out: &mut ArrayVec<u8, N>, n: u64)
     ensures text { out.new.items ≡ out.old.items ++ ((48 + n / 10) ∷ (48 + n % 10) ∷ []) }
     ensures len { array_vec_len out.new ≡ array_vec_len out.old + 2 }
 {
-    out.push(b'0' + (n / 10) as u8);
-    out.push(b'0' + (n % 10) as u8);
+    let at = n as usize * 2;
+    let (tens, ones) = (PAIRS[at], PAIRS[at + 1]);
+    out.push(tens);
+    out.push(ones);
 }
 
 /// One digit.
