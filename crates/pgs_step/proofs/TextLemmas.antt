@@ -1,15 +1,21 @@
 -- Lines and their texts.
-use Rattle.std.proofs.Common.{◌≡◌, ℕ, List, [], ◌++◌, Bool, true, false, IsTrue, Option, Some, None, ap, sym, ◌∙◌, refl}
-use Rattle.std.specs.Prelude.{codes, decimal, MatchOption}
+use Rattle.std.proofs.Common.{◌≡◌, ℕ, List, [], ◌++◌, true, false, Option, Some, None, ap, ◌∙◌, append_assoc, append-nil, sym}
+use Rattle.std.specs.Prelude.{codes, decimal, IfSome}
+use Rattle.std.specs.Option.{is_some}
 use Rattle.pgs_step.specs.Text.{line_of}
 
-pub line_told : (session : ℕ) (o : Option (List ℕ)) (r : Bool) (old out : List ℕ) → old ≡ decimal session ++ codes " " → MatchOption o (r ≡ false) (λ t. IsTrue r × (out ≡ old ++ t)) → r ≡ true → out ++ codes "\n" ≡ line_of session o
-line_told session None r old out e m h = absurd (cc)
-line_told session (Some t) r old out e m h = ap (λ z. z ++ codes "\n") (m.1 ∙ ap (λ z. z ++ t) e)
+-- what is written behind a text that was written behind old
+pub behind : (old front piece now out : List ℕ) → now ≡ old ++ front → out ≡ now ++ piece → out ≡ old ++ (front ++ piece)
+behind old front piece now out n o = o ∙ ap (λ z. z ++ piece) n ∙ append_assoc old front piece
 
-pub line_untold : (session : ℕ) (o : Option (List ℕ)) (r : Bool) (old out : List ℕ) → MatchOption o (r ≡ false) (λ t. IsTrue r × (out ≡ old ++ t)) → r ≡ false → [] ≡ line_of session o
-line_untold session None r old out m h = refl
-line_untold session (Some t) r old out m h = let yes : r ≡ true = m.0 in absurd (cc)
+-- the session, a space, the text and a newline, each written behind what was there
+pub line_told : (session : ℕ) (o : Option (List ℕ)) (old number space text out : List ℕ) → is_some o ≡ true
+  → number ≡ old ++ decimal session → space ≡ number ++ codes " " → IfSome o (λ t. text ≡ space ++ t) → out ≡ text ++ codes "\n" → out ≡ old ++ line_of session o
+line_told session None old number space text out h n s t e = absurd (cc)
+line_told session (Some what) old number space text out h n s t e =
+    behind old (decimal session ++ codes " " ++ what) (codes "\n") text out
+      (behind old (decimal session ++ codes " ") what space text (behind old (decimal session) (codes " ") number space n s) t) e
 
-pub first_piece : (session : ℕ) (empty number both : List ℕ) → empty ≡ [] → number ≡ empty ++ decimal session → both ≡ number ++ codes " " → both ≡ decimal session ++ codes " "
-first_piece session empty number both e n b = b ∙ ap (λ z. z ++ codes " ") (n ∙ ap (λ z. z ++ decimal session) e)
+pub line_untold : (session : ℕ) (o : Option (List ℕ)) (old : List ℕ) → is_some o ≡ false → old ≡ old ++ line_of session o
+line_untold session None old h = sym (append-nil old)
+line_untold session (Some what) old h = absurd (cc)

@@ -18,7 +18,7 @@ pub use events::{Event, What};
 pub use ids::{CtxId, Item, KindId, OwnerId, Phase};
 pub use lock_modes::Mode;
 pub use names::Name;
-pub use texts::{text, text_with};
+pub use texts::{append_text, text, text_with};
 
 #[cfg(test)]
 mod tests;

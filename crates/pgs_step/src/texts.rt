@@ -1,6 +1,6 @@
 //! The line of text of an event.
-ghost use Rattle.std.specs.Prelude.{◌≡◌, ◌+◌, ◌≤◌, [], ◌++◌, length, codes, decimal, IsTrue, false, MatchOption, IfSome};
-ghost use Rattle.std.specs.Option.{option_copied};
+ghost use Rattle.std.specs.Prelude.{◌≡◌, ℕ, ◌+◌, ◌/◌, ◌%◌, ◌≤◌, ◌<◌, [], ◌∷◌, ◌++◌, length, codes, decimal, IfSome};
+ghost use Rattle.std.specs.Option.{is_some};
 ghost use Rattle.arrayvec.specs.ArrayVec.{array_vec_len};
 ghost use Rattle.pgs_step.specs.Text.{kind_name, error_text, by_owner, item_text, gone_owner, lock_text, acquired_lock, lock_counts, passed_lock, error_line, said_of, what_text, text_of};
 
@@ -12,8 +12,9 @@ use crate::names::Name;
 use arrayvec::ArrayVec;
 use itoa::Buffer;
 
-/// The text of a line, which is never longer than this.
-type Line = ArrayVec<u8, 512>;
+/// The two digits of each number below 100.
+static PAIRS: [u8; 200] =
+    *b"00010203040506070809101112131415161718192021222324252627282930313233343536373839404142434445464748495051525354555657585960616263646566676869707172737475767778798081828384858687888990919293949596979899";
 
 /// Clears `out` and writes the event's line, with its newline, in a program without extension kinds.
 ///
@@ -32,21 +33,57 @@ pub fn text_with(event: &Event, names: &[Name], out: &mut ArrayVec<u8, 512>)
     ensures { out.new.items ≡ text_of names.now event.now }
 {
     out.clear();
-    put_number(out, event.session as u64);
-    put(out, b" ");
-    if put_what(out, event.what, names) {
-        put(out, b"\n");
-    } else {
-        out.clear();
+    append_text(event, names, out);
+}
+
+/// Writes the event's line, with its newline, at the end of `out`.
+///
+/// `names` are those of the extension kinds: kind 16 + i has the name `names[i]`. Nothing is written of an
+/// event whose kind has no name.
+pub fn append_text<const N: usize>(event: &Event, names: &[Name], out: &mut ArrayVec<u8, N>)
+    requires { array_vec_len out.old + 512 ≤ N }
+    ensures text { out.new.items ≡ out.old.items ++ text_of names.now event.now }
+    ensures short { array_vec_len out.new ≤ array_vec_len out.old + 512 }
+{
+    if has_text(event.what, names) {
+        put_number(out, event.session as u64);
+        out.push(b' ');
+        put_what(out, event.what, names);
+        out.push(b'\n');
     }
 }
 
-/// Writes an event's text at the end, and answers false where the event names a kind without a name.
+/// Whether an event has a text: false where it names a kind without a name.
 #[tactic(auto, unfolding(crate::specs::Text::what_text))]
-fn put_what(out: &mut Line, what: What, names: &[Name]) -> bool
-    requires { array_vec_len out.old ≤ 100 }
-    ensures text { MatchOption (what_text names.now what) (result ≡ false) (λ text. IsTrue result × (out.new.items ≡ out.old.items ++ text)) }
-    ensures short { array_vec_len out.new ≤ 500 }
+fn has_text(what: What, names: &[Name]) -> bool
+    ensures { result ≡ is_some (what_text names.now what) }
+{
+    match what {
+        What::Acquire { item, .. } => has_name(item.kind, names),
+        What::Release { item, .. } => has_name(item.kind, names),
+        What::NotClosed { item, .. } => has_name(item.kind, names),
+        _ => true,
+    }
+}
+
+/// Whether a kind has a name.
+#[tactic(auto, unfolding(crate::specs::Text::kind_name))]
+fn has_name(kind: KindId, names: &[Name]) -> bool
+    ensures { result ≡ is_some (kind_name names.now kind) }
+{
+    if kind.0 >= KindId::FIRST_EXTENSION {
+        names.len() > (kind.0 - KindId::FIRST_EXTENSION) as usize
+    } else {
+        kind.0 != 0 && kind.0 <= KindId::FILE.0
+    }
+}
+
+/// Writes an event's text at the end, where it has one.
+#[tactic(auto, unfolding(crate::specs::Text::what_text))]
+fn put_what<const N: usize>(out: &mut ArrayVec<u8, N>, what: What, names: &[Name])
+    requires { array_vec_len out.old + 400 ≤ N }
+    ensures text { IfSome (what_text names.now what) (λ text. out.new.items ≡ out.old.items ++ text) }
+    ensures short { array_vec_len out.new ≤ array_vec_len out.old + 400 }
 {
     match what {
         What::BeginLevel(level) => put_counted(out, b"begin level ", level as u64),
@@ -55,16 +92,10 @@ fn put_what(out: &mut Line, what: What, names: &[Name]) -> bool
         What::CleanupLevel(level) => put_counted(out, b"cleanup level ", level as u64),
         What::Owner(owner) => put_counted(out, b"owner o", owner),
         What::OwnerGone(owner) => put_gone_owner(out, owner),
-        What::Acquire { item, owner } => return put_said(out, b"acquire ", item, owner, names),
-        What::Release { item, owner } => return put_said(out, b"release ", item, owner, names),
+        What::Acquire { item, owner } => put_said(out, b"acquire ", item, owner, names),
+        What::Release { item, owner } => put_said(out, b"release ", item, owner, names),
         What::NotClosed { item, owner } => {
-            return put_said(
-                out,
-                b"warning resource was not closed: ",
-                item,
-                owner,
-                names,
-            );
+            put_said(out, b"warning resource was not closed: ", item, owner, names);
         }
         What::AcquireLock {
             object,
@@ -101,65 +132,62 @@ fn put_what(out: &mut Line, what: What, names: &[Name]) -> bool
         What::Error(error) => put_error_line(out, error),
         What::Exit => put(out, b"exit"),
     }
-    true
 }
 
-/// Writes what is said of an item, and answers false where its kind has no name.
-fn put_said(out: &mut Line, word: &[u8], item: Item, owner: u64, names: &[Name]) -> bool
-    requires { (array_vec_len out.old ≤ 100) × (length word.now ≤ 40) }
-    ensures text { MatchOption (said_of names.now word.now item owner) (result ≡ false) (λ text. IsTrue result × (out.new.items ≡ out.old.items ++ text)) }
-    ensures short { array_vec_len out.new ≤ 500 }
+/// Writes what is said of an item, where its kind has a name.
+#[inline(always)]
+fn put_said<const N: usize>(out: &mut ArrayVec<u8, N>, word: &[u8], item: Item, owner: u64, names: &[Name])
+    requires { (array_vec_len out.old + 300 ≤ N) × (length word.now ≤ 40) }
+    ensures text { IfSome (said_of names.now word.now item owner) (λ text. out.new.items ≡ out.old.items ++ text) }
+    ensures short { array_vec_len out.new ≤ array_vec_len out.old + 200 }
 {
-    match name_of(item.kind, names) {
-        None => false,
-        Some(kind) => {
-            put(out, word);
-            put_item(out, item, owner, kind);
-            true
-        }
-    }
+    put(out, word);
+    put_kind(out, item.kind, names);
+    put_item(out, item, owner);
 }
 
-/// The name of a kind in events, where it has one.
+/// Writes the name of a kind in events, where it has one.
 #[tactic(auto, unfolding(crate::specs::Text::kind_name))]
-fn name_of<'a>(kind: KindId, names: &'a [Name]) -> Option<&'a [u8]>
-    ensures name { option_copied result ≡ kind_name names.now kind }
-    ensures short { IfSome result (λ name. length name.now ≤ 32) }
+fn put_kind<const N: usize>(out: &mut ArrayVec<u8, N>, kind: KindId, names: &[Name])
+    requires { array_vec_len out.old + 32 ≤ N }
+    ensures text { IfSome (kind_name names.now kind) (λ name. out.new.items ≡ out.old.items ++ name) }
+    ensures short { array_vec_len out.new ≤ array_vec_len out.old + 32 }
 {
     if kind.0 >= KindId::FIRST_EXTENSION {
-        return names
-            .get((kind.0 - KindId::FIRST_EXTENSION) as usize)
-            .map(|name| name.as_slice());
+        if let Some(name) = names.get((kind.0 - KindId::FIRST_EXTENSION) as usize) {
+            put(out, name.as_slice());
+        }
+        return;
     }
     match kind.0 {
-        1 => Some(b"buffer pin"),
-        2 => Some(b"relcache reference"),
-        3 => Some(b"catcache reference"),
-        4 => Some(b"catcache list reference"),
-        5 => Some(b"plan reference"),
-        6 => Some(b"tuple descriptor reference"),
-        7 => Some(b"snapshot reference"),
-        8 => Some(b"file"),
-        _ => None,
+        1 => put(out, b"buffer pin"),
+        2 => put(out, b"relcache reference"),
+        3 => put(out, b"catcache reference"),
+        4 => put(out, b"catcache list reference"),
+        5 => put(out, b"plan reference"),
+        6 => put(out, b"tuple descriptor reference"),
+        7 => put(out, b"snapshot reference"),
+        8 => put(out, b"file"),
+        _ => {}
     }
 }
 
-fn put_item(out: &mut Line, item: Item, owner: u64, kind: &[u8])
-    requires { (array_vec_len out.old ≤ 140) × (length kind.now ≤ 40) }
-    ensures text { out.new.items ≡ out.old.items ++ item_text item owner kind.now }
-    ensures short { array_vec_len out.new ≤ array_vec_len out.old + 120 }
+/// "KEY #S oK" behind a kind's name, with a space before it.
+fn put_item<const N: usize>(out: &mut ArrayVec<u8, N>, item: Item, owner: u64)
+    requires { array_vec_len out.old + 80 ≤ N }
+    ensures text { out.new.items ≡ out.old.items ++ (codes " " ++ decimal item.key ++ codes " #" ++ decimal item.serial ++ by_owner owner) }
+    ensures short { array_vec_len out.new ≤ array_vec_len out.old + 80 }
 {
-    put(out, kind);
-    put_counted(out, b" ", item.key as u64);
-    put_counted(out, b" #", item.serial);
+    put_behind(out, b' ', item.key as u64);
+    put_behind_two(out, b' ', b'#', item.serial);
     put_owner(out, owner);
 }
 
 #[tactic(auto, unfolding(crate::specs::Text::error_text))]
-fn put_error(out: &mut Line, error: Error)
-    requires { array_vec_len out.old ≤ 140 }
+fn put_error<const N: usize>(out: &mut ArrayVec<u8, N>, error: Error)
+    requires { array_vec_len out.old + 80 ≤ N }
     ensures text { out.new.items ≡ out.old.items ++ error_text error }
-    ensures short { array_vec_len out.new ≤ array_vec_len out.old + 120 }
+    ensures short { array_vec_len out.new ≤ array_vec_len out.old + 80 }
 {
     match error {
         Error::SyntaxError => put(out, b"42601 syntax error"),
@@ -169,37 +197,37 @@ fn put_error(out: &mut Line, error: Error)
     }
 }
 
-fn put_error_line(out: &mut Line, error: Error)
-    requires { array_vec_len out.old ≤ 100 }
+fn put_error_line<const N: usize>(out: &mut ArrayVec<u8, N>, error: Error)
+    requires { array_vec_len out.old + 100 ≤ N }
     ensures text { out.new.items ≡ out.old.items ++ error_line error }
-    ensures short { array_vec_len out.new ≤ 500 }
+    ensures short { array_vec_len out.new ≤ array_vec_len out.old + 100 }
 {
     put(out, b"ERROR ");
     put_error(out, error);
 }
 
-fn put_gone_owner(out: &mut Line, owner: u64)
-    requires { array_vec_len out.old ≤ 100 }
+fn put_gone_owner<const N: usize>(out: &mut ArrayVec<u8, N>, owner: u64)
+    requires { array_vec_len out.old + 40 ≤ N }
     ensures text { out.new.items ≡ out.old.items ++ gone_owner owner }
-    ensures short { array_vec_len out.new ≤ 500 }
+    ensures short { array_vec_len out.new ≤ array_vec_len out.old + 40 }
 {
     put_counted(out, b"owner o", owner);
     put(out, b" gone");
 }
 
-fn put_acquired_lock(out: &mut Line, object: u32, mode: Mode, owner: u64)
-    requires { array_vec_len out.old ≤ 100 }
+fn put_acquired_lock<const N: usize>(out: &mut ArrayVec<u8, N>, object: u32, mode: Mode, owner: u64)
+    requires { array_vec_len out.old + 200 ≤ N }
     ensures text { out.new.items ≡ out.old.items ++ acquired_lock object mode owner }
-    ensures short { array_vec_len out.new ≤ 500 }
+    ensures short { array_vec_len out.new ≤ array_vec_len out.old + 200 }
 {
     put_lock(out, b"acquire lock ", object, mode);
     put_owner(out, owner);
 }
 
-fn put_passed_lock(out: &mut Line, object: u32, mode: Mode, count: u64, from: u64, to: u64)
-    requires { array_vec_len out.old ≤ 100 }
+fn put_passed_lock<const N: usize>(out: &mut ArrayVec<u8, N>, object: u32, mode: Mode, count: u64, from: u64, to: u64)
+    requires { array_vec_len out.old + 300 ≤ N }
     ensures text { out.new.items ≡ out.old.items ++ passed_lock object mode count from to }
-    ensures short { array_vec_len out.new ≤ 500 }
+    ensures short { array_vec_len out.new ≤ array_vec_len out.old + 300 }
 {
     put_lock_counts(out, b"pass lock ", object, mode, count, from);
     put(out, b" to");
@@ -207,10 +235,10 @@ fn put_passed_lock(out: &mut Line, object: u32, mode: Mode, count: u64, from: u6
 }
 
 /// A word, a lock, how many counts of it, and their owner.
-fn put_lock_counts(out: &mut Line, word: &[u8], object: u32, mode: Mode, count: u64, owner: u64)
-    requires { (array_vec_len out.old ≤ 100) × (length word.now ≤ 40) }
+fn put_lock_counts<const N: usize>(out: &mut ArrayVec<u8, N>, word: &[u8], object: u32, mode: Mode, count: u64, owner: u64)
+    requires { (array_vec_len out.old + 200 ≤ N) × (length word.now ≤ 40) }
     ensures text { out.new.items ≡ out.old.items ++ lock_counts word.now object mode count owner }
-    ensures short { array_vec_len out.new ≤ 300 }
+    ensures short { array_vec_len out.new ≤ array_vec_len out.old + 200 }
 {
     put_lock(out, word, object, mode);
     put_counted(out, b" x", count);
@@ -218,28 +246,52 @@ fn put_lock_counts(out: &mut Line, word: &[u8], object: u32, mode: Mode, count: 
 }
 
 /// A word and a lock behind it.
-fn put_lock(out: &mut Line, word: &[u8], object: u32, mode: Mode)
-    requires { (array_vec_len out.old ≤ 100) × (length word.now ≤ 40) }
+fn put_lock<const N: usize>(out: &mut ArrayVec<u8, N>, word: &[u8], object: u32, mode: Mode)
+    requires { (array_vec_len out.old + 100 ≤ N) × (length word.now ≤ 40) }
     ensures text { out.new.items ≡ out.old.items ++ lock_text word.now object mode }
-    ensures short { array_vec_len out.new ≤ 200 }
+    ensures short { array_vec_len out.new ≤ array_vec_len out.old + 100 }
 {
     put_counted(out, word, object as u64);
-    put(out, b" ");
+    out.push(b' ');
     put(out, mode.name());
 }
 
 /// " oK" of an owner.
-fn put_owner(out: &mut Line, owner: u64)
-    requires { array_vec_len out.old ≤ 400 }
+#[inline(always)]
+fn put_owner<const N: usize>(out: &mut ArrayVec<u8, N>, owner: u64)
+    requires { array_vec_len out.old + 22 ≤ N }
     ensures text { out.new.items ≡ out.old.items ++ by_owner owner }
     ensures short { array_vec_len out.new ≤ array_vec_len out.old + 22 }
 {
-    put_counted(out, b" o", owner);
+    put_behind_two(out, b' ', b'o', owner);
+}
+
+/// A byte and a number behind it.
+#[inline(always)]
+fn put_behind<const N: usize>(out: &mut ArrayVec<u8, N>, byte: u8, n: u64)
+    requires { array_vec_len out.old + 21 ≤ N }
+    ensures text { out.new.items ≡ out.old.items ++ ((byte ∷ []) ++ decimal n) }
+    ensures short { array_vec_len out.new ≤ array_vec_len out.old + 21 }
+{
+    out.push(byte);
+    put_number(out, n);
+}
+
+/// Two bytes and a number behind them.
+#[inline(always)]
+fn put_behind_two<const N: usize>(out: &mut ArrayVec<u8, N>, first: u8, second: u8, n: u64)
+    requires { array_vec_len out.old + 22 ≤ N }
+    ensures text { out.new.items ≡ out.old.items ++ ((first ∷ second ∷ []) ++ decimal n) }
+    ensures short { array_vec_len out.new ≤ array_vec_len out.old + 22 }
+{
+    out.push(first);
+    put_behind(out, second, n);
 }
 
 /// A word and a number behind it.
-fn put_counted(out: &mut Line, word: &[u8], n: u64)
-    requires { array_vec_len out.old + length word.now ≤ 490 }
+#[inline(always)]
+fn put_counted<const N: usize>(out: &mut ArrayVec<u8, N>, word: &[u8], n: u64)
+    requires { array_vec_len out.old + length word.now + 20 ≤ N }
     ensures text { out.new.items ≡ out.old.items ++ (word.now ++ decimal n) }
     ensures short { array_vec_len out.new ≤ array_vec_len out.old + length word.now + 20 }
 {
@@ -247,17 +299,92 @@ fn put_counted(out: &mut Line, word: &[u8], n: u64)
     put_number(out, n);
 }
 
-fn put_number(out: &mut Line, n: u64)
-    requires { array_vec_len out.old ≤ 490 }
+/// The digits of a number, which mostly is small.
+#[inline(always)]
+fn put_number<const N: usize>(out: &mut ArrayVec<u8, N>, n: u64)
+    requires { array_vec_len out.old + 20 ≤ N }
     ensures text { out.new.items ≡ out.old.items ++ decimal n }
     ensures short { array_vec_len out.new ≤ array_vec_len out.old + 20 }
 {
-    let mut buffer = Buffer::new();
-    put(out, buffer.format(n).as_bytes());
+    if n < 10 {
+        put_digit(out, n);
+    } else {
+        put_long_number(out, n);
+    }
 }
 
-fn put(out: &mut Line, piece: &[u8])
-    requires { array_vec_len out.old + length piece.now ≤ 512 }
+/// The digits of a number.
+#[inline(never)]
+fn put_long_number<const N: usize>(out: &mut ArrayVec<u8, N>, n: u64)
+    requires { array_vec_len out.old + 20 ≤ N }
+    ensures text { out.new.items ≡ out.old.items ++ decimal n }
+    ensures short { array_vec_len out.new ≤ array_vec_len out.old + 20 }
+{
+    if n < 10_000 {
+        put_up_to_four(out, n);
+    } else if n < 1_000_000 {
+        put_up_to_four(out, n / 100);
+        put_pair(out, n % 100);
+    } else {
+        put(out, Buffer::new().format(n).as_bytes());
+    }
+}
+
+/// The digits of a number of at most four.
+#[inline(always)]
+fn put_up_to_four<const N: usize>(out: &mut ArrayVec<u8, N>, n: u64)
+    requires { (array_vec_len out.old + 4 ≤ N) × (n < 10000) }
+    ensures text { out.new.items ≡ out.old.items ++ decimal n }
+    ensures short { array_vec_len out.new ≤ array_vec_len out.old + 4 }
+{
+    if n < 100 {
+        put_up_to_two(out, n);
+    } else {
+        put_up_to_two(out, n / 100);
+        put_pair(out, n % 100);
+    }
+}
+
+/// The digits of a number of at most two.
+#[inline(always)]
+fn put_up_to_two<const N: usize>(out: &mut ArrayVec<u8, N>, n: u64)
+    requires { (array_vec_len out.old + 2 ≤ N) × (n < 100) }
+    ensures text { out.new.items ≡ out.old.items ++ decimal n }
+    ensures short { array_vec_len out.new ≤ array_vec_len out.old + 2 }
+{
+    if n < 10 {
+        put_digit(out, n);
+    } else {
+        put_pair(out, n);
+    }
+}
+
+/// Two digits.
+#[inline(always)]
+fn put_pair<const N: usize>(out: &mut ArrayVec<u8, N>, n: u64)
+    requires { (array_vec_len out.old + 2 ≤ N) × (n < 100) }
+    ensures text { out.new.items ≡ out.old.items ++ ((48 + n / 10) ∷ (48 + n % 10) ∷ []) }
+    ensures len { array_vec_len out.new ≡ array_vec_len out.old + 2 }
+{
+    let at = n as usize * 2;
+    let (tens, ones) = (PAIRS[at], PAIRS[at + 1]);
+    out.push(tens);
+    out.push(ones);
+}
+
+/// One digit.
+#[inline(always)]
+fn put_digit<const N: usize>(out: &mut ArrayVec<u8, N>, n: u64)
+    requires { (array_vec_len out.old < N) × (n < 10) }
+    ensures text { out.new.items ≡ out.old.items ++ decimal n }
+    ensures len { array_vec_len out.new ≡ array_vec_len out.old + 1 }
+{
+    out.push(b'0' + n as u8);
+}
+
+#[inline(always)]
+fn put<const N: usize>(out: &mut ArrayVec<u8, N>, piece: &[u8])
+    requires { array_vec_len out.old + length piece.now ≤ N }
     ensures text { out.new.items ≡ out.old.items ++ piece.now }
     ensures len { array_vec_len out.new ≡ array_vec_len out.old + length piece.now }
 {

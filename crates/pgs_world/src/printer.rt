@@ -1,15 +1,19 @@
 //! Prints the events of a session.
 ghost use Rattle.std.specs.Prelude.{◌≡◌, ◌+◌, ◌≤◌, ◌-◌, ◌^◌, min, false, [], if◌then◌else◌};
 ghost use Rattle.arrayvec.specs.ArrayVec.{array_vec_len};
+ghost use Rattle.pgs_step.specs.Text.{text_of};
 ghost use Rattle.pgs_world.specs.PrinterView.{TakesBytes};
 ghost use Rattle.pgs_world.specs.Transcript.{is_error};
 
 use arrayvec::ArrayVec;
 use pgs_io::{Sink, put_all};
-use pgs_step::{Emit, Event, What, text};
+use pgs_step::{Emit, Event, What, append_text};
 
 /// How many bytes are gathered before they are handed to the sink.
 const GATHERED: usize = 8192;
+
+/// The most of them that are blanked at once when they are few.
+const PIECE: usize = 1024;
 
 /// The most bytes of a line of the transcript.
 const LINE: usize = 512;
@@ -23,7 +27,6 @@ const LINE: usize = 512;
 pub(crate) struct Printer<'a, K> {
     sink: &'a mut K,
     gathered: ArrayVec<u8, GATHERED>,
-    line: ArrayVec<u8, LINE>,
     failed: bool,
     errors: u64,
     session: u8,
@@ -42,7 +45,6 @@ impl<'a, K: Sink> Printer<'a, K> {
         Printer {
             sink,
             gathered: ArrayVec::new(),
-            line: ArrayVec::new(),
             failed: false,
             errors: 0,
             session,
@@ -67,45 +69,42 @@ impl<'a, K: Sink> Printer<'a, K> {
     pub(crate) fn flush(&mut self)
         ensures bytes { TakesBytes K.written K.faults self.old [] self.new }
         ensures emptied { self.new.failed ≡ false → self.new.gathered.items ≡ [] }
-        ensures line { self.new.line ≡ self.old.line }
     {
         if self.failed {
             return;
         }
         match put_all(&mut *self.sink, self.gathered.as_slice()) {
-            Ok(()) => self.gathered.clear(),
+            Ok(()) => clear_in_pieces(&mut self.gathered),
             Err(_) => self.failed = true,
         }
     }
 
-    /// Gathers the line, which is handed on with what comes behind it.
-    fn gather(&mut self)
-        ensures { TakesBytes K.written K.faults self.old self.old.line.items self.new }
+    /// Makes room for a line, where no write has failed.
+    fn make_room(&mut self)
+        ensures bytes { TakesBytes K.written K.faults self.old [] self.new }
+        ensures room { self.new.failed ≡ false → array_vec_len self.new.gathered + LINE ≤ GATHERED }
     {
-        if self.gathered.remaining_capacity() < self.line.len() {
-            self.flush_and_append();
-        } else {
-            self.append();
+        if self.gathered.remaining_capacity() < LINE {
+            self.flush();
         }
     }
 
-    /// Makes room for the line, and appends it.
-    fn flush_and_append(&mut self)
-        requires { array_vec_len self.old.line ≤ LINE }
-        ensures { TakesBytes K.written K.faults self.old self.old.line.items self.new }
-    {
-        self.flush();
-        self.append();
-    }
-
-    /// Appends the line where no write has failed.
-    fn append(&mut self)
-        requires { self.old.failed ≡ false → array_vec_len self.old.gathered + array_vec_len self.old.line ≤ GATHERED }
-        ensures { TakesBytes K.written K.faults self.old self.old.line.items self.new }
+    /// Appends the event's line where no write has failed.
+    fn append(&mut self, event: &Event)
+        requires { self.old.failed ≡ false → array_vec_len self.old.gathered + LINE ≤ GATHERED }
+        ensures { TakesBytes K.written K.faults self.old (text_of [] event.now) self.new }
     {
         if !self.failed {
-            let _ = self.gathered.try_extend_from_slice(self.line.as_slice());
+            append_text(event, &[], &mut self.gathered);
         }
+    }
+
+    /// Gathers the event's line, which is handed on with what comes behind it.
+    fn gather(&mut self, event: &Event)
+        ensures { TakesBytes K.written K.faults self.old (text_of [] event.now) self.new }
+    {
+        self.make_room();
+        self.append(event);
     }
 
     /// Counts the event where it is an ERROR event.
@@ -118,6 +117,16 @@ impl<'a, K: Sink> Printer<'a, K> {
             self.errors = self.errors.saturating_add(0);
         }
     }
+}
+
+/// Clears the bytes, which are blanked a quarter at a time: that takes fewer steps than at once.
+fn clear_in_pieces(bytes: &mut ArrayVec<u8, GATHERED>)
+    ensures { bytes.new.items ≡ [] }
+{
+    while bytes.len() > PIECE {
+        bytes.truncate(bytes.len() / 4 * 3);
+    }
+    bytes.clear();
 }
 
 fn is_error(what: What) -> bool
@@ -134,14 +143,10 @@ impl<'a, K: Sink> Emit for Printer<'a, K> {
 
     fn emit(&mut self, what: What) {
         self.count(what);
-        text(
-            &Event {
-                session: self.session,
-                what,
-            },
-            &mut self.line,
-        );
-        self.gather();
+        self.gather(&Event {
+            session: self.session,
+            what,
+        });
     }
 
     ghost emits_none = { TakesEvents-none K.written K.faults };
