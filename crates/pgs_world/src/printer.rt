@@ -12,7 +12,7 @@ use pgs_step::{Emit, Event, What, append_text};
 /// How many bytes are gathered before they are handed to the sink.
 const GATHERED: usize = 8192;
 
-/// The most of them that are blanked at once when they are few.
+/// So many or fewer are cleared at once.
 const PIECE: usize = 1024;
 
 /// The most bytes of a line of the transcript.
@@ -119,7 +119,9 @@ impl<'a, K: Sink> Printer<'a, K> {
     }
 }
 
-/// Clears the bytes, which are blanked a quarter at a time: that takes fewer steps than at once.
+/// Clears the bytes, a quarter at a time while they are many.
+///
+/// They are blanked, and a long stretch would be filled by an instruction that takes a step for each byte.
 fn clear_in_pieces(bytes: &mut ArrayVec<u8, GATHERED>)
     ensures { bytes.new.items ≡ [] }
 {
