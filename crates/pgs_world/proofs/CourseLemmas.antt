@@ -34,9 +34,9 @@ course_of-stopped w lines more h = fold-append (after_line w) at_start lines mor
 
 -- one line more
 pub CourseAt-line : (w : Option ℕ) (course : Course) (line : List ℕ) (old new : World) (before during after : List What → Type 0) (n : ℕ) (wanted : Bool)
-  → CourseAt course old before n false → TurnIs (turn w (read_line line) old) new during wanted
-  → ((xs ys : List What) → before xs → during ys → after (xs ++ ys))
-  → CourseAt (after_line w course line) new after (n + 1) wanted
+    → CourseAt course old before n false → TurnIs (turn w (read_line line) old) new during wanted
+    → ((xs ys : List What) → before xs → during ys → after (xs ++ ys))
+    → CourseAt (after_line w course line) new after (n + 1) wanted
 CourseAt-line w course line old new before during after n wanted c t joins =
     let next : Turn = turn w (read_line line) course.world in
     let told : TurnIs next new during wanted = subst (λ (z : World). TurnIs (turn w (read_line line) z) new during wanted) (sym c.world_is) t in
@@ -54,11 +54,11 @@ unfolding course_of
 CoursesAre-start emitted h w f = record { world_is = refl; events = h; performed_is = refl; wanted_is = refl }
 
 pub CoursesAre-line : (lines : List (List ℕ)) (line : List ℕ) (old new : World) (before during after : List What → Type 0) (wanted : Bool)
-  → CoursesAre false lines old before
-  → ((w : Option ℕ) → Fits wanted new.calls w → TurnIs (turn w (read_line line) old) new during wanted)
-  → old.calls ≤ new.calls → (wanted ≡ true → old.calls < new.calls)
-  → ((xs ys : List What) → before xs → during ys → after (xs ++ ys))
-  → CoursesAre wanted (lines ++ line ∷ []) new after
+    → CoursesAre false lines old before
+    → ((w : Option ℕ) → Fits wanted new.calls w → TurnIs (turn w (read_line line) old) new during wanted)
+    → old.calls ≤ new.calls → (wanted ≡ true → old.calls < new.calls)
+    → ((xs ys : List What) → before xs → during ys → after (xs ++ ys))
+    → CoursesAre wanted (lines ++ line ∷ []) new after
 CoursesAre-line lines line old new before during after wanted courses turns rise counted joins w f =
     let later : IsLater old.calls w = fits_later wanted old.calls new.calls w f rise counted in
     let count : length lines + 1 ≡ length (lines ++ line ∷ []) = omega (arith, length-append lines (line ∷ [])) in

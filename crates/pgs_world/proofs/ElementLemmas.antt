@@ -21,14 +21,14 @@ unfolding elements_of
 bad_elements command session e = rw e refl
 
 by_aborted : (aborted : Bool) (command : Command) → (Idle ≡ (if aborted then Aborted else InBlock) → (if aborted then aborted_elements command else block_elements command) ≡ idle_elements command)
-  × (InBlock ≡ (if aborted then Aborted else InBlock) → (if aborted then aborted_elements command else block_elements command) ≡ block_elements command)
-  × (Aborted ≡ (if aborted then Aborted else InBlock) → (if aborted then aborted_elements command else block_elements command) ≡ aborted_elements command)
+    × (InBlock ≡ (if aborted then Aborted else InBlock) → (if aborted then aborted_elements command else block_elements command) ≡ block_elements command)
+    × (Aborted ≡ (if aborted then Aborted else InBlock) → (if aborted then aborted_elements command else block_elements command) ≡ aborted_elements command)
 by_aborted true command = (λ h. absurd (cc), λ h. absurd (cc), λ h. refl)
 by_aborted false command = (λ h. absurd (cc), λ h. refl, λ h. absurd (cc))
 
 by_standing : (level : Option LevelState) (command : Command) → (Idle ≡ standing_of level → command_elements level command ≡ idle_elements command)
-  × (InBlock ≡ standing_of level → command_elements level command ≡ block_elements command)
-  × (Aborted ≡ standing_of level → command_elements level command ≡ aborted_elements command)
+    × (InBlock ≡ standing_of level → command_elements level command ≡ block_elements command)
+    × (Aborted ≡ standing_of level → command_elements level command ≡ aborted_elements command)
 by_standing None command = (λ h. refl, λ h. absurd (cc), λ h. absurd (cc))
 by_standing (Some level) command = by_aborted level.aborted command
 

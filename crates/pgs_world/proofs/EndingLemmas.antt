@@ -40,20 +40,20 @@ moves_failed true g old new text a b m = absurd (cc)
 
 -- a printer that had printed nothing, and has handed all on
 pub printed_all : (old new : Gathering) (events : List What) → Prints old events new → old.gathered ≡ [] → old.failed ≡ false → old.errors ≡ 0 → old.session ≡ 1
-  → (new.failed ≡ false → new.gathered ≡ []) → new.errors < 2 ^ 64 → errors_in events < 2 ^ 64
-  → Printed old.written new.written old.faults new.faults new.errors new.failed events
+    → (new.failed ≡ false → new.gathered ≡ []) → new.errors < 2 ^ 64 → errors_in events < 2 ^ 64
+    → Printed old.written new.written old.faults new.faults new.errors new.failed events
 printed_all old new events p empty going none one emptied small few =
     let texts : List ℕ = text_of_transcript events in
     let moves : Moves old.failed new.failed old new texts = subst (λ (s : ℕ). Moves old.failed new.failed old new (texts_of [] s events)) one p.bytes in
     record {
       text = λ f.
-        let m = moves_on old.failed new.failed old new texts going f moves in
-        m.hands.taken ∙ ap (append_known old.written)
-        (sym (append-nil m.hands.handed) ∙ ap (λ (z : List ℕ). m.hands.handed ++ z) (sym (emptied f)) ∙ m.hands.parts ∙ ap (λ (z : List ℕ). z ++ texts) empty);
+          let m = moves_on old.failed new.failed old new texts going f moves in
+          m.hands.taken ∙ ap (append_known old.written)
+          (sym (append-nil m.hands.handed) ∙ ap (λ (z : List ℕ). m.hands.handed ++ z) (sym (emptied f)) ∙ m.hands.parts ∙ ap (λ (z : List ℕ). z ++ texts) empty);
       no_fault = λ f. (moves_on old.failed new.failed old new texts going f moves).no_fault;
       front = λ f.
-        let m = moves_failed old.failed new.failed old new texts going f moves in
-        (m.hands.handed, m.rest, m.hands.parts ∙ ap (λ (z : List ℕ). z ++ texts) empty, m.hands.taken);
+          let m = moves_failed old.failed new.failed old new texts going f moves in
+          (m.hands.handed, m.rest, m.hands.parts ∙ ap (λ (z : List ℕ). z ++ texts) empty, m.hands.taken);
       risen = λ f. (moves_failed old.failed new.failed old new texts going f moves).risen;
       errors_are = omega (arith, p.errors, none, small, few);
     }
@@ -64,7 +64,7 @@ ended_front [] behind = (lines_of behind, refl)
 ended_front (b ∷ bytes) behind = front_at (b == newline) b (ended_lines bytes) (lines_of (bytes ++ behind)) (ended_front bytes behind)
   where
     front_at : (test : Bool) (b : ℕ) (ended lines : List (List ℕ)) → (more : List (List ℕ)) × (lines ≡ ended ++ more)
-      → (more : List (List ℕ)) × ((if test then [] ∷ lines else onto_first b lines) ≡ (if test then [] ∷ ended else onto_ended b ended) ++ more)
+        → (more : List (List ℕ)) × ((if test then [] ∷ lines else onto_first b lines) ≡ (if test then [] ∷ ended else onto_ended b ended) ++ more)
     front_at true b ended lines h = (h.0, ap (λ (z : List (List ℕ)). [] ∷ z) h.1)
     front_at false b [] lines h = (onto_first b lines, refl)
     front_at false b (line ∷ ended) lines h = (h.0, ap (onto_first b) h.1)
@@ -267,7 +267,7 @@ module _ (n calls errors : ℕ) (left left' written written' : Option (List ℕ)
 
 -- the transcript, from the events of the lines and those of the session's end
 pub transcript_events : (w : Option ℕ) (lines : List (List ℕ)) (world : World) (emitted : List What → Type 0) → (course_of w lines).world ≡ world
-  → emitted ((course_of w lines).events ++ (exited world.session).events) → emitted (transcript w lines)
+    → emitted ((course_of w lines).events ++ (exited world.session).events) → emitted (transcript w lines)
 unfolding transcript
 transcript_events w lines world emitted e h = subst (λ (z : World). emitted ((course_of w lines).events ++ (exited z.session).events)) (sym e) h
 

@@ -177,7 +177,7 @@ either_course false x y n h k = k
 line_errors : (w : Option ℕ) (course : Course) (line : List ℕ) (n : ℕ) → errors_in course.events ≤ n → errors_in (after_line w course line).events ≤ n + 1
 line_errors w course line n h =
     either_course course.wanted course (after_turn course (turn w (read_line line) course.world)) (n + 1) (omega (arith, h))
-      (omega (arith, h, errors_in-append course.events (turn w (read_line line) course.world).events, turn_errors w (read_line line) course.world))
+    (omega (arith, h, errors_in-append course.events (turn w (read_line line) course.world).events, turn_errors w (read_line line) course.world))
 
 course_errors : (w : Option ℕ) (course : Course) (lines : List (List ℕ)) (n : ℕ) → errors_in course.events ≤ n → errors_in (fold (after_line w) course lines).events ≤ n + length lines
 course_errors w course [] n h = omega (arith, h)

@@ -21,6 +21,7 @@ reads_script_line line Nothing h = comment line h.0 h.1
   where
     short : (n : ℕ) → n < 513 → nat_lt 512 n ≡ false
     short n h = grind (arith, nat_tests)
+
     comment : (line : List ℕ) → length line < 513 → (line ≡ []) ⊎ ((rest : List ℕ) × (line ≡ codes "#" ++ rest)) → (if nat_lt 512 (length line) then None else if is_comment line then Some Nothing else command_of line) ≡ Some Nothing
     comment line fits (inl e) = rw e refl
     comment line fits (inr p) =
@@ -41,6 +42,7 @@ number_told max word n h = by_tests (is_text word (decimal m)) (nat_le m max) re
   where
     m : ℕ
     m = digits_value 10 word
+
     by_tests : (a b : Bool) → is_text word (decimal (digits_value 10 word)) ≡ a → nat_le (digits_value 10 word) max ≡ b → (if a && b then Some (digits_value 10 word) else None) ≡ Some n → (word ≡ decimal n) × (n ≤ max)
     by_tests true true t f h =
         let value : digits_value 10 word ≡ n = cc in
@@ -58,6 +60,7 @@ pin_told line command h = by_start (starts_with ◌==◌ line (codes "pin ")) re
         let told = number_told (2 ^ 32 - 1) (drop 4 line) n e in
         let same : Pin n ≡ command = cc in
         subst (IsScriptLine line) same (omega (arith, told.1), s ∙ ap (λ (z : List ℕ). codes "pin " ++ z) told.0)
+
     by_start : (b : Bool) → starts_with ◌==◌ line (codes "pin ") ≡ b → (if b then option_map Pin (number_of (2 ^ 32 - 1) (drop 4 line)) else None) ≡ Some command → IsScriptLine line command
     by_start true t h =
         let front : codes "pin " ≡ take 4 line = (bytes_decides (codes "pin ") (take 4 line)).0 t in
@@ -65,7 +68,7 @@ pin_told line command h = by_start (starts_with ◌==◌ line (codes "pin ")) re
     by_start false t h = absurd (cc)
 
 command_told : (line : List ℕ) (command : Command) (a b c : Bool) → is_text line (codes "begin") ≡ a → is_text line (codes "commit") ≡ b → is_text line (codes "rollback") ≡ c
-  → (if a then Some Begin else if b then Some Commit else if c then Some Rollback else pin_of line) ≡ Some command → IsScriptLine line command
+    → (if a then Some Begin else if b then Some Commit else if c then Some Rollback else pin_of line) ≡ Some command → IsScriptLine line command
 command_told line command true b c ea eb ec h = let same : Begin ≡ command = cc in subst (IsScriptLine line) same ((bytes_decides line (codes "begin")).0 ea)
 command_told line command false true c ea eb ec h = let same : Commit ≡ command = cc in subst (IsScriptLine line) same ((bytes_decides line (codes "commit")).0 eb)
 command_told line command false false true ea eb ec h = let same : Rollback ≡ command = cc in subst (IsScriptLine line) same ((bytes_decides line (codes "rollback")).0 ec)

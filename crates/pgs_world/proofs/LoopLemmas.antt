@@ -34,11 +34,11 @@ bounded-more n lines line old new b g = record {
 
 -- one line more, and the script goes on
 pub Stands-line : (start before after : Option (List ℕ)) (reader reader' : Reading) (old new : World) (kept : List ℕ) (long : Bool) (emitted during emitted' : List What → Type 0) (lines : List (List ℕ))
-  → Stands start before reader old emitted lines → (g : GivesLine before after reader reader' kept long)
-  → ((w : Option ℕ) → Fits false new.calls w → TurnIs (turn w (read_line g.line) old) new during false)
-  → old.calls ≤ new.calls → IsBetweenLines new.session.level → Grows 4 old new
-  → ((xs ys : List What) → emitted xs → during ys → emitted' (xs ++ ys))
-  → Stands start after reader' new emitted' (lines ++ g.line ∷ [])
+    → Stands start before reader old emitted lines → (g : GivesLine before after reader reader' kept long)
+    → ((w : Option ℕ) → Fits false new.calls w → TurnIs (turn w (read_line g.line) old) new during false)
+    → old.calls ≤ new.calls → IsBetweenLines new.session.level → Grows 4 old new
+    → ((xs ys : List What) → emitted xs → during ys → emitted' (xs ++ ys))
+    → Stands start after reader' new emitted' (lines ++ g.line ∷ [])
 Stands-line start before after reader reader' old new kept long emitted during emitted' lines s g turns rise between grows joins = record {
   read = HasRead-line most_bytes start before after reader reader' kept long lines s.read g;
   courses = CoursesAre-line lines g.line old new emitted during emitted' false s.courses turns rise (λ e. absurd (cc)) joins;
@@ -61,7 +61,7 @@ has_room start now reader world emitted lines s =
 
 -- The ends without a line.
 module _ (start before after : Option (List ℕ)) (reader reader' : Reading) (world : World) (emitted emitted' : List What → Type 0) (lines : List (List ℕ)) (n : ℕ)
-  (s : Stands start before reader world emitted lines) (leads : (xs : List What) → emitted xs → emitted' xs) (count : n ≡ length lines) where
+    (s : Stands start before reader world emitted lines) (leads : (xs : List What) → emitted xs → emitted' xs) (count : n ≡ length lines) where
   pub ends-whole : MeetsEnd before after reader reader' → Performs (record { end = end.Whole; lines = n }) start after world emitted'
   ends-whole m =
       let read = HasRead-end most_bytes start before after reader reader' lines s.read m in record {
@@ -108,8 +108,8 @@ module _ (start before after : Option (List ℕ)) (reader reader' : Reading) (wo
 
 -- The ends behind a line.
 module _ (start before after : Option (List ℕ)) (reader reader' : Reading) (old new : World) (kept : List ℕ) (long : Bool) (emitted during emitted' : List What → Type 0) (lines : List (List ℕ)) (n : ℕ)
-  (s : Stands start before reader old emitted lines) (rise : old.calls ≤ new.calls)
-  (joins : (xs ys : List What) → emitted xs → during ys → emitted' (xs ++ ys)) (count : n ≡ length lines) where
+    (s : Stands start before reader old emitted lines) (rise : old.calls ≤ new.calls)
+    (joins : (xs ys : List What) → emitted xs → during ys → emitted' (xs ++ ys)) (count : n ≡ length lines) where
   front_of : (line : List ℕ) (e : End) (failed : Bool) → IsLineEnd e failed → (bytes : List ℕ) → AreFront bytes (lines ++ line ∷ []) start after → EndIs e bytes (lines ++ line ∷ []) start after
   front_of line end.Whole failed h bytes f = absurd h
   front_of line end.Wanted failed h bytes f = f
@@ -121,9 +121,9 @@ module _ (start before after : Option (List ℕ)) (reader reader' : Reading) (ol
   more line = omega (arith, count, length-append lines (line ∷ []))
 
   pub ends-line : (g : GivesLine before after reader reader' kept long) (e : End) (failed : Bool) → IsLineEnd e failed
-    → ((w : Option ℕ) → Fits (is_wanted e) new.calls w → TurnIs (turn w (read_line g.line) old) new during (is_wanted e))
-    → (is_wanted e ≡ true → old.calls < new.calls)
-    → Performs (record { end = e; lines = n + 1 }) start after new emitted'
+      → ((w : Option ℕ) → Fits (is_wanted e) new.calls w → TurnIs (turn w (read_line g.line) old) new during (is_wanted e))
+      → (is_wanted e ≡ true → old.calls < new.calls)
+      → Performs (record { end = e; lines = n + 1 }) start after new emitted'
   ends-line g e failed h turns counted =
       let read = HasRead-now most_bytes start after reader' (lines ++ g.line ∷ []) (HasRead-line most_bytes start before after reader reader' kept long lines s.read g) in record {
         bytes = read.0;
@@ -135,8 +135,8 @@ module _ (start before after : Option (List ℕ)) (reader reader' : Reading) (ol
       }
 
   pub ends-last : (g : GivesLast before after reader reader' kept long)
-    → ((w : Option ℕ) → Fits false new.calls w → TurnIs (turn w (read_line g.line) old) new during false)
-    → Performs (record { end = end.Whole; lines = n + 1 }) start after new emitted'
+      → ((w : Option ℕ) → Fits false new.calls w → TurnIs (turn w (read_line g.line) old) new during false)
+      → Performs (record { end = end.Whole; lines = n + 1 }) start after new emitted'
   ends-last g turns =
       let read = HasRead-last most_bytes start before after reader reader' kept long lines s.read g in record {
         bytes = read.0;
@@ -148,9 +148,9 @@ module _ (start before after : Option (List ℕ)) (reader reader' : Reading) (ol
       }
 
   pub ends-last_line : (g : GivesLast before after reader reader' kept long) (e : End) (failed : Bool) → IsLineEnd e failed
-    → ((w : Option ℕ) → Fits (is_wanted e) new.calls w → TurnIs (turn w (read_line g.line) old) new during (is_wanted e))
-    → (is_wanted e ≡ true → old.calls < new.calls)
-    → Performs (record { end = e; lines = n + 1 }) start after new emitted'
+      → ((w : Option ℕ) → Fits (is_wanted e) new.calls w → TurnIs (turn w (read_line g.line) old) new during (is_wanted e))
+      → (is_wanted e ≡ true → old.calls < new.calls)
+      → Performs (record { end = e; lines = n + 1 }) start after new emitted'
   ends-last_line g e failed h turns counted =
       let read = HasRead-last most_bytes start before after reader reader' kept long lines s.read g in record {
         bytes = read.0;
@@ -162,8 +162,8 @@ module _ (start before after : Option (List ℕ)) (reader reader' : Reading) (ol
       }
 
   pub ends-last_any : (g : GivesLast before after reader reader' kept long) (r : Option End) (failed : Bool) → IfSome r (λ e. IsLineEnd e failed)
-    → ((w : Option ℕ) → Fits (is_wanted_in r) new.calls w → TurnIs (turn w (read_line g.line) old) new during (is_wanted_in r))
-    → (is_wanted_in r ≡ true → old.calls < new.calls)
-    → Performs (record { end = unwrap_or r end.Whole; lines = n + 1 }) start after new emitted'
+      → ((w : Option ℕ) → Fits (is_wanted_in r) new.calls w → TurnIs (turn w (read_line g.line) old) new during (is_wanted_in r))
+      → (is_wanted_in r ≡ true → old.calls < new.calls)
+      → Performs (record { end = unwrap_or r end.Whole; lines = n + 1 }) start after new emitted'
   ends-last_any g None failed h turns counted = ends-last g turns
   ends-last_any g (Some e) failed h turns counted = ends-last_line g e failed h turns counted

@@ -32,8 +32,8 @@ pub has_owner-released : (n m : ℕ) (owners : List Owner) → has_owner n (rele
 has_owner-released n m [] = refl
 has_owner-released n m (owner ∷ owners) =
     elim (owner.number == m) as (λ (b : Bool). (((if b then record owner { begun = true; items = [] } else owner).number == n) || has_owner n (released BeforeLocks m owners)) ≡ has_owner n (owner ∷ owners)) [
-      true ↦ ap (λ (b : Bool). (owner.number == n) || b) (has_owner-released n m owners)
-    | false ↦ ap (λ (b : Bool). (owner.number == n) || b) (has_owner-released n m owners)
+      | true ↦ ap (λ (b : Bool). (owner.number == n) || b) (has_owner-released n m owners)
+      | false ↦ ap (λ (b : Bool). (owner.number == n) || b) (has_owner-released n m owners)
     ]
 
 released_head : (n : ℕ) (owner : Owner) (owners : List Owner) (b : Bool) → (owner.number == n) ≡ b → items_of n (released BeforeLocks n owners) ≡ [] → items_of n (released BeforeLocks n (owner ∷ owners)) ≡ []
@@ -84,10 +84,10 @@ eq-flip m n = grind (arith, nat_tests)
 
 -- one pin more
 pub pins_counted-pinned : (pins : List ℕ) (buffer serial kind key : ℕ) (items : List Item) → buffer < length pins → pins_counted pins kind key ≡ uses kind key items
-  → pins_counted (slice_set pins buffer (slice_index pins buffer + 1)) kind key ≡ uses kind key (record { kind = record { 0 = 1 }; key = buffer; serial = serial } ∷ items)
+    → pins_counted (slice_set pins buffer (slice_index pins buffer + 1)) kind key ≡ uses kind key (record { kind = record { 0 = 1 }; key = buffer; serial = serial } ∷ items)
 pins_counted-pinned pins buffer serial kind key items h e =
     counted_cases kind (buffer == key) (slice_index pins key) (slice_index (slice_set pins buffer (slice_index pins buffer + 1)) key) (uses kind key items) (kind == 1)
-      refl (eq-flip 1 kind) e (slice_index-pinned pins buffer key h)
+    refl (eq-flip 1 kind) e (slice_index-pinned pins buffer key h)
     ∙ ap (λ (b : Bool). uses kind key items + (if b && (buffer == key) then 1 else 0)) (eq-flip kind 1)
     ∙ sym (uses-cons kind key (record { kind = record { 0 = 1 }; key = buffer; serial = serial }) items)
 
@@ -96,21 +96,21 @@ uses-le kind key items = count_by-le-length (λ (item : Item). item.kind.0 == ki
 
 -- a session stays sound where it pins a buffer
 pub sound_pinned : (old new : World) (pins pins' : List ℕ) (n buffer : ℕ) → IsSound old pins → owner_of old.session.level ≡ Some n → IsOpen old.session.level
-  → new.session.level ≡ old.session.level
-  → new.session.owners ≡ remembered n (record { kind = record { 0 = 1 }; key = buffer; serial = old.session.next_serial }) old.session.owners
-  → new.session.next_serial ≡ old.session.next_serial + 1
-  → pins' ≡ slice_set pins buffer (slice_index pins buffer + 1)
-  → buffer < 1024 → IsSound new pins'
+    → new.session.level ≡ old.session.level
+    → new.session.owners ≡ remembered n (record { kind = record { 0 = 1 }; key = buffer; serial = old.session.next_serial }) old.session.owners
+    → new.session.next_serial ≡ old.session.next_serial + 1
+    → pins' ≡ slice_set pins buffer (slice_index pins buffer + 1)
+    → buffer < 1024 → IsSound new pins'
 sound_pinned old new pins pins' n buffer s o h same_level owners serial set small =
     let item : Item = record { kind = record { 0 = 1 }; key = buffer; serial = old.session.next_serial } in
     let alone : old.session.owners ≡ record { number = n; begun = false; items = s.items } ∷ [] = open_owner old.session.level n s.items old.session.owners s.owners_are o h in
     record {
       items = item ∷ s.items;
       owners_are = subst (λ (z : Option LevelState). OwnersAre z (item ∷ s.items) new.session.owners) (sym same_level)
-        (owner_opens old.session.level n (item ∷ s.items) new.session.owners o h
+          (owner_opens old.session.level n (item ∷ s.items) new.session.owners o h
           (owners ∙ ap (remembered n item) alone ∙ remembered-alone n item s.items));
       pinned = λ kind key. ap (λ (z : List ℕ). pins_counted z kind key) set
-        ∙ pins_counted-pinned pins buffer old.session.next_serial kind key s.items (omega (arith, s.buffers, small)) (s.pinned kind key);
+          ∙ pins_counted-pinned pins buffer old.session.next_serial kind key s.items (omega (arith, s.buffers, small)) (s.pinned kind key);
       few = omega (arith, s.few, serial);
       buffers = ap length set ∙ length-set pins buffer (slice_index pins buffer + 1) ∙ s.buffers;
     }

@@ -9,7 +9,7 @@ use Rattle.pgs_world.specs.Transcript.{Turn, turn, turn_of, TurnIs}
 
 -- a line whose elements were all done
 pub turn-ok : (w : Option ℕ) (command : Option Command) (old new : World) (emitted : List What → Type 0)
-  → Answers (λ w. does_all w (elements_of command old.session) old) old new emitted None → Fits false new.calls w → TurnIs (turn w command old) new emitted false
+    → Answers (λ w. does_all w (elements_of command old.session) old) old new emitted None → Fits false new.calls w → TurnIs (turn w command old) new emitted false
 unfolding turn
 turn-ok w command old new emitted a f =
     let done : Done = does_all w (elements_of command old.session) old in
@@ -17,10 +17,10 @@ turn-ok w command old new emitted a f =
 
 -- a line whose elements met an error, and the recovery from it
 pub turn-err : (w : Option ℕ) (command : Option Command) (old mid new : World) (error : Error) (before emitted : List What → Type 0)
-  → Answers (λ w. does_all w (elements_of command old.session) old) old mid before (Some error)
-  → new ≡ record mid { session = (recovered error mid.session).session }
-  → ((xs : List What) → before xs → emitted (xs ++ (recovered error mid.session).events))
-  → Fits (is_want error) new.calls w → TurnIs (turn w command old) new emitted (is_want error)
+    → Answers (λ w. does_all w (elements_of command old.session) old) old mid before (Some error)
+    → new ≡ record mid { session = (recovered error mid.session).session }
+    → ((xs : List What) → before xs → emitted (xs ++ (recovered error mid.session).events))
+    → Fits (is_want error) new.calls w → TurnIs (turn w command old) new emitted (is_want error)
 unfolding turn
 turn-err w command old mid new error before emitted a ended joins f =
     let done : Done = does_all w (elements_of command old.session) old in

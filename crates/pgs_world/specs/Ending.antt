@@ -22,7 +22,7 @@ outcome_of ended calls failed errors = record {
   status = status_of ended.end failed errors;
   call = if is_wanted ended.end then calls else 0;
   errors = errors;
-  lines = ended.lines
+  lines = ended.lines;
 }
 
 -- the statuses of a script that was played

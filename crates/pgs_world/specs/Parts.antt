@@ -17,7 +17,7 @@ level_state level = record { owner = option_map (λ id. id.number) level.owner; 
 abbrev pub world_of : OwnerTable → Option Level → ℕ → World
 world_of owners level calls = record {
   session = record { level = option_map level_state level; owners = owners_of owners; next_owner = owners.next_owner; next_serial = owners.next_serial };
-  calls = calls
+  calls = calls;
 }
 
 -- The owner of a level is the one owner that there is. Its release has begun where the level is aborted, and it holds nothing then.

@@ -21,7 +21,7 @@ module _ {K : Type 0} (written : K → Option (List ℕ)) (faults : K → ℕ) w
   TakesBytes-more a b c xs ys both p q e = record {
     same_sink = q.same_sink ∙ p.same_sink;
     moves = subst (λ (z : List ℕ). Moves a.failed c.failed (seen written faults a) (seen written faults c) z) e
-      (Moves-more a.failed b.failed c.failed (seen written faults a) (seen written faults b) (seen written faults c) xs ys q.never_falls p.moves q.moves);
+        (Moves-more a.failed b.failed c.failed (seen written faults a) (seen written faults b) (seen written faults c) xs ys q.never_falls p.moves q.moves);
     never_falls = omega (arith, p.never_falls, q.never_falls);
     errors = q.errors ∙ p.errors;
     session = q.session ∙ p.session;

@@ -12,7 +12,7 @@ module _ {K : Type 0} (written : K → Option (List ℕ)) (faults : K → ℕ) w
     gathered = p.gathered.items;
     failed = p.failed;
     errors = p.errors;
-    session = p.session
+    session = p.session;
   }
 
   -- the printer writes to the same sink as before, and took these events

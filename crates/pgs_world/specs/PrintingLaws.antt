@@ -33,7 +33,7 @@ pub hands_more : (a b c : Gathering) (xs ys rest : List ℕ) → HandsOn a b xs 
 hands_more a b c xs ys rest p q = record {
   handed = p.handed ++ q.handed;
   parts = append_assoc p.handed q.handed rest ∙ ap (λ (z : List ℕ). p.handed ++ z) q.parts ∙ sym (append_assoc p.handed b.gathered ys)
-    ∙ ap (λ (z : List ℕ). z ++ ys) p.parts ∙ append_assoc a.gathered xs ys;
+      ∙ ap (λ (z : List ℕ). z ++ ys) p.parts ∙ append_assoc a.gathered xs ys;
   taken = q.taken ∙ ap (λ (z : Option (List ℕ)). append_known z q.handed) p.taken ∙ append_known-append a.written p.handed q.handed;
 }
 
@@ -69,7 +69,7 @@ Prints-more a b c xs ys both p q e =
     subst (λ (z : List What). Prints a z c) e
     (record {
       bytes = subst (Moves a.failed c.failed a c) (sym (texts_of-append a.session xs ys))
-        (Moves-more a.failed b.failed c.failed a b c (texts_of [] a.session xs) (texts_of [] a.session ys) q.never_falls p.bytes
+          (Moves-more a.failed b.failed c.failed a b c (texts_of [] a.session xs) (texts_of [] a.session ys) q.never_falls p.bytes
           (subst (λ (s : ℕ). Moves b.failed c.failed b c (texts_of [] s ys)) p.session q.bytes));
       never_falls = omega (arith, p.never_falls, q.never_falls);
       errors = omega (arith, p.errors, q.errors, errors_in-append xs ys);

@@ -122,9 +122,9 @@ owner_made session = record {
   session = record session {
     level = Some (record { owner = Some session.next_owner; aborted = false });
     owners = record { number = session.next_owner; begun = false; items = [] } ∷ session.owners;
-    next_owner = session.next_owner + 1
+    next_owner = session.next_owner + 1;
   };
-  events = Owner session.next_owner ∷ []
+  events = Owner session.next_owner ∷ [];
 }
 
 -- the number of the level's owner
@@ -138,7 +138,7 @@ pinned_by None buffer session = record { session = session; events = [] }
 pinned_by (Some owner) buffer session =
     let item : Item = record { kind = record { 0 = 1 }; key = buffer; serial = session.next_serial } in record {
       session = record session { owners = remembered owner item session.owners; next_serial = session.next_serial + 1 };
-      events = Acquire item owner ∷ []
+      events = Acquire item owner ∷ [];
     }
 
 -- the events of the release of all that an owner holds: of each item, the newest first
@@ -165,7 +165,7 @@ abbrev pub committed : SessionState → Ended
 committed session =
     let owner = owner_of session.level in record {
       session = record session { level = None; owners = after_gone owner (after_release owner session.owners) };
-      events = CommitLevel 1 ∷ release_events true owner session.owners ++ gone_events owner
+      events = CommitLevel 1 ∷ release_events true owner session.owners ++ gone_events owner;
     }
 
 -- The level aborts: all that its owner holds is released.
@@ -173,7 +173,7 @@ abbrev pub aborted : SessionState → Ended
 aborted session =
     let owner = owner_of session.level in record {
       session = record session { level = Some (record { owner = owner; aborted = true }); owners = after_release owner session.owners };
-      events = AbortLevel 1 ∷ release_events false owner session.owners
+      events = AbortLevel 1 ∷ release_events false owner session.owners;
     }
 
 -- An aborted level is cleaned up: its owner is discarded, and the level goes.
@@ -181,7 +181,7 @@ abbrev pub cleaned_up : SessionState → Ended
 cleaned_up session =
     let owner = owner_of session.level in record {
       session = record session { level = None; owners = after_gone owner session.owners };
-      events = CleanupLevel 1 ∷ gone_events owner
+      events = CleanupLevel 1 ∷ gone_events owner;
     }
 
 -- an end never fails

@@ -22,7 +22,7 @@ turn_of done (Some error) =
     let ended = recovered error done.world.session in record {
       world = record done.world { session = ended.session };
       events = done.events ++ ended.events;
-      wanted = is_want error
+      wanted = is_want error;
     }
 
 -- what a line does, by what it says

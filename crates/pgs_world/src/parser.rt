@@ -63,5 +63,4 @@ fn parse_pin(line: &[u8]) -> Option<Command>
 pub fn script_lines()
     ensures read { (line : List ℕ) (command : Command) → read_line line ≡ Some command → IsScriptLine line command }
     ensures only { (line : List ℕ) (command : Command) → IsScriptLine line command → read_line line ≡ Some command }
-{
-}
+{}

@@ -16,7 +16,8 @@ use std::alloc::Global;
 const SESSION: u8 = 1;
 
 /// What refused words are answered with.
-const USAGE: &[u8] = b"usage: pgscript [--space N] [--sessions N] [--descriptors N] [--fail N] [--generate N] [--sweep]\n";
+const USAGE: &[u8] =
+    b"usage: pgscript [--space N] [--sessions N] [--descriptors N] [--fail N] [--generate N] [--sweep]\n";
 
 /// What a run did.
 ///
@@ -39,12 +40,7 @@ pub struct Outcome {
 ///
 /// `words` are those of the command line, without the program's name. None is accepted yet: any word is
 /// answered with the usage line and status 2.
-pub fn run<S: Source, K: Sink>(
-    alloc: Global,
-    words: &[String],
-    src: &mut S,
-    out: &mut K,
-) -> Outcome
+pub fn run<S: Source, K: Sink>(alloc: Global, words: &[String], src: &mut S, out: &mut K) -> Outcome
     // Status 0 or 1: all of the source was read, and the whole transcript was written.
     ensures whole { (result.status ≡ 0) ⊎ (result.status ≡ 1) → IsWhole result (S.left src.old) (S.left src.new) (K.written out.old) (K.written out.new) }
 
@@ -114,7 +110,12 @@ fn play<S: Source, K: Sink>(mut session: Session, src: &mut S, out: &mut K) -> O
     let ended = perform_lines(&mut session, src, &mut printer);
     session.exit(&mut printer);
     printer.flush();
-    made_outcome(ended, session.calls(), printer.has_failed(), printer.errors())
+    made_outcome(
+        ended,
+        session.calls(),
+        printer.has_failed(),
+        printer.errors(),
+    )
 }
 
 /// What the end of a script, the count of fallible calls, a failed write and the count of errors make.

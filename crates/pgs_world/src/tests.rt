@@ -10,7 +10,8 @@ const BEGUN: &str = "1 begin level 1\n1 owner o1\n1 ok\n";
 
 const PINNED: &str = "1 begin level 1\n1 owner o1\n1 ok\n1 acquire buffer pin 7 #1 o1\n1 ok\n";
 
-const ROLLED_BACK: &str = "1 abort level 1\n1 release buffer pin 7 #1 o1\n1 cleanup level 1\n1 owner o1 gone\n";
+const ROLLED_BACK: &str =
+    "1 abort level 1\n1 release buffer pin 7 #1 o1\n1 cleanup level 1\n1 owner o1 gone\n";
 
 /// What a run left: its outcome and the bytes that were written.
 #[derive(Drop)]
@@ -56,9 +57,18 @@ fn an_empty_script(rt: HostRuntime) -> Result<(), Fail> {
 #[test]
 fn a_commit_warns_of_a_pin(rt: HostRuntime) -> Result<(), Fail> {
     let played = play(rt.alloc(), b"begin\npin 7\ncommit\n", 4096, 0, 0)?;
-    let end = "1 commit level 1\n1 warning resource was not closed: buffer pin 7 #1 o1\n1 release buffer pin 7 #1 o1\n1 owner o1 gone\n1 ok\n1 exit\n";
+    let end =
+        "1 commit level 1\n1 warning resource was not closed: buffer pin 7 #1 o1\n1 release buffer pin 7 #1 o1\n1 owner o1 gone\n1 ok\n1 exit\n";
     let wanted = joined(rt.alloc(), PINNED, end)?;
-    assert_eq!(rt; played.outcome, Outcome { status: 0, call: 0, errors: 0, lines: 3 });
+    assert_eq!(rt;
+        played.outcome,
+        Outcome {
+            status: 0,
+            call: 0,
+            errors: 0,
+            lines: 3
+        }
+    );
     assert_eq!(rt; played.written.as_slice(), wanted.as_slice());
     Ok(())
 }
@@ -68,7 +78,15 @@ fn a_rollback_releases_a_pin(rt: HostRuntime) -> Result<(), Fail> {
     let played = play(rt.alloc(), b"begin\npin 7\nrollback\n", 5, 0, 0)?;
     let head = joined(rt.alloc(), PINNED, ROLLED_BACK)?;
     let wanted = [head.as_slice(), b"1 ok\n1 exit\n"].concat(rt.alloc())?;
-    assert_eq!(rt; played.outcome, Outcome { status: 0, call: 0, errors: 0, lines: 3 });
+    assert_eq!(rt;
+        played.outcome,
+        Outcome {
+            status: 0,
+            call: 0,
+            errors: 0,
+            lines: 3
+        }
+    );
     assert_eq!(rt; played.written.as_slice(), wanted.as_slice());
     Ok(())
 }
@@ -76,9 +94,18 @@ fn a_rollback_releases_a_pin(rt: HostRuntime) -> Result<(), Fail> {
 #[test]
 fn an_aborted_transaction_takes_no_pin(rt: HostRuntime) -> Result<(), Fail> {
     let played = play(rt.alloc(), b"begin\npin 1024\npin 1\n", 4096, 0, 0)?;
-    let end = "1 ERROR 22023 no such buffer\n1 abort level 1\n1 ERROR 25P02 transaction is aborted\n1 cleanup level 1\n1 owner o1 gone\n1 exit\n";
+    let end =
+        "1 ERROR 22023 no such buffer\n1 abort level 1\n1 ERROR 25P02 transaction is aborted\n1 cleanup level 1\n1 owner o1 gone\n1 exit\n";
     let wanted = joined(rt.alloc(), BEGUN, end)?;
-    assert_eq!(rt; played.outcome, Outcome { status: 1, call: 0, errors: 2, lines: 3 });
+    assert_eq!(rt;
+        played.outcome,
+        Outcome {
+            status: 1,
+            call: 0,
+            errors: 2,
+            lines: 3
+        }
+    );
     assert_eq!(rt; played.written.as_slice(), wanted.as_slice());
     Ok(())
 }
@@ -88,7 +115,15 @@ fn a_read_that_fails(rt: HostRuntime) -> Result<(), Fail> {
     let played = play(rt.alloc(), b"begin\npin 7\nro", 1, 15, 0)?;
     let head = joined(rt.alloc(), PINNED, ROLLED_BACK)?;
     let wanted = [head.as_slice(), b"1 exit\n"].concat(rt.alloc())?;
-    assert_eq!(rt; played.outcome, Outcome { status: 3, call: 0, errors: 0, lines: 2 });
+    assert_eq!(rt;
+        played.outcome,
+        Outcome {
+            status: 3,
+            call: 0,
+            errors: 0,
+            lines: 2
+        }
+    );
     assert_eq!(rt; played.written.as_slice(), wanted.as_slice());
     Ok(())
 }
@@ -98,7 +133,11 @@ fn a_read_that_fails(rt: HostRuntime) -> Result<(), Fail> {
 fn each_read_fails_in_turn(rt: HostRuntime) -> Result<(), Fail> {
     for (call, lines) in [(1, 0), (6, 0), (7, 1), (12, 1), (13, 2), (19, 2), (20, 3)] {
         let played = play(rt.alloc(), b"begin\npin 7\ncommit\n", 1, call, 0)?;
-        assert_eq!(rt; (played.outcome.status, played.outcome.lines), (3, lines), "read {call}");
+        assert_eq!(rt;
+            (played.outcome.status, played.outcome.lines),
+            (3, lines),
+            "read {call}"
+        );
     }
     Ok(())
 }
@@ -108,8 +147,15 @@ fn each_write_fails_in_turn(rt: HostRuntime) -> Result<(), Fail> {
     let whole = play(rt.alloc(), b"begin\npin 7\ncommit\n", 1, 0, 0)?;
     for (call, lines) in [(1, 1), (2, 2), (3, 3), (4, 3)] {
         let played = play(rt.alloc(), b"begin\npin 7\ncommit\n", 1, 0, call)?;
-        assert_eq!(rt; (played.outcome.status, played.outcome.lines), (4, lines), "write {call}");
-        assert!(rt; whole.written.starts_with(played.written.as_slice()), "write {call}");
+        assert_eq!(rt;
+            (played.outcome.status, played.outcome.lines),
+            (4, lines),
+            "write {call}"
+        );
+        assert!(rt;
+            whole.written.starts_with(played.written.as_slice()),
+            "write {call}"
+        );
     }
     Ok(())
 }
@@ -121,8 +167,17 @@ fn any_word_is_refused(rt: HostRuntime) -> Result<(), Fail> {
     let mut source = MemSource::new(Vec::from_slice(alloc, b"begin\n")?, 1, Vec::new(alloc));
     let mut sink = MemSink::new(alloc, 4096, Vec::new(alloc))?;
     let outcome = run(alloc, &words, &mut source, &mut sink);
-    let usage = b"usage: pgscript [--space N] [--sessions N] [--descriptors N] [--fail N] [--generate N] [--sweep]\n";
-    assert_eq!(rt; outcome, Outcome { status: 2, call: 0, errors: 0, lines: 0 });
+    let usage =
+        b"usage: pgscript [--space N] [--sessions N] [--descriptors N] [--fail N] [--generate N] [--sweep]\n";
+    assert_eq!(rt;
+        outcome,
+        Outcome {
+            status: 2,
+            call: 0,
+            errors: 0,
+            lines: 0
+        }
+    );
     assert_eq!(rt; sink.written(), usage.as_slice());
     Ok(())
 }
@@ -138,7 +193,15 @@ fn plenty_of_memory(rt: HostRuntime) -> Result<(), Fail> {
     let mut source = MemSource::new(script, 4096, Vec::new(alloc));
     let mut sink = MemSink::new(alloc, 1 << 20, Vec::new(alloc))?;
     let outcome = run(alloc, &Vec::new(alloc), &mut source, &mut sink);
-    assert_eq!(rt; outcome, Outcome { status: 0, call: 0, errors: 0, lines: 1000 });
+    assert_eq!(rt;
+        outcome,
+        Outcome {
+            status: 0,
+            call: 0,
+            errors: 0,
+            lines: 1000
+        }
+    );
     Ok(())
 }
 
@@ -149,7 +212,11 @@ fn lines_of_512_and_513_bytes(rt: HostRuntime) -> Result<(), Fail> {
         let mut script = Vec::from_slice(alloc, b"#")?;
         script.extend_from_slice(&vec![in alloc; b'x'; bytes]?)?;
         let played = play(alloc, &script, 100, 0, 0)?;
-        assert_eq!(rt; played.outcome.status, status, "{bytes} bytes behind the sign");
+        assert_eq!(rt;
+            played.outcome.status,
+            status,
+            "{bytes} bytes behind the sign"
+        );
     }
     Ok(())
 }

@@ -22,24 +22,25 @@ returns-in-Some-end-clause-performs g c =
     let line = rw c.in-Line.is at c.in-Some.ensures.line in
     let kept : IsKept line.line c.as_slice.result.now c.in-Line.long = subst (λ (k : List ℕ). IsKept line.line k c.in-Line.long) (sym c.as_slice.ensures.bytes) line.kept_line in
     ends-line _ _ _ _ _ _ c.perform_line-end.new.session _ _ _ (λ (ys : List What). TakesEvents g.K.Sink.written g.K.Sink.faults c.next_line.new.printer ys c.perform_line-end.new.printer) _ _ _
-      c.loop-next.invariant.1 c.perform_line-end.ensures.calls
-      (λ xs ys p q. TakesEvents-more g.K.Sink.written g.K.Sink.faults _ _ _ xs ys (xs ++ ys)
-        (TakesEvents-more g.K.Sink.written g.K.Sink.faults _ _ _ xs [] xs p c.next_line.ensures.printed (append-nil xs)) q refl)
-      c.loop-next.invariant.2 line c.in-Some-end.end _ c.in-Some-end.ensures.end
-      (λ w f. c.in-Some-end.ensures.turn line.line kept w f) c.in-Some-end.ensures.counted
+    c.loop-next.invariant.1 c.perform_line-end.ensures.calls
+    (λ xs ys p q. TakesEvents-more g.K.Sink.written g.K.Sink.faults _ _ _ xs ys (xs ++ ys)
+    (TakesEvents-more g.K.Sink.written g.K.Sink.faults _ _ _ xs [] xs p c.next_line.ensures.printed (append-nil xs)) q refl)
+    c.loop-next.invariant.2 line c.in-Some-end.end _ c.in-Some-end.ensures.end
+    (λ w f. c.in-Some-end.ensures.turn line.line kept w f) c.in-Some-end.ensures.counted
 
 pub loop-next-preserved : goal.loop-next-preserved
 loop-next-preserved g c =
     let line = rw c.in-Line.is at c.in-Some.ensures.line in
-    let kept : IsKept line.line c.as_slice.result.now c.in-Line.long = subst (λ (k : List ℕ). IsKept line.line k c.in-Line.long) (sym c.as_slice.ensures.bytes) line.kept_line in
-    (c.loop-next.invariant.0 ++ line.line ∷ [],
+    let kept : IsKept line.line c.as_slice.result.now c.in-Line.long = subst (λ (k : List ℕ). IsKept line.line k c.in-Line.long) (sym c.as_slice.ensures.bytes) line.kept_line in (
+      c.loop-next.invariant.0 ++ line.line ∷ [],
       Stands-line _ _ _ _ _ _ c.perform_line-end.new.session _ _ _ (λ (ys : List What). TakesEvents g.K.Sink.written g.K.Sink.faults c.next_line.new.printer ys c.perform_line-end.new.printer) _ _
-        c.loop-next.invariant.1 line (λ w f. c.in_default-end.ensures.turn line.line kept w f)
-        c.perform_line-end.ensures.calls c.perform_line-end.ensures.between c.perform_line-end.ensures.grows
-        (λ xs ys p q. TakesEvents-more g.K.Sink.written g.K.Sink.faults _ _ _ xs ys (xs ++ ys)
+          c.loop-next.invariant.1 line (λ w f. c.in_default-end.ensures.turn line.line kept w f)
+          c.perform_line-end.ensures.calls c.perform_line-end.ensures.between c.perform_line-end.ensures.grows
+          (λ xs ys p q. TakesEvents-more g.K.Sink.written g.K.Sink.faults _ _ _ xs ys (xs ++ ys)
           (TakesEvents-more g.K.Sink.written g.K.Sink.faults _ _ _ xs [] xs p c.next_line.ensures.printed (append-nil xs)) q refl),
       omega (arith, c.loop-next.invariant.2, length-append c.loop-next.invariant.0 (line.line ∷ [])),
-      (rw c.in-Line.is at c.in-Some.ensures.no_fault) ∙ c.loop-next.invariant.3)
+      (rw c.in-Line.is at c.in-Some.ensures.no_fault) ∙ c.loop-next.invariant.3,
+    )
 
 pub perform_line-end-requires-in-Last-clause-room : goal.perform_line-end-requires-in-Last-clause-room
 perform_line-end-requires-in-Last-clause-room g c = has_room _ _ _ _ _ _ c.loop-next.invariant.1
@@ -53,11 +54,11 @@ returns-in-Last-clause-performs g c =
     let kept : IsKept line.line c.as_slice-in-Last.result.now c.in-Last.long = subst (λ (k : List ℕ). IsKept line.line k c.in-Last.long) (sym c.as_slice-in-Last.ensures.bytes) line.kept_line in
     rw c.unwrap_or.ensures
     (ends-last_any _ _ _ _ _ _ c.perform_line-end-in-Last.new.session _ _ _ (λ (ys : List What). TakesEvents g.K.Sink.written g.K.Sink.faults c.next_line.new.printer ys c.perform_line-end-in-Last.new.printer) _ _ _
-      c.loop-next.invariant.1 c.perform_line-end-in-Last.ensures.calls
-      (λ xs ys p q. TakesEvents-more g.K.Sink.written g.K.Sink.faults _ _ _ xs ys (xs ++ ys)
-        (TakesEvents-more g.K.Sink.written g.K.Sink.faults _ _ _ xs [] xs p c.next_line.ensures.printed (append-nil xs)) q refl)
-      c.loop-next.invariant.2 line c.perform_line-end-in-Last.result _ c.perform_line-end-in-Last.ensures.end
-      (λ w f. c.perform_line-end-in-Last.ensures.turn line.line kept w f) c.perform_line-end-in-Last.ensures.counted)
+    c.loop-next.invariant.1 c.perform_line-end-in-Last.ensures.calls
+    (λ xs ys p q. TakesEvents-more g.K.Sink.written g.K.Sink.faults _ _ _ xs ys (xs ++ ys)
+    (TakesEvents-more g.K.Sink.written g.K.Sink.faults _ _ _ xs [] xs p c.next_line.ensures.printed (append-nil xs)) q refl)
+    c.loop-next.invariant.2 line c.perform_line-end-in-Last.result _ c.perform_line-end-in-Last.ensures.end
+    (λ w f. c.perform_line-end-in-Last.ensures.turn line.line kept w f) c.perform_line-end-in-Last.ensures.counted)
 
 pub returns-in-End-clause-performs : goal.returns-in-End-clause-performs
 returns-in-End-clause-performs g c =

@@ -11,7 +11,7 @@ returns-in_err-make_owner-clause-answers g c =
     let p = err_from_is_err_and c.from_residual.result c.from_residual.ensures.1 in
     rw (p.1, p.2, c.in_err-make_owner.ensures.refused)
     (Answers-stop owner_made MakeOwner (Says what.Ok ∷ []) _ _ _ (λ w. refl) c.in_err-make_owner.ensures.unchanged
-      (rw c.in_err-make_owner.ensures.silent (g.met.E.Emit.emits_none _)))
+    (rw c.in_err-make_owner.ensures.silent (g.met.E.Emit.emits_none _)))
 
 pub returns-clause-answers : goal.returns-clause-answers
 returns-clause-answers g c =

@@ -11,4 +11,4 @@ returns-in-Err-clause-turn g c w f =
     let fits : Fits (is_want c.in-Err.error) c.recover.new.self.calls w = subst (λ (b : Bool). Fits b c.recover.new.self.calls w) c.is_want.ensures f in
     rw c.is_want.ensures
     (turn-err w c.args.command c.args.self.now c.perform.new.self c.recover.new.self c.in-Err.error _ _ c.in-Err.ensures.answers c.recover.ensures.recovered
-      (λ xs q. g.met.E.Emit.emits_more _ _ _ _ _ _ q c.recover.ensures.emitted refl) fits)
+    (λ xs q. g.met.E.Emit.emits_more _ _ _ _ _ _ q c.recover.ensures.emitted refl) fits)
