@@ -82,8 +82,14 @@ fn texts_of_locks_files_snapshots_and_ends(rt: HostRuntime) {
             },
             b"8 pass lock 5 AccessShareLock x2 o2 to o1\n".as_slice(),
         ),
-        (What::DescriptorOpened(3), b"8 descriptor opened 3\n".as_slice()),
-        (What::DescriptorClosed(3), b"8 descriptor closed 3\n".as_slice()),
+        (
+            What::DescriptorOpened(3),
+            b"8 descriptor opened 3\n".as_slice(),
+        ),
+        (
+            What::DescriptorClosed(3),
+            b"8 descriptor closed 3\n".as_slice(),
+        ),
         (What::Push(4), b"8 push 4\n".as_slice()),
         (What::Pop(4), b"8 pop 4\n".as_slice()),
         (
@@ -149,7 +155,11 @@ fn names_are_short_words_of_letters(rt: HostRuntime) {
 
 #[test]
 fn names_are_equal_where_their_bytes_are(rt: HostRuntime) {
-    if let (Some(one), Some(same), Some(other)) = (Name::new(b"a_B9"), Name::new(b"a_B9"), Name::new(b"a_B")) {
+    if let (Some(one), Some(same), Some(other)) = (
+        Name::new(b"a_B9"),
+        Name::new(b"a_B9"),
+        Name::new(b"a_B"),
+    ) {
         assert!(rt; one.is(&same));
         assert!(rt; one == same);
         assert!(rt; !one.is(&other));
@@ -163,11 +173,23 @@ fn modes_have_numbers_and_names(rt: HostRuntime) {
         (Mode::AccessShareLock, 1, b"AccessShareLock".as_slice()),
         (Mode::RowShareLock, 2, b"RowShareLock".as_slice()),
         (Mode::RowExclusiveLock, 3, b"RowExclusiveLock".as_slice()),
-        (Mode::ShareUpdateExclusiveLock, 4, b"ShareUpdateExclusiveLock".as_slice()),
+        (
+            Mode::ShareUpdateExclusiveLock,
+            4,
+            b"ShareUpdateExclusiveLock".as_slice(),
+        ),
         (Mode::ShareLock, 5, b"ShareLock".as_slice()),
-        (Mode::ShareRowExclusiveLock, 6, b"ShareRowExclusiveLock".as_slice()),
+        (
+            Mode::ShareRowExclusiveLock,
+            6,
+            b"ShareRowExclusiveLock".as_slice(),
+        ),
         (Mode::ExclusiveLock, 7, b"ExclusiveLock".as_slice()),
-        (Mode::AccessExclusiveLock, 8, b"AccessExclusiveLock".as_slice()),
+        (
+            Mode::AccessExclusiveLock,
+            8,
+            b"AccessExclusiveLock".as_slice(),
+        ),
     ] {
         assert_eq!(rt; mode.number(), number);
         assert_eq!(rt; mode.name(), name);

@@ -95,7 +95,13 @@ fn put_what<const N: usize>(out: &mut ArrayVec<u8, N>, what: What, names: &[Name
         What::Acquire { item, owner } => put_said(out, b"acquire ", item, owner, names),
         What::Release { item, owner } => put_said(out, b"release ", item, owner, names),
         What::NotClosed { item, owner } => {
-            put_said(out, b"warning resource was not closed: ", item, owner, names);
+            put_said(
+                out,
+                b"warning resource was not closed: ",
+                item,
+                owner,
+                names,
+            );
         }
         What::AcquireLock {
             object,
@@ -136,7 +142,13 @@ fn put_what<const N: usize>(out: &mut ArrayVec<u8, N>, what: What, names: &[Name
 
 /// Writes what is said of an item, where its kind has a name.
 #[inline(always)]
-fn put_said<const N: usize>(out: &mut ArrayVec<u8, N>, word: &[u8], item: Item, owner: u64, names: &[Name])
+fn put_said<const N: usize>(
+    out: &mut ArrayVec<u8, N>,
+    word: &[u8],
+    item: Item,
+    owner: u64,
+    names: &[Name],
+)
     requires { (array_vec_len out.old + 300 ≤ N) × (length word.now ≤ 40) }
     ensures text { IfSome (said_of names.now word.now item owner) (λ text. out.new.items ≡ out.old.items ++ text) }
     ensures short { array_vec_len out.new ≤ array_vec_len out.old + 200 }
@@ -224,7 +236,14 @@ fn put_acquired_lock<const N: usize>(out: &mut ArrayVec<u8, N>, object: u32, mod
     put_owner(out, owner);
 }
 
-fn put_passed_lock<const N: usize>(out: &mut ArrayVec<u8, N>, object: u32, mode: Mode, count: u64, from: u64, to: u64)
+fn put_passed_lock<const N: usize>(
+    out: &mut ArrayVec<u8, N>,
+    object: u32,
+    mode: Mode,
+    count: u64,
+    from: u64,
+    to: u64,
+)
     requires { array_vec_len out.old + 300 ≤ N }
     ensures text { out.new.items ≡ out.old.items ++ passed_lock object mode count from to }
     ensures short { array_vec_len out.new ≤ array_vec_len out.old + 300 }
@@ -235,7 +254,14 @@ fn put_passed_lock<const N: usize>(out: &mut ArrayVec<u8, N>, object: u32, mode:
 }
 
 /// A word, a lock, how many counts of it, and their owner.
-fn put_lock_counts<const N: usize>(out: &mut ArrayVec<u8, N>, word: &[u8], object: u32, mode: Mode, count: u64, owner: u64)
+fn put_lock_counts<const N: usize>(
+    out: &mut ArrayVec<u8, N>,
+    word: &[u8],
+    object: u32,
+    mode: Mode,
+    count: u64,
+    owner: u64,
+)
     requires { (array_vec_len out.old + 200 ≤ N) × (length word.now ≤ 40) }
     ensures text { out.new.items ≡ out.old.items ++ lock_counts word.now object mode count owner }
     ensures short { array_vec_len out.new ≤ array_vec_len out.old + 200 }

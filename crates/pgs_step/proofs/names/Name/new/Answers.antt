@@ -1,5 +1,4 @@
-use Rattle.std.proofs.Common.{◌≡◌, ℕ, ◌≤◌, length, take, drop, arith, rules, length-append, length-drop}
-use Rattle.std.proofs.lemmas.Grind.{common_steps}
+use Rattle.std.proofs.Common.{rules}
 use Rattle.pgs_step.proofs.NameLemmas.{kept_name}
 use Rattle.pgs_step.proofs.names.Name.new.Goals as goal
 
