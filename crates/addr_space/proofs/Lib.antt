@@ -1,3 +1,4 @@
 -- Lemmas for this crate, and for the allocators above it.
 pub mod Bytes
+pub mod Copied
 pub mod Held

@@ -1,5 +1,5 @@
 -- What a contract sees of a space.
-use Rattle.std.specs.Prelude.{◌≡◌, ◌≢◌, ℕ, ◌+◌, ◌-◌, ◌^◌, ◌<◌, ◌≤◌, ◌==◌, ◌++◌, List, [], length, Option, Some, None, IsSome, option_map, slice_index, slice_index_or, slice_set, take, drop, replicate, sum_by, min, if◌then◌else◌}
+use Rattle.std.specs.Prelude.{◌≡◌, ◌≢◌, ℕ, ◌+◌, ◌-◌, ◌^◌, ◌<◌, ◌≤◌, ◌==◌, ◌++◌, List, [], length, Option, Some, None, IsSome, option_map, slice_index, slice_index_or, slice_set, take, drop, replicate, sum_by, min, if◌then◌else◌, ◌⊎◌}
 use Rattle.addr_space.specs.declared.Addr.{Addr}
 
 -- a region: the account that it counts for, and its bytes, where one that was never written is `None`
@@ -61,6 +61,10 @@ pub record IsRegion (s : Space) (at : Addr) : Type 0 where
 -- so many bytes from an address on are known
 abbrev pub IsKnown : Space → Addr → ℕ → Type 0
 IsKnown s at n = (k : ℕ) → k < n → IsSome (byte_at s at.region (at.offset + k))
+
+-- two ranges of bytes have no byte in common
+abbrev pub IsApart : Addr → ℕ → Addr → ℕ → Type 0
+IsApart a m b n = a.region ≡ b.region → (a.offset + m ≤ b.offset) ⊎ (b.offset + n ≤ a.offset)
 
 -- so many bytes from a place on
 abbrev pub part : List (Option ℕ) → ℕ → ℕ → List (Option ℕ)

@@ -5,7 +5,7 @@
 
 ghost use Rattle.std.specs.Prelude.{◌≡◌, ◌≢◌, ℕ, ◌+◌, ◌-◌, ◌^◌, ◌<◌, ◌≤◌, ◌==◌, ◌↔◌, [], length, map, Ok, Err, Some, None, IsTrue, IsOk, IfOk, OnOk, OnErr, if◌then◌else◌, replicate, min, slice_index_or, IfSome, IfNone};
 ghost use Rattle.std.specs.Option.{SomeIff};
-ghost use Rattle.addr_space.specs.Space.{Space as Regions, accounts, region_at, bytes_of, held, taken, Fits, IsInside, IsRegion, IsKnown, part, unwritten, overwritten, resized, raised, raised_by, share, IsOverLimit, Changes};
+ghost use Rattle.addr_space.specs.Space.{Space as Regions, accounts, region_at, bytes_of, held, taken, Fits, IsInside, IsRegion, IsKnown, IsApart, part, unwritten, overwritten, resized, raised, raised_by, share, IsOverLimit, Changes};
 
 mod region;
 
@@ -249,7 +249,7 @@ impl Space {
         ensures changes { Changes self.old self.new at.region (overwritten (region_at self.old at.region) at.offset (map Some bytes.now)) }
         ensures taken { self.new.taken ≡ self.old.taken }
     {
-        self.regions[at.region as usize].write(at.offset as usize, bytes);
+        self.write_at(at.region, at.offset as usize, bytes);
     }
 
     /// Reads known bytes.
@@ -258,6 +258,44 @@ impl Space {
         requires known { IsKnown self.now at (length out.old) }
         ensures { map Some out.new ≡ part (bytes_of (region_at self.now at.region)) at.offset (length out.old) }
     {
-        self.regions[at.region as usize].read(at.offset as usize, out);
+        self.read_at(at.region, at.offset as usize, out);
+    }
+
+    /// Copies `n` known bytes to a place that has none of them.
+    pub fn copy(&mut self, from: Addr, to: Addr, n: u32)
+        requires from { IsInside self.old from n }
+        requires to { IsInside self.old to n }
+        requires known { IsKnown self.old from n }
+        requires apart { IsApart from n to n }
+        ensures changes { Changes self.old self.new to.region (overwritten (region_at self.old to.region) to.offset (part (bytes_of (region_at self.old from.region)) from.offset n)) }
+        ensures taken { self.new.taken ≡ self.old.taken }
+    {
+        let mut buffer = [0u8; 256];
+        let mut done = 0usize;
+        while done < n as usize {
+            let step = (n as usize - done).min(256);
+            let piece = &mut buffer[..step];
+            self.read_at(from.region, from.offset as usize + done, piece);
+            self.write_at(to.region, to.offset as usize + done, piece);
+            done += step;
+        }
+    }
+
+    // Writes bytes into a region, from a place on.
+    fn write_at(&mut self, region: u32, offset: usize, bytes: &[u8])
+        requires { IsInside self.old (record { region = region; offset = offset }) (length bytes.now) }
+        ensures changes { Changes self.old self.new region (overwritten (region_at self.old region) offset (map Some bytes.now)) }
+        ensures taken { self.new.taken ≡ self.old.taken }
+    {
+        self.regions[region as usize].write(offset, bytes);
+    }
+
+    // Reads known bytes of a region, from a place on.
+    fn read_at(&self, region: u32, offset: usize, out: &mut [u8])
+        requires inside { IsInside self.now (record { region = region; offset = offset }) (length out.old) }
+        requires known { IsKnown self.now (record { region = region; offset = offset }) (length out.old) }
+        ensures { map Some out.new ≡ part (bytes_of (region_at self.now region)) offset (length out.old) }
+    {
+        self.regions[region as usize].read(offset, out);
     }
 }
