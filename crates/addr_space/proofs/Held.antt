@@ -173,3 +173,8 @@ held-given old new n account others gone =
 pub held-put : (old new : Space) (n account : ℕ) (slot : Option Region) → ((k : ℕ) → k ≢ n → get_or new.regions k None ≡ get_or old.regions k None) → get_or new.regions n None ≡ slot → held new account + share account (get_or old.regions n None) ≡ held old account + share account slot
 held-put old new n account slot others now =
     omega (arith, held-changed old new n account others, ap (share account) now)
+
+-- regions of one account and one length count the same
+pub share-same : (account : ℕ) (a b : Region) → a.account ≡ b.account → length a.bytes ≡ length b.bytes → share account (Some a) ≡ share account (Some b)
+unfolding share
+share-same account a b same len = ap (λ x. if x == account then length a.bytes else 0) same ∙ ap (λ n. if b.account == account then n else 0) len

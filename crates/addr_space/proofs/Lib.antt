@@ -2,3 +2,5 @@
 pub mod Bytes
 pub mod Copied
 pub mod Held
+pub mod Written
+pub mod Apart

@@ -7,8 +7,10 @@ ghost use Rattle.std.specs.Prelude.{◌≡◌, ◌≢◌, ℕ, ◌+◌, ◌-◌,
 ghost use Rattle.std.specs.Option.{SomeIff};
 ghost use Rattle.addr_space.specs.Space.{Space as Regions, accounts, region_at, bytes_of, held, taken, Fits, IsInside, IsRegion, IsKnown, IsApart, part, unwritten, overwritten, resized, raised, raised_by, share, IsOverLimit, Changes};
 
+mod laws;
 mod region;
 
+pub use laws::framing;
 use region::Region;
 use slab::Slab;
 use std::alloc::{AllocError, Global};
