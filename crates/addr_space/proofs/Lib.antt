@@ -4,3 +4,4 @@ pub mod Copied
 pub mod Held
 pub mod Written
 pub mod Apart
+pub mod Steps

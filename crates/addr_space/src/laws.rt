@@ -14,6 +14,10 @@ pub fn framing()
     // The same of a list of contexts, of which a call was made on one.
     ensures all { (fs : List Footprint) (k : ℕ) (g : Footprint) (s t : Space) → k < length fs → Moves (context_at fs k) g s t → AllAgree fs s → AllAgree (slice_set fs k g) t }
 
+    // Where nothing happens nothing moves, and one move after another is a move.
+    ensures none { (f : Footprint) (s : Space) → Agrees f s → Moves f f s s }
+    ensures more { (f g h : Footprint) (s t u : Space) → Moves f g s t → Moves g h t u → Moves f h s u }
+
     // A write inside a live chunk moves nothing, and changes the bytes of no other chunk.
     ensures write { (f : Footprint) (s t : Space) (chunk at : Addr) (size : ℕ) (bytes : List ℕ) → Agrees f s → WritesInside f s t chunk at size bytes → Moves f f s t }
     ensures others { (f : Footprint) (s t : Space) (chunk at : Addr) (size : ℕ) (bytes : List ℕ) → Agrees f s → WritesInside f s t chunk at size bytes → KeepsBut chunk f f s t }

@@ -84,6 +84,7 @@ fn admit(regions: &mut Slab<Region>, region: Region) -> Option<u32>
 /// A set of regions with their bytes, and what each account holds of them.
 ///
 /// Regions never overlap. The number of a region may be used again once the region was given back.
+#[derive(Drop)]
 pub struct Space {
     alloc: Global,
     regions: Slab<Region>,
@@ -301,3 +302,6 @@ impl Space {
         self.regions[region as usize].read(offset, out);
     }
 }
+
+#[cfg(test)]
+mod tests;

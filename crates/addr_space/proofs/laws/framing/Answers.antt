@@ -1,4 +1,5 @@
 use Rattle.addr_space.proofs.Apart.{Agrees-other, Keeps-other, AreDisjoint-other, AllAgree-set, Moves-inside, KeepsBut-inside}
+use Rattle.addr_space.proofs.Steps.{Moves-none, Moves-more}
 use Rattle.addr_space.proofs.laws.framing.Goals as goal
 
 pub returns-clause-agreement : goal.returns-clause-agreement
@@ -18,3 +19,9 @@ returns-clause-write c = Moves-inside
 
 pub returns-clause-others : goal.returns-clause-others
 returns-clause-others c = KeepsBut-inside
+
+pub returns-clause-none : goal.returns-clause-none
+returns-clause-none c = Moves-none
+
+pub returns-clause-more : goal.returns-clause-more
+returns-clause-more c = Moves-more
