@@ -1,10 +1,10 @@
 -- The laws of contexts that share a space.
-use Rattle.std.proofs.Common.{◌≡◌, ◌≢◌, ℕ, ◌+◌, ◌-◌, ◌<◌, ◌≤◌, ◌⊎◌, List, length, map, get_or, set, Option, Some, None, refl, sym, ap, ◌∙◌, inl, inr, arith}
+use Rattle.std.proofs.Common.{◌≡◌, ◌≢◌, ℕ, ◌+◌, ◌<◌, ◌≤◌, List, length, get_or, set, Some, None, refl, sym, ap, ◌∙◌, inl, inr, arith}
 use Rattle.std.proofs.lemmas.Bool.{cases_eq}
 use Rattle.std.proofs.lemmas.List.{length-set, get_or-set_same, get_or-set_other}
 use Rattle.addr_space.specs.declared.Addr.{Addr}
-use Rattle.addr_space.specs.Space.{Region, Space, region_at, bytes_of, byte_at, overwritten, Changes, HasBytes, IsApart}
-use Rattle.addr_space.specs.Footprint.{Footprint, IsSound, IsWithin, HasRegion, Agrees, Moves, Keeps, KeepsBut, AreDisjoint, AllAgree, context_at, nothing, WritesInside, IsOutside}
+use Rattle.addr_space.specs.Space.{Space, region_at, bytes_of, byte_at, IsApart}
+use Rattle.addr_space.specs.Footprint.{Footprint, IsWithin, HasRegion, Agrees, Moves, Keeps, KeepsBut, AreDisjoint, AllAgree, context_at, nothing, WritesInside}
 use Rattle.addr_space.proofs.Written.{option_cases, HasRegion-written, byte_at-apart, held-written}
 
 module _ (f g other : Footprint) (s t : Space) (moves : Moves f g s t) (disjoint : AreDisjoint f other) (agrees : Agrees other s) where
@@ -27,10 +27,10 @@ module _ (f g other : Footprint) (s t : Space) (moves : Moves f g s t) (disjoint
     sound = agrees.sound;
     account = omega (arith, agrees.account, moves.accounts);
     regions = λ number len owns.
-      let has = agrees.regions number len owns in
-      (has.0, (kept number len owns).0 ∙ has.1, has.2, has.3);
+        let has = agrees.regions number len owns in
+        (has.0, (kept number len owns).0 ∙ has.1, has.2, has.3);
     marks = λ at bytes marked k below.
-      byte_kept at (length bytes) (at.offset + k) (agrees.sound.mark_inside at bytes marked) ∙ agrees.marks at bytes marked k below;
+        byte_kept at (length bytes) (at.offset + k) (agrees.sound.mark_inside at bytes marked) ∙ agrees.marks at bytes marked k below;
   }
 
   pub Keeps-other : Keeps other other s t
@@ -58,23 +58,23 @@ AllAgree-set fs k g s t below moves all =
     let apart : (j : ℕ) → j < length fs → j ≢ k → AreDisjoint g (context_at fs j) = λ j within differs. AreDisjoint-other (context_at fs k) g (context_at fs j) s t moves (all.disjoint k j below within (λ e. differs (sym e))) (all.agree j within) in
     record {
       agree = λ j within.
-        let inside : j < length fs = rw length-set at within in
-        elim (cases_eq j k) [
-          | inl same ↦ rw (same, here) moves.agrees
-          | inr differs ↦ rw (there j differs) (Agrees-other (context_at fs k) g (context_at fs j) s t moves (all.disjoint k j below inside (λ e. differs (sym e))) (all.agree j inside))
-        ];
+          let inside : j < length fs = rw length-set at within in
+          elim (cases_eq j k) [
+            | inl same ↦ rw (same, here) moves.agrees
+            | inr differs ↦ rw (there j differs) (Agrees-other (context_at fs k) g (context_at fs j) s t moves (all.disjoint k j below inside (λ e. differs (sym e))) (all.agree j inside))
+          ];
       disjoint = λ i j within_i within_j differ.
-        let inside_i : i < length fs = rw length-set at within_i in
-        let inside_j : j < length fs = rw length-set at within_j in
-        elim (cases_eq i k) [
-          | inl same_i ↦
-              let other : j ≢ k = λ e. differ (same_i ∙ sym e) in
-              rw (same_i, here, there j other) (apart j inside_j other)
-          | inr differs_i ↦ elim (cases_eq j k) [
+          let inside_i : i < length fs = rw length-set at within_i in
+          let inside_j : j < length fs = rw length-set at within_j in
+          elim (cases_eq i k) [
+            | inl same_i ↦
+                let other : j ≢ k = λ e. differ (same_i ∙ sym e) in
+                rw (same_i, here, there j other) (apart j inside_j other)
+            | inr differs_i ↦ elim (cases_eq j k) [
               | inl same_j ↦ rw (same_j, here, there i differs_i) (AreDisjoint-sym g (context_at fs i) (apart i inside_i differs_i))
               | inr differs_j ↦ rw (there i differs_i, there j differs_j) (all.disjoint i j inside_i inside_j differ)
             ]
-        ];
+          ];
     }
 
 module _ (f : Footprint) (s t : Space) (chunk at : Addr) (size : ℕ) (bytes : List ℕ) (agrees : Agrees f s) (inside : WritesInside f s t chunk at size bytes) where
@@ -109,7 +109,7 @@ module _ (f : Footprint) (s t : Space) (chunk at : Addr) (size : ℕ) (bytes : L
     context = refl;
     outside = λ number region. (
       λ out. (inside.writes.others number (λ e. let clash = sym (ap f.region e) ∙ out.1 in let owns = target.1 in absurd (cc)) ∙ out.0, out.1),
-      λ out. (sym (inside.writes.others number (λ e. let clash = sym (ap f.region e) ∙ out.1 in let owns = target.1 in absurd (cc))) ∙ out.0, out.1)
+      λ out. (sym (inside.writes.others number (λ e. let clash = sym (ap f.region e) ∙ out.1 in let owns = target.1 in absurd (cc))) ∙ out.0, out.1),
     );
     accounts = inside.writes.accounts;
     limit = inside.writes.limit;

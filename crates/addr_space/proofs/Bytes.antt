@@ -1,6 +1,6 @@
 -- Lemmas on the bytes of a region.
-use Rattle.std.proofs.Common.{◌≡◌, ℕ, zero, suc, ◌+◌, ◌-◌, ◌<◌, ◌≤◌, List, [], ◌∷◌, ◌++◌, length, map, get_or, set, take, drop, replicate, Option, Some, None, refl, sym, ap, ◌∙◌, arith, add_assoc}
-use Rattle.std.proofs.lemmas.List.{length-append, length-map, length-take, length-drop, length-take-le, append_assoc, set_at, drop_more, map_more, same_lists, get_or-map, get_or-take, get_or-drop, get_or_default, get_or_append_left, get_or-append-add, get_or-append_right, take_at, drop_at, drop-drop, take-take, take-append-drop, drop-take}
+use Rattle.std.proofs.Common.{◌≡◌, ℕ, zero, suc, ◌+◌, ◌-◌, ◌<◌, ◌≤◌, List, [], ◌∷◌, ◌++◌, length, map, get_or, set, take, drop, replicate, Option, Some, None, refl, sym, ap, ◌∙◌, arith}
+use Rattle.std.proofs.lemmas.List.{length-append, length-map, length-take, length-drop, append_assoc, set_at, drop_more, map_more, same_lists, get_or-map, get_or-take, get_or-drop, get_or_default, get_or_append_left, get_or-append-add, get_or-append_right, take_at, drop_at, drop-drop, take-take, take-append-drop, drop-take}
 use Rattle.addr_space.specs.Space.{part}
 
 -- one more byte is written over a part of the bytes
@@ -18,10 +18,10 @@ set-overwritten xs bs at i inside below =
 pub known-part : (xs : List (Option ℕ)) (bs : List ℕ) (at : ℕ) → at + length bs ≤ length xs → ((k : ℕ) → k < length bs → get_or xs (at + k) None ≡ Some (get_or bs k 0)) → map Some bs ≡ part xs at (length bs)
 known-part xs bs at inside agree =
     same_lists _ _ (simp (length-map, length-take, length-drop) (omega arith)) (λ k d h.
-      let below : k < length bs = rw length-map at h in
-      let left : get_or (map Some bs) k d ≡ Some (get_or bs k 0) = get_or-map Some bs k 0 d below in
-      let right : get_or (take (length bs) (drop at xs)) k d ≡ get_or xs (at + k) d = get_or-take (length bs) (drop at xs) k d below ∙ get_or-drop at xs k d in
-      left ∙ sym (agree k below) ∙ get_or_default xs (at + k) None d (omega arith) ∙ sym right)
+    let below : k < length bs = rw length-map at h in
+    let left : get_or (map Some bs) k d ≡ Some (get_or bs k 0) = get_or-map Some bs k 0 d below in
+    let right : get_or (take (length bs) (drop at xs)) k d ≡ get_or xs (at + k) d = get_or-take (length bs) (drop at xs) k d below ∙ get_or-drop at xs k d in
+    left ∙ sym (agree k below) ∙ get_or_default xs (at + k) None d (omega arith) ∙ sym right)
 
 -- a function of each of many equal things
 pub map-replicate : {A B : Type 0} (f : A → B) (n : ℕ) (x : A) → map f (replicate n x) ≡ replicate n (f x)
@@ -68,7 +68,7 @@ overwritten-more bytes first second offset inside =
     let taken : take (offset + length first) (front ++ drop (offset + length first) bytes) ≡ front = take_at front _ _ len in
     let behind : drop (offset + length first) (front ++ drop (offset + length first) bytes) ≡ drop (offset + length first) bytes = drop_at front _ _ len in
     let dropped : drop (offset + length first + length second) (front ++ drop (offset + length first) bytes) ≡ drop (offset + length first + length second) bytes =
-        sym (drop-drop (length second) (offset + length first) (front ++ drop (offset + length first) bytes)) ∙ ap (drop (length second)) behind ∙ drop-drop (length second) (offset + length first) bytes in
+    sym (drop-drop (length second) (offset + length first) (front ++ drop (offset + length first) bytes)) ∙ ap (drop (length second)) behind ∙ drop-drop (length second) (offset + length first) bytes in
     let both : offset + length (first ++ second) ≡ offset + length first + length second = simp length-append (omega arith) in
     rw (taken, dropped, both) (simp append_assoc)
 
@@ -82,10 +82,10 @@ part-append bytes offset m n =
 pub part-same : (xs ys : List (Option ℕ)) (offset n : ℕ) → offset + n ≤ length xs → offset + n ≤ length ys → ((k : ℕ) → offset ≤ k → k < offset + n → get_or xs k None ≡ get_or ys k None) → part xs offset n ≡ part ys offset n
 part-same xs ys offset n inside_xs inside_ys agree =
     same_lists _ _ (simp (length-take, length-drop) (omega arith)) (λ k d h.
-      let below : k < n = omega (arith, length-take n (drop offset xs)) in
-      let left : get_or (take n (drop offset xs)) k d ≡ get_or xs (offset + k) d = get_or-take n (drop offset xs) k d below ∙ get_or-drop offset xs k d in
-      let right : get_or (take n (drop offset ys)) k d ≡ get_or ys (offset + k) d = get_or-take n (drop offset ys) k d below ∙ get_or-drop offset ys k d in
-      left ∙ get_or_default xs (offset + k) d None (omega arith) ∙ agree (offset + k) (omega arith) (omega arith) ∙ get_or_default ys (offset + k) None d (omega arith) ∙ sym right)
+    let below : k < n = omega (arith, length-take n (drop offset xs)) in
+    let left : get_or (take n (drop offset xs)) k d ≡ get_or xs (offset + k) d = get_or-take n (drop offset xs) k d below ∙ get_or-drop offset xs k d in
+    let right : get_or (take n (drop offset ys)) k d ≡ get_or ys (offset + k) d = get_or-take n (drop offset ys) k d below ∙ get_or-drop offset ys k d in
+    left ∙ get_or_default xs (offset + k) d None (omega arith) ∙ agree (offset + k) (omega arith) (omega arith) ∙ get_or_default ys (offset + k) None d (omega arith) ∙ sym right)
 
 -- a part inside has its length
 pub length-part : (xs : List (Option ℕ)) (offset n : ℕ) → offset + n ≤ length xs → length (part xs offset n) ≡ n

@@ -1,9 +1,9 @@
 -- Lemmas on bytes that are copied within a space.
-use Rattle.std.proofs.Common.{◌≡◌, ◌≢◌, ℕ, zero, suc, ◌+◌, ◌-◌, ◌<◌, ◌≤◌, List, [], ◌∷◌, ◌++◌, length, map, get_or, take, drop, Option, Some, None, IsSome, refl, sym, ap, ◌∙◌, inl, inr, arith, ◌⊎◌, add-zero}
+use Rattle.std.proofs.Common.{◌≡◌, ℕ, ◌+◌, ◌<◌, ◌≤◌, List, [], ◌++◌, length, map, get_or, take, drop, Option, Some, None, IsSome, refl, sym, ap, ◌∙◌, inl, inr, arith, add-zero}
 use Rattle.std.proofs.lemmas.Bool.{cases_eq}
-use Rattle.std.proofs.lemmas.List.{length-append, append-nil, take-append-drop}
+use Rattle.std.proofs.lemmas.List.{append-nil, take-append-drop}
 use Rattle.addr_space.specs.declared.Addr.{Addr}
-use Rattle.addr_space.specs.Space.{Region, Space, region_at, bytes_of, byte_at, part, overwritten, Changes, IsApart, IsInside, IsKnown}
+use Rattle.addr_space.specs.Space.{Region, Space, region_at, bytes_of, byte_at, part, overwritten, Changes, IsApart, IsInside}
 use Rattle.addr_space.proofs.Bytes.{length-overwritten, get_or-overwritten_before, get_or-overwritten_after, overwritten-more, part-append, part-same, length-part}
 
 -- a place that has a region
@@ -80,10 +80,10 @@ module _ (init now : Space) (from to : Addr) (n done : ℕ) (source target : Reg
       let piece_is : map Some piece ≡ second = read ∙ part_piece step more in
       let now_is : region_at now to.region ≡ overwritten (Some target) to.offset first = rw (found_target, found_source) at changes.changed in
       let new_is : region_at new to.region ≡ overwritten (overwritten (Some target) to.offset first) (to.offset + done) second =
-          wrote.changed ∙ ap (λ r. overwritten r (to.offset + done) (map Some piece)) now_is ∙ ap (overwritten (overwritten (Some target) to.offset first) (to.offset + done)) piece_is in
+      wrote.changed ∙ ap (λ r. overwritten r (to.offset + done) (map Some piece)) now_is ∙ ap (overwritten (overwritten (Some target) to.offset first) (to.offset + done)) piece_is in
       let both : first ++ second ≡ part source.bytes from.offset (done + step) = sym (part-append source.bytes from.offset done step) in
       let joined : overwritten (overwritten (Some target) to.offset first) (to.offset + length first) second ≡ overwritten (Some target) to.offset (first ++ second) =
-          ap (λ b. Some (record { account = target.account; bytes = b })) (overwritten-more target.bytes first second to.offset fits) in
+      ap (λ b. Some (record { account = target.account; bytes = b })) (overwritten-more target.bytes first second to.offset fits) in
       let shifted : overwritten (overwritten (Some target) to.offset first) (to.offset + done) second ≡ overwritten (overwritten (Some target) to.offset first) (to.offset + length first) second = ap (λ j. overwritten (overwritten (Some target) to.offset first) (to.offset + j) second) (sym len) in
       record {
         changed = new_is ∙ shifted ∙ joined ∙ ap (overwritten (Some target) to.offset) both ∙ sym (ap (λ r. overwritten r to.offset (part source.bytes from.offset (done + step))) found_target) ∙ sym (ap (λ r. overwritten (region_at init to.region) to.offset (part (bytes_of r) from.offset (done + step))) found_source);

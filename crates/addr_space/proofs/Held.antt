@@ -91,21 +91,21 @@ module _ (xs ys : List (Option Region)) (n : ℕ) (others : (k : ℕ) → k ≢ 
       | inr differs ↦ sound.counted k region (sym (others k differs) ∙ found)
     ]);
     held = λ b within.
-      let inside : b < length accounts = rw length-set at within in
-      let sums = sum_by-changed (share b) refl xs ys n others in
-      let known = sound.held b inside in
-      elim (cases_eq b a) [
-        | inl same ↦
-            let there : account_at (set accounts a entry) b ≡ entry = ap (account_at (set accounts a entry)) same ∙ get_or-set_same accounts a entry no_account below in
-            let shares : (slot : Option Region) → share b slot ≡ share a slot = λ slot. ap (λ x. share x slot) same in
-            let same_entry : (account_at accounts b).held ≡ (account_at accounts a).held = ap (λ x. (account_at accounts x).held) same in
-            let this : (account_at (set accounts a entry) b).held ≡ entry.held = ap (λ e. e.held) there in
-            omega (arith, moved, sums, known, this, same_entry, shares (get_or xs n None), shares (get_or ys n None))
-        | inr differs ↦
-            let there : account_at (set accounts a entry) b ≡ account_at accounts b = get_or-set_other accounts a b entry no_account differs in
-            let this : (account_at (set accounts a entry) b).held ≡ (account_at accounts b).held = ap (λ e. e.held) there in
-            omega (arith, sums, known, this, share-other (get_or xs n None) a b was differs, share-other (get_or ys n None) a b now differs)
-      ];
+        let inside : b < length accounts = rw length-set at within in
+        let sums = sum_by-changed (share b) refl xs ys n others in
+        let known = sound.held b inside in
+        elim (cases_eq b a) [
+          | inl same ↦
+              let there : account_at (set accounts a entry) b ≡ entry = ap (account_at (set accounts a entry)) same ∙ get_or-set_same accounts a entry no_account below in
+              let shares : (slot : Option Region) → share b slot ≡ share a slot = λ slot. ap (λ x. share x slot) same in
+              let same_entry : (account_at accounts b).held ≡ (account_at accounts a).held = ap (λ x. (account_at accounts x).held) same in
+              let this : (account_at (set accounts a entry) b).held ≡ entry.held = ap (λ e. e.held) there in
+              omega (arith, moved, sums, known, this, same_entry, shares (get_or xs n None), shares (get_or ys n None))
+          | inr differs ↦
+              let there : account_at (set accounts a entry) b ≡ account_at accounts b = get_or-set_other accounts a b entry no_account differs in
+              let this : (account_at (set accounts a entry) b).held ≡ (account_at accounts b).held = ap (λ e. e.held) there in
+              omega (arith, sums, known, this, share-other (get_or xs n None) a b was differs, share-other (get_or ys n None) a b now differs)
+        ];
   }
 
 -- the counts of what was taken, where one account took more
@@ -120,8 +120,8 @@ IsSound-taken xs ys number accounts a n entry region sound below was now others 
     (λ r found. cc)
     (λ r found. let same : region ≡ r = cc in ap (λ (x : Region). x.account) (sym same) ∙ account)
     (let old : share a (get_or xs number None) ≡ 0 = ap (share a) was ∙ share-none a in
-     let new : share a (get_or ys number None) ≡ n = ap (share a) now ∙ share-own region a account ∙ ap length bytes ∙ length-replicate n None in
-     omega (arith, sound.held a below))
+    let new : share a (get_or ys number None) ≡ n = ap (share a) now ∙ share-own region a account ∙ ap length bytes ∙ length-replicate n None in
+    omega (arith, sound.held a below))
 
 -- a number with a region is a place of the list
 pub place-within : (xs : List (Option Region)) (n : ℕ) (region : Region) → get_or xs n None ≡ Some region → n < length xs
@@ -148,7 +148,7 @@ module _ (xs : List (Option Region)) (n : ℕ) (region : Region) (found : get_or
       (λ r is. let same : region ≡ r = cc in ap (λ (x : Region). x.account) (sym same))
       (λ r is. counts r (sym here ∙ is))
       (let own : share region.account (get_or xs n None) ≡ length region.bytes = ap (share region.account) found ∙ share-own region region.account refl in
-       omega (arith, sound.held region.account below, ap (share region.account) here))
+      omega (arith, sound.held region.account below, ap (share region.account) here))
 
   -- the insides stay sound where a region changes and its length stays
   pub IsSound-same : CountsFor region.account slot → share region.account slot ≡ length region.bytes → IsSound (set xs n slot) accounts

@@ -1,10 +1,9 @@
 -- Steps of a context over a space, for the allocators.
-use Rattle.std.proofs.Common.{◌≡◌, ◌≢◌, ◌↔◌, ℕ, ◌+◌, ◌-◌, ◌<◌, ◌≤◌, ◌⊎◌, ◌==◌, if◌then◌else◌, List, length, map, get_or, Option, Some, None, refl, sym, ap, ◌∙◌, inl, inr, arith}
+use Rattle.std.proofs.Common.{◌≡◌, ◌≢◌, ℕ, ◌+◌, ◌==◌, if◌then◌else◌, List, length, get_or, Option, Some, None, refl, sym, ap, ◌∙◌, inl, inr, arith}
 use Rattle.std.proofs.lemmas.Bool.{cases_eq}
 use Rattle.addr_space.specs.declared.Addr.{Addr}
-use Rattle.addr_space.specs.Space.{Region, Space, region_at, bytes_of, byte_at, Changes, HasBytes, held}
-use Rattle.addr_space.specs.Footprint.{Footprint, IsSound, IsOutside, HasRegion, Agrees, Moves, counted}
-use Rattle.addr_space.proofs.Written.{option_cases}
+use Rattle.addr_space.specs.Space.{Region, Space, region_at, bytes_of, Changes, HasBytes, held}
+use Rattle.addr_space.specs.Footprint.{Footprint, IsSound, Agrees, Moves, counted}
 
 -- nothing happens
 pub Moves-none : (f : Footprint) (s : Space) → Agrees f s → Moves f f s s
@@ -26,7 +25,7 @@ Moves-more f g h s t u first second = record {
   context = second.context ∙ first.context;
   outside = λ number region. (
     λ out. (second.outside number region).0 ((first.outside number region).0 out),
-    λ out. (first.outside number region).1 ((second.outside number region).1 out)
+    λ out. (first.outside number region).1 ((second.outside number region).1 out),
   );
   accounts = second.accounts ∙ first.accounts;
   limit = second.limit ∙ first.limit;
@@ -50,15 +49,15 @@ Moves-still f g s agrees sound account context total regions marks = record {
     sound = sound;
     account = omega (arith, agrees.account);
     regions = λ number len owns.
-      let has = agrees.regions number len (sym (regions number) ∙ owns) in
-      (has.0, has.1, has.2 ∙ sym account, has.3);
+        let has = agrees.regions number len (sym (regions number) ∙ owns) in
+        (has.0, has.1, has.2 ∙ sym account, has.3);
     marks = marks;
   };
   account = account;
   context = context;
   outside = λ number region. (
     λ out. (out.0, regions number ∙ out.1),
-    λ out. (out.0, sym (regions number) ∙ out.1)
+    λ out. (out.0, sym (regions number) ∙ out.1),
   );
   accounts = refl;
   limit = refl;
@@ -107,7 +106,7 @@ Moves-one f g s t number len region agrees sound account context changes owner l
           let none : g.region number ≡ None = sym (ap g.region same) ∙ out.1 in
           absurd (cc)
       | inr differs ↦ (sym (changes.others n differs) ∙ out.0, sym (others n differs) ∙ out.1)
-    ]
+    ],
   );
   accounts = changes.accounts;
   limit = changes.limit;
@@ -131,11 +130,11 @@ Moves-give f g s t number len agrees sound account context changes owned gone ot
           (has.0, changes.others n differs ∙ has.1, has.2 ∙ sym account, has.3)
     ];
     marks = λ at bytes marked k below.
-      let differs : at.region ≢ number = λ same.
-          let within = sound.mark_inside at bytes marked in
-          let clash = sym (ap g.region same) ∙ within.1 in
-          absurd (cc) in
-      ap (λ r. get_or (bytes_of r) (at.offset + k) None) (changes.others at.region differs) ∙ agrees.marks at bytes (marks at bytes marked) k below;
+        let differs : at.region ≢ number = λ same.
+        let within = sound.mark_inside at bytes marked in
+        let clash = sym (ap g.region same) ∙ within.1 in
+        absurd (cc) in
+        ap (λ r. get_or (bytes_of r) (at.offset + k) None) (changes.others at.region differs) ∙ agrees.marks at bytes (marks at bytes marked) k below;
   };
   account = account;
   context = context;
@@ -147,7 +146,7 @@ Moves-give f g s t number len agrees sound account context changes owned gone ot
     λ out. elim (cases_eq n number) [
       | inl same ↦ let clash = sym (ap (region_at t) same) ∙ out.0 in let none = changes.changed in absurd (cc)
       | inr differs ↦ (sym (changes.others n differs) ∙ out.0, sym (others n differs) ∙ out.1)
-    ]
+    ],
   );
   accounts = changes.accounts;
   limit = changes.limit;

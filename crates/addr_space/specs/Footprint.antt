@@ -1,8 +1,8 @@
 -- What a memory context of any kind has in a space. The allocators, the context that is one of them, and
 -- the tree of contexts cite these words.
-use Rattle.std.specs.Prelude.{◌≡◌, ◌≢◌, ◌↔◌, ℕ, ◌+◌, ◌<◌, ◌≤◌, ◌==◌, List, length, Option, Some, None, if◌then◌else◌, slice_index_or, slice_set, map}
+use Rattle.std.specs.Prelude.{◌≡◌, ◌≢◌, ◌↔◌, ℕ, ◌+◌, ◌<◌, ◌≤◌, ◌==◌, List, length, Option, Some, None, if◌then◌else◌, slice_index_or, map}
 use Rattle.addr_space.specs.declared.Addr.{Addr}
-use Rattle.addr_space.specs.Space.{Region, Space, accounts, region_at, bytes_of, byte_at, held, HasBytes, IsApart, Changes, overwritten}
+use Rattle.addr_space.specs.Space.{Region, Space, accounts, region_at, byte_at, held, HasBytes, IsApart, Changes, overwritten}
 
 -- the account and the number that the context was created with; the length of each region that it owns, and
 -- of all together; the bytes that must stay as it wrote them, by their first address; and the size of each

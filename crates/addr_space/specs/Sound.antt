@@ -1,5 +1,5 @@
 -- What holds of the insides of a space.
-use Rattle.std.specs.Prelude.{◌≡◌, ℕ, ◌^◌, ◌<◌, ◌≤◌, List, length, Option, Some, None, slice_index_or, sum_by}
+use Rattle.std.specs.Prelude.{◌≡◌, ℕ, ◌<◌, ◌≤◌, List, length, Option, Some, None, slice_index_or, sum_by}
 use Rattle.addr_space.specs.Space.{Region, share}
 use Rattle.addr_space.specs.declared.Account.{Account}
 

@@ -1,5 +1,5 @@
 -- What a contract sees of a space.
-use Rattle.std.specs.Prelude.{◌≡◌, ◌≢◌, ℕ, ◌+◌, ◌-◌, ◌^◌, ◌<◌, ◌≤◌, ◌==◌, ◌++◌, List, [], length, Option, Some, None, IsSome, option_map, slice_index, slice_index_or, slice_set, take, drop, replicate, sum_by, min, if◌then◌else◌, ◌⊎◌}
+use Rattle.std.specs.Prelude.{◌≡◌, ◌≢◌, ℕ, ◌+◌, ◌-◌, ◌^◌, ◌<◌, ◌≤◌, ◌==◌, ◌++◌, List, [], length, Option, Some, None, IsSome, slice_index, slice_index_or, slice_set, take, drop, replicate, sum_by, min, if◌then◌else◌, ◌⊎◌}
 use Rattle.addr_space.specs.declared.Addr.{Addr}
 
 -- a region: the account that it counts for, and its bytes, where one that was never written is `None`

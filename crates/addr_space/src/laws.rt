@@ -21,5 +21,4 @@ pub fn framing()
     // A write inside a live chunk moves nothing, and changes the bytes of no other chunk.
     ensures write { (f : Footprint) (s t : Space) (chunk at : Addr) (size : ℕ) (bytes : List ℕ) → Agrees f s → WritesInside f s t chunk at size bytes → Moves f f s t }
     ensures others { (f : Footprint) (s t : Space) (chunk at : Addr) (size : ℕ) (bytes : List ℕ) → Agrees f s → WritesInside f s t chunk at size bytes → KeepsBut chunk f f s t }
-{
-}
+{}

@@ -1,8 +1,7 @@
-use Rattle.std.proofs.Common.{◌≡◌, ℕ, ◌+◌, ◌-◌, ◌<◌, ◌≤◌, length, map, Some, None, IsSome, min, sym, ap, ◌∙◌, subst, arith, refl, take}
-use Rattle.std.proofs.lemmas.List.{length-take, length-map}
-use Rattle.addr_space.specs.Space.{Region, region_at, bytes_of, byte_at, part, overwritten, Changes, IsInside}
-use Rattle.addr_space.proofs.Bytes.{length-part}
-use Rattle.addr_space.proofs.Copied.{some_region, overwritten-nil, rest_same, piece_inside, Changes-more}
+use Rattle.std.proofs.Common.{◌≡◌, ◌+◌, ◌-◌, ◌<◌, ◌≤◌, length, map, Some, IsSome, ap, ◌∙◌, arith, take}
+use Rattle.std.proofs.lemmas.List.{length-take}
+use Rattle.addr_space.specs.Space.{region_at, bytes_of, byte_at, part}
+use Rattle.addr_space.proofs.Copied.{some_region, rest_same, piece_inside, Changes-more}
 use Rattle.addr_space.proofs.Space.copy.Goals as goal
 
 pub read_at-requires-clause-known : goal.read_at-requires-clause-known

@@ -1,4 +1,4 @@
-use Rattle.std.proofs.Common.{◌≡◌, ◌<◌, ◌+◌, ◌≤◌, ap, ◌∙◌, sym, length, arith, Some, None, refl, get_or, replicate, sum_by}
+use Rattle.std.proofs.Common.{◌<◌, ap, ◌∙◌, length, arith}
 use Rattle.std.proofs.lemmas.List.{get_or_read, length-map}
 use Rattle.addr_space.specs.Space.{Space, held}
 use Rattle.addr_space.specs.Sound.{no_account}

@@ -1,7 +1,7 @@
-use Rattle.std.proofs.Common.{◌≡◌, ◌≢◌, ℕ, ◌<◌, ◌+◌, ◌-◌, ◌≤◌, ap, ◌∙◌, sym, subst, length, arith, Some, None, refl, set, get_or, sum_by}
+use Rattle.std.proofs.Common.{◌≡◌, ◌≢◌, ℕ, ◌<◌, ◌+◌, ◌-◌, ap, ◌∙◌, sym, subst, length, arith, None, set, get_or, sum_by}
 use Rattle.std.proofs.lemmas.List.{get_or_read, get_or-set_other, get_or-set_same}
-use Rattle.addr_space.specs.Space.{Region, Space, share, held, region_at}
-use Rattle.addr_space.specs.Sound.{IsSound, no_account, account_at}
+use Rattle.addr_space.specs.Space.{Space, share}
+use Rattle.addr_space.specs.Sound.{IsSound, no_account}
 use Rattle.addr_space.specs.declared.Account.{Account}
 use Rattle.addr_space.proofs.Held.{IsSound-set, length-le-held, share-none, map-taken_same, held-given, place-within}
 use Rattle.addr_space.proofs.Space.give.Goals.{After-len}
@@ -24,9 +24,9 @@ invariant_of-self c =
     let slots = c.self.inside.regions.slots in
     let le = length-le-held slots c.args.at.region region c.remove-region.ensures.value in
     let moved : (c.index_mut-entry.result.now.held - c.len.result) + length region.bytes ≡ sum_by (share region.account) slots + share region.account None =
-        omega (arith, entry_holds (goal.at.invariant_of-self c).After-len, c.len.ensures, le, share-none region.account) in
+    omega (arith, entry_holds (goal.at.invariant_of-self c).After-len, c.len.ensures, le, share-none region.account) in
     rw c.remove-region.ensures.slots (subst (λ a. IsSound (set slots c.args.at.region None) (set c.self.inside.accounts.items a record { held = c.index_mut-entry.result.now.held - c.len.result; taken = c.index_mut-entry.result.now.taken })) (sym c.account.ensures)
-      (IsSound-set slots c.args.at.region region c.remove-region.ensures.value None c.self.inside.accounts.items c.self.invariant (λ r is. absurd (cc)) _ moved))
+    (IsSound-set slots c.args.at.region region c.remove-region.ensures.value None c.self.inside.accounts.items c.self.invariant (λ r is. absurd (cc)) _ moved))
 
 pub returns-clause-taken : goal.returns-clause-taken
 returns-clause-taken c =

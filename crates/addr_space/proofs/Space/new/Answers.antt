@@ -1,4 +1,4 @@
-use Rattle.std.proofs.Common.{◌∙◌, ap, map, replicate, ◌≡◌, ℕ, List, rules}
+use Rattle.std.proofs.Common.{◌∙◌, ap, map, replicate, ◌≡◌, rules}
 use Rattle.addr_space.proofs.Bytes.{map-replicate}
 use Rattle.addr_space.specs.declared.Account.{Account}
 use Rattle.addr_space.specs.Sound.{no_account}

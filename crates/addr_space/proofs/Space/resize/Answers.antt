@@ -1,7 +1,7 @@
-use Rattle.std.proofs.Common.{◌≡◌, ◌≢◌, ℕ, ◌<◌, ◌+◌, ◌-◌, ◌≤◌, ◌++◌, ◌^◌, min, map, List, ap, ◌∙◌, sym, subst, length, arith, rules, Some, None, refl, set, get_or, sum_by, take, replicate}
-use Rattle.std.proofs.lemmas.List.{get_or_read, get_or-set_other, get_or-set_same, length-append, length-take, length-replicate}
-use Rattle.addr_space.specs.Space.{Region, Space, share, held, region_at, resized, raised, raised_by}
-use Rattle.addr_space.specs.Sound.{IsSound, no_account, account_at}
+use Rattle.std.proofs.Common.{◌≡◌, ℕ, ◌+◌, ◌-◌, ◌^◌, min, map, List, ap, ◌∙◌, sym, subst, length, arith, rules, Some, None, set, get_or, sum_by}
+use Rattle.std.proofs.lemmas.List.{get_or-set_other, get_or-set_same, length-append, length-take, length-replicate}
+use Rattle.addr_space.specs.Space.{Region, share, held, resized, raised, raised_by}
+use Rattle.addr_space.specs.Sound.{IsSound}
 use Rattle.addr_space.specs.declared.Account.{Account}
 use Rattle.addr_space.proofs.Held.{IsSound-set, IsSound-same, length-le-held, share-own, held-put, place-within, map-taken}
 use Rattle.addr_space.proofs.Space.resize.Goals as goal
@@ -37,10 +37,10 @@ invariant_of-self-2 c =
     let gave : c.len-gave.result ≡ length region.bytes = c.len-gave.ensures ∙ ap (λ (x : Region). length x.bytes) once in
     let le = length-le-held slots c.args.at.region region c.index_mut.ensures.value in
     let moved : c.moved.result.held + length region.bytes ≡ sum_by (share region.account) slots + share region.account (Some new) =
-        omega (arith, c.moved.ensures.held, c.in-Some.ensures.1, holds, gave, le, len, share-own new region.account kept, c.from.ensures) in
+    omega (arith, c.moved.ensures.held, c.in-Some.ensures.1, holds, gave, le, len, share-own new region.account kept, c.from.ensures) in
     subst (λ a. IsSound (set slots c.args.at.region (Some new)) (set c.self.inside.accounts.items a c.moved.result)) (sym account)
     (IsSound-set slots c.args.at.region region c.index_mut.ensures.value (Some new) c.self.inside.accounts.items c.self.invariant
-     (λ r is. let same : new ≡ r = cc in ap (λ (x : Region). x.account) (sym same) ∙ kept) c.moved.result moved)
+    (λ r is. let same : new ≡ r = cc in ap (λ (x : Region). x.account) (sym same) ∙ kept) c.moved.result moved)
 
 pub returns-clause-taken : goal.returns-clause-taken
 returns-clause-taken c =
@@ -54,12 +54,12 @@ returns-clause-taken c =
     let was = rw (← c.self.view_is) at c.entry-entry.ensures.taken in
     let count = c.moved.ensures.taken ∙ ap (λ x. min (x + c.saturating_sub.result) (2 ^ 64 - 1)) was ∙ ap (λ x. min (get_or counts c.account-account.result 0 + x) (2 ^ 64 - 1)) more in
     rw (← c.self.view_is) (map-taken c.self.inside.accounts.items c.account-account.result (c.args.n - length region.bytes) c.moved.result count
-      ∙ ap (λ a. raised counts a (c.args.n - length region.bytes)) account ∙ sym (ap (λ r. raised_by counts r c.args.n) c.index_mut.ensures.value))
+    ∙ ap (λ a. raised counts a (c.args.n - length region.bytes)) account ∙ sym (ap (λ r. raised_by counts r c.args.n) c.index_mut.ensures.value))
 
 pub returns-clause-held : goal.returns-clause-held
 returns-clause-held c = λ account.
     let slots = c.self.inside.regions.slots in
     let same : Some c.resize.new.self ≡ resized (get_or slots c.args.at.region None) c.args.n = ap Some c.in-Ok.ensures.ok ∙ sym (ap (λ r. resized r c.args.n) c.index_mut.ensures.value) in
     let now : get_or (set slots c.args.at.region (Some c.resize.new.self)) c.args.at.region None ≡ resized (get_or slots c.args.at.region None) c.args.n =
-        get_or-set_same slots c.args.at.region (Some c.resize.new.self) None (place-within slots c.args.at.region c.index_mut.result.now c.index_mut.ensures.value) ∙ same in
+    get_or-set_same slots c.args.at.region (Some c.resize.new.self) None (place-within slots c.args.at.region c.index_mut.result.now c.index_mut.ensures.value) ∙ same in
     rw (← c.self.view_is) (held-put _ _ c.args.at.region account (resized (get_or slots c.args.at.region None) c.args.n) (λ k differs. get_or-set_other slots c.args.at.region k (Some c.resize.new.self) None differs) now)

@@ -1,7 +1,6 @@
-use Rattle.std.proofs.Common.{◌≡◌, ℕ, ◌<◌, ◌+◌, ◌≤◌, ap, ◌∙◌, sym, length, arith, Some, None, refl, get_or, replicate, sum_by, min, map, ◌^◌, ◌-◌}
+use Rattle.std.proofs.Common.{◌≡◌, ℕ, ◌<◌, ◌+◌, ap, ◌∙◌, length, arith, Some, get_or, sum_by, min, map, ◌^◌, ◌-◌}
 use Rattle.std.proofs.lemmas.List.{length-map}
-use Rattle.addr_space.specs.Space.{Space, Region, held, share, unwritten}
-use Rattle.addr_space.specs.Sound.{account_at, no_account}
+use Rattle.addr_space.specs.Space.{Space, held, share, unwritten}
 use Rattle.addr_space.specs.declared.Account.{Account}
 use Rattle.addr_space.proofs.Held.{IsSound-taken, held-taken, map-taken}
 use Rattle.addr_space.proofs.Space.take.Goals as goal
@@ -11,7 +10,7 @@ unfolding held
 invariant_of-self-2 c =
     let below : c.args.account < length c.self.inside.accounts.items = omega (arith, c.requires.account, ap (λ (s : Space). length s.taken) c.self.view_is, length-map c.self.inside.accounts.items (λ (a : Account). a.taken)) in
     let count : c.moved.result.held ≡ sum_by (share c.args.account) c.self.inside.regions.slots + c.args.n =
-        omega (arith, c.moved.ensures.held, c.in-Some.ensures, c.entry-entry.ensures.held, ap (λ s. held s c.args.account) c.self.view_is) in
+    omega (arith, c.moved.ensures.held, c.in-Some.ensures, c.entry-entry.ensures.held, ap (λ s. held s c.args.account) c.self.view_is) in
     IsSound-taken c.self.inside.regions.slots c.admit.new.regions.slots c.in-Some-admit.number c.self.inside.accounts.items c.args.account c.args.n c.moved.result c.in-Ok.region
     c.self.invariant below c.in-Some-admit.ensures.fresh c.in-Some-admit.ensures.stored c.in-Some-admit.ensures.others c.in-Ok.ensures.account c.in-Ok.ensures.bytes count
 

@@ -1,5 +1,5 @@
-use Rattle.std.proofs.Common.{◌≡◌, ℕ, ◌+◌, ◌<◌, ◌≤◌, length, List, [], ◌∷◌, ◌++◌, Some, None, IsSome, Option, refl, ap, ◌∙◌, sym, arith, get_or, inl, replicate, zero, suc, zero-add}
-use Rattle.addr_space.specs.Space.{Region, Space, region_at, bytes_of, byte_at, overwritten, unwritten, Changes, IsInside}
+use Rattle.std.proofs.Common.{◌≡◌, ℕ, ◌+◌, ◌<◌, [], ◌∷◌, Some, None, IsSome, Option, refl, arith, get_or, zero, suc, zero-add}
+use Rattle.addr_space.specs.Space.{Region, region_at, bytes_of, unwritten}
 use Rattle.addr_space.proofs.tests.bytes_are_copied.Given.{Over}
 use Rattle.addr_space.proofs.tests.bytes_are_copied.Goals as goal
 use Rattle.addr_space.proofs.tests.bytes_are_copied.Goals.{After-write, After-copy}
@@ -44,10 +44,9 @@ copy-requires-clause-known g c = λ k below.
     let is = after_write g (goal.at.copy-requires-clause-known g c).After-write in
     rw (is, c.in_ok-at.ensures.start, zero-add) (first_known k below)
 
-after_copy : (g : Over) (c : After-copy g) → region_at c.copy.new.self c.in_ok-at.at.region ≡ copied
+after_copy : (g : Over) (c : After-copy g) → region_at c.write.new.self c.in_ok-at.at.region ≡ written → region_at c.copy.new.self c.in_ok-at.at.region ≡ copied
 unfolding written copied
-after_copy g c =
-    let is = after_write g c.After-write in
+after_copy g c is =
     rw (is, c.in_ok-at.ensures.start) at c.copy.ensures.changes.changed
 
 last_known : (k : ℕ) → k < 2 → IsSome (get_or (bytes_of copied) (4 + k) None)
@@ -59,10 +58,10 @@ last_known (suc (suc k)) h = absurd (omega arith)
 pub read-requires-clause-inside : goal.read-requires-clause-inside
 unfolding copied
 read-requires-clause-inside g c =
-    let is = after_copy g (goal.at.read-requires-clause-inside g c).After-copy in
+    let is = after_copy g (goal.at.read-requires-clause-inside g c).After-copy (after_write g (goal.at.read-requires-clause-inside g c).After-write) in
     record { live = rw is refl; end_in_region = rw is (omega arith) }
 
 pub read-requires-clause-known : goal.read-requires-clause-known
 read-requires-clause-known g c = λ k below.
-    let is = after_copy g (goal.at.read-requires-clause-known g c).After-copy in
+    let is = after_copy g (goal.at.read-requires-clause-known g c).After-copy (after_write g (goal.at.read-requires-clause-known g c).After-write) in
     rw is (last_known k below)

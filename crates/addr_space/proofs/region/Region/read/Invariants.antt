@@ -1,4 +1,4 @@
-use Rattle.std.proofs.Common.{◌≡◌, ℕ, ◌+◌, ◌<◌, length, Some, None, slice_index_or}
+use Rattle.std.proofs.Common.{◌≡◌, ℕ, ◌+◌, ◌<◌, Some, None, slice_index_or}
 use Rattle.addr_space.proofs.region.Region.read.Given as goal
 
 abbrev pub invariant-loop-i : goal.invariant-loop-i
