@@ -8,9 +8,6 @@ ghost use Rattle.addr_space.specs.Footprint.{Footprint, Agrees};
 ghost use Rattle.chunk_header.specs.Header.{kind_code, word_of, IsPackable, header_bytes, block_bytes, IsMarked, IsHeaded};
 ghost use Rattle.chunk_header.specs.Growth.{up8, grown};
 
-#[cfg(test)]
-mod tests;
-
 /// The kinds of memory context, as a chunk's header names them.
 #[derive(Clone, Copy, PartialEq, Eq, Debug)]
 pub enum Kind {
@@ -169,8 +166,7 @@ pub fn block_header(context: u32, size: u32) -> [u8; 8]
 /// The law that leads from a context's marks to the bytes of the space: a chunk that its context's marks head is marked in each space that agrees with the context.
 pub fn marked()
     ensures { (f : Footprint) (s : Space) (at : Addr) → Agrees f s → IsHeaded f at → IsMarked s at f.context }
-{
-}
+{}
 
 /// A size rounded up to a multiple of 8.
 pub fn up8(n: u32) -> u32

@@ -1,4 +1,4 @@
-use Rattle.std.proofs.Common.{◌≡◌, ap, ◌∙◌, refl, List, ℕ, [], ◌∷◌, slice_index_or}
+use Rattle.std.proofs.Common.{refl}
 use Rattle.chunk_header.specs.Header.{block_bytes}
 use Rattle.chunk_header.proofs.block_header.Goals as goal
 

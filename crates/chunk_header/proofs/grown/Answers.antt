@@ -1,4 +1,4 @@
-use Rattle.std.proofs.Common.{◌≡◌, ◌*◌, ap, ◌∙◌, sym, inl, inr, arith}
+use Rattle.std.proofs.Common.{◌≡◌, ◌*◌, ap, ◌∙◌, sym, inr, arith}
 use Rattle.chunk_header.specs.Growth.{grown}
 use Rattle.chunk_header.proofs.Doubling.{grown-stop, grown-go}
 use Rattle.chunk_header.proofs.grown.Goals as goal

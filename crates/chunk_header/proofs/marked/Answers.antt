@@ -1,4 +1,4 @@
-use Rattle.chunk_header.specs.Header.{IsMarked, header_place, header_bytes, block_place, block_bytes}
+use Rattle.chunk_header.specs.Header.{header_place, header_bytes, block_place, block_bytes}
 use Rattle.chunk_header.proofs.marked.Goals as goal
 
 pub returns : goal.returns

@@ -1,4 +1,4 @@
-use Rattle.std.proofs.Common.{◌≡◌, ap, ◌∙◌}
+use Rattle.std.proofs.Common.{ap, ◌∙◌}
 use Rattle.std.specs.Int.{to_le_bytes, w64}
 use Rattle.chunk_header.specs.Header.{header_bytes}
 use Rattle.chunk_header.proofs.Header.bytes.Goals as goal

@@ -1,4 +1,4 @@
-use Rattle.std.proofs.Common.{◌≡◌, ℕ, ap, arith}
+use Rattle.std.proofs.Common.{ap, arith}
 use Rattle.chunk_header.specs.Header.{word_of, own_bit}
 use Rattle.chunk_header.proofs.Header.pack.Goals as goal
 use Rattle.chunk_header.proofs.Header.pack.Goals.{then-self, else-self}

@@ -1,5 +1,4 @@
-use Rattle.std.proofs.Common.{◌≡◌, ℕ, ap, Ok, inl, inr, arith}
-use Rattle.chunk_header.specs.Header.{word_of, IsPackable, kind_code}
+use Rattle.std.proofs.Common.{ap, Ok, inl, inr, arith}
 use Rattle.chunk_header.proofs.Words.{header_in, word_of-header_in, header_in-word, parts_of-word, kind_code-lt}
 use Rattle.chunk_header.proofs.Header.unpack.Goals as goal
 

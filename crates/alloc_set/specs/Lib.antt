@@ -1,0 +1,2 @@
+-- What contracts cite: the ledger, the state of a context, and what the code keeps.
+pub mod Ledger
