@@ -1,0 +1,3 @@
+pub mod ClassSizes
+pub mod Settled
+pub mod Carved
