@@ -7,6 +7,8 @@ use Rattle.addr_space.specs.Space.{Space, Region, region_at, byte_at, overwritte
 use Rattle.addr_space.specs.Footprint.{Footprint, Agrees, Moves, Keeps, HasRegion, counted}
 use Rattle.addr_space.proofs.Written.{option_cases, HasRegion-written, byte_at-apart, HasBytes-written, held-written}
 use Rattle.addr_space.proofs.Steps.{Moves-one}
+use Rattle.chunk_header.specs.declared.Header.{Header}
+use Rattle.chunk_header.specs.declared.Kind.TheVariants.{AllocSet as SetKind}
 use Rattle.chunk_header.specs.Header.{header_bytes, block_bytes}
 use Rattle.alloc_set.specs.Ledger.{class_size, class_bytes}
 use Rattle.alloc_set.specs.State.{SetState, same_addr, chunk_at, region_of, start_of, capacity_of, live_size, header_of, mark_of, footprint}
@@ -250,3 +252,9 @@ module _ (s t : SetState) (active size class : ℕ) (at : Addr) (chunk : Chunk) 
           let was = settled.placed b it.0 it.1 in
           let le = live_size-le it.0 m was.sized it.2 in
           below_same b.region (b.offset + k) (λ same. omega (arith, was.below same, le, below))
+
+-- the header of a chunk of a class
+pub header_of-class : (class dist : ℕ) (chunk : Chunk) → IsOfClass class chunk → header_of chunk dist ≡ record { kind = SetKind; own = false; value = class; dist = dist }
+header_of-class class dist (Live other size) is = ap (λ c. record { kind = SetKind; own = false; value = c; dist = dist }) is.0
+header_of-class class dist (Free other next) is = ap (λ c. record { kind = SetKind; own = false; value = c; dist = dist }) is.0
+header_of-class class dist (Own size room) is = absurd is

@@ -3,3 +3,4 @@ pub mod Ledger
 pub mod State
 pub mod Kept
 pub mod Steps
+pub mod Live

@@ -4,11 +4,14 @@ ghost use Rattle.std.specs.Map.{values_of, lookup};
 ghost use Rattle.std.specs.HashMap.{spare};
 ghost use Rattle.addr_space.specs.declared.Addr.{Addr};
 ghost use Rattle.alloc_set.specs.declared.chunk.Chunk.{Chunk};
-ghost use Rattle.alloc_set.specs.State.{same_addr};
+ghost use Rattle.addr_space.specs.Footprint.{Agrees, Moves, Keeps};
+ghost use Rattle.alloc_set.specs.Ledger.{class_bytes, class_size, cut_off, with_free};
+ghost use Rattle.alloc_set.specs.State.{same_addr, start_of, chunk_at, footprint};
 
 use crate::chunk::{Chunk, Shelf};
-use addr_space::Addr;
-use chunk_header::Sizes;
+use crate::classes::class_size;
+use addr_space::{Addr, Space};
+use chunk_header::{Header, Kind, Sizes};
 use std::collections::HashMap;
 
 /// The block that chunks are cut off.
@@ -54,5 +57,100 @@ pub fn put(chunks: &mut HashMap<Addr, Chunk>, at: Addr, chunk: Chunk)
     match chunks.insert(at, chunk) {
         Ok(_) => {}
         Err(_) => unreachable!(),
+    }
+}
+
+impl Books {
+    ghost use Rattle.alloc_set.specs.Kept.{state_of, IsSettled, IsShelved, IsCounted, IsKept};
+    ghost use Rattle.alloc_set.specs.Steps.{IsOfClass, Carves};
+    ghost use Rattle.alloc_set.specs.Live.{PutsLive, SameLive};
+
+    // How many bytes of a region stand before the header of its block.
+    fn start(&self, region: u32) -> u32
+        ensures { result ≡ start_of (state_of self.now) region }
+    {
+        if self.keeper == region { 200 } else { 0 }
+    }
+
+    // Cuts a chunk of a class off the active block.
+    fn carve(&mut self, space: &mut Space, class: u8, chunk: Chunk) -> Addr
+        requires settled { IsSettled (state_of self.old) self.old.active.region self.old.active.size }
+        requires size { self.old.active.size % 8 ≡ 0 }
+        requires whole { self.old.active.room % 8 ≡ 0 }
+        requires agrees { Agrees (footprint (state_of self.old)) space.old }
+        requires room { class_bytes class ≤ self.old.active.room }
+        requires of_class { IsOfClass class chunk }
+        requires spare { 0 < spare self.old.chunks }
+        ensures carves { Carves (state_of self.old) (state_of self.new) self.old.active.region self.old.active.size class result chunk }
+        ensures rest { self.new ≡ record self.old { chunks = self.new.chunks; active = self.new.active } }
+        ensures active { self.new.active ≡ record self.old.active { room = self.new.active.room } }
+        ensures sums { (f : Chunk → ℕ) → sum_by f (values_of self.new.chunks.entries) ≡ sum_by f (values_of self.old.chunks.entries) + f chunk }
+        ensures len { length self.new.chunks.entries ≡ length self.old.chunks.entries + 1 }
+        ensures spare { spare self.old.chunks ≤ spare self.new.chunks + 1 }
+        ensures moves { Moves (footprint (state_of self.old)) (footprint (state_of self.new)) space.old space.new }
+        ensures keeps { Keeps (footprint (state_of self.old)) (footprint (state_of self.new)) space.old space.new }
+    {
+        let region = self.active.region;
+        let offset = self.active.size - self.active.room;
+        let header = Header {
+            kind: Kind::AllocSet,
+            own: false,
+            value: u32::from(class),
+            dist: offset - self.start(region),
+        };
+        space.write(Addr { region, offset }, &header.bytes());
+        let at = Addr {
+            region,
+            offset: offset + 8,
+        };
+        put(&mut self.chunks, at, chunk);
+        self.active.room -= class_size(class) + 8;
+        at
+    }
+
+    // Cuts a live chunk of a class off the active block.
+    pub fn cut(&mut self, space: &mut Space, class: u8, size: u32) -> Addr
+        requires kept { IsKept self.old }
+        requires agrees { Agrees (footprint (state_of self.old)) space.old }
+        requires room { class_bytes class ≤ self.old.active.room }
+        requires class { class ≤ 10 }
+        requires size { size ≤ class_size class }
+        requires spare { 0 < spare self.old.chunks }
+        requires few { length self.old.chunks.entries < 2 ^ 40 }
+        ensures kept { IsKept self.new }
+        ensures ledger { (state_of self.new).ledger ≡ cut_off (state_of self.old).ledger class }
+        ensures fresh { (footprint (state_of self.old)).live result ≡ None }
+        ensures live { PutsLive (state_of self.old) (state_of self.new) result (Some size) }
+        ensures moves { Moves (footprint (state_of self.old)) (footprint (state_of self.new)) space.old space.new }
+        ensures keeps { Keeps (footprint (state_of self.old)) (footprint (state_of self.new)) space.old space.new }
+    {
+        self.carve(space, class, Chunk::Live { class, size })
+    }
+
+    // Cuts a free chunk of a class off the active block.
+    fn cut_free(&mut self, space: &mut Space, class: u8)
+        requires kept { IsKept self.old }
+        requires agrees { Agrees (footprint (state_of self.old)) space.old }
+        requires room { class_bytes class ≤ self.old.active.room }
+        requires class { class ≤ 10 }
+        requires spare { 0 < spare self.old.chunks }
+        requires few { length self.old.chunks.entries < 2 ^ 40 }
+        ensures kept { IsKept self.new }
+        ensures ledger { (state_of self.new).ledger ≡ record (state_of self.old).ledger { room = self.old.active.room - class_bytes class; free = with_free (state_of self.old).ledger.free class 1 } }
+        ensures active { self.new.active ≡ record self.old.active { room = self.new.active.room } }
+        ensures spare { spare self.old.chunks ≤ spare self.new.chunks + 1 }
+        ensures len { length self.new.chunks.entries ≡ length self.old.chunks.entries + 1 }
+        ensures others { (at : Addr) → at.region ≢ self.old.active.region → chunk_at (state_of self.new) at ≡ chunk_at (state_of self.old) at }
+        ensures live { SameLive (state_of self.old) (state_of self.new) }
+        ensures moves { Moves (footprint (state_of self.old)) (footprint (state_of self.new)) space.old space.new }
+        ensures keeps { Keeps (footprint (state_of self.old)) (footprint (state_of self.new)) space.old space.new }
+    {
+        let shelf = self.shelves[class as usize];
+        let next = shelf.first;
+        let at = self.carve(space, class, Chunk::Free { class, next });
+        self.shelves[class as usize] = Shelf {
+            first: Some(at),
+            count: shelf.count + 1,
+        };
     }
 }

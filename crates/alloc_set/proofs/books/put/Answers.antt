@@ -1,5 +1,6 @@
 use Rattle.std.proofs.lemmas.Map.Entries.{sum_by_puts_entry}
 use Rattle.alloc_set.specs.State.{same_addr}
+use Rattle.alloc_set.proofs.Shelved.{IsShelved-taken}
 use Rattle.alloc_set.proofs.books.put.Goals as goal
 
 pub returns-clause-sums : goal.returns-clause-sums
