@@ -1,8 +1,8 @@
 -- What the code keeps, after a chunk was cut off the active block.
-use Rattle.std.proofs.Common.{◌≡◌, ◌≢◌, ℕ, suc, ◌+◌, ◌-◌, ◌*◌, ◌%◌, ◌^◌, ◌<◌, ◌≤◌, List, length, map, Option, Some, None, refl, sym, ap, ◌∙◌, subst, arith, sum, sum_by, set, if◌then◌else◌, slice_index, true, false}
+use Rattle.std.proofs.Common.{◌≡◌, ◌≢◌, ℕ, suc, ◌+◌, ◌-◌, ◌*◌, ◌%◌, ◌^◌, ◌<◌, ◌≤◌, List, length, map, Option, Some, None, refl, sym, ap, ◌∙◌, subst, arith, inl, inr, sum, sum_by, set, if◌then◌else◌, slice_index, true, false}
 use Rattle.std.specs.HashMap.{HashMap}
 use Rattle.std.specs.Map.{values_of}
-use Rattle.std.proofs.lemmas.List.{map-set, get_or-map}
+use Rattle.std.proofs.lemmas.List.{map-set, get_or-map, length-map}
 use Rattle.addr_space.specs.declared.Addr.{Addr}
 use Rattle.alloc_set.specs.Ledger.{SetLedger, class_bytes, class_size, cut_off, with_free, chunk_limit}
 use Rattle.alloc_set.specs.State.{SetState, chunk_at, then_option, live_size, footprint}
@@ -15,7 +15,7 @@ use Rattle.alloc_set.specs.declared.chunk.Chunk.{Chunk}
 use Rattle.alloc_set.specs.declared.chunk.Chunk.TheVariants.{Live, Free, Own}
 use Rattle.alloc_set.specs.declared.chunk.Shelf.{Shelf}
 use Rattle.alloc_set.proofs.Carved.{IsSettled-carved, place_free, put_cases}
-use Rattle.alloc_set.proofs.Shelved.{IsShelved-taken, IsShelved-freed, IsTaken}
+use Rattle.alloc_set.proofs.Shelved.{IsShelved-taken, IsShelved-freed, IsTaken, sum_by-le-length, is_free-le}
 
 -- nothing stands at an address: no free chunk does
 pub IsTaken-none : (slot : Option Chunk) → slot ≡ None → IsTaken slot
@@ -80,3 +80,36 @@ module _ (b n : Books) (class : ℕ) (at : Addr) (chunk : Chunk) (kept : IsKept 
   -- the room of the active block
   pub room_now : n.active.room ≡ b.active.room - class_bytes class
   room_now = omega (arith, carves.room)
+
+-- the same, whatever the counts of free chunks are
+pub Carves-shelved : (s t : SetState) (free : List ℕ) (active size class : ℕ) (at : Addr) (chunk : Chunk) → Carves s t active size class at chunk → Carves s (record t { ledger = record t.ledger { free = free } }) active size class at chunk
+Carves-shelved s t free active size class at chunk carves = record {
+  same = record {
+    account = carves.same.account;
+    context = carves.same.context;
+    keeper = carves.same.keeper;
+    blocks = carves.same.blocks;
+    init = carves.same.init;
+    total = carves.same.total;
+  };
+  region = carves.region;
+  offset = carves.offset;
+  room = carves.room;
+  of_class = carves.of_class;
+  chunks = carves.chunks;
+}
+
+-- a chunk that is not live before or after leaves the live chunks
+pub SameLive-put : (s t : SetState) (at : Addr) (slot : Option Chunk) → PutsChunk s t at slot → then_option slot live_size ≡ None → (footprint s).live at ≡ None → SameLive s t
+SameLive-put s t at slot puts after before other =
+    elim (put_cases s t at slot puts other) [
+      | inl here ↦ ap (λ o. then_option o live_size) here.1 ∙ after ∙ sym before ∙ ap (λ a. then_option (chunk_at s a) live_size) (sym here.0)
+      | inr there ↦ ap (λ o. then_option o live_size) there.1
+    ]
+
+-- a count of free chunks is small
+pub count-few : (s : SetState) (shelves : List Shelf) (class : ℕ) → IsShelved s shelves → class < 11 → (shelf_at shelves class).count ≤ 2 ^ 40
+count-few s shelves class shelved below =
+    let bound : sum_by (is_free class) (values_of s.chunks) ≤ length (values_of s.chunks) = sum_by-le-length (is_free class) (is_free-le class) (values_of s.chunks) in
+    let len : length (values_of s.chunks) ≡ length s.chunks = length-map s.chunks (λ e. e.1) in
+    omega (arith, bound, len, shelved.few, shelved.counted class below)

@@ -5,13 +5,13 @@ ghost use Rattle.std.specs.HashMap.{spare};
 ghost use Rattle.addr_space.specs.declared.Addr.{Addr};
 ghost use Rattle.alloc_set.specs.declared.chunk.Chunk.{Chunk};
 ghost use Rattle.addr_space.specs.Footprint.{Agrees, Moves, Keeps};
-ghost use Rattle.alloc_set.specs.Ledger.{class_bytes, class_size, cut_off, with_free};
+ghost use Rattle.alloc_set.specs.Ledger.{class_bytes, class_size, cut_off, with_free, stats};
 ghost use Rattle.alloc_set.specs.State.{same_addr, start_of, chunk_at, footprint};
 
 use crate::chunk::{Chunk, Shelf};
 use crate::classes::class_size;
 use addr_space::{Addr, Space};
-use chunk_header::{Header, Kind, Sizes};
+use chunk_header::{Header, Kind, Sizes, Stats};
 use std::collections::HashMap;
 
 /// The block that chunks are cut off.
@@ -152,5 +152,25 @@ impl Books {
             first: Some(at),
             count: shelf.count + 1,
         };
+    }
+
+    // What the books say.
+    pub fn stats(&self) -> Stats
+        requires { IsKept self.now }
+        ensures { result ≡ stats (state_of self.now).ledger }
+    {
+        let mut free = u64::from(self.active.room) + self.idle;
+        let mut chunks = 0;
+        for class in 0..11u8 {
+            let count = self.shelves[class as usize].count;
+            free += count * (u64::from(class_size(class)) + 8);
+            chunks += count;
+        }
+        Stats {
+            total: self.total,
+            blocks: self.count,
+            free,
+            chunks,
+        }
     }
 }

@@ -1,0 +1,1 @@
+use Rattle.alloc_set.proofs.books.Books.stats.Goals as goal
