@@ -1,6 +1,5 @@
 -- What the code keeps, after a chunk was cut off the active block.
 use Rattle.std.proofs.Common.{◌≡◌, ◌≢◌, ℕ, suc, ◌+◌, ◌-◌, ◌*◌, ◌%◌, ◌^◌, ◌<◌, ◌≤◌, List, length, map, Option, Some, None, refl, sym, ap, ◌∙◌, subst, arith, inl, inr, sum, sum_by, set, if◌then◌else◌, slice_index, true, false}
-use Rattle.std.specs.HashMap.{HashMap}
 use Rattle.std.specs.Map.{values_of}
 use Rattle.std.proofs.lemmas.List.{map-set, get_or-map, length-map}
 use Rattle.addr_space.specs.declared.Addr.{Addr}

@@ -3,3 +3,6 @@ pub mod Settled
 pub mod Carved
 pub mod Shelved
 pub mod KeptCut
+pub mod Added
+pub mod Entries
+pub mod KeptAdded

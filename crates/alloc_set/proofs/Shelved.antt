@@ -4,9 +4,9 @@ use Rattle.std.proofs.lemmas.Bool.{cases_eq, cases_lt}
 use Rattle.std.proofs.lemmas.Bool.Decides.{nat_tests}
 use Rattle.std.proofs.lemmas.List.{length-set, get_or-set_same, get_or-set_other, length-map}
 use Rattle.std.proofs.lemmas.List.Sums.{sum_by-cons}
-use Rattle.std.specs.Map.{values_of}
+use Rattle.std.specs.Map.{values_of, lookup}
 use Rattle.addr_space.specs.declared.Addr.{Addr}
-use Rattle.alloc_set.specs.State.{SetState, chunk_at}
+use Rattle.alloc_set.specs.State.{SetState, chunk_at, same_addr}
 use Rattle.alloc_set.specs.Kept.{IsChain, IsShelved, is_free, shelf_at, no_shelf}
 use Rattle.alloc_set.specs.Steps.{PutsChunk}
 use Rattle.alloc_set.specs.declared.chunk.Chunk.{Chunk}
@@ -158,3 +158,12 @@ module _ (s t : SetState) (shelves : List Shelf) (at : Addr) (slot : Option Chun
         ];
         few = few;
       }
+
+-- the shelves stay while the chunks do
+pub IsShelved-same : (s t : SetState) (shelves : List Shelf) → t.chunks ≡ s.chunks → IsShelved s shelves → IsShelved t shelves
+IsShelved-same s t shelves same shelved = record {
+  eleven = shelved.eleven;
+  chain = λ class below. subst (λ cs. IsChain (λ at. lookup (same_addr at) cs) class (shelf_at shelves class).count (shelf_at shelves class).first) (sym same) (shelved.chain class below);
+  counted = λ class below. shelved.counted class below ∙ ap (λ cs. sum_by (is_free class) (values_of cs)) (sym same);
+  few = omega (arith, shelved.few, ap length same);
+}

@@ -1,18 +1,19 @@
 //! The books of an AllocSet: its blocks, chunks and numbers.
-ghost use Rattle.std.specs.Prelude.{◌≡◌, ◌≢◌, ℕ, ◌+◌, ◌-◌, ◌*◌, ◌%◌, ◌^◌, ◌<◌, ◌≤◌, ◌↔◌, Ok, Err, Some, None, IfOk, IfErr, OnOk, OnErr, cond, option_map, unwrap_or, sum_by, if◌then◌else◌, length, is_some};
+ghost use Rattle.std.specs.Prelude.{◌≡◌, ◌≢◌, ℕ, ◌+◌, ◌-◌, ◌*◌, ◌%◌, ◌^◌, ◌<◌, ◌≤◌, ◌↔◌, Ok, Err, Some, None, IfOk, IfErr, OnOk, OnErr, cond, option_map, unwrap_or, sum_by, if◌then◌else◌, length, is_some, sum, ◌==◌, ◌⊎◌};
 ghost use Rattle.std.specs.Map.{values_of, lookup};
-ghost use Rattle.std.specs.HashMap.{spare};
+ghost use Rattle.indexmap.specs.IndexMap.{spare};
 ghost use Rattle.addr_space.specs.declared.Addr.{Addr};
 ghost use Rattle.alloc_set.specs.declared.chunk.Chunk.{Chunk};
 ghost use Rattle.addr_space.specs.Footprint.{Agrees, Moves, Keeps};
-ghost use Rattle.alloc_set.specs.Ledger.{class_bytes, class_size, cut_off, with_free, stats};
-ghost use Rattle.alloc_set.specs.State.{same_addr, start_of, chunk_at, footprint};
+ghost use Rattle.alloc_set.specs.Ledger.{class_bytes, class_size, cut_off, with_free, stats, with_own};
+ghost use Rattle.alloc_set.specs.State.{same_addr, start_of, chunk_at, region_of, footprint};
+ghost use Rattle.addr_space.specs.Space.{held};
 
 use crate::chunk::{Chunk, Shelf};
 use crate::classes::class_size;
-use addr_space::{Addr, Space};
-use chunk_header::{Header, Kind, Sizes, Stats};
-use std::collections::HashMap;
+use addr_space::{Addr, Space, SpaceError};
+use chunk_header::{CtxError, Header, Kind, Sizes, Stats, block_header};
+use indexmap::IndexMap;
 
 /// The block that chunks are cut off.
 #[derive(Clone, Copy)]
@@ -36,8 +37,8 @@ pub struct Books {
     pub keeper: u32,
     pub active: Block,
     // The size of each other region.
-    pub blocks: HashMap<u32, u32>,
-    pub chunks: HashMap<Addr, Chunk>,
+    pub blocks: IndexMap<u32, u32>,
+    pub chunks: IndexMap<Addr, Chunk>,
     pub shelves: [Shelf; 11],
     // The bytes of all blocks, and how many they are.
     pub total: u64,
@@ -47,7 +48,7 @@ pub struct Books {
 }
 
 // Notes what stands at an address where room was made, or where a chunk stands already.
-pub fn put(chunks: &mut HashMap<Addr, Chunk>, at: Addr, chunk: Chunk)
+pub fn put(chunks: &mut IndexMap<Addr, Chunk>, at: Addr, chunk: Chunk)
     requires { (lookup (same_addr at) chunks.old.entries ≡ None) → 0 < spare chunks.old }
     ensures at { (other : Addr) → lookup (same_addr other) chunks.new.entries ≡ (if same_addr at other then Some chunk else lookup (same_addr other) chunks.old.entries) }
     ensures sums { (f : Chunk → ℕ) → sum_by f (values_of chunks.new.entries) + unwrap_or (option_map f (lookup (same_addr at) chunks.old.entries)) 0 ≡ sum_by f (values_of chunks.old.entries) + f chunk }
@@ -59,6 +60,25 @@ pub fn put(chunks: &mut HashMap<Addr, Chunk>, at: Addr, chunk: Chunk)
         Err(_) => unreachable!(),
     }
 }
+
+// Notes the size of a new block, for which room was made.
+fn note(blocks: &mut IndexMap<u32, u32>, number: u32, size: u32)
+    requires spare { 0 < spare blocks.old }
+    requires new { lookup (λ n. number == n) blocks.old.entries ≡ None }
+    ensures at { (other : ℕ) → lookup (λ n. other == n) blocks.new.entries ≡ (if number == other then Some size else lookup (λ n. other == n) blocks.old.entries) }
+    ensures sum { sum (values_of blocks.new.entries) ≡ sum (values_of blocks.old.entries) + size }
+{
+    match blocks.insert(number, size) {
+        Ok(_) => {}
+        Err(_) => unreachable!(),
+    }
+}
+
+// The greatest total with which a context takes one more block, in bytes.
+const MOST: u64 = 1 << 61;
+
+// The greatest number of chunks with which a context cuts off more.
+const MOST_CHUNKS: usize = 1 << 39;
 
 impl Books {
     ghost use Rattle.alloc_set.specs.Kept.{state_of, IsSettled, IsShelved, IsCounted, IsKept};
@@ -172,5 +192,60 @@ impl Books {
             free,
             chunks,
         }
+    }
+
+    // Makes room in the maps, for what one request may need.
+    fn make_room(&mut self) -> Result<(), CtxError>
+        ensures same { self.new ≡ record self.old { blocks = self.new.blocks; chunks = self.new.chunks } }
+        ensures blocks { self.new.blocks.entries ≡ self.old.blocks.entries }
+        ensures chunks { self.new.chunks.entries ≡ self.old.chunks.entries }
+        ensures spare_blocks { OnOk result (1 ≤ spare self.new.blocks) }
+        ensures spare_chunks { OnOk result (12 ≤ spare self.new.chunks) }
+        ensures few { OnOk result (length self.new.chunks.entries ≤ 2 ^ 39) }
+        ensures only_memory { IfErr result (λ e. e ≡ CtxError.Memory) }
+    {
+        if self.chunks.len() > MOST_CHUNKS
+            || self.chunks.reserve(12).is_err()
+            || self.blocks.reserve(1).is_err()
+        {
+            return Err(CtxError::Memory);
+        }
+        Ok(())
+    }
+
+    // Takes a block and notes it. Chunks are still cut off the old one.
+    fn add_block(&mut self, space: &mut Space, size: u32) -> Result<u32, CtxError>
+        requires kept { IsKept self.old }
+        requires agrees { Agrees (footprint (state_of self.old)) space.old }
+        requires least { 48 ≤ size }
+        requires most { size ≤ 2 ^ 31 }
+        requires spare { 0 < spare self.old.blocks }
+        ensures kept { OnOk result (IsKept self.new) }
+        ensures ledger { OnOk result ((state_of self.new).ledger ≡ with_own (state_of self.old).ledger size) }
+        ensures rest { OnOk result (self.new ≡ record self.old { blocks = self.new.blocks; total = self.new.total; count = self.new.count }) }
+        ensures owned { IfOk result (λ number. region_of (state_of self.new) number ≡ Some size) }
+        ensures new { IfOk result (λ number. region_of (state_of self.old) number ≡ None) }
+        ensures others { IfOk result (λ number. (other : ℕ) → other ≢ number → region_of (state_of self.new) other ≡ region_of (state_of self.old) other) }
+        ensures moves { OnOk result (Moves (footprint (state_of self.old)) (footprint (state_of self.new)) space.old space.new) }
+        ensures keeps { OnOk result (Keeps (footprint (state_of self.old)) (footprint (state_of self.new)) space.old space.new) }
+        ensures fits { OnOk result (size ≤ space.old.limit - held space.old self.old.account) }
+        ensures no_space { (result ≡ Err CtxError.NoSpace) → space.old.limit - held space.old self.old.account < size }
+        ensures no_other { IfErr result (λ e. (e ≡ CtxError.NoSpace) ⊎ (e ≡ CtxError.Memory)) }
+        ensures err { OnErr result (self.new ≡ self.old) }
+        ensures err_space { OnErr result (space.new ≡ space.old) }
+    {
+        if self.total > MOST {
+            return Err(CtxError::Memory);
+        }
+        let at = match space.take(self.account, size) {
+            Ok(at) => at,
+            Err(SpaceError::NoSpace) => return Err(CtxError::NoSpace),
+            Err(SpaceError::Memory) => return Err(CtxError::Memory),
+        };
+        space.write(at, &block_header(self.context, size));
+        note(&mut self.blocks, at.region, size);
+        self.total += u64::from(size);
+        self.count += 1;
+        Ok(at.region)
     }
 }
