@@ -6,3 +6,5 @@ pub mod KeptCut
 pub mod Added
 pub mod Entries
 pub mod KeptAdded
+pub mod Cuts
+pub mod KeptActive

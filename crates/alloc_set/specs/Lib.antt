@@ -4,3 +4,4 @@ pub mod State
 pub mod Kept
 pub mod Steps
 pub mod Live
+pub mod Cut

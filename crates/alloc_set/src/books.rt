@@ -1,11 +1,11 @@
 //! The books of an AllocSet: its blocks, chunks and numbers.
-ghost use Rattle.std.specs.Prelude.{◌≡◌, ◌≢◌, ℕ, ◌+◌, ◌-◌, ◌*◌, ◌%◌, ◌^◌, ◌<◌, ◌≤◌, ◌↔◌, Ok, Err, Some, None, IfOk, IfErr, OnOk, OnErr, cond, option_map, unwrap_or, sum_by, if◌then◌else◌, length, is_some, sum, ◌==◌, ◌⊎◌};
+ghost use Rattle.std.specs.Prelude.{◌≡◌, ◌≢◌, ℕ, ◌+◌, ◌-◌, ◌*◌, ◌%◌, ◌^◌, ◌<◌, ◌≤◌, ◌↔◌, Ok, Err, Some, None, IfOk, IfErr, OnOk, OnErr, cond, option_map, unwrap_or, sum_by, if◌then◌else◌, length, is_some, sum, ◌==◌, ◌⊎◌, min};
 ghost use Rattle.std.specs.Map.{values_of, lookup};
 ghost use Rattle.indexmap.specs.IndexMap.{spare};
 ghost use Rattle.addr_space.specs.declared.Addr.{Addr};
 ghost use Rattle.alloc_set.specs.declared.chunk.Chunk.{Chunk};
 ghost use Rattle.addr_space.specs.Footprint.{Agrees, Moves, Keeps};
-ghost use Rattle.alloc_set.specs.Ledger.{class_bytes, class_size, cut_off, with_free, stats, with_own};
+ghost use Rattle.alloc_set.specs.Ledger.{class_bytes, class_size, cut_off, with_free, stats, with_own, cut_rest, cut_up};
 ghost use Rattle.alloc_set.specs.State.{same_addr, start_of, chunk_at, region_of, footprint};
 ghost use Rattle.addr_space.specs.Space.{held};
 
@@ -84,6 +84,7 @@ impl Books {
     ghost use Rattle.alloc_set.specs.Kept.{state_of, IsSettled, IsShelved, IsCounted, IsKept};
     ghost use Rattle.alloc_set.specs.Steps.{IsOfClass, Carves};
     ghost use Rattle.alloc_set.specs.Live.{PutsLive, SameLive};
+    ghost use Rattle.alloc_set.specs.Cut.{CutsUp};
 
     // How many bytes of a region stand before the header of its block.
     fn start(&self, region: u32) -> u32
@@ -160,6 +161,7 @@ impl Books {
         ensures active { self.new.active ≡ record self.old.active { room = self.new.active.room } }
         ensures spare { spare self.old.chunks ≤ spare self.new.chunks + 1 }
         ensures len { length self.new.chunks.entries ≡ length self.old.chunks.entries + 1 }
+        ensures rest { self.new ≡ record self.old { chunks = self.new.chunks; active = self.new.active; shelves = self.new.shelves } }
         ensures others { (at : Addr) → at.region ≢ self.old.active.region → chunk_at (state_of self.new) at ≡ chunk_at (state_of self.old) at }
         ensures live { SameLive (state_of self.old) (state_of self.new) }
         ensures moves { Moves (footprint (state_of self.old)) (footprint (state_of self.new)) space.old space.new }
@@ -247,5 +249,49 @@ impl Books {
         self.total += u64::from(size);
         self.count += 1;
         Ok(at.region)
+    }
+
+    // Cuts the rest of the active block up into free chunks.
+    fn cut_up(&mut self, space: &mut Space)
+        requires kept { IsKept self.old }
+        requires agrees { Agrees (footprint (state_of self.old)) space.old }
+        requires little { self.old.active.room < class_bytes 11 }
+        requires spare { 11 ≤ spare self.old.chunks }
+        requires few { length self.old.chunks.entries ≤ 2 ^ 39 }
+        ensures cut { CutsUp self.old self.new (self.old.active.room) 11 }
+        ensures room { self.new.active.room ≡ cut_rest 11 self.old.active.room }
+        ensures free { (state_of self.new).ledger.free ≡ cut_up 11 self.old.active.room (state_of self.old).ledger.free }
+        ensures moves { Moves (footprint (state_of self.old)) (footprint (state_of self.new)) space.old space.new }
+        ensures keeps { Keeps (footprint (state_of self.old)) (footprint (state_of self.new)) space.old space.new }
+    {
+        let mut class = 11u8;
+        while class > 0 {
+            class -= 1;
+            if self.active.room >= class_size(class) + 8 {
+                self.cut_free(space, class);
+            }
+        }
+    }
+
+    // Makes a block without chunks the active one.
+    fn activate(&mut self, region: u32, size: u32)
+        requires kept { IsKept self.old }
+        requires owned { region_of (state_of self.old) region ≡ Some size }
+        requires other { region ≢ self.old.keeper }
+        requires empty { (at : Addr) → at.region ≡ region → chunk_at (state_of self.old) at ≡ None }
+        requires whole { size % 8 ≡ 0 }
+        requires counted { self.old.active.room + self.old.idle + size ≤ self.old.total }
+        ensures kept { IsKept self.new }
+        ensures state { state_of self.new ≡ record (state_of self.old) { ledger = record (state_of self.old).ledger { next = min (2 * self.old.next) self.old.sizes.max; idle = self.old.idle + self.old.active.room; room = size - 40 } } }
+        ensures rest { self.new ≡ record self.old { active = self.new.active; idle = self.new.idle; next = self.new.next } }
+        ensures footprint { footprint (state_of self.new) ≡ footprint (state_of self.old) }
+    {
+        self.idle += u64::from(self.active.room);
+        self.active = Block {
+            region,
+            size,
+            room: size - 40,
+        };
+        self.next = (self.next * 2).min(self.sizes.max);
     }
 }

@@ -1,0 +1,24 @@
+-- What is left once the rest of a block was cut up.
+use Rattle.std.specs.Prelude.{◌≡◌, ◌≢◌, ℕ, ◌+◌, ◌≤◌, length}
+use Rattle.indexmap.specs.IndexMap.{spare}
+use Rattle.addr_space.specs.declared.Addr.{Addr}
+use Rattle.alloc_set.specs.State.{chunk_at}
+use Rattle.alloc_set.specs.Kept.{state_of, IsKept}
+use Rattle.alloc_set.specs.Live.{SameLive}
+use Rattle.alloc_set.specs.declared.books.Books.{Books}
+
+-- free chunks of the active block were made, of so many classes at most
+pub record CutsUp (b n : Books) (room classes : ℕ) : Type 0 where
+  pub kept : IsKept n
+  pub ledger : (state_of n).ledger ≡ record (state_of b).ledger { room = n.active.room; free = (state_of n).ledger.free }
+  pub account : n.account ≡ b.account
+  pub context : n.context ≡ b.context
+  pub limit : n.limit ≡ b.limit
+  pub keeper : n.keeper ≡ b.keeper
+  pub blocks : n.blocks ≡ b.blocks
+  pub active : n.active ≡ record b.active { room = n.active.room }
+  pub less : n.active.room ≤ b.active.room
+  pub spare : spare b.chunks ≤ spare n.chunks + classes
+  pub len : length n.chunks.entries ≤ length b.chunks.entries + classes
+  pub others : (at : Addr) → at.region ≢ b.active.region → chunk_at (state_of n) at ≡ chunk_at (state_of b) at
+  pub live : SameLive (state_of b) (state_of n)
