@@ -90,7 +90,7 @@ mark_below s active size settled at bytes marked region =
           (omega (arith, there.below region), ap length (sym other.3) ∙ length-header_bytes (header_of other.0 (at.offset - start_of s at.region)))
     ]
 
-module _ (s t : SetState) (active size class : ℕ) (at : Addr) (chunk : Chunk) (settled : IsSettled s active size) (carves : Carves s t active size class at chunk) (size_whole : size % 8 ≡ 0) (room_whole : s.ledger.room % 8 ≡ 0) where
+module _ (s t : SetState) (active size class : ℕ) (at : Addr) (chunk : Chunk) (settled : IsSettled s active size) (carves : Carves s t active size class at chunk) (filled : (size - s.ledger.room) % 8 ≡ 0) where
   capacity : capacity_of chunk ≡ class_size class
   capacity = (capacity-class class chunk carves.of_class).0
 
@@ -116,7 +116,7 @@ module _ (s t : SetState) (active size class : ℕ) (at : Addr) (chunk : Chunk) 
               owned = ap (region_of t) region ∙ region_same s t carves.same active ∙ settled.active_owned;
               first = omega (arith, ap (start_of t) region, start_same s t carves.same active, settled.active_room, carves.offset, offset);
               last = omega (arith, cap, offset, carves.offset, carves.room);
-              whole = omega (arith, offset, carves.offset, size_whole, room_whole);
+              whole = omega (arith, offset, carves.offset, filled);
               below = λ _. omega (arith, cap, offset, carves.offset, carves.room);
               sized = subst IsSized is (capacity-class class chunk carves.of_class).1;
               alone = IsAlone-class t active class other it (subst (IsOfClass class) is carves.of_class);

@@ -71,8 +71,7 @@ module _ (b n : Books) (number size : ℕ) (kept : IsKept b) (adds : Adds (state
           sizes = (omega (arith, was.sizes.0, init), omega (arith, was.sizes.1, init, max), omega (arith, was.sizes.2, max), omega (arith, was.sizes.3, init), omega (arith, was.sizes.4, max));
           next = (omega (arith, was.next.0, next), omega (arith, was.next.1, next, max), omega (arith, was.next.2, next));
           limit = limit ∙ was.limit ∙ ap chunk_limit (sym max);
-          active = omega (arith, was.active, active_size);
-          room = omega (arith, was.room, room);
+          filled = omega (arith, was.filled, active_size, room);
           total = omega (arith, was.total, adds.total, sums, init);
           most = omega (arith, small, adds.total, most);
           blocks = omega (arith, was.blocks, adds.total, count, least);

@@ -27,7 +27,7 @@ module _ (b n : Books) (class : ℕ) (at : Addr) (chunk : Chunk) (kept : IsKept 
     (len : length n.chunks.entries ≡ length b.chunks.entries + 1) (few : length b.chunks.entries < 2 ^ 40) where
   settled_now : IsSettled (state_of n) n.active.region n.active.size
   settled_now =
-      let now = IsSettled-carved (state_of b) (state_of n) b.active.region b.active.size class at chunk kept.settled carves kept.counted.active kept.counted.room in
+      let now = IsSettled-carved (state_of b) (state_of n) b.active.region b.active.size class at chunk kept.settled carves kept.counted.filled in
       subst (λ (x : Block). IsSettled (state_of n) x.region x.size) (sym active) now
 
   counted_now : IsCounted n
@@ -41,8 +41,7 @@ module _ (b n : Books) (class : ℕ) (at : Addr) (chunk : Chunk) (kept : IsKept 
         sizes = (omega (arith, was.sizes.0, init), omega (arith, was.sizes.1, init, max), omega (arith, was.sizes.2, max), omega (arith, was.sizes.3, init), omega (arith, was.sizes.4, max));
         next = (omega (arith, was.next.0, next), omega (arith, was.next.1, next, max), omega (arith, was.next.2, next));
         limit = limit ∙ was.limit ∙ ap chunk_limit (sym max);
-        active = omega (arith, was.active, size);
-        room = omega (arith, was.room, carves.room);
+        filled = omega (arith, was.filled, carves.room, size, kept.settled.active_room);
         total = omega (arith, was.total, carves.same.total, init, ap (λ e. sum (values_of e)) blocks);
         most = omega (arith, was.most, carves.same.total);
         blocks = omega (arith, was.blocks, carves.same.total, count);
@@ -50,7 +49,7 @@ module _ (b n : Books) (class : ℕ) (at : Addr) (chunk : Chunk) (kept : IsKept 
       }
 
   without : chunk_at (state_of b) at ≡ None
-  without = place_free (state_of b) (state_of n) b.active.region b.active.size class at chunk kept.settled carves kept.counted.active kept.counted.room
+  without = place_free (state_of b) (state_of n) b.active.region b.active.size class at chunk kept.settled carves kept.counted.filled
 
   -- a live chunk was cut off
   pub IsKept-live : n.shelves ≡ b.shelves → (size : ℕ) → chunk ≡ Live class size → ((f : Chunk → ℕ) → sum_by f (values_of n.chunks.entries) ≡ sum_by f (values_of b.chunks.entries) + f chunk) → IsKept n

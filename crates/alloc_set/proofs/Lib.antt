@@ -8,3 +8,4 @@ pub mod Entries
 pub mod KeptAdded
 pub mod Cuts
 pub mod KeptActive
+pub mod Halving

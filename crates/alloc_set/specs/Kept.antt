@@ -92,8 +92,7 @@ pub record IsCounted (b : Books) : Type 0 where
   pub sizes : (1024 ≤ b.sizes.init) × (b.sizes.init ≤ b.sizes.max) × (b.sizes.max ≤ 8388608) × (b.sizes.init % 8 ≡ 0) × (b.sizes.max % 8 ≡ 0)
   pub next : (1024 ≤ b.next) × (b.next ≤ b.sizes.max) × (b.next % 8 ≡ 0)
   pub limit : b.limit ≡ chunk_limit b.sizes.max
-  pub active : b.active.size % 8 ≡ 0
-  pub room : b.active.room % 8 ≡ 0
+  pub filled : (b.active.size - b.active.room) % 8 ≡ 0
   pub total : b.total ≡ b.sizes.init + sum (values_of b.blocks.entries)
   pub most : b.total ≤ 2 ^ 62
   pub blocks : b.count ≤ b.total

@@ -74,15 +74,19 @@ cut_rest (suc class) room = cut_rest class (room % class_bytes class)
 
 -- a block's size, halved while it is more than what is left of the account, over 1048576 and would not fall
 -- below a need, so many times at most; nothing where it doesn't fit
-unfoldable pub halved : ℕ → ℕ → ℕ → ℕ → Option ℕ
-halved zero left need size = if nat_le size left then Some size else None
-halved (suc times) left need size =
+unfoldable pub halved_by : ℕ → ℕ → ℕ → ℕ → Option ℕ
+halved_by zero left need size = if nat_le size left then Some size else None
+halved_by (suc times) left need size =
     if nat_le size left then Some size
-    else (if nat_lt 1048576 size then (if nat_le need (size / 2) then halved times left need (size / 2) else None) else None)
+    else (if nat_lt 1048576 size then (if nat_le need (size / 2) then halved_by times left need (size / 2) else None) else None)
+
+-- the same, as often as it takes
+unfoldable pub halved : ℕ → ℕ → ℕ → Option ℕ
+halved left need size = halved_by size left need size
 
 -- the size of the new block for a chunk, where that is to be had
 unfoldable pub block_size : SetLedger → ℕ → ℕ → Option ℕ
-block_size l left class = halved 64 left (class_size class + 48) (grown l.next (class_size class + 48))
+block_size l left class = halved left (class_size class + 48) (grown l.next (class_size class + 48))
 
 -- a new block is had: the rest of the old one is cut up, and the new one is active
 unfoldable pub renewed : SetLedger → ℕ → SetLedger

@@ -5,14 +5,15 @@ ghost use Rattle.indexmap.specs.IndexMap.{spare};
 ghost use Rattle.addr_space.specs.declared.Addr.{Addr};
 ghost use Rattle.alloc_set.specs.declared.chunk.Chunk.{Chunk};
 ghost use Rattle.addr_space.specs.Footprint.{Agrees, Moves, Keeps};
-ghost use Rattle.alloc_set.specs.Ledger.{class_bytes, class_size, cut_off, with_free, stats, with_own, cut_rest, cut_up};
+ghost use Rattle.alloc_set.specs.Ledger.{class_bytes, class_size, cut_off, with_free, stats, with_own, cut_rest, cut_up, halved};
+ghost use Rattle.chunk_header.specs.Growth.{grown};
 ghost use Rattle.alloc_set.specs.State.{same_addr, start_of, chunk_at, region_of, footprint};
-ghost use Rattle.addr_space.specs.Space.{held};
+ghost use Rattle.addr_space.specs.Space.{held, accounts};
 
 use crate::chunk::{Chunk, Shelf};
 use crate::classes::class_size;
 use addr_space::{Addr, Space, SpaceError};
-use chunk_header::{CtxError, Header, Kind, Sizes, Stats, block_header};
+use chunk_header::{CtxError, Header, Kind, Sizes, Stats, block_header, grown};
 use indexmap::IndexMap;
 
 /// The block that chunks are cut off.
@@ -77,6 +78,9 @@ fn note(blocks: &mut IndexMap<u32, u32>, number: u32, size: u32)
 // The greatest total with which a context takes one more block, in bytes.
 const MOST: u64 = 1 << 61;
 
+// The size from which a block that doesn't fit is halved.
+const LARGE: u32 = 1_048_576;
+
 // The greatest number of chunks with which a context cuts off more.
 const MOST_CHUNKS: usize = 1 << 39;
 
@@ -96,8 +100,7 @@ impl Books {
     // Cuts a chunk of a class off the active block.
     fn carve(&mut self, space: &mut Space, class: u8, chunk: Chunk) -> Addr
         requires settled { IsSettled (state_of self.old) self.old.active.region self.old.active.size }
-        requires size { self.old.active.size % 8 ≡ 0 }
-        requires whole { self.old.active.room % 8 ≡ 0 }
+        requires filled { (self.old.active.size - self.old.active.room) % 8 ≡ 0 }
         requires agrees { Agrees (footprint (state_of self.old)) space.old }
         requires room { class_bytes class ≤ self.old.active.room }
         requires of_class { IsOfClass class chunk }
@@ -279,7 +282,6 @@ impl Books {
         requires owned { region_of (state_of self.old) region ≡ Some size }
         requires other { region ≢ self.old.keeper }
         requires empty { (at : Addr) → at.region ≡ region → chunk_at (state_of self.old) at ≡ None }
-        requires whole { size % 8 ≡ 0 }
         requires counted { self.old.active.room + self.old.idle + size ≤ self.old.total }
         ensures kept { IsKept self.new }
         ensures state { state_of self.new ≡ record (state_of self.old) { ledger = record (state_of self.old).ledger { next = min (2 * self.old.next) self.old.sizes.max; idle = self.old.idle + self.old.active.room; room = size - 40 } } }
@@ -293,5 +295,23 @@ impl Books {
             room: size - 40,
         };
         self.next = (self.next * 2).min(self.sizes.max);
+    }
+
+    // The size of a new block for a need: the next one doubled while it is below, and halved while it doesn't fit.
+    fn fitted(&self, space: &Space, need: u32) -> u32
+        requires kept { IsKept self.now }
+        requires account { self.now.account < accounts space.now }
+        requires most { need ≤ 2 ^ 14 }
+        requires least { 48 ≤ need }
+        ensures some { result ≤ space.now.limit - held space.now self.now.account → halved (space.now.limit - held space.now self.now.account) need (grown self.now.next need) ≡ Some result }
+        ensures none { space.now.limit - held space.now self.now.account < result → halved (space.now.limit - held space.now self.now.account) need (grown self.now.next need) ≡ None }
+        ensures enough { need ≤ result }
+        ensures most { result ≤ 2 ^ 24 }
+    {
+        let mut size = grown(self.next, need);
+        while size > LARGE && size / 2 >= need && !space.fits(self.account, size) {
+            size /= 2;
+        }
+        size
     }
 }

@@ -31,7 +31,7 @@ carves c = search rules
 -- no chunk stood there
 none : (c : After-self-1) → chunk_at (state_of c.args.self.now) (place c) ≡ None
 none c =
-    place_free (state_of c.args.self.now) (now c) c.args.self.now.active.region c.args.self.now.active.size c.args.class (place c) c.args.chunk c.requires.settled (carves c) c.requires.size c.requires.whole
+    place_free (state_of c.args.self.now) (now c) c.args.self.now.active.region c.args.self.now.active.size c.args.class (place c) c.args.chunk c.requires.settled (carves c) c.requires.filled
 
 -- what was written
 wrote : (c : After-self-1) → Changes c.args.space.now c.write.new.self c.args.self.now.active.region (overwritten (region_at c.args.space.now c.args.self.now.active.region) ((place c).offset - 8) (map Some (header_bytes (header_of c.args.chunk ((place c).offset - 8 - start_of (state_of c.args.self.now) (place c).region)))))
@@ -66,9 +66,9 @@ returns-clause-len c =
 pub returns-clause-moves : goal.returns-clause-moves
 unfolding now place
 returns-clause-moves c =
-    Moves-carved (state_of c.args.self.now) (now c) c.args.self.now.active.region c.args.self.now.active.size c.args.class (place c) c.args.chunk c.requires.settled (carves c) c.requires.size c.requires.whole c.args.space.now c.write.new.self c.requires.agrees (wrote c)
+    Moves-carved (state_of c.args.self.now) (now c) c.args.self.now.active.region c.args.self.now.active.size c.args.class (place c) c.args.chunk c.requires.settled (carves c) c.requires.filled c.args.space.now c.write.new.self c.requires.agrees (wrote c)
 
 pub returns-clause-keeps : goal.returns-clause-keeps
 unfolding now place
 returns-clause-keeps c =
-    Keeps-carved (state_of c.args.self.now) (now c) c.args.self.now.active.region c.args.self.now.active.size c.args.class (place c) c.args.chunk c.requires.settled (carves c) c.requires.size c.requires.whole c.args.space.now c.write.new.self c.requires.agrees (wrote c)
+    Keeps-carved (state_of c.args.self.now) (now c) c.args.self.now.active.region c.args.self.now.active.size c.args.class (place c) c.args.chunk c.requires.settled (carves c) c.requires.filled c.args.space.now c.write.new.self c.requires.agrees (wrote c)
