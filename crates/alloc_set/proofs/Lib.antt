@@ -9,3 +9,4 @@ pub mod KeptAdded
 pub mod Cuts
 pub mod KeptActive
 pub mod Halving
+pub mod KeptNew

@@ -1,5 +1,7 @@
 -- What is left once the rest of a block was cut up.
-use Rattle.std.specs.Prelude.{◌≡◌, ◌≢◌, ℕ, ◌+◌, ◌≤◌, length}
+use Rattle.std.specs.Prelude.{◌≡◌, ◌≢◌, ℕ, ◌+◌, ◌-◌, ◌<◌, ◌≤◌, ◌^◌, length, Some}
+use Rattle.addr_space.specs.Space.{Space, held}
+use Rattle.alloc_set.specs.Ledger.{block_size, renewed, class_bytes}
 use Rattle.indexmap.specs.IndexMap.{spare}
 use Rattle.addr_space.specs.declared.Addr.{Addr}
 use Rattle.alloc_set.specs.State.{chunk_at}
@@ -21,4 +23,16 @@ pub record CutsUp (b n : Books) (room classes : ℕ) : Type 0 where
   pub spare : spare b.chunks ≤ spare n.chunks + classes
   pub len : length n.chunks.entries ≤ length b.chunks.entries + classes
   pub others : (at : Addr) → at.region ≢ b.active.region → chunk_at (state_of n) at ≡ chunk_at (state_of b) at
+  pub live : SameLive (state_of b) (state_of n)
+
+-- a new block is active, with room for a chunk of a class
+pub record Renews (b n : Books) (s : Space) (class : ℕ) : Type 0 where
+  pub size : ℕ
+  pub had : block_size (state_of b).ledger (s.limit - held s b.account) class ≡ Some size
+  pub kept : IsKept n
+  pub ledger : (state_of n).ledger ≡ renewed (state_of b).ledger size
+  pub room : class_bytes class ≤ n.active.room
+  pub limit : n.limit ≡ b.limit
+  pub spare : 0 < spare n.chunks
+  pub len : length n.chunks.entries < 2 ^ 40
   pub live : SameLive (state_of b) (state_of n)

@@ -1,20 +1,21 @@
 //! The books of an AllocSet: its blocks, chunks and numbers.
-ghost use Rattle.std.specs.Prelude.{◌≡◌, ◌≢◌, ℕ, ◌+◌, ◌-◌, ◌*◌, ◌%◌, ◌^◌, ◌<◌, ◌≤◌, ◌↔◌, Ok, Err, Some, None, IfOk, IfErr, OnOk, OnErr, cond, option_map, unwrap_or, sum_by, if◌then◌else◌, length, is_some, sum, ◌==◌, ◌⊎◌, min};
+ghost use Rattle.std.specs.Prelude.{◌≡◌, ◌≢◌, ℕ, ◌+◌, ◌-◌, ◌*◌, ◌%◌, ◌^◌, ◌<◌, ◌≤◌, ◌↔◌, Ok, Err, Some, None, IfOk, IfErr, OnOk, OnErr, cond, option_map, unwrap_or, sum_by, if◌then◌else◌, length, is_some, sum, ◌==◌, ◌⊎◌, min, IfSome, IfNone, OnSome, slice_index};
 ghost use Rattle.std.specs.Map.{values_of, lookup};
 ghost use Rattle.indexmap.specs.IndexMap.{spare};
 ghost use Rattle.addr_space.specs.declared.Addr.{Addr};
 ghost use Rattle.alloc_set.specs.declared.chunk.Chunk.{Chunk};
-ghost use Rattle.addr_space.specs.Footprint.{Agrees, Moves, Keeps};
-ghost use Rattle.alloc_set.specs.Ledger.{class_bytes, class_size, cut_off, with_free, stats, with_own, cut_rest, cut_up, halved};
+ghost use Rattle.addr_space.specs.Footprint.{Agrees, Moves, Keeps, nothing};
+ghost use Rattle.alloc_set.specs.Ledger.{class_bytes, class_size, cut_off, with_free, stats, with_own, cut_rest, cut_up, halved, block_size, reused, created};
 ghost use Rattle.chunk_header.specs.Growth.{grown};
-ghost use Rattle.alloc_set.specs.State.{same_addr, start_of, chunk_at, region_of, footprint};
+ghost use Rattle.alloc_set.specs.State.{same_addr, start_of, chunk_at, region_of, mark_of, footprint};
 ghost use Rattle.addr_space.specs.Space.{held, accounts};
 
 use crate::chunk::{Chunk, Shelf};
-use crate::classes::class_size;
+use crate::classes::{chunk_limit, class_size};
 use addr_space::{Addr, Space, SpaceError};
 use chunk_header::{CtxError, Header, Kind, Sizes, Stats, block_header, grown};
 use indexmap::IndexMap;
+use std::alloc::Global;
 
 /// The block that chunks are cut off.
 #[derive(Clone, Copy)]
@@ -88,7 +89,61 @@ impl Books {
     ghost use Rattle.alloc_set.specs.Kept.{state_of, IsSettled, IsShelved, IsCounted, IsKept};
     ghost use Rattle.alloc_set.specs.Steps.{IsOfClass, Carves};
     ghost use Rattle.alloc_set.specs.Live.{PutsLive, SameLive};
-    ghost use Rattle.alloc_set.specs.Cut.{CutsUp};
+    ghost use Rattle.alloc_set.specs.Cut.{CutsUp, Renews};
+
+    // The books of a new context, whose keeper was taken.
+    pub fn create(alloc: Global, space: &mut Space, account: u8, context: u32, sizes: Sizes) -> Result<Books, CtxError>
+        requires account { account < accounts space.old }
+        requires least { 1024 ≤ sizes.init }
+        requires order { sizes.init ≤ sizes.max }
+        requires most { sizes.max ≤ 8388608 }
+        requires whole_init { sizes.init % 8 ≡ 0 }
+        requires whole_max { sizes.max % 8 ≡ 0 }
+        ensures kept { IfOk result (λ b. IsKept b) }
+        ensures ledger { IfOk result (λ b. (state_of b).ledger ≡ created sizes.init sizes.max) }
+        ensures account { IfOk result (λ b. b.account ≡ account) }
+        ensures context { IfOk result (λ b. b.context ≡ context) }
+        ensures live { IfOk result (λ b. (at : Addr) → (footprint (state_of b)).live at ≡ None) }
+        ensures moves { IfOk result (λ b. Moves (nothing account context) (footprint (state_of b)) space.old space.new) }
+        ensures no_space { (result ≡ Err CtxError.NoSpace) ↔ (space.old.limit < held space.old account + sizes.init) }
+        ensures no_other { IfErr result (λ e. (e ≡ CtxError.NoSpace) ⊎ (e ≡ CtxError.Memory)) }
+        ensures err { OnErr result (space.new ≡ space.old) }
+    {
+        let at = match space.take(account, sizes.init) {
+            Ok(at) => at,
+            Err(SpaceError::NoSpace) => return Err(CtxError::NoSpace),
+            Err(SpaceError::Memory) => return Err(CtxError::Memory),
+        };
+        space.write(
+            Addr {
+                region: at.region,
+                offset: 200,
+            },
+            &block_header(context, sizes.init),
+        );
+        Ok(Books {
+            account,
+            context,
+            sizes,
+            limit: chunk_limit(sizes.max),
+            next: sizes.init,
+            keeper: at.region,
+            active: Block {
+                region: at.region,
+                size: sizes.init,
+                room: sizes.init - 240,
+            },
+            blocks: IndexMap::new(alloc),
+            chunks: IndexMap::new(alloc),
+            shelves: [Shelf {
+                first: None,
+                count: 0,
+            }; 11],
+            total: u64::from(sizes.init),
+            count: 1,
+            idle: 0,
+        })
+    }
 
     // How many bytes of a region stand before the header of its block.
     fn start(&self, region: u32) -> u32
@@ -313,5 +368,62 @@ impl Books {
             size /= 2;
         }
         size
+    }
+
+    // Takes a new block for a chunk of a class, cuts the rest of the active one up and makes the new one active.
+    fn renew(&mut self, space: &mut Space, class: u8) -> Result<(), CtxError>
+        requires kept { IsKept self.old }
+        requires agrees { Agrees (footprint (state_of self.old)) space.old }
+        requires class { class ≤ 10 }
+        requires little { self.old.active.room < class_bytes class }
+        requires spare_blocks { 0 < spare self.old.blocks }
+        requires spare_chunks { 12 ≤ spare self.old.chunks }
+        requires few { length self.old.chunks.entries ≤ 2 ^ 39 }
+        ensures renewed { OnOk result (Renews self.old self.new space.old class) }
+        ensures moves { OnOk result (Moves (footprint (state_of self.old)) (footprint (state_of self.new)) space.old space.new) }
+        ensures keeps { OnOk result (Keeps (footprint (state_of self.old)) (footprint (state_of self.new)) space.old space.new) }
+        ensures no_space { result ≡ Err CtxError.NoSpace → block_size (state_of self.old).ledger (space.old.limit - held space.old self.old.account) class ≡ None }
+        ensures no_other { IfErr result (λ e. (e ≡ CtxError.NoSpace) ⊎ (e ≡ CtxError.Memory)) }
+        ensures err { OnErr result (self.new ≡ self.old) }
+        ensures err_space { OnErr result (space.new ≡ space.old) }
+    {
+        let size = self.fitted(space, class_size(class) + 48);
+        let region = match self.add_block(space, size) {
+            Ok(region) => region,
+            Err(error) => return Err(error),
+        };
+        self.cut_up(space);
+        self.activate(region, size);
+        Ok(())
+    }
+
+    // Takes the first free chunk of a class.
+    fn reuse(&mut self, class: u8, size: u32) -> Option<Addr>
+        requires kept { IsKept self.old }
+        requires class { class ≤ 10 }
+        requires size { size ≤ class_size class }
+        ensures none { IfNone result (self.new ≡ self.old) }
+        ensures empty { IfNone result (slice_index (state_of self.old).ledger.free class ≡ 0) }
+        ensures some { OnSome result (0 < slice_index (state_of self.old).ledger.free class) }
+        ensures kept { OnSome result (IsKept self.new) }
+        ensures ledger { OnSome result ((state_of self.new).ledger ≡ reused (state_of self.old).ledger class) }
+        ensures fresh { IfSome result (λ at. (footprint (state_of self.old)).live at ≡ None) }
+        ensures live { IfSome result (λ at. PutsLive (state_of self.old) (state_of self.new) at (Some size)) }
+        ensures regions { (number : ℕ) → region_of (state_of self.new) number ≡ region_of (state_of self.old) number }
+        ensures marks { (at : Addr) → mark_of (state_of self.new) at ≡ mark_of (state_of self.old) at }
+        ensures rest { self.new ≡ record self.old { chunks = self.new.chunks; shelves = self.new.shelves } }
+    {
+        let shelf = self.shelves[class as usize];
+        let at = shelf.first?;
+        let Some(Chunk::Free { class: _, next }) = self.chunks.get(&at) else {
+            return None;
+        };
+        let next = *next;
+        put(&mut self.chunks, at, Chunk::Live { class, size });
+        self.shelves[class as usize] = Shelf {
+            first: next,
+            count: shelf.count - 1,
+        };
+        Some(at)
     }
 }
