@@ -10,3 +10,5 @@ pub mod Cuts
 pub mod KeptActive
 pub mod Halving
 pub mod KeptNew
+pub mod Flipped
+pub mod Taken

@@ -167,3 +167,15 @@ IsShelved-same s t shelves same shelved = record {
   counted = λ class below. shelved.counted class below ∙ ap (λ cs. sum_by (is_free class) (values_of cs)) (sym same);
   few = omega (arith, shelved.few, ap length same);
 }
+
+-- a shelf with a first chunk has a free one there, and one without has none
+pub chain_head : (c : Addr → Option Chunk) (class count : ℕ) (first : Option Addr) (at : Addr) → IsChain c class count first → first ≡ Some at → (next : Option Addr) × (rest : ℕ) × (c at ≡ Some (Free class next)) × (count ≡ suc rest)
+chain_head c class zero first at chain is = let clash = sym chain ∙ is in absurd (cc)
+chain_head c class (suc count) first at chain is =
+    let one : Some chain.0 ≡ Some at = sym chain.2 ∙ is in
+    let same : chain.0 ≡ at = cc in
+    (chain.1, count, ap c (sym same) ∙ chain.3, refl)
+
+pub chain_empty : (c : Addr → Option Chunk) (class count : ℕ) (first : Option Addr) → IsChain c class count first → first ≡ None → count ≡ 0
+chain_empty c class zero first chain none = refl
+chain_empty c class (suc count) first chain none = let clash = sym none ∙ chain.2 in absurd (cc)

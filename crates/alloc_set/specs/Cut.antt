@@ -1,12 +1,14 @@
 -- What is left once the rest of a block was cut up.
-use Rattle.std.specs.Prelude.{◌≡◌, ◌≢◌, ℕ, ◌+◌, ◌-◌, ◌<◌, ◌≤◌, ◌^◌, length, Some}
+use Rattle.std.specs.Prelude.{◌≡◌, ◌≢◌, ℕ, ◌+◌, ◌-◌, ◌<◌, ◌≤◌, ◌^◌, length, Some, None, Result, Ok}
+use Rattle.addr_space.specs.Footprint.{Moves, Keeps}
+use Rattle.chunk_header.specs.declared.CtxError.{CtxError}
 use Rattle.addr_space.specs.Space.{Space, held}
-use Rattle.alloc_set.specs.Ledger.{block_size, renewed, class_bytes}
+use Rattle.alloc_set.specs.Ledger.{SetLedger, block_size, renewed, class_bytes}
 use Rattle.indexmap.specs.IndexMap.{spare}
 use Rattle.addr_space.specs.declared.Addr.{Addr}
-use Rattle.alloc_set.specs.State.{chunk_at}
+use Rattle.alloc_set.specs.State.{chunk_at, footprint}
 use Rattle.alloc_set.specs.Kept.{state_of, IsKept}
-use Rattle.alloc_set.specs.Live.{SameLive}
+use Rattle.alloc_set.specs.Live.{SameLive, PutsLive}
 use Rattle.alloc_set.specs.declared.books.Books.{Books}
 
 -- free chunks of the active block were made, of so many classes at most
@@ -36,3 +38,12 @@ pub record Renews (b n : Books) (s : Space) (class : ℕ) : Type 0 where
   pub spare : 0 < spare n.chunks
   pub len : length n.chunks.entries < 2 ^ 40
   pub live : SameLive (state_of b) (state_of n)
+
+-- a live chunk of this size is there now, where the ledger's step answers so
+pub record Allocates (b n : Books) (s t : Space) (size : ℕ) (at : Addr) (step : Result SetLedger CtxError) : Type 0 where
+  pub kept : IsKept n
+  pub ledger : step ≡ Ok (state_of n).ledger
+  pub fresh : (footprint (state_of b)).live at ≡ None
+  pub live : PutsLive (state_of b) (state_of n) at (Some size)
+  pub moves : Moves (footprint (state_of b)) (footprint (state_of n)) s t
+  pub keeps : Keeps (footprint (state_of b)) (footprint (state_of n)) s t

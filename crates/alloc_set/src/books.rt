@@ -1,17 +1,17 @@
 //! The books of an AllocSet: its blocks, chunks and numbers.
-ghost use Rattle.std.specs.Prelude.{◌≡◌, ◌≢◌, ℕ, ◌+◌, ◌-◌, ◌*◌, ◌%◌, ◌^◌, ◌<◌, ◌≤◌, ◌↔◌, Ok, Err, Some, None, IfOk, IfErr, OnOk, OnErr, cond, option_map, unwrap_or, sum_by, if◌then◌else◌, length, is_some, sum, ◌==◌, ◌⊎◌, min, IfSome, IfNone, OnSome, slice_index};
+ghost use Rattle.std.specs.Prelude.{◌≡◌, ◌≢◌, ℕ, ◌+◌, ◌-◌, ◌*◌, ◌%◌, ◌^◌, ◌<◌, ◌≤◌, ◌↔◌, Ok, Err, Some, None, IfOk, IfErr, OnOk, OnErr, cond, option_map, unwrap_or, sum_by, if◌then◌else◌, length, is_some, sum, ◌==◌, ◌⊎◌, min, IfSome, IfNone, OnSome, slice_index, Option};
 ghost use Rattle.std.specs.Map.{values_of, lookup};
 ghost use Rattle.indexmap.specs.IndexMap.{spare};
 ghost use Rattle.addr_space.specs.declared.Addr.{Addr};
 ghost use Rattle.alloc_set.specs.declared.chunk.Chunk.{Chunk};
 ghost use Rattle.addr_space.specs.Footprint.{Agrees, Moves, Keeps, nothing};
-ghost use Rattle.alloc_set.specs.Ledger.{class_bytes, class_size, cut_off, with_free, stats, with_own, cut_rest, cut_up, halved, block_size, reused, created};
+ghost use Rattle.alloc_set.specs.Ledger.{class_bytes, class_size, cut_off, with_free, stats, with_own, cut_rest, cut_up, halved, block_size, reused, created, take_class, class_of};
 ghost use Rattle.chunk_header.specs.Growth.{grown};
 ghost use Rattle.alloc_set.specs.State.{same_addr, start_of, chunk_at, region_of, mark_of, footprint};
-ghost use Rattle.addr_space.specs.Space.{held, accounts};
+ghost use Rattle.addr_space.specs.Space.{Space, held, accounts};
 
 use crate::chunk::{Chunk, Shelf};
-use crate::classes::{chunk_limit, class_size};
+use crate::classes::{chunk_limit, class_of, class_size};
 use addr_space::{Addr, Space, SpaceError};
 use chunk_header::{CtxError, Header, Kind, Sizes, Stats, block_header, grown};
 use indexmap::IndexMap;
@@ -89,7 +89,7 @@ impl Books {
     ghost use Rattle.alloc_set.specs.Kept.{state_of, IsSettled, IsShelved, IsCounted, IsKept};
     ghost use Rattle.alloc_set.specs.Steps.{IsOfClass, Carves};
     ghost use Rattle.alloc_set.specs.Live.{PutsLive, SameLive};
-    ghost use Rattle.alloc_set.specs.Cut.{CutsUp, Renews};
+    ghost use Rattle.alloc_set.specs.Cut.{CutsUp, Renews, Allocates};
 
     // The books of a new context, whose keeper was taken.
     pub fn create(alloc: Global, space: &mut Space, account: u8, context: u32, sizes: Sizes) -> Result<Books, CtxError>
@@ -397,6 +397,17 @@ impl Books {
         Ok(())
     }
 
+    // The free chunk that a free chunk of a class names.
+    fn next_free(&self, class: u8, at: Addr) -> Option<Addr>
+        requires { (next : Option Addr) × (chunk_at (state_of self.now) at ≡ Some (Chunk.Free class next)) }
+        ensures { chunk_at (state_of self.now) at ≡ Some (Chunk.Free class result) }
+    {
+        match self.chunks.get(&at) {
+            Some(Chunk::Free { class: _, next }) => *next,
+            _ => None,
+        }
+    }
+
     // Takes the first free chunk of a class.
     fn reuse(&mut self, class: u8, size: u32) -> Option<Addr>
         requires kept { IsKept self.old }
@@ -409,21 +420,49 @@ impl Books {
         ensures ledger { OnSome result ((state_of self.new).ledger ≡ reused (state_of self.old).ledger class) }
         ensures fresh { IfSome result (λ at. (footprint (state_of self.old)).live at ≡ None) }
         ensures live { IfSome result (λ at. PutsLive (state_of self.old) (state_of self.new) at (Some size)) }
-        ensures regions { (number : ℕ) → region_of (state_of self.new) number ≡ region_of (state_of self.old) number }
-        ensures marks { (at : Addr) → mark_of (state_of self.new) at ≡ mark_of (state_of self.old) at }
+        ensures moves { OnSome result ((sp : Space) → Agrees (footprint (state_of self.old)) sp → Moves (footprint (state_of self.old)) (footprint (state_of self.new)) sp sp) }
         ensures rest { self.new ≡ record self.old { chunks = self.new.chunks; shelves = self.new.shelves } }
     {
         let shelf = self.shelves[class as usize];
-        let at = shelf.first?;
-        let Some(Chunk::Free { class: _, next }) = self.chunks.get(&at) else {
+        let Some(at) = shelf.first else {
             return None;
         };
-        let next = *next;
+        let next = self.next_free(class, at);
         put(&mut self.chunks, at, Chunk::Live { class, size });
         self.shelves[class as usize] = Shelf {
             first: next,
             count: shelf.count - 1,
         };
         Some(at)
+    }
+
+    // Serves a request by a chunk of a class.
+    fn take_class(&mut self, space: &mut Space, size: u32) -> Result<Addr, CtxError>
+        requires kept { IsKept self.old }
+        requires agrees { Agrees (footprint (state_of self.old)) space.old }
+        requires size { size ≤ 8192 }
+        ensures ok { IfOk result (λ at. Allocates self.old self.new space.old space.new size at (take_class (state_of self.old).ledger (space.old.limit - held space.old self.old.account) (class_of size))) }
+        ensures no_space { result ≡ Err CtxError.NoSpace → take_class (state_of self.old).ledger (space.old.limit - held space.old self.old.account) (class_of size) ≡ Err CtxError.NoSpace }
+        ensures no_other { IfErr result (λ e. (e ≡ CtxError.NoSpace) ⊎ (e ≡ CtxError.Memory)) }
+        ensures err_state { OnErr result (state_of self.new ≡ state_of self.old) }
+        ensures err_kept { OnErr result (IsKept self.new) }
+        ensures err_space { OnErr result (space.new ≡ space.old) }
+    {
+        let class = class_of(size);
+        match self.make_room() {
+            Ok(()) => {}
+            Err(error) => return Err(error),
+        }
+        if let Some(at) = self.reuse(class, size) {
+            return Ok(at);
+        }
+        if self.active.room >= class_size(class) + 8 {
+            return Ok(self.cut(space, class, size));
+        }
+        match self.renew(space, class) {
+            Ok(()) => {}
+            Err(error) => return Err(error),
+        }
+        Ok(self.cut(space, class, size))
     }
 }
