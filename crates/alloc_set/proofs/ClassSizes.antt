@@ -3,7 +3,7 @@ use Rattle.std.proofs.Common.{◌≡◌, ℕ, zero, suc, ◌+◌, ◌-◌, ◌*�
 use Rattle.std.proofs.Math.Pow.{pow_mono}
 use Rattle.std.proofs.lemmas.Bool.{cases_lt}
 use Rattle.std.proofs.lemmas.Bool.Decides.{nat_tests}
-use Rattle.alloc_set.specs.Ledger.{class_size, class_bytes, class_up_to, class_of, limit_class}
+use Rattle.alloc_set.specs.Ledger.{class_size, class_bytes, class_up_to, class_of, limit_class, chunk_limit}
 
 -- a greater class has greater chunks
 pub class_size-mono : (a b : ℕ) → a ≤ b → class_size a ≤ class_size b
@@ -54,3 +54,13 @@ pub limit_class-stop : (class max : ℕ) → (0 < class → class_bytes class �
 unfolding limit_class
 limit_class-stop zero max fits = refl
 limit_class-stop (suc class) max fits = let h = fits (omega arith) in grind (arith, nat_tests)
+
+-- the limit is one of the classes from which it is sought
+pub limit_class-most : (class max : ℕ) → limit_class class max ≤ class
+unfolding limit_class
+limit_class-most zero max = omega arith
+limit_class-most (suc class) max = let before = limit_class-most class max in grind (arith, nat_tests)
+
+pub chunk_limit-most : (max : ℕ) → chunk_limit max ≤ 8192
+unfolding chunk_limit
+chunk_limit-most max = class_size-most (limit_class 10 max) (limit_class-most 10 max)

@@ -12,3 +12,4 @@ pub mod Halving
 pub mod KeptNew
 pub mod Flipped
 pub mod Taken
+pub mod Owned

@@ -50,3 +50,33 @@ state_same b m rest blocks chunks =
 -- a live chunk is put after a step that leaves the live ones
 pub PutsLive-after : (a b c : SetState) (at : Addr) (size : Option ℕ) → SameLive a b → PutsLive b c at size → PutsLive a c at size
 PutsLive-after a b c at size same puts other = puts other ∙ ap (λ o. if same_addr at other then size else o) (same other)
+
+module _ (l : SetLedger) (left size : ℕ) where
+  pub take_own-had : size ≤ left → take_own l left size ≡ Ok (with_own l size)
+  unfolding take_own
+  take_own-had fits =
+      let test : nat_le size left ≡ true = grind (arith, nat_tests) in
+      ap (λ b. if b then Ok (with_own l size) else Err NoSpace) test
+
+  pub take_own-none : left < size → take_own l left size ≡ Err NoSpace
+  unfolding take_own
+  take_own-none over =
+      let test : nat_le size left ≡ false = grind (arith, nat_tests) in
+      ap (λ b. if b then Ok (with_own l size) else Err NoSpace) test
+
+-- which step serves a request
+pub take-own : (l : SetLedger) (left size : ℕ) → size ≤ 1073741823 → chunk_limit l.max < size → take l left size ≡ take_own l left (own_size size)
+unfolding take
+take-own l left size small large =
+    let first : nat_lt 1073741823 size ≡ false = grind (arith, nat_tests) in
+    let second : nat_lt (chunk_limit l.max) size ≡ true = grind (arith, nat_tests) in
+    ap (λ b. if b then Err TooBig else (if nat_lt (chunk_limit l.max) size then take_own l left (own_size size) else take_class l left (class_of size))) first
+    ∙ ap (λ b. if b then take_own l left (own_size size) else take_class l left (class_of size)) second
+
+pub take-class : (l : SetLedger) (left size : ℕ) → size ≤ 1073741823 → size ≤ chunk_limit l.max → take l left size ≡ take_class l left (class_of size)
+unfolding take
+take-class l left size small fits =
+    let first : nat_lt 1073741823 size ≡ false = grind (arith, nat_tests) in
+    let second : nat_lt (chunk_limit l.max) size ≡ false = grind (arith, nat_tests) in
+    ap (λ b. if b then Err TooBig else (if nat_lt (chunk_limit l.max) size then take_own l left (own_size size) else take_class l left (class_of size))) first
+    ∙ ap (λ b. if b then take_own l left (own_size size) else take_class l left (class_of size)) second

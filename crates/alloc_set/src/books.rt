@@ -5,7 +5,7 @@ ghost use Rattle.indexmap.specs.IndexMap.{spare};
 ghost use Rattle.addr_space.specs.declared.Addr.{Addr};
 ghost use Rattle.alloc_set.specs.declared.chunk.Chunk.{Chunk};
 ghost use Rattle.addr_space.specs.Footprint.{Agrees, Moves, Keeps, nothing};
-ghost use Rattle.alloc_set.specs.Ledger.{class_bytes, class_size, cut_off, with_free, stats, with_own, cut_rest, cut_up, halved, block_size, reused, created, take_class, class_of};
+ghost use Rattle.alloc_set.specs.Ledger.{class_bytes, class_size, cut_off, with_free, stats, with_own, cut_rest, cut_up, halved, block_size, reused, created, take_class, class_of, take_own, own_size, take};
 ghost use Rattle.chunk_header.specs.Growth.{grown};
 ghost use Rattle.alloc_set.specs.State.{same_addr, start_of, chunk_at, region_of, mark_of, footprint};
 ghost use Rattle.addr_space.specs.Space.{Space, held, accounts};
@@ -13,7 +13,7 @@ ghost use Rattle.addr_space.specs.Space.{Space, held, accounts};
 use crate::chunk::{Chunk, Shelf};
 use crate::classes::{chunk_limit, class_of, class_size};
 use addr_space::{Addr, Space, SpaceError};
-use chunk_header::{CtxError, Header, Kind, Sizes, Stats, block_header, grown};
+use chunk_header::{CtxError, Header, Kind, Sizes, Stats, block_header, grown, up8};
 use indexmap::IndexMap;
 use std::alloc::Global;
 
@@ -75,6 +75,9 @@ fn note(blocks: &mut IndexMap<u32, u32>, number: u32, size: u32)
         Err(_) => unreachable!(),
     }
 }
+
+// The greatest size of a request.
+const LARGEST: u64 = 1_073_741_823;
 
 // The greatest total with which a context takes one more block, in bytes.
 const MOST: u64 = 1 << 61;
@@ -464,5 +467,80 @@ impl Books {
             Err(error) => return Err(error),
         }
         Ok(self.cut(space, class, size))
+    }
+
+    // Notes a chunk that has a block for itself, and writes its header.
+    fn settle(&mut self, space: &mut Space, region: u32, size: u32, room: u32) -> Addr
+        requires kept { IsKept self.old }
+        requires agrees { Agrees (footprint (state_of self.old)) space.old }
+        requires owned { region_of (state_of self.old) region ≡ Some (room + 48) }
+        requires not_keeper { region ≢ self.old.keeper }
+        requires not_active { region ≢ self.old.active.region }
+        requires empty { (other : Addr) → other.region ≡ region → chunk_at (state_of self.old) other ≡ None }
+        requires fits { size ≤ room }
+        requires spare { 0 < spare self.old.chunks }
+        requires few { length self.old.chunks.entries < 2 ^ 40 }
+        ensures kept { IsKept self.new }
+        ensures ledger { (state_of self.new).ledger ≡ (state_of self.old).ledger }
+        ensures fresh { (footprint (state_of self.old)).live result ≡ None }
+        ensures live { PutsLive (state_of self.old) (state_of self.new) result (Some size) }
+        ensures moves { Moves (footprint (state_of self.old)) (footprint (state_of self.new)) space.old space.new }
+        ensures keeps { Keeps (footprint (state_of self.old)) (footprint (state_of self.new)) space.old space.new }
+    {
+        let header = Header {
+            kind: Kind::AllocSet,
+            own: true,
+            value: 0,
+            dist: 40,
+        };
+        space.write(Addr { region, offset: 40 }, &header.bytes());
+        let at = Addr { region, offset: 48 };
+        put(&mut self.chunks, at, Chunk::Own { size, room });
+        at
+    }
+
+    // Serves a request by a block of its own.
+    fn take_own(&mut self, space: &mut Space, size: u32) -> Result<Addr, CtxError>
+        requires kept { IsKept self.old }
+        requires agrees { Agrees (footprint (state_of self.old)) space.old }
+        requires size { size ≤ 1073741823 }
+        ensures ok { IfOk result (λ at. Allocates self.old self.new space.old space.new size at (take_own (state_of self.old).ledger (space.old.limit - held space.old self.old.account) (own_size size))) }
+        ensures no_space { result ≡ Err CtxError.NoSpace → take_own (state_of self.old).ledger (space.old.limit - held space.old self.old.account) (own_size size) ≡ Err CtxError.NoSpace }
+        ensures no_other { IfErr result (λ e. (e ≡ CtxError.NoSpace) ⊎ (e ≡ CtxError.Memory)) }
+        ensures err_state { OnErr result (state_of self.new ≡ state_of self.old) }
+        ensures err_kept { OnErr result (IsKept self.new) }
+        ensures err_space { OnErr result (space.new ≡ space.old) }
+    {
+        match self.make_room() {
+            Ok(()) => {}
+            Err(error) => return Err(error),
+        }
+        let room = up8(size);
+        let region = match self.add_block(space, room + 48) {
+            Ok(region) => region,
+            Err(error) => return Err(error),
+        };
+        Ok(self.settle(space, region, size, room))
+    }
+
+    // Serves a request.
+    pub fn alloc(&mut self, space: &mut Space, size: u64) -> Result<Addr, CtxError>
+        requires kept { IsKept self.old }
+        requires agrees { Agrees (footprint (state_of self.old)) space.old }
+        ensures ok { IfOk result (λ at. Allocates self.old self.new space.old space.new size at (take (state_of self.old).ledger (space.old.limit - held space.old self.old.account) size)) }
+        ensures too_big { (result ≡ Err CtxError.TooBig) ↔ (1073741823 < size) }
+        ensures no_space { result ≡ Err CtxError.NoSpace → take (state_of self.old).ledger (space.old.limit - held space.old self.old.account) size ≡ Err CtxError.NoSpace }
+        ensures no_other { IfErr result (λ e. (e ≡ CtxError.TooBig) ⊎ ((e ≡ CtxError.NoSpace) ⊎ (e ≡ CtxError.Memory))) }
+        ensures err_state { OnErr result (state_of self.new ≡ state_of self.old) }
+        ensures err_kept { OnErr result (IsKept self.new) }
+        ensures err_space { OnErr result (space.new ≡ space.old) }
+    {
+        if size > LARGEST {
+            return Err(CtxError::TooBig);
+        }
+        if size > u64::from(self.limit) {
+            return self.take_own(space, size as u32);
+        }
+        self.take_class(space, size as u32)
     }
 }

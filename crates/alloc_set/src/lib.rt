@@ -9,7 +9,7 @@ mod books;
 mod chunk;
 mod classes;
 
-use addr_space::Space;
+use addr_space::{Addr, Space};
 use books::Books;
 use chunk_header::{CtxError, Sizes, Stats};
 use std::alloc::Global;
@@ -37,7 +37,8 @@ impl AllocSet {
     ghost use Rattle.addr_space.specs.Space.{accounts, held};
     ghost use Rattle.addr_space.specs.Footprint.{nothing, Agrees, Moves, Keeps};
     ghost use Rattle.alloc_set.specs.State.{footprint};
-    ghost use Rattle.alloc_set.specs.Ledger.{created};
+    ghost use Rattle.alloc_set.specs.Ledger.{created, take};
+    ghost use Rattle.alloc_set.specs.Live.{PutsLive};
 
     /// A context with one block, for an account of the space. `context` is the number that its blocks keep.
     ///
@@ -70,4 +71,31 @@ impl AllocSet {
     {
         self.books.stats()
     }
+
+    /// Takes a chunk of `size` bytes, which may be 0, and answers its address. No byte of it is known.
+    ///
+    /// `TooBig`, `NoSpace` and `Memory` are tried in this order. A refused call changes nothing.
+    pub fn alloc(&mut self, space: &mut Space, size: u64) -> Result<Addr, CtxError>
+        requires { Agrees (footprint self.old) space.old }
+
+        // The ledger makes its step for the request, with what is left of the account.
+        ensures ledger { OnOk result (take self.old.ledger (space.old.limit - held space.old self.old.account) size ≡ Ok self.new.ledger) }
+
+        // The chunk was not live, and every other chunk stays.
+        ensures fresh { IfOk result (λ at. (footprint self.old).live at ≡ None) }
+        ensures live { IfOk result (λ at. PutsLive self.old self.new at (Some size)) }
+        ensures moves { OnOk result (Moves (footprint self.old) (footprint self.new) space.old space.new) }
+        ensures keeps { OnOk result (Keeps (footprint self.old) (footprint self.new) space.old space.new) }
+
+        ensures too_big { (result ≡ Err CtxError.TooBig) ↔ (1073741823 < size) }
+        ensures no_space { result ≡ Err CtxError.NoSpace → take self.old.ledger (space.old.limit - held space.old self.old.account) size ≡ Err CtxError.NoSpace }
+        ensures no_other { IfErr result (λ e. (e ≡ CtxError.TooBig) ⊎ ((e ≡ CtxError.NoSpace) ⊎ (e ≡ CtxError.Memory))) }
+        ensures err { OnErr result (self.new ≡ self.old) }
+        ensures err_space { OnErr result (space.new ≡ space.old) }
+    {
+        self.books.alloc(space, size)
+    }
 }
+
+#[cfg(test)]
+mod tests;
