@@ -1,17 +1,17 @@
 -- Lemmas on a block that is added.
-use Rattle.std.proofs.Common.{◌≡◌, ◌≢◌, ℕ, zero, suc, ◌+◌, ◌-◌, ◌*◌, ◌%◌, ◌^◌, ◌<◌, ◌≤◌, ◌⊎◌, ◌==◌, ◌&&◌, if◌then◌else◌, List, [], ◌∷◌, length, Option, Some, None, option_map, Bool, true, false, refl, sym, ap, ◌∙◌, subst, arith, inl, inr, slice_index, slice_index_or, map}
+use Rattle.std.proofs.Common.{◌≡◌, ◌≢◌, ℕ, ◌+◌, ◌-◌, ◌^◌, ◌<◌, ◌≤◌, ◌⊎◌, ◌==◌, if◌then◌else◌, List, length, Option, Some, None, false, refl, sym, ap, ◌∙◌, arith, inl, inr, slice_index, slice_index_or, map}
 use Rattle.std.proofs.lemmas.List.{length-replicate}
-use Rattle.std.proofs.lemmas.Bool.{cases_eq, cases_lt}
+use Rattle.std.proofs.lemmas.Bool.{cases_eq}
 use Rattle.std.proofs.lemmas.Bool.Decides.{nat_tests}
 use Rattle.addr_space.specs.declared.Addr.{Addr}
-use Rattle.addr_space.specs.Space.{Space, Region, region_at, byte_at, bytes_of, overwritten, unwritten, Changes, HasBytes, held}
-use Rattle.addr_space.specs.Footprint.{Footprint, Agrees, Moves, Keeps, HasRegion, counted}
-use Rattle.addr_space.proofs.Written.{option_cases, HasRegion-written, byte_at-apart, HasBytes-written, held-written}
+use Rattle.addr_space.specs.Space.{Space, region_at, byte_at, bytes_of, overwritten, unwritten, Changes, held}
+use Rattle.addr_space.specs.Footprint.{Agrees, Moves, Keeps, HasRegion, counted}
+use Rattle.addr_space.proofs.Written.{HasRegion-written, HasBytes-written, held-written}
 use Rattle.addr_space.proofs.Steps.{Moves-one, Changes-more}
 use Rattle.chunk_header.specs.Header.{header_bytes, block_bytes}
-use Rattle.alloc_set.specs.State.{SetState, same_addr, chunk_at, region_of, start_of, capacity_of, live_size, header_of, mark_of, footprint}
-use Rattle.alloc_set.specs.Kept.{IsSettled, IsPlaced, IsSized, IsAlone}
-use Rattle.alloc_set.proofs.Settled.{mark_cases, from_then, live_size-le, length-header_bytes, length-block_bytes, same_addr_from, IsSound-settled}
+use Rattle.alloc_set.specs.State.{SetState, chunk_at, region_of, start_of, live_size, header_of, mark_of, footprint}
+use Rattle.alloc_set.specs.Kept.{IsSettled, IsAlone}
+use Rattle.alloc_set.proofs.Settled.{mark_cases, from_then, length-block_bytes, IsSound-settled}
 use Rattle.alloc_set.proofs.Carved.{mark_from_block, mark_from_chunk}
 use Rattle.alloc_set.specs.declared.chunk.Chunk.{Chunk}
 use Rattle.alloc_set.specs.declared.chunk.Chunk.TheVariants.{Live, Free, Own}
@@ -65,17 +65,17 @@ module _ (s t : SetState) (active active_size number size : ℕ) (settled : IsSe
           (was.0, omega (arith, was.1, start_same other))
     ];
     placed = λ at chunk found.
-      let was = settled.placed at chunk (sym (chunk_same at) ∙ found) in
-      record {
-        len = was.len;
-        owned = adds.others at.region (owned_differs at.region was.len was.owned) ∙ was.owned;
-        first = omega (arith, was.first, start_same at.region);
-        last = was.last;
-        whole = was.whole;
-        below = λ region. omega (arith, was.below region, adds.room);
-        sized = was.sized;
-        alone = alone_now at chunk was.alone;
-      };
+        let was = settled.placed at chunk (sym (chunk_same at) ∙ found) in
+        record {
+          len = was.len;
+          owned = adds.others at.region (owned_differs at.region was.len was.owned) ∙ was.owned;
+          first = omega (arith, was.first, start_same at.region);
+          last = was.last;
+          whole = was.whole;
+          below = λ region. omega (arith, was.below region, adds.room);
+          sized = was.sized;
+          alone = alone_now at chunk was.alone;
+        };
     apart = λ a b first second at_a at_b region below. settled.apart a b first second (sym (chunk_same a) ∙ at_a) (sym (chunk_same b) ∙ at_b) region below;
   }
 
@@ -85,20 +85,26 @@ module _ (s t : SetState) (active active_size number size : ℕ) (settled : IsSe
   marks_added b bytes marked =
       elim (mark_cases t b bytes marked) [
         | inl block ↦ elim (cases_eq b.region number) [
-            | inl same ↦
-                let one : Some block.0 ≡ Some size = sym block.2 ∙ ap (region_of t) same ∙ adds.owned in
-                let is : block.0 ≡ size = cc in
-                inl (same, block.1 ∙ ap (start_of t) same ∙ number_start, ap (λ x. block_bytes x size) (sym adds.context) ∙ ap (block_bytes t.context) (sym is) ∙ block.3)
-            | inr differs ↦
-                inr (differs, mark_from_block s b block.0 (block.1 ∙ start_same b.region) (sym (adds.others b.region differs) ∙ block.2)
-                  ∙ ap Some (ap (λ x. block_bytes x block.0) (sym adds.context) ∙ block.3))
-          ]
+          | inl same ↦
+              let one : Some block.0 ≡ Some size = sym block.2 ∙ ap (region_of t) same ∙ adds.owned in
+              let is : block.0 ≡ size = cc in
+              inl (same, block.1 ∙ ap (start_of t) same ∙ number_start, ap (λ x. block_bytes x size) (sym adds.context) ∙ ap (block_bytes t.context) (sym is) ∙ block.3)
+          | inr differs ↦
+              inr (
+                differs,
+                mark_from_block s b block.0 (block.1 ∙ start_same b.region) (sym (adds.others b.region differs) ∙ block.2)
+                    ∙ ap Some (ap (λ x. block_bytes x block.0) (sym adds.context) ∙ block.3),
+              )
+        ]
         | inr other ↦
             let place : Addr = record { region = b.region; offset = b.offset + 8 } in
             let found = sym (chunk_same place) ∙ other.2 in
             let was = settled.placed place other.0 found in
-            inr (owned_differs b.region was.len was.owned, mark_from_chunk s b other.0 (λ e. other.1 (e ∙ sym (start_same b.region))) found
-              ∙ ap Some (ap (λ x. header_bytes (header_of other.0 (b.offset - x))) (sym (start_same b.region)) ∙ other.3))
+            inr (
+              owned_differs b.region was.len was.owned,
+              mark_from_chunk s b other.0 (λ e. other.1 (e ∙ sym (start_same b.region))) found
+                  ∙ ap Some (ap (λ x. header_bytes (header_of other.0 (b.offset - x))) (sym (start_same b.region)) ∙ other.3),
+            )
       ]
 
   module _ (sp mp tp : Space) (agrees : Agrees (footprint s) sp) (free : region_at sp number ≡ None) (took : Changes sp mp number (Some (unwritten s.account size)))
@@ -139,10 +145,10 @@ module _ (s t : SetState) (active active_size number size : ℕ) (settled : IsSe
           | inr old ↦ old.1
         ])
         (λ account.
-          let now = held-written mp tp place word (unwritten s.account size) took.changed fits wrote account in
-          let counts : counted (footprint t) account ≡ (if s.account == account then s.ledger.total + size else 0) =
-              ap (λ a. if a == account then t.ledger.total else 0) adds.account ∙ ap (λ n. if s.account == account then n else 0) adds.total in
-          grind (arith, now, holds account, counts))
+        let now = held-written mp tp place word (unwritten s.account size) took.changed fits wrote account in
+        let counts : counted (footprint t) account ≡ (if s.account == account then s.ledger.total + size else 0) =
+        ap (λ a. if a == account then t.ledger.total else 0) adds.account ∙ ap (λ n. if s.account == account then n else 0) adds.total in
+        grind (arith, now, holds account, counts))
 
     pub Keeps-added : Keeps (footprint s) (footprint t) sp tp
     Keeps-added b m n k live again below short =

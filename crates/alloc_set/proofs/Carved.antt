@@ -1,16 +1,15 @@
 -- Lemmas on a chunk that is cut off the active block.
-use Rattle.std.proofs.Common.{◌≡◌, ◌≢◌, ℕ, zero, suc, ◌+◌, ◌-◌, ◌*◌, ◌%◌, ◌^◌, ◌<◌, ◌≤◌, ◌⊎◌, ◌==◌, ◌&&◌, if◌then◌else◌, List, [], ◌∷◌, length, Option, Some, None, option_map, Bool, true, false, refl, sym, ap, subst, ◌∙◌, arith, inl, inr, slice_index, map}
-use Rattle.std.proofs.lemmas.Bool.{cases_eq, cases_lt}
+use Rattle.std.proofs.Common.{◌≡◌, ◌≢◌, ℕ, ◌+◌, ◌-◌, ◌%◌, ◌<◌, ◌≤◌, ◌⊎◌, ◌==◌, if◌then◌else◌, List, length, Option, Some, None, option_map, true, false, refl, sym, ap, subst, ◌∙◌, arith, inl, inr, slice_index, map}
+use Rattle.std.proofs.lemmas.Bool.{cases_eq}
 use Rattle.std.proofs.lemmas.Bool.Decides.{nat_tests}
 use Rattle.addr_space.specs.declared.Addr.{Addr}
-use Rattle.addr_space.specs.Space.{Space, Region, region_at, byte_at, overwritten, Changes, HasBytes}
-use Rattle.addr_space.specs.Footprint.{Footprint, Agrees, Moves, Keeps, HasRegion, counted}
+use Rattle.addr_space.specs.Space.{Space, region_at, byte_at, overwritten, Changes}
+use Rattle.addr_space.specs.Footprint.{Agrees, Moves, Keeps, HasRegion, counted}
 use Rattle.addr_space.proofs.Written.{option_cases, HasRegion-written, byte_at-apart, HasBytes-written, held-written}
 use Rattle.addr_space.proofs.Steps.{Moves-one}
-use Rattle.chunk_header.specs.declared.Header.{Header}
 use Rattle.chunk_header.specs.declared.Kind.TheVariants.{AllocSet as SetKind}
 use Rattle.chunk_header.specs.Header.{header_bytes, block_bytes}
-use Rattle.alloc_set.specs.Ledger.{class_size, class_bytes}
+use Rattle.alloc_set.specs.Ledger.{class_size}
 use Rattle.alloc_set.specs.State.{SetState, same_addr, chunk_at, region_of, start_of, capacity_of, live_size, header_of, mark_of, footprint}
 use Rattle.alloc_set.specs.Kept.{IsSettled, IsPlaced, IsSized, IsAlone}
 use Rattle.alloc_set.specs.Steps.{IsOfClass, PutsChunk, SameBlocks, Carves}
@@ -24,9 +23,9 @@ pub same_addr-cases : (a b : Addr) → ((a ≡ b) × (same_addr a b ≡ true)) �
 same_addr-cases a b =
     elim (cases_eq a.region b.region) [
       | inl region ↦ elim (cases_eq a.offset b.offset) [
-          | inl offset ↦ inl (same_addr_from a b region offset, grind (arith, nat_tests))
-          | inr differs ↦ inr ((λ e. differs (ap (λ (x : Addr). x.offset) e)), grind (arith, nat_tests))
-        ]
+        | inl offset ↦ inl (same_addr_from a b region offset, grind (arith, nat_tests))
+        | inr differs ↦ inr ((λ e. differs (ap (λ (x : Addr). x.offset) e)), grind (arith, nat_tests))
+      ]
       | inr differs ↦ inr ((λ e. differs (ap (λ (x : Addr). x.region) e)), grind (arith, nat_tests))
     ]
 
@@ -141,26 +140,26 @@ module _ (s t : SetState) (active size class : ℕ) (at : Addr) (chunk : Chunk) 
     active_owned = region_same s t carves.same active ∙ settled.active_owned;
     active_room = omega (arith, start_same s t carves.same active, settled.active_room, carves.room);
     small = λ number len owned.
-      let was = settled.small number len (sym (region_same s t carves.same number) ∙ owned) in
-      (was.0, omega (arith, was.1, start_same s t carves.same number));
+        let was = settled.small number len (sym (region_same s t carves.same number) ∙ owned) in
+        (was.0, omega (arith, was.1, start_same s t carves.same number));
     placed = placed_now;
     apart = λ a b first second at_a at_b region below.
-      elim (put_cases s t at (Some chunk) carves.chunks a) [
-        | inl new_a ↦ elim (put_cases s t at (Some chunk) carves.chunks b) [
+        elim (put_cases s t at (Some chunk) carves.chunks a) [
+          | inl new_a ↦ elim (put_cases s t at (Some chunk) carves.chunks b) [
             | inl new_b ↦ absurd (omega (arith, below, ap (λ (x : Addr). x.offset) new_a.0, ap (λ (x : Addr). x.offset) new_b.0))
             | inr old_b ↦
                 let in_active : b.region ≡ active = sym region ∙ ap (λ (x : Addr). x.region) new_a.0 ∙ carves.region in
                 let was = settled.placed b second (sym old_b.1 ∙ at_b) in
                 absurd (omega (arith, below, was.below in_active, carves.offset, ap (λ (x : Addr). x.offset) new_a.0))
           ]
-        | inr old_a ↦ elim (put_cases s t at (Some chunk) carves.chunks b) [
+          | inr old_a ↦ elim (put_cases s t at (Some chunk) carves.chunks b) [
             | inl new_b ↦
                 let in_active : a.region ≡ active = region ∙ ap (λ (x : Addr). x.region) new_b.0 ∙ carves.region in
                 let was = settled.placed a first (sym old_a.1 ∙ at_a) in
                 omega (arith, was.below in_active, carves.offset, ap (λ (x : Addr). x.offset) new_b.0)
             | inr old_b ↦ settled.apart a b first second (sym old_a.1 ∙ at_a) (sym old_b.1 ∙ at_b) region below
           ]
-      ];
+        ];
   }
 
   -- the marks are the old ones and that of the chunk
@@ -170,7 +169,7 @@ module _ (s t : SetState) (active size class : ℕ) (at : Addr) (chunk : Chunk) 
       elim (mark_cases t b bytes marked) [
         | inl block ↦
             inr (mark_from_block s b block.0 (block.1 ∙ start_same s t carves.same b.region) (sym (region_same s t carves.same b.region) ∙ block.2)
-              ∙ ap Some (ap (λ x. block_bytes x block.0) (sym carves.same.context) ∙ block.3))
+            ∙ ap Some (ap (λ x. block_bytes x block.0) (sym carves.same.context) ∙ block.3))
         | inr other ↦
             let place : Addr = record { region = b.region; offset = b.offset + 8 } in
             let start = start_same s t carves.same b.region in
@@ -184,7 +183,7 @@ module _ (s t : SetState) (active size class : ℕ) (at : Addr) (chunk : Chunk) 
                   inl (same_addr_from b (record { region = at.region; offset = at.offset - 8 }) region offset, ap (λ d. header_bytes (header_of chunk d)) dist ∙ ap (λ x. header_bytes (header_of x (b.offset - start_of t b.region))) is ∙ other.3)
               | inr old ↦
                   inr (mark_from_chunk s b other.0 (λ e. other.1 (e ∙ sym start)) (sym old.1 ∙ other.2)
-                    ∙ ap Some (ap (λ x. header_bytes (header_of other.0 (b.offset - x))) (sym start) ∙ other.3))
+                  ∙ ap Some (ap (λ x. header_bytes (header_of other.0 (b.offset - x))) (sym start) ∙ other.3))
             ]
       ]
 
@@ -241,10 +240,10 @@ module _ (s t : SetState) (active size class : ℕ) (at : Addr) (chunk : Chunk) 
             | inr old ↦ old
           ])
           (λ account.
-            let held = held-written sp tp place word target.0 target.1 fits writes account in
-            let counts : counted (footprint t) account ≡ counted (footprint s) account =
-                ap (λ a. if a == account then t.ledger.total else 0) carves.same.account ∙ ap (λ n. if s.account == account then n else 0) carves.same.total in
-            omega (arith, held, counts))
+          let held = held-written sp tp place word target.0 target.1 fits writes account in
+          let counts : counted (footprint t) account ≡ counted (footprint s) account =
+          ap (λ a. if a == account then t.ledger.total else 0) carves.same.account ∙ ap (λ n. if s.account == account then n else 0) carves.same.total in
+          omega (arith, held, counts))
 
       pub Keeps-carved : Keeps (footprint s) (footprint t) sp tp
       Keeps-carved b m n k live again below short =

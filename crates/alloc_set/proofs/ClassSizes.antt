@@ -1,9 +1,9 @@
 -- Lemmas on the classes of chunks.
-use Rattle.std.proofs.Common.{◌≡◌, ℕ, zero, suc, ◌+◌, ◌-◌, ◌*◌, ◌/◌, ◌%◌, ◌^◌, ◌<◌, ◌≤◌, nat_le, if◌then◌else◌, refl, sym, ap, ◌∙◌, arith, inl, inr}
+use Rattle.std.proofs.Common.{◌≡◌, ℕ, zero, suc, ◌-◌, ◌/◌, ◌%◌, ◌^◌, ◌<◌, ◌≤◌, refl, arith, inl, inr}
 use Rattle.std.proofs.Math.Pow.{pow_mono}
 use Rattle.std.proofs.lemmas.Bool.{cases_lt}
 use Rattle.std.proofs.lemmas.Bool.Decides.{nat_tests}
-use Rattle.alloc_set.specs.Ledger.{class_size, class_bytes, class_up_to, class_of, limit_class, chunk_limit}
+use Rattle.alloc_set.specs.Ledger.{class_size, class_bytes, class_up_to, limit_class, chunk_limit}
 
 -- a greater class has greater chunks
 pub class_size-mono : (a b : ℕ) → a ≤ b → class_size a ≤ class_size b
@@ -26,17 +26,17 @@ class_up_to-is (suc last) size class le holds lower =
     elim (cases_lt (class_size last) size) [
       | inl above ↦
           let differs : class ≡ suc last =
-              elim (cases_lt class (suc last)) [
-                | inl below ↦ absurd (omega (arith, class_size-mono class last (omega arith)))
-                | inr not_below ↦ omega arith
-              ] in
+          elim (cases_lt class (suc last)) [
+            | inl below ↦ absurd (omega (arith, class_size-mono class last (omega arith)))
+            | inr not_below ↦ omega arith
+          ] in
           grind (arith, nat_tests)
       | inr fits ↦
           let le_last : class ≤ last =
-              elim (cases_lt last class) [
-                | inl over ↦ absurd (omega (arith, lower last over))
-                | inr not_over ↦ not_over
-              ] in
+          elim (cases_lt last class) [
+            | inl over ↦ absurd (omega (arith, lower last over))
+            | inr not_over ↦ not_over
+          ] in
           let same = class_up_to-is last size class le_last holds lower in
           grind (arith, nat_tests)
     ]

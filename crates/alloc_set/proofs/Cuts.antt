@@ -1,14 +1,11 @@
 -- Lemmas on a room that is cut up.
-use Rattle.std.proofs.Common.{◌≡◌, ◌≢◌, ℕ, zero, suc, ◌+◌, ◌-◌, ◌*◌, ◌/◌, ◌%◌, ◌^◌, ◌<◌, ◌≤◌, List, length, get_or, set, refl, sym, ap, ◌∙◌, arith, Some, None}
+use Rattle.std.proofs.Common.{◌≡◌, ℕ, suc, ◌+◌, ◌-◌, ◌*◌, ◌/◌, ◌<◌, ◌≤◌, List, get_or, set, refl, ap, ◌∙◌, arith, Some}
 use Rattle.std.proofs.Math.Nat.{pow-succ', mod-eq_of_lt, div-eq_of_lt, div-eq_of_lt-le, mod-eq-sub-mod}
 use Rattle.std.proofs.lemmas.List.{set-get_or}
-use Rattle.indexmap.specs.IndexMap.{spare}
-use Rattle.addr_space.specs.declared.Addr.{Addr}
-use Rattle.addr_space.specs.Space.{Space, byte_at}
-use Rattle.addr_space.specs.Footprint.{Footprint, Keeps}
-use Rattle.alloc_set.specs.Ledger.{class_size, class_bytes, cut_rest, cut_up, with_free}
-use Rattle.alloc_set.specs.State.{SetState, chunk_at, footprint}
-use Rattle.alloc_set.specs.Kept.{state_of, IsKept}
+use Rattle.addr_space.specs.Space.{Space}
+use Rattle.addr_space.specs.Footprint.{Keeps}
+use Rattle.alloc_set.specs.Ledger.{class_bytes, cut_rest, cut_up, with_free}
+use Rattle.alloc_set.specs.State.{SetState, footprint}
 use Rattle.alloc_set.specs.Live.{SameLive}
 use Rattle.alloc_set.specs.Cut.{CutsUp}
 use Rattle.alloc_set.specs.declared.books.Books.{Books}

@@ -1,14 +1,12 @@
 -- Lemmas on a chunk that becomes free or live where it is.
-use Rattle.std.proofs.Common.{◌≡◌, ◌≢◌, ℕ, ◌+◌, ◌-◌, ◌*◌, ◌%◌, ◌^◌, ◌<◌, ◌≤◌, ◌⊎◌, ◌==◌, if◌then◌else◌, List, length, Option, Some, None, option_map, Bool, true, false, refl, sym, ap, ◌∙◌, subst, arith, inl, inr}
-use Rattle.std.proofs.lemmas.Bool.{cases_eq}
+use Rattle.std.proofs.Common.{◌≡◌, ℕ, ◌+◌, ◌-◌, ◌⊎◌, ◌==◌, if◌then◌else◌, List, Some, option_map, refl, sym, ap, ◌∙◌, subst, arith, inl, inr}
 use Rattle.addr_space.specs.declared.Addr.{Addr}
 use Rattle.addr_space.specs.Space.{Space}
-use Rattle.addr_space.specs.Footprint.{Footprint, Agrees, Moves}
+use Rattle.addr_space.specs.Footprint.{Agrees, Moves}
 use Rattle.addr_space.proofs.Steps.{Moves-still}
-use Rattle.chunk_header.specs.declared.Header.{Header}
 use Rattle.chunk_header.specs.Header.{header_bytes, block_bytes}
-use Rattle.alloc_set.specs.State.{SetState, same_addr, chunk_at, region_of, start_of, capacity_of, header_of, mark_of, footprint}
-use Rattle.alloc_set.specs.Kept.{IsSettled, IsPlaced, IsSized, IsAlone}
+use Rattle.alloc_set.specs.State.{SetState, chunk_at, region_of, start_of, capacity_of, header_of, mark_of, footprint}
+use Rattle.alloc_set.specs.Kept.{IsSettled, IsSized, IsAlone}
 use Rattle.alloc_set.specs.Steps.{IsOfClass, PutsChunk, SameBlocks}
 use Rattle.alloc_set.proofs.Settled.{IsSound-settled}
 use Rattle.alloc_set.proofs.Carved.{put_cases, region_same, start_same, IsAlone-same, IsAlone-class, capacity-class, header_of-class}
@@ -32,29 +30,29 @@ module _ (s t : SetState) (active size class : ℕ) (at : Addr) (old new : Chunk
     active_owned = region_same s t same active ∙ settled.active_owned;
     active_room = omega (arith, start_same s t same active, settled.active_room, room);
     small = λ number len owned.
-      let it = settled.small number len (sym (region_same s t same number) ∙ owned) in
-      (it.0, omega (arith, it.1, start_same s t same number));
+        let it = settled.small number len (sym (region_same s t same number) ∙ owned) in
+        (it.0, omega (arith, it.1, start_same s t same number));
     placed = λ other chunk found.
-      let it = found_before other chunk found in
-      let before = settled.placed other it.0 it.1 in
-      let facts : IsSized chunk × IsAlone t active other chunk = elim it.3 [
-        | inl here ↦ (subst IsSized (sym here.1) (capacity-class class new new_class).1, IsAlone-class t active class other chunk (subst (IsOfClass class) (sym here.1) new_class))
-        | inr kept ↦ (subst IsSized (sym kept) before.sized, subst (IsAlone t active other) (sym kept) (IsAlone-same s t same active other it.0 before.alone))
-      ] in
-      record {
-        len = before.len;
-        owned = region_same s t same other.region ∙ before.owned;
-        first = omega (arith, before.first, start_same s t same other.region);
-        last = omega (arith, before.last, it.2);
-        whole = before.whole;
-        below = λ region. omega (arith, before.below region, it.2, room);
-        sized = facts.0;
-        alone = facts.1;
-      };
+        let it = found_before other chunk found in
+        let before = settled.placed other it.0 it.1 in
+        let facts : IsSized chunk × IsAlone t active other chunk = elim it.3 [
+          | inl here ↦ (subst IsSized (sym here.1) (capacity-class class new new_class).1, IsAlone-class t active class other chunk (subst (IsOfClass class) (sym here.1) new_class))
+          | inr kept ↦ (subst IsSized (sym kept) before.sized, subst (IsAlone t active other) (sym kept) (IsAlone-same s t same active other it.0 before.alone))
+        ] in
+        record {
+          len = before.len;
+          owned = region_same s t same other.region ∙ before.owned;
+          first = omega (arith, before.first, start_same s t same other.region);
+          last = omega (arith, before.last, it.2);
+          whole = before.whole;
+          below = λ region. omega (arith, before.below region, it.2, room);
+          sized = facts.0;
+          alone = facts.1;
+        };
     apart = λ a b first second at_a at_b region below.
-      let one = found_before a first at_a in
-      let two = found_before b second at_b in
-      omega (arith, settled.apart a b one.0 two.0 one.1 two.1 region below, one.2);
+        let one = found_before a first at_a in
+        let two = found_before b second at_b in
+        omega (arith, settled.apart a b one.0 two.0 one.1 two.1 region below, one.2);
   }
 
   -- the header stays

@@ -1,5 +1,5 @@
 -- Lemmas on a size that is halved while it doesn't fit.
-use Rattle.std.proofs.Common.{◌≡◌, ℕ, zero, suc, ◌+◌, ◌*◌, ◌/◌, ◌<◌, ◌≤◌, ◌⊎◌, nat_lt, nat_le, if◌then◌else◌, Option, Some, None, true, false, refl, sym, ap, ◌∙◌, arith, inl, inr}
+use Rattle.std.proofs.Common.{◌≡◌, ℕ, zero, suc, ◌/◌, ◌<◌, ◌≤◌, ◌⊎◌, Some, None, sym, ◌∙◌, arith, inl, inr}
 use Rattle.std.proofs.lemmas.Bool.{cases_lt}
 use Rattle.std.proofs.lemmas.Bool.Decides.{nat_tests}
 use Rattle.alloc_set.specs.Ledger.{halved_by, halved}
@@ -34,12 +34,12 @@ halved_by-enough (suc f) zero left need size f_enough g_enough =
 halved_by-enough (suc f) (suc g) left need size f_enough g_enough =
     elim (cases_lt left size) [
       | inl over ↦ elim (cases_lt 1048576 size) [
-          | inl large ↦ elim (cases_lt (size / 2) need) [
-              | inl little ↦ halved_by-stop (suc f) left need size over (inr little) ∙ sym (halved_by-stop (suc g) left need size over (inr little))
-              | inr enough ↦ halved_by-go f left need size over large enough ∙ halved_by-enough f g left need (size / 2) (omega arith) (omega arith) ∙ sym (halved_by-go g left need size over large enough)
-            ]
-          | inr small ↦ halved_by-stop (suc f) left need size over (inl small) ∙ sym (halved_by-stop (suc g) left need size over (inl small))
+        | inl large ↦ elim (cases_lt (size / 2) need) [
+          | inl little ↦ halved_by-stop (suc f) left need size over (inr little) ∙ sym (halved_by-stop (suc g) left need size over (inr little))
+          | inr enough ↦ halved_by-go f left need size over large enough ∙ halved_by-enough f g left need (size / 2) (omega arith) (omega arith) ∙ sym (halved_by-go g left need size over large enough)
         ]
+        | inr small ↦ halved_by-stop (suc f) left need size over (inl small) ∙ sym (halved_by-stop (suc g) left need size over (inl small))
+      ]
       | inr fits ↦ halved_by-fits (suc f) left need size fits ∙ sym (halved_by-fits (suc g) left need size fits)
     ]
 

@@ -1,9 +1,9 @@
 -- What the code keeps, after another block became the active one.
-use Rattle.std.proofs.Common.{◌≡◌, ◌≢◌, ℕ, ◌+◌, ◌-◌, ◌*◌, ◌%◌, ◌^◌, ◌<◌, ◌≤◌, ◌==◌, Option, Some, None, refl, sym, ap, ◌∙◌, subst, arith, if◌then◌else◌, true, false, min}
+use Rattle.std.proofs.Common.{◌≡◌, ◌≢◌, ℕ, ◌+◌, ◌≤◌, ◌==◌, Some, None, sym, ap, arith, if◌then◌else◌, false}
 use Rattle.std.proofs.lemmas.Bool.Decides.{nat_tests}
 use Rattle.addr_space.specs.declared.Addr.{Addr}
 use Rattle.alloc_set.specs.State.{SetState, chunk_at, region_of, start_of}
-use Rattle.alloc_set.specs.Kept.{IsSettled, IsPlaced, IsAlone}
+use Rattle.alloc_set.specs.Kept.{IsSettled, IsAlone}
 use Rattle.alloc_set.specs.declared.chunk.Chunk.{Chunk}
 use Rattle.alloc_set.specs.declared.chunk.Chunk.TheVariants.{Live, Free, Own}
 
@@ -30,16 +30,16 @@ module _ (s : SetState) (room idle next active size number len : ℕ) (settled :
     active_room = omega (arith, start_zero, less);
     small = settled.small;
     placed = λ at chunk found.
-      let was = settled.placed at chunk found in
-      record {
-        len = was.len;
-        owned = was.owned;
-        first = was.first;
-        last = was.last;
-        whole = was.whole;
-        below = λ region. let none = empty at region in absurd (cc);
-        sized = was.sized;
-        alone = alone_now at chunk found was.alone;
-      };
+        let was = settled.placed at chunk found in
+        record {
+          len = was.len;
+          owned = was.owned;
+          first = was.first;
+          last = was.last;
+          whole = was.whole;
+          below = λ region. let none = empty at region in absurd (cc);
+          sized = was.sized;
+          alone = alone_now at chunk found was.alone;
+        };
     apart = settled.apart;
   }

@@ -1,14 +1,13 @@
 -- What the code keeps, after a block was added.
-use Rattle.std.proofs.Common.{◌≡◌, ◌≢◌, ℕ, suc, ◌+◌, ◌-◌, ◌*◌, ◌%◌, ◌^◌, ◌<◌, ◌≤◌, ◌==◌, List, length, map, Option, Some, None, refl, sym, ap, ◌∙◌, subst, arith, inl, inr, sum, if◌then◌else◌, true, false}
+use Rattle.std.proofs.Common.{◌≡◌, ◌≢◌, ℕ, ◌+◌, ◌^◌, ◌≤◌, ◌==◌, Some, None, sym, ap, ◌∙◌, subst, arith, inl, inr, sum, if◌then◌else◌, true, false}
 use Rattle.std.specs.Map.{values_of, lookup}
-use Rattle.std.proofs.lemmas.Bool.{cases_eq}
 use Rattle.std.proofs.lemmas.Bool.Decides.{nat_tests}
 use Rattle.addr_space.specs.Space.{Space, region_at}
 use Rattle.addr_space.specs.Footprint.{Agrees}
 use Rattle.addr_space.proofs.Written.{option_cases}
 use Rattle.alloc_set.specs.Ledger.{chunk_limit}
 use Rattle.alloc_set.specs.State.{SetState, region_of, footprint}
-use Rattle.alloc_set.specs.Kept.{state_of, IsCounted, IsSettled, IsShelved, IsKept}
+use Rattle.alloc_set.specs.Kept.{state_of, IsSettled, IsShelved, IsKept}
 use Rattle.alloc_set.specs.declared.books.Books.{Books}
 use Rattle.alloc_set.proofs.Added.{Adds, IsSettled-added}
 use Rattle.alloc_set.proofs.Shelved.{IsShelved-same}

@@ -1,17 +1,17 @@
 -- What the code keeps, after a chunk was cut off the active block.
-use Rattle.std.proofs.Common.{◌≡◌, ◌≢◌, ℕ, suc, ◌+◌, ◌-◌, ◌*◌, ◌%◌, ◌^◌, ◌<◌, ◌≤◌, List, length, map, Option, Some, None, refl, sym, ap, ◌∙◌, subst, arith, inl, inr, sum, sum_by, set, if◌then◌else◌, slice_index, true, false}
+use Rattle.std.proofs.Common.{◌≡◌, ℕ, ◌+◌, ◌-◌, ◌^◌, ◌<◌, ◌≤◌, List, length, Option, Some, None, sym, ap, ◌∙◌, subst, arith, inl, inr, sum, sum_by, set}
 use Rattle.std.specs.Map.{values_of}
-use Rattle.std.proofs.lemmas.List.{map-set, get_or-map, length-map}
+use Rattle.std.proofs.lemmas.List.{length-map}
 use Rattle.addr_space.specs.declared.Addr.{Addr}
-use Rattle.alloc_set.specs.Ledger.{SetLedger, class_bytes, class_size, cut_off, with_free, chunk_limit}
+use Rattle.alloc_set.specs.Ledger.{class_bytes, chunk_limit}
 use Rattle.alloc_set.specs.State.{SetState, chunk_at, then_option, live_size, footprint}
-use Rattle.alloc_set.specs.Kept.{state_of, IsCounted, IsSettled, IsShelved, IsKept, is_free, shelf_at, no_shelf}
+use Rattle.alloc_set.specs.Kept.{state_of, IsCounted, IsSettled, IsShelved, IsKept, is_free, shelf_at}
 use Rattle.alloc_set.specs.Steps.{Carves, PutsChunk}
-use Rattle.alloc_set.specs.Live.{PutsLive, SameLive}
+use Rattle.alloc_set.specs.Live.{SameLive}
 use Rattle.alloc_set.specs.declared.books.Books.{Books}
 use Rattle.alloc_set.specs.declared.books.Block.{Block}
 use Rattle.alloc_set.specs.declared.chunk.Chunk.{Chunk}
-use Rattle.alloc_set.specs.declared.chunk.Chunk.TheVariants.{Live, Free, Own}
+use Rattle.alloc_set.specs.declared.chunk.Chunk.TheVariants.{Live, Free}
 use Rattle.alloc_set.specs.declared.chunk.Shelf.{Shelf}
 use Rattle.alloc_set.proofs.Carved.{IsSettled-carved, place_free, put_cases}
 use Rattle.alloc_set.proofs.Shelved.{IsShelved-taken, IsShelved-freed, IsTaken, sum_by-le-length, is_free-le}
@@ -57,7 +57,7 @@ module _ (b n : Books) (class : ℕ) (at : Addr) (chunk : Chunk) (kept : IsKept 
     counted = counted_now;
     settled = settled_now;
     shelved = subst (IsShelved (state_of n)) (sym shelves)
-      (IsShelved-taken (state_of b) (state_of n) b.shelves at (Some chunk) kept.shelved carves.chunks (omega (arith, len)) (IsTaken-none (chunk_at (state_of b) at) without)
+        (IsShelved-taken (state_of b) (state_of n) b.shelves at (Some chunk) kept.shelved carves.chunks (omega (arith, len)) (IsTaken-none (chunk_at (state_of b) at) without)
         (λ k below. omega (arith, sums (is_free k), ap (is_free k) live)));
   }
 
@@ -67,7 +67,7 @@ module _ (b n : Books) (class : ℕ) (at : Addr) (chunk : Chunk) (kept : IsKept 
     counted = counted_now;
     settled = settled_now;
     shelved = subst (IsShelved (state_of n)) (sym shelves)
-      (IsShelved-freed (state_of b) (state_of n) b.shelves at (Some chunk) kept.shelved carves.chunks (omega (arith, len)) class below (IsTaken-none (chunk_at (state_of b) at) without) (ap Some free)
+        (IsShelved-freed (state_of b) (state_of n) b.shelves at (Some chunk) kept.shelved carves.chunks (omega (arith, len)) class below (IsTaken-none (chunk_at (state_of b) at) without) (ap Some free)
         (λ k under. sums (is_free k) ∙ ap (λ x. sum_by (is_free k) (values_of b.chunks.entries) + is_free k x) free));
   }
 

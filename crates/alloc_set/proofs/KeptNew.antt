@@ -1,19 +1,17 @@
 -- What the code keeps of a new context.
-use Rattle.std.proofs.Common.{◌≡◌, ◌≢◌, ℕ, ◌+◌, ◌-◌, ◌*◌, ◌%◌, ◌^◌, ◌<◌, ◌≤◌, ◌==◌, ◌⊎◌, List, [], length, map, replicate, Option, Some, None, refl, sym, ap, ◌∙◌, subst, arith, inl, inr, sum, if◌then◌else◌, true, false, slice_index, get_or, Bool}
-use Rattle.std.specs.Map.{values_of, lookup}
+use Rattle.std.proofs.Common.{◌≡◌, ℕ, ◌+◌, ◌<◌, ◌≤◌, ◌==◌, List, [], length, map, replicate, Option, Some, None, refl, sym, ap, ◌∙◌, arith, inl, inr, if◌then◌else◌, true, false, slice_index, Bool}
+use Rattle.std.specs.Map.{lookup}
 use Rattle.std.proofs.lemmas.List.{length-replicate, get_or-replicate}
 use Rattle.std.proofs.lemmas.Bool.{cases_eq}
 use Rattle.std.proofs.lemmas.Bool.Decides.{nat_tests}
 use Rattle.addr_space.specs.declared.Addr.{Addr}
 use Rattle.addr_space.specs.Space.{Space, region_at, byte_at, overwritten, unwritten, Changes, accounts, held}
-use Rattle.addr_space.specs.Footprint.{Footprint, Agrees, Moves, HasRegion, nothing, counted}
+use Rattle.addr_space.specs.Footprint.{Agrees, Moves, HasRegion, nothing, counted}
 use Rattle.addr_space.proofs.Written.{HasRegion-written, HasBytes-written, held-written}
 use Rattle.addr_space.proofs.Steps.{Moves-one, Changes-more}
-use Rattle.chunk_header.specs.Header.{header_bytes, block_bytes}
-use Rattle.alloc_set.specs.Ledger.{chunk_limit}
-use Rattle.alloc_set.specs.State.{SetState, chunk_at, region_of, start_of, header_of, mark_of, footprint}
-use Rattle.alloc_set.specs.Kept.{state_of, no_shelf, shelf_at, is_free, IsChain, IsCounted, IsSettled, IsShelved, IsKept}
-use Rattle.alloc_set.specs.declared.books.Books.{Books}
+use Rattle.chunk_header.specs.Header.{block_bytes}
+use Rattle.alloc_set.specs.State.{SetState, chunk_at, region_of, start_of, footprint}
+use Rattle.alloc_set.specs.Kept.{no_shelf, shelf_at, IsSettled, IsShelved}
 use Rattle.alloc_set.proofs.Settled.{mark_cases, length-block_bytes, IsSound-settled}
 use Rattle.alloc_set.proofs.KeptAdded.{keeper_owned}
 
@@ -104,8 +102,8 @@ module _ (s : SetState) (blocks : s.blocks ≡ []) (chunks : s.chunks ≡ []) (l
         (record { changed = there.1; others = both.others; limit = both.limit; accounts = both.accounts })
         there.2 there.3 (λ none. free) (keeper_owned s)
         (λ other differs.
-          let test : (s.keeper == other) ≡ false = grind (arith, nat_tests) in
-          ap (λ b. if b then Some s.ledger.init else lookup (λ n. other == n) s.blocks) test ∙ ap (λ bs. lookup (λ n. other == n) bs) blocks)
+        let test : (s.keeper == other) ≡ false = grind (arith, nat_tests) in
+        ap (λ b. if b then Some s.ledger.init else lookup (λ n. other == n) s.blocks) test ∙ ap (λ bs. lookup (λ n. other == n) bs) blocks)
         (λ b bytes marked region k below. elim (mark_cases s b bytes marked) [
           | inl block ↦
               let has = HasBytes-written mp tp place word (unwritten s.account s.ledger.init) took.changed fits wrote in
@@ -121,7 +119,7 @@ module _ (s : SetState) (blocks : s.blocks ≡ []) (chunks : s.chunks ≡ []) (l
           | inr other ↦ let none = no_chunk (record { region = b.region; offset = b.offset + 8 }) in let found = other.2 in absurd (cc)
         ])
         (λ account.
-          let now = held-written mp tp place word (unwritten s.account s.ledger.init) took.changed fits wrote account in
-          let counts : counted (footprint s) account ≡ (if s.account == account then s.ledger.init else 0) = ap (λ n. if s.account == account then n else 0) total in
-          let before : counted (nothing s.account s.context) account ≡ 0 = none_counted (s.account == account) in
-          omega (arith, now, holds account, counts, before))
+        let now = held-written mp tp place word (unwritten s.account s.ledger.init) took.changed fits wrote account in
+        let counts : counted (footprint s) account ≡ (if s.account == account then s.ledger.init else 0) = ap (λ n. if s.account == account then n else 0) total in
+        let before : counted (nothing s.account s.context) account ≡ 0 = none_counted (s.account == account) in
+        omega (arith, now, holds account, counts, before))

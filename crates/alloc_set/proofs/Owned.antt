@@ -1,20 +1,19 @@
 -- Lemmas on a chunk that has its block for itself.
-use Rattle.std.proofs.Common.{◌≡◌, ◌≢◌, ℕ, ◌+◌, ◌-◌, ◌*◌, ◌%◌, ◌^◌, ◌<◌, ◌≤◌, ◌⊎◌, ◌==◌, if◌then◌else◌, List, length, Option, Some, None, Bool, true, false, refl, sym, ap, ◌∙◌, subst, arith, inl, inr, slice_index, slice_index_or, map}
-use Rattle.std.proofs.lemmas.Bool.{cases_eq}
+use Rattle.std.proofs.Common.{◌≡◌, ◌≢◌, ℕ, ◌+◌, ◌-◌, ◌<◌, ◌≤◌, ◌⊎◌, ◌==◌, if◌then◌else◌, List, length, Some, None, false, sym, ap, ◌∙◌, subst, arith, inl, inr, slice_index, slice_index_or, map}
 use Rattle.std.proofs.lemmas.Bool.Decides.{nat_tests}
 use Rattle.addr_space.specs.declared.Addr.{Addr}
-use Rattle.addr_space.specs.Space.{Space, Region, region_at, byte_at, bytes_of, overwritten, Changes, HasBytes, held}
-use Rattle.addr_space.specs.Footprint.{Footprint, Agrees, Moves, Keeps, HasRegion, counted}
+use Rattle.addr_space.specs.Space.{Space, region_at, byte_at, bytes_of, overwritten, Changes}
+use Rattle.addr_space.specs.Footprint.{Agrees, Moves, Keeps, HasRegion, counted}
 use Rattle.addr_space.proofs.Written.{HasRegion-written, byte_at-apart, HasBytes-written, held-written}
 use Rattle.addr_space.proofs.Steps.{Moves-one}
 use Rattle.chunk_header.specs.Header.{header_bytes, block_bytes}
-use Rattle.alloc_set.specs.State.{SetState, same_addr, chunk_at, region_of, start_of, capacity_of, live_size, header_of, mark_of, footprint}
+use Rattle.alloc_set.specs.State.{SetState, chunk_at, region_of, start_of, capacity_of, live_size, header_of, mark_of, footprint}
 use Rattle.alloc_set.specs.Kept.{IsSettled, IsPlaced, IsSized, IsAlone}
 use Rattle.alloc_set.specs.Steps.{PutsChunk, SameBlocks}
-use Rattle.alloc_set.proofs.Settled.{mark_cases, from_then, live_size-le, length-header_bytes, length-block_bytes, same_addr_from, IsSound-settled}
+use Rattle.alloc_set.proofs.Settled.{mark_cases, from_then, length-header_bytes, length-block_bytes, IsSound-settled}
 use Rattle.alloc_set.proofs.Carved.{put_cases, region_same, start_same, IsAlone-same, mark_from_block, mark_from_chunk}
 use Rattle.alloc_set.specs.declared.chunk.Chunk.{Chunk}
-use Rattle.alloc_set.specs.declared.chunk.Chunk.TheVariants.{Live, Free, Own}
+use Rattle.alloc_set.specs.declared.chunk.Chunk.TheVariants.{Own}
 
 module _ (s t : SetState) (active active_size number size room : ℕ) (at : Addr) (settled : IsSettled s active active_size) (same : SameBlocks s t) (rooms : t.ledger.room ≡ s.ledger.room)
     (at_region : at.region ≡ number) (at_offset : at.offset ≡ 48)
@@ -68,20 +67,20 @@ module _ (s t : SetState) (active active_size number size room : ℕ) (at : Addr
     active_owned = region_same s t same active ∙ settled.active_owned;
     active_room = omega (arith, start_same s t same active, settled.active_room, rooms);
     small = λ other len has.
-      let it = settled.small other len (sym (region_same s t same other) ∙ has) in
-      (it.0, omega (arith, it.1, start_same s t same other));
+        let it = settled.small other len (sym (region_same s t same other) ∙ has) in
+        (it.0, omega (arith, it.1, start_same s t same other));
     placed = placed_now;
     apart = λ a b first second at_a at_b region below.
-      elim (put_cases s t at (Some (Own size room)) puts a) [
-        | inl here_a ↦ elim (put_cases s t at (Some (Own size room)) puts b) [
+        elim (put_cases s t at (Some (Own size room)) puts a) [
+          | inl here_a ↦ elim (put_cases s t at (Some (Own size room)) puts b) [
             | inl here_b ↦ absurd (omega (arith, below, ap (λ (x : Addr). x.offset) here_a.0, ap (λ (x : Addr). x.offset) here_b.0))
             | inr there_b ↦ absurd (clash b second (sym there_b.1 ∙ at_b) (sym region ∙ ap (λ (x : Addr). x.region) here_a.0 ∙ at_region))
           ]
-        | inr there_a ↦ elim (put_cases s t at (Some (Own size room)) puts b) [
+          | inr there_a ↦ elim (put_cases s t at (Some (Own size room)) puts b) [
             | inl here_b ↦ absurd (clash a first (sym there_a.1 ∙ at_a) (region ∙ ap (λ (x : Addr). x.region) here_b.0 ∙ at_region))
             | inr there_b ↦ settled.apart a b first second (sym there_a.1 ∙ at_a) (sym there_b.1 ∙ at_b) region below
           ]
-      ];
+        ];
   }
 
   marks_now : (b : Addr) (bytes : List ℕ) → mark_of t b ≡ Some bytes
@@ -90,7 +89,7 @@ module _ (s t : SetState) (active active_size number size room : ℕ) (at : Addr
       elim (mark_cases t b bytes marked) [
         | inl block ↦
             inr (mark_from_block s b block.0 (block.1 ∙ start_same s t same b.region) (sym (region_same s t same b.region) ∙ block.2)
-              ∙ ap Some (ap (λ x. block_bytes x block.0) (sym same.context) ∙ block.3))
+            ∙ ap Some (ap (λ x. block_bytes x block.0) (sym same.context) ∙ block.3))
         | inr other ↦
             let place : Addr = record { region = b.region; offset = b.offset + 8 } in
             let start = start_same s t same b.region in
@@ -104,7 +103,7 @@ module _ (s t : SetState) (active active_size number size room : ℕ) (at : Addr
                   inl (region, offset, ap (λ d. header_bytes (header_of (Own size room) d)) dist ∙ ap (λ x. header_bytes (header_of x (b.offset - start_of t b.region))) is ∙ other.3)
               | inr there ↦
                   inr (mark_from_chunk s b other.0 (λ e. other.1 (e ∙ sym start)) (sym there.1 ∙ other.2)
-                    ∙ ap Some (ap (λ x. header_bytes (header_of other.0 (b.offset - x))) (sym start) ∙ other.3))
+                  ∙ ap Some (ap (λ x. header_bytes (header_of other.0 (b.offset - x))) (sym start) ∙ other.3))
             ]
       ]
 
@@ -157,10 +156,10 @@ module _ (s t : SetState) (active active_size number size room : ℕ) (at : Addr
           | inr old ↦ old
         ])
         (λ account.
-          let holds = held-written sp tp place word target.0 target.1 room_for wrote account in
-          let counts : counted (footprint t) account ≡ counted (footprint s) account =
-              ap (λ a. if a == account then t.ledger.total else 0) same.account ∙ ap (λ n. if s.account == account then n else 0) same.total in
-          omega (arith, holds, counts))
+        let holds = held-written sp tp place word target.0 target.1 room_for wrote account in
+        let counts : counted (footprint t) account ≡ counted (footprint s) account =
+        ap (λ a. if a == account then t.ledger.total else 0) same.account ∙ ap (λ n. if s.account == account then n else 0) same.total in
+        omega (arith, holds, counts))
 
     pub Keeps-owned : Keeps (footprint s) (footprint t) sp tp
     Keeps-owned b m n k live again below short =

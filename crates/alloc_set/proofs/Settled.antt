@@ -1,15 +1,13 @@
 -- Lemmas on where the blocks and chunks of an AllocSet are.
-use Rattle.std.proofs.Common.{◌≡◌, ◌≢◌, ℕ, zero, suc, ◌+◌, ◌-◌, ◌*◌, ◌%◌, ◌^◌, ◌<◌, ◌≤◌, ◌⊎◌, ◌==◌, if◌then◌else◌, List, [], ◌∷◌, length, Option, Some, None, option_map, Bool, true, false, refl, sym, ap, ◌∙◌, arith, inl, inr}
+use Rattle.std.proofs.Common.{◌≡◌, ◌≢◌, ℕ, ◌+◌, ◌-◌, ◌≤◌, ◌⊎◌, List, length, Option, Some, None, option_map, refl, sym, ap, ◌∙◌, arith, inl, inr}
 use Rattle.std.proofs.lemmas.Bool.{cases_eq, cases_lt}
 use Rattle.std.proofs.lemmas.Bool.Decides.{nat_tests}
 use Rattle.addr_space.specs.declared.Addr.{Addr}
-use Rattle.addr_space.specs.Space.{IsApart}
-use Rattle.addr_space.specs.Footprint.{Footprint, IsSound, IsWithin}
-use Rattle.addr_space.proofs.Written.{option_cases}
+use Rattle.addr_space.specs.Footprint.{IsSound, IsWithin}
 use Rattle.chunk_header.specs.declared.Header.{Header}
 use Rattle.chunk_header.specs.Header.{header_bytes, block_bytes}
 use Rattle.alloc_set.specs.State.{SetState, chunk_at, region_of, start_of, capacity_of, live_size, free_size, header_of, then_option, mark_of, footprint}
-use Rattle.alloc_set.specs.Kept.{IsSettled, IsPlaced, IsSized}
+use Rattle.alloc_set.specs.Kept.{IsSettled, IsSized}
 use Rattle.alloc_set.specs.declared.chunk.Chunk.{Chunk}
 use Rattle.alloc_set.specs.declared.chunk.Chunk.TheVariants.{Live, Free, Own}
 
@@ -77,9 +75,9 @@ module _ (s : SetState) (active size : ℕ) (settled : IsSettled s active size) 
       elim (cases_lt a.offset b.offset) [
         | inl below ↦ inl (settled.apart a b first second at_a at_b region below)
         | inr above ↦ elim (cases_eq a.offset b.offset) [
-            | inl same ↦ absurd (differ (same_addr_from a b region same))
-            | inr other ↦ inr (settled.apart b a second first at_b at_a (sym region) (omega arith))
-          ]
+          | inl same ↦ absurd (differ (same_addr_from a b region same))
+          | inr other ↦ inr (settled.apart b a second first at_b at_a (sym region) (omega arith))
+        ]
       ]
 
   -- a chunk is apart from every mark
@@ -115,41 +113,41 @@ module _ (s : SetState) (active size : ℕ) (settled : IsSettled s active size) 
   pub IsSound-settled : IsSound (footprint s)
   IsSound-settled = record {
     live_inside = λ at n live.
-      let it = from_then (chunk_at s at) live_size n live in
-      let placed = settled.placed at it.0 it.1 in
-      (placed.len, placed.owned, omega (arith, placed.last, live_size-le it.0 n placed.sized it.2));
+        let it = from_then (chunk_at s at) live_size n live in
+        let placed = settled.placed at it.0 it.1 in
+        (placed.len, placed.owned, omega (arith, placed.last, live_size-le it.0 n placed.sized it.2));
     free_inside = λ at n free.
-      let it = from_then (chunk_at s at) free_size n free in
-      let placed = settled.placed at it.0 it.1 in
-      (placed.len, placed.owned, omega (arith, placed.last, free_size-is it.0 n it.2));
+        let it = from_then (chunk_at s at) free_size n free in
+        let placed = settled.placed at it.0 it.1 in
+        (placed.len, placed.owned, omega (arith, placed.last, free_size-is it.0 n it.2));
     mark_inside = mark_within;
     live_apart = λ a b m n live_a live_b differ region.
-      let first = from_then (chunk_at s a) live_size m live_a in
-      let second = from_then (chunk_at s b) live_size n live_b in
-      let le_first = live_size-le first.0 m (settled.placed a first.0 first.1).sized first.2 in
-      let le_second = live_size-le second.0 n (settled.placed b second.0 second.1).sized second.2 in
-      elim (chunks_apart a b first.0 second.0 first.1 second.1 differ region) [
-        | inl below ↦ inl (omega arith)
-        | inr above ↦ inr (omega arith)
-      ];
+        let first = from_then (chunk_at s a) live_size m live_a in
+        let second = from_then (chunk_at s b) live_size n live_b in
+        let le_first = live_size-le first.0 m (settled.placed a first.0 first.1).sized first.2 in
+        let le_second = live_size-le second.0 n (settled.placed b second.0 second.1).sized second.2 in
+        elim (chunks_apart a b first.0 second.0 first.1 second.1 differ region) [
+          | inl below ↦ inl (omega arith)
+          | inr above ↦ inr (omega arith)
+        ];
     free_apart = λ a b m n live free region.
-      let first = from_then (chunk_at s a) live_size m live in
-      let second = from_then (chunk_at s b) free_size n free in
-      let le_first = live_size-le first.0 m (settled.placed a first.0 first.1).sized first.2 in
-      let is_second = free_size-is second.0 n second.2 in
-      let differ : a ≢ b = λ e.
-          let one : Some first.0 ≡ Some second.0 = sym first.1 ∙ ap (chunk_at s) e ∙ second.1 in
-          let it : first.0 ≡ second.0 = cc in
-          live_not_free second.0 m n (ap live_size (sym it) ∙ first.2) second.2 in
-      elim (chunks_apart a b first.0 second.0 first.1 second.1 differ region) [
-        | inl below ↦ inl (omega arith)
-        | inr above ↦ inr (omega arith)
-      ];
+        let first = from_then (chunk_at s a) live_size m live in
+        let second = from_then (chunk_at s b) free_size n free in
+        let le_first = live_size-le first.0 m (settled.placed a first.0 first.1).sized first.2 in
+        let is_second = free_size-is second.0 n second.2 in
+        let differ : a ≢ b = λ e.
+        let one : Some first.0 ≡ Some second.0 = sym first.1 ∙ ap (chunk_at s) e ∙ second.1 in
+        let it : first.0 ≡ second.0 = cc in
+        live_not_free second.0 m n (ap live_size (sym it) ∙ first.2) second.2 in
+        elim (chunks_apart a b first.0 second.0 first.1 second.1 differ region) [
+          | inl below ↦ inl (omega arith)
+          | inr above ↦ inr (omega arith)
+        ];
     mark_apart = λ a b m bytes live marked region.
-      let first = from_then (chunk_at s a) live_size m live in
-      let le_first = live_size-le first.0 m (settled.placed a first.0 first.1).sized first.2 in
-      elim (mark_apart a b first.0 bytes first.1 marked region) [
-        | inl below ↦ inl (omega arith)
-        | inr above ↦ inr (omega arith)
-      ];
+        let first = from_then (chunk_at s a) live_size m live in
+        let le_first = live_size-le first.0 m (settled.placed a first.0 first.1).sized first.2 in
+        elim (mark_apart a b first.0 bytes first.1 marked region) [
+          | inl below ↦ inl (omega arith)
+          | inr above ↦ inr (omega arith)
+        ];
   }

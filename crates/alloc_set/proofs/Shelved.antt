@@ -1,8 +1,8 @@
 -- Lemmas on the free chunks of each class.
-use Rattle.std.proofs.Common.{◌≡◌, ◌≢◌, ℕ, zero, suc, ◌+◌, ◌-◌, ◌*◌, ◌^◌, ◌<◌, ◌≤◌, ◌⊎◌, ◌==◌, if◌then◌else◌, List, [], ◌∷◌, length, map, Option, Some, None, Bool, true, false, refl, sym, ap, ◌∙◌, subst, arith, inl, inr, sum_by, set, get_or}
-use Rattle.std.proofs.lemmas.Bool.{cases_eq, cases_lt}
+use Rattle.std.proofs.Common.{◌≡◌, ◌≢◌, ℕ, zero, suc, ◌+◌, ◌^◌, ◌<◌, ◌≤◌, List, [], ◌∷◌, length, Option, Some, None, refl, sym, ap, ◌∙◌, subst, arith, inl, inr, sum_by, set}
+use Rattle.std.proofs.lemmas.Bool.{cases_eq}
 use Rattle.std.proofs.lemmas.Bool.Decides.{nat_tests}
-use Rattle.std.proofs.lemmas.List.{length-set, get_or-set_same, get_or-set_other, length-map}
+use Rattle.std.proofs.lemmas.List.{length-set, get_or-set_same, get_or-set_other}
 use Rattle.std.proofs.lemmas.List.Sums.{sum_by-cons}
 use Rattle.std.specs.Map.{values_of, lookup}
 use Rattle.addr_space.specs.declared.Addr.{Addr}
@@ -37,8 +37,8 @@ pub IsChain-without : (c d : Addr → Option Chunk) (class : ℕ) (at : Addr) (w
 IsChain-without c d class at whole from others zero first below chain = chain
 IsChain-without c d class at whole from others (suc count) first below chain =
     let differs : chain.0 ≢ at = λ e.
-        let here : IsChain c class (suc count) (Some at) = subst (IsChain c class (suc count)) (chain.2 ∙ ap Some e) chain in
-        absurd (omega (arith, below, IsChain-unique c class (suc count) whole (Some at) here from)) in
+    let here : IsChain c class (suc count) (Some at) = subst (IsChain c class (suc count)) (chain.2 ∙ ap Some e) chain in
+    absurd (omega (arith, below, IsChain-unique c class (suc count) whole (Some at) here from)) in
     (chain.0, chain.1, chain.2, others chain.0 differs ∙ chain.3, IsChain-without c d class at whole from others count chain.1 (omega arith) chain.4)
 
 -- a chunk is free of no class
@@ -67,10 +67,10 @@ module _ (s t : SetState) (shelves : List Shelf) (at : Addr) (slot : Option Chun
   IsShelved-taken taken sums = record {
     eleven = shelved.eleven;
     chain = λ class below. IsChain-kept (chunk_at s) (chunk_at t) class
-      (λ other next free. elim (put_cases s t at slot puts other) [
-        | inl here ↦ absurd (taken class next (sym (ap (chunk_at s) here.0) ∙ free))
-        | inr there ↦ there.1 ∙ free
-      ]) (shelf_at shelves class).count (shelf_at shelves class).first (shelved.chain class below);
+        (λ other next free. elim (put_cases s t at slot puts other) [
+          | inl here ↦ absurd (taken class next (sym (ap (chunk_at s) here.0) ∙ free))
+          | inr there ↦ there.1 ∙ free
+        ]) (shelf_at shelves class).count (shelf_at shelves class).first (shelved.chain class below);
     counted = λ class below. shelved.counted class below ∙ sym (sums class below);
     few = few;
   }
@@ -84,10 +84,10 @@ module _ (s t : SetState) (shelves : List Shelf) (at : Addr) (slot : Option Chun
       let within : class < length shelves = omega (arith, shelved.eleven) in
       let here : shelf_at (set shelves class new) class ≡ new = get_or-set_same shelves class new no_shelf within in
       let kept : (k : ℕ) (count : ℕ) (first : Option Addr) → IsChain (chunk_at s) k count first → IsChain (chunk_at t) k count first =
-          λ k. IsChain-kept (chunk_at s) (chunk_at t) k (λ other next free. elim (put_cases s t at slot puts other) [
-            | inl same ↦ absurd (taken k next (sym (ap (chunk_at s) same.0) ∙ free))
-            | inr there ↦ there.1 ∙ free
-          ]) in
+      λ k. IsChain-kept (chunk_at s) (chunk_at t) k (λ other next free. elim (put_cases s t at slot puts other) [
+        | inl same ↦ absurd (taken k next (sym (ap (chunk_at s) same.0) ∙ free))
+        | inr there ↦ there.1 ∙ free
+      ]) in
       record {
         eleven = length-set shelves class new ∙ shelved.eleven;
         chain = λ k under. elim (cases_eq k class) [

@@ -1,11 +1,10 @@
 -- Lemmas on the ledger's step for a request.
-use Rattle.std.proofs.Common.{◌≡◌, ℕ, ◌+◌, ◌-◌, ◌<◌, ◌≤◌, nat_lt, nat_le, if◌then◌else◌, Option, Some, None, Result, Ok, Err, slice_index, true, false, refl, sym, ap, ◌∙◌, arith}
+use Rattle.std.proofs.Common.{◌≡◌, ℕ, ◌<◌, ◌≤◌, nat_lt, nat_le, if◌then◌else◌, Option, Some, None, Ok, Err, slice_index, true, false, ap, ◌∙◌, arith}
 use Rattle.std.proofs.lemmas.Bool.Decides.{nat_tests}
-use Rattle.chunk_header.specs.declared.CtxError.{CtxError}
 use Rattle.chunk_header.specs.declared.CtxError.TheVariants.{TooBig, NoSpace}
 use Rattle.addr_space.specs.declared.Addr.{Addr}
 use Rattle.alloc_set.specs.Ledger.{SetLedger, class_bytes, class_of, chunk_limit, own_size, take, take_class, take_own, from_new, reused, cut_off, renewed, with_own, block_size}
-use Rattle.alloc_set.specs.State.{SetState, same_addr, footprint}
+use Rattle.alloc_set.specs.State.{SetState, same_addr}
 use Rattle.alloc_set.specs.Kept.{state_of}
 use Rattle.alloc_set.specs.Live.{PutsLive, SameLive}
 use Rattle.alloc_set.specs.declared.books.Books.{Books}

@@ -1,9 +1,8 @@
 -- What holds of the insides of an AllocSet.
-use Rattle.std.specs.Prelude.{◌≡◌, ◌≢◌, ℕ, ◌+◌, ◌-◌, ◌*◌, ◌%◌, ◌^◌, ◌<◌, ◌≤◌, ◌==◌, ◌&&◌, Bool, true, false, List, [], ◌∷◌, length, map, Option, Some, None, if◌then◌else◌, sum, sum_by, zero, suc, slice_index, slice_index_or}
+use Rattle.std.specs.Prelude.{◌≡◌, ◌≢◌, ℕ, ◌+◌, ◌-◌, ◌%◌, ◌^◌, ◌<◌, ◌≤◌, ◌==◌, List, length, map, Option, Some, None, if◌then◌else◌, sum, sum_by, zero, suc, slice_index_or}
 use Rattle.std.specs.Map.{values_of}
 use Rattle.addr_space.specs.declared.Addr.{Addr}
-use Rattle.chunk_header.specs.Growth.{up8}
-use Rattle.alloc_set.specs.Ledger.{SetLedger, class_size, chunk_limit}
+use Rattle.alloc_set.specs.Ledger.{class_size, chunk_limit}
 use Rattle.alloc_set.specs.State.{SetState, chunk_at, region_of, start_of, capacity_of}
 use Rattle.alloc_set.specs.declared.chunk.Chunk.{Chunk}
 use Rattle.alloc_set.specs.declared.chunk.Chunk.TheVariants.{Live, Free, Own}

@@ -1,5 +1,5 @@
 -- The ledger of an AllocSet: its numbers, without addresses.
-use Rattle.std.specs.Prelude.{ℕ, zero, suc, ◌+◌, ◌-◌, ◌*◌, ◌/◌, ◌%◌, ◌^◌, List, [], ◌∷◌, Bool, nat_lt, nat_le, min, if◌then◌else◌, Option, Some, None, Result, Ok, Err, slice_index, slice_set, replicate, sum}
+use Rattle.std.specs.Prelude.{ℕ, zero, suc, ◌+◌, ◌-◌, ◌*◌, ◌/◌, ◌%◌, ◌^◌, List, [], ◌∷◌, nat_lt, nat_le, min, if◌then◌else◌, Option, Some, None, Result, Ok, Err, slice_index, slice_set, replicate, sum}
 use Rattle.chunk_header.specs.declared.CtxError.{CtxError}
 use Rattle.chunk_header.specs.declared.CtxError.TheVariants.{TooBig, NoSpace}
 use Rattle.chunk_header.specs.declared.Stats.{Stats}

@@ -1,5 +1,5 @@
 -- What calls do to the live chunks.
-use Rattle.std.specs.Prelude.{◌≡◌, ℕ, Option, Some, None, if◌then◌else◌}
+use Rattle.std.specs.Prelude.{◌≡◌, ℕ, Option, if◌then◌else◌}
 use Rattle.addr_space.specs.declared.Addr.{Addr}
 use Rattle.alloc_set.specs.State.{SetState, same_addr, footprint}
 

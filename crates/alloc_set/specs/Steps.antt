@@ -1,9 +1,8 @@
 -- What the steps of an AllocSet do to its state.
-use Rattle.std.specs.Prelude.{◌≡◌, ◌≢◌, ℕ, ◌+◌, ◌-◌, ◌*◌, ◌%◌, ◌^◌, ◌<◌, ◌≤◌, Option, Some, None, if◌then◌else◌}
+use Rattle.std.specs.Prelude.{◌≡◌, ℕ, ◌+◌, ◌≤◌, Option, Some, if◌then◌else◌}
 use Rattle.addr_space.specs.declared.Addr.{Addr}
-use Rattle.alloc_set.specs.Ledger.{SetLedger, class_size, class_bytes}
-use Rattle.alloc_set.specs.State.{SetState, same_addr, chunk_at, capacity_of}
-use Rattle.alloc_set.specs.Kept.{IsSized}
+use Rattle.alloc_set.specs.Ledger.{class_size, class_bytes}
+use Rattle.alloc_set.specs.State.{SetState, same_addr, chunk_at}
 use Rattle.alloc_set.specs.declared.chunk.Chunk.{Chunk}
 use Rattle.alloc_set.specs.declared.chunk.Chunk.TheVariants.{Live, Free, Own}
 

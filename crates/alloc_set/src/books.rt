@@ -95,7 +95,13 @@ impl Books {
     ghost use Rattle.alloc_set.specs.Cut.{CutsUp, Renews, Allocates};
 
     // The books of a new context, whose keeper was taken.
-    pub fn create(alloc: Global, space: &mut Space, account: u8, context: u32, sizes: Sizes) -> Result<Books, CtxError>
+    pub fn create(
+        alloc: Global,
+        space: &mut Space,
+        account: u8,
+        context: u32,
+        sizes: Sizes,
+    ) -> Result<Books, CtxError>
         requires account { account < accounts space.old }
         requires least { 1024 ≤ sizes.init }
         requires order { sizes.init ≤ sizes.max }

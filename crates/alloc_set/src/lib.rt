@@ -43,7 +43,13 @@ impl AllocSet {
     /// A context with one block, for an account of the space. `context` is the number that its blocks keep.
     ///
     /// `NoSpace` comes where the first block doesn't fit, and before `Memory`. A refused call changes nothing.
-    pub fn create(alloc: Global, space: &mut Space, account: u8, context: u32, sizes: Sizes) -> Result<AllocSet, CtxError>
+    pub fn create(
+        alloc: Global,
+        space: &mut Space,
+        account: u8,
+        context: u32,
+        sizes: Sizes,
+    ) -> Result<AllocSet, CtxError>
         requires account { account < accounts space.old }
         requires least { 1024 ≤ sizes.init }
         requires order { sizes.init ≤ sizes.max }

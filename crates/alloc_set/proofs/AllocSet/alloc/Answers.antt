@@ -1,6 +1,4 @@
 use Rattle.std.proofs.Common.{Result, Ok, Err, IfOk, OnOk}
-use Rattle.addr_space.specs.Footprint.{Keeps}
-use Rattle.alloc_set.specs.State.{footprint}
 use Rattle.alloc_set.proofs.AllocSet.alloc.Goals as goal
 
 -- what holds whatever was answered

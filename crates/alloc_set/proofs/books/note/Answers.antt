@@ -1,4 +1,4 @@
-use Rattle.std.proofs.Common.{◌≡◌, ℕ, ◌==◌, ap, ◌∙◌, arith}
+use Rattle.std.proofs.Common.{ℕ, ◌==◌, arith}
 use Rattle.alloc_set.proofs.Entries.{sum_by-insert}
 use Rattle.alloc_set.proofs.books.note.Goals as goal
 

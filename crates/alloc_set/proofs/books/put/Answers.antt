@@ -1,5 +1,3 @@
-use Rattle.std.proofs.Common.{◌≡◌, ap, ◌∙◌, sum_by}
-use Rattle.std.specs.Map.{values_of}
 use Rattle.alloc_set.specs.State.{same_addr}
 use Rattle.alloc_set.proofs.Entries.{sum_by-insert}
 use Rattle.alloc_set.proofs.books.put.Goals as goal

@@ -1,4 +1,4 @@
-use Rattle.std.proofs.Common.{◌≡◌, ◌+◌, ◌-◌, ◌<◌, ◌≤◌, ap, ◌∙◌, sym, arith}
+use Rattle.std.proofs.Common.{◌≡◌, ◌≤◌, sym, arith}
 use Rattle.alloc_set.specs.Ledger.{class_size, class_of}
 use Rattle.alloc_set.proofs.ClassSizes.{class_up_to-is}
 use Rattle.alloc_set.proofs.classes.class_of.Goals as goal

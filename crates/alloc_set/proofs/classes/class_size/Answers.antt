@@ -1,4 +1,4 @@
-use Rattle.std.proofs.Common.{◌≡◌, ◌+◌, ◌*◌, ◌%◌, ◌^◌, ◌<◌, ◌≤◌, arith}
+use Rattle.std.proofs.Common.{◌≤◌, arith}
 use Rattle.alloc_set.specs.Ledger.{class_size}
 use Rattle.alloc_set.proofs.ClassSizes.{class_size-most}
 use Rattle.alloc_set.proofs.classes.class_size.Goals as goal

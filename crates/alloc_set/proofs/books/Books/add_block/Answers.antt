@@ -1,8 +1,8 @@
-use Rattle.std.proofs.Common.{◌≡◌, ◌≢◌, ℕ, ◌+◌, ◌-◌, ◌≤◌, ◌==◌, if◌then◌else◌, map, Some, None, ap, ◌∙◌, sym, subst, refl, arith}
-use Rattle.addr_space.specs.Space.{Space, Changes, region_at, overwritten, unwritten, held}
+use Rattle.std.proofs.Common.{◌≡◌, ◌+◌, map, Some, None, ap, subst, refl, arith}
+use Rattle.addr_space.specs.Space.{Changes, region_at, overwritten}
 use Rattle.chunk_header.specs.Header.{block_bytes}
 use Rattle.alloc_set.specs.Ledger.{with_own}
-use Rattle.alloc_set.specs.State.{SetState, region_of, footprint}
+use Rattle.alloc_set.specs.State.{region_of}
 use Rattle.alloc_set.specs.Kept.{state_of}
 use Rattle.alloc_set.specs.declared.books.Books.{Books}
 use Rattle.alloc_set.proofs.Added.{Adds, Moves-added}
@@ -54,8 +54,8 @@ returns-clause-moves c =
     let start : c.in-Ok.at.offset ≡ 0 = c.in-Ok.ensures.start in
     let old = region_at c.take.new.self number in
     let wrote : Changes c.take.new.self c.write.new.self number (overwritten old 0 (map Some (block_bytes c.args.self.now.context c.args.size))) =
-        subst (λ o. Changes c.take.new.self c.write.new.self number (overwritten old o (map Some (block_bytes c.args.self.now.context c.args.size)))) start
-        (subst (λ b. Changes c.take.new.self c.write.new.self number (overwritten old c.in-Ok.at.offset (map Some b))) c.block_header.ensures c.write.ensures.changes) in
+    subst (λ o. Changes c.take.new.self c.write.new.self number (overwritten old o (map Some (block_bytes c.args.self.now.context c.args.size)))) start
+    (subst (λ b. Changes c.take.new.self c.write.new.self number (overwritten old c.in-Ok.at.offset (map Some b))) c.block_header.ensures c.write.ensures.changes) in
     let kept = c.requires.kept in
     Moves-added (state_of c.args.self.now) (state_of (now c)) c.args.self.now.active.region c.args.self.now.active.size number c.args.size kept.settled (adds c)
     (c.args.self.now.sizes.init, keeper_owned (state_of c.args.self.now)) c.requires.least c.requires.most c.args.space.now c.take.new.self c.write.new.self c.requires.agrees c.in-Ok.ensures.fresh c.in-Ok.ensures.changes c.in-Ok.ensures.held wrote

@@ -1,7 +1,6 @@
-use Rattle.std.proofs.Common.{◌≡◌, ℕ, ◌-◌, ◌<◌, ◌≤◌, IfOk, Result, sym, ◌∙◌, subst, arith}
+use Rattle.std.proofs.Common.{◌-◌, ◌<◌, ◌≤◌, IfOk, sym, ◌∙◌, subst, arith}
 use Rattle.addr_space.specs.Space.{held}
-use Rattle.chunk_header.specs.declared.CtxError.{CtxError}
-use Rattle.alloc_set.specs.Ledger.{SetLedger, chunk_limit}
+use Rattle.alloc_set.specs.Ledger.{chunk_limit}
 use Rattle.alloc_set.specs.Kept.{state_of}
 use Rattle.alloc_set.specs.Cut.{Allocates}
 use Rattle.alloc_set.proofs.ClassSizes.{chunk_limit-most}

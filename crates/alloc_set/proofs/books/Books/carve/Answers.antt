@@ -1,11 +1,9 @@
-use Rattle.std.proofs.Common.{◌≡◌, ℕ, ◌+◌, ◌-◌, ◌≤◌, map, Some, None, List, length, ap, ◌∙◌, sym, subst, arith, rules, sum_by, false}
-use Rattle.std.specs.Map.{values_of}
+use Rattle.std.proofs.Common.{◌≡◌, ◌+◌, ◌-◌, map, Some, None, ap, ◌∙◌, sym, subst, arith, rules, false}
 use Rattle.addr_space.specs.declared.Addr.{Addr}
-use Rattle.addr_space.specs.Space.{Space, region_at, overwritten, Changes}
+use Rattle.addr_space.specs.Space.{region_at, overwritten, Changes}
 use Rattle.chunk_header.specs.declared.Header.{Header}
 use Rattle.chunk_header.specs.declared.Kind.TheVariants.{AllocSet as SetKind}
 use Rattle.chunk_header.specs.Header.{header_bytes}
-use Rattle.alloc_set.specs.Ledger.{class_size}
 use Rattle.alloc_set.specs.State.{SetState, chunk_at, start_of, header_of}
 use Rattle.alloc_set.specs.Kept.{state_of}
 use Rattle.alloc_set.specs.Steps.{Carves}
@@ -44,8 +42,8 @@ wrote c =
     let header : header_of c.args.chunk (active.size - active.room + 8 - 8 - start_of (state_of c.args.self.now) active.region) ≡ record { kind = SetKind; own = false; value = c.args.class; dist = active.size - active.room + 8 - 8 - start_of (state_of c.args.self.now) active.region } = header_of-class c.args.class _ c.args.chunk c.requires.of_class in
     let value : Header = record { kind = SetKind; own = false; value = c.from.result; dist = active.size - active.room - c.start.result } in
     let same : value ≡ header_of c.args.chunk (active.size - active.room + 8 - 8 - start_of (state_of c.args.self.now) active.region) =
-        ap (λ v. record { kind = SetKind; own = false; value = v; dist = active.size - active.room - c.start.result }) c.from.ensures
-        ∙ ap (λ d. record { kind = SetKind; own = false; value = c.args.class; dist = d }) dist ∙ sym header in
+    ap (λ v. record { kind = SetKind; own = false; value = v; dist = active.size - active.room - c.start.result }) c.from.ensures
+    ∙ ap (λ d. record { kind = SetKind; own = false; value = c.args.class; dist = d }) dist ∙ sym header in
     subst (λ o. Changes c.args.space.now c.write.new.self active.region (overwritten old o (map Some (header_bytes (header_of c.args.chunk (active.size - active.room + 8 - 8 - start_of (state_of c.args.self.now) active.region)))))) (sym offset)
     (subst (λ b. Changes c.args.space.now c.write.new.self active.region (overwritten old (active.size - active.room) (map Some b))) (c.bytes.ensures ∙ ap header_bytes same) c.write.ensures.changes)
 

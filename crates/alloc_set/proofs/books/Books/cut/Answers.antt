@@ -1,7 +1,7 @@
 use Rattle.std.proofs.Common.{◌≡◌, ◌-◌, ap, ◌∙◌, refl, arith}
 use Rattle.alloc_set.specs.Ledger.{cut_off, class_bytes}
 use Rattle.alloc_set.specs.Kept.{state_of}
-use Rattle.alloc_set.proofs.KeptCut.{IsKept-live, live-without, room_now}
+use Rattle.alloc_set.proofs.KeptCut.{IsKept-live, live-without}
 use Rattle.alloc_set.specs.declared.books.Books.{Books}
 use Rattle.alloc_set.specs.declared.chunk.Chunk.TheVariants.{Live}
 use Rattle.alloc_set.proofs.books.Books.cut.Goals as goal

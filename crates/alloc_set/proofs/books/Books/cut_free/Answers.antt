@@ -1,7 +1,7 @@
-use Rattle.std.proofs.Common.{◌≡◌, ℕ, ◌+◌, ◌-◌, ◌<◌, ◌≤◌, ap, ◌∙◌, sym, refl, arith, Some, None, List, length, map, set, get_or}
+use Rattle.std.proofs.Common.{◌≡◌, ℕ, ◌+◌, ◌-◌, ◌<◌, ap, ◌∙◌, sym, refl, arith, Some, List, length, map, set, get_or}
 use Rattle.std.proofs.lemmas.List.{map-set, get_or-map}
-use Rattle.alloc_set.specs.Ledger.{SetLedger, class_bytes, with_free}
-use Rattle.alloc_set.specs.State.{mark_of, chunk_at, footprint}
+use Rattle.alloc_set.specs.Ledger.{class_bytes, with_free}
+use Rattle.alloc_set.specs.State.{mark_of}
 use Rattle.alloc_set.specs.Kept.{state_of, shelf_at, no_shelf}
 use Rattle.alloc_set.proofs.KeptCut.{IsKept-free, live-without, Carves-shelved, SameLive-put, count-few}
 use Rattle.alloc_set.specs.declared.books.Books.{Books}
@@ -39,7 +39,7 @@ returns-clause-ledger c =
     let below : c.args.class < length b.shelves = omega (arith, c.requires.class, c.requires.kept.shelved.eleven) in
     let count : get_or counts c.args.class 0 ≡ (shelf_at b.shelves c.args.class).count = get_or-map (λ (s : Shelf). s.count) b.shelves c.args.class no_shelf 0 below in
     let free : map (λ (s : Shelf). s.count) (set m.shelves c.args.class new) ≡ with_free counts c.args.class 1 =
-        ap (λ xs. map (λ (s : Shelf). s.count) (set xs c.args.class new)) shelves ∙ map-set (λ (s : Shelf). s.count) b.shelves c.args.class new ∙ ap (λ x. set counts c.args.class (x + 1)) (sym count) in
+    ap (λ xs. map (λ (s : Shelf). s.count) (set xs c.args.class new)) shelves ∙ map-set (λ (s : Shelf). s.count) b.shelves c.args.class new ∙ ap (λ x. set counts c.args.class (x + 1)) (sym count) in
     ap (λ (x : Books). record (state_of x).ledger { free = map (λ (s : Shelf). s.count) (set m.shelves c.args.class new) }) rest
     ∙ ap (λ r. record (state_of b).ledger { room = r; free = map (λ (s : Shelf). s.count) (set m.shelves c.args.class new) }) room
     ∙ ap (λ f. record (state_of b).ledger { room = b.active.room - class_bytes c.args.class; free = f }) free

@@ -1,10 +1,8 @@
-use Rattle.std.proofs.Common.{◌≡◌, ◌≢◌, ℕ, suc, ◌+◌, ◌-◌, ◌<◌, ◌≤◌, ap, ◌∙◌, sym, refl, subst, arith}
-use Rattle.addr_space.specs.declared.Addr.{Addr}
+use Rattle.std.proofs.Common.{◌≡◌, ℕ, suc, ◌-◌, ◌<◌, ◌≤◌, ap, ◌∙◌, sym, subst, arith}
 use Rattle.addr_space.proofs.Steps.{Moves-more}
 use Rattle.alloc_set.specs.Ledger.{SetLedger, class_bytes, cut_rest, cut_up, with_free}
 use Rattle.alloc_set.specs.State.{footprint}
 use Rattle.alloc_set.specs.Kept.{state_of}
-use Rattle.alloc_set.specs.Cut.{CutsUp}
 use Rattle.alloc_set.specs.declared.books.Books.{Books}
 use Rattle.alloc_set.specs.declared.books.Block.{Block}
 use Rattle.alloc_set.proofs.Cuts.{class_bytes-suc, cut_rest-in, cut_up-in, cut_rest-out, cut_up-out, cut_rest-zero, cut_up-zero, Keeps-more, CutsUp-less}

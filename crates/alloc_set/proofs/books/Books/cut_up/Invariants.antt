@@ -1,4 +1,4 @@
-use Rattle.std.proofs.Common.{◌≡◌, ◌+◌, ◌-◌, ◌<◌, ◌≤◌}
+use Rattle.std.proofs.Common.{◌≡◌, ◌-◌, ◌<◌, ◌≤◌}
 use Rattle.addr_space.specs.Footprint.{Moves, Keeps}
 use Rattle.alloc_set.specs.Ledger.{class_bytes, cut_rest, cut_up}
 use Rattle.alloc_set.specs.State.{footprint}

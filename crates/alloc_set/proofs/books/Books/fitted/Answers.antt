@@ -1,6 +1,6 @@
-use Rattle.std.proofs.Common.{◌≡◌, ℕ, ◌+◌, ◌-◌, ◌/◌, ◌<◌, ◌≤◌, ◌⊎◌, ap, ◌∙◌, sym, arith, inl, inr, true, false}
+use Rattle.std.proofs.Common.{ℕ, ◌-◌, ◌<◌, ◌∙◌, sym, arith, inl, inr}
 use Rattle.std.proofs.lemmas.Bool.{cases_lt}
-use Rattle.addr_space.specs.Space.{held, Fits}
+use Rattle.addr_space.specs.Space.{held}
 use Rattle.alloc_set.proofs.Halving.{halved-fits, halved-stop, halved-go}
 use Rattle.alloc_set.proofs.books.Books.fitted.Goals as goal
 

@@ -1,20 +1,16 @@
-use Rattle.std.proofs.Common.{◌≡◌, ◌≢◌, ℕ, ◌+◌, ◌-◌, ◌*◌, ◌^◌, ◌<◌, ◌≤◌, ap, ◌∙◌, sym, refl, subst, arith, Some, None, List, length, min, inl, inr}
+use Rattle.std.proofs.Common.{◌≡◌, ◌≢◌, ℕ, ◌+◌, ◌-◌, ◌*◌, ap, ◌∙◌, sym, subst, arith, Some, None, List, length, min, inl, inr}
 use Rattle.indexmap.specs.IndexMap.{spare}
-use Rattle.addr_space.specs.declared.Addr.{Addr}
-use Rattle.addr_space.specs.Space.{Space, held}
+use Rattle.addr_space.specs.Space.{held}
 use Rattle.addr_space.specs.Footprint.{Footprint, Moves, Keeps}
 use Rattle.addr_space.proofs.Steps.{Moves-more}
 use Rattle.addr_space.proofs.Written.{option_cases}
 use Rattle.std.proofs.Common.{Err}
 use Rattle.chunk_header.specs.declared.CtxError.TheVariants.{NoSpace}
 use Rattle.chunk_header.specs.Growth.{grown}
-use Rattle.alloc_set.specs.Ledger.{SetLedger, class_size, class_bytes, cut_rest, cut_up, with_own, renewed, block_size, halved}
+use Rattle.alloc_set.specs.Ledger.{SetLedger, class_size, cut_rest, cut_up, with_own, renewed, block_size, halved}
 use Rattle.alloc_set.specs.State.{SetState, chunk_at, region_of, footprint}
 use Rattle.alloc_set.specs.Kept.{state_of}
-use Rattle.alloc_set.specs.Live.{SameLive}
-use Rattle.alloc_set.specs.Cut.{CutsUp, Renews}
 use Rattle.alloc_set.specs.declared.books.Books.{Books}
-use Rattle.alloc_set.specs.declared.books.Block.{Block}
 use Rattle.alloc_set.proofs.Cuts.{Keeps-more}
 use Rattle.alloc_set.proofs.books.Books.renew.Goals as goal
 use Rattle.alloc_set.proofs.books.Books.renew.Goals.{After-cut_up}
@@ -57,8 +53,8 @@ activate-requires-clause-empty c = λ at region.
     let settled = c.requires.kept.settled in
     let same_active : m.active.region ≡ b.active.region = ap (λ (x : Books). x.active.region) c.in-Ok.ensures.rest in
     let differs : at.region ≢ m.active.region = λ e.
-        let clash = sym none ∙ ap (region_of (state_of b)) (sym region ∙ e ∙ same_active) ∙ settled.active_owned in
-        absurd (cc) in
+    let clash = sym none ∙ ap (region_of (state_of b)) (sym region ∙ e ∙ same_active) ∙ settled.active_owned in
+    absurd (cc) in
     let old : chunk_at (state_of m) at ≡ chunk_at (state_of b) at = ap (λ (x : Books). chunk_at (state_of x) at) c.in-Ok.ensures.rest in
     let empty : chunk_at (state_of b) at ≡ None = elim (option_cases (chunk_at (state_of b) at)) [
       | inl without ↦ without

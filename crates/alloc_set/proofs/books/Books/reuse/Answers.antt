@@ -1,16 +1,13 @@
-use Rattle.std.proofs.Common.{◌≡◌, ℕ, suc, ◌+◌, ◌-◌, ◌<◌, ◌≤◌, ◌^◌, ap, ◌∙◌, sym, refl, subst, arith, Some, None, Option, List, length, map, set, get_or, sum_by}
-use Rattle.std.specs.Map.{values_of}
+use Rattle.std.proofs.Common.{◌≡◌, ℕ, suc, ◌-◌, ◌<◌, ap, ◌∙◌, sym, refl, arith, Some, List, length, map, set, get_or}
 use Rattle.std.proofs.lemmas.List.{map-set, get_or-map}
-use Rattle.addr_space.specs.declared.Addr.{Addr}
-use Rattle.alloc_set.specs.Ledger.{SetLedger, reused}
-use Rattle.alloc_set.specs.State.{SetState, chunk_at, footprint}
-use Rattle.alloc_set.specs.Kept.{state_of, shelf_at, no_shelf, is_free, IsChain}
+use Rattle.alloc_set.specs.Ledger.{reused}
+use Rattle.alloc_set.specs.State.{chunk_at}
+use Rattle.alloc_set.specs.Kept.{state_of, shelf_at, no_shelf, is_free}
 use Rattle.alloc_set.specs.Steps.{SameBlocks}
 use Rattle.alloc_set.proofs.Flipped.{IsSettled-flipped, Moves-flipped}
 use Rattle.alloc_set.proofs.Shelved.{chain_head, chain_empty, IsShelved-popped}
 use Rattle.alloc_set.specs.declared.books.Books.{Books}
 use Rattle.alloc_set.specs.declared.chunk.Shelf.{Shelf}
-use Rattle.alloc_set.specs.declared.chunk.Chunk.{Chunk}
 use Rattle.alloc_set.specs.declared.chunk.Chunk.TheVariants.{Live, Free}
 use Rattle.alloc_set.proofs.books.Books.reuse.Goals as goal
 
@@ -69,7 +66,7 @@ returns-clause-kept c =
       };
       settled = IsSettled-flipped (state_of b) (state_of n) b.active.region b.active.size class c.in-Some.at (Free class next) (Live class c.args.size) kept.settled (same b n refl refl refl refl refl refl) refl was (refl, c.requires.class) (refl, c.requires.class, c.requires.size) c.put.ensures.at;
       shelved = IsShelved-popped (state_of b) (state_of n) b.shelves c.in-Some.at (Some (Live class c.args.size)) kept.shelved c.put.ensures.at (omega (arith, len, kept.shelved.few)) class next (shelf.count - 1) below c.in-Some.is was number
-        (λ k under. let sums = rw was at (c.put.ensures.sums (is_free k)) in omega (arith, sums));
+          (λ k under. let sums = rw was at (c.put.ensures.sums (is_free k)) in omega (arith, sums));
     }
 
 pub returns-clause-ledger : goal.returns-clause-ledger
@@ -82,7 +79,7 @@ returns-clause-ledger c =
     let new : Shelf = record { first = c.next_free-next.result; count = shelf.count - 1 } in
     let count = count_is b class (omega (arith, c.requires.class, c.requires.kept.shelved.eleven)) in
     let free : map (λ (s : Shelf). s.count) (set b.shelves class new) ≡ set counts class (get_or counts class 0 - 1) =
-        map-set (λ (s : Shelf). s.count) b.shelves class new ∙ ap (λ x. set counts class (x - 1)) (sym count) in
+    map-set (λ (s : Shelf). s.count) b.shelves class new ∙ ap (λ x. set counts class (x - 1)) (sym count) in
     ap (λ f. record (state_of b).ledger { free = f }) free
 
 pub returns-clause-moves : goal.returns-clause-moves

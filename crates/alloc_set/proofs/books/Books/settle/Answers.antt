@@ -1,6 +1,6 @@
-use Rattle.std.proofs.Common.{◌≡◌, ℕ, ◌+◌, ◌≤◌, map, Some, None, Option, ap, ◌∙◌, sym, subst, refl, arith, sum_by}
+use Rattle.std.proofs.Common.{◌≡◌, map, Some, None, ap, subst, refl, arith}
 use Rattle.addr_space.specs.declared.Addr.{Addr}
-use Rattle.addr_space.specs.Space.{Space, Changes, region_at, overwritten}
+use Rattle.addr_space.specs.Space.{Changes, region_at, overwritten}
 use Rattle.chunk_header.specs.Header.{header_bytes}
 use Rattle.alloc_set.specs.State.{chunk_at, header_of}
 use Rattle.alloc_set.specs.Kept.{state_of, is_free}
@@ -43,7 +43,7 @@ returns-clause-kept c =
       };
       settled = IsSettled-owned (state_of b) (state_of n) b.active.region b.active.size c.args.region c.args.size c.args.room at kept.settled (same b n refl refl refl refl refl refl) refl refl refl c.put.ensures.at c.requires.owned c.requires.not_keeper c.requires.not_active c.requires.empty c.requires.fits;
       shelved = IsShelved-taken (state_of b) (state_of n) b.shelves at (Some (Own c.args.size c.args.room)) kept.shelved c.put.ensures.at (omega (arith, len, c.requires.few)) (IsTaken-none (chunk_at (state_of b) at) was)
-        (λ k under. let sums = rw was at (c.put.ensures.sums (is_free k)) in omega (arith, sums));
+          (λ k under. let sums = rw was at (c.put.ensures.sums (is_free k)) in omega (arith, sums));
     }
 
 pub returns-clause-moves : goal.returns-clause-moves
@@ -52,5 +52,5 @@ returns-clause-moves c =
     let n : Books = record b { chunks = c.put.new.chunks } in
     let at : Addr = record { region = c.args.region; offset = 48 } in
     let wrote : Changes c.args.space.now c.write.new.self c.args.region (overwritten (region_at c.args.space.now c.args.region) 40 (map Some (header_bytes (header_of (Own c.args.size c.args.room) 40)))) =
-        subst (λ x. Changes c.args.space.now c.write.new.self c.args.region (overwritten (region_at c.args.space.now c.args.region) 40 (map Some x))) c.bytes.ensures c.write.ensures.changes in
+    subst (λ x. Changes c.args.space.now c.write.new.self c.args.region (overwritten (region_at c.args.space.now c.args.region) 40 (map Some x))) c.bytes.ensures c.write.ensures.changes in
     Moves-owned (state_of b) (state_of n) b.active.region b.active.size c.args.region c.args.size c.args.room at c.requires.kept.settled (same b n refl refl refl refl refl refl) refl refl refl c.put.ensures.at c.requires.owned c.requires.not_keeper c.requires.not_active c.requires.empty c.requires.fits c.args.space.now c.write.new.self c.requires.agrees wrote

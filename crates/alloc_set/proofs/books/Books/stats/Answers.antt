@@ -1,13 +1,11 @@
-use Rattle.std.proofs.Common.{◌≡◌, ℕ, ◌+◌, ◌*◌, ◌^◌, ◌<◌, ◌≤◌, ap, ◌∙◌, sym, refl, arith, List, [], ◌∷◌, length, map, drop, sum, get_or}
+use Rattle.std.proofs.Common.{◌≡◌, ℕ, ◌+◌, ◌*◌, ◌^◌, ◌<◌, ◌≤◌, ap, ◌∙◌, arith, List, [], ◌∷◌, length, map, drop, sum, get_or}
 use Rattle.std.proofs.Math.Nat.{mul-le-mul_left}
 use Rattle.std.proofs.lemmas.List.{drop_more, drop_all, get_or-map, length-map}
 use Rattle.std.proofs.lemmas.List.Sums.{sum_by-cons}
-use Rattle.chunk_header.specs.declared.Stats.{Stats}
 use Rattle.alloc_set.specs.Ledger.{class_size, class_bytes, free_bytes, stats}
 use Rattle.alloc_set.specs.Kept.{state_of, shelf_at, no_shelf}
 use Rattle.alloc_set.specs.declared.chunk.Shelf.{Shelf}
 use Rattle.alloc_set.proofs.KeptCut.{count-few}
-use Rattle.alloc_set.proofs.Added.{Moves-added, Keeps-added}
 use Rattle.alloc_set.proofs.books.Books.stats.Goals as goal
 
 -- the bytes of the free chunks of a class are not many

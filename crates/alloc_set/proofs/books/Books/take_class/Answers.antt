@@ -1,14 +1,13 @@
-use Rattle.std.proofs.Common.{◌≡◌, ℕ, ◌+◌, ◌-◌, ◌<◌, ◌≤◌, ap, ◌∙◌, sym, refl, subst, arith, Some, None, Ok, Err, Result, slice_index}
-use Rattle.addr_space.specs.Space.{Space, held}
-use Rattle.addr_space.specs.Footprint.{Footprint, Agrees, Moves, Keeps}
+use Rattle.std.proofs.Common.{◌≡◌, ℕ, ◌-◌, ◌<◌, ◌≤◌, ap, ◌∙◌, sym, refl, subst, arith, Some, None, Ok, Err, slice_index}
+use Rattle.addr_space.specs.Space.{held}
+use Rattle.addr_space.specs.Footprint.{Agrees, Moves, Keeps}
 use Rattle.addr_space.proofs.Steps.{Moves-more}
-use Rattle.chunk_header.specs.declared.CtxError.{CtxError}
 use Rattle.chunk_header.specs.declared.CtxError.TheVariants.{NoSpace}
-use Rattle.alloc_set.specs.Ledger.{SetLedger, class_bytes, class_of, take_class, reused, cut_off, renewed, block_size}
+use Rattle.alloc_set.specs.Ledger.{SetLedger, class_bytes, take_class, cut_off, block_size}
 use Rattle.alloc_set.specs.State.{SetState, footprint}
 use Rattle.alloc_set.specs.Kept.{state_of}
-use Rattle.alloc_set.specs.Live.{PutsLive, SameLive}
-use Rattle.alloc_set.specs.Cut.{Renews, Allocates}
+use Rattle.alloc_set.specs.Live.{PutsLive}
+use Rattle.alloc_set.specs.Cut.{Renews}
 use Rattle.alloc_set.specs.declared.books.Books.{Books}
 use Rattle.alloc_set.proofs.Cuts.{Keeps-more}
 use Rattle.alloc_set.proofs.Taken.{take_class-reused, take_class-cut, take_class-had, take_class-none, state_same, PutsLive-after}
@@ -95,7 +94,7 @@ returns-clause-ok c =
     let new : Renews r w c.args.space.now class = c.in-Ok-renew.ensures.renewed in
     let had : block_size (state_of r).ledger left class ≡ Some new.size = subst (λ a. block_size (state_of r).ledger (c.args.space.now.limit - held c.args.space.now a) class ≡ Some new.size) account new.had in
     let ledger : take_class (state_of r).ledger left class ≡ Ok (state_of n).ledger =
-        take_class-had (state_of r).ledger left class none new.size little had ∙ ap Ok (ap (λ (l : SetLedger). cut_off l class) (sym new.ledger) ∙ sym c.cut-2.ensures.ledger) in
+    take_class-had (state_of r).ledger left class none new.size little had ∙ ap Ok (ap (λ (l : SetLedger). cut_off l class) (sym new.ledger) ∙ sym c.cut-2.ensures.ledger) in
     let puts : PutsLive (state_of r) (state_of n) c.cut-2.result (Some c.args.size) = PutsLive-after (state_of r) (state_of w) (state_of n) c.cut-2.result (Some c.args.size) new.live c.cut-2.ensures.live in
     let moves : Moves (footprint (state_of r)) (footprint (state_of n)) c.args.space.now c.cut-2.new.space = Moves-more (footprint (state_of r)) (footprint (state_of w)) (footprint (state_of n)) c.args.space.now c.renew.new.space c.cut-2.new.space c.in-Ok-renew.ensures.moves c.cut-2.ensures.moves in
     let keeps : Keeps (footprint (state_of r)) (footprint (state_of n)) c.args.space.now c.cut-2.new.space = Keeps-more (state_of r) (state_of w) (state_of n) c.args.space.now c.renew.new.space c.cut-2.new.space new.live c.in-Ok-renew.ensures.keeps c.cut-2.ensures.keeps in

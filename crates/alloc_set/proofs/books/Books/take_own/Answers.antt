@@ -1,16 +1,13 @@
-use Rattle.std.proofs.Common.{◌≡◌, ◌≢◌, ℕ, ◌+◌, ◌-◌, ◌<◌, ◌≤◌, ap, ◌∙◌, sym, refl, subst, arith, Some, None, Ok, Err, Result, inl, inr}
-use Rattle.addr_space.specs.declared.Addr.{Addr}
-use Rattle.addr_space.specs.Space.{Space, held}
-use Rattle.addr_space.specs.Footprint.{Footprint, Agrees, Moves, Keeps}
+use Rattle.std.proofs.Common.{◌≡◌, ℕ, ◌+◌, ◌-◌, ◌<◌, ◌≤◌, ap, ◌∙◌, sym, subst, arith, Some, None, Ok, Err, inl, inr}
+use Rattle.addr_space.specs.Space.{held}
+use Rattle.addr_space.specs.Footprint.{Moves, Keeps}
 use Rattle.addr_space.proofs.Steps.{Moves-more}
 use Rattle.addr_space.proofs.Written.{option_cases}
 use Rattle.chunk_header.specs.declared.CtxError.TheVariants.{NoSpace}
-use Rattle.chunk_header.specs.Growth.{up8}
-use Rattle.alloc_set.specs.Ledger.{SetLedger, take_own, with_own, own_size}
+use Rattle.alloc_set.specs.Ledger.{take_own, with_own, own_size}
 use Rattle.alloc_set.specs.State.{SetState, chunk_at, region_of, footprint}
 use Rattle.alloc_set.specs.Kept.{state_of}
 use Rattle.alloc_set.specs.Live.{PutsLive, SameLive}
-use Rattle.alloc_set.specs.Cut.{Allocates}
 use Rattle.alloc_set.specs.declared.books.Books.{Books}
 use Rattle.alloc_set.proofs.Cuts.{Keeps-more}
 use Rattle.alloc_set.proofs.Taken.{take_own-had, take_own-none, state_same, PutsLive-after}
@@ -56,7 +53,7 @@ returns-clause-ok c =
     let fits = subst (λ x. c.up8-room.result + 48 ≤ c.args.space.now.limit - held c.args.space.now x) account c.in-Ok-add_block.ensures.fits in
     let step : take_own (state_of b).ledger left (own_size c.args.size) ≡ Ok (with_own (state_of b).ledger (own_size c.args.size)) = take_own-had (state_of b).ledger left (own_size c.args.size) (omega (arith, fits, room)) in
     let ledger : (state_of n).ledger ≡ with_own (state_of b).ledger (own_size c.args.size) =
-        c.settle.ensures.ledger ∙ c.in-Ok-add_block.ensures.ledger ∙ ap (λ (s : SetState). with_own s.ledger (c.up8-room.result + 48)) same ∙ ap (with_own (state_of b).ledger) room in
+    c.settle.ensures.ledger ∙ c.in-Ok-add_block.ensures.ledger ∙ ap (λ (s : SetState). with_own s.ledger (c.up8-room.result + 48)) same ∙ ap (with_own (state_of b).ledger) room in
     let live : SameLive (state_of m) (state_of a) = λ at. ap (λ (x : Books). (footprint (state_of x)).live at) c.in-Ok-add_block.ensures.rest in
     let puts : PutsLive (state_of m) (state_of n) c.settle.result (Some c.args.size) = PutsLive-after (state_of m) (state_of a) (state_of n) c.settle.result (Some c.args.size) live c.settle.ensures.live in
     let moves : Moves (footprint (state_of m)) (footprint (state_of n)) c.args.space.now c.settle.new.space = Moves-more (footprint (state_of m)) (footprint (state_of a)) (footprint (state_of n)) c.args.space.now c.add_block.new.space c.settle.new.space c.in-Ok-add_block.ensures.moves c.settle.ensures.moves in
