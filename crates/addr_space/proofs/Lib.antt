@@ -1,0 +1,7 @@
+-- Lemmas for this crate, and for the allocators above it.
+pub mod Bytes
+pub mod Copied
+pub mod Held
+pub mod Written
+pub mod Apart
+pub mod Steps

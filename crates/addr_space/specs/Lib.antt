@@ -1,0 +1,4 @@
+-- What contracts cite: the space's value, the footprint of a context in it, and marked addresses.
+pub mod Space
+pub mod Sound
+pub mod Footprint

@@ -1,0 +1,45 @@
+use super::*;
+use std::test::Fail;
+
+#[test]
+fn one_account_fills_up(rt: HostRuntime) -> Result<(), Fail> {
+    let mut space = Space::new(rt.alloc(), 2, 100)?;
+    assert_eq!(rt; space.accounts(), 2);
+    let first = space.take(1, 60)?;
+    assert_eq!(rt; first.offset, 0);
+    assert_eq!(rt; space.take(1, 41), Err(SpaceError::NoSpace));
+    assert!(rt; space.fits(1, 40));
+    assert_eq!(rt; space.held(1), 60);
+    assert_eq!(rt; space.held(0), 0);
+    Ok(())
+}
+
+#[test]
+fn a_region_grows_and_goes(rt: HostRuntime) -> Result<(), Fail> {
+    let mut space = Space::new(rt.alloc(), 1, 100)?;
+    let at = space.take(0, 60)?;
+    space.resize(at, 70)?;
+    assert_eq!(rt; space.taken(0), 70);
+    space.set_limit(50);
+    assert!(rt; !space.fits(0, 1));
+    space.give(at);
+    assert_eq!(rt; space.held(0), 0);
+    assert_eq!(rt; space.taken(0), 70);
+    Ok(())
+}
+
+#[test]
+fn bytes_are_copied(rt: HostRuntime) -> Result<(), Fail> {
+    let mut space = Space::new(rt.alloc(), 1, 2000)?;
+    let at = space.take(0, 8)?;
+    space.write(at, &[7, 9]);
+    let to = Addr {
+        region: at.region,
+        offset: 4,
+    };
+    space.copy(at, to, 2);
+    let mut out = [0; 2];
+    space.read(to, &mut out);
+    assert_eq!(rt; out, [7, 9]);
+    Ok(())
+}

@@ -1,0 +1,66 @@
+-- Lemmas on the classes of chunks.
+use Rattle.std.proofs.Common.{◌≡◌, ℕ, zero, suc, ◌-◌, ◌/◌, ◌%◌, ◌^◌, ◌<◌, ◌≤◌, refl, arith, inl, inr}
+use Rattle.std.proofs.Math.Pow.{pow_mono}
+use Rattle.std.proofs.lemmas.Bool.{cases_lt}
+use Rattle.std.proofs.lemmas.Bool.Decides.{nat_tests}
+use Rattle.alloc_set.specs.Ledger.{class_size, class_bytes, class_up_to, limit_class, chunk_limit}
+
+-- a greater class has greater chunks
+pub class_size-mono : (a b : ℕ) → a ≤ b → class_size a ≤ class_size b
+class_size-mono a b le = let p : 2 ^ a ≤ 2 ^ b = pow_mono le in omega (arith, p)
+
+pub class_size-least : (class : ℕ) → 8 ≤ class_size class
+class_size-least class = omega (arith, class_size-mono 0 class (omega arith))
+
+pub class_size-most : (class : ℕ) → class ≤ 10 → class_size class ≤ 8192
+class_size-most class le = omega (arith, class_size-mono class 10 le)
+
+pub class_size-whole : (class : ℕ) → class_size class % 8 ≡ 0
+class_size-whole class = omega arith
+
+-- the least class that has a size
+pub class_up_to-is : (last size class : ℕ) → class ≤ last → size ≤ class_size class → ((lower : ℕ) → lower < class → class_size lower < size) → class_up_to last size ≡ class
+unfolding class_up_to
+class_up_to-is zero size class le holds lower = omega arith
+class_up_to-is (suc last) size class le holds lower =
+    elim (cases_lt (class_size last) size) [
+      | inl above ↦
+          let differs : class ≡ suc last =
+          elim (cases_lt class (suc last)) [
+            | inl below ↦ absurd (omega (arith, class_size-mono class last (omega arith)))
+            | inr not_below ↦ omega arith
+          ] in
+          grind (arith, nat_tests)
+      | inr fits ↦
+          let le_last : class ≤ last =
+          elim (cases_lt last class) [
+            | inl over ↦ absurd (omega (arith, lower last over))
+            | inr not_over ↦ not_over
+          ] in
+          let same = class_up_to-is last size class le_last holds lower in
+          grind (arith, nat_tests)
+    ]
+
+-- a class whose chunks are too large for the greatest block is passed
+pub limit_class-pass : (class max : ℕ) → 0 < class → (max - 40) / 4 < class_bytes class → limit_class (class - 1) max ≡ limit_class class max
+unfolding limit_class
+limit_class-pass zero max some over = absurd (omega arith)
+limit_class-pass (suc class) max some over =
+    let lower : suc class - 1 ≡ class = omega arith in
+    rw lower (grind (arith, nat_tests))
+
+-- a class that isn't is the limit
+pub limit_class-stop : (class max : ℕ) → (0 < class → class_bytes class ≤ (max - 40) / 4) → limit_class class max ≡ class
+unfolding limit_class
+limit_class-stop zero max fits = refl
+limit_class-stop (suc class) max fits = let h = fits (omega arith) in grind (arith, nat_tests)
+
+-- the limit is one of the classes from which it is sought
+pub limit_class-most : (class max : ℕ) → limit_class class max ≤ class
+unfolding limit_class
+limit_class-most zero max = omega arith
+limit_class-most (suc class) max = let before = limit_class-most class max in grind (arith, nat_tests)
+
+pub chunk_limit-most : (max : ℕ) → chunk_limit max ≤ 8192
+unfolding chunk_limit
+chunk_limit-most max = class_size-most (limit_class 10 max) (limit_class-most 10 max)

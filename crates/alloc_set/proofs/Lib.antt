@@ -1,0 +1,15 @@
+pub mod ClassSizes
+pub mod Settled
+pub mod Carved
+pub mod Shelved
+pub mod KeptCut
+pub mod Added
+pub mod Entries
+pub mod KeptAdded
+pub mod Cuts
+pub mod KeptActive
+pub mod Halving
+pub mod KeptNew
+pub mod Flipped
+pub mod Taken
+pub mod Owned

@@ -1,0 +1,153 @@
+-- Lemmas on where the blocks and chunks of an AllocSet are.
+use Rattle.std.proofs.Common.{◌≡◌, ◌≢◌, ℕ, ◌+◌, ◌-◌, ◌≤◌, ◌⊎◌, List, length, Option, Some, None, option_map, refl, sym, ap, ◌∙◌, arith, inl, inr}
+use Rattle.std.proofs.lemmas.Bool.{cases_eq, cases_lt}
+use Rattle.std.proofs.lemmas.Bool.Decides.{nat_tests}
+use Rattle.addr_space.specs.declared.Addr.{Addr}
+use Rattle.addr_space.specs.Footprint.{IsSound, IsWithin}
+use Rattle.chunk_header.specs.declared.Header.{Header}
+use Rattle.chunk_header.specs.Header.{header_bytes, block_bytes}
+use Rattle.alloc_set.specs.State.{SetState, chunk_at, region_of, start_of, capacity_of, live_size, free_size, header_of, then_option, mark_of, footprint}
+use Rattle.alloc_set.specs.Kept.{IsSettled, IsSized}
+use Rattle.alloc_set.specs.declared.chunk.Chunk.{Chunk}
+use Rattle.alloc_set.specs.declared.chunk.Chunk.TheVariants.{Live, Free, Own}
+
+-- a header has 8 bytes, and so has what is marked of a block's
+pub length-header_bytes : (h : Header) → length (header_bytes h) ≡ 8
+unfolding header_bytes
+length-header_bytes h = refl
+
+pub length-block_bytes : (context size : ℕ) → length (block_bytes context size) ≡ 8
+unfolding block_bytes
+length-block_bytes context size = refl
+
+-- a value that comes of an option
+pub from_then : {X Y : Type 0} (o : Option X) (f : X → Option Y) (y : Y) → then_option o f ≡ Some y → (x : X) × (o ≡ Some x) × (f x ≡ Some y)
+from_then None f y e = absurd (cc)
+from_then (Some x) f y e = (x, refl, e)
+
+pub from_map : {X Y : Type 0} (o : Option X) (f : X → Y) (y : Y) → option_map f o ≡ Some y → (x : X) × (o ≡ Some x) × (f x ≡ y)
+from_map None f y e = absurd (cc)
+from_map (Some x) f y e = (x, refl, cc)
+
+-- a live chunk is within what it may have
+pub live_size-le : (chunk : Chunk) (size : ℕ) → IsSized chunk → live_size chunk ≡ Some size → size ≤ capacity_of chunk
+live_size-le (Live class n) size sized e = let same : n ≡ size = cc in omega (arith, sized.1)
+live_size-le (Free class next) size sized e = absurd (cc)
+live_size-le (Own n room) size sized e = let same : n ≡ size = cc in omega (arith, sized)
+
+pub free_size-is : (chunk : Chunk) (size : ℕ) → free_size chunk ≡ Some size → size ≡ capacity_of chunk
+free_size-is (Live class n) size e = absurd (cc)
+free_size-is (Free class next) size e = sym (cc)
+free_size-is (Own n room) size e = absurd (cc)
+
+-- no chunk is both
+pub live_not_free : (chunk : Chunk) (m n : ℕ) → live_size chunk ≡ Some m → free_size chunk ≡ Some n → ⊥
+live_not_free (Live class size) m n live free = cc
+live_not_free (Free class next) m n live free = cc
+live_not_free (Own size room) m n live free = cc
+
+-- what is marked at a place: the header of a block, or that of a chunk
+pub mark_cases : (s : SetState) (at : Addr) (bytes : List ℕ) → mark_of s at ≡ Some bytes
+    → ((len : ℕ) × (at.offset ≡ start_of s at.region) × (region_of s at.region ≡ Some len) × (block_bytes s.context len ≡ bytes))
+    ⊎ ((chunk : Chunk) × (at.offset ≢ start_of s at.region) × (chunk_at s (record { region = at.region; offset = at.offset + 8 }) ≡ Some chunk) × (header_bytes (header_of chunk (at.offset - start_of s at.region)) ≡ bytes))
+unfolding mark_of
+mark_cases s at bytes marked =
+    elim (cases_eq at.offset (start_of s at.region)) [
+      | inl same ↦
+          let block : option_map (block_bytes s.context) (region_of s at.region) ≡ Some bytes = grind (arith, nat_tests) in
+          let found = from_map (region_of s at.region) (block_bytes s.context) bytes block in
+          inl (found.0, same, found.1, found.2)
+      | inr differs ↦
+          let chunk : option_map (λ chunk. header_bytes (header_of chunk (at.offset - start_of s at.region))) (chunk_at s (record { region = at.region; offset = at.offset + 8 })) ≡ Some bytes = grind (arith, nat_tests) in
+          let found = from_map (chunk_at s (record { region = at.region; offset = at.offset + 8 })) (λ chunk. header_bytes (header_of chunk (at.offset - start_of s at.region))) bytes chunk in
+          inr (found.0, differs, found.1, found.2)
+    ]
+
+-- addresses in one region with different offsets are different, and the other way round
+pub same_addr_from : (a b : Addr) → a.region ≡ b.region → a.offset ≡ b.offset → a ≡ b
+same_addr_from a b region offset =
+    ap (λ r. record { region = r; offset = a.offset }) region ∙ ap (λ o. record { region = b.region; offset = o }) offset
+
+module _ (s : SetState) (active size : ℕ) (settled : IsSettled s active size) where
+  -- chunks at two addresses have a header between them
+  pub chunks_apart : (a b : Addr) (first second : Chunk) → chunk_at s a ≡ Some first → chunk_at s b ≡ Some second → a ≢ b → a.region ≡ b.region → (a.offset + capacity_of first + 8 ≤ b.offset) ⊎ (b.offset + capacity_of second + 8 ≤ a.offset)
+  chunks_apart a b first second at_a at_b differ region =
+      elim (cases_lt a.offset b.offset) [
+        | inl below ↦ inl (settled.apart a b first second at_a at_b region below)
+        | inr above ↦ elim (cases_eq a.offset b.offset) [
+          | inl same ↦ absurd (differ (same_addr_from a b region same))
+          | inr other ↦ inr (settled.apart b a second first at_b at_a (sym region) (omega arith))
+        ]
+      ]
+
+  -- a chunk is apart from every mark
+  pub mark_apart : (a b : Addr) (chunk : Chunk) (bytes : List ℕ) → chunk_at s a ≡ Some chunk → mark_of s b ≡ Some bytes → a.region ≡ b.region → (a.offset + capacity_of chunk ≤ b.offset) ⊎ (b.offset + length bytes ≤ a.offset)
+  mark_apart a b chunk bytes found marked region =
+      let placed = settled.placed a chunk found in
+      elim (mark_cases s b bytes marked) [
+        | inl block ↦
+            let len : length bytes ≡ 8 = ap length (sym block.3) ∙ length-block_bytes s.context block.0 in
+            inr (omega (arith, placed.first, ap (start_of s) region, block.1))
+        | inr other ↦
+            let len : length bytes ≡ 8 = ap length (sym other.3) ∙ length-header_bytes (header_of other.0 (b.offset - start_of s b.region)) in
+            let there = settled.placed (record { region = b.region; offset = b.offset + 8 }) other.0 other.2 in
+            elim (cases_lt a.offset (b.offset + 8)) [
+              | inl below ↦ inl (omega (arith, settled.apart a (record { region = b.region; offset = b.offset + 8 }) chunk other.0 found other.2 region below))
+              | inr above ↦ inr (omega arith)
+            ]
+      ]
+
+  pub mark_within : (at : Addr) (bytes : List ℕ) → mark_of s at ≡ Some bytes → IsWithin (footprint s) at (length bytes)
+  mark_within at bytes marked =
+      elim (mark_cases s at bytes marked) [
+        | inl block ↦
+            let len : length bytes ≡ 8 = ap length (sym block.3) ∙ length-block_bytes s.context block.0 in
+            (block.0, block.2, omega (arith, block.1, (settled.small at.region block.0 block.2).1))
+        | inr other ↦
+            let len : length bytes ≡ 8 = ap length (sym other.3) ∙ length-header_bytes (header_of other.0 (at.offset - start_of s at.region)) in
+            let there = settled.placed (record { region = at.region; offset = at.offset + 8 }) other.0 other.2 in
+            (there.len, there.owned, omega (arith, there.last))
+      ]
+
+  -- the footprint is sound
+  pub IsSound-settled : IsSound (footprint s)
+  IsSound-settled = record {
+    live_inside = λ at n live.
+        let it = from_then (chunk_at s at) live_size n live in
+        let placed = settled.placed at it.0 it.1 in
+        (placed.len, placed.owned, omega (arith, placed.last, live_size-le it.0 n placed.sized it.2));
+    free_inside = λ at n free.
+        let it = from_then (chunk_at s at) free_size n free in
+        let placed = settled.placed at it.0 it.1 in
+        (placed.len, placed.owned, omega (arith, placed.last, free_size-is it.0 n it.2));
+    mark_inside = mark_within;
+    live_apart = λ a b m n live_a live_b differ region.
+        let first = from_then (chunk_at s a) live_size m live_a in
+        let second = from_then (chunk_at s b) live_size n live_b in
+        let le_first = live_size-le first.0 m (settled.placed a first.0 first.1).sized first.2 in
+        let le_second = live_size-le second.0 n (settled.placed b second.0 second.1).sized second.2 in
+        elim (chunks_apart a b first.0 second.0 first.1 second.1 differ region) [
+          | inl below ↦ inl (omega arith)
+          | inr above ↦ inr (omega arith)
+        ];
+    free_apart = λ a b m n live free region.
+        let first = from_then (chunk_at s a) live_size m live in
+        let second = from_then (chunk_at s b) free_size n free in
+        let le_first = live_size-le first.0 m (settled.placed a first.0 first.1).sized first.2 in
+        let is_second = free_size-is second.0 n second.2 in
+        let differ : a ≢ b = λ e.
+        let one : Some first.0 ≡ Some second.0 = sym first.1 ∙ ap (chunk_at s) e ∙ second.1 in
+        let it : first.0 ≡ second.0 = cc in
+        live_not_free second.0 m n (ap live_size (sym it) ∙ first.2) second.2 in
+        elim (chunks_apart a b first.0 second.0 first.1 second.1 differ region) [
+          | inl below ↦ inl (omega arith)
+          | inr above ↦ inr (omega arith)
+        ];
+    mark_apart = λ a b m bytes live marked region.
+        let first = from_then (chunk_at s a) live_size m live in
+        let le_first = live_size-le first.0 m (settled.placed a first.0 first.1).sized first.2 in
+        elim (mark_apart a b first.0 bytes first.1 marked region) [
+          | inl below ↦ inl (omega arith)
+          | inr above ↦ inr (omega arith)
+        ];
+  }

@@ -1,0 +1,181 @@
+-- Lemmas on the free chunks of each class.
+use Rattle.std.proofs.Common.{◌≡◌, ◌≢◌, ℕ, zero, suc, ◌+◌, ◌^◌, ◌<◌, ◌≤◌, List, [], ◌∷◌, length, Option, Some, None, refl, sym, ap, ◌∙◌, subst, arith, inl, inr, sum_by, set}
+use Rattle.std.proofs.lemmas.Bool.{cases_eq}
+use Rattle.std.proofs.lemmas.Bool.Decides.{nat_tests}
+use Rattle.std.proofs.lemmas.List.{length-set, get_or-set_same, get_or-set_other}
+use Rattle.std.proofs.lemmas.List.Sums.{sum_by-cons}
+use Rattle.std.specs.Map.{values_of, lookup}
+use Rattle.addr_space.specs.declared.Addr.{Addr}
+use Rattle.alloc_set.specs.State.{SetState, chunk_at, same_addr}
+use Rattle.alloc_set.specs.Kept.{IsChain, IsShelved, is_free, shelf_at, no_shelf}
+use Rattle.alloc_set.specs.Steps.{PutsChunk}
+use Rattle.alloc_set.specs.declared.chunk.Chunk.{Chunk}
+use Rattle.alloc_set.specs.declared.chunk.Chunk.TheVariants.{Live, Free, Own}
+use Rattle.alloc_set.specs.declared.chunk.Shelf.{Shelf}
+use Rattle.alloc_set.proofs.Carved.{put_cases}
+
+-- a chain stays while its chunks do
+pub IsChain-kept : (c d : Addr → Option Chunk) (class : ℕ) → ((at : Addr) (next : Option Addr) → c at ≡ Some (Free class next) → d at ≡ Some (Free class next)) → (count : ℕ) (first : Option Addr) → IsChain c class count first → IsChain d class count first
+IsChain-kept c d class kept zero first chain = chain
+IsChain-kept c d class kept (suc count) first chain =
+    (chain.0, chain.1, chain.2, kept chain.0 chain.1 chain.3, IsChain-kept c d class kept count chain.1 chain.4)
+
+-- from one chunk on there is one number of chunks
+pub IsChain-unique : (c : Addr → Option Chunk) (class : ℕ) (m n : ℕ) (first : Option Addr) → IsChain c class m first → IsChain c class n first → m ≡ n
+IsChain-unique c class zero zero first one two = refl
+IsChain-unique c class zero (suc n) first one two = let clash = sym one ∙ two.2 in absurd (cc)
+IsChain-unique c class (suc m) zero first one two = let clash = sym two ∙ one.2 in absurd (cc)
+IsChain-unique c class (suc m) (suc n) first one two =
+    let at : Some one.0 ≡ Some two.0 = sym one.2 ∙ two.2 in
+    let same : one.0 ≡ two.0 = cc in
+    let chunk : Some (Free class one.1) ≡ Some (Free class two.1) = sym one.3 ∙ ap c same ∙ two.3 in
+    let next : one.1 ≡ two.1 = cc in
+    ap suc (IsChain-unique c class m n one.1 one.4 (subst (IsChain c class n) (sym next) two.4))
+
+-- a chain that is shorter than the one from a chunk on doesn't have that chunk
+pub IsChain-without : (c d : Addr → Option Chunk) (class : ℕ) (at : Addr) (whole : ℕ) → IsChain c class whole (Some at) → ((other : Addr) → other ≢ at → d other ≡ c other) → (count : ℕ) (first : Option Addr) → count < whole → IsChain c class count first → IsChain d class count first
+IsChain-without c d class at whole from others zero first below chain = chain
+IsChain-without c d class at whole from others (suc count) first below chain =
+    let differs : chain.0 ≢ at = λ e.
+    let here : IsChain c class (suc count) (Some at) = subst (IsChain c class (suc count)) (chain.2 ∙ ap Some e) chain in
+    absurd (omega (arith, below, IsChain-unique c class (suc count) whole (Some at) here from)) in
+    (chain.0, chain.1, chain.2, others chain.0 differs ∙ chain.3, IsChain-without c d class at whole from others count chain.1 (omega arith) chain.4)
+
+-- a chunk is free of no class
+abbrev pub IsTaken : Option Chunk → Type 0
+IsTaken slot = (class : ℕ) (next : Option Addr) → slot ≢ Some (Free class next)
+
+-- a number of free chunks is at most that of all
+pub is_free-le : (class : ℕ) (chunk : Chunk) → is_free class chunk ≤ 1
+is_free-le class (Live other size) = omega arith
+is_free-le class (Free other next) = grind (arith, nat_tests)
+is_free-le class (Own size room) = omega arith
+
+pub sum_by-le-length : {X : Type 0} (f : X → ℕ) → ((x : X) → f x ≤ 1) → (xs : List X) → sum_by f xs ≤ length xs
+sum_by-le-length f one [] = omega arith
+sum_by-le-length f one (x ∷ xs) = omega (arith, sum_by-cons f x xs, one x, sum_by-le-length f one xs)
+
+pub is_free-same : (class : ℕ) (next : Option Addr) → is_free class (Free class next) ≡ 1
+is_free-same class next = grind (arith, nat_tests)
+
+pub is_free-other : (class other : ℕ) (next : Option Addr) → class ≢ other → is_free class (Free other next) ≡ 0
+is_free-other class other next differs = grind (arith, nat_tests)
+
+module _ (s t : SetState) (shelves : List Shelf) (at : Addr) (slot : Option Chunk) (shelved : IsShelved s shelves) (puts : PutsChunk s t at slot) (few : length t.chunks ≤ 2 ^ 40) where
+  -- a chunk that is free neither before nor after changes no shelf
+  pub IsShelved-taken : IsTaken (chunk_at s at) → ((class : ℕ) → class < 11 → sum_by (is_free class) (values_of t.chunks) ≡ sum_by (is_free class) (values_of s.chunks)) → IsShelved t shelves
+  IsShelved-taken taken sums = record {
+    eleven = shelved.eleven;
+    chain = λ class below. IsChain-kept (chunk_at s) (chunk_at t) class
+        (λ other next free. elim (put_cases s t at slot puts other) [
+          | inl here ↦ absurd (taken class next (sym (ap (chunk_at s) here.0) ∙ free))
+          | inr there ↦ there.1 ∙ free
+        ]) (shelf_at shelves class).count (shelf_at shelves class).first (shelved.chain class below);
+    counted = λ class below. shelved.counted class below ∙ sym (sums class below);
+    few = few;
+  }
+
+  -- a chunk that becomes free is the first of its shelf
+  pub IsShelved-freed : (class : ℕ) → class < 11 → IsTaken (chunk_at s at) → slot ≡ Some (Free class (shelf_at shelves class).first)
+      → ((k : ℕ) → k < 11 → sum_by (is_free k) (values_of t.chunks) ≡ sum_by (is_free k) (values_of s.chunks) + is_free k (Free class (shelf_at shelves class).first))
+      → IsShelved t (set shelves class (record { first = Some at; count = (shelf_at shelves class).count + 1 }))
+  IsShelved-freed class below taken is sums =
+      let new : Shelf = record { first = Some at; count = (shelf_at shelves class).count + 1 } in
+      let within : class < length shelves = omega (arith, shelved.eleven) in
+      let here : shelf_at (set shelves class new) class ≡ new = get_or-set_same shelves class new no_shelf within in
+      let kept : (k : ℕ) (count : ℕ) (first : Option Addr) → IsChain (chunk_at s) k count first → IsChain (chunk_at t) k count first =
+      λ k. IsChain-kept (chunk_at s) (chunk_at t) k (λ other next free. elim (put_cases s t at slot puts other) [
+        | inl same ↦ absurd (taken k next (sym (ap (chunk_at s) same.0) ∙ free))
+        | inr there ↦ there.1 ∙ free
+      ]) in
+      record {
+        eleven = length-set shelves class new ∙ shelved.eleven;
+        chain = λ k under. elim (cases_eq k class) [
+          | inl same ↦
+              let old = kept class (shelf_at shelves class).count (shelf_at shelves class).first (shelved.chain class below) in
+              let found : chunk_at t at ≡ Some (Free class (shelf_at shelves class).first) = elim (put_cases s t at slot puts at) [ inl it ↦ it.1 ∙ is | inr other ↦ absurd (other.0 refl) ] in
+              let whole : IsChain (chunk_at t) class (suc (shelf_at shelves class).count) (Some at) = (at, (shelf_at shelves class).first, refl, found, old) in
+              let count : suc (shelf_at shelves class).count ≡ (shelf_at shelves class).count + 1 = omega arith in
+              let there : IsChain (chunk_at t) class (shelf_at (set shelves class new) class).count (shelf_at (set shelves class new) class).first = rw (here, ← count) whole in
+              subst (λ j. IsChain (chunk_at t) j (shelf_at (set shelves class new) j).count (shelf_at (set shelves class new) j).first) (sym same) there
+          | inr differs ↦
+              rw (get_or-set_other shelves class k new no_shelf differs) (kept k (shelf_at shelves k).count (shelf_at shelves k).first (shelved.chain k under))
+        ];
+        counted = λ k under. elim (cases_eq k class) [
+          | inl same ↦
+              let count : (shelf_at (set shelves class new) class).count ≡ (shelf_at shelves class).count + 1 = ap (λ (x : Shelf). x.count) here in
+              subst (λ j. (shelf_at (set shelves class new) j).count ≡ sum_by (is_free j) (values_of t.chunks)) (sym same)
+              (omega (arith, count, shelved.counted class below, sums class below, is_free-same class (shelf_at shelves class).first))
+          | inr differs ↦
+              let count : (shelf_at (set shelves class new) k).count ≡ (shelf_at shelves k).count = ap (λ (x : Shelf). x.count) (get_or-set_other shelves class k new no_shelf differs) in
+              omega (arith, count, shelved.counted k under, sums k under, is_free-other k class (shelf_at shelves class).first differs)
+        ];
+        few = few;
+      }
+
+  -- the first chunk of a shelf is taken off it
+  pub IsShelved-popped : (class : ℕ) (next : Option Addr) (count : ℕ) → class < 11 → (shelf_at shelves class).first ≡ Some at → chunk_at s at ≡ Some (Free class next) → (shelf_at shelves class).count ≡ suc count
+      → ((k : ℕ) → k < 11 → sum_by (is_free k) (values_of t.chunks) + is_free k (Free class next) ≡ sum_by (is_free k) (values_of s.chunks))
+      → IsShelved t (set shelves class (record { first = next; count = count }))
+  IsShelved-popped class next count below first was number sums =
+      let new : Shelf = record { first = next; count = count } in
+      let within : class < length shelves = omega (arith, shelved.eleven) in
+      let here : shelf_at (set shelves class new) class ≡ new = get_or-set_same shelves class new no_shelf within in
+      let chain : IsChain (chunk_at s) class (suc count) (Some at) = subst (IsChain (chunk_at s) class (suc count)) first (subst (λ n. IsChain (chunk_at s) class n (shelf_at shelves class).first) number (shelved.chain class below)) in
+      let head_is : Some at ≡ Some chain.0 = chain.2 in
+      let head : chain.0 ≡ at = cc in
+      let one : Some (Free class chain.1) ≡ Some (Free class next) = sym chain.3 ∙ ap (chunk_at s) head ∙ was in
+      let rest : chain.1 ≡ next = cc in
+      let others : (other : Addr) → other ≢ at → chunk_at t other ≡ chunk_at s other = λ other differs. elim (put_cases s t at slot puts other) [
+        | inl same ↦ absurd (differs same.0)
+        | inr there ↦ there.1
+      ] in
+      record {
+        eleven = length-set shelves class new ∙ shelved.eleven;
+        chain = λ k under. elim (cases_eq k class) [
+          | inl same ↦
+              let old : IsChain (chunk_at s) class count next = subst (IsChain (chunk_at s) class count) rest chain.4 in
+              let whole : IsChain (chunk_at t) class count next = IsChain-without (chunk_at s) (chunk_at t) class at (suc count) chain others count next (omega arith) old in
+              let there : IsChain (chunk_at t) class (shelf_at (set shelves class new) class).count (shelf_at (set shelves class new) class).first = rw here whole in
+              subst (λ j. IsChain (chunk_at t) j (shelf_at (set shelves class new) j).count (shelf_at (set shelves class new) j).first) (sym same) there
+          | inr differs ↦
+              rw (get_or-set_other shelves class k new no_shelf differs) (IsChain-kept (chunk_at s) (chunk_at t) k (λ other after free. elim (put_cases s t at slot puts other) [
+                | inl same ↦
+                    let clash : Some (Free k after) ≡ Some (Free class next) = sym free ∙ ap (chunk_at s) same.0 ∙ was in
+                    let classes : k ≡ class = cc in
+                    absurd (differs classes)
+                | inr there ↦ there.1 ∙ free
+              ]) (shelf_at shelves k).count (shelf_at shelves k).first (shelved.chain k under))
+        ];
+        counted = λ k under. elim (cases_eq k class) [
+          | inl same ↦
+              let now : (shelf_at (set shelves class new) class).count ≡ count = ap (λ (x : Shelf). x.count) here in
+              subst (λ j. (shelf_at (set shelves class new) j).count ≡ sum_by (is_free j) (values_of t.chunks)) (sym same)
+              (omega (arith, now, number, shelved.counted class below, sums class below, is_free-same class next))
+          | inr differs ↦
+              let now : (shelf_at (set shelves class new) k).count ≡ (shelf_at shelves k).count = ap (λ (x : Shelf). x.count) (get_or-set_other shelves class k new no_shelf differs) in
+              omega (arith, now, shelved.counted k under, sums k under, is_free-other k class next differs)
+        ];
+        few = few;
+      }
+
+-- the shelves stay while the chunks do
+pub IsShelved-same : (s t : SetState) (shelves : List Shelf) → t.chunks ≡ s.chunks → IsShelved s shelves → IsShelved t shelves
+IsShelved-same s t shelves same shelved = record {
+  eleven = shelved.eleven;
+  chain = λ class below. subst (λ cs. IsChain (λ at. lookup (same_addr at) cs) class (shelf_at shelves class).count (shelf_at shelves class).first) (sym same) (shelved.chain class below);
+  counted = λ class below. shelved.counted class below ∙ ap (λ cs. sum_by (is_free class) (values_of cs)) (sym same);
+  few = omega (arith, shelved.few, ap length same);
+}
+
+-- a shelf with a first chunk has a free one there, and one without has none
+pub chain_head : (c : Addr → Option Chunk) (class count : ℕ) (first : Option Addr) (at : Addr) → IsChain c class count first → first ≡ Some at → (next : Option Addr) × (rest : ℕ) × (c at ≡ Some (Free class next)) × (count ≡ suc rest)
+chain_head c class zero first at chain is = let clash = sym chain ∙ is in absurd (cc)
+chain_head c class (suc count) first at chain is =
+    let one : Some chain.0 ≡ Some at = sym chain.2 ∙ is in
+    let same : chain.0 ≡ at = cc in
+    (chain.1, count, ap c (sym same) ∙ chain.3, refl)
+
+pub chain_empty : (c : Addr → Option Chunk) (class count : ℕ) (first : Option Addr) → IsChain c class count first → first ≡ None → count ≡ 0
+chain_empty c class zero first chain none = refl
+chain_empty c class (suc count) first chain none = let clash = sym none ∙ chain.2 in absurd (cc)

@@ -1,0 +1,21 @@
+use Rattle.std.proofs.Common.{◌≡◌, ◌-◌, ◌<◌, ◌≤◌}
+use Rattle.addr_space.specs.Footprint.{Moves, Keeps}
+use Rattle.alloc_set.specs.Ledger.{class_bytes, cut_rest, cut_up}
+use Rattle.alloc_set.specs.State.{footprint}
+use Rattle.alloc_set.specs.Kept.{state_of}
+use Rattle.alloc_set.specs.Cut.{CutsUp}
+use Rattle.alloc_set.proofs.books.Books.cut_up.Given as goal
+
+abbrev pub invariant-loop-class : goal.invariant-loop-class
+invariant-loop-class l = record {
+  last : l.class ≤ 11;
+  cut : CutsUp l.initial.self l.self l.initial.self.active.room (11 - l.class);
+  little : l.self.active.room < class_bytes l.class;
+  room : cut_rest l.class l.self.active.room ≡ cut_rest 11 l.initial.self.active.room;
+  free : cut_up l.class l.self.active.room (state_of l.self).ledger.free ≡ cut_up 11 l.initial.self.active.room (state_of l.initial.self).ledger.free;
+  moves : Moves (footprint (state_of l.initial.self)) (footprint (state_of l.self)) l.initial.space l.space;
+  keeps : Keeps (footprint (state_of l.initial.self)) (footprint (state_of l.self)) l.initial.space l.space;
+}
+
+abbrev pub decreases-loop-class : goal.decreases-loop-class
+decreases-loop-class l = l.class

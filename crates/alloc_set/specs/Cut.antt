@@ -1,0 +1,49 @@
+-- What is left once the rest of a block was cut up.
+use Rattle.std.specs.Prelude.{◌≡◌, ◌≢◌, ℕ, ◌+◌, ◌-◌, ◌<◌, ◌≤◌, ◌^◌, length, Some, None, Result, Ok}
+use Rattle.addr_space.specs.Footprint.{Moves, Keeps}
+use Rattle.chunk_header.specs.declared.CtxError.{CtxError}
+use Rattle.addr_space.specs.Space.{Space, held}
+use Rattle.alloc_set.specs.Ledger.{SetLedger, block_size, renewed, class_bytes}
+use Rattle.indexmap.specs.IndexMap.{spare}
+use Rattle.addr_space.specs.declared.Addr.{Addr}
+use Rattle.alloc_set.specs.State.{chunk_at, footprint}
+use Rattle.alloc_set.specs.Kept.{state_of, IsKept}
+use Rattle.alloc_set.specs.Live.{SameLive, PutsLive}
+use Rattle.alloc_set.specs.declared.books.Books.{Books}
+
+-- free chunks of the active block were made, of so many classes at most
+pub record CutsUp (b n : Books) (room classes : ℕ) : Type 0 where
+  pub kept : IsKept n
+  pub ledger : (state_of n).ledger ≡ record (state_of b).ledger { room = n.active.room; free = (state_of n).ledger.free }
+  pub account : n.account ≡ b.account
+  pub context : n.context ≡ b.context
+  pub limit : n.limit ≡ b.limit
+  pub keeper : n.keeper ≡ b.keeper
+  pub blocks : n.blocks ≡ b.blocks
+  pub active : n.active ≡ record b.active { room = n.active.room }
+  pub less : n.active.room ≤ b.active.room
+  pub spare : spare b.chunks ≤ spare n.chunks + classes
+  pub len : length n.chunks.entries ≤ length b.chunks.entries + classes
+  pub others : (at : Addr) → at.region ≢ b.active.region → chunk_at (state_of n) at ≡ chunk_at (state_of b) at
+  pub live : SameLive (state_of b) (state_of n)
+
+-- a new block is active, with room for a chunk of a class
+pub record Renews (b n : Books) (s : Space) (class : ℕ) : Type 0 where
+  pub size : ℕ
+  pub had : block_size (state_of b).ledger (s.limit - held s b.account) class ≡ Some size
+  pub kept : IsKept n
+  pub ledger : (state_of n).ledger ≡ renewed (state_of b).ledger size
+  pub room : class_bytes class ≤ n.active.room
+  pub limit : n.limit ≡ b.limit
+  pub spare : 0 < spare n.chunks
+  pub len : length n.chunks.entries < 2 ^ 40
+  pub live : SameLive (state_of b) (state_of n)
+
+-- a live chunk of this size is there now, where the ledger's step answers so
+pub record Allocates (b n : Books) (s t : Space) (size : ℕ) (at : Addr) (step : Result SetLedger CtxError) : Type 0 where
+  pub kept : IsKept n
+  pub ledger : step ≡ Ok (state_of n).ledger
+  pub fresh : (footprint (state_of b)).live at ≡ None
+  pub live : PutsLive (state_of b) (state_of n) at (Some size)
+  pub moves : Moves (footprint (state_of b)) (footprint (state_of n)) s t
+  pub keeps : Keeps (footprint (state_of b)) (footprint (state_of n)) s t

@@ -1,0 +1,84 @@
+-- What contracts see of an AllocSet: its ledger, and where its blocks and chunks are.
+use Rattle.std.specs.Prelude.{ℕ, ◌+◌, ◌-◌, ◌==◌, ◌&&◌, Bool, true, false, List, Option, Some, None, option_map, if◌then◌else◌}
+use Rattle.std.specs.Map.{lookup}
+use Rattle.addr_space.specs.declared.Addr.{Addr}
+use Rattle.addr_space.specs.Footprint.{Footprint}
+use Rattle.chunk_header.specs.declared.Header.{Header}
+use Rattle.chunk_header.specs.declared.Kind.TheVariants.{AllocSet as SetKind}
+use Rattle.chunk_header.specs.Header.{header_bytes, block_bytes}
+use Rattle.alloc_set.specs.Ledger.{SetLedger, class_size}
+use Rattle.alloc_set.specs.declared.chunk.Chunk.{Chunk}
+use Rattle.alloc_set.specs.declared.chunk.Chunk.TheVariants.{Live, Free, Own}
+
+-- the ledger; the account and the number that it was created with; the region of the keeper; the size of each
+-- other region, by its number; and what stands at each address where a chunk was cut
+pub record SetState : Type 0 where
+  pub ledger : SetLedger
+  pub account : ℕ
+  pub context : ℕ
+  pub keeper : ℕ
+  pub blocks : List (ℕ × ℕ)
+  pub chunks : List (Addr × Chunk)
+
+-- whether two addresses are one
+abbrev pub same_addr : Addr → Addr → Bool
+same_addr a b = (a.region == b.region) && (a.offset == b.offset)
+
+-- the chunk at an address
+abbrev pub chunk_at : SetState → Addr → Option Chunk
+chunk_at s at = lookup (same_addr at) s.chunks
+
+-- the length of a region of the context
+abbrev pub region_of : SetState → ℕ → Option ℕ
+region_of s number = if s.keeper == number then Some s.ledger.init else lookup (λ n. number == n) s.blocks
+
+-- how many bytes of a region stand before the header of its block
+abbrev pub start_of : SetState → ℕ → ℕ
+start_of s number = if s.keeper == number then 200 else 0
+
+-- the bytes that a chunk may have
+abbrev pub capacity_of : Chunk → ℕ
+capacity_of (Live class size) = class_size class
+capacity_of (Free class next) = class_size class
+capacity_of (Own size room) = room
+
+-- the size of a live chunk, and of a free one
+abbrev pub live_size : Chunk → Option ℕ
+live_size (Live class size) = Some size
+live_size (Free class next) = None
+live_size (Own size room) = Some size
+
+abbrev pub free_size : Chunk → Option ℕ
+free_size (Live class size) = None
+free_size (Free class next) = Some (class_size class)
+free_size (Own size room) = None
+
+-- the header of a chunk, so far from the header of its block
+abbrev pub header_of : Chunk → ℕ → Header
+header_of (Live class size) dist = record { kind = SetKind; own = false; value = class; dist = dist }
+header_of (Free class next) dist = record { kind = SetKind; own = false; value = class; dist = dist }
+header_of (Own size room) dist = record { kind = SetKind; own = true; value = 0; dist = dist }
+
+-- a fact of an option's value
+abbrev pub then_option : {X Y : Type 0} → Option X → (X → Option Y) → Option Y
+then_option None f = None
+then_option (Some x) f = f x
+
+-- the marks: a block's header begins with the context's number and the block's size, and a chunk's header
+-- stands before it
+unfoldable pub mark_of : SetState → Addr → Option (List ℕ)
+mark_of s at =
+    if at.offset == start_of s at.region then option_map (block_bytes s.context) (region_of s at.region)
+    else option_map (λ chunk. header_bytes (header_of chunk (at.offset - start_of s at.region))) (chunk_at s (record { region = at.region; offset = at.offset + 8 }))
+
+-- what the context has in a space
+abbrev pub footprint : SetState → Footprint
+footprint s = record {
+  account = s.account;
+  context = s.context;
+  total = s.ledger.total;
+  region = region_of s;
+  mark = mark_of s;
+  live = λ at. then_option (chunk_at s at) live_size;
+  free = λ at. then_option (chunk_at s at) free_size;
+}

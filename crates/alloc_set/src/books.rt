@@ -1,0 +1,552 @@
+//! The books of an AllocSet: its blocks, chunks and numbers.
+ghost use Rattle.std.specs.Prelude.{◌≡◌, ◌≢◌, ℕ, ◌+◌, ◌-◌, ◌*◌, ◌%◌, ◌^◌, ◌<◌, ◌≤◌, ◌↔◌, Ok, Err, Some, None, IfOk, IfErr, OnOk, OnErr, cond, option_map, unwrap_or, sum_by, if◌then◌else◌, length, is_some, sum, ◌==◌, ◌⊎◌, min, IfSome, IfNone, OnSome, slice_index, Option};
+ghost use Rattle.std.specs.Map.{values_of, lookup};
+ghost use Rattle.indexmap.specs.IndexMap.{spare};
+ghost use Rattle.addr_space.specs.declared.Addr.{Addr};
+ghost use Rattle.alloc_set.specs.declared.chunk.Chunk.{Chunk};
+ghost use Rattle.addr_space.specs.Footprint.{Agrees, Moves, Keeps, nothing};
+ghost use Rattle.alloc_set.specs.Ledger.{class_bytes, class_size, cut_off, with_free, stats, with_own, cut_rest, cut_up, halved, block_size, reused, created, take_class, class_of, take_own, own_size, take};
+ghost use Rattle.chunk_header.specs.Growth.{grown};
+ghost use Rattle.alloc_set.specs.State.{same_addr, start_of, chunk_at, region_of, mark_of, footprint};
+ghost use Rattle.addr_space.specs.Space.{Space, held, accounts};
+
+use crate::chunk::{Chunk, Shelf};
+use crate::classes::{chunk_limit, class_of, class_size};
+use addr_space::{Addr, Space, SpaceError};
+use chunk_header::{CtxError, Header, Kind, Sizes, Stats, block_header, grown, up8};
+use indexmap::IndexMap;
+use std::alloc::Global;
+
+/// The block that chunks are cut off.
+#[derive(Clone, Copy)]
+pub struct Block {
+    pub region: u32,
+    pub size: u32,
+    pub room: u32,
+}
+
+/// All that an AllocSet keeps.
+#[derive(Drop)]
+pub struct Books {
+    pub account: u8,
+    pub context: u32,
+    pub sizes: Sizes,
+    // The greatest request that a class serves.
+    pub limit: u32,
+    // The size of the next block.
+    pub next: u32,
+    // The region of the first block.
+    pub keeper: u32,
+    pub active: Block,
+    // The size of each other region.
+    pub blocks: IndexMap<u32, u32>,
+    pub chunks: IndexMap<Addr, Chunk>,
+    pub shelves: [Shelf; 11],
+    // The bytes of all blocks, and how many they are.
+    pub total: u64,
+    pub count: u64,
+    // The rooms of the blocks that are not active.
+    pub idle: u64,
+}
+
+// Notes what stands at an address where room was made, or where a chunk stands already.
+pub fn put(chunks: &mut IndexMap<Addr, Chunk>, at: Addr, chunk: Chunk)
+    requires { (lookup (same_addr at) chunks.old.entries ≡ None) → 0 < spare chunks.old }
+    ensures at { (other : Addr) → lookup (same_addr other) chunks.new.entries ≡ (if same_addr at other then Some chunk else lookup (same_addr other) chunks.old.entries) }
+    ensures sums { (f : Chunk → ℕ) → sum_by f (values_of chunks.new.entries) + unwrap_or (option_map f (lookup (same_addr at) chunks.old.entries)) 0 ≡ sum_by f (values_of chunks.old.entries) + f chunk }
+    ensures len { length chunks.new.entries ≡ length chunks.old.entries + (if is_some (lookup (same_addr at) chunks.old.entries) then 0 else 1) }
+    ensures spare { spare chunks.old ≤ spare chunks.new + 1 }
+{
+    match chunks.insert(at, chunk) {
+        Ok(_) => {}
+        Err(_) => unreachable!(),
+    }
+}
+
+// Notes the size of a new block, for which room was made.
+fn note(blocks: &mut IndexMap<u32, u32>, number: u32, size: u32)
+    requires spare { 0 < spare blocks.old }
+    requires new { lookup (λ n. number == n) blocks.old.entries ≡ None }
+    ensures at { (other : ℕ) → lookup (λ n. other == n) blocks.new.entries ≡ (if number == other then Some size else lookup (λ n. other == n) blocks.old.entries) }
+    ensures sum { sum (values_of blocks.new.entries) ≡ sum (values_of blocks.old.entries) + size }
+{
+    match blocks.insert(number, size) {
+        Ok(_) => {}
+        Err(_) => unreachable!(),
+    }
+}
+
+// The greatest size of a request.
+const LARGEST: u64 = 1_073_741_823;
+
+// The greatest total with which a context takes one more block, in bytes.
+const MOST: u64 = 1 << 61;
+
+// The size from which a block that doesn't fit is halved.
+const LARGE: u32 = 1_048_576;
+
+// The greatest number of chunks with which a context cuts off more.
+const MOST_CHUNKS: usize = 1 << 39;
+
+impl Books {
+    ghost use Rattle.alloc_set.specs.Kept.{state_of, IsSettled, IsShelved, IsCounted, IsKept};
+    ghost use Rattle.alloc_set.specs.Steps.{IsOfClass, Carves};
+    ghost use Rattle.alloc_set.specs.Live.{PutsLive, SameLive};
+    ghost use Rattle.alloc_set.specs.Cut.{CutsUp, Renews, Allocates};
+
+    // The books of a new context, whose keeper was taken.
+    pub fn create(
+        alloc: Global,
+        space: &mut Space,
+        account: u8,
+        context: u32,
+        sizes: Sizes,
+    ) -> Result<Books, CtxError>
+        requires account { account < accounts space.old }
+        requires least { 1024 ≤ sizes.init }
+        requires order { sizes.init ≤ sizes.max }
+        requires most { sizes.max ≤ 8388608 }
+        requires whole_init { sizes.init % 8 ≡ 0 }
+        requires whole_max { sizes.max % 8 ≡ 0 }
+        ensures kept { IfOk result (λ b. IsKept b) }
+        ensures ledger { IfOk result (λ b. (state_of b).ledger ≡ created sizes.init sizes.max) }
+        ensures account { IfOk result (λ b. b.account ≡ account) }
+        ensures context { IfOk result (λ b. b.context ≡ context) }
+        ensures live { IfOk result (λ b. (at : Addr) → (footprint (state_of b)).live at ≡ None) }
+        ensures moves { IfOk result (λ b. Moves (nothing account context) (footprint (state_of b)) space.old space.new) }
+        ensures no_space { (result ≡ Err CtxError.NoSpace) ↔ (space.old.limit < held space.old account + sizes.init) }
+        ensures no_other { IfErr result (λ e. (e ≡ CtxError.NoSpace) ⊎ (e ≡ CtxError.Memory)) }
+        ensures err { OnErr result (space.new ≡ space.old) }
+    {
+        let at = match space.take(account, sizes.init) {
+            Ok(at) => at,
+            Err(SpaceError::NoSpace) => return Err(CtxError::NoSpace),
+            Err(SpaceError::Memory) => return Err(CtxError::Memory),
+        };
+        space.write(
+            Addr {
+                region: at.region,
+                offset: 200,
+            },
+            &block_header(context, sizes.init),
+        );
+        Ok(Books {
+            account,
+            context,
+            sizes,
+            limit: chunk_limit(sizes.max),
+            next: sizes.init,
+            keeper: at.region,
+            active: Block {
+                region: at.region,
+                size: sizes.init,
+                room: sizes.init - 240,
+            },
+            blocks: IndexMap::new(alloc),
+            chunks: IndexMap::new(alloc),
+            shelves: [Shelf {
+                first: None,
+                count: 0,
+            }; 11],
+            total: u64::from(sizes.init),
+            count: 1,
+            idle: 0,
+        })
+    }
+
+    // How many bytes of a region stand before the header of its block.
+    fn start(&self, region: u32) -> u32
+        ensures { result ≡ start_of (state_of self.now) region }
+    {
+        if self.keeper == region { 200 } else { 0 }
+    }
+
+    // Cuts a chunk of a class off the active block.
+    fn carve(&mut self, space: &mut Space, class: u8, chunk: Chunk) -> Addr
+        requires settled { IsSettled (state_of self.old) self.old.active.region self.old.active.size }
+        requires filled { (self.old.active.size - self.old.active.room) % 8 ≡ 0 }
+        requires agrees { Agrees (footprint (state_of self.old)) space.old }
+        requires room { class_bytes class ≤ self.old.active.room }
+        requires of_class { IsOfClass class chunk }
+        requires spare { 0 < spare self.old.chunks }
+        ensures carves { Carves (state_of self.old) (state_of self.new) self.old.active.region self.old.active.size class result chunk }
+        ensures rest { self.new ≡ record self.old { chunks = self.new.chunks; active = self.new.active } }
+        ensures active { self.new.active ≡ record self.old.active { room = self.new.active.room } }
+        ensures sums { (f : Chunk → ℕ) → sum_by f (values_of self.new.chunks.entries) ≡ sum_by f (values_of self.old.chunks.entries) + f chunk }
+        ensures len { length self.new.chunks.entries ≡ length self.old.chunks.entries + 1 }
+        ensures spare { spare self.old.chunks ≤ spare self.new.chunks + 1 }
+        ensures moves { Moves (footprint (state_of self.old)) (footprint (state_of self.new)) space.old space.new }
+        ensures keeps { Keeps (footprint (state_of self.old)) (footprint (state_of self.new)) space.old space.new }
+    {
+        let region = self.active.region;
+        let offset = self.active.size - self.active.room;
+        let header = Header {
+            kind: Kind::AllocSet,
+            own: false,
+            value: u32::from(class),
+            dist: offset - self.start(region),
+        };
+        space.write(Addr { region, offset }, &header.bytes());
+        let at = Addr {
+            region,
+            offset: offset + 8,
+        };
+        put(&mut self.chunks, at, chunk);
+        self.active.room -= class_size(class) + 8;
+        at
+    }
+
+    // Cuts a live chunk of a class off the active block.
+    pub fn cut(&mut self, space: &mut Space, class: u8, size: u32) -> Addr
+        requires kept { IsKept self.old }
+        requires agrees { Agrees (footprint (state_of self.old)) space.old }
+        requires room { class_bytes class ≤ self.old.active.room }
+        requires class { class ≤ 10 }
+        requires size { size ≤ class_size class }
+        requires spare { 0 < spare self.old.chunks }
+        requires few { length self.old.chunks.entries < 2 ^ 40 }
+        ensures kept { IsKept self.new }
+        ensures ledger { (state_of self.new).ledger ≡ cut_off (state_of self.old).ledger class }
+        ensures fresh { (footprint (state_of self.old)).live result ≡ None }
+        ensures live { PutsLive (state_of self.old) (state_of self.new) result (Some size) }
+        ensures moves { Moves (footprint (state_of self.old)) (footprint (state_of self.new)) space.old space.new }
+        ensures keeps { Keeps (footprint (state_of self.old)) (footprint (state_of self.new)) space.old space.new }
+    {
+        self.carve(space, class, Chunk::Live { class, size })
+    }
+
+    // Cuts a free chunk of a class off the active block.
+    fn cut_free(&mut self, space: &mut Space, class: u8)
+        requires kept { IsKept self.old }
+        requires agrees { Agrees (footprint (state_of self.old)) space.old }
+        requires room { class_bytes class ≤ self.old.active.room }
+        requires class { class ≤ 10 }
+        requires spare { 0 < spare self.old.chunks }
+        requires few { length self.old.chunks.entries < 2 ^ 40 }
+        ensures kept { IsKept self.new }
+        ensures ledger { (state_of self.new).ledger ≡ record (state_of self.old).ledger { room = self.old.active.room - class_bytes class; free = with_free (state_of self.old).ledger.free class 1 } }
+        ensures active { self.new.active ≡ record self.old.active { room = self.new.active.room } }
+        ensures spare { spare self.old.chunks ≤ spare self.new.chunks + 1 }
+        ensures len { length self.new.chunks.entries ≡ length self.old.chunks.entries + 1 }
+        ensures rest { self.new ≡ record self.old { chunks = self.new.chunks; active = self.new.active; shelves = self.new.shelves } }
+        ensures others { (at : Addr) → at.region ≢ self.old.active.region → chunk_at (state_of self.new) at ≡ chunk_at (state_of self.old) at }
+        ensures live { SameLive (state_of self.old) (state_of self.new) }
+        ensures moves { Moves (footprint (state_of self.old)) (footprint (state_of self.new)) space.old space.new }
+        ensures keeps { Keeps (footprint (state_of self.old)) (footprint (state_of self.new)) space.old space.new }
+    {
+        let shelf = self.shelves[class as usize];
+        let next = shelf.first;
+        let at = self.carve(space, class, Chunk::Free { class, next });
+        self.shelves[class as usize] = Shelf {
+            first: Some(at),
+            count: shelf.count + 1,
+        };
+    }
+
+    // What the books say.
+    pub fn stats(&self) -> Stats
+        requires { IsKept self.now }
+        ensures { result ≡ stats (state_of self.now).ledger }
+    {
+        let mut free = u64::from(self.active.room) + self.idle;
+        let mut chunks = 0;
+        for class in 0..11u8 {
+            let count = self.shelves[class as usize].count;
+            free += count * (u64::from(class_size(class)) + 8);
+            chunks += count;
+        }
+        Stats {
+            total: self.total,
+            blocks: self.count,
+            free,
+            chunks,
+        }
+    }
+
+    // Makes room in the maps, for what one request may need.
+    fn make_room(&mut self) -> Result<(), CtxError>
+        ensures same { self.new ≡ record self.old { blocks = self.new.blocks; chunks = self.new.chunks } }
+        ensures blocks { self.new.blocks.entries ≡ self.old.blocks.entries }
+        ensures chunks { self.new.chunks.entries ≡ self.old.chunks.entries }
+        ensures spare_blocks { OnOk result (1 ≤ spare self.new.blocks) }
+        ensures spare_chunks { OnOk result (12 ≤ spare self.new.chunks) }
+        ensures few { OnOk result (length self.new.chunks.entries ≤ 2 ^ 39) }
+        ensures only_memory { IfErr result (λ e. e ≡ CtxError.Memory) }
+    {
+        if self.chunks.len() > MOST_CHUNKS
+            || self.chunks.reserve(12).is_err()
+            || self.blocks.reserve(1).is_err()
+        {
+            return Err(CtxError::Memory);
+        }
+        Ok(())
+    }
+
+    // Takes a block and notes it. Chunks are still cut off the old one.
+    fn add_block(&mut self, space: &mut Space, size: u32) -> Result<u32, CtxError>
+        requires kept { IsKept self.old }
+        requires agrees { Agrees (footprint (state_of self.old)) space.old }
+        requires least { 48 ≤ size }
+        requires most { size ≤ 2 ^ 31 }
+        requires spare { 0 < spare self.old.blocks }
+        ensures kept { OnOk result (IsKept self.new) }
+        ensures ledger { OnOk result ((state_of self.new).ledger ≡ with_own (state_of self.old).ledger size) }
+        ensures rest { OnOk result (self.new ≡ record self.old { blocks = self.new.blocks; total = self.new.total; count = self.new.count }) }
+        ensures owned { IfOk result (λ number. region_of (state_of self.new) number ≡ Some size) }
+        ensures new { IfOk result (λ number. region_of (state_of self.old) number ≡ None) }
+        ensures others { IfOk result (λ number. (other : ℕ) → other ≢ number → region_of (state_of self.new) other ≡ region_of (state_of self.old) other) }
+        ensures moves { OnOk result (Moves (footprint (state_of self.old)) (footprint (state_of self.new)) space.old space.new) }
+        ensures keeps { OnOk result (Keeps (footprint (state_of self.old)) (footprint (state_of self.new)) space.old space.new) }
+        ensures fits { OnOk result (size ≤ space.old.limit - held space.old self.old.account) }
+        ensures no_space { (result ≡ Err CtxError.NoSpace) → space.old.limit - held space.old self.old.account < size }
+        ensures no_other { IfErr result (λ e. (e ≡ CtxError.NoSpace) ⊎ (e ≡ CtxError.Memory)) }
+        ensures err { OnErr result (self.new ≡ self.old) }
+        ensures err_space { OnErr result (space.new ≡ space.old) }
+    {
+        if self.total > MOST {
+            return Err(CtxError::Memory);
+        }
+        let at = match space.take(self.account, size) {
+            Ok(at) => at,
+            Err(SpaceError::NoSpace) => return Err(CtxError::NoSpace),
+            Err(SpaceError::Memory) => return Err(CtxError::Memory),
+        };
+        space.write(at, &block_header(self.context, size));
+        note(&mut self.blocks, at.region, size);
+        self.total += u64::from(size);
+        self.count += 1;
+        Ok(at.region)
+    }
+
+    // Cuts the rest of the active block up into free chunks.
+    fn cut_up(&mut self, space: &mut Space)
+        requires kept { IsKept self.old }
+        requires agrees { Agrees (footprint (state_of self.old)) space.old }
+        requires little { self.old.active.room < class_bytes 11 }
+        requires spare { 11 ≤ spare self.old.chunks }
+        requires few { length self.old.chunks.entries ≤ 2 ^ 39 }
+        ensures cut { CutsUp self.old self.new (self.old.active.room) 11 }
+        ensures room { self.new.active.room ≡ cut_rest 11 self.old.active.room }
+        ensures free { (state_of self.new).ledger.free ≡ cut_up 11 self.old.active.room (state_of self.old).ledger.free }
+        ensures moves { Moves (footprint (state_of self.old)) (footprint (state_of self.new)) space.old space.new }
+        ensures keeps { Keeps (footprint (state_of self.old)) (footprint (state_of self.new)) space.old space.new }
+    {
+        let mut class = 11u8;
+        while class > 0 {
+            class -= 1;
+            if self.active.room >= class_size(class) + 8 {
+                self.cut_free(space, class);
+            }
+        }
+    }
+
+    // Makes a block without chunks the active one.
+    fn activate(&mut self, region: u32, size: u32)
+        requires kept { IsKept self.old }
+        requires owned { region_of (state_of self.old) region ≡ Some size }
+        requires other { region ≢ self.old.keeper }
+        requires empty { (at : Addr) → at.region ≡ region → chunk_at (state_of self.old) at ≡ None }
+        requires counted { self.old.active.room + self.old.idle + size ≤ self.old.total }
+        ensures kept { IsKept self.new }
+        ensures state { state_of self.new ≡ record (state_of self.old) { ledger = record (state_of self.old).ledger { next = min (2 * self.old.next) self.old.sizes.max; idle = self.old.idle + self.old.active.room; room = size - 40 } } }
+        ensures rest { self.new ≡ record self.old { active = self.new.active; idle = self.new.idle; next = self.new.next } }
+        ensures footprint { footprint (state_of self.new) ≡ footprint (state_of self.old) }
+    {
+        self.idle += u64::from(self.active.room);
+        self.active = Block {
+            region,
+            size,
+            room: size - 40,
+        };
+        self.next = (self.next * 2).min(self.sizes.max);
+    }
+
+    // The size of a new block for a need: the next one doubled while it is below, and halved while it doesn't fit.
+    fn fitted(&self, space: &Space, need: u32) -> u32
+        requires kept { IsKept self.now }
+        requires account { self.now.account < accounts space.now }
+        requires most { need ≤ 2 ^ 14 }
+        requires least { 48 ≤ need }
+        ensures some { result ≤ space.now.limit - held space.now self.now.account → halved (space.now.limit - held space.now self.now.account) need (grown self.now.next need) ≡ Some result }
+        ensures none { space.now.limit - held space.now self.now.account < result → halved (space.now.limit - held space.now self.now.account) need (grown self.now.next need) ≡ None }
+        ensures enough { need ≤ result }
+        ensures most { result ≤ 2 ^ 24 }
+    {
+        let mut size = grown(self.next, need);
+        while size > LARGE && size / 2 >= need && !space.fits(self.account, size) {
+            size /= 2;
+        }
+        size
+    }
+
+    // Takes a new block for a chunk of a class, cuts the rest of the active one up and makes the new one active.
+    fn renew(&mut self, space: &mut Space, class: u8) -> Result<(), CtxError>
+        requires kept { IsKept self.old }
+        requires agrees { Agrees (footprint (state_of self.old)) space.old }
+        requires class { class ≤ 10 }
+        requires little { self.old.active.room < class_bytes class }
+        requires spare_blocks { 0 < spare self.old.blocks }
+        requires spare_chunks { 12 ≤ spare self.old.chunks }
+        requires few { length self.old.chunks.entries ≤ 2 ^ 39 }
+        ensures renewed { OnOk result (Renews self.old self.new space.old class) }
+        ensures moves { OnOk result (Moves (footprint (state_of self.old)) (footprint (state_of self.new)) space.old space.new) }
+        ensures keeps { OnOk result (Keeps (footprint (state_of self.old)) (footprint (state_of self.new)) space.old space.new) }
+        ensures no_space { result ≡ Err CtxError.NoSpace → block_size (state_of self.old).ledger (space.old.limit - held space.old self.old.account) class ≡ None }
+        ensures no_other { IfErr result (λ e. (e ≡ CtxError.NoSpace) ⊎ (e ≡ CtxError.Memory)) }
+        ensures err { OnErr result (self.new ≡ self.old) }
+        ensures err_space { OnErr result (space.new ≡ space.old) }
+    {
+        let size = self.fitted(space, class_size(class) + 48);
+        let region = match self.add_block(space, size) {
+            Ok(region) => region,
+            Err(error) => return Err(error),
+        };
+        self.cut_up(space);
+        self.activate(region, size);
+        Ok(())
+    }
+
+    // The free chunk that a free chunk of a class names.
+    fn next_free(&self, class: u8, at: Addr) -> Option<Addr>
+        requires { (next : Option Addr) × (chunk_at (state_of self.now) at ≡ Some (Chunk.Free class next)) }
+        ensures { chunk_at (state_of self.now) at ≡ Some (Chunk.Free class result) }
+    {
+        match self.chunks.get(&at) {
+            Some(Chunk::Free { class: _, next }) => *next,
+            _ => None,
+        }
+    }
+
+    // Takes the first free chunk of a class.
+    fn reuse(&mut self, class: u8, size: u32) -> Option<Addr>
+        requires kept { IsKept self.old }
+        requires class { class ≤ 10 }
+        requires size { size ≤ class_size class }
+        ensures none { IfNone result (self.new ≡ self.old) }
+        ensures empty { IfNone result (slice_index (state_of self.old).ledger.free class ≡ 0) }
+        ensures some { OnSome result (0 < slice_index (state_of self.old).ledger.free class) }
+        ensures kept { OnSome result (IsKept self.new) }
+        ensures ledger { OnSome result ((state_of self.new).ledger ≡ reused (state_of self.old).ledger class) }
+        ensures fresh { IfSome result (λ at. (footprint (state_of self.old)).live at ≡ None) }
+        ensures live { IfSome result (λ at. PutsLive (state_of self.old) (state_of self.new) at (Some size)) }
+        ensures moves { OnSome result ((sp : Space) → Agrees (footprint (state_of self.old)) sp → Moves (footprint (state_of self.old)) (footprint (state_of self.new)) sp sp) }
+        ensures rest { self.new ≡ record self.old { chunks = self.new.chunks; shelves = self.new.shelves } }
+    {
+        let shelf = self.shelves[class as usize];
+        let Some(at) = shelf.first else {
+            return None;
+        };
+        let next = self.next_free(class, at);
+        put(&mut self.chunks, at, Chunk::Live { class, size });
+        self.shelves[class as usize] = Shelf {
+            first: next,
+            count: shelf.count - 1,
+        };
+        Some(at)
+    }
+
+    // Serves a request by a chunk of a class.
+    fn take_class(&mut self, space: &mut Space, size: u32) -> Result<Addr, CtxError>
+        requires kept { IsKept self.old }
+        requires agrees { Agrees (footprint (state_of self.old)) space.old }
+        requires size { size ≤ 8192 }
+        ensures ok { IfOk result (λ at. Allocates self.old self.new space.old space.new size at (take_class (state_of self.old).ledger (space.old.limit - held space.old self.old.account) (class_of size))) }
+        ensures no_space { result ≡ Err CtxError.NoSpace → take_class (state_of self.old).ledger (space.old.limit - held space.old self.old.account) (class_of size) ≡ Err CtxError.NoSpace }
+        ensures no_other { IfErr result (λ e. (e ≡ CtxError.NoSpace) ⊎ (e ≡ CtxError.Memory)) }
+        ensures err_state { OnErr result (state_of self.new ≡ state_of self.old) }
+        ensures err_kept { OnErr result (IsKept self.new) }
+        ensures err_space { OnErr result (space.new ≡ space.old) }
+    {
+        let class = class_of(size);
+        match self.make_room() {
+            Ok(()) => {}
+            Err(error) => return Err(error),
+        }
+        if let Some(at) = self.reuse(class, size) {
+            return Ok(at);
+        }
+        if self.active.room >= class_size(class) + 8 {
+            return Ok(self.cut(space, class, size));
+        }
+        match self.renew(space, class) {
+            Ok(()) => {}
+            Err(error) => return Err(error),
+        }
+        Ok(self.cut(space, class, size))
+    }
+
+    // Notes a chunk that has a block for itself, and writes its header.
+    fn settle(&mut self, space: &mut Space, region: u32, size: u32, room: u32) -> Addr
+        requires kept { IsKept self.old }
+        requires agrees { Agrees (footprint (state_of self.old)) space.old }
+        requires owned { region_of (state_of self.old) region ≡ Some (room + 48) }
+        requires not_keeper { region ≢ self.old.keeper }
+        requires not_active { region ≢ self.old.active.region }
+        requires empty { (other : Addr) → other.region ≡ region → chunk_at (state_of self.old) other ≡ None }
+        requires fits { size ≤ room }
+        requires spare { 0 < spare self.old.chunks }
+        requires few { length self.old.chunks.entries < 2 ^ 40 }
+        ensures kept { IsKept self.new }
+        ensures ledger { (state_of self.new).ledger ≡ (state_of self.old).ledger }
+        ensures fresh { (footprint (state_of self.old)).live result ≡ None }
+        ensures live { PutsLive (state_of self.old) (state_of self.new) result (Some size) }
+        ensures moves { Moves (footprint (state_of self.old)) (footprint (state_of self.new)) space.old space.new }
+        ensures keeps { Keeps (footprint (state_of self.old)) (footprint (state_of self.new)) space.old space.new }
+    {
+        let header = Header {
+            kind: Kind::AllocSet,
+            own: true,
+            value: 0,
+            dist: 40,
+        };
+        space.write(Addr { region, offset: 40 }, &header.bytes());
+        let at = Addr { region, offset: 48 };
+        put(&mut self.chunks, at, Chunk::Own { size, room });
+        at
+    }
+
+    // Serves a request by a block of its own.
+    fn take_own(&mut self, space: &mut Space, size: u32) -> Result<Addr, CtxError>
+        requires kept { IsKept self.old }
+        requires agrees { Agrees (footprint (state_of self.old)) space.old }
+        requires size { size ≤ 1073741823 }
+        ensures ok { IfOk result (λ at. Allocates self.old self.new space.old space.new size at (take_own (state_of self.old).ledger (space.old.limit - held space.old self.old.account) (own_size size))) }
+        ensures no_space { result ≡ Err CtxError.NoSpace → take_own (state_of self.old).ledger (space.old.limit - held space.old self.old.account) (own_size size) ≡ Err CtxError.NoSpace }
+        ensures no_other { IfErr result (λ e. (e ≡ CtxError.NoSpace) ⊎ (e ≡ CtxError.Memory)) }
+        ensures err_state { OnErr result (state_of self.new ≡ state_of self.old) }
+        ensures err_kept { OnErr result (IsKept self.new) }
+        ensures err_space { OnErr result (space.new ≡ space.old) }
+    {
+        match self.make_room() {
+            Ok(()) => {}
+            Err(error) => return Err(error),
+        }
+        let room = up8(size);
+        let region = match self.add_block(space, room + 48) {
+            Ok(region) => region,
+            Err(error) => return Err(error),
+        };
+        Ok(self.settle(space, region, size, room))
+    }
+
+    // Serves a request.
+    pub fn alloc(&mut self, space: &mut Space, size: u64) -> Result<Addr, CtxError>
+        requires kept { IsKept self.old }
+        requires agrees { Agrees (footprint (state_of self.old)) space.old }
+        ensures ok { IfOk result (λ at. Allocates self.old self.new space.old space.new size at (take (state_of self.old).ledger (space.old.limit - held space.old self.old.account) size)) }
+        ensures too_big { (result ≡ Err CtxError.TooBig) ↔ (1073741823 < size) }
+        ensures no_space { result ≡ Err CtxError.NoSpace → take (state_of self.old).ledger (space.old.limit - held space.old self.old.account) size ≡ Err CtxError.NoSpace }
+        ensures no_other { IfErr result (λ e. (e ≡ CtxError.TooBig) ⊎ ((e ≡ CtxError.NoSpace) ⊎ (e ≡ CtxError.Memory))) }
+        ensures err_state { OnErr result (state_of self.new ≡ state_of self.old) }
+        ensures err_kept { OnErr result (IsKept self.new) }
+        ensures err_space { OnErr result (space.new ≡ space.old) }
+    {
+        if size > LARGEST {
+            return Err(CtxError::TooBig);
+        }
+        if size > u64::from(self.limit) {
+            return self.take_own(space, size as u32);
+        }
+        self.take_class(space, size as u32)
+    }
+}

@@ -1,0 +1,107 @@
+//! An AllocSet: a memory context that keeps its freed chunks by class.
+#![tactic(auto)]
+
+ghost use Rattle.std.specs.Prelude.{◌≡◌, ◌≢◌, ℕ, ◌+◌, ◌-◌, ◌%◌, ◌^◌, ◌<◌, ◌≤◌, ◌↔◌, ◌⊎◌, Ok, Err, None, Some, IfOk, IfErr, OnOk, OnErr};
+ghost use Rattle.addr_space.specs.declared.Addr.{Addr};
+ghost use Rattle.alloc_set.specs.Ledger.{stats};
+
+mod books;
+mod chunk;
+mod classes;
+
+use addr_space::{Addr, Space};
+use books::Books;
+use chunk_header::{CtxError, Sizes, Stats};
+use std::alloc::Global;
+use std::marker::Model;
+
+/// A context whose chunks have a power of two of bytes, or a block for themselves.
+#[derive(Drop)]
+pub struct AllocSet {
+    books: Books,
+}
+
+impl Model for AllocSet {
+    ghost use Rattle.alloc_set.specs.State.{SetState};
+
+    ghost Value = { SetState };
+
+    ghost use Rattle.alloc_set.specs.Kept.{state_of, IsKept};
+
+    ghost view = { λ a. state_of a.books };
+
+    ghost invariant = { λ a. IsKept a.books };
+}
+
+impl AllocSet {
+    ghost use Rattle.addr_space.specs.Space.{accounts, held};
+    ghost use Rattle.addr_space.specs.Footprint.{nothing, Agrees, Moves, Keeps};
+    ghost use Rattle.alloc_set.specs.State.{footprint};
+    ghost use Rattle.alloc_set.specs.Ledger.{created, take};
+    ghost use Rattle.alloc_set.specs.Live.{PutsLive};
+
+    /// A context with one block, for an account of the space. `context` is the number that its blocks keep.
+    ///
+    /// `NoSpace` comes where the first block doesn't fit, and before `Memory`. A refused call changes nothing.
+    pub fn create(
+        alloc: Global,
+        space: &mut Space,
+        account: u8,
+        context: u32,
+        sizes: Sizes,
+    ) -> Result<AllocSet, CtxError>
+        requires account { account < accounts space.old }
+        requires least { 1024 ≤ sizes.init }
+        requires order { sizes.init ≤ sizes.max }
+        requires most { sizes.max ≤ 8388608 }
+        requires whole_init { sizes.init % 8 ≡ 0 }
+        requires whole_max { sizes.max % 8 ≡ 0 }
+        ensures ledger { IfOk result (λ a. a.ledger ≡ created sizes.init sizes.max) }
+        ensures account { IfOk result (λ a. a.account ≡ account) }
+        ensures context { IfOk result (λ a. a.context ≡ context) }
+        ensures live { IfOk result (λ a. (at : Addr) → (footprint a).live at ≡ None) }
+        ensures moves { IfOk result (λ a. Moves (nothing account context) (footprint a) space.old space.new) }
+        ensures no_space { (result ≡ Err CtxError.NoSpace) ↔ (space.old.limit < held space.old account + sizes.init) }
+        ensures no_other { IfErr result (λ e. (e ≡ CtxError.NoSpace) ⊎ (e ≡ CtxError.Memory)) }
+        ensures err { OnErr result (space.new ≡ space.old) }
+    {
+        match Books::create(alloc, space, account, context, sizes) {
+            Ok(books) => Ok(AllocSet { books }),
+            Err(error) => Err(error),
+        }
+    }
+
+    /// What the context holds.
+    pub fn stats(&self) -> Stats
+        ensures { result ≡ stats self.now.ledger }
+    {
+        self.books.stats()
+    }
+
+    /// Takes a chunk of `size` bytes, which may be 0, and answers its address. No byte of it is known.
+    ///
+    /// `TooBig`, `NoSpace` and `Memory` are tried in this order. A refused call changes nothing.
+    pub fn alloc(&mut self, space: &mut Space, size: u64) -> Result<Addr, CtxError>
+        requires { Agrees (footprint self.old) space.old }
+
+        // The ledger makes its step for the request, with what is left of the account.
+        ensures ledger { OnOk result (take self.old.ledger (space.old.limit - held space.old self.old.account) size ≡ Ok self.new.ledger) }
+
+        // The chunk was not live, and every other chunk stays.
+        ensures fresh { IfOk result (λ at. (footprint self.old).live at ≡ None) }
+        ensures live { IfOk result (λ at. PutsLive self.old self.new at (Some size)) }
+        ensures moves { OnOk result (Moves (footprint self.old) (footprint self.new) space.old space.new) }
+        ensures keeps { OnOk result (Keeps (footprint self.old) (footprint self.new) space.old space.new) }
+
+        ensures too_big { (result ≡ Err CtxError.TooBig) ↔ (1073741823 < size) }
+        ensures no_space { result ≡ Err CtxError.NoSpace → take self.old.ledger (space.old.limit - held space.old self.old.account) size ≡ Err CtxError.NoSpace }
+        ensures no_other { IfErr result (λ e. (e ≡ CtxError.TooBig) ⊎ ((e ≡ CtxError.NoSpace) ⊎ (e ≡ CtxError.Memory))) }
+        ensures err { OnErr result (self.new ≡ self.old) }
+        ensures err_space { OnErr result (space.new ≡ space.old) }
+    {
+        self.books.alloc(space, size)
+    }
+}
+
+#[cfg(test)]
+mod tests;

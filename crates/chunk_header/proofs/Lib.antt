@@ -1,0 +1,3 @@
+-- Lemmas for this crate, and for the allocators above it.
+pub mod Words
+pub mod Doubling
