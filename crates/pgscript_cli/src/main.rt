@@ -4,9 +4,8 @@
 use pgs_io::{StdSink, StdSource};
 use pgs_world::run;
 use std::alloc::{AllocError, Global};
-use std::env;
-use std::io;
 use std::process::ExitCode;
+use std::{env, io};
 
 /// The status where memory was wanted before the run.
 const NO_MEMORY: u8 = 5;
