@@ -13,3 +13,4 @@ pub mod KeptNew
 pub mod Flipped
 pub mod Taken
 pub mod Owned
+pub mod Leads

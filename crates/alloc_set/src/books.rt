@@ -445,6 +445,26 @@ impl Books {
         Some(at)
     }
 
+    // Frees a chunk of a class: it is the first of its shelf.
+    pub fn shelve(&mut self, class: u8, at: Addr)
+        requires kept { IsKept self.old }
+        requires class { class ≤ 10 }
+        requires live { (size : ℕ) × (chunk_at (state_of self.old) at ≡ Some (Chunk.Live class size)) }
+        ensures kept { IsKept self.new }
+        ensures ledger { (state_of self.new).ledger ≡ record (state_of self.old).ledger { free = with_free (state_of self.old).ledger.free class 1 } }
+        ensures live { PutsLive (state_of self.old) (state_of self.new) at None }
+        ensures moves { (sp : Space) → Agrees (footprint (state_of self.old)) sp → Moves (footprint (state_of self.old)) (footprint (state_of self.new)) sp sp }
+        ensures rest { self.new ≡ record self.old { chunks = self.new.chunks; shelves = self.new.shelves } }
+    {
+        let shelf = self.shelves[class as usize];
+        let next = shelf.first;
+        put(&mut self.chunks, at, Chunk::Free { class, next });
+        self.shelves[class as usize] = Shelf {
+            first: Some(at),
+            count: shelf.count + 1,
+        };
+    }
+
     // Serves a request by a chunk of a class.
     fn take_class(&mut self, space: &mut Space, size: u32) -> Result<Addr, CtxError>
         requires kept { IsKept self.old }

@@ -36,6 +36,7 @@ impl Model for AllocSet {
 impl AllocSet {
     ghost use Rattle.addr_space.specs.Space.{accounts, held};
     ghost use Rattle.addr_space.specs.Footprint.{nothing, Agrees, Moves, Keeps};
+    ghost use Rattle.chunk_header.specs.Header.{AllHeaded};
     ghost use Rattle.alloc_set.specs.State.{footprint};
     ghost use Rattle.alloc_set.specs.Ledger.{created, take};
     ghost use Rattle.alloc_set.specs.Live.{PutsLive};
@@ -76,6 +77,13 @@ impl AllocSet {
         ensures { result ≡ stats self.now.ledger }
     {
         self.books.stats()
+    }
+
+    /// Each live chunk has a header that leads to its block, and so to the context. A caller cites the clause.
+    pub fn headed(&self)
+        ensures { AllHeaded (footprint self.now) }
+    {
+        let _ = &self.books;
     }
 
     /// Takes a chunk of `size` bytes, which may be 0, and answers its address. No byte of it is known.
