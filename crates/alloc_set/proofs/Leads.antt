@@ -1,11 +1,11 @@
 -- Lemmas on the headers by which live chunks lead to their context.
-use Rattle.std.proofs.Common.{◌≡◌, ◌≢◌, ℕ, ◌+◌, ◌-◌, ◌%◌, ◌^◌, ◌<◌, ◌≤◌, ◌==◌, if◌then◌else◌, Some, refl, sym, ap, ◌∙◌, arith, inl, inr}
+use Rattle.std.proofs.Common.{◌≡◌, ℕ, ◌+◌, ◌-◌, ◌%◌, ◌^◌, ◌<◌, refl, ap, ◌∙◌, arith, inl, inr}
 use Rattle.std.proofs.lemmas.Bool.{cases_eq}
 use Rattle.std.proofs.lemmas.Bool.Decides.{nat_tests}
 use Rattle.addr_space.specs.declared.Addr.{Addr}
-use Rattle.chunk_header.specs.Header.{IsPackable, IsLeading, IsHeaded, AllHeaded}
+use Rattle.chunk_header.specs.Header.{IsPackable, IsLeading, AllHeaded}
 use Rattle.std.specs.Map.{lookup}
-use Rattle.alloc_set.specs.State.{SetState, same_addr, start_of, capacity_of, live_size, header_of, footprint}
+use Rattle.alloc_set.specs.State.{SetState, same_addr, start_of, live_size, header_of, footprint}
 use Rattle.alloc_set.specs.Kept.{IsSettled, IsSized}
 use Rattle.alloc_set.proofs.Settled.{from_then}
 use Rattle.alloc_set.proofs.Carved.{mark_from_block, mark_from_chunk}

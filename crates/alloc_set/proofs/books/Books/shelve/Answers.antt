@@ -1,4 +1,4 @@
-use Rattle.std.proofs.Common.{◌≡◌, ◌≢◌, ℕ, suc, ◌+◌, ◌-◌, ◌<◌, ap, ◌∙◌, sym, refl, arith, Some, None, List, length, map, set, get_or}
+use Rattle.std.proofs.Common.{◌≡◌, ℕ, ◌+◌, ◌<◌, ap, ◌∙◌, sym, refl, arith, Some, List, length, map, set, get_or}
 use Rattle.std.proofs.lemmas.List.{map-set, get_or-map}
 use Rattle.addr_space.specs.declared.Addr.{Addr}
 use Rattle.alloc_set.specs.Ledger.{with_free}
@@ -9,7 +9,6 @@ use Rattle.alloc_set.proofs.KeptCut.{count-few}
 use Rattle.alloc_set.proofs.Flipped.{IsSettled-flipped, Moves-flipped}
 use Rattle.alloc_set.proofs.Shelved.{IsShelved-freed, IsTaken}
 use Rattle.alloc_set.specs.declared.books.Books.{Books}
-use Rattle.alloc_set.specs.declared.chunk.Chunk.{Chunk}
 use Rattle.alloc_set.specs.declared.chunk.Shelf.{Shelf}
 use Rattle.alloc_set.specs.declared.chunk.Chunk.TheVariants.{Live, Free}
 use Rattle.alloc_set.proofs.books.Books.shelve.Goals as goal
