@@ -64,6 +64,13 @@ error_line error = codes "ERROR " ++ error_text error
 abbrev pub said_of : List (List ℕ) → List ℕ → Item → ℕ → Option (List ℕ)
 said_of names word item owner = option_map (λ kind. word ++ item_text item owner kind) (kind_name names item.kind)
 
+-- the text of an event of a lock, and nothing of any other
+abbrev pub lock_event : What → List ℕ
+lock_event (AcquireLock object mode owner) = acquired_lock object mode owner
+lock_event (ReleaseLock object mode count owner) = lock_counts (codes "release lock ") object mode count owner
+lock_event (PassLock object mode count from to) = passed_lock object mode count from to
+lock_event what = []
+
 -- An event's text without its session and newline; none where it names a kind without a name.
 unfoldable pub what_text : List (List ℕ) → What → Option (List ℕ)
 what_text names (BeginLevel level) = Some (codes "begin level " ++ decimal level)
@@ -75,9 +82,9 @@ what_text names (OwnerGone owner) = Some (gone_owner owner)
 what_text names (Acquire item owner) = said_of names (codes "acquire ") item owner
 what_text names (Release item owner) = said_of names (codes "release ") item owner
 what_text names (NotClosed item owner) = said_of names (codes "warning resource was not closed: ") item owner
-what_text names (AcquireLock object mode owner) = Some (acquired_lock object mode owner)
-what_text names (ReleaseLock object mode count owner) = Some (lock_counts (codes "release lock ") object mode count owner)
-what_text names (PassLock object mode count from to) = Some (passed_lock object mode count from to)
+what_text names (AcquireLock object mode owner) = Some (lock_event (AcquireLock object mode owner))
+what_text names (ReleaseLock object mode count owner) = Some (lock_event (ReleaseLock object mode count owner))
+what_text names (PassLock object mode count from to) = Some (lock_event (PassLock object mode count from to))
 what_text names (DescriptorOpened file) = Some (codes "descriptor opened " ++ decimal file)
 what_text names (DescriptorClosed file) = Some (codes "descriptor closed " ++ decimal file)
 what_text names (Push snapshot) = Some (codes "push " ++ decimal snapshot)

@@ -206,3 +206,13 @@ fn a_list_of_events_keeps_its_room(rt: HostRuntime) -> Result<(), Fail> {
     assert_eq!(rt; list.missed(), 1);
     Ok(())
 }
+
+#[test]
+fn a_line_goes_behind_what_stands_there(rt: HostRuntime) {
+    let mut out: ArrayVec<u8, 1024> = ArrayVec::new();
+    out.push(b'-');
+    for (session, what) in [(2, What::Ok), (3, What::Exit)] {
+        append_text(&Event { session, what }, &[], &mut out);
+    }
+    assert_eq!(rt; out.as_slice(), b"-2 ok\n3 exit\n".as_slice());
+}

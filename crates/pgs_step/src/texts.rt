@@ -2,7 +2,7 @@
 ghost use Rattle.std.specs.Prelude.{◌≡◌, ℕ, ◌+◌, ◌/◌, ◌%◌, ◌≤◌, ◌<◌, [], ◌∷◌, ◌++◌, length, codes, decimal, IfSome};
 ghost use Rattle.std.specs.Option.{is_some};
 ghost use Rattle.arrayvec.specs.ArrayVec.{array_vec_len};
-ghost use Rattle.pgs_step.specs.Text.{kind_name, error_text, by_owner, item_text, gone_owner, lock_text, acquired_lock, lock_counts, passed_lock, error_line, said_of, what_text, text_of};
+ghost use Rattle.pgs_step.specs.Text.{kind_name, error_text, by_owner, item_text, gone_owner, lock_text, acquired_lock, lock_counts, passed_lock, lock_event, error_line, said_of, what_text, text_of};
 
 use crate::errors::Error;
 use crate::events::{Event, What};
@@ -103,6 +103,31 @@ fn put_what<const N: usize>(out: &mut ArrayVec<u8, N>, what: What, names: &[Name
                 names,
             );
         }
+        What::AcquireLock { .. } | What::ReleaseLock { .. } | What::PassLock { .. } => {
+            put_lock_event(out, what)
+        }
+        What::DescriptorOpened(file) => put_counted(out, b"descriptor opened ", file as u64),
+        What::DescriptorClosed(file) => put_counted(out, b"descriptor closed ", file as u64),
+        What::Push(snapshot) => put_counted(out, b"push ", snapshot as u64),
+        What::Pop(snapshot) => put_counted(out, b"pop ", snapshot as u64),
+        What::AlreadyInTransaction => put(
+            out,
+            b"warning there is already a transaction in progress",
+        ),
+        What::NotInTransaction => put(out, b"warning there is no transaction in progress"),
+        What::Ok => put(out, b"ok"),
+        What::Error(error) => put_error_line(out, error),
+        What::Exit => put(out, b"exit"),
+    }
+}
+
+/// Writes the text of an event of a lock.
+fn put_lock_event<const N: usize>(out: &mut ArrayVec<u8, N>, what: What)
+    requires { array_vec_len out.old + 400 ≤ N }
+    ensures text { out.new.items ≡ out.old.items ++ lock_event what }
+    ensures short { array_vec_len out.new ≤ array_vec_len out.old + 400 }
+{
+    match what {
         What::AcquireLock {
             object,
             mode,
@@ -125,18 +150,7 @@ fn put_what<const N: usize>(out: &mut ArrayVec<u8, N>, what: What, names: &[Name
         } => {
             put_passed_lock(out, object, mode, count, from, to);
         }
-        What::DescriptorOpened(file) => put_counted(out, b"descriptor opened ", file as u64),
-        What::DescriptorClosed(file) => put_counted(out, b"descriptor closed ", file as u64),
-        What::Push(snapshot) => put_counted(out, b"push ", snapshot as u64),
-        What::Pop(snapshot) => put_counted(out, b"pop ", snapshot as u64),
-        What::AlreadyInTransaction => put(
-            out,
-            b"warning there is already a transaction in progress",
-        ),
-        What::NotInTransaction => put(out, b"warning there is no transaction in progress"),
-        What::Ok => put(out, b"ok"),
-        What::Error(error) => put_error_line(out, error),
-        What::Exit => put(out, b"exit"),
+        _ => {}
     }
 }
 

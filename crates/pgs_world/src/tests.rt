@@ -1,12 +1,10 @@
 //! The program over a source and a sink in memory.
 ghost use Rattle.std.specs.Prelude.{◌≤◌};
 
-use crate::{Outcome, run};
+use crate::{Outcome, run, script_lines};
 use pgs_io::{MemSink, MemSource};
 use std::alloc::{AllocError, Global};
 use std::test::Fail;
-
-const BEGUN: &str = "1 begin level 1\n1 owner o1\n1 ok\n";
 
 const PINNED: &str = "1 begin level 1\n1 owner o1\n1 ok\n1 acquire buffer pin 7 #1 o1\n1 ok\n";
 
@@ -46,67 +44,61 @@ fn joined(alloc: Global, first: &str, second: &str) -> Result<Vec<u8>, AllocErro
     Ok(both)
 }
 
-#[test]
-fn an_empty_script(rt: HostRuntime) -> Result<(), Fail> {
-    let played = play(rt.alloc(), b"", 1, 0, 0)?;
-    assert_eq!(rt; played.outcome.status, 0);
-    assert_eq!(rt; played.written.as_slice(), b"1 exit\n".as_slice());
-    Ok(())
+/// A script, its transcript, and what its run answers.
+#[derive(Clone, Copy)]
+struct Row {
+    script: &'static [u8],
+    transcript: &'static [u8],
+    status: u8,
+    errors: u64,
+    lines: u64,
 }
 
 #[test]
-fn a_commit_warns_of_a_pin(rt: HostRuntime) -> Result<(), Fail> {
-    let played = play(rt.alloc(), b"begin\npin 7\ncommit\n", 4096, 0, 0)?;
-    let end =
-        "1 commit level 1\n1 warning resource was not closed: buffer pin 7 #1 o1\n1 release buffer pin 7 #1 o1\n1 owner o1 gone\n1 ok\n1 exit\n";
-    let wanted = joined(rt.alloc(), PINNED, end)?;
-    assert_eq!(rt;
-        played.outcome,
-        Outcome {
+fn four_scripts(rt: HostRuntime) -> Result<(), Fail> {
+    for row in [
+        Row {
+            script: b"",
+            transcript: b"1 exit\n",
             status: 0,
-            call: 0,
             errors: 0,
-            lines: 3
-        }
-    );
-    assert_eq!(rt; played.written.as_slice(), wanted.as_slice());
-    Ok(())
-}
-
-#[test]
-fn a_rollback_releases_a_pin(rt: HostRuntime) -> Result<(), Fail> {
-    let played = play(rt.alloc(), b"begin\npin 7\nrollback\n", 5, 0, 0)?;
-    let head = joined(rt.alloc(), PINNED, ROLLED_BACK)?;
-    let wanted = [head.as_slice(), b"1 ok\n1 exit\n"].concat(rt.alloc())?;
-    assert_eq!(rt;
-        played.outcome,
-        Outcome {
+            lines: 0,
+        },
+        Row {
+            script: b"begin\npin 7\ncommit\n",
+            transcript: b"1 begin level 1\n1 owner o1\n1 ok\n1 acquire buffer pin 7 #1 o1\n1 ok\n1 commit level 1\n1 warning resource was not closed: buffer pin 7 #1 o1\n1 release buffer pin 7 #1 o1\n1 owner o1 gone\n1 ok\n1 exit\n",
             status: 0,
-            call: 0,
             errors: 0,
-            lines: 3
-        }
-    );
-    assert_eq!(rt; played.written.as_slice(), wanted.as_slice());
-    Ok(())
-}
-
-#[test]
-fn an_aborted_transaction_takes_no_pin(rt: HostRuntime) -> Result<(), Fail> {
-    let played = play(rt.alloc(), b"begin\npin 1024\npin 1\n", 4096, 0, 0)?;
-    let end =
-        "1 ERROR 22023 no such buffer\n1 abort level 1\n1 ERROR 25P02 transaction is aborted\n1 cleanup level 1\n1 owner o1 gone\n1 exit\n";
-    let wanted = joined(rt.alloc(), BEGUN, end)?;
-    assert_eq!(rt;
-        played.outcome,
-        Outcome {
+            lines: 3,
+        },
+        Row {
+            script: b"begin\npin 7\nrollback\n",
+            transcript: b"1 begin level 1\n1 owner o1\n1 ok\n1 acquire buffer pin 7 #1 o1\n1 ok\n1 abort level 1\n1 release buffer pin 7 #1 o1\n1 cleanup level 1\n1 owner o1 gone\n1 ok\n1 exit\n",
+            status: 0,
+            errors: 0,
+            lines: 3,
+        },
+        Row {
+            script: b"begin\npin 1024\npin 1\n",
+            transcript: b"1 begin level 1\n1 owner o1\n1 ok\n1 ERROR 22023 no such buffer\n1 abort level 1\n1 ERROR 25P02 transaction is aborted\n1 cleanup level 1\n1 owner o1 gone\n1 exit\n",
             status: 1,
-            call: 0,
             errors: 2,
-            lines: 3
-        }
-    );
-    assert_eq!(rt; played.written.as_slice(), wanted.as_slice());
+            lines: 3,
+        },
+    ] {
+        let played = play(rt.alloc(), row.script, 5, 0, 0)?;
+        assert_eq!(rt; played.outcome.status, row.status);
+        assert_eq!(rt;
+            (
+                played.outcome.call,
+                played.outcome.errors,
+                played.outcome.lines
+            ),
+            (0, row.errors, row.lines)
+        );
+        assert_eq!(rt; played.written.as_slice(), row.transcript);
+    }
+    script_lines();
     Ok(())
 }
 
