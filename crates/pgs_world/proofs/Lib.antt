@@ -1,4 +1,5 @@
 pub mod AnswerLemmas
+pub mod CountLemmas
 pub mod CourseLemmas
 pub mod ElementLemmas
 pub mod EndingLemmas

@@ -32,6 +32,10 @@ pub record IsWhole (outcome : Outcome) (left left' written written' : Option (Li
   pub errors : outcome.errors ≡ errors_in (transcript None (lines_of bytes))
   pub status : (outcome.status ≡ 1) ↔ (0 < errors_in (transcript None (lines_of bytes)))
 
+-- the errors are the ERROR events in the transcript of the bytes that a source had
+abbrev pub CountsErrors : Outcome → Option (List ℕ) → Type 0
+CountsErrors outcome left = (bytes : List ℕ) → left ≡ Some bytes → outcome.errors ≡ errors_in (transcript None (lines_of bytes))
+
 -- Status 5 with a call: the transcript in which that call was refused, recovered from and followed by the session's end.
 pub record IsWanted (outcome : Outcome) (left left' written written' : Option (List ℕ)) : Type 0 where
   pub bytes : List ℕ

@@ -3,7 +3,7 @@ ghost use Rattle.std.specs.Prelude.{◌≡◌, ◌≢◌, ◌<◌, ◌≤◌, �
 ghost use Rattle.std.specs.Io.KnownBytes.{append_known};
 ghost use Rattle.pgs_io.specs.Faults.{HasRisen};
 ghost use Rattle.pgs_world.specs.Session.{opening};
-ghost use Rattle.pgs_world.specs.Outcome.{most_bytes, usage_line, IsWhole, IsWanted, IsCutOff, IsTooLong, IsUnwritten, IsNotStarted, IsUsageFront};
+ghost use Rattle.pgs_world.specs.Outcome.{most_bytes, usage_line, IsWhole, IsWanted, IsCutOff, IsTooLong, IsUnwritten, IsNotStarted, IsUsageFront, CountsErrors};
 ghost use Rattle.pgs_world.specs.Ending.{outcome_of, status_of, IsPlayed};
 
 use crate::performing::{End, Ended, perform_lines};
@@ -40,9 +40,11 @@ pub struct Outcome {
 ///
 /// `words` are those of the command line, without the program's name. None is accepted yet: any word is
 /// answered with the usage line and status 2.
+#[tactic(auto, using(crate::proofs::CountLemmas::whole_counts))]
 pub fn run<S: Source, K: Sink>(alloc: Global, words: &[String], src: &mut S, out: &mut K) -> Outcome
     // Status 0 or 1: all of the source was read, and the whole transcript was written.
     ensures whole { (result.status ≡ 0) ⊎ (result.status ≡ 1) → IsWhole result (S.left src.old) (S.left src.new) (K.written out.old) (K.written out.new) }
+    ensures counts { (result.status ≡ 0) ⊎ (result.status ≡ 1) → CountsErrors result (S.left src.old) }
 
     // Status 2: the words are refused, and nothing was read.
     ensures usage { result.status ≡ 2 → K.written out.new ≡ append_known (K.written out.old) usage_line }
