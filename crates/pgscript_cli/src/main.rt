@@ -1,6 +1,10 @@
 //! `pgscript`: reads a script on standard input and writes its transcript to standard output.
 #![tactic(auto)]
 
+ghost use Rattle.std.specs.Prelude.{◌≡◌, ◌≢◌, drop, IfOk};
+ghost use Rattle.std.specs.Vec.Iter.{into_iter_items};
+ghost use Rattle.std.specs.declared.io.ErrorKind.TheVariants.{OutOfMemory};
+
 use pgs_io::{StdSink, StdSource};
 use pgs_world::run;
 use std::alloc::{AllocError, Global};
@@ -29,7 +33,10 @@ fn main(rt: HostRuntime) -> ExitCode {
 }
 
 /// The status where the arguments couldn't be read.
-fn unread(kind: io::ErrorKind) -> u8 {
+fn unread(kind: io::ErrorKind) -> u8
+    ensures memory { kind ≡ OutOfMemory → result ≡ 5 }
+    ensures text { kind ≢ OutOfMemory → result ≡ 7 }
+{
     match kind {
         io::ErrorKind::OutOfMemory => NO_MEMORY,
         _ => NO_TEXT,
@@ -37,9 +44,12 @@ fn unread(kind: io::ErrorKind) -> u8 {
 }
 
 /// The words of the command line, without the program's name.
-fn words_of(alloc: Global, args: env::Args) -> Result<Vec<String>, AllocError> {
+fn words_of(alloc: Global, mut args: env::Args) -> Result<Vec<String>, AllocError>
+    ensures { IfOk result (λ words. words.items ≡ drop 1 (into_iter_items args)) }
+{
     let mut words = Vec::new(alloc);
-    for word in args.skip(1) {
+    let _name = args.next();
+    for word in args {
         words.push(word)?;
     }
     Ok(words)
