@@ -40,6 +40,14 @@ noted s number size owned differs =
     let test : (s.keeper == number) ≡ false = grind (arith, nat_tests) in
     sym (ap (λ b. if b then Some s.ledger.init else lookup (λ n. number == n) s.blocks) test) ∙ owned
 
+-- what was not noted is not
+none_less : (b : Bool) (o : Option ℕ) → o ≡ None → (if b then None else o) ≡ None
+none_less true o none = refl
+none_less false o none = none
+
+pub lookup_less : (number other : ℕ) (old new : List (ℕ × ℕ)) → ((k : ℕ) → lookup (λ n. k == n) new ≡ (if number == k then None else lookup (λ n. k == n) old)) → lookup (λ n. other == n) old ≡ None → lookup (λ n. other == n) new ≡ None
+lookup_less number other old new struck none = struck other ∙ none_less (number == other) (lookup (λ n. other == n) old) none
+
 module _ (s t : SetState) (number : ℕ) (keeper : t.keeper ≡ s.keeper) (init : t.ledger.init ≡ s.ledger.init)
     (struck : (other : ℕ) → lookup (λ n. other == n) t.blocks ≡ (if number == other then None else lookup (λ n. other == n) s.blocks)) where
   pub gone_now : s.keeper ≢ number → region_of t number ≡ None

@@ -3,7 +3,7 @@ use Rattle.std.specs.Map.{lookup}
 use Rattle.alloc_set.specs.Ledger.{without_own}
 use Rattle.alloc_set.specs.State.{SetState}
 use Rattle.alloc_set.specs.Kept.{state_of}
-use Rattle.alloc_set.proofs.Given.{Gives, IsSettled-given, Moves-given, noted, gone_now, others_left}
+use Rattle.alloc_set.proofs.Given.{Gives, IsSettled-given, Moves-given, noted, lookup_less, gone_now, others_left}
 use Rattle.alloc_set.proofs.Shelved.{IsShelved-same}
 use Rattle.alloc_set.specs.declared.books.Books.{Books}
 use Rattle.alloc_set.proofs.books.Books.give_block.Goals as goal
@@ -44,6 +44,7 @@ returns-clause-kept c =
         next = kept.counted.next;
         limit = kept.counted.limit;
         filled = kept.counted.filled;
+        keeper = lookup_less c.args.number b.keeper b.blocks.entries c.strike.new.blocks.entries c.strike.ensures.at kept.counted.keeper;
         total = omega (arith, kept.counted.total, c.from.ensures, bytes);
         most = omega (arith, kept.counted.most);
         blocks = omega (arith, kept.counted.blocks, ones, least);
