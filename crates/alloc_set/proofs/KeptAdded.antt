@@ -1,13 +1,14 @@
 -- What the code keeps, after a block was added.
-use Rattle.std.proofs.Common.{◌≡◌, ◌≢◌, ℕ, ◌+◌, ◌^◌, ◌≤◌, ◌==◌, Some, None, sym, ap, ◌∙◌, subst, arith, inl, inr, sum, if◌then◌else◌, true, false}
+use Rattle.std.proofs.Common.{◌≡◌, ◌≢◌, ℕ, ◌+◌, ◌^◌, ◌≤◌, ◌==◌, Some, None, sym, ap, ◌∙◌, subst, arith, inl, inr, sum, sum_by, min, if◌then◌else◌, true, false}
 use Rattle.std.specs.Map.{values_of, lookup}
+use Rattle.std.proofs.lemmas.List.Sums.{sum_by-le-sum_by}
 use Rattle.std.proofs.lemmas.Bool.Decides.{nat_tests}
 use Rattle.addr_space.specs.Space.{Space, region_at}
 use Rattle.addr_space.specs.Footprint.{Agrees}
 use Rattle.addr_space.proofs.Written.{option_cases}
 use Rattle.alloc_set.specs.Ledger.{chunk_limit}
 use Rattle.alloc_set.specs.State.{SetState, region_of, footprint}
-use Rattle.alloc_set.specs.Kept.{state_of, IsSettled, IsShelved, IsKept}
+use Rattle.alloc_set.specs.Kept.{state_of, own_bytes, IsCounted, IsSettled, IsShelved, IsKept}
 use Rattle.alloc_set.specs.declared.books.Books.{Books}
 use Rattle.alloc_set.proofs.Added.{Adds, IsSettled-added}
 use Rattle.alloc_set.proofs.Shelved.{IsShelved-same}
@@ -53,9 +54,17 @@ module _ (s t : SetState) (number size : ℕ) (none : region_of s number ≡ Non
       ∙ ap (λ i. if s.keeper == other then Some i else lookup (λ n. other == n) t.blocks) init
       ∙ ap (λ o. if s.keeper == other then Some s.ledger.init else o) blocks
 
+-- there are no more blocks than bytes
+pub count-le : (b : Books) → IsCounted b → b.count ≤ b.total
+count-le b counted =
+    let blocks = values_of b.blocks.entries in
+    let most : sum_by (min 1) blocks ≤ sum blocks = sum_by-le-sum_by (min 1) (λ x. x) blocks (λ x. omega arith) in
+    omega (arith, most, counted.blocks, counted.total, counted.sizes.0)
+
 module _ (b n : Books) (number size : ℕ) (kept : IsKept b) (adds : Adds (state_of b) (state_of n) number size) (least : 48 ≤ size) (most : size ≤ 2 ^ 31)
     (active : n.active ≡ b.active) (sizes : n.sizes ≡ b.sizes) (next : n.next ≡ b.next) (limit : n.limit ≡ b.limit) (count : n.count ≡ b.count + 1) (idle : n.idle ≡ b.idle) (shelves : n.shelves ≡ b.shelves)
-    (sums : sum (values_of n.blocks.entries) ≡ sum (values_of b.blocks.entries) + size) (small : b.total ≤ 2 ^ 61) where
+    (sums : (f : ℕ → ℕ) → sum_by f (values_of n.blocks.entries) ≡ sum_by f (values_of b.blocks.entries) + f size) (small : b.total ≤ 2 ^ 61)
+    (noted : (other : ℕ) → lookup (λ n. other == n) n.blocks.entries ≡ (if number == other then Some size else lookup (λ n. other == n) b.blocks.entries)) where
   pub IsKept-added : IsKept n
   IsKept-added =
       let was = kept.counted in
@@ -64,6 +73,8 @@ module _ (b n : Books) (number size : ℕ) (kept : IsKept b) (adds : Adds (state
       let active_size : n.active.size ≡ b.active.size = ap (λ x. x.size) active in
       let room : n.active.room ≡ b.active.room = ap (λ x. x.room) active in
       let now = IsSettled-added (state_of b) (state_of n) b.active.region b.active.size number size kept.settled adds (b.sizes.init, keeper_owned (state_of b)) least most in
+      let differs : b.keeper ≢ number = not_keeper (state_of b) number adds.fresh in
+      let other : (number == b.keeper) ≡ false = grind (arith, nat_tests) in
       let same : (state_of n).chunks ≡ (state_of b).chunks = adds.chunks in
       record {
         counted = record {
@@ -71,10 +82,11 @@ module _ (b n : Books) (number size : ℕ) (kept : IsKept b) (adds : Adds (state
           next = (omega (arith, was.next.0, next), omega (arith, was.next.1, next, max), omega (arith, was.next.2, next));
           limit = limit ∙ was.limit ∙ ap chunk_limit (sym max);
           filled = omega (arith, was.filled, active_size, room);
-          total = omega (arith, was.total, adds.total, sums, init);
+          keeper = ap (λ k. lookup (λ n. k == n) n.blocks.entries) adds.keeper ∙ noted b.keeper ∙ ap (λ t. if t then Some size else lookup (λ n. b.keeper == n) b.blocks.entries) other ∙ was.keeper;
+        total = omega (arith, was.total, adds.total, sums (λ x. x), init);
           most = omega (arith, small, adds.total, most);
-          blocks = omega (arith, was.blocks, adds.total, count, least);
-          rooms = omega (arith, was.rooms, adds.total, room, idle);
+          blocks = omega (arith, was.blocks, count, sums (min 1), least);
+          rooms = omega (arith, was.rooms, adds.total, room, idle, ap (λ e. sum_by own_bytes (values_of e)) same);
         };
         settled = subst (λ x. IsSettled (state_of n) x.region x.size) (sym active) now;
         shelved = subst (IsShelved (state_of n)) (sym shelves) (IsShelved-same (state_of b) (state_of n) b.shelves same kept.shelved);

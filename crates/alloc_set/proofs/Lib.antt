@@ -14,3 +14,5 @@ pub mod Flipped
 pub mod Taken
 pub mod Owned
 pub mod Leads
+pub mod Unlisted
+pub mod Given

@@ -1,13 +1,14 @@
 //! An AllocSet: a memory context that keeps its freed chunks by class.
 #![tactic(auto)]
 
-ghost use Rattle.std.specs.Prelude.{◌≡◌, ◌≢◌, ℕ, ◌+◌, ◌-◌, ◌%◌, ◌^◌, ◌<◌, ◌≤◌, ◌↔◌, ◌⊎◌, Ok, Err, None, Some, IfOk, IfErr, OnOk, OnErr};
+ghost use Rattle.std.specs.Prelude.{◌≡◌, ◌≢◌, ℕ, ◌+◌, ◌-◌, ◌%◌, ◌^◌, ◌<◌, ◌≤◌, ◌↔◌, ◌⊎◌, Ok, Err, None, Some, IfOk, IfErr, IfSome, IsSome, OnOk, OnErr};
 ghost use Rattle.addr_space.specs.declared.Addr.{Addr};
 ghost use Rattle.alloc_set.specs.Ledger.{stats};
 
 mod books;
 mod chunk;
 mod classes;
+mod giving;
 
 use addr_space::{Addr, Space};
 use books::Books;
@@ -37,7 +38,7 @@ impl AllocSet {
     ghost use Rattle.addr_space.specs.Space.{accounts, held};
     ghost use Rattle.addr_space.specs.Footprint.{nothing, Agrees, Moves, Keeps};
     ghost use Rattle.chunk_header.specs.Header.{AllHeaded};
-    ghost use Rattle.alloc_set.specs.State.{footprint};
+    ghost use Rattle.alloc_set.specs.State.{chunk_at, freed, footprint};
     ghost use Rattle.alloc_set.specs.Ledger.{created, take};
     ghost use Rattle.alloc_set.specs.Live.{PutsLive};
 
@@ -108,6 +109,21 @@ impl AllocSet {
         ensures err_space { OnErr result (space.new ≡ space.old) }
     {
         self.books.alloc(space, size)
+    }
+
+    /// Frees a live chunk. It never refuses: where a chunk of its class is asked for again, it may be had
+    /// again, and a block that the chunk had for itself goes back to the space.
+    pub fn free(&mut self, space: &mut Space, at: Addr) -> Result<(), CtxError>
+        requires agrees { Agrees (footprint self.old) space.old }
+        requires live { IsSome ((footprint self.old).live at) }
+        ensures ok { result ≡ Ok tt }
+        ensures ledger { IfSome (chunk_at self.old at) (λ chunk. self.new.ledger ≡ freed self.old.ledger chunk) }
+        ensures live { PutsLive self.old self.new at None }
+        ensures moves { Moves (footprint self.old) (footprint self.new) space.old space.new }
+        ensures keeps { Keeps (footprint self.old) (footprint self.new) space.old space.new }
+    {
+        self.books.free(space, at);
+        Ok(())
     }
 }
 
