@@ -1,0 +1,6 @@
+//! A memory context of any kind, and what the headers in a space tell of a chunk.
+#![tactic(auto)]
+
+mod marked;
+
+pub use marked::{chunk_space, owner_of};

@@ -1,0 +1,100 @@
+//! What the headers in a space tell of a chunk.
+ghost use Rattle.std.specs.Prelude.{◌≡◌, ℕ, ◌^◌, ◌<◌, List, length};
+ghost use Rattle.addr_space.specs.Space.{HasBytes};
+ghost use Rattle.chunk_header.specs.Header.{IsMarked, IsLeading, block_bytes};
+ghost use Rattle.any_ctx.specs.Marked.{space_of, shared_bytes};
+
+use addr_space::{Addr, Space};
+use chunk_header::{Header, Kind};
+
+/// The bytes of a block before its chunks.
+const BLOCK_HEADER: u32 = 40;
+
+/// The bytes of a chunk's header.
+const CHUNK_HEADER: u32 = 8;
+
+// Eight known bytes.
+fn read_word(space: &Space, at: Addr) -> [u8; 8]
+    requires { (bytes : List ℕ) × (length bytes ≡ 8) × HasBytes space.now at bytes }
+    ensures { (bytes : List ℕ) → length bytes ≡ 8 → HasBytes space.now at bytes → result ≡ bytes }
+{
+    let mut word = [0; 8];
+    space.read(at, &mut word);
+    word
+}
+
+// The header of a chunk.
+fn header_at(space: &Space, at: Addr) -> Header
+    requires { (context : ℕ) × IsMarked space.now at context }
+    ensures { (context : ℕ) → (m : IsMarked space.now at context) → result ≡ m.header }
+{
+    let place = Addr {
+        region: at.region,
+        offset: at.offset - CHUNK_HEADER,
+    };
+    let word = u64::from_le_bytes(read_word(space, place));
+    match Header::unpack(word) {
+        Ok(header) => header,
+        Err(_) => unreachable!(),
+    }
+}
+
+// The first bytes of the block that a chunk's header leads to.
+fn block_word(space: &Space, at: Addr, header: Header) -> [u8; 8]
+    requires { (context : ℕ) × (m : IsMarked space.now at context) × (header ≡ m.header) }
+    ensures { (context : ℕ) → (m : IsMarked space.now at context) → header ≡ m.header → result ≡ block_bytes context m.size }
+{
+    let place = Addr {
+        region: at.region,
+        offset: at.offset - CHUNK_HEADER - header.dist,
+    };
+    read_word(space, place)
+}
+
+/// The number of the context that a chunk belongs to: the number that was handed to the context's `create`.
+///
+/// The chunk's address is marked: each live chunk's is, but those of a Bump context.
+pub fn owner_of(space: &Space, at: Addr) -> u32
+    requires { (context : ℕ) × IsMarked space.now at context }
+    ensures { (context : ℕ) → context < 2 ^ 32 → IsMarked space.now at context → result ≡ context }
+{
+    let word = block_word(space, at, header_at(space, at));
+    u32::from_le_bytes([word[0], word[1], word[2], word[3]])
+}
+
+// The size of the block that a chunk's header leads to.
+fn block_size(space: &Space, at: Addr, header: Header) -> u32
+    requires { (context : ℕ) × (m : IsMarked space.now at context) × (header ≡ m.header) }
+    ensures { (context : ℕ) → (m : IsMarked space.now at context) → header ≡ m.header → m.size < 2 ^ 32 → result ≡ m.size }
+{
+    let word = block_word(space, at, header);
+    u32::from_le_bytes([word[4], word[5], word[6], word[7]])
+}
+
+/// The bytes that a chunk takes in its block, with its header.
+///
+/// The chunk's address is marked: each live chunk's is, but those of a Bump context.
+pub fn chunk_space(space: &Space, at: Addr) -> u64
+    requires { (context : ℕ) × (m : IsMarked space.now at context) × (m.size < 2 ^ 32) }
+    ensures { (context : ℕ) → (m : IsMarked space.now at context) → m.size < 2 ^ 32 → result ≡ space_of m.header m.size }
+{
+    let header = header_at(space, at);
+    if header.own {
+        u64::from(block_size(space, at, header) - BLOCK_HEADER)
+    } else {
+        u64::from(shared_bytes(header) + CHUNK_HEADER)
+    }
+}
+
+// The bytes of a chunk that shares its block: an AllocSet's header has the class, the others' the bytes.
+fn shared_bytes(header: Header) -> u32
+    requires value { header.value < 2 ^ 30 }
+    requires leading { IsLeading header }
+    ensures value { result ≡ shared_bytes header.kind header.value }
+    ensures most { result < 2 ^ 30 }
+{
+    match header.kind {
+        Kind::AllocSet => 8 << header.value,
+        _ => header.value,
+    }
+}
