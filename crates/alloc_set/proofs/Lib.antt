@@ -16,3 +16,4 @@ pub mod Owned
 pub mod Leads
 pub mod Unlisted
 pub mod Given
+pub mod Cleared

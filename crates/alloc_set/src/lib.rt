@@ -1,7 +1,7 @@
 //! An AllocSet: a memory context that keeps its freed chunks by class.
 #![tactic(auto)]
 
-ghost use Rattle.std.specs.Prelude.{◌≡◌, ◌≢◌, ℕ, ◌+◌, ◌-◌, ◌%◌, ◌^◌, ◌<◌, ◌≤◌, ◌↔◌, ◌⊎◌, Ok, Err, None, Some, IfOk, IfErr, IfSome, IsSome, OnOk, OnErr};
+ghost use Rattle.std.specs.Prelude.{◌≡◌, ◌≢◌, ℕ, ◌+◌, ◌-◌, ◌%◌, ◌^◌, ◌<◌, ◌≤◌, ◌↔◌, ◌⊎◌, Ok, Err, None, Some, IfOk, IfErr, IfSome, IsSome, OnOk, OnErr, ◌==◌, if◌then◌else◌};
 ghost use Rattle.addr_space.specs.declared.Addr.{Addr};
 ghost use Rattle.alloc_set.specs.Ledger.{stats};
 
@@ -38,7 +38,7 @@ impl AllocSet {
     ghost use Rattle.addr_space.specs.Space.{accounts, held};
     ghost use Rattle.addr_space.specs.Footprint.{nothing, Agrees, Moves, Keeps};
     ghost use Rattle.chunk_header.specs.Header.{AllHeaded};
-    ghost use Rattle.alloc_set.specs.State.{chunk_at, freed, footprint};
+    ghost use Rattle.alloc_set.specs.State.{chunk_at, region_of, freed, footprint};
     ghost use Rattle.alloc_set.specs.Ledger.{created, take};
     ghost use Rattle.alloc_set.specs.Live.{PutsLive};
 
@@ -124,6 +124,28 @@ impl AllocSet {
     {
         self.books.free(space, at);
         Ok(())
+    }
+
+    /// Frees all chunks: all blocks but the first go back to the space, and the context is as it was created.
+    pub fn reset(&mut self, space: &mut Space)
+        requires { Agrees (footprint self.old) space.old }
+        ensures ledger { self.new.ledger ≡ created self.old.ledger.init self.old.ledger.max }
+        ensures account { self.new.account ≡ self.old.account }
+        ensures context { self.new.context ≡ self.old.context }
+        ensures keeper { self.new.keeper ≡ self.old.keeper }
+        ensures regions { (number : ℕ) → region_of self.new number ≡ (if self.old.keeper == number then Some self.old.ledger.init else None) }
+        ensures live { (at : Addr) → (footprint self.new).live at ≡ None }
+        ensures moves { Moves (footprint self.old) (footprint self.new) space.old space.new }
+    {
+        self.books.reset(space);
+    }
+
+    /// Gives all blocks back to the space.
+    pub fn discard(self, space: &mut Space)
+        requires { Agrees (footprint self) space.old }
+        ensures { Moves (footprint self) (nothing self.account self.context) space.old space.new }
+    {
+        self.books.discard(space);
     }
 }
 
