@@ -1,5 +1,5 @@
 -- The errors of a whole run are those of the source's bytes.
-use Rattle.std.proofs.Common.{◌≡◌, ℕ, List, [], ◌++◌, Option, Some, None, sym, ap, ◌∙◌, append-nil}
+use Rattle.std.proofs.Common.{◌≡◌, ℕ, List, ◌++◌, Option, Some, None, sym, ap, ◌∙◌, append-nil}
 use Rattle.std.specs.Io.KnownBytes.{IsAtEnd, prepend_known}
 use Rattle.pgs_io.specs.Lines.{lines_of}
 use Rattle.pgs_world.specs.declared.program.Outcome.{Outcome}
