@@ -75,5 +75,6 @@ CutsUp-less b n room few more le cut = record {
   spare = omega (arith, cut.spare, le);
   len = omega (arith, cut.len, le);
   others = cut.others;
+  owned = cut.owned;
   live = cut.live;
 }

@@ -7,7 +7,7 @@ use Rattle.addr_space.specs.Footprint.{Agrees}
 use Rattle.addr_space.proofs.Written.{option_cases}
 use Rattle.alloc_set.specs.Ledger.{chunk_limit}
 use Rattle.alloc_set.specs.State.{SetState, region_of, footprint}
-use Rattle.alloc_set.specs.Kept.{state_of, IsSettled, IsShelved, IsKept}
+use Rattle.alloc_set.specs.Kept.{state_of, own_bytes, IsSettled, IsShelved, IsKept}
 use Rattle.alloc_set.specs.declared.books.Books.{Books}
 use Rattle.alloc_set.proofs.Added.{Adds, IsSettled-added}
 use Rattle.alloc_set.proofs.Shelved.{IsShelved-same}
@@ -55,7 +55,7 @@ module _ (s t : SetState) (number size : ℕ) (none : region_of s number ≡ Non
 
 module _ (b n : Books) (number size : ℕ) (kept : IsKept b) (adds : Adds (state_of b) (state_of n) number size) (least : 48 ≤ size) (most : size ≤ 2 ^ 31)
     (active : n.active ≡ b.active) (sizes : n.sizes ≡ b.sizes) (next : n.next ≡ b.next) (limit : n.limit ≡ b.limit) (count : n.count ≡ b.count + 1) (idle : n.idle ≡ b.idle) (shelves : n.shelves ≡ b.shelves)
-    (sums : sum (values_of n.blocks.entries) ≡ sum (values_of b.blocks.entries) + size) (small : b.total ≤ 2 ^ 61) where
+    (sums : (f : ℕ → ℕ) → sum_by f (values_of n.blocks.entries) ≡ sum_by f (values_of b.blocks.entries) + f size) (small : b.total ≤ 2 ^ 61) where
   pub IsKept-added : IsKept n
   IsKept-added =
       let was = kept.counted in
@@ -71,10 +71,10 @@ module _ (b n : Books) (number size : ℕ) (kept : IsKept b) (adds : Adds (state
           next = (omega (arith, was.next.0, next), omega (arith, was.next.1, next, max), omega (arith, was.next.2, next));
           limit = limit ∙ was.limit ∙ ap chunk_limit (sym max);
           filled = omega (arith, was.filled, active_size, room);
-          total = omega (arith, was.total, adds.total, sums, init);
+          total = omega (arith, was.total, adds.total, sums (λ x. x), init);
           most = omega (arith, small, adds.total, most);
-          blocks = omega (arith, was.blocks, adds.total, count, least);
-          rooms = omega (arith, was.rooms, adds.total, room, idle);
+          blocks = omega (arith, was.blocks, count, sums (min 1), least);
+          rooms = omega (arith, was.rooms, adds.total, room, idle, ap (λ e. sum_by own_bytes (values_of e)) same);
         };
         settled = subst (λ x. IsSettled (state_of n) x.region x.size) (sym active) now;
         shelved = subst (IsShelved (state_of n)) (sym shelves) (IsShelved-same (state_of b) (state_of n) b.shelves same kept.shelved);

@@ -1,17 +1,17 @@
 -- What the code keeps, after a chunk was cut off the active block.
-use Rattle.std.proofs.Common.{◌≡◌, ℕ, ◌+◌, ◌-◌, ◌^◌, ◌<◌, ◌≤◌, List, length, Option, Some, None, sym, ap, ◌∙◌, subst, arith, inl, inr, sum, sum_by, set}
+use Rattle.std.proofs.Common.{◌≡◌, ℕ, ◌+◌, ◌-◌, ◌^◌, ◌<◌, ◌≤◌, List, length, Option, Some, None, refl, min, sym, ap, ◌∙◌, subst, arith, inl, inr, sum, sum_by, set}
 use Rattle.std.specs.Map.{values_of}
 use Rattle.std.proofs.lemmas.List.{length-map}
 use Rattle.addr_space.specs.declared.Addr.{Addr}
 use Rattle.alloc_set.specs.Ledger.{class_bytes, chunk_limit}
 use Rattle.alloc_set.specs.State.{SetState, chunk_at, then_option, live_size, footprint}
-use Rattle.alloc_set.specs.Kept.{state_of, IsCounted, IsSettled, IsShelved, IsKept, is_free, shelf_at}
-use Rattle.alloc_set.specs.Steps.{Carves, PutsChunk}
+use Rattle.alloc_set.specs.Kept.{state_of, own_bytes, IsCounted, IsSettled, IsShelved, IsKept, is_free, shelf_at}
+use Rattle.alloc_set.specs.Steps.{IsOfClass, Carves, PutsChunk}
 use Rattle.alloc_set.specs.Live.{SameLive}
 use Rattle.alloc_set.specs.declared.books.Books.{Books}
 use Rattle.alloc_set.specs.declared.books.Block.{Block}
 use Rattle.alloc_set.specs.declared.chunk.Chunk.{Chunk}
-use Rattle.alloc_set.specs.declared.chunk.Chunk.TheVariants.{Live, Free}
+use Rattle.alloc_set.specs.declared.chunk.Chunk.TheVariants.{Live, Free, Own}
 use Rattle.alloc_set.specs.declared.chunk.Shelf.{Shelf}
 use Rattle.alloc_set.proofs.Carved.{IsSettled-carved, place_free, put_cases}
 use Rattle.alloc_set.proofs.Shelved.{IsShelved-taken, IsShelved-freed, IsTaken, sum_by-le-length, is_free-le}
@@ -19,6 +19,12 @@ use Rattle.alloc_set.proofs.Shelved.{IsShelved-taken, IsShelved-freed, IsTaken, 
 -- nothing stands at an address: no free chunk does
 pub IsTaken-none : (slot : Option Chunk) → slot ≡ None → IsTaken slot
 IsTaken-none slot none class next free = let clash = sym none ∙ free in absurd (cc)
+
+-- a chunk of a class has no block for itself
+pub own_bytes-class : (class : ℕ) (chunk : Chunk) → IsOfClass class chunk → own_bytes chunk ≡ 0
+own_bytes-class class (Live other size) is = refl
+own_bytes-class class (Free other next) is = refl
+own_bytes-class class (Own size room) is = absurd is
 
 module _ (b n : Books) (class : ℕ) (at : Addr) (chunk : Chunk) (kept : IsKept b)
     (carves : Carves (state_of b) (state_of n) b.active.region b.active.size class at chunk)
@@ -30,8 +36,8 @@ module _ (b n : Books) (class : ℕ) (at : Addr) (chunk : Chunk) (kept : IsKept 
       let now = IsSettled-carved (state_of b) (state_of n) b.active.region b.active.size class at chunk kept.settled carves kept.counted.filled in
       subst (λ (x : Block). IsSettled (state_of n) x.region x.size) (sym active) now
 
-  counted_now : IsCounted n
-  counted_now =
+  counted_now : ((f : Chunk → ℕ) → sum_by f (values_of n.chunks.entries) ≡ sum_by f (values_of b.chunks.entries) + f chunk) → IsCounted n
+  counted_now sums =
       let was = kept.counted in
       let size : n.active.size ≡ b.active.size = ap (λ (x : Block). x.size) active in
       let max : n.sizes.max ≡ b.sizes.max = ap (λ x. x.max) sizes in
@@ -44,8 +50,8 @@ module _ (b n : Books) (class : ℕ) (at : Addr) (chunk : Chunk) (kept : IsKept 
         filled = omega (arith, was.filled, carves.room, size, kept.settled.active_room);
         total = omega (arith, was.total, carves.same.total, init, ap (λ e. sum (values_of e)) blocks);
         most = omega (arith, was.most, carves.same.total);
-        blocks = omega (arith, was.blocks, carves.same.total, count);
-        rooms = omega (arith, was.rooms, carves.same.total, carves.room, idle);
+        blocks = omega (arith, was.blocks, count, ap (λ e. sum_by (min 1) (values_of e)) blocks);
+        rooms = omega (arith, was.rooms, carves.same.total, carves.room, idle, sums own_bytes, own_bytes-class class chunk carves.of_class);
       }
 
   without : chunk_at (state_of b) at ≡ None
@@ -54,7 +60,7 @@ module _ (b n : Books) (class : ℕ) (at : Addr) (chunk : Chunk) (kept : IsKept 
   -- a live chunk was cut off
   pub IsKept-live : n.shelves ≡ b.shelves → (size : ℕ) → chunk ≡ Live class size → ((f : Chunk → ℕ) → sum_by f (values_of n.chunks.entries) ≡ sum_by f (values_of b.chunks.entries) + f chunk) → IsKept n
   IsKept-live shelves size live sums = record {
-    counted = counted_now;
+    counted = counted_now sums;
     settled = settled_now;
     shelved = subst (IsShelved (state_of n)) (sym shelves)
         (IsShelved-taken (state_of b) (state_of n) b.shelves at (Some chunk) kept.shelved carves.chunks (omega (arith, len)) (IsTaken-none (chunk_at (state_of b) at) without)
@@ -64,7 +70,7 @@ module _ (b n : Books) (class : ℕ) (at : Addr) (chunk : Chunk) (kept : IsKept 
   -- a free chunk was cut off, the first of its shelf
   pub IsKept-free : class < 11 → n.shelves ≡ set b.shelves class (record { first = Some at; count = (shelf_at b.shelves class).count + 1 }) → chunk ≡ Free class (shelf_at b.shelves class).first → ((f : Chunk → ℕ) → sum_by f (values_of n.chunks.entries) ≡ sum_by f (values_of b.chunks.entries) + f chunk) → IsKept n
   IsKept-free below shelves free sums = record {
-    counted = counted_now;
+    counted = counted_now sums;
     settled = settled_now;
     shelved = subst (IsShelved (state_of n)) (sym shelves)
         (IsShelved-freed (state_of b) (state_of n) b.shelves at (Some chunk) kept.shelved carves.chunks (omega (arith, len)) class below (IsTaken-none (chunk_at (state_of b) at) without) (ap Some free)

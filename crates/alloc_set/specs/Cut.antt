@@ -1,5 +1,6 @@
 -- What is left once the rest of a block was cut up.
-use Rattle.std.specs.Prelude.{◌≡◌, ◌≢◌, ℕ, ◌+◌, ◌-◌, ◌<◌, ◌≤◌, ◌^◌, length, Some, None, Result, Ok}
+use Rattle.std.specs.Prelude.{◌≡◌, ◌≢◌, ℕ, ◌+◌, ◌-◌, ◌<◌, ◌≤◌, ◌^◌, length, Some, None, Result, Ok, sum_by}
+use Rattle.std.specs.Map.{values_of}
 use Rattle.addr_space.specs.Footprint.{Moves, Keeps}
 use Rattle.chunk_header.specs.declared.CtxError.{CtxError}
 use Rattle.addr_space.specs.Space.{Space, held}
@@ -7,7 +8,7 @@ use Rattle.alloc_set.specs.Ledger.{SetLedger, block_size, renewed, class_bytes}
 use Rattle.indexmap.specs.IndexMap.{spare}
 use Rattle.addr_space.specs.declared.Addr.{Addr}
 use Rattle.alloc_set.specs.State.{chunk_at, footprint}
-use Rattle.alloc_set.specs.Kept.{state_of, IsKept}
+use Rattle.alloc_set.specs.Kept.{state_of, IsKept, own_bytes}
 use Rattle.alloc_set.specs.Live.{SameLive, PutsLive}
 use Rattle.alloc_set.specs.declared.books.Books.{Books}
 
@@ -25,6 +26,7 @@ pub record CutsUp (b n : Books) (room classes : ℕ) : Type 0 where
   pub spare : spare b.chunks ≤ spare n.chunks + classes
   pub len : length n.chunks.entries ≤ length b.chunks.entries + classes
   pub others : (at : Addr) → at.region ≢ b.active.region → chunk_at (state_of n) at ≡ chunk_at (state_of b) at
+  pub owned : sum_by own_bytes (values_of n.chunks.entries) ≡ sum_by own_bytes (values_of b.chunks.entries)
   pub live : SameLive (state_of b) (state_of n)
 
 -- a new block is active, with room for a chunk of a class

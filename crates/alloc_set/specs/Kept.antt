@@ -1,5 +1,5 @@
 -- What holds of the insides of an AllocSet.
-use Rattle.std.specs.Prelude.{◌≡◌, ◌≢◌, ℕ, ◌+◌, ◌-◌, ◌%◌, ◌^◌, ◌<◌, ◌≤◌, ◌==◌, List, length, map, Option, Some, None, if◌then◌else◌, sum, sum_by, zero, suc, slice_index_or}
+use Rattle.std.specs.Prelude.{◌≡◌, ◌≢◌, ℕ, ◌+◌, ◌-◌, ◌%◌, ◌^◌, ◌<◌, ◌≤◌, ◌==◌, List, length, map, min, Option, Some, None, if◌then◌else◌, sum, sum_by, zero, suc, slice_index_or}
 use Rattle.std.specs.Map.{values_of}
 use Rattle.addr_space.specs.declared.Addr.{Addr}
 use Rattle.alloc_set.specs.Ledger.{class_size, chunk_limit}
@@ -86,7 +86,13 @@ pub record IsShelved (s : SetState) (shelves : List Shelf) : Type 0 where
   pub counted : (class : ℕ) → class < 11 → (shelf_at shelves class).count ≡ sum_by (is_free class) (values_of s.chunks)
   pub few : length s.chunks ≤ 2 ^ 40
 
--- the numbers
+-- what a chunk that has its block for itself takes
+abbrev pub own_bytes : Chunk → ℕ
+own_bytes (Live class size) = 0
+own_bytes (Free class next) = 0
+own_bytes (Own size room) = room + 48
+
+-- the numbers: each block but the first counts 1, and no room lies in a chunk's own block
 pub record IsCounted (b : Books) : Type 0 where
   pub sizes : (1024 ≤ b.sizes.init) × (b.sizes.init ≤ b.sizes.max) × (b.sizes.max ≤ 8388608) × (b.sizes.init % 8 ≡ 0) × (b.sizes.max % 8 ≡ 0)
   pub next : (1024 ≤ b.next) × (b.next ≤ b.sizes.max) × (b.next % 8 ≡ 0)
@@ -94,8 +100,8 @@ pub record IsCounted (b : Books) : Type 0 where
   pub filled : (b.active.size - b.active.room) % 8 ≡ 0
   pub total : b.total ≡ b.sizes.init + sum (values_of b.blocks.entries)
   pub most : b.total ≤ 2 ^ 62
-  pub blocks : b.count ≤ b.total
-  pub rooms : b.active.room + b.idle ≤ b.total
+  pub blocks : b.count ≡ 1 + sum_by (min 1) (values_of b.blocks.entries)
+  pub rooms : b.active.room + b.idle + sum_by own_bytes (values_of b.chunks.entries) ≤ b.total
 
 -- all that the code keeps
 pub record IsKept (b : Books) : Type 0 where

@@ -68,7 +68,7 @@ fn note(blocks: &mut IndexMap<u32, u32>, number: u32, size: u32)
     requires spare { 0 < spare blocks.old }
     requires new { lookup (λ n. number == n) blocks.old.entries ≡ None }
     ensures at { (other : ℕ) → lookup (λ n. other == n) blocks.new.entries ≡ (if number == other then Some size else lookup (λ n. other == n) blocks.old.entries) }
-    ensures sum { sum (values_of blocks.new.entries) ≡ sum (values_of blocks.old.entries) + size }
+    ensures sums { (f : ℕ → ℕ) → sum_by f (values_of blocks.new.entries) ≡ sum_by f (values_of blocks.old.entries) + f size }
 {
     match blocks.insert(number, size) {
         Ok(_) => {}
@@ -89,7 +89,7 @@ const LARGE: u32 = 1_048_576;
 const MOST_CHUNKS: usize = 1 << 39;
 
 impl Books {
-    ghost use Rattle.alloc_set.specs.Kept.{state_of, IsSettled, IsShelved, IsCounted, IsKept};
+    ghost use Rattle.alloc_set.specs.Kept.{state_of, own_bytes, IsSettled, IsShelved, IsCounted, IsKept};
     ghost use Rattle.alloc_set.specs.Steps.{IsOfClass, Carves};
     ghost use Rattle.alloc_set.specs.Live.{PutsLive, SameLive};
     ghost use Rattle.alloc_set.specs.Cut.{CutsUp, Renews, Allocates};
@@ -229,6 +229,7 @@ impl Books {
         ensures spare { spare self.old.chunks ≤ spare self.new.chunks + 1 }
         ensures len { length self.new.chunks.entries ≡ length self.old.chunks.entries + 1 }
         ensures rest { self.new ≡ record self.old { chunks = self.new.chunks; active = self.new.active; shelves = self.new.shelves } }
+        ensures owned { sum_by own_bytes (values_of self.new.chunks.entries) ≡ sum_by own_bytes (values_of self.old.chunks.entries) }
         ensures others { (at : Addr) → at.region ≢ self.old.active.region → chunk_at (state_of self.new) at ≡ chunk_at (state_of self.old) at }
         ensures live { SameLive (state_of self.old) (state_of self.new) }
         ensures moves { Moves (footprint (state_of self.old)) (footprint (state_of self.new)) space.old space.new }
@@ -346,7 +347,7 @@ impl Books {
         requires owned { region_of (state_of self.old) region ≡ Some size }
         requires other { region ≢ self.old.keeper }
         requires empty { (at : Addr) → at.region ≡ region → chunk_at (state_of self.old) at ≡ None }
-        requires counted { self.old.active.room + self.old.idle + size ≤ self.old.total }
+        requires counted { self.old.active.room + self.old.idle + sum_by own_bytes (values_of self.old.chunks.entries) + size ≤ self.old.total }
         ensures kept { IsKept self.new }
         ensures state { state_of self.new ≡ record (state_of self.old) { ledger = record (state_of self.old).ledger { next = min (2 * self.old.next) self.old.sizes.max; idle = self.old.idle + self.old.active.room; room = size - 40 } } }
         ensures rest { self.new ≡ record self.old { active = self.new.active; idle = self.new.idle; next = self.new.next } }
@@ -504,6 +505,7 @@ impl Books {
         requires not_active { region ≢ self.old.active.region }
         requires empty { (other : Addr) → other.region ≡ region → chunk_at (state_of self.old) other ≡ None }
         requires fits { size ≤ room }
+        requires counted { self.old.active.room + self.old.idle + sum_by own_bytes (values_of self.old.chunks.entries) + room + 48 ≤ self.old.total }
         requires spare { 0 < spare self.old.chunks }
         requires few { length self.old.chunks.entries < 2 ^ 40 }
         ensures kept { IsKept self.new }

@@ -2,7 +2,7 @@ use Rattle.std.proofs.Common.{◌≡◌, ℕ, ◌+◌, ◌-◌, ◌<◌, ap, ◌
 use Rattle.std.proofs.lemmas.List.{map-set, get_or-map}
 use Rattle.alloc_set.specs.Ledger.{class_bytes, with_free}
 use Rattle.alloc_set.specs.State.{mark_of}
-use Rattle.alloc_set.specs.Kept.{state_of, shelf_at, no_shelf}
+use Rattle.alloc_set.specs.Kept.{state_of, own_bytes, shelf_at, no_shelf}
 use Rattle.alloc_set.proofs.KeptCut.{IsKept-free, live-without, Carves-shelved, SameLive-put, count-few}
 use Rattle.alloc_set.specs.declared.books.Books.{Books}
 use Rattle.alloc_set.specs.declared.chunk.Shelf.{Shelf}
@@ -43,6 +43,9 @@ returns-clause-ledger c =
     ap (λ (x : Books). record (state_of x).ledger { free = map (λ (s : Shelf). s.count) (set m.shelves c.args.class new) }) rest
     ∙ ap (λ r. record (state_of b).ledger { room = r; free = map (λ (s : Shelf). s.count) (set m.shelves c.args.class new) }) room
     ∙ ap (λ f. record (state_of b).ledger { room = b.active.room - class_bytes c.args.class; free = f }) free
+
+pub returns-clause-owned : goal.returns-clause-owned
+returns-clause-owned c = c.carve-at.ensures.sums own_bytes
 
 pub returns-clause-live : goal.returns-clause-live
 returns-clause-live c =

@@ -37,6 +37,7 @@ loop-class-preserved-then-self-class_size c =
         spare = omega (arith, c.cut_free.ensures.spare, kept.cut.spare, kept.last, c.loop-class-test.true);
         len = omega (arith, c.cut_free.ensures.len, kept.cut.len, kept.last, c.loop-class-test.true);
         others = λ at differs. c.cut_free.ensures.others at (λ e. differs (e ∙ ap (λ (x : Block). x.region) active)) ∙ kept.cut.others at differs;
+        owned = c.cut_free.ensures.owned ∙ kept.cut.owned;
         live = λ at. c.cut_free.ensures.live at ∙ kept.cut.live at;
       };
       little = omega (arith, room, little, class_bytes-suc class);

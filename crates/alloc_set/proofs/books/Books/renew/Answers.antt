@@ -1,4 +1,5 @@
-use Rattle.std.proofs.Common.{◌≡◌, ◌≢◌, ℕ, ◌+◌, ◌-◌, ◌*◌, ap, ◌∙◌, sym, subst, arith, Some, None, List, length, min, inl, inr}
+use Rattle.std.proofs.Common.{◌≡◌, ◌≢◌, ℕ, ◌+◌, ◌-◌, ◌*◌, ap, ◌∙◌, sym, subst, arith, Some, None, List, length, min, inl, inr, sum_by}
+use Rattle.std.specs.Map.{values_of}
 use Rattle.indexmap.specs.IndexMap.{spare}
 use Rattle.addr_space.specs.Space.{held}
 use Rattle.addr_space.specs.Footprint.{Footprint, Moves, Keeps}
@@ -9,7 +10,7 @@ use Rattle.chunk_header.specs.declared.CtxError.TheVariants.{NoSpace}
 use Rattle.chunk_header.specs.Growth.{grown}
 use Rattle.alloc_set.specs.Ledger.{SetLedger, class_size, cut_rest, cut_up, with_own, renewed, block_size, halved}
 use Rattle.alloc_set.specs.State.{SetState, chunk_at, region_of, footprint}
-use Rattle.alloc_set.specs.Kept.{state_of}
+use Rattle.alloc_set.specs.Kept.{state_of, own_bytes}
 use Rattle.alloc_set.specs.declared.books.Books.{Books}
 use Rattle.alloc_set.proofs.Cuts.{Keeps-more}
 use Rattle.alloc_set.proofs.books.Books.renew.Goals as goal
@@ -70,7 +71,7 @@ activate-requires-clause-counted c =
     let ledger = ledger_cut (goal.at.activate-requires-clause-counted c).After-cut_up in
     let m = c.add_block.new.self in
     let active : m.active.room ≡ c.args.self.now.active.room = ap (λ (x : Books). x.active.room) c.in-Ok.ensures.rest in
-    omega (arith, ap (λ (l : SetLedger). l.total) ledger, ap (λ (l : SetLedger). l.idle) ledger, c.cut_up.ensures.cut.less, active, c.requires.kept.counted.rooms)
+    omega (arith, ap (λ (l : SetLedger). l.total) ledger, ap (λ (l : SetLedger). l.idle) ledger, c.cut_up.ensures.cut.less, active, c.requires.kept.counted.rooms, c.cut_up.ensures.cut.owned, ap (λ (x : Books). sum_by own_bytes (values_of x.chunks.entries)) c.in-Ok.ensures.rest)
 
 pub returns-clause-renewed : goal.returns-clause-renewed
 unfolding block_size renewed

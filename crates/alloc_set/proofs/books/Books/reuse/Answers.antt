@@ -2,7 +2,7 @@ use Rattle.std.proofs.Common.{◌≡◌, ℕ, suc, ◌-◌, ◌<◌, ap, ◌∙�
 use Rattle.std.proofs.lemmas.List.{map-set, get_or-map}
 use Rattle.alloc_set.specs.Ledger.{reused}
 use Rattle.alloc_set.specs.State.{chunk_at}
-use Rattle.alloc_set.specs.Kept.{state_of, shelf_at, no_shelf, is_free}
+use Rattle.alloc_set.specs.Kept.{state_of, shelf_at, no_shelf, is_free, own_bytes}
 use Rattle.alloc_set.specs.Steps.{SameBlocks}
 use Rattle.alloc_set.proofs.Flipped.{IsSettled-flipped, Moves-flipped}
 use Rattle.alloc_set.proofs.Shelved.{chain_head, chain_empty, IsShelved-popped}
@@ -62,7 +62,7 @@ returns-clause-kept c =
         total = kept.counted.total;
         most = kept.counted.most;
         blocks = kept.counted.blocks;
-        rooms = kept.counted.rooms;
+        rooms = let sums = rw was at (c.put.ensures.sums own_bytes) in omega (arith, kept.counted.rooms, sums);
       };
       settled = IsSettled-flipped (state_of b) (state_of n) b.active.region b.active.size class c.in-Some.at (Free class next) (Live class c.args.size) kept.settled (same b n refl refl refl refl refl refl) refl was (refl, c.requires.class) (refl, c.requires.class, c.requires.size) c.put.ensures.at;
       shelved = IsShelved-popped (state_of b) (state_of n) b.shelves c.in-Some.at (Some (Live class c.args.size)) kept.shelved c.put.ensures.at (omega (arith, len, kept.shelved.few)) class next (shelf.count - 1) below c.in-Some.is was number

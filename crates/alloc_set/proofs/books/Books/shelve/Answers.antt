@@ -3,7 +3,7 @@ use Rattle.std.proofs.lemmas.List.{map-set, get_or-map}
 use Rattle.addr_space.specs.declared.Addr.{Addr}
 use Rattle.alloc_set.specs.Ledger.{with_free}
 use Rattle.alloc_set.specs.State.{SetState, chunk_at}
-use Rattle.alloc_set.specs.Kept.{state_of, shelf_at, no_shelf, is_free}
+use Rattle.alloc_set.specs.Kept.{state_of, shelf_at, no_shelf, is_free, own_bytes}
 use Rattle.alloc_set.specs.Steps.{SameBlocks}
 use Rattle.alloc_set.proofs.KeptCut.{count-few}
 use Rattle.alloc_set.proofs.Flipped.{IsSettled-flipped, Moves-flipped}
@@ -54,7 +54,7 @@ returns-clause-kept c =
         total = kept.counted.total;
         most = kept.counted.most;
         blocks = kept.counted.blocks;
-        rooms = kept.counted.rooms;
+        rooms = let sums = rw was at (c.put.ensures.sums own_bytes) in omega (arith, kept.counted.rooms, sums);
       };
       settled = IsSettled-flipped (state_of b) (state_of n) b.active.region b.active.size class c.args.at (Live class size) (Free class shelf.first) kept.settled (same b n refl refl refl refl refl refl) refl was (refl, fits.0, fits.1) (refl, c.requires.class) c.put.ensures.at;
       shelved = IsShelved-freed (state_of b) (state_of n) b.shelves c.args.at (Some (Free class shelf.first)) kept.shelved c.put.ensures.at (omega (arith, len, kept.shelved.few)) class below (is_taken (state_of b) c.args.at class size was) refl

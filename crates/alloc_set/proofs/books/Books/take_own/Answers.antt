@@ -1,12 +1,13 @@
-use Rattle.std.proofs.Common.{◌≡◌, ℕ, ◌+◌, ◌-◌, ◌<◌, ◌≤◌, ap, ◌∙◌, sym, subst, arith, Some, None, Ok, Err, inl, inr}
+use Rattle.std.proofs.Common.{◌≡◌, ℕ, ◌+◌, ◌-◌, ◌<◌, ◌≤◌, ap, ◌∙◌, sym, subst, arith, Some, None, Ok, Err, inl, inr, sum_by}
+use Rattle.std.specs.Map.{values_of}
 use Rattle.addr_space.specs.Space.{held}
 use Rattle.addr_space.specs.Footprint.{Moves, Keeps}
 use Rattle.addr_space.proofs.Steps.{Moves-more}
 use Rattle.addr_space.proofs.Written.{option_cases}
 use Rattle.chunk_header.specs.declared.CtxError.TheVariants.{NoSpace}
-use Rattle.alloc_set.specs.Ledger.{take_own, with_own, own_size}
+use Rattle.alloc_set.specs.Ledger.{SetLedger, take_own, with_own, own_size}
 use Rattle.alloc_set.specs.State.{SetState, chunk_at, region_of, footprint}
-use Rattle.alloc_set.specs.Kept.{state_of}
+use Rattle.alloc_set.specs.Kept.{state_of, own_bytes}
 use Rattle.alloc_set.specs.Live.{PutsLive, SameLive}
 use Rattle.alloc_set.specs.declared.books.Books.{Books}
 use Rattle.alloc_set.proofs.Cuts.{Keeps-more}
@@ -25,6 +26,25 @@ returns-in-Err-add_block-clause-no_space c = λ e.
     let account : c.make_room.new.self.account ≡ b.account = ap (λ (s : SetState). s.account) same in
     let over = subst (λ a. c.args.space.now.limit - held c.args.space.now a < c.up8-room.result + 48) account (c.in-Err-add_block.ensures.no_space (ap Err it)) in
     take_own-none (state_of b).ledger (c.args.space.now.limit - held c.args.space.now b.account) (own_size c.args.size) (omega (arith, over, c.up8-room.ensures.value))
+
+pub settle-requires-clause-counted : goal.settle-requires-clause-counted
+settle-requires-clause-counted c =
+    let b = c.args.self.now in
+    let a = c.add_block.new.self in
+    let same : state_of c.make_room.new.self ≡ state_of b = made (goal.at.settle-requires-clause-counted c).In-Ok in
+    let rest = c.in-Ok-add_block.ensures.rest in
+    omega (
+      arith,
+      c.requires.kept.counted.rooms,
+      ap (λ (l : SetLedger). l.total) c.in-Ok-add_block.ensures.ledger,
+      ap (λ (l : SetLedger). l.room) c.in-Ok-add_block.ensures.ledger,
+      ap (λ (l : SetLedger). l.idle) c.in-Ok-add_block.ensures.ledger,
+      ap (λ (x : Books). sum_by own_bytes (values_of x.chunks.entries)) rest,
+      ap (λ (s : SetState). s.ledger.total) same,
+      ap (λ (s : SetState). s.ledger.room) same,
+      ap (λ (s : SetState). s.ledger.idle) same,
+      ap (λ (s : SetState). sum_by own_bytes (values_of s.chunks)) same,
+    )
 
 pub settle-requires-clause-empty : goal.settle-requires-clause-empty
 settle-requires-clause-empty c = λ other region.
