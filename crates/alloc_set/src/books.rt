@@ -77,10 +77,10 @@ fn note(blocks: &mut IndexMap<u32, u32>, number: u32, size: u32)
 }
 
 // The greatest size of a request.
-const LARGEST: u64 = 1_073_741_823;
+pub const LARGEST: u64 = 1_073_741_823;
 
 // The greatest total with which a context takes one more block, in bytes.
-const MOST: u64 = 1 << 61;
+pub const MOST: u64 = 1 << 61;
 
 // The size from which a block that doesn't fit is halved.
 const LARGE: u32 = 1_048_576;

@@ -120,3 +120,34 @@ fn an_own_block(rt: HostRuntime) -> Result<(), Fail> {
     );
     Ok(())
 }
+
+#[test]
+fn chunks_are_resized(rt: HostRuntime) -> Result<(), Fail> {
+    let mut space = Space::new(rt.alloc(), 1, 100_000)?;
+    let mut set = AllocSet::create(rt.alloc(), &mut space, 0, 7, GREAT)?;
+    let at = set.alloc(&mut space, 9000)?;
+    assert_eq!(rt; set.realloc(&mut space, at, 0, 20_000), Ok(at));
+    assert_eq!(rt;
+        set.stats(),
+        Stats {
+            total: 28240,
+            blocks: 2,
+            free: 7952,
+            chunks: 0
+        }
+    );
+    Ok(())
+}
+
+#[test]
+fn a_moved_chunk_keeps_its_bytes(rt: HostRuntime) -> Result<(), Fail> {
+    let mut space = Space::new(rt.alloc(), 1, 100_000)?;
+    let mut set = AllocSet::create(rt.alloc(), &mut space, 0, 7, GREAT)?;
+    let at = set.alloc(&mut space, 10)?;
+    space.write(at, b"abcd");
+    let to = set.realloc(&mut space, at, 4, 3000)?;
+    let mut out = [0; 4];
+    space.read(to, &mut out);
+    assert_eq!(rt; out, *b"abcd");
+    Ok(())
+}
