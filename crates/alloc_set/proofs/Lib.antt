@@ -14,3 +14,4 @@ pub mod Flipped
 pub mod Taken
 pub mod Owned
 pub mod Leads
+pub mod Stays
