@@ -15,3 +15,5 @@ pub mod Taken
 pub mod Owned
 pub mod Leads
 pub mod Stays
+pub mod Resized
+pub mod Stretched

@@ -61,11 +61,11 @@ abbrev pub HasBytesOf : Space → Space → Addr → Addr → ℕ → Type 0
 HasBytesOf s t from to n = (k : ℕ) → k < n → byte_at t to.region (to.offset + k) ≡ byte_at s from.region (from.offset + k)
 
 -- a live chunk has this size now, at the same address or at another one, where the ledger's step answers so
-pub record Resizes (b n : Books) (s t : Space) (from to : Addr) (bytes size : ℕ) (step : Result SetLedger CtxError) : Type 0 where
+pub record Resizes (b n : Books) (s t : Space) (from to : Addr) (keep size : ℕ) (step : Result SetLedger CtxError) : Type 0 where
   pub kept : IsKept n
   pub ledger : step ≡ Ok (state_of n).ledger
   pub fresh : to ≢ from → (footprint (state_of b)).live to ≡ None
   pub live : MovesLive (state_of b) (state_of n) from to size
-  pub bytes : HasBytesOf s t from to bytes
+  pub bytes : HasBytesOf s t from to keep
   pub moves : Moves (footprint (state_of b)) (footprint (state_of n)) s t
   pub keeps : KeepsBut from (footprint (state_of b)) (footprint (state_of n)) s t

@@ -1,5 +1,5 @@
 //! What an AllocSet does when a chunk gets another size.
-ghost use Rattle.std.specs.Prelude.{◌≡◌, ◌≢◌, ℕ, ◌+◌, ◌-◌, ◌^◌, ◌<◌, ◌≤◌, ◌↔◌, ◌⊎◌, ◌==◌, Ok, Err, Some, None, IfOk, IfErr, OnOk, OnErr, IsSome, IfSome, Option, map, min, sum, length, unwrap_or, if◌then◌else◌};
+ghost use Rattle.std.specs.Prelude.{◌≡◌, ◌≢◌, ℕ, ◌+◌, ◌-◌, ◌^◌, ◌<◌, ◌≤◌, ◌↔◌, ◌⊎◌, ◌==◌, Ok, Err, Some, None, IfOk, IfErr, OnOk, OnErr, IsSome, IfSome, Option, map, min, sum_by, unwrap_or, option_map, if◌then◌else◌};
 ghost use Rattle.std.specs.Map.{values_of, lookup};
 ghost use Rattle.addr_space.specs.declared.Addr.{Addr};
 ghost use Rattle.addr_space.specs.Space.{Space, held, share, region_at, resized as with_length, overwritten, Changes, IsOverLimit, IsKnown};
@@ -20,8 +20,7 @@ use indexmap::IndexMap;
 fn note_again(blocks: &mut IndexMap<u32, u32>, number: u32, size: u32)
     requires { IsSome (lookup (λ n. number == n) blocks.old.entries) }
     ensures at { (other : ℕ) → lookup (λ n. other == n) blocks.new.entries ≡ (if number == other then Some size else lookup (λ n. other == n) blocks.old.entries) }
-    ensures sum { sum (values_of blocks.new.entries) + unwrap_or (lookup (λ n. number == n) blocks.old.entries) 0 ≡ sum (values_of blocks.old.entries) + size }
-    ensures len { length blocks.new.entries ≡ length blocks.old.entries }
+    ensures sums { (f : ℕ → ℕ) → sum_by f (values_of blocks.new.entries) + unwrap_or (option_map f (lookup (λ n. number == n) blocks.old.entries)) 0 ≡ sum_by f (values_of blocks.old.entries) + f size }
 {
     match blocks.insert(number, size) {
         Ok(_) => {}
