@@ -1,13 +1,14 @@
 -- What the code keeps, after a block was added.
-use Rattle.std.proofs.Common.{◌≡◌, ◌≢◌, ℕ, ◌+◌, ◌^◌, ◌≤◌, ◌==◌, Some, None, sym, ap, ◌∙◌, subst, arith, inl, inr, sum, if◌then◌else◌, true, false}
+use Rattle.std.proofs.Common.{◌≡◌, ◌≢◌, ℕ, ◌+◌, ◌^◌, ◌≤◌, ◌==◌, Some, None, sym, ap, ◌∙◌, subst, arith, inl, inr, sum, sum_by, min, if◌then◌else◌, true, false}
 use Rattle.std.specs.Map.{values_of, lookup}
+use Rattle.std.proofs.lemmas.List.Sums.{sum_by-le-sum_by}
 use Rattle.std.proofs.lemmas.Bool.Decides.{nat_tests}
 use Rattle.addr_space.specs.Space.{Space, region_at}
 use Rattle.addr_space.specs.Footprint.{Agrees}
 use Rattle.addr_space.proofs.Written.{option_cases}
 use Rattle.alloc_set.specs.Ledger.{chunk_limit}
 use Rattle.alloc_set.specs.State.{SetState, region_of, footprint}
-use Rattle.alloc_set.specs.Kept.{state_of, own_bytes, IsSettled, IsShelved, IsKept}
+use Rattle.alloc_set.specs.Kept.{state_of, own_bytes, IsCounted, IsSettled, IsShelved, IsKept}
 use Rattle.alloc_set.specs.declared.books.Books.{Books}
 use Rattle.alloc_set.proofs.Added.{Adds, IsSettled-added}
 use Rattle.alloc_set.proofs.Shelved.{IsShelved-same}
@@ -52,6 +53,13 @@ module _ (s t : SetState) (number size : ℕ) (none : region_of s number ≡ Non
       ap (λ k. if k == other then Some t.ledger.init else lookup (λ n. other == n) t.blocks) keeper
       ∙ ap (λ i. if s.keeper == other then Some i else lookup (λ n. other == n) t.blocks) init
       ∙ ap (λ o. if s.keeper == other then Some s.ledger.init else o) blocks
+
+-- there are no more blocks than bytes
+pub count-le : (b : Books) → IsCounted b → b.count ≤ b.total
+count-le b counted =
+    let blocks = values_of b.blocks.entries in
+    let most : sum_by (min 1) blocks ≤ sum blocks = sum_by-le-sum_by (min 1) (λ x. x) blocks (λ x. omega arith) in
+    omega (arith, most, counted.blocks, counted.total, counted.sizes.0)
 
 module _ (b n : Books) (number size : ℕ) (kept : IsKept b) (adds : Adds (state_of b) (state_of n) number size) (least : 48 ≤ size) (most : size ≤ 2 ^ 31)
     (active : n.active ≡ b.active) (sizes : n.sizes ≡ b.sizes) (next : n.next ≡ b.next) (limit : n.limit ≡ b.limit) (count : n.count ≡ b.count + 1) (idle : n.idle ≡ b.idle) (shelves : n.shelves ≡ b.shelves)

@@ -6,7 +6,7 @@ use Rattle.alloc_set.specs.State.{region_of}
 use Rattle.alloc_set.specs.Kept.{state_of}
 use Rattle.alloc_set.specs.declared.books.Books.{Books}
 use Rattle.alloc_set.proofs.Added.{Adds, Moves-added}
-use Rattle.alloc_set.proofs.KeptAdded.{keeper_owned, unowned, not_noted, owned_now, others_now, IsKept-added}
+use Rattle.alloc_set.proofs.KeptAdded.{keeper_owned, unowned, not_noted, owned_now, others_now, count-le, IsKept-added}
 use Rattle.alloc_set.proofs.books.Books.add_block.Goals as goal
 
 pub note-requires-clause-new : goal.note-requires-clause-new
@@ -33,11 +33,14 @@ adds c = record {
   others = others_now (state_of c.args.self.now) (state_of (now c)) c.in-Ok.at.region c.args.size (none c) refl refl c.note.ensures.at;
 }
 
+pub overflow_add-self-2 : goal.overflow_add-self-2
+overflow_add-self-2 c = omega (arith, count-le c.args.self.now c.requires.kept.counted, c.requires.kept.counted.most)
+
 pub returns-clause-kept : goal.returns-clause-kept
 unfolding now
 returns-clause-kept c =
     IsKept-added c.args.self.now (now c) c.in-Ok.at.region c.args.size c.requires.kept (adds c) c.requires.least c.requires.most
-    refl refl refl refl refl refl refl c.note.ensures.sum (omega (arith, c.if-self-gt-MOST.false))
+    refl refl refl refl refl refl refl c.note.ensures.sums (omega (arith, c.if-self-gt-MOST.false))
 
 pub returns-clause-ledger : goal.returns-clause-ledger
 unfolding with_own

@@ -46,7 +46,7 @@ returns-clause-ledger c =
     ∙ ap (λ f. record (state_of b).ledger { room = b.active.room - class_bytes c.args.class; free = f }) free
 
 pub returns-clause-owned : goal.returns-clause-owned
-returns-clause-owned c = c.carve-at.ensures.sums own_bytes
+returns-clause-owned c = omega (arith, c.carve-at.ensures.sums own_bytes)
 
 pub returns-clause-live : goal.returns-clause-live
 returns-clause-live c =

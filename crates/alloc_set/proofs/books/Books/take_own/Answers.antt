@@ -29,6 +29,7 @@ returns-in-Err-add_block-clause-no_space c = λ e.
     take_own-none (state_of b).ledger (c.args.space.now.limit - held c.args.space.now b.account) (own_size c.args.size) (omega (arith, over, c.up8-room.ensures.value))
 
 pub settle-requires-clause-counted : goal.settle-requires-clause-counted
+unfolding with_own
 settle-requires-clause-counted c =
     let b = c.args.self.now in
     let a = c.add_block.new.self in
