@@ -17,3 +17,4 @@ pub mod Leads
 pub mod Stays
 pub mod Resized
 pub mod Stretched
+pub mod KeptResized

@@ -35,8 +35,7 @@ fn resize_block(space: &mut Space, context: u32, region: u32, size: u32) -> Resu
     requires most { size ≤ 2 ^ 31 }
     ensures changes { OnOk result (Changes space.old space.new region (overwritten (with_length (region_at space.old region) size) 0 (map Some (block_bytes context size)))) }
     ensures held { OnOk result ((account : ℕ) → held space.new account + share account (region_at space.old region) ≡ held space.old account + share account (with_length (region_at space.old region) size)) }
-    ensures no_space { (result ≡ Err CtxError.NoSpace) → IsOverLimit space.old (region_at space.old region) size }
-    ensures within { OnOk result (IsOverLimit space.old (region_at space.old region) size → ⊥) }
+    ensures no_space { (result ≡ Err CtxError.NoSpace) ↔ IsOverLimit space.old (region_at space.old region) size }
     ensures no_other { IfErr result (λ e. (e ≡ CtxError.NoSpace) ⊎ (e ≡ CtxError.Memory)) }
     ensures err { OnErr result (space.new ≡ space.old) }
 {
@@ -80,6 +79,7 @@ impl Books {
     fn replace(&mut self, space: &mut Space, class: u8, at: Addr, keep: u32, size: u32) -> Result<Addr, CtxError>
         requires kept { IsKept self.old }
         requires agrees { Agrees (footprint (state_of self.old)) space.old }
+        requires class { class ≤ 10 }
         requires size { size ≤ 1073741823 }
         requires over { class_size class < size }
         requires keep { keep ≤ size }
@@ -105,6 +105,7 @@ impl Books {
     fn resize_class(&mut self, space: &mut Space, class: u8, at: Addr, keep: u32, size: u32) -> Result<Addr, CtxError>
         requires kept { IsKept self.old }
         requires agrees { Agrees (footprint (state_of self.old)) space.old }
+        requires class { class ≤ 10 }
         requires size { size ≤ 1073741823 }
         requires keep { keep ≤ size }
         requires live { (old : ℕ) × (chunk_at (state_of self.old) at ≡ Some (Chunk.Live class old)) × (keep ≤ old) }
