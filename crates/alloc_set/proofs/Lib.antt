@@ -18,3 +18,4 @@ pub mod Stays
 pub mod Resized
 pub mod Stretched
 pub mod KeptResized
+pub mod Refits
