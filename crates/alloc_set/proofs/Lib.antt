@@ -21,3 +21,4 @@ pub mod KeptResized
 pub mod Refits
 pub mod Carried
 pub mod Replaced
+pub mod InPlace
