@@ -63,7 +63,8 @@ count-le b counted =
 
 module _ (b n : Books) (number size : ℕ) (kept : IsKept b) (adds : Adds (state_of b) (state_of n) number size) (least : 48 ≤ size) (most : size ≤ 2 ^ 31)
     (active : n.active ≡ b.active) (sizes : n.sizes ≡ b.sizes) (next : n.next ≡ b.next) (limit : n.limit ≡ b.limit) (count : n.count ≡ b.count + 1) (idle : n.idle ≡ b.idle) (shelves : n.shelves ≡ b.shelves)
-    (sums : (f : ℕ → ℕ) → sum_by f (values_of n.blocks.entries) ≡ sum_by f (values_of b.blocks.entries) + f size) (small : b.total ≤ 2 ^ 61) where
+    (sums : (f : ℕ → ℕ) → sum_by f (values_of n.blocks.entries) ≡ sum_by f (values_of b.blocks.entries) + f size) (small : b.total ≤ 2 ^ 61)
+    (noted : (other : ℕ) → lookup (λ n. other == n) n.blocks.entries ≡ (if number == other then Some size else lookup (λ n. other == n) b.blocks.entries)) where
   pub IsKept-added : IsKept n
   IsKept-added =
       let was = kept.counted in
@@ -72,6 +73,8 @@ module _ (b n : Books) (number size : ℕ) (kept : IsKept b) (adds : Adds (state
       let active_size : n.active.size ≡ b.active.size = ap (λ x. x.size) active in
       let room : n.active.room ≡ b.active.room = ap (λ x. x.room) active in
       let now = IsSettled-added (state_of b) (state_of n) b.active.region b.active.size number size kept.settled adds (b.sizes.init, keeper_owned (state_of b)) least most in
+      let differs : b.keeper ≢ number = not_keeper (state_of b) number adds.fresh in
+      let other : (number == b.keeper) ≡ false = grind (arith, nat_tests) in
       let same : (state_of n).chunks ≡ (state_of b).chunks = adds.chunks in
       record {
         counted = record {
@@ -79,7 +82,8 @@ module _ (b n : Books) (number size : ℕ) (kept : IsKept b) (adds : Adds (state
           next = (omega (arith, was.next.0, next), omega (arith, was.next.1, next, max), omega (arith, was.next.2, next));
           limit = limit ∙ was.limit ∙ ap chunk_limit (sym max);
           filled = omega (arith, was.filled, active_size, room);
-          total = omega (arith, was.total, adds.total, sums (λ x. x), init);
+          keeper = ap (λ k. lookup (λ n. k == n) n.blocks.entries) adds.keeper ∙ noted b.keeper ∙ ap (λ t. if t then Some size else lookup (λ n. b.keeper == n) b.blocks.entries) other ∙ was.keeper;
+        total = omega (arith, was.total, adds.total, sums (λ x. x), init);
           most = omega (arith, small, adds.total, most);
           blocks = omega (arith, was.blocks, count, sums (min 1), least);
           rooms = omega (arith, was.rooms, adds.total, room, idle, ap (λ e. sum_by own_bytes (values_of e)) same);

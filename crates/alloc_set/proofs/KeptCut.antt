@@ -1,6 +1,6 @@
 -- What the code keeps, after a chunk was cut off the active block.
-use Rattle.std.proofs.Common.{◌≡◌, ℕ, ◌+◌, ◌-◌, ◌^◌, ◌<◌, ◌≤◌, List, length, Option, Some, None, refl, min, sym, ap, ◌∙◌, subst, arith, inl, inr, sum, sum_by, set}
-use Rattle.std.specs.Map.{values_of}
+use Rattle.std.proofs.Common.{◌≡◌, ℕ, ◌+◌, ◌-◌, ◌^◌, ◌<◌, ◌≤◌, ◌==◌, List, length, Option, Some, None, refl, min, sym, ap, ◌∙◌, subst, arith, inl, inr, sum, sum_by, set}
+use Rattle.std.specs.Map.{values_of, lookup}
 use Rattle.std.proofs.lemmas.List.{length-map}
 use Rattle.addr_space.specs.declared.Addr.{Addr}
 use Rattle.alloc_set.specs.Ledger.{class_bytes, chunk_limit}
@@ -48,6 +48,7 @@ module _ (b n : Books) (class : ℕ) (at : Addr) (chunk : Chunk) (kept : IsKept 
         next = (omega (arith, was.next.0, next), omega (arith, was.next.1, next, max), omega (arith, was.next.2, next));
         limit = limit ∙ was.limit ∙ ap chunk_limit (sym max);
         filled = omega (arith, was.filled, carves.room, size, kept.settled.active_room);
+        keeper = ap (λ k. lookup (λ n. k == n) n.blocks.entries) carves.same.keeper ∙ ap (λ e. lookup (λ n. b.keeper == n) e) blocks ∙ was.keeper;
         total = omega (arith, was.total, carves.same.total, init, ap (λ e. sum (values_of e)) blocks);
         most = omega (arith, was.most, carves.same.total);
         blocks = omega (arith, was.blocks, count, ap (λ e. sum_by (min 1) (values_of e)) blocks);

@@ -14,6 +14,8 @@ pub mod Flipped
 pub mod Taken
 pub mod Owned
 pub mod Leads
+pub mod Unlisted
+pub mod Given
 pub mod Stays
 pub mod Resized
 pub mod Stretched

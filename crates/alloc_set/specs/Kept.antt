@@ -1,6 +1,6 @@
 -- What holds of the insides of an AllocSet.
 use Rattle.std.specs.Prelude.{◌≡◌, ◌≢◌, ℕ, ◌+◌, ◌-◌, ◌%◌, ◌^◌, ◌<◌, ◌≤◌, ◌==◌, List, length, map, min, Option, Some, None, if◌then◌else◌, sum, sum_by, zero, suc, slice_index_or}
-use Rattle.std.specs.Map.{values_of}
+use Rattle.std.specs.Map.{values_of, lookup}
 use Rattle.addr_space.specs.declared.Addr.{Addr}
 use Rattle.alloc_set.specs.Ledger.{class_size, chunk_limit}
 use Rattle.alloc_set.specs.State.{SetState, chunk_at, region_of, start_of, capacity_of}
@@ -92,12 +92,13 @@ own_bytes (Live class size) = 0
 own_bytes (Free class next) = 0
 own_bytes (Own size room) = room + 48
 
--- the numbers: each block but the first counts 1, and no room lies in a chunk's own block
+-- the numbers: no other block has the keeper's, each counts 1, and no room lies in a chunk's own block
 pub record IsCounted (b : Books) : Type 0 where
   pub sizes : (1024 ≤ b.sizes.init) × (b.sizes.init ≤ b.sizes.max) × (b.sizes.max ≤ 8388608) × (b.sizes.init % 8 ≡ 0) × (b.sizes.max % 8 ≡ 0)
   pub next : (1024 ≤ b.next) × (b.next ≤ b.sizes.max) × (b.next % 8 ≡ 0)
   pub limit : b.limit ≡ chunk_limit b.sizes.max
   pub filled : (b.active.size - b.active.room) % 8 ≡ 0
+  pub keeper : lookup (λ n. b.keeper == n) b.blocks.entries ≡ None
   pub total : b.total ≡ b.sizes.init + sum (values_of b.blocks.entries)
   pub most : b.total ≤ 2 ^ 62
   pub blocks : b.count ≡ 1 + sum_by (min 1) (values_of b.blocks.entries)

@@ -129,6 +129,10 @@ own_size size = up8 size + 48
 unfoldable pub with_own : SetLedger → ℕ → SetLedger
 with_own l size = record l { total = l.total + size; blocks = l.blocks + 1 }
 
+-- an own block goes back
+unfoldable pub without_own : SetLedger → ℕ → SetLedger
+without_own l size = record l { total = l.total - size; blocks = l.blocks - 1 }
+
 unfoldable pub take_own : SetLedger → ℕ → ℕ → Result SetLedger CtxError
 take_own l left size = if nat_le size left then Ok (with_own l size) else Err NoSpace
 

@@ -6,7 +6,7 @@ use Rattle.addr_space.specs.Footprint.{Footprint}
 use Rattle.chunk_header.specs.declared.Header.{Header}
 use Rattle.chunk_header.specs.declared.Kind.TheVariants.{AllocSet as SetKind}
 use Rattle.chunk_header.specs.Header.{header_bytes, block_bytes}
-use Rattle.alloc_set.specs.Ledger.{SetLedger, class_size}
+use Rattle.alloc_set.specs.Ledger.{SetLedger, class_size, with_free, without_own}
 use Rattle.alloc_set.specs.declared.chunk.Chunk.{Chunk}
 use Rattle.alloc_set.specs.declared.chunk.Chunk.TheVariants.{Live, Free, Own}
 
@@ -58,6 +58,12 @@ abbrev pub header_of : Chunk → ℕ → Header
 header_of (Live class size) dist = record { kind = SetKind; own = false; value = class; dist = dist }
 header_of (Free class next) dist = record { kind = SetKind; own = false; value = class; dist = dist }
 header_of (Own size room) dist = record { kind = SetKind; own = true; value = 0; dist = dist }
+
+-- a chunk is freed: one of a class is one more free chunk of it, and an own block goes back
+unfoldable pub freed : SetLedger → Chunk → SetLedger
+freed l (Live class size) = record l { free = with_free l.free class 1 }
+freed l (Free class next) = l
+freed l (Own size room) = without_own l (room + 48)
 
 -- a fact of an option's value
 abbrev pub then_option : {X Y : Type 0} → Option X → (X → Option Y) → Option Y

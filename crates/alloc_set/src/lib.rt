@@ -8,6 +8,7 @@ ghost use Rattle.alloc_set.specs.Ledger.{stats};
 mod books;
 mod chunk;
 mod classes;
+mod giving;
 mod resizing;
 
 use addr_space::{Addr, Space};
@@ -38,7 +39,7 @@ impl AllocSet {
     ghost use Rattle.addr_space.specs.Space.{accounts, held, IsKnown};
     ghost use Rattle.addr_space.specs.Footprint.{nothing, Agrees, Moves, Keeps, KeepsBut};
     ghost use Rattle.chunk_header.specs.Header.{AllHeaded};
-    ghost use Rattle.alloc_set.specs.State.{chunk_at, footprint};
+    ghost use Rattle.alloc_set.specs.State.{chunk_at, freed, footprint};
     ghost use Rattle.alloc_set.specs.Ledger.{created, take};
     ghost use Rattle.alloc_set.specs.Live.{PutsLive};
     ghost use Rattle.alloc_set.specs.Resize.{resized, MovesLive, HasBytesOf};
@@ -110,6 +111,21 @@ impl AllocSet {
         ensures err_space { OnErr result (space.new ≡ space.old) }
     {
         self.books.alloc(space, size)
+    }
+
+    /// Frees a live chunk. It never refuses: where a chunk of its class is asked for again, it may be had
+    /// again, and a block that the chunk had for itself goes back to the space.
+    pub fn free(&mut self, space: &mut Space, at: Addr) -> Result<(), CtxError>
+        requires agrees { Agrees (footprint self.old) space.old }
+        requires live { IsSome ((footprint self.old).live at) }
+        ensures ok { result ≡ Ok tt }
+        ensures ledger { IfSome (chunk_at self.old at) (λ chunk. self.new.ledger ≡ freed self.old.ledger chunk) }
+        ensures live { PutsLive self.old self.new at None }
+        ensures moves { Moves (footprint self.old) (footprint self.new) space.old space.new }
+        ensures keeps { Keeps (footprint self.old) (footprint self.new) space.old space.new }
+    {
+        self.books.free(space, at);
+        Ok(())
     }
 
     /// Gives a live chunk a size of `size` bytes, which may be 0, and answers where it is now. `keep` is how many of its first bytes are known.

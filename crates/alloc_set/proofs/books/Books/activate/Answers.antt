@@ -16,6 +16,7 @@ returns-clause-kept c =
         next = (omega (arith, was.next.0, was.sizes.0, was.sizes.1, c.min-self.ensures), omega (arith, c.min-self.ensures), omega (arith, was.next.2, was.sizes.4, c.min-self.ensures));
         limit = was.limit;
         filled = omega (arith, small.1);
+        keeper = was.keeper;
         total = was.total;
         most = was.most;
         blocks = was.blocks;

@@ -40,7 +40,7 @@ pub returns-clause-kept : goal.returns-clause-kept
 unfolding now
 returns-clause-kept c =
     IsKept-added c.args.self.now (now c) c.in-Ok.at.region c.args.size c.requires.kept (adds c) c.requires.least c.requires.most
-    refl refl refl refl refl refl refl c.note.ensures.sums (omega (arith, c.if-self-gt-MOST.false))
+    refl refl refl refl refl refl refl c.note.ensures.sums (omega (arith, c.if-self-gt-MOST.false)) c.note.ensures.at
 
 pub returns-clause-ledger : goal.returns-clause-ledger
 unfolding with_own

@@ -60,6 +60,7 @@ returns-clause-kept c =
         next = kept.counted.next;
         limit = kept.counted.limit;
         filled = kept.counted.filled;
+        keeper = kept.counted.keeper;
         total = kept.counted.total;
         most = kept.counted.most;
         blocks = kept.counted.blocks;

@@ -1,0 +1,46 @@
+use Rattle.std.proofs.Common.{◌≡◌, ℕ, ◌+◌, Some, sym, ap, ◌∙◌, subst, arith}
+use Rattle.addr_space.specs.Footprint.{Moves, Keeps}
+use Rattle.addr_space.proofs.Steps.{Moves-more}
+use Rattle.alloc_set.specs.State.{region_of, footprint}
+use Rattle.alloc_set.specs.Kept.{state_of}
+use Rattle.alloc_set.specs.Live.{SameLive}
+use Rattle.alloc_set.specs.declared.books.Books.{Books}
+use Rattle.alloc_set.specs.declared.chunk.Chunk.TheVariants.{Own}
+use Rattle.alloc_set.proofs.Given.{Keeps-behind}
+use Rattle.alloc_set.proofs.books.Books.give_own.Goals as goal
+
+pub overflow_add-room : goal.overflow_add-room
+overflow_add-room c =
+    let settled = c.requires.kept.settled in
+    let placed = settled.placed c.args.at (Own c.requires.own.0 c.args.room) c.requires.own.1 in
+    omega (arith, (settled.small c.args.at.region (c.args.room + 48) placed.alone.3).0)
+
+pub give_block-requires-clause-owned : goal.give_block-requires-clause-owned
+give_block-requires-clause-owned c =
+    let placed = c.requires.kept.settled.placed c.args.at (Own c.requires.own.0 c.args.room) c.requires.own.1 in
+    ap (λ (x : Books). region_of (state_of x) c.args.at.region) c.unlist.ensures.rest ∙ placed.alone.3
+
+pub give_block-requires-clause-not_keeper : goal.give_block-requires-clause-not_keeper
+give_block-requires-clause-not_keeper c =
+    let placed = c.requires.kept.settled.placed c.args.at (Own c.requires.own.0 c.args.room) c.requires.own.1 in
+    λ e. placed.alone.1 (e ∙ ap (λ (x : Books). x.keeper) c.unlist.ensures.rest)
+
+pub give_block-requires-clause-not_active : goal.give_block-requires-clause-not_active
+give_block-requires-clause-not_active c =
+    let placed = c.requires.kept.settled.placed c.args.at (Own c.requires.own.0 c.args.room) c.requires.own.1 in
+    λ e. placed.alone.0 (e ∙ ap (λ (x : Books). x.active.region) c.unlist.ensures.rest)
+
+pub returns-clause-moves : goal.returns-clause-moves
+returns-clause-moves c =
+    let b = c.args.self.now in
+    let m = c.unlist.new.self in
+    let n = c.give_block.new.self in
+    Moves-more (footprint (state_of b)) (footprint (state_of m)) (footprint (state_of n)) c.args.space.now c.args.space.now c.give_block.new.space (c.unlist.ensures.moves c.args.space.now c.requires.agrees) c.give_block.ensures.moves
+
+pub returns-clause-keeps : goal.returns-clause-keeps
+returns-clause-keeps c =
+    let b = c.args.self.now in
+    let m = c.unlist.new.self in
+    let n = c.give_block.new.self in
+    let same : SameLive (state_of m) (state_of n) = λ at. ap (λ (x : Books). (footprint (state_of x)).live at) c.give_block.ensures.rest in
+    Keeps-behind (state_of b) (state_of m) (state_of n) c.args.space.now c.give_block.new.space same c.give_block.ensures.keeps

@@ -1,0 +1,117 @@
+//! What an AllocSet gives back: chunks that are freed, and blocks.
+ghost use Rattle.std.specs.Prelude.{◌≡◌, ◌≢◌, ℕ, ◌+◌, ◌-◌, ◌<◌, ◌≤◌, Some, None, IfSome, IsSome, option_map, unwrap_or, sum_by, if◌then◌else◌, length, ◌==◌};
+ghost use Rattle.std.specs.Map.{values_of, lookup};
+ghost use Rattle.addr_space.specs.declared.Addr.{Addr};
+ghost use Rattle.alloc_set.specs.declared.chunk.Chunk.{Chunk};
+ghost use Rattle.addr_space.specs.Footprint.{Agrees, Moves, Keeps};
+ghost use Rattle.alloc_set.specs.Ledger.{without_own};
+ghost use Rattle.alloc_set.specs.State.{same_addr, chunk_at, region_of, freed, footprint};
+ghost use Rattle.addr_space.specs.Space.{Space};
+
+use crate::books::Books;
+use crate::chunk::Chunk;
+use addr_space::{Addr, Space};
+use indexmap::IndexMap;
+
+// Takes off what stands at an address.
+fn forget(chunks: &mut IndexMap<Addr, Chunk>, at: Addr)
+    ensures at { (other : Addr) → lookup (same_addr other) chunks.new.entries ≡ (if same_addr at other then None else lookup (same_addr other) chunks.old.entries) }
+    ensures sums { (f : Chunk → ℕ) → sum_by f (values_of chunks.new.entries) + unwrap_or (option_map f (lookup (same_addr at) chunks.old.entries)) 0 ≡ sum_by f (values_of chunks.old.entries) }
+    ensures len { length chunks.new.entries ≤ length chunks.old.entries }
+{
+    chunks.swap_remove(&at);
+}
+
+// Takes off the size of a block.
+fn strike(blocks: &mut IndexMap<u32, u32>, number: u32)
+    ensures at { (other : ℕ) → lookup (λ n. other == n) blocks.new.entries ≡ (if number == other then None else lookup (λ n. other == n) blocks.old.entries) }
+    ensures sums { (f : ℕ → ℕ) → sum_by f (values_of blocks.new.entries) + unwrap_or (option_map f (lookup (λ n. number == n) blocks.old.entries)) 0 ≡ sum_by f (values_of blocks.old.entries) }
+    ensures len { IsSome (lookup (λ n. number == n) blocks.old.entries) → length blocks.new.entries + 1 ≡ length blocks.old.entries }
+{
+    blocks.swap_remove(&number);
+}
+
+impl Books {
+    ghost use Rattle.alloc_set.specs.Kept.{state_of, own_bytes, IsKept};
+    ghost use Rattle.alloc_set.specs.Live.{PutsLive, SameLive};
+    ghost use Rattle.alloc_set.specs.Steps.{PutsChunk};
+
+    // What stands at an address.
+    pub fn chunk(&self, at: Addr) -> Option<Chunk>
+        ensures { result ≡ chunk_at (state_of self.now) at }
+    {
+        self.chunks.get(&at).copied()
+    }
+
+    // Takes a chunk that has its block for itself off the books. The block is empty then.
+    fn unlist(&mut self, at: Addr, room: u32)
+        requires kept { IsKept self.old }
+        requires own { (size : ℕ) × (chunk_at (state_of self.old) at ≡ Some (Chunk.Own size room)) }
+        ensures kept { IsKept self.new }
+        ensures rest { self.new ≡ record self.old { chunks = self.new.chunks } }
+        ensures empty { (other : Addr) → other.region ≡ at.region → chunk_at (state_of self.new) other ≡ None }
+        ensures counted { self.new.active.room + self.new.idle + sum_by own_bytes (values_of self.new.chunks.entries) + (room + 48) ≤ self.new.total }
+        ensures live { PutsLive (state_of self.old) (state_of self.new) at None }
+        ensures moves { (sp : Space) → Agrees (footprint (state_of self.old)) sp → Moves (footprint (state_of self.old)) (footprint (state_of self.new)) sp sp }
+    {
+        forget(&mut self.chunks, at);
+    }
+
+    // Gives a block without chunks back.
+    fn give_block(&mut self, space: &mut Space, number: u32, size: u32)
+        requires kept { IsKept self.old }
+        requires agrees { Agrees (footprint (state_of self.old)) space.old }
+        requires owned { region_of (state_of self.old) number ≡ Some size }
+        requires not_keeper { number ≢ self.old.keeper }
+        requires not_active { number ≢ self.old.active.region }
+        requires empty { (at : Addr) → at.region ≡ number → chunk_at (state_of self.old) at ≡ None }
+        requires counted { self.old.active.room + self.old.idle + sum_by own_bytes (values_of self.old.chunks.entries) + size ≤ self.old.total }
+        ensures kept { IsKept self.new }
+        ensures ledger { (state_of self.new).ledger ≡ without_own (state_of self.old).ledger size }
+        ensures rest { self.new ≡ record self.old { blocks = self.new.blocks; total = self.new.total; count = self.new.count } }
+        ensures len { length self.new.blocks.entries < length self.old.blocks.entries }
+        ensures moves { Moves (footprint (state_of self.old)) (footprint (state_of self.new)) space.old space.new }
+        ensures keeps { Keeps (footprint (state_of self.old)) (footprint (state_of self.new)) space.old space.new }
+    {
+        strike(&mut self.blocks, number);
+        self.total -= u64::from(size);
+        self.count -= 1;
+        space.give(Addr {
+            region: number,
+            offset: 0,
+        });
+    }
+
+    // Frees a chunk that has its block for itself: the block goes back.
+    fn give_own(&mut self, space: &mut Space, at: Addr, room: u32)
+        requires kept { IsKept self.old }
+        requires agrees { Agrees (footprint (state_of self.old)) space.old }
+        requires own { (size : ℕ) × (chunk_at (state_of self.old) at ≡ Some (Chunk.Own size room)) }
+        ensures kept { IsKept self.new }
+        ensures ledger { (state_of self.new).ledger ≡ without_own (state_of self.old).ledger (room + 48) }
+        ensures live { PutsLive (state_of self.old) (state_of self.new) at None }
+        ensures moves { Moves (footprint (state_of self.old)) (footprint (state_of self.new)) space.old space.new }
+        ensures keeps { Keeps (footprint (state_of self.old)) (footprint (state_of self.new)) space.old space.new }
+    {
+        self.unlist(at, room);
+        self.give_block(space, at.region, room + 48);
+    }
+
+    // Frees a live chunk.
+    pub fn free(&mut self, space: &mut Space, at: Addr)
+        requires kept { IsKept self.old }
+        requires agrees { Agrees (footprint (state_of self.old)) space.old }
+        requires live { IsSome ((footprint (state_of self.old)).live at) }
+        ensures kept { IsKept self.new }
+        ensures ledger { IfSome (chunk_at (state_of self.old) at) (λ chunk. (state_of self.new).ledger ≡ freed (state_of self.old).ledger chunk) }
+        ensures live { PutsLive (state_of self.old) (state_of self.new) at None }
+        ensures moves { Moves (footprint (state_of self.old)) (footprint (state_of self.new)) space.old space.new }
+        ensures keeps { Keeps (footprint (state_of self.old)) (footprint (state_of self.new)) space.old space.new }
+    {
+        match self.chunk(at) {
+            Some(Chunk::Live { class, size: _ }) => self.shelve(class, at),
+            Some(Chunk::Own { size: _, room }) => self.give_own(space, at, room),
+            _ => {}
+        }
+    }
+}
