@@ -82,6 +82,7 @@ IsKept-refitted b m class old size at kept rest was fits puts sums len =
         next = kept.counted.next;
         limit = kept.counted.limit;
         filled = kept.counted.filled;
+        keeper = kept.counted.keeper;
         total = kept.counted.total;
         most = kept.counted.most;
         blocks = kept.counted.blocks;
@@ -99,8 +100,8 @@ pub IsKept-stretched : (b m : Books) (p old size room : ℕ) (at : Addr) → IsK
     → ((f : Chunk → ℕ) → sum_by f (values_of m.chunks.entries) + f (Own p old) ≡ sum_by f (values_of b.chunks.entries) + f (Own size room))
     → length m.chunks.entries ≡ length b.chunks.entries
     → ((f : ℕ → ℕ) → sum_by f (values_of m.blocks.entries) + f (old + 48) ≡ sum_by f (values_of b.blocks.entries) + f (room + 48))
-    → m.total ≤ 2 ^ 62 → IsKept m
-IsKept-stretched b m p old size room at kept rest was fits most stretches sums len blocks top =
+    → lookup (λ k. b.keeper == k) m.blocks.entries ≡ None → m.total ≤ 2 ^ 62 → IsKept m
+IsKept-stretched b m p old size room at kept rest was fits most stretches sums len blocks free top =
     let n : Books = with_others b m in
     let now_is : Stretches (state_of b) (state_of n) at old size room = subst (λ (x : Books). Stretches (state_of b) (state_of x) at old size room) rest stretches in
     let total : m.total + old ≡ b.total + room = stretches.total in
@@ -110,6 +111,7 @@ IsKept-stretched b m p old size room at kept rest was fits most stretches sums l
         next = kept.counted.next;
         limit = kept.counted.limit;
         filled = kept.counted.filled;
+        keeper = free;
         total = omega (arith, kept.counted.total, total, blocks (λ x. x));
         most = top;
         blocks = omega (arith, kept.counted.blocks, blocks (min 1));

@@ -4,12 +4,12 @@ use Rattle.addr_space.specs.declared.Addr.{Addr}
 use Rattle.addr_space.specs.Space.{Space, held, byte_at, region_at, bytes_of, part, overwritten, Changes, IsKnown}
 use Rattle.addr_space.specs.Footprint.{Agrees, Moves, Keeps, KeepsBut}
 use Rattle.addr_space.proofs.Steps.{Moves-more}
-use Rattle.alloc_set.specs.Ledger.{SetLedger, class_size, take}
+use Rattle.alloc_set.specs.Ledger.{SetLedger, class_size, shelved, take}
 use Rattle.alloc_set.specs.State.{SetState, same_addr, chunk_at, then_option, live_size, footprint}
 use Rattle.alloc_set.specs.Kept.{state_of, IsKept}
 use Rattle.alloc_set.specs.Live.{PutsLive, LeavesLive}
 use Rattle.alloc_set.specs.Cut.{Allocates}
-use Rattle.alloc_set.specs.Resize.{shelved, then_shelved, resize_class, MovesLive, HasBytesOf, Resizes}
+use Rattle.alloc_set.specs.Resize.{then_shelved, resize_class, MovesLive, HasBytesOf, Resizes}
 use Rattle.alloc_set.specs.declared.books.Books.{Books}
 use Rattle.alloc_set.specs.declared.chunk.Chunk.TheVariants.{Live}
 use Rattle.alloc_set.proofs.Carved.{same_addr-cases}

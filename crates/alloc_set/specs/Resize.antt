@@ -5,16 +5,12 @@ use Rattle.chunk_header.specs.declared.CtxError.TheVariants.{TooBig, NoSpace}
 use Rattle.addr_space.specs.declared.Addr.{Addr}
 use Rattle.addr_space.specs.Space.{Space, byte_at, held}
 use Rattle.addr_space.specs.Footprint.{Moves, KeepsBut}
-use Rattle.alloc_set.specs.Ledger.{SetLedger, class_size, chunk_limit, own_size, with_free, take}
+use Rattle.alloc_set.specs.Ledger.{SetLedger, class_size, chunk_limit, own_size, shelved, take}
 use Rattle.alloc_set.specs.State.{SetState, same_addr, footprint}
 use Rattle.alloc_set.specs.Kept.{state_of, IsKept}
 use Rattle.alloc_set.specs.declared.books.Books.{Books}
 use Rattle.alloc_set.specs.declared.chunk.Chunk.{Chunk}
 use Rattle.alloc_set.specs.declared.chunk.Chunk.TheVariants.{Live, Free, Own}
-
--- a chunk of a class is free
-abbrev pub shelved : SetLedger → ℕ → SetLedger
-shelved l class = record l { free = with_free l.free class 1 }
 
 -- once another chunk was taken, the old one of a class is free
 abbrev pub then_shelved : Result SetLedger CtxError → ℕ → Result SetLedger CtxError

@@ -54,13 +54,6 @@ impl Books {
     ghost use Rattle.alloc_set.specs.Live.{PutsLive};
     ghost use Rattle.alloc_set.specs.Resize.{with_block, resize_class, resize_block, kept_size, resized, Resizes};
 
-    // What stands at an address.
-    fn chunk(&self, at: Addr) -> Option<Chunk>
-        ensures { result ≡ chunk_at (state_of self.now) at }
-    {
-        self.chunks.get(&at).copied()
-    }
-
     // Gives a chunk of a class another size in place.
     fn refit(&mut self, class: u8, at: Addr, size: u32)
         requires kept { IsKept self.old }

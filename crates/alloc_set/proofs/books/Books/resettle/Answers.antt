@@ -33,7 +33,7 @@ pub returns-clause-kept : goal.returns-clause-kept
 unfolding now
 returns-clause-kept c =
     IsKept-stretched c.args.self.now (now c) c.requires.live.0 c.args.room c.args.size c.args.room c.args.at c.requires.kept refl (was c) c.requires.fits (most c) (stretches c)
-    (λ f. rw (was c) at (c.put.ensures.sums f)) (let len = rw (was c) at c.put.ensures.len in omega (arith, len)) (λ f. refl) c.requires.kept.counted.most
+    (λ f. rw (was c) at (c.put.ensures.sums f)) (let len = rw (was c) at c.put.ensures.len in omega (arith, len)) (λ f. refl) c.requires.kept.counted.keeper c.requires.kept.counted.most
 
 pub returns-clause-moves : goal.returns-clause-moves
 unfolding now

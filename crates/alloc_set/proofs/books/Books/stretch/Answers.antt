@@ -1,6 +1,7 @@
-use Rattle.std.proofs.Common.{◌≡◌, ◌≢◌, ℕ, ◌+◌, ◌-◌, ◌^◌, ◌<◌, ◌≤◌, ◌==◌, if◌then◌else◌, Some, Err, IsSome, refl, ap, ◌∙◌, sym, arith, sum, inl, inr}
+use Rattle.std.proofs.Common.{◌≡◌, ◌≢◌, ℕ, ◌+◌, ◌-◌, ◌^◌, ◌<◌, ◌≤◌, ◌==◌, if◌then◌else◌, Some, Err, IsSome, false, refl, ap, ◌∙◌, sym, arith, sum, inl, inr}
 use Rattle.std.specs.Map.{values_of, lookup}
 use Rattle.std.proofs.lemmas.Bool.{cases_lt}
+use Rattle.std.proofs.lemmas.Bool.Decides.{nat_tests}
 use Rattle.addr_space.specs.declared.Addr.{Addr}
 use Rattle.addr_space.specs.Space.{Space, held, region_at, IsOverLimit}
 use Rattle.addr_space.specs.Footprint.{HasRegion, Agrees}
@@ -64,9 +65,11 @@ returns-clause-kept c =
     let is = alone b c.args.at n c.args.old c.requires.kept was in
     let before = noted (state_of b) c.args.at.region (c.args.old + 48) is.1 is.3 in
     let len = rw was at c.put.ensures.len in
+    let test : (c.args.at.region == b.keeper) ≡ false = grind (arith, nat_tests, is.1) in
+    let free = c.note_again.ensures.at b.keeper ∙ ap (λ x. if x then Some (c.args.room + 48) else lookup (λ k. b.keeper == k) b.blocks.entries) test ∙ c.requires.kept.counted.keeper in
     IsKept-stretched b m n c.args.old c.args.size c.args.room c.args.at c.requires.kept refl was c.requires.fits c.requires.most
     (stretches b m c.args.at n c.args.old c.args.size c.args.room c.from.result c.from-2.result c.requires.kept refl was c.from.ensures c.from-2.ensures refl c.note_again.ensures.at c.put.ensures.at)
-    (λ f. rw was at (c.put.ensures.sums f)) (omega (arith, len)) (λ f. rw before at (c.note_again.ensures.sums f))
+    (λ f. rw was at (c.put.ensures.sums f)) (omega (arith, len)) (λ f. rw before at (c.note_again.ensures.sums f)) free
     (omega (arith, c.if-self-gt-MOST.false, c.from-2.ensures, c.requires.most))
 
 pub returns-clause-moves : goal.returns-clause-moves
