@@ -5,10 +5,10 @@ use Rattle.addr_space.specs.declared.Addr.{Addr}
 use Rattle.addr_space.specs.Space.{Space}
 use Rattle.addr_space.specs.Footprint.{Moves, Keeps}
 use Rattle.alloc_set.specs.Ledger.{SetLedger}
-use Rattle.alloc_set.specs.State.{SetState, same_addr, footprint}
+use Rattle.alloc_set.specs.State.{SetState, same_addr, chunk_at, footprint}
 use Rattle.alloc_set.specs.Kept.{state_of, IsKept}
 use Rattle.alloc_set.specs.Live.{PutsLive}
-use Rattle.alloc_set.specs.Resize.{MovesLive, Resizes}
+use Rattle.alloc_set.specs.Resize.{StaysFor, MovesLive, Resizes}
 use Rattle.alloc_set.specs.declared.books.Books.{Books}
 use Rattle.alloc_set.proofs.Carved.{same_addr-cases}
 
@@ -24,9 +24,9 @@ MovesLive-same s t at size puts other =
     ]
 
 pub Resizes-in_place : (b n : Books) (s t : Space) (at : Addr) (old keep size : ℕ) (step : Result SetLedger CtxError) → IsKept n → step ≡ Ok (state_of n).ledger
-    → (footprint (state_of b)).live at ≡ Some old → keep ≤ old → keep ≤ size → PutsLive (state_of b) (state_of n) at (Some size)
+    → (footprint (state_of b)).live at ≡ Some old → StaysFor (chunk_at (state_of b) at) size → keep ≤ old → keep ≤ size → PutsLive (state_of b) (state_of n) at (Some size)
     → Moves (footprint (state_of b)) (footprint (state_of n)) s t → Keeps (footprint (state_of b)) (footprint (state_of n)) s t → Resizes b n s t at at keep size step
-Resizes-in_place b n s t at old keep size step kept ledger live few short puts moves keeps =
+Resizes-in_place b n s t at old keep size step kept ledger live stays few short puts moves keeps =
     let now : (footprint (state_of n)).live at ≡ Some size = elim (same_addr-cases at at) [
       | inl same ↦ puts at ∙ ap (λ x. if x then Some size else (footprint (state_of b)).live at) same.1
       | inr apart ↦ absurd (apart.0 refl)
@@ -34,6 +34,7 @@ Resizes-in_place b n s t at old keep size step kept ledger live few short puts m
     record {
       kept = kept;
       ledger = ledger;
+      place = (λ same. stays, λ it. refl);
       fresh = λ apart. absurd (apart refl);
       live = MovesLive-same (state_of b) (state_of n) at size puts;
       bytes = λ k below. keeps at old size k live now (omega (arith, below, few)) (omega (arith, below, short));

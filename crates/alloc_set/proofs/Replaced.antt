@@ -9,7 +9,7 @@ use Rattle.alloc_set.specs.State.{SetState, same_addr, chunk_at, then_option, li
 use Rattle.alloc_set.specs.Kept.{state_of, IsKept}
 use Rattle.alloc_set.specs.Live.{PutsLive, LeavesLive}
 use Rattle.alloc_set.specs.Cut.{Allocates}
-use Rattle.alloc_set.specs.Resize.{then_shelved, resize_class, MovesLive, HasBytesOf, Resizes}
+use Rattle.alloc_set.specs.Resize.{then_shelved, resize_class, StaysFor, MovesLive, HasBytesOf, Resizes}
 use Rattle.alloc_set.specs.declared.books.Books.{Books}
 use Rattle.alloc_set.specs.declared.chunk.Chunk.TheVariants.{Live}
 use Rattle.alloc_set.proofs.Carved.{same_addr-cases}
@@ -75,6 +75,7 @@ module _ (b m : Books) (s u : Space) (at to : Addr) (class old keep size : ℕ) 
       record {
         kept = kept;
         ledger = resize_class-moves (state_of b).ledger (held s b.account) s.limit class size over ∙ ap (λ r. then_shelved r class) took.ledger ∙ ap Ok (sym ledger);
+        place = (λ same. absurd (differs same), λ stays. let fits : size ≤ class_size class = subst (λ o. StaysFor o size) was stays in absurd (omega (arith, fits, over)));
         fresh = λ apart. took.fresh;
         live = MovesLive-from (state_of b) (state_of m) (state_of n) at to size differs took.live gone;
         bytes = λ k below. bytes k below ∙ byte_kept k below;

@@ -1,12 +1,12 @@
 -- Resizing a chunk: what it does to the ledger, to the live chunks and to their bytes.
-use Rattle.std.specs.Prelude.{◌≡◌, ◌≢◌, ℕ, ◌+◌, ◌-◌, ◌<◌, nat_lt, nat_le, max, ◌==◌, if◌then◌else◌, Option, Some, None, Result, Ok, Err}
+use Rattle.std.specs.Prelude.{◌≡◌, ◌≢◌, ◌↔◌, ℕ, ◌+◌, ◌-◌, ◌<◌, ◌≤◌, nat_lt, nat_le, max, ◌==◌, if◌then◌else◌, Option, Some, None, Result, Ok, Err}
 use Rattle.chunk_header.specs.declared.CtxError.{CtxError}
 use Rattle.chunk_header.specs.declared.CtxError.TheVariants.{TooBig, NoSpace}
 use Rattle.addr_space.specs.declared.Addr.{Addr}
 use Rattle.addr_space.specs.Space.{Space, byte_at, held}
 use Rattle.addr_space.specs.Footprint.{Moves, KeepsBut}
 use Rattle.alloc_set.specs.Ledger.{SetLedger, class_size, chunk_limit, own_size, shelved, take}
-use Rattle.alloc_set.specs.State.{SetState, same_addr, footprint}
+use Rattle.alloc_set.specs.State.{SetState, same_addr, chunk_at, footprint}
 use Rattle.alloc_set.specs.Kept.{state_of, IsKept}
 use Rattle.alloc_set.specs.declared.books.Books.{Books}
 use Rattle.alloc_set.specs.declared.chunk.Chunk.{Chunk}
@@ -46,6 +46,13 @@ resized_chunk l held limit None size = Ok l
 unfoldable pub resized : SetLedger → ℕ → ℕ → Option Chunk → ℕ → Result SetLedger CtxError
 resized l held limit chunk size = if nat_lt 1073741823 size then Err TooBig else resized_chunk l held limit chunk size
 
+-- a chunk keeps its address when it gets a size: its class has the size, or it has its block for itself
+abbrev pub StaysFor : Option Chunk → ℕ → Type 0
+StaysFor (Some (Live class old)) size = size ≤ class_size class
+StaysFor (Some (Own old room)) size = Unit {0}
+StaysFor (Some (Free class next)) size = ⊥
+StaysFor None size = ⊥
+
 -- one address has a live chunk of this size, another one has none unless it is that one, and every other one
 -- has what it had
 abbrev pub MovesLive : SetState → SetState → Addr → Addr → ℕ → Type 0
@@ -60,6 +67,7 @@ HasBytesOf s t from to n = (k : ℕ) → k < n → byte_at t to.region (to.offse
 pub record Resizes (b n : Books) (s t : Space) (from to : Addr) (keep size : ℕ) (step : Result SetLedger CtxError) : Type 0 where
   pub kept : IsKept n
   pub ledger : step ≡ Ok (state_of n).ledger
+  pub place : (to ≡ from) ↔ StaysFor (chunk_at (state_of b) from) size
   pub fresh : to ≢ from → (footprint (state_of b)).live to ≡ None
   pub live : MovesLive (state_of b) (state_of n) from to size
   pub bytes : HasBytesOf s t from to keep

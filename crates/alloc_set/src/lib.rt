@@ -42,7 +42,7 @@ impl AllocSet {
     ghost use Rattle.alloc_set.specs.State.{chunk_at, freed, footprint};
     ghost use Rattle.alloc_set.specs.Ledger.{created, take};
     ghost use Rattle.alloc_set.specs.Live.{PutsLive};
-    ghost use Rattle.alloc_set.specs.Resize.{resized, MovesLive, HasBytesOf};
+    ghost use Rattle.alloc_set.specs.Resize.{resized, StaysFor, MovesLive, HasBytesOf};
 
     /// A context with one block, for an account of the space. `context` is the number that its blocks keep.
     ///
@@ -149,6 +149,7 @@ impl AllocSet {
         ensures ledger { OnOk result (resized self.old.ledger (held space.old self.old.account) space.old.limit (chunk_at self.old at) size ≡ Ok self.new.ledger) }
 
         // Where the chunk is at another address none was live there, the old address has none, and every other chunk stays.
+        ensures place { IfOk result (λ to. (to ≡ at) ↔ StaysFor (chunk_at self.old at) size) }
         ensures fresh { IfOk result (λ to. to ≢ at → (footprint self.old).live to ≡ None) }
         ensures live { IfOk result (λ to. MovesLive self.old self.new at to size) }
         ensures bytes { IfOk result (λ to. HasBytesOf space.old space.new at to (min keep size)) }

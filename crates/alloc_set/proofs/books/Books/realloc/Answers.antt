@@ -5,7 +5,7 @@ use Rattle.chunk_header.specs.declared.CtxError.TheVariants.{NoSpace}
 use Rattle.alloc_set.specs.Ledger.{SetLedger}
 use Rattle.alloc_set.specs.State.{chunk_at, then_option, live_size, footprint}
 use Rattle.alloc_set.specs.Kept.{state_of}
-use Rattle.alloc_set.specs.Resize.{resize_class, resize_block, kept_size, resized_chunk, resized, Resizes}
+use Rattle.alloc_set.specs.Resize.{resize_class, resize_block, kept_size, resized_chunk, resized, StaysFor, Resizes}
 use Rattle.alloc_set.proofs.Refits.{resized-small}
 use Rattle.alloc_set.proofs.InPlace.{Resizes-in_place}
 use Rattle.alloc_set.specs.declared.books.Books.{Books}
@@ -57,7 +57,7 @@ returns-in-Ok-clause-ok c =
     let same = step b s (Own old room) (chunk_at (state_of b) c.args.at) c.args.size (omega (arith, c.if-size-gt-LARGEST.false)) found in
     let few : c.args.keep ≤ old = if_some (λ n. c.args.keep ≤ n) ((footprint (state_of b)).live c.args.at) old live c.requires.keep in
     Resizes-in_place b c.resize_own.new.self s c.resize_own.new.space c.args.at old (min c.args.keep c.args.size) c.args.size (resized (state_of b).ledger (held s b.account) s.limit (chunk_at (state_of b) c.args.at) c.args.size)
-    c.in-Ok.ensures.kept (same ∙ c.in-Ok.ensures.ledger) live (omega (arith, few)) (omega arith) c.in-Ok.ensures.live c.in-Ok.ensures.moves c.in-Ok.ensures.keeps
+    c.in-Ok.ensures.kept (same ∙ c.in-Ok.ensures.ledger) live (subst (λ o. StaysFor o c.args.size) (sym found) tt) (omega (arith, few)) (omega arith) c.in-Ok.ensures.live c.in-Ok.ensures.moves c.in-Ok.ensures.keeps
 
 pub returns-in-Err-clause-no_space : goal.returns-in-Err-clause-no_space
 returns-in-Err-clause-no_space c = λ e.
