@@ -111,8 +111,10 @@ impl AllocSet {
         self.books.alloc(space, size)
     }
 
-    /// Frees a live chunk. It never refuses: where a chunk of its class is asked for again, it may be had
-    /// again, and a block that the chunk had for itself goes back to the space.
+    /// Frees a live chunk. The call never refuses, and takes no memory.
+    ///
+    /// A chunk of a class is kept for a later request of that class. A block that the chunk had for itself
+    /// goes back to the space.
     pub fn free(&mut self, space: &mut Space, at: Addr) -> Result<(), CtxError>
         requires agrees { Agrees (footprint self.old) space.old }
         requires live { IsSome ((footprint self.old).live at) }
@@ -126,9 +128,10 @@ impl AllocSet {
         Ok(())
     }
 
-    /// Frees all chunks: all blocks but the first go back to the space, and the context is as it was created.
+    /// Frees all chunks. All blocks but the first go back to the space, and the context is as it was created.
+    /// It takes no memory.
     pub fn reset(&mut self, space: &mut Space)
-        requires { Agrees (footprint self.old) space.old }
+        requires agrees { Agrees (footprint self.old) space.old }
         ensures ledger { self.new.ledger ≡ created self.old.ledger.init self.old.ledger.max }
         ensures account { self.new.account ≡ self.old.account }
         ensures context { self.new.context ≡ self.old.context }
@@ -140,10 +143,10 @@ impl AllocSet {
         self.books.reset(space);
     }
 
-    /// Gives all blocks back to the space.
+    /// Frees all chunks, and gives all blocks, the first too, back to the space. It takes no memory.
     pub fn discard(self, space: &mut Space)
-        requires { Agrees (footprint self) space.old }
-        ensures { Moves (footprint self) (nothing self.account self.context) space.old space.new }
+        requires agrees { Agrees (footprint self) space.old }
+        ensures moves { Moves (footprint self) (nothing self.account self.context) space.old space.new }
     {
         self.books.discard(space);
     }
