@@ -16,6 +16,7 @@ pub mod Owned
 pub mod Leads
 pub mod Unlisted
 pub mod Given
+pub mod Cleared
 pub mod Stays
 pub mod Resized
 pub mod Stretched

@@ -1,5 +1,5 @@
 -- What holds of the insides of an AllocSet.
-use Rattle.std.specs.Prelude.{◌≡◌, ◌≢◌, ℕ, ◌+◌, ◌-◌, ◌%◌, ◌^◌, ◌<◌, ◌≤◌, ◌==◌, List, length, map, min, Option, Some, None, if◌then◌else◌, sum, sum_by, zero, suc, slice_index_or}
+use Rattle.std.specs.Prelude.{◌≡◌, ◌≢◌, ℕ, ◌+◌, ◌-◌, ◌%◌, ◌^◌, ◌<◌, ◌≤◌, ◌==◌, List, [], replicate, length, map, min, Option, Some, None, if◌then◌else◌, sum, sum_by, zero, suc, slice_index_or}
 use Rattle.std.specs.Map.{values_of, lookup}
 use Rattle.addr_space.specs.declared.Addr.{Addr}
 use Rattle.alloc_set.specs.Ledger.{class_size, chunk_limit}
@@ -103,6 +103,14 @@ pub record IsCounted (b : Books) : Type 0 where
   pub most : b.total ≤ 2 ^ 62
   pub blocks : b.count ≡ 1 + sum_by (min 1) (values_of b.blocks.entries)
   pub rooms : b.active.room + b.idle + sum_by own_bytes (values_of b.chunks.entries) ≤ b.total
+
+-- no chunk is there, and the keeper, with its whole room, is active
+pub record IsCleared (b : Books) : Type 0 where
+  pub next : b.next ≡ b.sizes.init
+  pub active : b.active ≡ record { region = b.keeper; size = b.sizes.init; room = b.sizes.init - 240 }
+  pub chunks : b.chunks.entries ≡ []
+  pub shelves : b.shelves ≡ replicate 11 no_shelf
+  pub idle : b.idle ≡ 0
 
 -- all that the code keeps
 pub record IsKept (b : Books) : Type 0 where

@@ -1,12 +1,12 @@
 -- What contracts see of an AllocSet: its ledger, and where its blocks and chunks are.
-use Rattle.std.specs.Prelude.{ℕ, ◌+◌, ◌-◌, ◌==◌, ◌&&◌, Bool, true, false, List, Option, Some, None, option_map, if◌then◌else◌}
+use Rattle.std.specs.Prelude.{ℕ, ◌+◌, ◌-◌, ◌==◌, ◌&&◌, Bool, true, false, List, [], Option, Some, None, option_map, if◌then◌else◌}
 use Rattle.std.specs.Map.{lookup}
 use Rattle.addr_space.specs.declared.Addr.{Addr}
 use Rattle.addr_space.specs.Footprint.{Footprint}
 use Rattle.chunk_header.specs.declared.Header.{Header}
 use Rattle.chunk_header.specs.declared.Kind.TheVariants.{AllocSet as SetKind}
 use Rattle.chunk_header.specs.Header.{header_bytes, block_bytes}
-use Rattle.alloc_set.specs.Ledger.{SetLedger, class_size, with_free, without_own}
+use Rattle.alloc_set.specs.Ledger.{SetLedger, created, class_size, shelved, without_own}
 use Rattle.alloc_set.specs.declared.chunk.Chunk.{Chunk}
 use Rattle.alloc_set.specs.declared.chunk.Chunk.TheVariants.{Live, Free, Own}
 
@@ -59,9 +59,13 @@ header_of (Live class size) dist = record { kind = SetKind; own = false; value =
 header_of (Free class next) dist = record { kind = SetKind; own = false; value = class; dist = dist }
 header_of (Own size room) dist = record { kind = SetKind; own = true; value = 0; dist = dist }
 
+-- a context of which all but the keeper went back
+abbrev pub emptied : SetState → SetState
+emptied s = record s { ledger = created s.ledger.init s.ledger.max; blocks = []; chunks = [] }
+
 -- a chunk is freed: one of a class is one more free chunk of it, and an own block goes back
 unfoldable pub freed : SetLedger → Chunk → SetLedger
-freed l (Live class size) = record l { free = with_free l.free class 1 }
+freed l (Live class size) = shelved l class
 freed l (Free class next) = l
 freed l (Own size room) = without_own l (room + 48)
 

@@ -1,15 +1,15 @@
 //! What an AllocSet gives back: chunks that are freed, and blocks.
-ghost use Rattle.std.specs.Prelude.{◌≡◌, ◌≢◌, ℕ, ◌+◌, ◌-◌, ◌<◌, ◌≤◌, Some, None, IfSome, IsSome, option_map, unwrap_or, sum_by, if◌then◌else◌, length, ◌==◌};
+ghost use Rattle.std.specs.Prelude.{◌≡◌, ◌≢◌, ℕ, ◌+◌, ◌-◌, ◌<◌, ◌≤◌, Some, None, IfSome, IfNone, IsSome, option_map, unwrap_or, sum_by, if◌then◌else◌, length, ◌==◌, []};
 ghost use Rattle.std.specs.Map.{values_of, lookup};
 ghost use Rattle.addr_space.specs.declared.Addr.{Addr};
 ghost use Rattle.alloc_set.specs.declared.chunk.Chunk.{Chunk};
-ghost use Rattle.addr_space.specs.Footprint.{Agrees, Moves, Keeps};
+ghost use Rattle.addr_space.specs.Footprint.{Agrees, Moves, Keeps, nothing};
 ghost use Rattle.alloc_set.specs.Ledger.{without_own};
-ghost use Rattle.alloc_set.specs.State.{same_addr, chunk_at, region_of, freed, footprint};
+ghost use Rattle.alloc_set.specs.State.{same_addr, chunk_at, region_of, freed, emptied, footprint};
 ghost use Rattle.addr_space.specs.Space.{Space};
 
-use crate::books::Books;
-use crate::chunk::Chunk;
+use crate::books::{Block, Books};
+use crate::chunk::{Chunk, Shelf};
 use addr_space::{Addr, Space};
 use indexmap::IndexMap;
 
@@ -32,7 +32,7 @@ fn strike(blocks: &mut IndexMap<u32, u32>, number: u32)
 }
 
 impl Books {
-    ghost use Rattle.alloc_set.specs.Kept.{state_of, own_bytes, IsKept};
+    ghost use Rattle.alloc_set.specs.Kept.{state_of, own_bytes, IsCleared, IsKept};
     ghost use Rattle.alloc_set.specs.Live.{PutsLive, SameLive};
     ghost use Rattle.alloc_set.specs.Steps.{PutsChunk};
 
@@ -113,5 +113,77 @@ impl Books {
             Some(Chunk::Own { size: _, room }) => self.give_own(space, at, room),
             _ => {}
         }
+    }
+    // Takes all chunks off the books, and makes the keeper, with its whole room, the active block.
+    fn clear(&mut self)
+        requires kept { IsKept self.old }
+        ensures kept { IsKept self.new }
+        ensures cleared { IsCleared self.new }
+        ensures rest { self.new ≡ record self.old { next = self.new.next; active = self.new.active; chunks = self.new.chunks; shelves = self.new.shelves; idle = self.new.idle } }
+        ensures moves { (sp : Space) → Agrees (footprint (state_of self.old)) sp → Moves (footprint (state_of self.old)) (footprint (state_of self.new)) sp sp }
+    {
+        self.next = self.sizes.init;
+        self.active = Block {
+            region: self.keeper,
+            size: self.sizes.init,
+            room: self.sizes.init - 240,
+        };
+        self.chunks.clear();
+        self.shelves = [Shelf {
+            first: None,
+            count: 0,
+        }; 11];
+        self.idle = 0;
+    }
+
+    // The number and the size of the last block but the keeper.
+    fn last_block(&self) -> Option<(u32, u32)>
+        ensures none { IfNone result (self.now.blocks.entries ≡ []) }
+        ensures some { IfSome result (λ block. lookup (λ n. block.0 == n) self.now.blocks.entries ≡ Some block.1) }
+    {
+        let last = self.blocks.len().checked_sub(1)?;
+        let (number, size) = self.blocks.get_index(last)?;
+        Some((*number, *size))
+    }
+
+    // Gives all blocks but the keeper back.
+    fn give_blocks(&mut self, space: &mut Space)
+        requires kept { IsKept self.old }
+        requires agrees { Agrees (footprint (state_of self.old)) space.old }
+        requires cleared { IsCleared self.old }
+        ensures kept { IsKept self.new }
+        ensures cleared { IsCleared self.new }
+        ensures blocks { self.new.blocks.entries ≡ [] }
+        ensures rest { self.new ≡ record self.old { blocks = self.new.blocks; total = self.new.total; count = self.new.count } }
+        ensures moves { Moves (footprint (state_of self.old)) (footprint (state_of self.new)) space.old space.new }
+    {
+        while let Some((number, size)) = self.last_block() {
+            self.give_block(space, number, size);
+        }
+    }
+
+    // Gives all but the keeper back.
+    pub fn reset(&mut self, space: &mut Space)
+        requires kept { IsKept self.old }
+        requires agrees { Agrees (footprint (state_of self.old)) space.old }
+        ensures kept { IsKept self.new }
+        ensures state { state_of self.new ≡ emptied (state_of self.old) }
+        ensures moves { Moves (footprint (state_of self.old)) (footprint (state_of self.new)) space.old space.new }
+    {
+        self.clear();
+        self.give_blocks(space);
+    }
+
+    // Gives all back.
+    pub fn discard(mut self, space: &mut Space)
+        requires kept { IsKept self }
+        requires agrees { Agrees (footprint (state_of self)) space.old }
+        ensures moves { Moves (footprint (state_of self)) (nothing self.account self.context) space.old space.new }
+    {
+        self.reset(space);
+        space.give(Addr {
+            region: self.keeper,
+            offset: 0,
+        });
     }
 }

@@ -1,7 +1,7 @@
 //! An AllocSet: a memory context that keeps its freed chunks by class.
 #![tactic(auto)]
 
-ghost use Rattle.std.specs.Prelude.{◌≡◌, ◌≢◌, ℕ, ◌+◌, ◌-◌, ◌%◌, ◌^◌, ◌<◌, ◌≤◌, ◌↔◌, ◌⊎◌, Ok, Err, None, Some, IfOk, IfErr, OnOk, OnErr, IsSome, IfSome, min};
+ghost use Rattle.std.specs.Prelude.{◌≡◌, ◌≢◌, ℕ, ◌+◌, ◌-◌, ◌%◌, ◌^◌, ◌<◌, ◌≤◌, ◌↔◌, ◌⊎◌, Ok, Err, None, Some, IfOk, IfErr, OnOk, OnErr, IsSome, IfSome, min, ◌==◌, if◌then◌else◌};
 ghost use Rattle.addr_space.specs.declared.Addr.{Addr};
 ghost use Rattle.alloc_set.specs.Ledger.{stats};
 
@@ -39,7 +39,7 @@ impl AllocSet {
     ghost use Rattle.addr_space.specs.Space.{accounts, held, IsKnown};
     ghost use Rattle.addr_space.specs.Footprint.{nothing, Agrees, Moves, Keeps, KeepsBut};
     ghost use Rattle.chunk_header.specs.Header.{AllHeaded};
-    ghost use Rattle.alloc_set.specs.State.{chunk_at, freed, footprint};
+    ghost use Rattle.alloc_set.specs.State.{chunk_at, region_of, freed, footprint};
     ghost use Rattle.alloc_set.specs.Ledger.{created, take};
     ghost use Rattle.alloc_set.specs.Live.{PutsLive};
     ghost use Rattle.alloc_set.specs.Resize.{resized, StaysFor, MovesLive, HasBytesOf};
@@ -113,8 +113,10 @@ impl AllocSet {
         self.books.alloc(space, size)
     }
 
-    /// Frees a live chunk. It never refuses: where a chunk of its class is asked for again, it may be had
-    /// again, and a block that the chunk had for itself goes back to the space.
+    /// Frees a live chunk. The call never refuses, and takes no memory.
+    ///
+    /// A chunk of a class is kept for a later request of that class. A block that the chunk had for itself
+    /// goes back to the space.
     pub fn free(&mut self, space: &mut Space, at: Addr) -> Result<(), CtxError>
         requires agrees { Agrees (footprint self.old) space.old }
         requires live { IsSome ((footprint self.old).live at) }
@@ -164,6 +166,29 @@ impl AllocSet {
         ensures err_space { OnErr result (space.new ≡ space.old) }
     {
         self.books.realloc(space, at, keep, size)
+    }
+
+    /// Frees all chunks. All blocks but the first go back to the space, and the context is as it was created.
+    /// It takes no memory.
+    pub fn reset(&mut self, space: &mut Space)
+        requires agrees { Agrees (footprint self.old) space.old }
+        ensures ledger { self.new.ledger ≡ created self.old.ledger.init self.old.ledger.max }
+        ensures account { self.new.account ≡ self.old.account }
+        ensures context { self.new.context ≡ self.old.context }
+        ensures keeper { self.new.keeper ≡ self.old.keeper }
+        ensures regions { (number : ℕ) → region_of self.new number ≡ (if self.old.keeper == number then Some self.old.ledger.init else None) }
+        ensures live { (at : Addr) → (footprint self.new).live at ≡ None }
+        ensures moves { Moves (footprint self.old) (footprint self.new) space.old space.new }
+    {
+        self.books.reset(space);
+    }
+
+    /// Frees all chunks, and gives all blocks, the first too, back to the space. It takes no memory.
+    pub fn discard(self, space: &mut Space)
+        requires agrees { Agrees (footprint self) space.old }
+        ensures moves { Moves (footprint self) (nothing self.account self.context) space.old space.new }
+    {
+        self.books.discard(space);
     }
 }
 

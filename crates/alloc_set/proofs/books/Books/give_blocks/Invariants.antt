@@ -1,0 +1,17 @@
+use Rattle.std.proofs.Common.{◌≡◌, ℕ, length}
+use Rattle.addr_space.specs.Footprint.{Moves}
+use Rattle.alloc_set.specs.State.{footprint}
+use Rattle.alloc_set.specs.Kept.{state_of, IsCleared, IsKept}
+use Rattle.alloc_set.specs.declared.books.Books.{Books}
+use Rattle.alloc_set.proofs.books.Books.give_blocks.Given as goal
+
+abbrev pub invariant-loop-number : goal.invariant-loop-number
+invariant-loop-number l = record {
+  kept : IsKept l.self;
+  cleared : IsCleared l.self;
+  rest : l.self ≡ record l.initial.self { blocks = l.self.blocks; total = l.self.total; count = l.self.count };
+  moves : Moves (footprint (state_of l.initial.self)) (footprint (state_of l.self)) l.initial.space l.space;
+}
+
+abbrev pub decreases-loop-number : goal.decreases-loop-number
+decreases-loop-number l = length l.self.blocks.entries
