@@ -83,7 +83,7 @@ module _ (b n : Books) (number size : ℕ) (kept : IsKept b) (adds : Adds (state
           limit = limit ∙ was.limit ∙ ap chunk_limit (sym max);
           filled = omega (arith, was.filled, active_size, room);
           keeper = ap (λ k. lookup (λ n. k == n) n.blocks.entries) adds.keeper ∙ noted b.keeper ∙ ap (λ t. if t then Some size else lookup (λ n. b.keeper == n) b.blocks.entries) other ∙ was.keeper;
-        total = omega (arith, was.total, adds.total, sums (λ x. x), init);
+          total = omega (arith, was.total, adds.total, sums (λ x. x), init);
           most = omega (arith, small, adds.total, most);
           blocks = omega (arith, was.blocks, count, sums (min 1), least);
           rooms = omega (arith, was.rooms, adds.total, room, idle, ap (λ e. sum_by own_bytes (values_of e)) same);

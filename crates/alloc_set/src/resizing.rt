@@ -69,7 +69,14 @@ impl Books {
     }
 
     // Takes another chunk for one of a class, with its first bytes, and frees the old one.
-    fn replace(&mut self, space: &mut Space, class: u8, at: Addr, keep: u32, size: u32) -> Result<Addr, CtxError>
+    fn replace(
+        &mut self,
+        space: &mut Space,
+        class: u8,
+        at: Addr,
+        keep: u32,
+        size: u32,
+    ) -> Result<Addr, CtxError>
         requires kept { IsKept self.old }
         requires agrees { Agrees (footprint (state_of self.old)) space.old }
         requires class { class ≤ 10 }
@@ -95,7 +102,14 @@ impl Books {
     }
 
     // Resizes a chunk of a class.
-    fn resize_class(&mut self, space: &mut Space, class: u8, at: Addr, keep: u32, size: u32) -> Result<Addr, CtxError>
+    fn resize_class(
+        &mut self,
+        space: &mut Space,
+        class: u8,
+        at: Addr,
+        keep: u32,
+        size: u32,
+    ) -> Result<Addr, CtxError>
         requires kept { IsKept self.old }
         requires agrees { Agrees (footprint (state_of self.old)) space.old }
         requires class { class ≤ 10 }
@@ -118,7 +132,14 @@ impl Books {
     }
 
     // Gives a chunk's own block another room, and the chunk a size in it.
-    fn stretch(&mut self, space: &mut Space, at: Addr, old: u32, room: u32, size: u32) -> Result<(), CtxError>
+    fn stretch(
+        &mut self,
+        space: &mut Space,
+        at: Addr,
+        old: u32,
+        room: u32,
+        size: u32,
+    ) -> Result<(), CtxError>
         requires kept { IsKept self.old }
         requires agrees { Agrees (footprint (state_of self.old)) space.old }
         requires live { (n : ℕ) × (chunk_at (state_of self.old) at ≡ Some (Chunk.Own n old)) }
@@ -162,7 +183,13 @@ impl Books {
     }
 
     // Resizes a chunk that has its block for itself.
-    fn resize_own(&mut self, space: &mut Space, at: Addr, old: u32, size: u32) -> Result<(), CtxError>
+    fn resize_own(
+        &mut self,
+        space: &mut Space,
+        at: Addr,
+        old: u32,
+        size: u32,
+    ) -> Result<(), CtxError>
         requires kept { IsKept self.old }
         requires agrees { Agrees (footprint (state_of self.old)) space.old }
         requires size { size ≤ 1073741823 }
@@ -186,7 +213,13 @@ impl Books {
     }
 
     // Resizes a live chunk, of which so many first bytes are known.
-    pub fn realloc(&mut self, space: &mut Space, at: Addr, keep: u64, size: u64) -> Result<Addr, CtxError>
+    pub fn realloc(
+        &mut self,
+        space: &mut Space,
+        at: Addr,
+        keep: u64,
+        size: u64,
+    ) -> Result<Addr, CtxError>
         requires kept { IsKept self.old }
         requires agrees { Agrees (footprint (state_of self.old)) space.old }
         requires live { IsSome ((footprint (state_of self.old)).live at) }

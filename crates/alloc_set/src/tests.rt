@@ -165,10 +165,34 @@ fn freed_reset_and_discarded(rt: HostRuntime) -> Result<(), Fail> {
     let new_great = [8192, 1, 7952, 0];
     let new_small = [1024, 1, 784, 0];
     let rows = [
-        (GREAT, 100, [8192, 1, 7816, 0], [8192, 1, 7952, 1], new_great),
-        (GREAT, 8000, [24576, 2, 16096, 7], [24576, 2, 24296, 8], new_great),
-        (GREAT, 8193, [16440, 2, 7952, 0], [8192, 1, 7952, 0], new_great),
-        (SMALL, 1024, [3072, 2, 1760, 2], [3072, 2, 2792, 3], new_small),
+        (
+            GREAT,
+            100,
+            [8192, 1, 7816, 0],
+            [8192, 1, 7952, 1],
+            new_great,
+        ),
+        (
+            GREAT,
+            8000,
+            [24576, 2, 16096, 7],
+            [24576, 2, 24296, 8],
+            new_great,
+        ),
+        (
+            GREAT,
+            8193,
+            [16440, 2, 7952, 0],
+            [8192, 1, 7952, 0],
+            new_great,
+        ),
+        (
+            SMALL,
+            1024,
+            [3072, 2, 1760, 2],
+            [3072, 2, 2792, 3],
+            new_small,
+        ),
         (SMALL, 1025, [2104, 2, 784, 0], [1024, 1, 784, 0], new_small),
     ];
     for (sizes, size, taken, freed, emptied) in rows {

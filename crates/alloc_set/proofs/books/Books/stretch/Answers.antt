@@ -93,7 +93,7 @@ returns-clause-keeps c =
     c.requires.fits c.requires.most c.args.space.now c.resize_block.new.space c.requires.agrees c.in-Ok.ensures.changes c.in-Ok.ensures.held
 
 pub returns-clause-ledger : goal.returns-clause-ledger
-returns-clause-ledger c = 
+returns-clause-ledger c =
     let b = c.args.self.now in
     let total : b.total - c.from.result + c.from-2.result ≡ b.total - (c.args.old + 48) + (c.args.room + 48) = omega (arith, within b c.args.at c.requires.live.0 c.args.old c.requires.kept c.requires.live.1, c.from.ensures, c.from-2.ensures) in
     ap (λ n. record (state_of b).ledger { total = n }) total
