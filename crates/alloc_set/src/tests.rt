@@ -1,6 +1,6 @@
-ghost use Rattle.std.specs.Prelude.{◌≡◌, ◌≤◌, ◌%◌, Some, OnOk};
+ghost use Rattle.std.specs.Prelude.{◌≡◌, ◌≤◌, ◌<◌, ◌%◌, Some, OnOk, IfOk};
 ghost use Rattle.addr_space.specs.declared.Addr.{Addr};
-ghost use Rattle.addr_space.specs.Space.{IsKnown};
+ghost use Rattle.addr_space.specs.Space.{IsKnown, accounts};
 ghost use Rattle.addr_space.specs.Footprint.{Agrees, AreDisjoint};
 ghost use Rattle.alloc_set.specs.State.{footprint};
 
@@ -230,19 +230,54 @@ fn stir(
     Ok(())
 }
 
+// A hundred calls beside the chunk.
+fn stir_often(
+    space: &mut Space,
+    set: &mut AllocSet,
+    other: &mut AllocSet,
+    at: Addr,
+) -> Result<(), CtxError>
+    requires agrees { Agrees (footprint set.old) space.old }
+    requires others { Agrees (footprint other.old) space.old }
+    requires disjoint { AreDisjoint (footprint set.old) (footprint other.old) }
+    requires live { (footprint set.old).live at ≡ Some 8 }
+    requires known { IsKnown space.old at 8 }
+    ensures agrees { OnOk result (Agrees (footprint set.new) space.new) }
+    ensures live { OnOk result ((footprint set.new).live at ≡ Some 8) }
+    ensures known { OnOk result (IsKnown space.new at 8) }
+{
+    for turn in 0..20 {
+        stir(space, set, other, at, turn * 60)?;
+    }
+    Ok(())
+}
+
+// Two contexts, and a chunk of the first one with these bytes.
+fn written(
+    alloc: Global,
+    space: &mut Space,
+    bytes: &[u8; 8],
+) -> Result<(AllocSet, AllocSet, Addr), CtxError>
+    requires { 0 < accounts space.old }
+    ensures agrees { IfOk result (λ made. Agrees (footprint made.0) space.new) }
+    ensures others { IfOk result (λ made. Agrees (footprint made.1) space.new) }
+    ensures disjoint { IfOk result (λ made. AreDisjoint (footprint made.0) (footprint made.1)) }
+    ensures live { IfOk result (λ made. (footprint made.0).live made.2 ≡ Some 8) }
+    ensures known { IfOk result (λ made. IsKnown space.new made.2 8) }
+{
+    let other = AllocSet::create(alloc, space, 0, 8, SMALL)?;
+    let mut set = AllocSet::create(alloc, space, 0, 7, SMALL)?;
+    let at = set.alloc(space, 8)?;
+    space.write(at, bytes);
+    Ok((set, other, at))
+}
+
 #[test]
 fn bytes_stay_through_other_calls(rt: HostRuntime) -> Result<(), Fail> {
-    let mut space = Space::new(rt.alloc(), 1, 100_000)?;
-    let mut set = AllocSet::create(rt.alloc(), &mut space, 0, 7, SMALL)?;
-    let mut other = AllocSet::create(rt.alloc(), &mut space, 0, 8, SMALL)?;
-    let at = set.alloc(&mut space, 8)?;
     let bytes = [3, 1, 4, 1, 5, 9, 2, 6];
-    space.write(at, &bytes);
-    for size in [
-        0, 1, 8, 9, 16, 17, 33, 65, 100, 129, 200, 257, 300, 513, 600, 1024, 1025, 2000, 3000, 5000,
-    ] {
-        stir(&mut space, &mut set, &mut other, at, size)?;
-    }
+    let mut space = Space::new(rt.alloc(), 1, 100_000)?;
+    let (mut set, mut other, at) = written(rt.alloc(), &mut space, &bytes)?;
+    stir_often(&mut space, &mut set, &mut other, at)?;
     let mut read = [0; 8];
     space.read(at, &mut read);
     assert_eq!(rt; read, bytes);

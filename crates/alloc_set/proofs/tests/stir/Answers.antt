@@ -7,6 +7,7 @@ use Rattle.alloc_set.specs.State.{SetState, footprint}
 use Rattle.alloc_set.specs.Live.{PutsLive}
 use Rattle.alloc_set.proofs.Carved.{same_addr-cases}
 use Rattle.alloc_set.proofs.tests.stir.Goals as goal
+use Rattle.alloc_set.proofs.tests.stir.Goals.{After-free, After-reset}
 
 -- a chunk of 8 known bytes is live, and another context is apart
 record Stands (f g : Footprint) (s : Space) (at : Addr) : Type 0 where
@@ -50,7 +51,7 @@ stays s t put at slot puts differs =
 fresh_differs : (s : SetState) (put at : Addr) (n : ℕ) → (footprint s).live put ≡ None → (footprint s).live at ≡ Some n → put ≢ at
 fresh_differs s put at n none live same = let clash = sym none ∙ ap (footprint s).live same ∙ live in absurd (cc)
 
-after_free : (c : goal.After-free) → Stands (footprint c.free.new.self) (footprint c.args.other.now) c.free.new.space c.args.at
+after_free : (c : After-free) → Stands (footprint c.free.new.self) (footprint c.args.other.now) c.free.new.space c.args.at
 after_free c =
     let s = c.args.set.now in
     let a = c.alloc.new.self in
@@ -72,23 +73,22 @@ after_free c =
 pub alloc-requires-3 : goal.alloc-requires-3
 alloc-requires-3 c = (after_free (goal.at.alloc-requires-3 c).After-free).others
 
-after_reset : (c : goal.After-reset) → Stands (footprint c.free.new.self) (footprint c.reset.new.self) c.reset.new.space c.args.at
-after_reset c =
+after_reset : (c : After-reset) → Stands (footprint c.free.new.self) (footprint c.args.other.now) c.free.new.space c.args.at → Stands (footprint c.free.new.self) (footprint c.reset.new.self) c.reset.new.space c.args.at
+after_reset c begun =
     let f = footprint c.free.new.self in
     let g = footprint c.args.other.now in
     let h = footprint c.alloc-3.new.self in
-    let begun = after_free c.After-free in
     let more = other f g h c.free.new.space c.alloc-3.new.space c.args.at begun c.in_ok-alloc-2.ensures.moves in
     other f h (footprint c.reset.new.self) c.alloc-3.new.space c.reset.new.space c.args.at more c.reset.ensures.moves
 
 pub returns-clause-agrees : goal.returns-clause-agrees
-returns-clause-agrees c = (after_reset c).agrees
+returns-clause-agrees c = (after_reset c (after_free (goal.at.returns-clause-agrees c).After-free)).agrees
 
 pub returns-clause-disjoint : goal.returns-clause-disjoint
-returns-clause-disjoint c = (after_reset c).disjoint
+returns-clause-disjoint c = (after_reset c (after_free (goal.at.returns-clause-disjoint c).After-free)).disjoint
 
 pub returns-clause-live : goal.returns-clause-live
-returns-clause-live c = (after_reset c).live
+returns-clause-live c = (after_reset c (after_free (goal.at.returns-clause-live c).After-free)).live
 
 pub returns-clause-known : goal.returns-clause-known
-returns-clause-known c = (after_reset c).known
+returns-clause-known c = (after_reset c (after_free (goal.at.returns-clause-known c).After-free)).known
