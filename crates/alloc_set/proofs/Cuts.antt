@@ -77,4 +77,5 @@ CutsUp-less b n room few more le cut = record {
   others = cut.others;
   owned = cut.owned;
   live = cut.live;
+  stays = cut.stays;
 }

@@ -17,3 +17,11 @@ pub mod Leads
 pub mod Unlisted
 pub mod Given
 pub mod Cleared
+pub mod Stays
+pub mod Resized
+pub mod Stretched
+pub mod KeptResized
+pub mod Refits
+pub mod Carried
+pub mod Replaced
+pub mod InPlace

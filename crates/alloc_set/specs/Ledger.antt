@@ -62,6 +62,10 @@ created init max = record {
 abbrev pub with_free : List ℕ → ℕ → ℕ → List ℕ
 with_free free class more = slice_set free class (slice_index free class + more)
 
+-- a chunk of a class is freed
+abbrev pub shelved : SetLedger → ℕ → SetLedger
+shelved l class = record l { free = with_free l.free class 1 }
+
 -- what is left of a room, and the free chunks, once the room was cut up into free chunks of the classes below
 -- one, of the greatest that fits each time
 unfoldable pub cut_up : ℕ → ℕ → List ℕ → List ℕ

@@ -5,3 +5,4 @@ pub mod Kept
 pub mod Steps
 pub mod Live
 pub mod Cut
+pub mod Resize

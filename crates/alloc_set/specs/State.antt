@@ -6,7 +6,7 @@ use Rattle.addr_space.specs.Footprint.{Footprint}
 use Rattle.chunk_header.specs.declared.Header.{Header}
 use Rattle.chunk_header.specs.declared.Kind.TheVariants.{AllocSet as SetKind}
 use Rattle.chunk_header.specs.Header.{header_bytes, block_bytes}
-use Rattle.alloc_set.specs.Ledger.{SetLedger, created, class_size, with_free, without_own}
+use Rattle.alloc_set.specs.Ledger.{SetLedger, created, class_size, shelved, without_own}
 use Rattle.alloc_set.specs.declared.chunk.Chunk.{Chunk}
 use Rattle.alloc_set.specs.declared.chunk.Chunk.TheVariants.{Live, Free, Own}
 
@@ -65,7 +65,7 @@ emptied s = record s { ledger = created s.ledger.init s.ledger.max; blocks = [];
 
 -- a chunk is freed: one of a class is one more free chunk of it, and an own block goes back
 unfoldable pub freed : SetLedger → Chunk → SetLedger
-freed l (Live class size) = record l { free = with_free l.free class 1 }
+freed l (Live class size) = shelved l class
 freed l (Free class next) = l
 freed l (Own size room) = without_own l (room + 48)
 

@@ -77,10 +77,10 @@ fn note(blocks: &mut IndexMap<u32, u32>, number: u32, size: u32)
 }
 
 // The greatest size of a request.
-const LARGEST: u64 = 1_073_741_823;
+pub const LARGEST: u64 = 1_073_741_823;
 
 // The greatest total with which a context takes one more block, in bytes.
-const MOST: u64 = 1 << 61;
+pub const MOST: u64 = 1 << 61;
 
 // The size from which a block that doesn't fit is halved.
 const LARGE: u32 = 1_048_576;
@@ -91,7 +91,7 @@ const MOST_CHUNKS: usize = 1 << 39;
 impl Books {
     ghost use Rattle.alloc_set.specs.Kept.{state_of, own_bytes, IsSettled, IsShelved, IsCounted, IsKept};
     ghost use Rattle.alloc_set.specs.Steps.{IsOfClass, Carves};
-    ghost use Rattle.alloc_set.specs.Live.{PutsLive, SameLive};
+    ghost use Rattle.alloc_set.specs.Live.{PutsLive, SameLive, LeavesLive};
     ghost use Rattle.alloc_set.specs.Cut.{CutsUp, Renews, Allocates};
 
     // The books of a new context, whose keeper was taken.
@@ -209,6 +209,7 @@ impl Books {
         ensures ledger { (state_of self.new).ledger ≡ cut_off (state_of self.old).ledger class }
         ensures fresh { (footprint (state_of self.old)).live result ≡ None }
         ensures live { PutsLive (state_of self.old) (state_of self.new) result (Some size) }
+        ensures stays { LeavesLive (state_of self.old) (state_of self.new) }
         ensures moves { Moves (footprint (state_of self.old)) (footprint (state_of self.new)) space.old space.new }
         ensures keeps { Keeps (footprint (state_of self.old)) (footprint (state_of self.new)) space.old space.new }
     {
@@ -232,6 +233,7 @@ impl Books {
         ensures owned { sum_by own_bytes (values_of self.new.chunks.entries) ≡ sum_by own_bytes (values_of self.old.chunks.entries) }
         ensures others { (at : Addr) → at.region ≢ self.old.active.region → chunk_at (state_of self.new) at ≡ chunk_at (state_of self.old) at }
         ensures live { SameLive (state_of self.old) (state_of self.new) }
+        ensures stays { LeavesLive (state_of self.old) (state_of self.new) }
         ensures moves { Moves (footprint (state_of self.old)) (footprint (state_of self.new)) space.old space.new }
         ensures keeps { Keeps (footprint (state_of self.old)) (footprint (state_of self.new)) space.old space.new }
     {
@@ -430,6 +432,7 @@ impl Books {
         ensures ledger { OnSome result ((state_of self.new).ledger ≡ reused (state_of self.old).ledger class) }
         ensures fresh { IfSome result (λ at. (footprint (state_of self.old)).live at ≡ None) }
         ensures live { IfSome result (λ at. PutsLive (state_of self.old) (state_of self.new) at (Some size)) }
+        ensures stays { LeavesLive (state_of self.old) (state_of self.new) }
         ensures moves { OnSome result ((sp : Space) → Agrees (footprint (state_of self.old)) sp → Moves (footprint (state_of self.old)) (footprint (state_of self.new)) sp sp) }
         ensures rest { self.new ≡ record self.old { chunks = self.new.chunks; shelves = self.new.shelves } }
     {
@@ -512,6 +515,7 @@ impl Books {
         ensures ledger { (state_of self.new).ledger ≡ (state_of self.old).ledger }
         ensures fresh { (footprint (state_of self.old)).live result ≡ None }
         ensures live { PutsLive (state_of self.old) (state_of self.new) result (Some size) }
+        ensures stays { LeavesLive (state_of self.old) (state_of self.new) }
         ensures moves { Moves (footprint (state_of self.old)) (footprint (state_of self.new)) space.old space.new }
         ensures keeps { Keeps (footprint (state_of self.old)) (footprint (state_of self.new)) space.old space.new }
     {

@@ -1,7 +1,7 @@
 //! An AllocSet: a memory context that keeps its freed chunks by class.
 #![tactic(auto)]
 
-ghost use Rattle.std.specs.Prelude.{◌≡◌, ◌≢◌, ℕ, ◌+◌, ◌-◌, ◌%◌, ◌^◌, ◌<◌, ◌≤◌, ◌↔◌, ◌⊎◌, Ok, Err, None, Some, IfOk, IfErr, IfSome, IsSome, OnOk, OnErr, ◌==◌, if◌then◌else◌};
+ghost use Rattle.std.specs.Prelude.{◌≡◌, ◌≢◌, ℕ, ◌+◌, ◌-◌, ◌%◌, ◌^◌, ◌<◌, ◌≤◌, ◌↔◌, ◌⊎◌, Ok, Err, None, Some, IfOk, IfErr, OnOk, OnErr, IsSome, IfSome, min, ◌==◌, if◌then◌else◌};
 ghost use Rattle.addr_space.specs.declared.Addr.{Addr};
 ghost use Rattle.alloc_set.specs.Ledger.{stats};
 
@@ -9,6 +9,7 @@ mod books;
 mod chunk;
 mod classes;
 mod giving;
+mod resizing;
 
 use addr_space::{Addr, Space};
 use books::Books;
@@ -35,12 +36,13 @@ impl Model for AllocSet {
 }
 
 impl AllocSet {
-    ghost use Rattle.addr_space.specs.Space.{accounts, held};
-    ghost use Rattle.addr_space.specs.Footprint.{nothing, Agrees, Moves, Keeps};
+    ghost use Rattle.addr_space.specs.Space.{accounts, held, IsKnown};
+    ghost use Rattle.addr_space.specs.Footprint.{nothing, Agrees, Moves, Keeps, KeepsBut};
     ghost use Rattle.chunk_header.specs.Header.{AllHeaded};
     ghost use Rattle.alloc_set.specs.State.{chunk_at, region_of, freed, footprint};
     ghost use Rattle.alloc_set.specs.Ledger.{created, take};
     ghost use Rattle.alloc_set.specs.Live.{PutsLive};
+    ghost use Rattle.alloc_set.specs.Resize.{resized, StaysFor, MovesLive, HasBytesOf};
 
     /// A context with one block, for an account of the space. `context` is the number that its blocks keep.
     ///
@@ -111,8 +113,10 @@ impl AllocSet {
         self.books.alloc(space, size)
     }
 
-    /// Frees a live chunk. It never refuses: where a chunk of its class is asked for again, it may be had
-    /// again, and a block that the chunk had for itself goes back to the space.
+    /// Frees a live chunk. The call never refuses, and takes no memory.
+    ///
+    /// A chunk of a class is kept for a later request of that class. A block that the chunk had for itself
+    /// goes back to the space.
     pub fn free(&mut self, space: &mut Space, at: Addr) -> Result<(), CtxError>
         requires agrees { Agrees (footprint self.old) space.old }
         requires live { IsSome ((footprint self.old).live at) }
@@ -126,9 +130,48 @@ impl AllocSet {
         Ok(())
     }
 
-    /// Frees all chunks: all blocks but the first go back to the space, and the context is as it was created.
+    /// Gives a live chunk a size of `size` bytes, which may be 0, and answers where it is now. `keep` is how many of its first bytes are known.
+    ///
+    /// The chunk stays where its class has the size or where it has its block for itself; that block then gets another length. Else a new chunk is taken, the first `keep` bytes but no more than `size` are copied, and the old chunk is freed.
+    ///
+    /// `TooBig`, where `size` is over 1,073,741,823, comes before `NoSpace`, and `Memory` may come in place of any other. A refused call changes nothing.
+    pub fn realloc(
+        &mut self,
+        space: &mut Space,
+        at: Addr,
+        keep: u64,
+        size: u64,
+    ) -> Result<Addr, CtxError>
+        requires agrees { Agrees (footprint self.old) space.old }
+        requires live { IsSome ((footprint self.old).live at) }
+        requires keep { IfSome ((footprint self.old).live at) (λ n. keep ≤ n) }
+        requires known { IsKnown space.old at keep }
+
+        // The ledger makes its step for the chunk, with what the account holds and may hold.
+        ensures ledger { OnOk result (resized self.old.ledger (held space.old self.old.account) space.old.limit (chunk_at self.old at) size ≡ Ok self.new.ledger) }
+
+        // Where the chunk is at another address none was live there, the old address has none, and every other chunk stays.
+        ensures place { IfOk result (λ to. (to ≡ at) ↔ StaysFor (chunk_at self.old at) size) }
+        ensures fresh { IfOk result (λ to. to ≢ at → (footprint self.old).live to ≡ None) }
+        ensures live { IfOk result (λ to. MovesLive self.old self.new at to size) }
+        ensures bytes { IfOk result (λ to. HasBytesOf space.old space.new at to (min keep size)) }
+        ensures known { IfOk result (λ to. IsKnown space.new to (min keep size)) }
+        ensures moves { OnOk result (Moves (footprint self.old) (footprint self.new) space.old space.new) }
+        ensures keeps { OnOk result (KeepsBut at (footprint self.old) (footprint self.new) space.old space.new) }
+
+        ensures too_big { (result ≡ Err CtxError.TooBig) ↔ (1073741823 < size) }
+        ensures no_space { result ≡ Err CtxError.NoSpace → resized self.old.ledger (held space.old self.old.account) space.old.limit (chunk_at self.old at) size ≡ Err CtxError.NoSpace }
+        ensures no_other { IfErr result (λ e. (e ≡ CtxError.TooBig) ⊎ ((e ≡ CtxError.NoSpace) ⊎ (e ≡ CtxError.Memory))) }
+        ensures err { OnErr result (self.new ≡ self.old) }
+        ensures err_space { OnErr result (space.new ≡ space.old) }
+    {
+        self.books.realloc(space, at, keep, size)
+    }
+
+    /// Frees all chunks. All blocks but the first go back to the space, and the context is as it was created.
+    /// It takes no memory.
     pub fn reset(&mut self, space: &mut Space)
-        requires { Agrees (footprint self.old) space.old }
+        requires agrees { Agrees (footprint self.old) space.old }
         ensures ledger { self.new.ledger ≡ created self.old.ledger.init self.old.ledger.max }
         ensures account { self.new.account ≡ self.old.account }
         ensures context { self.new.context ≡ self.old.context }
@@ -140,10 +183,10 @@ impl AllocSet {
         self.books.reset(space);
     }
 
-    /// Gives all blocks back to the space.
+    /// Frees all chunks, and gives all blocks, the first too, back to the space. It takes no memory.
     pub fn discard(self, space: &mut Space)
-        requires { Agrees (footprint self) space.old }
-        ensures { Moves (footprint self) (nothing self.account self.context) space.old space.new }
+        requires agrees { Agrees (footprint self) space.old }
+        ensures moves { Moves (footprint self) (nothing self.account self.context) space.old space.new }
     {
         self.books.discard(space);
     }

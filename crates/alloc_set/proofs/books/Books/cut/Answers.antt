@@ -1,9 +1,10 @@
-use Rattle.std.proofs.Common.{◌≡◌, ◌-◌, ap, ◌∙◌, refl, arith}
+use Rattle.std.proofs.Common.{◌≡◌, ◌-◌, ap, ◌∙◌, refl, arith, Some}
 use Rattle.alloc_set.specs.Ledger.{cut_off, class_bytes}
 use Rattle.alloc_set.specs.Kept.{state_of}
 use Rattle.alloc_set.proofs.KeptCut.{IsKept-live, live-without}
 use Rattle.alloc_set.specs.declared.books.Books.{Books}
 use Rattle.alloc_set.specs.declared.chunk.Chunk.TheVariants.{Live}
+use Rattle.alloc_set.proofs.Stays.{LeavesLive-put}
 use Rattle.alloc_set.proofs.books.Books.cut.Goals as goal
 
 pub returns-clause-kept : goal.returns-clause-kept
@@ -32,3 +33,13 @@ returns-clause-fresh c =
     live-without b n c.args.class c.carve.result (Live c.args.class c.args.size) c.requires.kept c.carve.ensures.carves c.carve.ensures.active
     (ap (λ (x : Books). x.sizes) rest) (ap (λ (x : Books). x.next) rest) (ap (λ (x : Books). x.limit) rest) (ap (λ (x : Books). x.count) rest) (ap (λ (x : Books). x.idle) rest)
     c.carve.ensures.len c.requires.few
+
+pub returns-clause-stays : goal.returns-clause-stays
+returns-clause-stays c =
+    let b = c.args.self.now in
+    let n = c.carve.new.self in
+    let rest = c.carve.ensures.rest in
+    LeavesLive-put (state_of b) (state_of n) c.carve.result (Some (Live c.args.class c.args.size)) c.carve.ensures.carves.chunks
+    (live-without b n c.args.class c.carve.result (Live c.args.class c.args.size) c.requires.kept c.carve.ensures.carves c.carve.ensures.active
+    (ap (λ (x : Books). x.sizes) rest) (ap (λ (x : Books). x.next) rest) (ap (λ (x : Books). x.limit) rest) (ap (λ (x : Books). x.count) rest) (ap (λ (x : Books). x.idle) rest)
+    c.carve.ensures.len c.requires.few)

@@ -7,6 +7,7 @@ use Rattle.alloc_set.proofs.KeptCut.{IsKept-free, live-without, Carves-shelved, 
 use Rattle.alloc_set.specs.declared.books.Books.{Books}
 use Rattle.alloc_set.specs.declared.chunk.Shelf.{Shelf}
 use Rattle.alloc_set.specs.declared.chunk.Chunk.TheVariants.{Free}
+use Rattle.alloc_set.proofs.Stays.{LeavesLive-put}
 use Rattle.alloc_set.proofs.books.Books.cut_free.Goals as goal
 
 pub overflow_add-self : goal.overflow_add-self
@@ -60,3 +61,13 @@ returns-clause-live c =
 pub returns-clause-moves : goal.returns-clause-moves
 unfolding mark_of
 returns-clause-moves c = c.carve-at.ensures.moves
+
+pub returns-clause-stays : goal.returns-clause-stays
+returns-clause-stays c =
+    let b = c.args.self.now in
+    let m = c.carve-at.new.self in
+    let rest = c.carve-at.ensures.rest in
+    LeavesLive-put (state_of b) (state_of m) c.carve-at.result (Some (Free c.args.class (shelf_at b.shelves c.args.class).first)) c.carve-at.ensures.carves.chunks
+    (live-without b m c.args.class c.carve-at.result (Free c.args.class (shelf_at b.shelves c.args.class).first) c.requires.kept c.carve-at.ensures.carves c.carve-at.ensures.active
+    (ap (λ (x : Books). x.sizes) rest) (ap (λ (x : Books). x.next) rest) (ap (λ (x : Books). x.limit) rest) (ap (λ (x : Books). x.count) rest) (ap (λ (x : Books). x.idle) rest)
+    c.carve-at.ensures.len c.requires.few)

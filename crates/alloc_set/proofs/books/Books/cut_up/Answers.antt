@@ -6,6 +6,7 @@ use Rattle.alloc_set.specs.Kept.{state_of}
 use Rattle.alloc_set.specs.declared.books.Books.{Books}
 use Rattle.alloc_set.specs.declared.books.Block.{Block}
 use Rattle.alloc_set.proofs.Cuts.{class_bytes-suc, cut_rest-in, cut_up-in, cut_rest-out, cut_up-out, cut_rest-zero, cut_up-zero, Keeps-more, CutsUp-less}
+use Rattle.alloc_set.proofs.Stays.{LeavesLive-more}
 use Rattle.alloc_set.proofs.books.Books.cut_up.Goals as goal
 
 pub loop-class-preserved-then-self-class_size : goal.loop-class-preserved-then-self-class_size
@@ -39,6 +40,7 @@ loop-class-preserved-then-self-class_size c =
         others = λ at differs. c.cut_free.ensures.others at (λ e. differs (e ∙ ap (λ (x : Block). x.region) active)) ∙ kept.cut.others at differs;
         owned = c.cut_free.ensures.owned ∙ kept.cut.owned;
         live = λ at. c.cut_free.ensures.live at ∙ kept.cut.live at;
+        stays = LeavesLive-more (state_of b) (state_of m) (state_of n) kept.cut.stays c.cut_free.ensures.stays;
       };
       little = omega (arith, room, little, class_bytes-suc class);
       room = ap (cut_rest class) room ∙ sym (cut_rest-in class m.active.room fits little) ∙ ap (λ k. cut_rest k m.active.room) up ∙ kept.room;

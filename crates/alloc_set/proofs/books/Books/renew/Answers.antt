@@ -13,6 +13,7 @@ use Rattle.alloc_set.specs.State.{SetState, chunk_at, region_of, footprint}
 use Rattle.alloc_set.specs.Kept.{state_of, own_bytes}
 use Rattle.alloc_set.specs.declared.books.Books.{Books}
 use Rattle.alloc_set.proofs.Cuts.{Keeps-more}
+use Rattle.alloc_set.proofs.Stays.{LeavesLive-same, LeavesLive-more}
 use Rattle.alloc_set.proofs.books.Books.renew.Goals as goal
 use Rattle.alloc_set.proofs.books.Books.renew.Goals.{After-cut_up}
 
@@ -98,6 +99,9 @@ returns-clause-renewed c =
       spare = omega (arith, ap spare chunks, c.cut_up.ensures.cut.spare, ap spare first, c.requires.spare_chunks);
       len = omega (arith, ap (λ e. length e.entries) chunks, c.cut_up.ensures.cut.len, ap (λ e. length e.entries) first, c.requires.few);
       live = λ at. ap (λ (x : Books). (footprint (state_of x)).live at) c.activate.ensures.rest ∙ c.cut_up.ensures.cut.live at ∙ ap (λ (x : Books). (footprint (state_of x)).live at) c.in-Ok.ensures.rest;
+      stays = LeavesLive-more (state_of b) (state_of m) (state_of t)
+          (LeavesLive-same (state_of b) (state_of m) (ap (λ x. x.entries) first))
+          (LeavesLive-more (state_of m) (state_of n) (state_of t) c.cut_up.ensures.cut.stays (LeavesLive-same (state_of n) (state_of t) (ap (λ x. x.entries) chunks)));
     }
 
 pub returns-clause-moves : goal.returns-clause-moves

@@ -1,7 +1,7 @@
 use Rattle.std.proofs.Common.{◌≡◌, ℕ, suc, ◌-◌, ◌<◌, ap, ◌∙◌, sym, refl, arith, Some, List, length, map, set, get_or}
 use Rattle.std.proofs.lemmas.List.{map-set, get_or-map}
 use Rattle.alloc_set.specs.Ledger.{reused}
-use Rattle.alloc_set.specs.State.{chunk_at}
+use Rattle.alloc_set.specs.State.{chunk_at, then_option, live_size}
 use Rattle.alloc_set.specs.Kept.{state_of, shelf_at, no_shelf, is_free, own_bytes}
 use Rattle.alloc_set.specs.Steps.{SameBlocks}
 use Rattle.alloc_set.proofs.Flipped.{IsSettled-flipped, Moves-flipped}
@@ -9,6 +9,7 @@ use Rattle.alloc_set.proofs.Shelved.{chain_head, chain_empty, IsShelved-popped}
 use Rattle.alloc_set.specs.declared.books.Books.{Books}
 use Rattle.alloc_set.specs.declared.chunk.Shelf.{Shelf}
 use Rattle.alloc_set.specs.declared.chunk.Chunk.TheVariants.{Live, Free}
+use Rattle.alloc_set.proofs.Stays.{LeavesLive-put}
 use Rattle.alloc_set.proofs.books.Books.reuse.Goals as goal
 
 -- the ledger's count of a class
@@ -90,3 +91,11 @@ returns-clause-moves c = λ sp agrees.
     let next = c.next_free-next.result in
     let n : Books = record b { chunks = c.put.new.chunks; shelves = set b.shelves class (record { first = next; count = (shelf_at b.shelves class).count - 1 }) } in
     Moves-flipped (state_of b) (state_of n) b.active.region b.active.size class c.in-Some.at (Free class next) (Live class c.args.size) c.requires.kept.settled (same b n refl refl refl refl refl refl) refl c.next_free-next.ensures (refl, c.requires.class) (refl, c.requires.class, c.requires.size) c.put.ensures.at sp agrees
+
+pub returns-clause-stays : goal.returns-clause-stays
+returns-clause-stays c =
+    let b = c.args.self.now in
+    let class : ℕ = c.args.class in
+    let next = c.next_free-next.result in
+    let n : Books = record b { chunks = c.put.new.chunks; shelves = set b.shelves class (record { first = next; count = (shelf_at b.shelves class).count - 1 }) } in
+    LeavesLive-put (state_of b) (state_of n) c.in-Some.at (Some (Live class c.args.size)) c.put.ensures.at (ap (λ o. then_option o live_size) c.next_free-next.ensures)

@@ -2,7 +2,7 @@ use Rattle.std.proofs.Common.{◌≡◌, map, Some, None, ap, subst, refl, arith
 use Rattle.addr_space.specs.declared.Addr.{Addr}
 use Rattle.addr_space.specs.Space.{Changes, region_at, overwritten}
 use Rattle.chunk_header.specs.Header.{header_bytes}
-use Rattle.alloc_set.specs.State.{chunk_at, header_of}
+use Rattle.alloc_set.specs.State.{chunk_at, header_of, then_option, live_size}
 use Rattle.alloc_set.specs.Kept.{state_of, is_free, own_bytes}
 use Rattle.alloc_set.specs.Steps.{SameBlocks}
 use Rattle.alloc_set.proofs.Owned.{IsSettled-owned, Moves-owned}
@@ -10,6 +10,7 @@ use Rattle.alloc_set.proofs.Shelved.{IsShelved-taken}
 use Rattle.alloc_set.proofs.KeptCut.{IsTaken-none}
 use Rattle.alloc_set.specs.declared.books.Books.{Books}
 use Rattle.alloc_set.specs.declared.chunk.Chunk.TheVariants.{Own}
+use Rattle.alloc_set.proofs.Stays.{LeavesLive-put}
 use Rattle.alloc_set.proofs.books.Books.settle.Goals as goal
 
 same : (b n : Books) → n.account ≡ b.account → n.context ≡ b.context → n.keeper ≡ b.keeper → n.blocks ≡ b.blocks → n.sizes ≡ b.sizes → n.total ≡ b.total → SameBlocks (state_of b) (state_of n)
@@ -55,3 +56,10 @@ returns-clause-moves c =
     let wrote : Changes c.args.space.now c.write.new.self c.args.region (overwritten (region_at c.args.space.now c.args.region) 40 (map Some (header_bytes (header_of (Own c.args.size c.args.room) 40)))) =
     subst (λ x. Changes c.args.space.now c.write.new.self c.args.region (overwritten (region_at c.args.space.now c.args.region) 40 (map Some x))) c.bytes.ensures c.write.ensures.changes in
     Moves-owned (state_of b) (state_of n) b.active.region b.active.size c.args.region c.args.size c.args.room at c.requires.kept.settled (same b n refl refl refl refl refl refl) refl refl refl c.put.ensures.at c.requires.owned c.requires.not_keeper c.requires.not_active c.requires.empty c.requires.fits c.args.space.now c.write.new.self c.requires.agrees wrote
+
+pub returns-clause-stays : goal.returns-clause-stays
+returns-clause-stays c =
+    let b = c.args.self.now in
+    let n : Books = record b { chunks = c.put.new.chunks } in
+    let at : Addr = record { region = c.args.region; offset = 48 } in
+    LeavesLive-put (state_of b) (state_of n) at (Some (Own c.args.size c.args.room)) c.put.ensures.at (ap (λ o. then_option o live_size) (c.requires.empty at refl))

@@ -6,11 +6,12 @@ use Rattle.chunk_header.specs.declared.CtxError.TheVariants.{NoSpace}
 use Rattle.alloc_set.specs.Ledger.{SetLedger, class_bytes, take_class, cut_off, block_size}
 use Rattle.alloc_set.specs.State.{SetState, footprint}
 use Rattle.alloc_set.specs.Kept.{state_of}
-use Rattle.alloc_set.specs.Live.{PutsLive}
+use Rattle.alloc_set.specs.Live.{PutsLive, LeavesLive}
 use Rattle.alloc_set.specs.Cut.{Renews}
 use Rattle.alloc_set.specs.declared.books.Books.{Books}
 use Rattle.alloc_set.proofs.Cuts.{Keeps-more}
 use Rattle.alloc_set.proofs.Taken.{take_class-reused, take_class-cut, take_class-had, take_class-none, state_same, PutsLive-after}
+use Rattle.alloc_set.proofs.Stays.{LeavesLive-more}
 use Rattle.alloc_set.proofs.books.Books.take_class.Goals as goal
 use Rattle.alloc_set.proofs.books.Books.take_class.Goals.{In-Ok, In_default}
 
@@ -37,6 +38,7 @@ returns-in-Some-clause-ok c =
       ledger = ap (take_class (state_of b).ledger left) (sym c.class_of-class.ensures.value) ∙ ap (λ (s : SetState). take_class s.ledger left class) back ∙ ledger;
       fresh = ap (λ (s : SetState). (footprint s).live c.in-Some.at) back ∙ c.in-Some.ensures.fresh;
       live = subst (λ (s : SetState). PutsLive s (state_of n) c.in-Some.at (Some c.args.size)) same c.in-Some.ensures.live;
+      stays = subst (λ (s : SetState). LeavesLive s (state_of n)) same c.reuse.ensures.stays;
       moves = subst (λ (s : SetState). Moves (footprint s) (footprint (state_of n)) c.args.space.now c.args.space.now) same (c.in-Some.ensures.moves c.args.space.now (subst (λ (s : SetState). Agrees (footprint s) c.args.space.now) back c.requires.agrees));
       keeps = λ at p q k live again below short. refl;
     }
@@ -58,6 +60,7 @@ returns-then-self-class_size-clause-ok c =
       ledger = ap (take_class (state_of b).ledger left) (sym c.class_of-class.ensures.value) ∙ ap (λ (s : SetState). take_class s.ledger left class) (sym same) ∙ ledger;
       fresh = ap (λ (s : SetState). (footprint s).live c.cut.result) (sym same) ∙ c.cut.ensures.fresh;
       live = subst (λ (s : SetState). PutsLive s (state_of n) c.cut.result (Some c.args.size)) same c.cut.ensures.live;
+      stays = subst (λ (s : SetState). LeavesLive s (state_of n)) same c.cut.ensures.stays;
       moves = subst (λ (s : SetState). Moves (footprint s) (footprint (state_of n)) c.args.space.now c.cut.new.space) same c.cut.ensures.moves;
       keeps = subst (λ (s : SetState). Keeps (footprint s) (footprint (state_of n)) c.args.space.now c.cut.new.space) same c.cut.ensures.keeps;
     }
@@ -103,6 +106,7 @@ returns-clause-ok c =
       ledger = ap (take_class (state_of b).ledger left) (sym c.class_of-class.ensures.value) ∙ ap (λ (s : SetState). take_class s.ledger left class) (sym same) ∙ ledger;
       fresh = ap (λ (s : SetState). (footprint s).live c.cut-2.result) (sym same) ∙ sym (new.live c.cut-2.result) ∙ c.cut-2.ensures.fresh;
       live = subst (λ (s : SetState). PutsLive s (state_of n) c.cut-2.result (Some c.args.size)) same puts;
+      stays = subst (λ (s : SetState). LeavesLive s (state_of n)) same (LeavesLive-more (state_of r) (state_of w) (state_of n) new.stays c.cut-2.ensures.stays);
       moves = subst (λ (s : SetState). Moves (footprint s) (footprint (state_of n)) c.args.space.now c.cut-2.new.space) same moves;
       keeps = subst (λ (s : SetState). Keeps (footprint s) (footprint (state_of n)) c.args.space.now c.cut-2.new.space) same keeps;
     }

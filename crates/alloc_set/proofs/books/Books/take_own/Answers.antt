@@ -8,10 +8,11 @@ use Rattle.chunk_header.specs.declared.CtxError.TheVariants.{NoSpace}
 use Rattle.alloc_set.specs.Ledger.{SetLedger, take_own, with_own, own_size}
 use Rattle.alloc_set.specs.State.{SetState, chunk_at, region_of, footprint}
 use Rattle.alloc_set.specs.Kept.{state_of, own_bytes}
-use Rattle.alloc_set.specs.Live.{PutsLive, SameLive}
+use Rattle.alloc_set.specs.Live.{PutsLive, SameLive, LeavesLive}
 use Rattle.alloc_set.specs.declared.books.Books.{Books}
 use Rattle.alloc_set.proofs.Cuts.{Keeps-more}
 use Rattle.alloc_set.proofs.Taken.{take_own-had, take_own-none, state_same, PutsLive-after}
+use Rattle.alloc_set.proofs.Stays.{LeavesLive-same, LeavesLive-more}
 use Rattle.alloc_set.proofs.books.Books.take_own.Goals as goal
 use Rattle.alloc_set.proofs.books.Books.take_own.Goals.{In-Ok}
 
@@ -84,6 +85,7 @@ returns-clause-ok c =
       ledger = step ∙ ap Ok (sym ledger);
       fresh = ap (λ (s : SetState). (footprint s).live c.settle.result) (sym same) ∙ sym (live c.settle.result) ∙ c.settle.ensures.fresh;
       live = subst (λ (s : SetState). PutsLive s (state_of n) c.settle.result (Some c.args.size)) same puts;
+      stays = subst (λ (s : SetState). LeavesLive s (state_of n)) same (LeavesLive-more (state_of m) (state_of a) (state_of n) (LeavesLive-same (state_of m) (state_of a) (ap (λ (x : Books). x.chunks.entries) c.in-Ok-add_block.ensures.rest)) c.settle.ensures.stays);
       moves = subst (λ (s : SetState). Moves (footprint s) (footprint (state_of n)) c.args.space.now c.settle.new.space) same moves;
       keeps = subst (λ (s : SetState). Keeps (footprint s) (footprint (state_of n)) c.args.space.now c.settle.new.space) same keeps;
     }

@@ -1,0 +1,87 @@
+-- Lemmas on a chunk that another one takes the place of.
+use Rattle.std.proofs.Common.{◌≡◌, ◌≢◌, ℕ, ◌+◌, ◌-◌, ◌<◌, ◌≤◌, if◌then◌else◌, length, Some, None, Ok, IsSome, refl, sym, ap, ◌∙◌, subst, arith, inl, inr}
+use Rattle.addr_space.specs.declared.Addr.{Addr}
+use Rattle.addr_space.specs.Space.{Space, held, byte_at, region_at, bytes_of, part, overwritten, Changes, IsKnown}
+use Rattle.addr_space.specs.Footprint.{Agrees, Moves, Keeps, KeepsBut}
+use Rattle.addr_space.proofs.Steps.{Moves-more}
+use Rattle.alloc_set.specs.Ledger.{SetLedger, class_size, shelved, take}
+use Rattle.alloc_set.specs.State.{SetState, same_addr, chunk_at, then_option, live_size, footprint}
+use Rattle.alloc_set.specs.Kept.{state_of, IsKept}
+use Rattle.alloc_set.specs.Live.{PutsLive, LeavesLive}
+use Rattle.alloc_set.specs.Cut.{Allocates}
+use Rattle.alloc_set.specs.Resize.{then_shelved, resize_class, StaysFor, MovesLive, HasBytesOf, Resizes}
+use Rattle.alloc_set.specs.declared.books.Books.{Books}
+use Rattle.alloc_set.specs.declared.chunk.Chunk.TheVariants.{Live}
+use Rattle.alloc_set.proofs.Carved.{same_addr-cases}
+use Rattle.alloc_set.proofs.Settled.{from_then}
+use Rattle.alloc_set.proofs.Refits.{resize_class-moves}
+use Rattle.alloc_set.proofs.Carried.{Moves-carried, KeepsBut-carried, HasBytesOf-carried}
+
+-- one chunk is live, and then another one isn't
+pub MovesLive-from : (s m t : SetState) (from to : Addr) (size : ℕ) → to ≢ from → PutsLive s m to (Some size) → PutsLive m t from None → MovesLive s t from to size
+MovesLive-from s m t from to size differs first second other =
+    elim (same_addr-cases from other) [
+      | inl old ↦
+          elim (same_addr-cases to other) [
+            | inl new ↦ absurd (differs (new.0 ∙ sym old.0))
+            | inr apart ↦
+                second other ∙ ap (λ b. if b then None else (footprint m).live other) old.1
+                ∙ sym (ap (λ b. if b then Some size else (if same_addr from other then None else (footprint s).live other)) apart.1 ∙ ap (λ b. if b then None else (footprint s).live other) old.1)
+          ]
+      | inr kept ↦
+          second other ∙ ap (λ b. if b then None else (footprint m).live other) kept.1 ∙ first other
+          ∙ ap (λ x. if same_addr to other then Some size else x) (sym (ap (λ b. if b then None else (footprint s).live other) kept.1))
+    ]
+
+module _ (b m : Books) (s u : Space) (at to : Addr) (class old keep size : ℕ) (was : chunk_at (state_of b) at ≡ Some (Live class old)) (few : keep ≤ old)
+    (took : Allocates b m s u size to (take (state_of b).ledger (s.limit - held s b.account) size)) where
+  live_was : (footprint (state_of b)).live at ≡ Some old
+  live_was = ap (λ o. then_option o live_size) was
+
+  pub stands : chunk_at (state_of m) at ≡ Some (Live class old)
+  stands = took.stays at old live_was ∙ was
+
+  live_now : (footprint (state_of m)).live at ≡ Some old
+  live_now = ap (λ o. then_option o live_size) stands
+
+  pub differs : to ≢ at
+  differs same = let clash = sym took.fresh ∙ ap (λ a. (footprint (state_of b)).live a) same ∙ live_was in absurd (cc)
+
+  byte_kept : (k : ℕ) → k < keep → byte_at u at.region (at.offset + k) ≡ byte_at s at.region (at.offset + k)
+  byte_kept k below = took.keeps at old old k live_was live_now (omega (arith, below, few)) (omega (arith, below, few))
+
+  -- what is known stays known
+  pub IsKnown-kept : IsKnown s at keep → IsKnown u at keep
+  IsKnown-kept known k below = subst IsSome (sym (byte_kept k below)) (known k below)
+
+  pub Resizes-replaced : (n : Books) (v : Space) → class_size class < size → keep ≤ size → IsKnown s at keep
+      → Changes u v to.region (overwritten (region_at u to.region) to.offset (part (bytes_of (region_at u at.region)) at.offset keep))
+      → IsKept n → (state_of n).ledger ≡ shelved (state_of m).ledger class → PutsLive (state_of m) (state_of n) at None
+      → ((sp : Space) → Agrees (footprint (state_of m)) sp → Moves (footprint (state_of m)) (footprint (state_of n)) sp sp)
+      → Resizes b n s v at to keep size (resize_class (state_of b).ledger (held s b.account) s.limit class size)
+  Resizes-replaced n v over short known copied kept ledger gone moves =
+      let live_to : (footprint (state_of m)).live to ≡ Some size = elim (same_addr-cases to to) [
+        | inl same ↦ took.live to ∙ ap (λ x. if x then Some size else (footprint (state_of b)).live to) same.1
+        | inr apart ↦ absurd (apart.0 refl)
+      ] in
+      let agrees : Agrees (footprint (state_of m)) u = took.moves.agrees in
+      let it = agrees.sound.live_inside at old live_now in
+      let source = agrees.regions at.region it.0 it.1 in
+      let inside : at.offset + keep ≤ length (bytes_of (region_at u at.region)) = rw source.1 (omega (arith, it.2, source.3, few)) in
+      let carried : Moves (footprint (state_of m)) (footprint (state_of m)) u v = Moves-carried (footprint (state_of m)) u v at to keep size agrees live_to short (IsKnown-kept known) inside copied in
+      let but : KeepsBut to (footprint (state_of m)) (footprint (state_of m)) u v = KeepsBut-carried (footprint (state_of m)) u v at to keep size agrees live_to short (IsKnown-kept known) inside copied in
+      let bytes : HasBytesOf u v at to keep = HasBytesOf-carried (footprint (state_of m)) u v at to keep size agrees live_to short (IsKnown-kept known) inside copied in
+      let both : Moves (footprint (state_of b)) (footprint (state_of m)) s v = Moves-more (footprint (state_of b)) (footprint (state_of m)) (footprint (state_of m)) s u v took.moves carried in
+      record {
+        kept = kept;
+        ledger = resize_class-moves (state_of b).ledger (held s b.account) s.limit class size over ∙ ap (λ r. then_shelved r class) took.ledger ∙ ap Ok (sym ledger);
+        place = (λ same. absurd (differs same), λ stays. let fits : size ≤ class_size class = subst (λ o. StaysFor o size) was stays in absurd (omega (arith, fits, over)));
+        fresh = λ apart. took.fresh;
+        live = MovesLive-from (state_of b) (state_of m) (state_of n) at to size differs took.live gone;
+        bytes = λ k below. bytes k below ∙ byte_kept k below;
+        moves = Moves-more (footprint (state_of b)) (footprint (state_of m)) (footprint (state_of n)) s v v both (moves v carried.agrees);
+        keeps = λ other p q k apart live again below low.
+            let middle : (footprint (state_of m)).live other ≡ Some p = ap (λ o. then_option o live_size) (took.stays other p live) ∙ live in
+            let not_to : other ≢ to = λ same. let clash = sym took.fresh ∙ ap (λ a. (footprint (state_of b)).live a) (sym same) ∙ live in absurd (cc) in
+            but other p p k not_to middle middle below below ∙ took.keeps other p p k live middle below below;
+      }
