@@ -43,15 +43,15 @@ pub record IsSized (init max next : ℕ) : Type 0 where
   pub next_whole : next % 8 ≡ 0
 
 -- there is a block, and it has this size
-pub record HasSize (l : Layout) (number size : ℕ) : Type 0 where
+pub record HasSize (l : Layout) (number bytes : ℕ) : Type 0 where
   pub block : Block
   pub is : block_at l number ≡ Some block
-  pub size : block.size ≡ size
+  pub size : block.size ≡ bytes
 
 -- all that the code keeps
 pub record IsKept (b : Books) : Type 0 where
   pub kind : b.blocks.kind ≡ Bump
   pub sizes : IsSized b.sizes.init b.sizes.max b.next
   pub keeper : HasSize b.blocks b.blocks.keeper b.sizes.init
-  pub block : Block
-  pub newest : block_at b.blocks b.newest ≡ Some block
+  pub bytes : ℕ
+  pub newest : HasSize b.blocks b.newest bytes

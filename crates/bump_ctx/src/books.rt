@@ -31,6 +31,7 @@ pub const LARGEST: u64 = 1_073_741_823;
 const LIMIT: u32 = 524_288;
 
 // The bytes that a chunk of so many has.
+#[tactic(auto, unfolding(crate::specs::Room::granted))]
 fn granted(size: u32) -> u32
     requires { size < 2 ^ 30 }
     ensures value { result ≡ granted size }
@@ -84,6 +85,7 @@ impl Books {
     }
 
     // What the books say.
+    #[tactic(auto, using(crate::proofs::Sums::room_within), unfolding(crate::specs::Ledger::stats))]
     pub fn stats(&self) -> Stats
         requires { IsKept self.now }
         ensures { result ≡ stats (ledger_of self.now) }
@@ -116,12 +118,13 @@ impl Books {
         requires whole { room % 8 ≡ 0 }
         requires value { room < 2 ^ 30 }
         requires spare { 1 ≤ self.old.blocks.spare_chunks }
-        ensures allocates { Allocates self.old self.new space.old space.new size result (Ok (cut_off (ledger_of self.old) room)) }
+        ensures { Allocates self.old self.new space.old space.new size result (Ok (cut_off (ledger_of self.old) room)) }
     {
         self.blocks.cut(space, self.newest, size, room, false)
     }
 
     // Takes a new block for a chunk that has so many bytes.
+    #[tactic(auto, unfolding(crate::specs::Ledger::block_size))]
     fn renew(&mut self, space: &mut Space, room: u32) -> Result<(), CtxError>
         requires kept { IsKept self.old }
         requires agrees { Agrees (footprint self.old.blocks) space.old }

@@ -79,6 +79,7 @@ impl BumpCtx {
         self.books.stats()
     }
 
+    #[tactic(auto, using(crate::proofs::Seen::agrees_bare, crate::proofs::Seen::moves_bare))]
     /// Takes a chunk of `size` bytes, which may be 0, and answers its address. No byte of it is known.
     ///
     /// `TooBig`, `NoSpace` and `Memory` are tried in this order. A refused call changes nothing.
@@ -111,10 +112,11 @@ impl BumpCtx {
         ensures same { self.new ≡ self.old }
         ensures same_space { space.new ≡ space.old }
     {
-        let _ = (&self.books, space, at);
+        let _ = &self.books;
         Err(CtxError::Unsupported)
     }
 
+    #[tactic(auto, unfolding(crate::specs::Ledger::refusal))]
     /// Refuses to give a live chunk another size: the answer is `TooBig` where `size` is over 1,073,741,823, else
     /// `Unsupported`, and nothing changes.
     pub fn realloc(
@@ -130,13 +132,14 @@ impl BumpCtx {
         ensures same { self.new ≡ self.old }
         ensures same_space { space.new ≡ space.old }
     {
-        let _ = (&self.books, space, at, keep);
+        let _ = &self.books;
         if size > LARGEST {
             return Err(CtxError::TooBig);
         }
         Err(CtxError::Unsupported)
     }
 
+    #[tactic(auto, using(crate::proofs::Seen::agrees_bare, crate::proofs::Seen::moves_bare))]
     /// Frees all chunks and gives every block but the first back: the context is as it was created. It takes no memory.
     pub fn reset(&mut self, space: &mut Space)
         requires { Agrees (footprint self.old) space.old }

@@ -1,0 +1,20 @@
+-- That room was made for more chunks and blocks changes nothing in the space.
+use Rattle.std.proofs.Common.{◌≡◌, ℕ, refl}
+use Rattle.addr_space.specs.Space.{Space}
+use Rattle.addr_space.specs.Footprint.{Footprint, Agrees, Moves}
+use Rattle.ctx_blocks.specs.Layout.{Layout, mark_of, footprint}
+use Rattle.bump_ctx.specs.State.{bare}
+
+marks_spare : (l : Layout) (i j : ℕ) → mark_of (record l { spare_blocks = i; spare_chunks = j }) ≡ mark_of l
+unfolding mark_of
+marks_spare l i j = refl
+
+-- the space is the same for both
+pub footprint_spare : (l : Layout) (i j : ℕ) → footprint (record l { spare_blocks = i; spare_chunks = j }) ≡ footprint l
+footprint_spare l i j = rw (marks_spare l i j) refl
+
+pub agrees_bare : (l : Layout) (s : Space) → Agrees (footprint (bare l)) s → Agrees (footprint l) s
+agrees_bare l s agrees = rw (footprint_spare l 0 0) at agrees
+
+pub moves_bare : (l m : Layout) (s t : Space) → Moves (footprint l) (footprint m) s t → Moves (footprint (bare l)) (footprint (bare m)) s t
+moves_bare l m s t moves = rw (footprint_spare l 0 0, footprint_spare m 0 0) moves
