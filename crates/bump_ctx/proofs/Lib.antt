@@ -4,3 +4,5 @@ pub mod Kepts
 pub mod Ledgers
 pub mod Lives
 pub mod Allocated
+pub mod Resets
+pub mod Answered

@@ -1,5 +1,5 @@
 -- That room was made for more chunks and blocks changes nothing in the space.
-use Rattle.std.proofs.Common.{◌≡◌, ℕ, refl}
+use Rattle.std.proofs.Common.{◌≡◌, ℕ, refl, ap, ◌∙◌}
 use Rattle.addr_space.specs.Space.{Space}
 use Rattle.addr_space.specs.Footprint.{Footprint, Agrees, Moves}
 use Rattle.ctx_blocks.specs.Layout.{Layout, mark_of, footprint}
@@ -12,6 +12,9 @@ marks_spare l i j = refl
 -- the space is the same for both
 pub footprint_spare : (l : Layout) (i j : ℕ) → footprint (record l { spare_blocks = i; spare_chunks = j }) ≡ footprint l
 footprint_spare l i j = rw (marks_spare l i j) refl
+
+pub footprint_made : (l m : Layout) → m ≡ record l { spare_blocks = m.spare_blocks; spare_chunks = m.spare_chunks } → footprint m ≡ footprint l
+footprint_made l m same = ap footprint same ∙ footprint_spare l m.spare_blocks m.spare_chunks
 
 pub agrees_bare : (l : Layout) (s : Space) → Agrees (footprint (bare l)) s → Agrees (footprint l) s
 agrees_bare l s agrees = rw (footprint_spare l 0 0) at agrees
