@@ -1,13 +1,12 @@
 -- Requests that are served in steps.
-use Rattle.std.proofs.Common.{◌≡◌, ℕ, Result, Ok, ◌∙◌, sym, ap, refl}
+use Rattle.std.proofs.Common.{◌≡◌, ℕ, Result}
 use Rattle.addr_space.specs.declared.Addr.{Addr}
 use Rattle.addr_space.specs.Space.{Space}
 use Rattle.addr_space.specs.Footprint.{Moves, Keeps}
 use Rattle.addr_space.proofs.Steps.{Moves-more}
 use Rattle.chunk_header.specs.declared.CtxError.{CtxError}
-use Rattle.ctx_blocks.specs.Layout.{Layout, footprint}
+use Rattle.ctx_blocks.specs.Layout.{footprint}
 use Rattle.bump_ctx.specs.Ledger.{BumpLedger}
-use Rattle.bump_ctx.specs.Kept.{ledger_of, IsKept}
 use Rattle.bump_ctx.specs.Steps.{Allocates}
 use Rattle.bump_ctx.specs.declared.books.Books.{Books}
 use Rattle.bump_ctx.proofs.Lives.{keeps_more}

@@ -1,5 +1,5 @@
 -- What the code keeps, once a block was put.
-use Rattle.std.proofs.Common.{◌≡◌, ◌≢◌, ℕ, ◌%◌, ◌≤◌, ◌==◌, Option, Some, None, if◌then◌else◌, refl, arith, ◌∙◌, sym, ap, subst, inl, inr}
+use Rattle.std.proofs.Common.{◌≡◌, ◌≢◌, ℕ, Some, None, refl, arith, ◌∙◌, sym, subst, inl, inr}
 use Rattle.std.proofs.lemmas.Bool.{cases_eq}
 use Rattle.ctx_blocks.specs.Layout.{Layout, block_at}
 use Rattle.ctx_blocks.specs.Steps.{PutsBlock, SameContext}
@@ -45,8 +45,8 @@ module _ (b : Books) (m : Layout) (number : ℕ) (block : Block) (kept : IsKept 
 
   keeper : HasSize m m.keeper b.sizes.init
   keeper =
-    let has : HasSize m b.blocks.keeper b.sizes.init = size_kept b.blocks m number block puts sizes b.blocks.keeper b.sizes.init kept.keeper in
-    subst (λ k. HasSize m k b.sizes.init) (sym same.keeper) has
+      let has : HasSize m b.blocks.keeper b.sizes.init = size_kept b.blocks m number block puts sizes b.blocks.keeper b.sizes.init kept.keeper in
+      subst (λ k. HasSize m k b.sizes.init) (sym same.keeper) has
 
   pub kept_more : IsKept (record b { blocks = m })
   kept_more = record {

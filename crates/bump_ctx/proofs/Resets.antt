@@ -1,10 +1,10 @@
 -- What a reset makes of the books.
-use Rattle.std.proofs.Common.{◌≡◌, ℕ, ◌-◌, ◌∷◌, [], length, Some, refl, arith, ◌∙◌, sym, ap, subst, sum_by}
+use Rattle.std.proofs.Common.{◌≡◌, ℕ, ◌-◌, ◌∷◌, [], length, Some, refl, arith, ◌∙◌, ap}
 use Rattle.ctx_blocks.specs.Layout.{Layout, block_at, total, rooms, whole_room}
 use Rattle.ctx_blocks.specs.Steps.{SameContext}
 use Rattle.ctx_blocks.specs.declared.parts.Block.{Block}
 use Rattle.bump_ctx.specs.Ledger.{created}
-use Rattle.bump_ctx.specs.Kept.{ledger_of, room_of, room_at, HasSize, IsKept}
+use Rattle.bump_ctx.specs.Kept.{ledger_of, room_of, room_at, IsKept}
 use Rattle.bump_ctx.specs.declared.books.Books.{Books}
 
 -- the keeper alone, with its whole room
@@ -30,9 +30,9 @@ module _ (b : Books) (m : Layout) (block : Block) (newest : ℕ) (kept : IsKept 
   pub ledger_reset : ledger_of (record b { next = b.sizes.init; newest = newest; blocks = m }) ≡ created b.sizes.init b.sizes.max
   unfolding created
   ledger_reset =
-    let all : total m ≡ b.sizes.init = rw only (omega (arith, size)) in
-    let count : length m.blocks ≡ 1 = rw only refl in
-    let room : room_at m newest ≡ b.sizes.init - 240 = ap room_of at_newest ∙ omega (arith, size) in
-    let sums : rooms m ≡ block.size - 200 - 40 = rw only (omega arith) in
-    let idle : rooms m - room_at m newest ≡ 0 = omega (arith, sums, room, size) in
-    cc
+      let all : total m ≡ b.sizes.init = rw only (omega (arith, size)) in
+      let count : length m.blocks ≡ 1 = rw only refl in
+      let room : room_at m newest ≡ b.sizes.init - 240 = ap room_of at_newest ∙ omega (arith, size) in
+      let sums : rooms m ≡ block.size - 200 - 40 = rw only (omega arith) in
+      let idle : rooms m - room_at m newest ≡ 0 = omega (arith, sums, room, size) in
+      cc

@@ -1,7 +1,7 @@
 -- That room was made for more chunks and blocks changes nothing in the space.
 use Rattle.std.proofs.Common.{◌≡◌, ℕ, refl, ap, ◌∙◌}
 use Rattle.addr_space.specs.Space.{Space}
-use Rattle.addr_space.specs.Footprint.{Footprint, Agrees, Moves}
+use Rattle.addr_space.specs.Footprint.{Agrees, Moves}
 use Rattle.ctx_blocks.specs.Layout.{Layout, mark_of, footprint}
 use Rattle.bump_ctx.specs.State.{bare}
 

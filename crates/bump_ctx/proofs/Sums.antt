@@ -1,10 +1,10 @@
 -- Lemmas on what the blocks have together.
-use Rattle.std.proofs.Common.{◌≡◌, ℕ, ◌+◌, ◌≤◌, ◌==◌, List, [], ◌∷◌, length, Bool, true, false, if◌then◌else◌, Option, Some, None, unwrap_or, option_map, is_some, sum_by, arith, refl}
+use Rattle.std.proofs.Common.{◌≡◌, ℕ, ◌+◌, ◌≤◌, ◌==◌, List, [], ◌∷◌, length, Bool, true, false, if◌then◌else◌, Some, None, unwrap_or, option_map, is_some, sum_by, arith, refl}
 use Rattle.std.proofs.lemmas.List.Sums.{sum_by-cons}
 use Rattle.std.specs.Map.{lookup, values_of}
 use Rattle.indexmap.specs.IndexMap.{insert_entry}
 use Rattle.ctx_blocks.specs.Layout.{Layout, block_at, total, rooms}
-use Rattle.ctx_blocks.specs.Steps.{with_block, PutsBlock}
+use Rattle.ctx_blocks.specs.Steps.{PutsBlock}
 use Rattle.ctx_blocks.specs.declared.parts.Block.{Block}
 
 module _ {K X : Type 0} (eq : K → K → Bool) (k : K) (v : X) where
@@ -39,14 +39,14 @@ module _ (l m : Layout) (number : ℕ) (block : Block) where
 
   pub length_same : (old : Block) → PutsBlock l m number block → block_at l number ≡ Some old → length m.blocks ≡ length l.blocks
   length_same old puts is =
-    let more = rw is at (length-insert (λ (a b : ℕ). a == b) number block l.blocks) in
-    rw puts.blocks (omega (arith, more))
+      let more = rw is at (length-insert (λ (a b : ℕ). a == b) number block l.blocks) in
+      rw puts.blocks (omega (arith, more))
 
   -- a block more
   pub rooms_more : PutsBlock l m number block → block_at l number ≡ None → rooms m ≡ rooms l + block.room
   rooms_more puts is =
-    let more = rw is at (sum_put (λ b. b.room) puts) in
-    omega (arith, more)
+      let more = rw is at (sum_put (λ b. b.room) puts) in
+      omega (arith, more)
 
   pub length_more : PutsBlock l m number block → block_at l number ≡ None → length m.blocks ≡ length l.blocks + 1
   length_more puts is = rw puts.blocks (rw is at (length-insert (λ (a b : ℕ). a == b) number block l.blocks))

@@ -1,10 +1,9 @@
-use Rattle.std.proofs.Common.{◌-◌, ◌≡◌, sym, subst, Result, IfOk}
+use Rattle.std.proofs.Common.{◌-◌, subst, IfOk}
 use Rattle.addr_space.specs.Space.{held}
 use Rattle.ctx_blocks.specs.Layout.{Layout}
 use Rattle.bump_ctx.specs.Ledger.{take}
 use Rattle.bump_ctx.specs.Kept.{ledger_of}
 use Rattle.bump_ctx.specs.Steps.{Allocates}
-use Rattle.bump_ctx.specs.declared.books.Books.{Books}
 use Rattle.bump_ctx.proofs.Answered.{if_ok}
 use Rattle.bump_ctx.proofs.Allocated.{allocates_made}
 use Rattle.bump_ctx.proofs.Seen.{footprint_made}

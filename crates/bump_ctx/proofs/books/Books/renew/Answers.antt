@@ -1,4 +1,4 @@
-use Rattle.std.proofs.Common.{◌≡◌, ◌+◌, ◌-◌, ◌*◌, ◌∙◌, ap, sym, refl, min, arith}
+use Rattle.std.proofs.Common.{◌≡◌, ◌-◌, ◌*◌, ◌∙◌, ap, sym, refl, min, arith}
 use Rattle.bump_ctx.specs.Ledger.{renewed, block_size}
 use Rattle.bump_ctx.specs.Kept.{ledger_of}
 use Rattle.bump_ctx.proofs.Ledgers.{ledger_renewed}

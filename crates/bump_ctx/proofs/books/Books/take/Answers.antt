@@ -1,5 +1,4 @@
-use Rattle.std.proofs.Common.{◌≡◌, ◌∙◌, arith}
-use Rattle.addr_space.specs.Space.{held}
+use Rattle.std.proofs.Common.{arith}
 use Rattle.bump_ctx.specs.Kept.{ledger_of}
 use Rattle.bump_ctx.proofs.Ledgers.{take-own, take-cut}
 use Rattle.bump_ctx.proofs.books.Books.take.Goals as goal

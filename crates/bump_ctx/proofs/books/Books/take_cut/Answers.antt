@@ -1,7 +1,6 @@
 use Rattle.std.proofs.Common.{◌≡◌, ℕ, ◌-◌, ◌<◌, ◌≤◌, Ok, Err, ap, sym, ◌∙◌, arith}
 use Rattle.addr_space.specs.Space.{held}
 use Rattle.chunk_header.specs.declared.CtxError.TheVariants.{NoSpace}
-use Rattle.bump_ctx.specs.Room.{granted}
 use Rattle.bump_ctx.specs.Ledger.{BumpLedger, cut_off, renewed, block_size, take_cut}
 use Rattle.bump_ctx.specs.Kept.{ledger_of}
 use Rattle.bump_ctx.proofs.Ledgers.{take_cut-room, take_cut-new, take_cut-none}

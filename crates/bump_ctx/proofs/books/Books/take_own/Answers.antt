@@ -1,10 +1,9 @@
-use Rattle.std.proofs.Common.{◌≡◌, ℕ, ◌+◌, ◌-◌, ◌<◌, ◌≤◌, Ok, Err, Some, true, refl, ap, sym, ◌∙◌, arith}
+use Rattle.std.proofs.Common.{◌≡◌, ℕ, ◌+◌, ◌-◌, Ok, Err, Some, true, refl, ap, sym, ◌∙◌, arith}
 use Rattle.addr_space.specs.Space.{held}
 use Rattle.addr_space.proofs.Steps.{Moves-more}
 use Rattle.chunk_header.specs.declared.CtxError.TheVariants.{NoSpace}
 use Rattle.ctx_blocks.specs.Layout.{block_at, header_room, gap_of, footprint}
 use Rattle.ctx_blocks.specs.declared.parts.Block.{Block}
-use Rattle.bump_ctx.specs.Room.{granted}
 use Rattle.bump_ctx.specs.Kept.{ledger_of}
 use Rattle.bump_ctx.proofs.Kepts.{put_here, kept_more, kept_same}
 use Rattle.bump_ctx.proofs.Ledgers.{ledger_own, take_own-had, take_own-none}
