@@ -1,0 +1,5 @@
+pub mod Entries
+pub mod Laid
+pub mod Counts
+pub mod Headed
+pub mod New

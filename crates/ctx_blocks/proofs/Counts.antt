@@ -1,0 +1,53 @@
+-- Lemmas on the counts of live chunks.
+use Rattle.std.proofs.Common.{◌≡◌, ◌≢◌, ℕ, ◌+◌, ◌≤◌, ◌==◌, ◌&&◌, if◌then◌else◌, List, Option, Some, None, true, false, Bool, is_some, position, refl, sym, ap, ◌∙◌, arith, inl, inr, sum_by, length, get_or}
+use Rattle.std.specs.Map.{lookup, keys_of, values_of}
+use Rattle.std.proofs.lemmas.Bool.{cases_eq}
+use Rattle.std.proofs.lemmas.Bool.Decides.{nat_tests}
+use Rattle.std.proofs.lemmas.List.Sums.{sum_by-swap_remove}
+use Rattle.indexmap.specs.IndexMap.{insert_entry, swap_remove_entry}
+use Rattle.indexmap.proofs.MapLemmas.{Found-position, some_index, swap_remove_entry-found, swap_remove_entry-missing}
+use Rattle.addr_space.specs.declared.Addr.{Addr}
+use Rattle.ctx_blocks.specs.Layout.{Layout, same_addr, chunk_at, block_at, is_in, count_in}
+use Rattle.ctx_blocks.specs.Kept.{IsCounted}
+use Rattle.ctx_blocks.specs.declared.parts.Block.{Block}
+use Rattle.ctx_blocks.specs.declared.parts.Chunk.{Chunk}
+use Rattle.ctx_blocks.proofs.Entries.{count-insert, lookup-counted}
+use Rattle.ctx_blocks.proofs.Laid.{same_addr-cases, option_cases}
+
+-- one or none by whether a region is another one
+abbrev pub one_in : ℕ → ℕ → ℕ
+one_in number region = if region == number then 1 else 0
+
+one_in-self : (number : ℕ) → one_in number number ≡ 1
+one_in-self number =
+    let test : (number == number) ≡ true = grind (arith, nat_tests) in
+    ap (λ b. if b then 1 else 0) test
+
+-- an address that passes as another one has its region
+pub same_region : (number : ℕ) (at other : Addr) → same_addr at other ≡ true → one_in number other.region ≡ one_in number at.region
+same_region number at other same =
+    elim (same_addr-cases at other) [
+      | inl one ↦ ap (λ (a : Addr). one_in number a.region) (sym one.0)
+      | inr differs ↦ let clash = sym same ∙ differs.1 in absurd (cc)
+    ]
+
+-- a live chunk is counted in its region
+pub counted_some : (l : Layout) (at : Addr) (chunk : Chunk) → chunk_at l at ≡ Some chunk → 1 ≤ count_in l at.region
+counted_some l at chunk found =
+    let le = lookup-counted (same_addr at) (λ (a : Addr). one_in at.region a.region) (one_in at.region at.region) (same_region at.region at) chunk l.chunks found in
+    omega (arith, le, one_in-self at.region)
+
+-- what the count gains where a chunk is put
+pub count-put : (number : ℕ) (at : Addr) (chunk : Chunk) (es : List (Addr × Chunk)) → sum_by (is_in number) (insert_entry same_addr es at chunk) + (if is_some (lookup (same_addr at) es) then one_in number at.region else 0) ≡ sum_by (is_in number) es + one_in number at.region
+count-put number at chunk es = count-insert same_addr at chunk (λ (a : Addr). one_in number a.region) (same_region number at) es
+
+-- a block that counts no live chunk has none, and one with a chunk counts some
+pub none_in : (l : Layout) → IsCounted l → (number : ℕ) (block : Block) (at : Addr) → block_at l number ≡ Some block → block.live ≡ 0 → at.region ≡ number → chunk_at l at ≡ None
+none_in l counted number block at owned none region =
+    elim (option_cases (chunk_at l at)) [
+      | inl without ↦ without
+      | inr some ↦ absurd (omega (arith, counted number block owned, none, counted_some l at some.0 some.1, ap (count_in l) region))
+    ]
+
+pub some_in : (l : Layout) → IsCounted l → (at : Addr) (chunk : Chunk) (block : Block) → chunk_at l at ≡ Some chunk → block_at l at.region ≡ Some block → 1 ≤ block.live
+some_in l counted at chunk block found owned = omega (arith, counted at.region block owned, counted_some l at chunk found)
