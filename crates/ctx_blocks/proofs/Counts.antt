@@ -3,6 +3,8 @@ use Rattle.std.proofs.Common.{◌≡◌, ◌≢◌, ℕ, ◌+◌, ◌≤◌, ◌
 use Rattle.std.specs.Map.{lookup, keys_of, values_of}
 use Rattle.std.proofs.lemmas.Bool.{cases_eq}
 use Rattle.std.proofs.lemmas.Bool.Decides.{nat_tests}
+use Rattle.std.proofs.lemmas.List.{get_or-map}
+use Rattle.std.proofs.lemmas.List.Quantifiers.{position-Some}
 use Rattle.std.proofs.lemmas.List.Sums.{sum_by-swap_remove}
 use Rattle.indexmap.specs.IndexMap.{insert_entry, swap_remove_entry}
 use Rattle.indexmap.proofs.MapLemmas.{Found-position, some_index, swap_remove_entry-found, swap_remove_entry-missing}
@@ -18,9 +20,14 @@ use Rattle.ctx_blocks.proofs.Laid.{same_addr-cases, option_cases}
 abbrev pub one_in : ℕ → ℕ → ℕ
 one_in number region = if region == number then 1 else 0
 
-one_in-self : (number : ℕ) → one_in number number ≡ 1
+pub one_in-self : (number : ℕ) → one_in number number ≡ 1
 one_in-self number =
     let test : (number == number) ≡ true = grind (arith, nat_tests) in
+    ap (λ b. if b then 1 else 0) test
+
+pub one_in-other : (number region : ℕ) → region ≢ number → one_in number region ≡ 0
+one_in-other number region differs =
+    let test : (region == number) ≡ false = grind (arith, nat_tests) in
     ap (λ b. if b then 1 else 0) test
 
 -- an address that passes as another one has its region
@@ -51,3 +58,18 @@ none_in l counted number block at owned none region =
 
 pub some_in : (l : Layout) → IsCounted l → (at : Addr) (chunk : Chunk) (block : Block) → chunk_at l at ≡ Some chunk → block_at l at.region ≡ Some block → 1 ≤ block.live
 some_in l counted at chunk block found owned = omega (arith, counted at.region block owned, counted_some l at chunk found)
+
+-- what the count loses where a chunk is taken out
+pub count-removed : (number : ℕ) (at : Addr) (chunk : Chunk) (es : List (Addr × Chunk)) → lookup (same_addr at) es ≡ Some chunk → sum_by (is_in number) (swap_remove_entry (same_addr at) es) + one_in number at.region ≡ sum_by (is_in number) es
+count-removed number at chunk es found = by (position (same_addr at) (keys_of es)) refl
+  where
+    by : (r : Option ℕ) → position (same_addr at) (keys_of es) ≡ r → sum_by (is_in number) (swap_remove_entry (same_addr at) es) + one_in number at.region ≡ sum_by (is_in number) es
+    by None none = let clash = sym (ap is_some found) ∙ sym (some_index (same_addr at) es) ∙ ap is_some none in absurd (cc)
+    by (Some i) some =
+        let d : Addr × Chunk = (at, chunk) in
+        let it = Found-position (same_addr at) es i some in
+        let passes = position-Some (same_addr at) (keys_of es) i at some in
+        let key : get_or (keys_of es) i at ≡ (get_or es i d).0 = get_or-map (λ (e : Addr × Chunk). e.0) es i d at it.within in
+        let one : is_in number (get_or es i d) ≡ one_in number at.region = same_region number at (get_or es i d).0 (ap (same_addr at) (sym key) ∙ passes.1) in
+        let entries = swap_remove_entry-found (same_addr at) es i d some in
+        omega (arith, ap (sum_by (is_in number)) entries, sum_by-swap_remove (is_in number) es i d it.within, one)

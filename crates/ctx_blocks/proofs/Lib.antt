@@ -3,3 +3,9 @@ pub mod Laid
 pub mod Counts
 pub mod Headed
 pub mod New
+pub mod Lessened
+pub mod Totals
+pub mod Refilled
+pub mod Spared
+pub mod Held
+pub mod Cuts
