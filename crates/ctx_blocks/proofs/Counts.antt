@@ -1,16 +1,16 @@
 -- Lemmas on the counts of live chunks.
-use Rattle.std.proofs.Common.{◌≡◌, ◌≢◌, ℕ, ◌+◌, ◌≤◌, ◌==◌, ◌&&◌, if◌then◌else◌, List, Option, Some, None, true, false, Bool, is_some, position, refl, sym, ap, ◌∙◌, arith, inl, inr, sum_by, length, get_or}
+use Rattle.std.proofs.Common.{◌≡◌, ◌≢◌, ℕ, ◌+◌, ◌≤◌, ◌==◌, ◌&&◌, if◌then◌else◌, List, [], ◌∷◌, Option, Some, None, true, false, Bool, is_some, position, refl, sym, ap, ◌∙◌, arith, inl, inr, sum_by, length, get_or}
 use Rattle.std.specs.Map.{lookup, keys_of, values_of}
 use Rattle.std.proofs.lemmas.Bool.{cases_eq}
 use Rattle.std.proofs.lemmas.Bool.Decides.{nat_tests}
 use Rattle.std.proofs.lemmas.List.{get_or-map}
 use Rattle.std.proofs.lemmas.List.Quantifiers.{position-Some}
-use Rattle.std.proofs.lemmas.List.Sums.{sum_by-swap_remove}
+use Rattle.std.proofs.lemmas.List.Sums.{sum_by-cons, sum_by-swap_remove}
 use Rattle.indexmap.specs.IndexMap.{insert_entry, swap_remove_entry}
 use Rattle.indexmap.proofs.MapLemmas.{Found-position, some_index, swap_remove_entry-found, swap_remove_entry-missing}
 use Rattle.addr_space.specs.declared.Addr.{Addr}
 use Rattle.ctx_blocks.specs.Layout.{Layout, same_addr, chunk_at, block_at, is_in, count_in}
-use Rattle.ctx_blocks.specs.Kept.{IsCounted}
+use Rattle.ctx_blocks.specs.Kept.{IsLaid, IsCounted}
 use Rattle.ctx_blocks.specs.declared.parts.Block.{Block}
 use Rattle.ctx_blocks.specs.declared.parts.Chunk.{Chunk}
 use Rattle.ctx_blocks.proofs.Entries.{count-insert, lookup-counted}
@@ -73,3 +73,37 @@ count-removed number at chunk es found = by (position (same_addr at) (keys_of es
         let one : is_in number (get_or es i d) ≡ one_in number at.region = same_region number at (get_or es i d).0 (ap (same_addr at) (sym key) ∙ passes.1) in
         let entries = swap_remove_entry-found (same_addr at) es i d some in
         omega (arith, ap (sum_by (is_in number)) entries, sum_by-swap_remove (is_in number) es i d it.within, one)
+
+-- where a region counts a chunk one is live there
+some_step : (number : ℕ) (e : Addr × Chunk) (es : List (Addr × Chunk)) → 1 ≤ sum_by (is_in number) (e ∷ es) → (1 ≤ sum_by (is_in number) es → (at : Addr) × (x : Chunk) × (at.region ≡ number) × (lookup (same_addr at) es ≡ Some x))
+    → (at : Addr) × (x : Chunk) × (at.region ≡ number) × (lookup (same_addr at) (e ∷ es) ≡ Some x)
+some_step number e es some rest =
+    elim (cases_eq e.0.region number) [
+      | inl here ↦ elim (same_addr-cases e.0 e.0) [
+        | inl same ↦ (e.0, e.1, here, ap (λ b. if b then Some e.1 else lookup (same_addr e.0) es) same.1)
+        | inr differs ↦ absurd (differs.0 refl)
+      ]
+      | inr there ↦
+          let none : is_in number e ≡ 0 = one_in-other number e.0.region there in
+          let it = rest (omega (arith, some, none, sum_by-cons (is_in number) e es)) in
+          elim (same_addr-cases it.0 e.0) [
+            | inl same ↦ (it.0, e.1, it.2, ap (λ b. if b then Some e.1 else lookup (same_addr it.0) es) same.1)
+            | inr differs ↦ (it.0, it.1, it.2, ap (λ b. if b then Some e.1 else lookup (same_addr it.0) es) differs.1 ∙ it.3)
+          ]
+    ]
+
+some_counted : (number : ℕ) (es : List (Addr × Chunk)) → 1 ≤ sum_by (is_in number) es → (at : Addr) × (x : Chunk) × (at.region ≡ number) × (lookup (same_addr at) es ≡ Some x)
+some_counted number [] some = absurd (omega (arith, some))
+some_counted number (e ∷ es) some = some_step number e es some (some_counted number es)
+
+-- a region that is no block has no chunk
+pub none_placed : (l : Layout) → IsLaid l → (number : ℕ) → block_at l number ≡ None → count_in l number ≡ 0
+none_placed l laid number none =
+    elim (cases_eq (count_in l number) 0) [
+      | inl zero ↦ zero
+      | inr some ↦
+          let it = some_counted number l.chunks (omega (arith, some)) in
+          let placed = laid.placed it.0 it.1 it.3 in
+          let clash = sym none ∙ ap (block_at l) (sym it.2) ∙ placed.owned in
+          absurd (cc)
+    ]

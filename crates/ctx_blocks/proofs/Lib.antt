@@ -9,3 +9,5 @@ pub mod Refilled
 pub mod Spared
 pub mod Held
 pub mod Cuts
+pub mod Added
+pub mod Dropped

@@ -1,7 +1,8 @@
 -- Lemmas on the bytes of all blocks.
-use Rattle.std.proofs.Common.{◌≡◌, ℕ, ◌+◌, ◌==◌, List, [], ◌∷◌, Option, Some, None, option_map, unwrap_or, refl, sym, ap, ◌∙◌, arith, sum_by, Bool, true, false, if◌then◌else◌}
+use Rattle.std.proofs.Common.{◌≡◌, ℕ, ◌+◌, ◌==◌, List, [], ◌∷◌, ◌++◌, Option, Some, None, option_map, unwrap_or, refl, sym, ap, ◌∙◌, arith, sum_by, Bool, true, false, if◌then◌else◌}
 use Rattle.std.specs.Map.{lookup, values_of}
 use Rattle.std.proofs.lemmas.Bool.Decides.{nat_tests}
+use Rattle.std.proofs.lemmas.List.Sums.{sum_by-append, sum_by-cons}
 use Rattle.ctx_blocks.specs.Layout.{Layout, block_at, total}
 use Rattle.ctx_blocks.specs.Kept.{IsFirst}
 use Rattle.ctx_blocks.specs.Steps.{with_block, without_block}
@@ -25,6 +26,23 @@ total-put l m number old block blocks was size =
     let f : Block → ℕ = λ b. b.size in
     let now : total m ≡ sum_by f (values_of (with_block l.blocks number block)) = ap (λ es. sum_by f (values_of es)) blocks in
     omega (arith, now, sum-put f l.blocks number old block was, size)
+
+-- the bytes lessen where a block goes
+pub total-dropped : (l m : Layout) (number : ℕ) (old : Block) → m.blocks ≡ without_block l.blocks number → block_at l number ≡ Some old → total m + old.size ≡ total l
+total-dropped l m number old blocks was =
+    let f : Block → ℕ = λ b. b.size in
+    let now : total m ≡ sum_by f (values_of (without_block l.blocks number)) = ap (λ es. sum_by f (values_of es)) blocks in
+    omega (arith, now, sum-dropped f l.blocks number old was)
+
+values-last : (blocks : List (ℕ × Block)) (e : ℕ × Block) → values_of (blocks ++ e ∷ []) ≡ values_of blocks ++ e.1 ∷ []
+values-last [] e = refl
+values-last (b ∷ bs) e = ap (λ es. b.1 ∷ es) (values-last bs e)
+
+pub total-last : (l m : Layout) (number : ℕ) (old : Block) → l.blocks ≡ m.blocks ++ (number, old) ∷ [] → total m + old.size ≡ total l
+total-last l m number old blocks =
+    let f : Block → ℕ = λ b. b.size in
+    let before : total l ≡ sum_by f (values_of m.blocks ++ old ∷ []) = ap (λ es. sum_by f (values_of es)) blocks ∙ ap (sum_by f) (values-last m.blocks (number, old)) in
+    omega (arith, before, sum_by-append f (values_of m.blocks) (old ∷ []), sum_by-cons f old [])
 
 -- the keeper stays the first block
 pub IsFirst-put : (keeper : ℕ) (blocks : List (ℕ × Block)) (number : ℕ) (block : Block) → IsFirst keeper blocks → IsFirst keeper (with_block blocks number block)
