@@ -11,3 +11,4 @@ pub mod Held
 pub mod Cuts
 pub mod Added
 pub mod Dropped
+pub mod Cleared
