@@ -12,3 +12,4 @@ pub mod Cuts
 pub mod Added
 pub mod Dropped
 pub mod Cleared
+pub mod Summed
