@@ -13,3 +13,4 @@ pub mod Added
 pub mod Dropped
 pub mod Cleared
 pub mod Summed
+pub mod Carried
