@@ -474,10 +474,11 @@ impl Books {
         space.give(at);
     }
 
-    // Forgets all chunks, and gives all blocks but so many first ones back.
+    // Forgets all chunks, and gives all blocks back, or all but the first one.
     fn shrink(&mut self, space: &mut Space, first: usize)
         requires kept { IsKept self.old }
         requires agrees { Agrees (footprint (layout_of self.old)) space.old }
+        requires few { first ≤ 1 }
         ensures laid { IsLaid (layout_of self.new) }
         ensures total { self.new.total ≡ total (layout_of self.new) }
         ensures rest { self.new ≡ record self.old { blocks = self.new.blocks; chunks = self.new.chunks; total = self.new.total } }
