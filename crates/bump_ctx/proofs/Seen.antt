@@ -1,7 +1,7 @@
 -- That room was made for more chunks and blocks changes nothing in the space.
 use Rattle.std.proofs.Common.{◌≡◌, ℕ, refl, ap, ◌∙◌}
 use Rattle.addr_space.specs.Space.{Space}
-use Rattle.addr_space.specs.Footprint.{Agrees, Moves}
+use Rattle.addr_space.specs.Footprint.{Footprint, Agrees, Moves}
 use Rattle.ctx_blocks.specs.Layout.{Layout, mark_of, footprint}
 use Rattle.bump_ctx.specs.State.{bare}
 
@@ -21,3 +21,9 @@ agrees_bare l s agrees = rw (footprint_spare l 0 0) at agrees
 
 pub moves_bare : (l m : Layout) (s t : Space) → Moves (footprint l) (footprint m) s t → Moves (footprint (bare l)) (footprint (bare m)) s t
 moves_bare l m s t moves = rw (footprint_spare l 0 0, footprint_spare m 0 0) moves
+
+pub moves_from : (l : Layout) (g : Footprint) (s t : Space) → Moves (footprint l) g s t → Moves (footprint (bare l)) g s t
+moves_from l g s t moves = rw (footprint_spare l 0 0) moves
+
+pub moves_to : (f : Footprint) (m : Layout) (s t : Space) → Moves f (footprint m) s t → Moves f (footprint (bare m)) s t
+moves_to f m s t moves = rw (footprint_spare m 0 0) moves

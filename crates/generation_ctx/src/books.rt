@@ -1,5 +1,5 @@
 //! The books of a Generation context: its blocks and numbers.
-ghost use Rattle.std.specs.Prelude.{◌≡◌, ◌≢◌, ℕ, ◌+◌, ◌-◌, ◌%◌, ◌^◌, ◌<◌, ◌≤◌, ◌↔◌, ◌⊎◌, IsTrue, Ok, Err, Some, None, IfOk, IfErr, OnOk, OnErr, IfSome, IfNone, true, false, min};
+ghost use Rattle.std.specs.Prelude.{◌≡◌, ◌≢◌, ℕ, ◌+◌, ◌-◌, ◌%◌, ◌^◌, ◌<◌, ◌≤◌, ◌↔◌, ◌⊎◌, IsTrue, Ok, Err, Some, None, IfOk, IfErr, OnOk, OnErr, IfSome, IfNone, true, false, min, if◌then◌else◌};
 ghost use Rattle.addr_space.specs.declared.Addr.{Addr};
 ghost use Rattle.addr_space.specs.Space.{accounts, held, IsKnown};
 ghost use Rattle.addr_space.specs.Footprint.{Agrees, Moves, Keeps, nothing};
@@ -125,13 +125,14 @@ impl Books {
         requires agrees { Agrees (footprint self.old.blocks) space.old }
         requires idle { IsIdle self.old.blocks self.old.current number }
         requires other { is_spare self.old.spare number ≡ false }
-        ensures { Rearranges self.old self.new space.old space.new (set_aside (ledger_of self.old) number) }
+        ensures rearranges { Rearranges self.old self.new space.old space.new (set_aside (ledger_of self.old) number) }
+        ensures current { self.new.current ≡ self.old.current }
+        ensures others { (other : ℕ) → number ≢ other → block_at self.new.blocks other ≡ block_at self.old.blocks other }
     {
-        if self.spare.is_none() {
-            self.spare = Some(number);
-            return;
+        match self.spare {
+            None => self.spare = Some(number),
+            Some(_) => self.blocks.give(space, number),
         }
-        self.blocks.give(space, number);
     }
 
     // Puts a block that stopped being current aside, where it has no live chunk.
@@ -141,7 +142,9 @@ impl Books {
         requires block { (bytes : ℕ) × HasSize self.old.blocks number bytes }
         requires stopped { number ≢ self.old.current }
         requires other { is_spare self.old.spare number ≡ false }
-        ensures { Rearranges self.old self.new space.old space.new (stopped (ledger_of self.old) number) }
+        ensures rearranges { Rearranges self.old self.new space.old space.new (stopped (ledger_of self.old) number) }
+        ensures current { self.new.current ≡ self.old.current }
+        ensures others { (other : ℕ) → number ≢ other → block_at self.new.blocks other ≡ block_at self.old.blocks other }
     {
         if self.blocks.keeper() == number {
             return;
@@ -151,19 +154,35 @@ impl Books {
         }
     }
 
+    // Makes a block current, which isn't the spare any more.
+    fn seat(&mut self, number: u32)
+        ensures { self.new ≡ record self.old { current = number; spare = if is_spare self.old.spare number then None else self.old.spare } }
+    {
+        self.current = number;
+        self.spare = match self.spare {
+            Some(other) => {
+                if other == number {
+                    None
+                } else {
+                    Some(other)
+                }
+            }
+            None => None,
+        };
+    }
+
     // Makes a block current that has some room.
     fn turn_to(&mut self, space: &mut Space, number: u32)
         requires kept { IsKept self.old }
         requires agrees { Agrees (footprint self.old.blocks) space.old }
         requires block { (block : Block) × (block_at self.old.blocks number ≡ Some block) × (0 < block.room) }
         requires other { number ≢ self.old.current }
-        ensures { Rearranges self.old self.new space.old space.new (turned (ledger_of self.old) number) }
+        ensures rearranges { Rearranges self.old self.new space.old space.new (turned (ledger_of self.old) number) }
+        ensures current { self.new.current ≡ number }
+        ensures block { block_at self.new.blocks number ≡ block_at self.old.blocks number }
     {
         let old = self.current;
-        self.current = number;
-        if self.spare == Some(number) {
-            self.spare = None;
-        }
+        self.seat(number);
         self.stop(space, old);
     }
 
@@ -364,12 +383,13 @@ impl Books {
             self.blocks.refill(number);
             return;
         }
-        if self.spare.is_none() {
-            self.blocks.refill(number);
-            self.spare = Some(number);
-            return;
+        match self.spare {
+            None => {
+                self.blocks.refill(number);
+                self.spare = Some(number);
+            }
+            Some(_) => self.blocks.give(space, number),
         }
-        self.blocks.give(space, number);
     }
 
     // Forgets a chunk of a shared block.
