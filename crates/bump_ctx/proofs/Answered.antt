@@ -1,0 +1,12 @@
+-- Facts of a call's answer.
+use Rattle.std.proofs.Common.{Result, Ok, Err, IfOk, OnOk}
+
+-- what follows at each value that may be answered
+pub if_ok : {A E : Type 0} {P Q : A → Type 0} (r : Result A E) → ((a : A) → P a → Q a) → IfOk r P → IfOk r Q
+if_ok (Ok a) all holds = all a holds
+if_ok (Err e) all holds = holds
+
+-- what holds whatever was answered
+pub on_ok : {A E : Type 0} {P : A → Type 0} {Q : Type 0} (r : Result A E) → ((a : A) → P a → Q) → IfOk r P → OnOk r Q
+on_ok (Ok a) all holds = all a holds
+on_ok (Err e) all holds = holds

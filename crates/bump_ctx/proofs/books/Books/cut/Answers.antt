@@ -1,0 +1,27 @@
+use Rattle.std.proofs.Common.{◌≡◌, ℕ, ◌+◌, ◌-◌, Ok, Some, refl, ap, sym, arith}
+use Rattle.ctx_blocks.specs.Layout.{header_room, gap_of}
+use Rattle.ctx_blocks.specs.declared.parts.Block.{Block}
+use Rattle.bump_ctx.specs.Kept.{room_at, room_of}
+use Rattle.bump_ctx.proofs.Kepts.{kept_same}
+use Rattle.bump_ctx.proofs.Ledgers.{ledger_cut}
+use Rattle.bump_ctx.proofs.Lives.{live_put, fresh_put}
+use Rattle.bump_ctx.proofs.books.Books.cut.Goals as goal
+
+pub returns : goal.returns
+returns c =
+    let b = c.args.self.now in
+    let kept = c.requires.kept in
+    let old = kept.newest.block in
+    let is = kept.newest.is in
+    let gap : header_room b.blocks ≡ 0 = ap gap_of kept.kind in
+    let room : room_at b.blocks b.newest ≡ old.room = ap room_of is in
+    let new : Block = record old { room = old.room - (header_room b.blocks + c.args.room); live = old.live + 1 } in
+    let puts = c.cut.ensures.block old is in
+    record {
+      kept = kept_same b c.cut.new.self b.newest old new kept c.cut.ensures.same puts is refl;
+      ledger = ap Ok (sym (ledger_cut b c.cut.new.self old new c.args.room puts is refl (omega (arith, gap, room, c.requires.room))));
+      fresh = fresh_put b.blocks b.blocks c.cut.result refl c.cut.ensures.fresh;
+      live = live_put b.blocks b.blocks c.cut.new.self c.cut.result (record { size = c.args.size; room = c.args.room; own = Rattle.std.proofs.Common.false }) refl c.cut.ensures.chunk;
+      moves = c.cut.ensures.moves;
+      keeps = c.cut.ensures.keeps;
+    }

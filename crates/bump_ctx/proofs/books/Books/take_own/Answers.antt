@@ -1,0 +1,47 @@
+use Rattle.std.proofs.Common.{◌≡◌, ℕ, ◌+◌, ◌-◌, Ok, Err, Some, true, refl, ap, sym, ◌∙◌, arith}
+use Rattle.addr_space.specs.Space.{held}
+use Rattle.addr_space.proofs.Steps.{Moves-more}
+use Rattle.chunk_header.specs.declared.CtxError.TheVariants.{NoSpace}
+use Rattle.ctx_blocks.specs.Layout.{block_at, header_room, gap_of, footprint}
+use Rattle.ctx_blocks.specs.declared.parts.Block.{Block}
+use Rattle.bump_ctx.specs.Kept.{ledger_of}
+use Rattle.bump_ctx.proofs.Kepts.{put_here, kept_more, kept_same}
+use Rattle.bump_ctx.proofs.Ledgers.{ledger_own, take_own-had, take_own-none}
+use Rattle.bump_ctx.proofs.Lives.{live_put, fresh_put, keeps_more}
+use Rattle.bump_ctx.proofs.books.Books.take_own.Goals as goal
+
+pub returns-in-Ok-clause-ok : goal.returns-in-Ok-clause-ok
+returns-in-Ok-clause-ok c =
+    let b = c.args.self.now in
+    let m = c.add.new.self in
+    let n = c.cut.new.self in
+    let s = c.args.space.now in
+    let e = c.in-Ok.ensures in
+    let number = c.in-Ok.number in
+    let room = c.granted-room.result in
+    let left : ℕ = s.limit - held s b.blocks.account in
+    let gap : header_room m ≡ 0 = ap gap_of (e.same.kind ∙ c.requires.kept.kind) in
+    let first : Block = record { size = room + 40; room = room + 40 - 40; live = 0; freed = 0 } in
+    let last : Block = record first { room = first.room - (header_room m + room); live = 0 + 1 } in
+    let here : block_at m number ≡ Some first = put_here b.blocks m number first e.block in
+    let again = c.cut.ensures.block first here in
+    let none : last.room ≡ 0 = omega (arith, gap) in
+    let kept = kept_more b m number first c.requires.kept e.same e.block e.fresh in
+    let step = take_own-had (ledger_of b) left (room + 40) e.fits in
+    let ledger = ledger_own b m n number first last c.requires.kept e.block again e.fresh refl none e.total in
+    rw (← c.granted-room.ensures.value) (record {
+      kept = kept_same (record b { blocks = m }) n number first last kept c.cut.ensures.same again here refl;
+      ledger = step ∙ ap Ok (sym ledger);
+      fresh = fresh_put b.blocks m c.cut.result e.chunks c.cut.ensures.fresh;
+      live = live_put b.blocks m n c.cut.result (record { size = c.args.size; room = room; own = true }) e.chunks c.cut.ensures.chunk;
+      moves = Moves-more (footprint b.blocks) (footprint m) (footprint n) s c.add.new.space c.cut.new.space e.moves c.cut.ensures.moves;
+      keeps = keeps_more b.blocks m (footprint n) s c.add.new.space c.cut.new.space e.chunks e.keeps c.cut.ensures.keeps;
+    })
+
+pub returns-in-Err-clause-no_space : goal.returns-in-Err-clause-no_space
+returns-in-Err-clause-no_space c = λ e.
+    let b = c.args.self.now in
+    let left : ℕ = c.args.space.now.limit - held c.args.space.now b.blocks.account in
+    let it : c.in-Err.error ≡ NoSpace = cc in
+    let over = c.in-Err.ensures.no_space (ap Err it) in
+    rw (← c.granted-room.ensures.value) (take_own-none (ledger_of b) left (c.granted-room.result + 40) over)

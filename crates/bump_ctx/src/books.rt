@@ -1,0 +1,268 @@
+//! The books of a Bump context: its blocks and numbers.
+ghost use Rattle.std.specs.Prelude.{◌≡◌, ℕ, ◌+◌, ◌-◌, ◌%◌, ◌^◌, ◌<◌, ◌≤◌, ◌↔◌, ◌⊎◌, Ok, Err, Some, None, IfOk, IfErr, OnOk, OnErr};
+ghost use Rattle.addr_space.specs.declared.Addr.{Addr};
+ghost use Rattle.addr_space.specs.Space.{accounts, held};
+ghost use Rattle.addr_space.specs.Footprint.{Agrees, Moves, Keeps, nothing};
+ghost use Rattle.ctx_blocks.specs.Layout.{footprint};
+ghost use Rattle.bump_ctx.specs.Room.{granted};
+ghost use Rattle.bump_ctx.specs.Ledger.{created, cut_off, renewed, block_size, take_own, take_cut, take, stats};
+ghost use Rattle.bump_ctx.specs.Live.{PutsLive};
+
+use addr_space::{Addr, Space};
+use chunk_header::{CtxError, Kind, Sizes, Stats, grown, up8};
+use ctx_blocks::Blocks;
+use std::alloc::Global;
+
+/// All that a Bump context keeps.
+#[derive(Drop)]
+pub struct Books {
+    pub sizes: Sizes,
+    // The size of the next block.
+    pub next: u32,
+    // The region of the newest block that isn't one chunk's own.
+    pub newest: u32,
+    pub blocks: Blocks,
+}
+
+// The greatest size of a request.
+pub const LARGEST: u64 = 1_073_741_823;
+
+// The greatest request that is cut off a shared block.
+const LIMIT: u32 = 524_288;
+
+// The bytes that a chunk of so many has.
+#[tactic(auto, unfolding(crate::specs::Room::granted))]
+fn granted(size: u32) -> u32
+    requires { size < 2 ^ 30 }
+    ensures value { result ≡ granted size }
+    ensures some { 8 ≤ result }
+    ensures least { size ≤ result }
+    ensures most { (result ≡ 8) ⊎ (result < size + 8) }
+    ensures whole { result % 8 ≡ 0 }
+{
+    up8(size.max(1))
+}
+
+impl Books {
+    ghost use Rattle.bump_ctx.specs.Kept.{ledger_of, state_of, room_at, IsKept};
+    ghost use Rattle.bump_ctx.specs.Steps.{Allocates};
+
+    // The books of a new context.
+    pub fn create(
+        alloc: Global,
+        space: &mut Space,
+        account: u8,
+        context: u32,
+        sizes: Sizes,
+    ) -> Result<Books, CtxError>
+        requires account { account < accounts space.old }
+        requires least { 1024 ≤ sizes.init }
+        requires order { sizes.init ≤ sizes.max }
+        requires most { sizes.max ≤ 8388608 }
+        requires whole_init { sizes.init % 8 ≡ 0 }
+        requires whole_max { sizes.max % 8 ≡ 0 }
+        ensures kept { IfOk result IsKept }
+        ensures ledger { IfOk result (λ b. ledger_of b ≡ created sizes.init sizes.max) }
+        ensures account { IfOk result (λ b. b.blocks.account ≡ account) }
+        ensures context { IfOk result (λ b. b.blocks.context ≡ context) }
+        ensures live { IfOk result (λ b. (at : Addr) → (footprint b.blocks).live at ≡ None) }
+        ensures moves { IfOk result (λ b. Moves (nothing account context) (footprint b.blocks) space.old space.new) }
+        ensures no_space { (result ≡ Err CtxError.NoSpace) ↔ (space.old.limit < held space.old account + sizes.init) }
+        ensures no_other { IfErr result (λ e. (e ≡ CtxError.NoSpace) ⊎ (e ≡ CtxError.Memory)) }
+        ensures err { OnErr result (space.new ≡ space.old) }
+    {
+        let blocks = match Blocks::create(alloc, space, Kind::Bump, account, context, sizes.init) {
+            Ok(blocks) => blocks,
+            Err(error) => return Err(error),
+        };
+        let newest = blocks.keeper();
+        Ok(Books {
+            sizes,
+            next: sizes.init,
+            newest,
+            blocks,
+        })
+    }
+
+    // What the books say.
+    #[tactic(auto, using(crate::proofs::Sums::room_within), unfolding(crate::specs::Ledger::stats))]
+    pub fn stats(&self) -> Stats
+        requires { IsKept self.now }
+        ensures { result ≡ stats (ledger_of self.now) }
+    {
+        Stats {
+            total: self.blocks.total(),
+            blocks: self.blocks.len() as u64,
+            free: self.blocks.rooms(),
+            chunks: 0,
+        }
+    }
+
+    // The room of the newest block.
+    fn room(&self) -> u32
+        ensures { result ≡ room_at self.now.blocks self.now.newest }
+    {
+        match self.blocks.block(self.newest) {
+            Some(block) => block.room,
+            None => 0,
+        }
+    }
+
+    // Cuts a chunk off the newest block.
+    fn cut(&mut self, space: &mut Space, size: u32, room: u32) -> Addr
+        requires kept { IsKept self.old }
+        requires agrees { Agrees (footprint self.old.blocks) space.old }
+        requires room { room ≤ room_at self.old.blocks self.old.newest }
+        requires some { 0 < room }
+        requires fits { size ≤ room }
+        requires whole { room % 8 ≡ 0 }
+        requires value { room < 2 ^ 30 }
+        requires spare { 1 ≤ self.old.blocks.spare_chunks }
+        ensures { Allocates self.old self.new space.old space.new size result (Ok (cut_off (ledger_of self.old) room)) }
+    {
+        self.blocks.cut(space, self.newest, size, room, false)
+    }
+
+    // Takes a new block for a chunk that has so many bytes.
+    #[tactic(auto, unfolding(crate::specs::Ledger::block_size))]
+    fn renew(&mut self, space: &mut Space, room: u32) -> Result<(), CtxError>
+        requires kept { IsKept self.old }
+        requires agrees { Agrees (footprint self.old.blocks) space.old }
+        requires some { 8 ≤ room }
+        requires most { room ≤ 524288 }
+        requires spare { 1 ≤ self.old.blocks.spare_blocks }
+        ensures kept { OnOk result (IsKept self.new) }
+        ensures ledger { OnOk result (ledger_of self.new ≡ renewed (ledger_of self.old) (block_size (ledger_of self.old) room)) }
+        ensures room { OnOk result (room ≤ room_at self.new.blocks self.new.newest) }
+        ensures chunks { OnOk result (self.new.blocks.chunks ≡ self.old.blocks.chunks) }
+        ensures spare { OnOk result (self.new.blocks.spare_chunks ≡ self.old.blocks.spare_chunks) }
+        ensures moves { OnOk result (Moves (footprint self.old.blocks) (footprint self.new.blocks) space.old space.new) }
+        ensures keeps { OnOk result (Keeps (footprint self.old.blocks) (footprint self.new.blocks) space.old space.new) }
+        ensures fits { OnOk result (block_size (ledger_of self.old) room ≤ space.old.limit - held space.old self.old.blocks.account) }
+        ensures no_space { (result ≡ Err CtxError.NoSpace) → space.old.limit - held space.old self.old.blocks.account < block_size (ledger_of self.old) room }
+        ensures no_other { IfErr result (λ e. (e ≡ CtxError.NoSpace) ⊎ (e ≡ CtxError.Memory)) }
+        ensures err { OnErr result (self.new ≡ self.old) }
+        ensures err_space { OnErr result (space.new ≡ space.old) }
+    {
+        let size = grown(self.next, room + 40);
+        match self.blocks.add(space, size) {
+            Ok(number) => {
+                self.newest = number;
+                self.next = (self.next * 2).min(self.sizes.max);
+                Ok(())
+            }
+            Err(error) => Err(error),
+        }
+    }
+
+    // Cuts a chunk off the newest block, or off a new one.
+    fn take_cut(&mut self, space: &mut Space, size: u32) -> Result<Addr, CtxError>
+        requires kept { IsKept self.old }
+        requires agrees { Agrees (footprint self.old.blocks) space.old }
+        requires size { size ≤ 524288 }
+        requires spare_blocks { 1 ≤ self.old.blocks.spare_blocks }
+        requires spare_chunks { 1 ≤ self.old.blocks.spare_chunks }
+        ensures ok { IfOk result (λ at. Allocates self.old self.new space.old space.new size at (take_cut (ledger_of self.old) (space.old.limit - held space.old self.old.blocks.account) (granted size))) }
+        ensures no_space { result ≡ Err CtxError.NoSpace → take_cut (ledger_of self.old) (space.old.limit - held space.old self.old.blocks.account) (granted size) ≡ Err CtxError.NoSpace }
+        ensures no_other { IfErr result (λ e. (e ≡ CtxError.NoSpace) ⊎ (e ≡ CtxError.Memory)) }
+        ensures err { OnErr result (self.new ≡ self.old) }
+        ensures err_space { OnErr result (space.new ≡ space.old) }
+    {
+        let room = granted(size);
+        if self.room() >= room {
+            return Ok(self.cut(space, size, room));
+        }
+        match self.renew(space, room) {
+            Ok(()) => Ok(self.cut(space, size, room)),
+            Err(error) => Err(error),
+        }
+    }
+
+    // Takes a block for one chunk.
+    fn take_own(&mut self, space: &mut Space, size: u32) -> Result<Addr, CtxError>
+        requires kept { IsKept self.old }
+        requires agrees { Agrees (footprint self.old.blocks) space.old }
+        requires size { size < 2 ^ 30 }
+        requires spare_blocks { 1 ≤ self.old.blocks.spare_blocks }
+        requires spare_chunks { 1 ≤ self.old.blocks.spare_chunks }
+        ensures ok { IfOk result (λ at. Allocates self.old self.new space.old space.new size at (take_own (ledger_of self.old) (space.old.limit - held space.old self.old.blocks.account) (granted size + 40))) }
+        ensures no_space { result ≡ Err CtxError.NoSpace → take_own (ledger_of self.old) (space.old.limit - held space.old self.old.blocks.account) (granted size + 40) ≡ Err CtxError.NoSpace }
+        ensures no_other { IfErr result (λ e. (e ≡ CtxError.NoSpace) ⊎ (e ≡ CtxError.Memory)) }
+        ensures err { OnErr result (self.new ≡ self.old) }
+        ensures err_space { OnErr result (space.new ≡ space.old) }
+    {
+        let room = granted(size);
+        match self.blocks.add(space, room + 40) {
+            Ok(number) => Ok(self.blocks.cut(space, number, size, room, true)),
+            Err(error) => Err(error),
+        }
+    }
+
+    // Serves a request for which room was made.
+    fn take(&mut self, space: &mut Space, size: u32) -> Result<Addr, CtxError>
+        requires kept { IsKept self.old }
+        requires agrees { Agrees (footprint self.old.blocks) space.old }
+        requires size { size ≤ 1073741823 }
+        requires spare_blocks { 1 ≤ self.old.blocks.spare_blocks }
+        requires spare_chunks { 1 ≤ self.old.blocks.spare_chunks }
+        ensures ok { IfOk result (λ at. Allocates self.old self.new space.old space.new size at (take (ledger_of self.old) (space.old.limit - held space.old self.old.blocks.account) size)) }
+        ensures no_space { result ≡ Err CtxError.NoSpace → take (ledger_of self.old) (space.old.limit - held space.old self.old.blocks.account) size ≡ Err CtxError.NoSpace }
+        ensures no_other { IfErr result (λ e. (e ≡ CtxError.NoSpace) ⊎ (e ≡ CtxError.Memory)) }
+        ensures err { OnErr result (self.new ≡ self.old) }
+        ensures err_space { OnErr result (space.new ≡ space.old) }
+    {
+        if size > LIMIT {
+            return self.take_own(space, size);
+        }
+        self.take_cut(space, size)
+    }
+
+    // Serves a request.
+    pub fn alloc(&mut self, space: &mut Space, size: u64) -> Result<Addr, CtxError>
+        requires kept { IsKept self.old }
+        requires agrees { Agrees (footprint self.old.blocks) space.old }
+        ensures ok { IfOk result (λ at. Allocates self.old self.new space.old space.new size at (take (ledger_of self.old) (space.old.limit - held space.old self.old.blocks.account) size)) }
+        ensures too_big { (result ≡ Err CtxError.TooBig) ↔ (1073741823 < size) }
+        ensures no_space { result ≡ Err CtxError.NoSpace → take (ledger_of self.old) (space.old.limit - held space.old self.old.blocks.account) size ≡ Err CtxError.NoSpace }
+        ensures no_other { IfErr result (λ e. (e ≡ CtxError.TooBig) ⊎ ((e ≡ CtxError.NoSpace) ⊎ (e ≡ CtxError.Memory))) }
+        ensures err { OnErr result (state_of self.new ≡ state_of self.old) }
+        ensures err_kept { OnErr result (IsKept self.new) }
+        ensures err_space { OnErr result (space.new ≡ space.old) }
+    {
+        if size > LARGEST {
+            return Err(CtxError::TooBig);
+        }
+        match self.blocks.make_room() {
+            Ok(()) => self.take(space, size as u32),
+            Err(error) => Err(error),
+        }
+    }
+
+    // Gives back all that was taken since the context was created.
+    pub fn reset(&mut self, space: &mut Space)
+        requires kept { IsKept self.old }
+        requires agrees { Agrees (footprint self.old.blocks) space.old }
+        ensures kept { IsKept self.new }
+        ensures ledger { ledger_of self.new ≡ created self.old.sizes.init self.old.sizes.max }
+        ensures live { (at : Addr) → (footprint self.new.blocks).live at ≡ None }
+        ensures moves { Moves (footprint self.old.blocks) (footprint self.new.blocks) space.old space.new }
+    {
+        self.blocks.reset(space);
+        self.newest = self.blocks.keeper();
+        self.next = self.sizes.init;
+    }
+
+    // Gives everything back.
+    pub fn discard(self, space: &mut Space)
+        requires { Agrees (footprint self.blocks) space.old }
+        ensures { Moves (footprint self.blocks) (nothing self.blocks.account self.blocks.context) space.old space.new }
+    {
+        let Books {
+            sizes: _,
+            next: _,
+            newest: _,
+            blocks,
+        } = self;
+        blocks.discard(space);
+    }
+}

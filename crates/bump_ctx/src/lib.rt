@@ -1,0 +1,161 @@
+//! A Bump: a memory context that never frees a chunk, and so writes no headers before them.
+#![tactic(auto)]
+
+ghost use Rattle.std.specs.Prelude.{◌≡◌, ℕ, ◌+◌, ◌-◌, ◌%◌, ◌<◌, ◌≤◌, ◌↔◌, ◌⊎◌, Ok, Err, None, Some, IsSome, IfOk, IfErr, OnOk, OnErr};
+ghost use Rattle.addr_space.specs.declared.Addr.{Addr};
+ghost use Rattle.bump_ctx.specs.Ledger.{stats, take};
+
+mod books;
+#[cfg(test)]
+mod tests;
+
+use addr_space::{Addr, Space};
+use books::{Books, LARGEST};
+use chunk_header::{CtxError, Sizes, Stats};
+use std::alloc::Global;
+use std::marker::Model;
+
+/// A context whose chunks have a multiple of 8 bytes without a header, or a block for themselves. None of them is
+/// freed before all are.
+#[derive(Drop)]
+pub struct BumpCtx {
+    books: Books,
+}
+
+impl Model for BumpCtx {
+    ghost use Rattle.bump_ctx.specs.State.{BumpState};
+
+    ghost Value = { BumpState };
+
+    ghost use Rattle.bump_ctx.specs.Kept.{state_of, IsKept};
+
+    ghost view = { λ a. state_of a.books };
+
+    ghost invariant = { λ a. IsKept a.books };
+}
+
+impl BumpCtx {
+    ghost use Rattle.addr_space.specs.Space.{accounts, held};
+    ghost use Rattle.addr_space.specs.Footprint.{nothing, Agrees, Moves, Keeps};
+    ghost use Rattle.bump_ctx.specs.State.{footprint, account_of};
+    ghost use Rattle.bump_ctx.specs.Ledger.{created, refusal};
+    ghost use Rattle.bump_ctx.specs.Live.{PutsLive};
+
+    /// A context with one block, for an account of the space. `context` is the number that its blocks keep.
+    ///
+    /// `NoSpace` comes where the first block doesn't fit, and before `Memory`. A refused call changes nothing.
+    pub fn create(
+        alloc: Global,
+        space: &mut Space,
+        account: u8,
+        context: u32,
+        sizes: Sizes,
+    ) -> Result<BumpCtx, CtxError>
+        requires account { account < accounts space.old }
+        requires least { 1024 ≤ sizes.init }
+        requires order { sizes.init ≤ sizes.max }
+        requires most { sizes.max ≤ 8388608 }
+        requires whole_init { sizes.init % 8 ≡ 0 }
+        requires whole_max { sizes.max % 8 ≡ 0 }
+        ensures ledger { IfOk result (λ a. a.ledger ≡ created sizes.init sizes.max) }
+        ensures account { IfOk result (λ a. (footprint a).account ≡ account) }
+        ensures context { IfOk result (λ a. (footprint a).context ≡ context) }
+        ensures live { IfOk result (λ a. (at : Addr) → (footprint a).live at ≡ None) }
+        ensures moves { IfOk result (λ a. Moves (nothing account context) (footprint a) space.old space.new) }
+        ensures no_space { (result ≡ Err CtxError.NoSpace) ↔ (space.old.limit < held space.old account + sizes.init) }
+        ensures no_other { IfErr result (λ e. (e ≡ CtxError.NoSpace) ⊎ (e ≡ CtxError.Memory)) }
+        ensures err { OnErr result (space.new ≡ space.old) }
+    {
+        match Books::create(alloc, space, account, context, sizes) {
+            Ok(books) => Ok(BumpCtx { books }),
+            Err(error) => Err(error),
+        }
+    }
+
+    /// What the context holds: `free` are the rooms of all blocks, and `chunks` is 0.
+    pub fn stats(&self) -> Stats
+        ensures { result ≡ stats self.now.ledger }
+    {
+        self.books.stats()
+    }
+
+    #[tactic(auto, using(crate::proofs::Seen::agrees_bare, crate::proofs::Seen::moves_bare))]
+    /// Takes a chunk of `size` bytes, which may be 0, and answers its address. No byte of it is known.
+    ///
+    /// `TooBig`, `NoSpace` and `Memory` are tried in this order. A refused call changes nothing.
+    pub fn alloc(&mut self, space: &mut Space, size: u64) -> Result<Addr, CtxError>
+        requires { Agrees (footprint self.old) space.old }
+
+        // The ledger makes its step for the request, with what is left of the account.
+        ensures ledger { OnOk result (take self.old.ledger (space.old.limit - held space.old (account_of self.old)) size ≡ Ok self.new.ledger) }
+
+        // The chunk was not live, and every other chunk stays.
+        ensures fresh { IfOk result (λ at. (footprint self.old).live at ≡ None) }
+        ensures live { IfOk result (λ at. PutsLive (footprint self.old) (footprint self.new) at (Some size)) }
+        ensures moves { OnOk result (Moves (footprint self.old) (footprint self.new) space.old space.new) }
+        ensures keeps { OnOk result (Keeps (footprint self.old) (footprint self.new) space.old space.new) }
+
+        ensures too_big { (result ≡ Err CtxError.TooBig) ↔ (1073741823 < size) }
+        ensures no_space { result ≡ Err CtxError.NoSpace → take self.old.ledger (space.old.limit - held space.old (account_of self.old)) size ≡ Err CtxError.NoSpace }
+        ensures no_other { IfErr result (λ e. (e ≡ CtxError.TooBig) ⊎ ((e ≡ CtxError.NoSpace) ⊎ (e ≡ CtxError.Memory))) }
+        ensures err { OnErr result (self.new ≡ self.old) }
+        ensures err_space { OnErr result (space.new ≡ space.old) }
+    {
+        self.books.alloc(space, size)
+    }
+
+    /// Refuses to free a live chunk: the answer is `Unsupported`, and nothing changes.
+    pub fn free(&mut self, space: &mut Space, at: Addr) -> Result<(), CtxError>
+        requires agrees { Agrees (footprint self.old) space.old }
+        requires live { IsSome ((footprint self.old).live at) }
+        ensures unsupported { result ≡ Err CtxError.Unsupported }
+        ensures same { self.new ≡ self.old }
+        ensures same_space { space.new ≡ space.old }
+    {
+        let _ = &self.books;
+        Err(CtxError::Unsupported)
+    }
+
+    #[tactic(auto, unfolding(crate::specs::Ledger::refusal))]
+    /// Refuses to give a live chunk another size: the answer is `TooBig` where `size` is over 1,073,741,823, else
+    /// `Unsupported`, and nothing changes.
+    pub fn realloc(
+        &mut self,
+        space: &mut Space,
+        at: Addr,
+        keep: u64,
+        size: u64,
+    ) -> Result<Addr, CtxError>
+        requires agrees { Agrees (footprint self.old) space.old }
+        requires live { IsSome ((footprint self.old).live at) }
+        ensures refused { result ≡ Err (refusal size) }
+        ensures same { self.new ≡ self.old }
+        ensures same_space { space.new ≡ space.old }
+    {
+        let _ = &self.books;
+        if size > LARGEST {
+            return Err(CtxError::TooBig);
+        }
+        Err(CtxError::Unsupported)
+    }
+
+    #[tactic(auto, using(crate::proofs::Seen::agrees_bare, crate::proofs::Seen::moves_bare))]
+    /// Frees all chunks and gives every block but the first back: the context is as it was created. It takes no memory.
+    pub fn reset(&mut self, space: &mut Space)
+        requires { Agrees (footprint self.old) space.old }
+        ensures ledger { self.new.ledger ≡ created self.old.ledger.init self.old.ledger.max }
+        ensures live { (at : Addr) → (footprint self.new).live at ≡ None }
+        ensures moves { Moves (footprint self.old) (footprint self.new) space.old space.new }
+    {
+        self.books.reset(space);
+    }
+
+    /// Gives all blocks back. It takes no memory.
+    pub fn discard(self, space: &mut Space)
+        requires { Agrees (footprint self) space.old }
+        ensures { Moves (footprint self) (nothing (footprint self).account (footprint self).context) space.old space.new }
+    {
+        let BumpCtx { books } = self;
+        books.discard(space);
+    }
+}

@@ -1,0 +1,67 @@
+use super::*;
+use std::test::Fail;
+
+const GREAT: Sizes = Sizes {
+    init: 8192,
+    max: 8_388_608,
+};
+
+// What a context with these requests holds: the bytes of its blocks, their number and their rooms.
+fn held_after(rt: &HostRuntime, requests: &[u64]) -> Result<(u64, u64, u64), Fail> {
+    let mut space = Space::new(rt.alloc(), 1, 20_000_000)?;
+    let mut bump = BumpCtx::create(rt.alloc(), &mut space, 0, 7, GREAT)?;
+    for size in requests {
+        bump.alloc(&mut space, *size)?;
+    }
+    let stats = bump.stats();
+    bump.discard(&mut space);
+    Ok((stats.total, stats.blocks, stats.free))
+}
+
+#[test]
+fn what_a_context_holds(rt: HostRuntime) -> Result<(), Fail> {
+    let rows: [(&[u64], (u64, u64, u64)); 9] = [
+        (&[], (8192, 1, 7952)),
+        (&[100], (8192, 1, 7848)),
+        (&[0, 1, 9], (8192, 1, 7920)),
+        (&[7952], (8192, 1, 0)),
+        (&[7953], (16384, 2, 8144)),
+        (&[100, 8000, 9000], (32768, 3, 15344)),
+        (&[524_288], (1_056_768, 2, 532_200)),
+        (&[524_289, 100], (532_528, 2, 7848)),
+        (&[20000, 20000, 50000], (139_264, 4, 48904)),
+    ];
+    for (requests, held) in &rows {
+        assert_eq!(rt; held_after(&rt, requests)?, *held, "{requests:?}");
+    }
+    Ok(())
+}
+
+#[test]
+fn refusals_and_a_reset(rt: HostRuntime) -> Result<(), Fail> {
+    let mut space = Space::new(rt.alloc(), 1, 10000)?;
+    let mut bump = BumpCtx::create(rt.alloc(), &mut space, 0, 7, GREAT)?;
+    let at = bump.alloc(&mut space, 7000)?;
+    let refused = [
+        bump.free(&mut space, at).err(),
+        bump.realloc(&mut space, at, 0, 8).err(),
+        bump.realloc(&mut space, at, 0, 1_073_741_824).err(),
+        bump.alloc(&mut space, 1000).err(),
+    ];
+    bump.reset(&mut space);
+    let after = (refused, bump.stats().free, space.held(0));
+    assert_eq!(rt;
+        after,
+        (
+            [
+                Some(CtxError::Unsupported),
+                Some(CtxError::Unsupported),
+                Some(CtxError::TooBig),
+                Some(CtxError::NoSpace)
+            ],
+            7952,
+            8192
+        )
+    );
+    Ok(())
+}

@@ -1,0 +1,109 @@
+-- What contracts see of the blocks of a context: where they are, and the live chunks in them.
+use Rattle.std.specs.Prelude.{ℕ, ◌+◌, ◌-◌, ◌==◌, ◌&&◌, Bool, true, false, List, Option, Some, None, if◌then◌else◌, nat_le, sum_by}
+use Rattle.std.specs.Map.{lookup, values_of}
+use Rattle.addr_space.specs.declared.Addr.{Addr}
+use Rattle.addr_space.specs.Footprint.{Footprint}
+use Rattle.chunk_header.specs.declared.Header.{Header}
+use Rattle.chunk_header.specs.declared.Kind.{Kind}
+use Rattle.chunk_header.specs.declared.Kind.TheVariants.{Bump}
+use Rattle.chunk_header.specs.Header.{header_bytes, block_bytes}
+use Rattle.ctx_blocks.specs.declared.parts.Block.{Block}
+use Rattle.ctx_blocks.specs.declared.parts.Chunk.{Chunk}
+
+-- the kind of the context; the account and the number that it was created with; the region of the keeper; each
+-- block by the number of its region, in the order in which they were taken; each live chunk by its address; and
+-- for how many more blocks and chunks room was made
+pub record Layout : Type 0 where
+  pub kind : Kind
+  pub account : ℕ
+  pub context : ℕ
+  pub keeper : ℕ
+  pub blocks : List (ℕ × Block)
+  pub chunks : List (Addr × Chunk)
+  pub spare_blocks : ℕ
+  pub spare_chunks : ℕ
+
+-- whether two addresses are one
+abbrev pub same_addr : Addr → Addr → Bool
+same_addr a b = (a.region == b.region) && (a.offset == b.offset)
+
+-- the block in a region, and the live chunk at an address
+abbrev pub block_at : Layout → ℕ → Option Block
+block_at l number = lookup (λ n. number == n) l.blocks
+
+abbrev pub chunk_at : Layout → Addr → Option Chunk
+chunk_at l at = lookup (same_addr at) l.chunks
+
+-- the bytes of all regions, the rooms of all blocks, and how many chunks were freed in all of them
+abbrev pub total : Layout → ℕ
+total l = sum_by (λ b. b.size) (values_of l.blocks)
+
+abbrev pub rooms : Layout → ℕ
+rooms l = sum_by (λ b. b.room) (values_of l.blocks)
+
+abbrev pub all_freed : Layout → ℕ
+all_freed l = sum_by (λ b. b.freed) (values_of l.blocks)
+
+-- how many live chunks a region has
+abbrev pub is_in : ℕ → Addr × Chunk → ℕ
+is_in number e = if e.0.region == number then 1 else 0
+
+abbrev pub count_in : Layout → ℕ → ℕ
+count_in l number = sum_by (is_in number) l.chunks
+
+-- how many bytes of a region stand before the header of its block
+abbrev pub start_of : Layout → ℕ → ℕ
+start_of l number = if l.keeper == number then 200 else 0
+
+-- the bytes of the header of a chunk
+abbrev pub gap_of : Kind → ℕ
+gap_of Bump = 0
+gap_of _ = 8
+
+abbrev pub header_room : Layout → ℕ
+header_room l = gap_of l.kind
+
+-- the room of a block of so many bytes without chunks, where so many bytes stand before its header; one that has
+-- no place for its header has none
+abbrev pub whole_room : ℕ → ℕ → ℕ
+whole_room start size = size - start - 40
+
+abbrev pub whole_of : Layout → ℕ → ℕ → ℕ
+whole_of l number size = whole_room (start_of l number) size
+
+-- the header of a chunk, so far from the header of its block
+abbrev pub header_of : Kind → Chunk → ℕ → Header
+header_of kind chunk dist = record { kind = kind; own = chunk.own; value = if chunk.own then 0 else chunk.room; dist = dist }
+
+-- the bytes before a chunk: a Bump writes none
+abbrev pub chunk_word : Kind → Chunk → ℕ → Option (List ℕ)
+chunk_word Bump chunk dist = None
+chunk_word kind chunk dist = Some (header_bytes (header_of kind chunk dist))
+
+-- the first bytes of a block's header, where the region has room for one
+abbrev pub block_word : ℕ → ℕ → Block → Option (List ℕ)
+block_word context start block = if nat_le (start + 40) block.size then Some (block_bytes context block.size) else None
+
+-- what comes of an option's value
+abbrev pub then_option : {X Y : Type 0} → Option X → (X → Option Y) → Option Y
+then_option None f = None
+then_option (Some x) f = f x
+
+-- the marks: a block's header begins with the context's number and the block's size, and a chunk's header
+-- stands before it
+unfoldable pub mark_of : Layout → Addr → Option (List ℕ)
+mark_of l at =
+    if at.offset == start_of l at.region then then_option (block_at l at.region) (block_word l.context (start_of l at.region))
+    else then_option (chunk_at l (record { region = at.region; offset = at.offset + 8 })) (λ chunk. chunk_word l.kind chunk (at.offset - start_of l at.region))
+
+-- what the context has in a space
+abbrev pub footprint : Layout → Footprint
+footprint l = record {
+  account = l.account;
+  context = l.context;
+  total = total l;
+  region = λ number. then_option (block_at l number) (λ b. Some b.size);
+  mark = mark_of l;
+  live = λ at. then_option (chunk_at l at) (λ c. Some c.size);
+  free = λ at. None;
+}
