@@ -17,67 +17,26 @@ const SMALL: Sizes = Sizes {
     max: 8192,
 };
 
+// Total, blocks, free and chunks.
+fn stats(numbers: [u64; 4]) -> Stats {
+    let [total, blocks, free, chunks] = numbers;
+    Stats {
+        total,
+        blocks,
+        free,
+        chunks,
+    }
+}
+
 #[test]
 fn chunks_of_a_context(rt: HostRuntime) -> Result<(), Fail> {
     let mut space = Space::new(rt.alloc(), 1, 100_000)?;
     let mut set = AllocSet::create(rt.alloc(), &mut space, 0, 7, GREAT)?;
-    assert_eq!(rt;
-        set.stats(),
-        Stats {
-            total: 8192,
-            blocks: 1,
-            free: 7952,
-            chunks: 0
-        }
-    );
+    assert_eq!(rt; set.stats(), stats([8192, 1, 7952, 0]));
     set.alloc(&mut space, 100)?;
-    assert_eq!(rt;
-        set.stats(),
-        Stats {
-            total: 8192,
-            blocks: 1,
-            free: 7816,
-            chunks: 0
-        }
-    );
+    assert_eq!(rt; set.stats(), stats([8192, 1, 7816, 0]));
     set.alloc(&mut space, 8000)?;
-    assert_eq!(rt;
-        set.stats(),
-        Stats {
-            total: 24576,
-            blocks: 2,
-            free: 15960,
-            chunks: 6
-        }
-    );
-    Ok(())
-}
-
-#[test]
-fn a_second_block_and_an_own_one(rt: HostRuntime) -> Result<(), Fail> {
-    let mut space = Space::new(rt.alloc(), 1, 100_000)?;
-    let mut set = AllocSet::create(rt.alloc(), &mut space, 0, 7, GREAT)?;
-    set.alloc(&mut space, 8000)?;
-    assert_eq!(rt;
-        set.stats(),
-        Stats {
-            total: 24576,
-            blocks: 2,
-            free: 16096,
-            chunks: 7
-        }
-    );
-    let mut other = AllocSet::create(rt.alloc(), &mut space, 0, 8, GREAT)?;
-    other.alloc(&mut space, 8193)?;
-    assert_eq!(rt;
-        other.stats(),
-        Stats {
-            total: 16440,
-            blocks: 2,
-            free: 7952,
-            chunks: 0
-        }
-    );
+    assert_eq!(rt; set.stats(), stats([24576, 2, 15960, 6]));
     Ok(())
 }
 
@@ -86,44 +45,11 @@ fn small_sizes(rt: HostRuntime) -> Result<(), Fail> {
     let mut space = Space::new(rt.alloc(), 1, 3100)?;
     let mut set = AllocSet::create(rt.alloc(), &mut space, 0, 7, SMALL)?;
     set.alloc(&mut space, 1024)?;
-    assert_eq!(rt;
-        set.stats(),
-        Stats {
-            total: 3072,
-            blocks: 2,
-            free: 1760,
-            chunks: 2
-        }
-    );
+    assert_eq!(rt; set.stats(), stats([3072, 2, 1760, 2]));
     set.alloc(&mut space, 256)?;
-    assert_eq!(rt;
-        set.stats(),
-        Stats {
-            total: 3072,
-            blocks: 2,
-            free: 1496,
-            chunks: 1
-        }
-    );
+    assert_eq!(rt; set.stats(), stats([3072, 2, 1496, 1]));
     assert_eq!(rt; set.alloc(&mut space, 1025), Err(CtxError::NoSpace));
     assert_eq!(rt; space.held(0), 3072);
-    Ok(())
-}
-
-#[test]
-fn an_own_block(rt: HostRuntime) -> Result<(), Fail> {
-    let mut space = Space::new(rt.alloc(), 1, 3100)?;
-    let mut set = AllocSet::create(rt.alloc(), &mut space, 0, 7, SMALL)?;
-    set.alloc(&mut space, 1025)?;
-    assert_eq!(rt;
-        set.stats(),
-        Stats {
-            total: 2104,
-            blocks: 2,
-            free: 784,
-            chunks: 0
-        }
-    );
     Ok(())
 }
 
@@ -147,17 +73,6 @@ fn course(alloc: Global, sizes: Sizes, size: u64) -> Result<([Stats; 3], u64), F
     let emptied = set.stats();
     set.discard(&mut space);
     Ok(([taken, freed, emptied], space.held(0)))
-}
-
-// Total, blocks, free and chunks.
-fn stats(numbers: [u64; 4]) -> Stats {
-    let [total, blocks, free, chunks] = numbers;
-    Stats {
-        total,
-        blocks,
-        free,
-        chunks,
-    }
 }
 
 #[test]
@@ -290,15 +205,7 @@ fn an_own_block_is_resized(rt: HostRuntime) -> Result<(), Fail> {
     let mut set = AllocSet::create(rt.alloc(), &mut space, 0, 7, GREAT)?;
     let at = set.alloc(&mut space, 9000)?;
     set.realloc(&mut space, at, 0, 20_000)?;
-    assert_eq!(rt;
-        set.stats(),
-        Stats {
-            total: 28240,
-            blocks: 2,
-            free: 7952,
-            chunks: 0
-        }
-    );
+    assert_eq!(rt; set.stats(), stats([28240, 2, 7952, 0]));
     Ok(())
 }
 
