@@ -56,7 +56,7 @@ returns-clause-moves c =
     let l : Layout = layout_of (books c) in
     let number = c.in-Ok-take.at.region in
     elim c.if-size-ge240.branch [
-      then-size-ge240 w ↦
+      | then-size-ge240 w ↦
           let wrote : Changes c.take.new.self w.write.new.self number (overwritten (region_at c.take.new.self number) 200 (map Some (block_bytes c.args.context c.args.size))) =
           subst (λ b. Changes c.take.new.self w.write.new.self number (overwritten (region_at c.take.new.self number) 200 (map Some b))) w.block_header.ensures w.write.ensures.changes in
           subst (λ s. Moves (nothing c.args.account c.args.context) (footprint l) c.args.space.now s) (sym w.space-is)

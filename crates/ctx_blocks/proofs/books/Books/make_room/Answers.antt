@@ -10,7 +10,7 @@ pub returns-then-is_err-clause-kept : goal.returns-then-is_err-clause-kept
 returns-then-is_err-clause-kept c =
     let b : Books = c.args.self.now in
     elim c.then-is_err.branch [
-      then-is_err-via-then-is_err w ↦ subst IsKept (sym w.self-is) (IsKept-spare b (record b { chunks = c.reserve.new.self }) refl refl c.reserve.ensures.entries c.requires)
+      | then-is_err-via-then-is_err w ↦ subst IsKept (sym w.self-is) (IsKept-spare b (record b { chunks = c.reserve.new.self }) refl refl c.reserve.ensures.entries c.requires)
       | then-is_err-via-else-is_err+then-is_err-2 w ↦ subst IsKept (sym w.self-is) (IsKept-spare b (record b { blocks = w.reserve-else-is_err.new.self; chunks = c.reserve.new.self }) refl w.reserve-else-is_err.ensures.entries c.reserve.ensures.entries c.requires)
     ]
 
@@ -23,7 +23,7 @@ pub returns-then-is_err-clause-footprint : goal.returns-then-is_err-clause-footp
 returns-then-is_err-clause-footprint c =
     let b : Books = c.args.self.now in
     elim c.then-is_err.branch [
-      then-is_err-via-then-is_err w ↦ subst (λ (x : Books). footprint (layout_of x) ≡ footprint (layout_of b)) (sym w.self-is) (footprint_same b (record b { chunks = c.reserve.new.self }) refl refl c.reserve.ensures.entries)
+      | then-is_err-via-then-is_err w ↦ subst (λ (x : Books). footprint (layout_of x) ≡ footprint (layout_of b)) (sym w.self-is) (footprint_same b (record b { chunks = c.reserve.new.self }) refl refl c.reserve.ensures.entries)
       | then-is_err-via-else-is_err+then-is_err-2 w ↦ subst (λ (x : Books). footprint (layout_of x) ≡ footprint (layout_of b)) (sym w.self-is) (footprint_same b (record b { blocks = w.reserve-else-is_err.new.self; chunks = c.reserve.new.self }) refl w.reserve-else-is_err.ensures.entries c.reserve.ensures.entries)
     ]
 
