@@ -82,32 +82,25 @@ fn a_chunk_is_placed(rt: HostRuntime) -> Result<(), Fail> {
     blocks.make_room()?;
     let number = blocks.keeper();
     let at = blocks.cut(&mut space, number, 20, 24, false);
-    blocks.remove(at);
+    let there = Addr {
+        region: number,
+        offset: 248,
+    };
+    assert_eq!(rt; at, there);
+    let _was = blocks.chunk(there).ok_or("no chunk")?;
+    blocks.remove(there);
     blocks.make_room()?;
-    blocks.place(&mut space, at, 16, 24);
+    let free = blocks.block(number).ok_or("no block")?;
+    assert_eq!(rt; free.size, 1024);
+    assert_eq!(rt; free.room, 752);
+    assert_eq!(rt; free.freed, 1);
+    blocks.place(&mut space, there, 16, 24);
     let block = Block {
         size: 1024,
         room: 752,
         live: 1,
         freed: 0,
     };
-    assert_eq!(rt; (at.offset, blocks.block(number)), (248, Some(block)));
-    Ok(())
-}
-
-#[test]
-fn bytes_are_carried(rt: HostRuntime) -> Result<(), Fail> {
-    let mut space = Space::new(rt.alloc(), 1, 100_000)?;
-    let mut blocks = Blocks::create(rt.alloc(), &mut space, Kind::Slab, 0, 7, 1024)?;
-    blocks.make_room()?;
-    let number = blocks.keeper();
-    let from = blocks.cut(&mut space, number, 2, 8, false);
-    blocks.make_room()?;
-    let to = blocks.cut(&mut space, number, 2, 8, false);
-    space.write(from, &[7, 9]);
-    blocks.carry(&mut space, from, to, 2);
-    let mut bytes = [0u8; 2];
-    space.read(to, &mut bytes);
-    assert_eq!(rt; bytes, [7, 9]);
+    assert_eq!(rt; blocks.block(number), Some(block));
     Ok(())
 }
