@@ -1,17 +1,16 @@
 -- Lemmas on steps after which a context has no more chunks and blocks than before.
-use Rattle.std.proofs.Common.{◌≡◌, ◌≢◌, ℕ, ◌+◌, ◌-◌, ◌<◌, ◌≤◌, ◌⊎◌, ◌==◌, if◌then◌else◌, List, length, Option, Some, None, false, refl, sym, ap, ◌∙◌, subst, arith, inl, inr}
-use Rattle.std.proofs.lemmas.Bool.{cases_eq}
+use Rattle.std.proofs.Common.{◌≡◌, ◌≢◌, ℕ, ◌+◌, ◌-◌, ◌≤◌, ◌==◌, if◌then◌else◌, List, Some, None, refl, sym, ap, ◌∙◌, arith, inl, inr}
 use Rattle.addr_space.specs.declared.Addr.{Addr}
 use Rattle.addr_space.specs.Space.{Space, Changes, held}
-use Rattle.addr_space.specs.Footprint.{Agrees, Moves, Keeps, counted}
+use Rattle.addr_space.specs.Footprint.{Agrees, Moves, counted}
 use Rattle.addr_space.proofs.Steps.{Moves-still, Moves-give}
 use Rattle.chunk_header.specs.Header.{header_bytes, block_bytes}
 use Rattle.ctx_blocks.specs.Layout.{Layout, block_at, chunk_at, start_of, gap_of, header_room, header_of, whole_of, total, mark_of, footprint}
-use Rattle.ctx_blocks.specs.Kept.{IsFilled, IsLaid, IsSized}
+use Rattle.ctx_blocks.specs.Kept.{IsFilled, IsLaid}
 use Rattle.ctx_blocks.specs.Steps.{SameContext, MovesStill}
 use Rattle.ctx_blocks.specs.declared.parts.Block.{Block}
 use Rattle.ctx_blocks.specs.declared.parts.Chunk.{Chunk}
-use Rattle.ctx_blocks.proofs.Laid.{mark_cases, mark_from_block, mark_from_chunk, from_region, from_live, region_is, one_value, behind, IsSound-laid}
+use Rattle.ctx_blocks.proofs.Laid.{mark_cases, mark_from_block, mark_from_chunk, region_is, one_value, behind, IsSound-laid}
 
 -- each chunk and each block was there, with the same bytes; a block in which chunks are has no more room
 pub record Lessens (l m : Layout) : Type 0 where

@@ -1,5 +1,5 @@
 -- Lemmas on books for which room was made.
-use Rattle.std.proofs.Common.{◌≡◌, ℕ, List, refl, sym, ap, ◌∙◌, subst, arith}
+use Rattle.std.proofs.Common.{◌≡◌, ℕ, refl, sym, ap, ◌∙◌, subst, arith}
 use Rattle.indexmap.specs.IndexMap.{spare}
 use Rattle.ctx_blocks.specs.Layout.{Layout, total, mark_of, footprint}
 use Rattle.ctx_blocks.specs.Kept.{layout_of, IsLaid, IsCounted, IsFirst, IsKept}

@@ -1,8 +1,8 @@
-use Rattle.std.proofs.Common.{◌≡◌, ℕ, ◌∷◌, [], ◌-◌, List, map, Some, ap, ◌∙◌, sym, subst, refl, arith}
-use Rattle.addr_space.specs.Space.{Space, Changes, region_at, overwritten}
+use Rattle.std.proofs.Common.{◌≡◌, ◌∷◌, [], ◌-◌, map, Some, ap, ◌∙◌, sym, subst, refl, arith}
+use Rattle.addr_space.specs.Space.{Changes, region_at, overwritten}
 use Rattle.addr_space.specs.Footprint.{Moves, nothing}
 use Rattle.chunk_header.specs.Header.{block_bytes}
-use Rattle.ctx_blocks.specs.Layout.{Layout, total, footprint}
+use Rattle.ctx_blocks.specs.Layout.{Layout, footprint}
 use Rattle.ctx_blocks.specs.Kept.{layout_of, IsFilled}
 use Rattle.ctx_blocks.specs.Steps.{with_block}
 use Rattle.ctx_blocks.specs.declared.parts.Block.{Block}
