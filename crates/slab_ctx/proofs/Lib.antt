@@ -1,1 +1,5 @@
 pub mod Numbers
+pub mod Puts
+pub mod Slotted
+pub mod Taken
+pub mod Places

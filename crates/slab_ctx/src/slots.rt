@@ -260,6 +260,7 @@ impl Slots {
         ensures block { (b : Block) × (block_at self.old.blocks at.region ≡ Some b) × (1 ≤ b.live) × Counts self.old.blocks self.new.blocks at.region (b.live - 1) }
         ensures moves { MovesStill self.old.blocks self.new.blocks }
     {
+        self.blocks.laid();
         let freed = self.owned(at.region).freed;
         let _ = self.blocks.remove(at);
         push(&mut self.stacks, at.region, freed, at.offset as u16);
