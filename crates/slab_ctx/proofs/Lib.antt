@@ -3,3 +3,8 @@ pub mod Puts
 pub mod Slotted
 pub mod Taken
 pub mod Places
+pub mod Lives
+pub mod Best
+pub mod Full
+pub mod Sums
+pub mod Listed

@@ -1,5 +1,5 @@
 -- What contracts see of a Slab: its ledger, and where its blocks and chunks are.
-use Rattle.std.specs.Prelude.{ℕ, ◌+◌, ◌-◌, ◌%◌, ◌==◌, ◌&&◌, Bool, List, [], ◌∷◌, Option, Some, None, map, nat_le, if◌then◌else◌}
+use Rattle.std.specs.Prelude.{ℕ, suc, ◌+◌, ◌-◌, ◌%◌, ◌==◌, ◌&&◌, Bool, List, [], ◌∷◌, Option, Some, None, map, nat_le, if◌then◌else◌}
 use Rattle.addr_space.specs.declared.Addr.{Addr}
 use Rattle.addr_space.specs.Footprint.{Footprint}
 use Rattle.ctx_blocks.specs.Layout.{Layout, block_at, chunk_at, footprint as footprint_of}
@@ -35,7 +35,7 @@ lives_of l = map live_of (others l.blocks)
 -- how many of a list of blocks stand before that of a region
 abbrev pub place_in : List (ℕ × Block) → ℕ → ℕ
 place_in [] number = 0
-place_in (e ∷ es) number = if number == e.0 then 0 else place_in es number + 1
+place_in (e ∷ es) number = if number == e.0 then 0 else suc (place_in es number)
 
 abbrev pub place_of : SlabState → ℕ → ℕ
 place_of s number = place_in (others s.layout.blocks) number

@@ -20,6 +20,24 @@ const LARGEST: u64 = 1_073_741_823;
 // As many empty blocks as are kept.
 const MOST_EMPTY: u64 = 10;
 
+// A block with fewer free chunks than others, and how many those are, or one more than all where there is none.
+#[derive(Clone, Copy)]
+struct Best {
+    number: Option<u32>,
+    fewest: u32,
+}
+
+// The better of the best block so far and another one: the one with fewer free chunks, but at least one.
+fn better(best: Best, number: u32, free: u32) -> Best {
+    if free > 0 && free < best.fewest {
+        return Best {
+            number: Some(number),
+            fewest: free,
+        };
+    }
+    best
+}
+
 impl Books {
     // The books of a new context, whose first region was taken.
     pub fn create(
@@ -57,16 +75,15 @@ impl Books {
     // The block with the fewest free chunks but at least one, the earliest of such ones.
     fn fullest(&self) -> Option<u32> {
         let per_block = per_block(self.slots.size);
-        let mut best = None;
-        let mut most = 0;
-        for index in 1..self.slots.blocks.len() {
-            let (number, block) = self.slots.blocks.at(index);
-            if block.live < per_block && (best.is_none() || most < block.live) {
-                best = Some(number);
-                most = block.live;
-            }
+        let mut best = Best {
+            number: None,
+            fewest: per_block + 1,
+        };
+        for index in 0..self.slots.blocks.len() - 1 {
+            let (number, block) = self.slots.blocks.at(index + 1);
+            best = better(best, number, per_block - block.live);
         }
-        best
+        best.number
     }
 
     // Takes a chunk of a block that has a free one.
