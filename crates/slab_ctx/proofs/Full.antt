@@ -124,11 +124,11 @@ Agrees-plain size l sp bare_agrees =
     }
 
 -- the steps, with the free chunks
-pub Moves-full : (size : ℕ) (l m : Layout) (t : List (ℕ × Vec ℕ)) (sp sq : Space) → IsSlotted m size t → Moves (footprint_of l) (footprint_of m) sp sq → Moves (full size (bare l)) (full size (bare m)) sp sq
+pub Moves-full : (size now : ℕ) (l m : Layout) (t : List (ℕ × Vec ℕ)) (sp sq : Space) → now ≡ size → IsSlotted m now t → Moves (footprint_of l) (footprint_of m) sp sq → Moves (full size (bare l)) (full now (bare m)) sp sq
 unfolding counted
-Moves-full size l m t sp sq slotted moves =
-    let more : Moves (full size l) (full size m) sp sq = record {
-      agrees = Agrees-full m size t slotted sq moves.agrees;
+Moves-full size now l m t sp sq same slotted moves =
+    let more : Moves (full size l) (full now m) sp sq = record {
+      agrees = Agrees-full m now t slotted sq moves.agrees;
       account = moves.account;
       context = moves.context;
       outside = moves.outside;
@@ -136,7 +136,7 @@ Moves-full size l m t sp sq slotted moves =
       limit = moves.limit;
       held = moves.held;
     } in
-    subst (λ f. Moves f (full size (bare m)) sp sq) (sym (full-bare size l)) (subst (λ g. Moves (full size l) g sp sq) (sym (full-bare size m)) more)
+    subst (λ f. Moves f (full now (bare m)) sp sq) (sym (full-bare size l)) (subst (λ g. Moves (full size l) g sp sq) (sym (full-bare now m)) more)
 
 pub Moves-made : (size account context : ℕ) (m : Layout) (t : List (ℕ × Vec ℕ)) (sp sq : Space) → IsSlotted m size t → Moves (nothing account context) (footprint_of m) sp sq → Moves (nothing account context) (full size (bare m)) sp sq
 unfolding counted

@@ -8,3 +8,8 @@ pub mod Best
 pub mod Full
 pub mod Sums
 pub mod Listed
+pub mod Bounds
+pub mod KeptSteps
+pub mod Chosen
+pub mod Freed
+pub mod Served

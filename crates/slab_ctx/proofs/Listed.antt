@@ -12,7 +12,7 @@ use Rattle.slab_ctx.specs.Slots.{first_region}
 use Rattle.slab_ctx.specs.Counts.{Counts}
 use Rattle.slab_ctx.specs.Kept.{IsListed}
 use Rattle.slab_ctx.proofs.Sums.{sum_by-insert}
-use Rattle.slab_ctx.proofs.Lives.{find, ne_test, lives-put, put-new, place-new, lives-new, alone-put, alone-drop, place-found, lives-drop}
+use Rattle.slab_ctx.proofs.Lives.{find, ne_test, lives-put, put-new, place-new, lives-new, alone-put, alone-drop, place-found, place-kept, lives-drop}
 
 -- a context without blocks
 pub IsListed-none : (l : Layout) → l.blocks ≡ (l.keeper, first_region) ∷ [] → IsListed l
@@ -72,6 +72,9 @@ module _ (l : Layout) (listed : IsListed l) (number : ℕ) (differs : number ≢
         pub lives-changed : lives_of m ≡ slice_set (lives_of l) (place_in (others l.blocks) number) now.live
         lives-changed = ap (map live_of) others-put ∙ lives-put number now (others l.blocks) b (find-other ∙ found)
 
+        pub place-changed : place_in (others m.blocks) number ≡ place_in (others l.blocks) number
+        place-changed = ap (λ es. place_in es number) others-put ∙ place-kept number now (others l.blocks) b (find-other ∙ found)
+
         pub total-changed : now.size ≡ b.size → total m ≡ total l
         total-changed bytes =
             let f = λ (x : Block). x.size in
@@ -97,3 +100,10 @@ sum-set f xs i x within = sum_by-set f xs i x 0 within
 
 pub sum-remove : (f : ℕ → ℕ) (xs : List ℕ) (i : ℕ) → i < length xs → sum_by f (remove xs i) + f (slice_index xs i) ≡ sum_by f xs
 sum-remove f xs i within = sum_by-remove f xs i 0 within
+
+-- no block changes
+pub IsListed-same : (l m : Layout) → IsListed l → m.keeper ≡ l.keeper → m.blocks ≡ l.blocks → IsListed m
+IsListed-same l m listed keeper blocks = record {
+  shape = blocks ∙ listed.shape ∙ ap (λ k. (k, first_region) ∷ others l.blocks) (sym keeper) ∙ ap (λ es. (m.keeper, first_region) ∷ others es) (sym blocks);
+  alone = ap (λ k. find k (others m.blocks)) keeper ∙ ap (λ es. find l.keeper (others es)) blocks ∙ listed.alone;
+}

@@ -37,6 +37,16 @@ module _ (number : ℕ) (now : Block) where
   lives-put [] b found = absurd (cc)
   lives-put (e ∷ es) b found = put_step e es b (number == e.0) (lives-put es b) found
 
+  kept_step : (e : ℕ × Block) (es : List (ℕ × Block)) (b : Block) (t : Bool) → (number == e.0) ≡ t → (find number es ≡ Some b → place_in (with_block es number now) number ≡ place_in es number) → (if t then Some e.1 else find number es) ≡ Some b
+      → place_in (if t then (e.0, now) ∷ es else e ∷ with_block es number now) number ≡ (if t then 0 else suc (place_in es number))
+  kept_step e es b true is rest found = ap (λ t. if t then 0 else suc (place_in es number)) is
+  kept_step e es b false is rest found = ap (λ t. if t then 0 else suc (place_in (with_block es number now) number)) is ∙ ap suc (rest found)
+
+  -- it keeps its place
+  pub place-kept : (es : List (ℕ × Block)) (b : Block) → find number es ≡ Some b → place_in (with_block es number now) number ≡ place_in es number
+  place-kept [] b found = absurd (cc)
+  place-kept (e ∷ es) b found = kept_step e es b (number == e.0) refl (place-kept es b) found
+
   new_step : (e : ℕ × Block) (es : List (ℕ × Block)) (t : Bool) → (find number es ≡ None → with_block es number now ≡ es ++ (number, now) ∷ []) → (if t then Some e.1 else find number es) ≡ None
       → (if t then (e.0, now) ∷ es else e ∷ with_block es number now) ≡ (e ∷ es) ++ (number, now) ∷ []
   new_step e es true rest none = absurd (cc)
