@@ -82,11 +82,14 @@ take-right l left size small same =
     ap (λ t. if t then Err TooBig else (if l.size == size then step else Err WrongSize)) test ∙ ap (λ t. if t then step else Err WrongSize) equal
 
 -- serving is never refused for the size
+not_wrong : (l : SlabLedger) (t : Bool) → (if t then Ok l else Err NoSpace) ≡ Err WrongSize → ⊥
+not_wrong l true e = cc
+not_wrong l false e = cc
+
 pub serve-not_wrong : (l : SlabLedger) (left : ℕ) (chosen : Option ℕ) → serve l left chosen ≢ Err WrongSize
 unfolding serve
-serve-not_wrong l left (Some count) is = let e : Ok (record { size = l.size; lives = raised count l.lives }) ≡ Err WrongSize = is in absurd (cc)
-serve-not_wrong l left None is = by (nat_le 8192 left) is
-  where
-    by : (t : Bool) → (if t then Ok (record { size = l.size; lives = l.lives ++ 1 ∷ [] }) else Err NoSpace) ≡ Err WrongSize → ⊥
-    by true e = cc
-    by false e = cc
+serve-not_wrong l left (Some count) is =
+    let next : SlabLedger = record l { lives = raised count l.lives } in
+    let e : Ok next ≡ Err WrongSize = is in
+    absurd (cc)
+serve-not_wrong l left None is = not_wrong (record l { lives = l.lives ++ 1 ∷ [] }) (nat_le 8192 left) is

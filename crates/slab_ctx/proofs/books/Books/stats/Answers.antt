@@ -20,7 +20,7 @@ returns c =
     let b = c.args.self.now in
     let l = b.slots.blocks in
     let total : c.total.result ≡ 200 + 8192 * length (lives_of l) = c.total.ensures.total ∙ c.requires.bytes in
-    let blocks : c.len.result - 1 ≡ length (lives_of l) = omega (arith, c.len.ensures, length-listed l c.requires.listed, length-map live_of (others l.blocks)) in
+    let blocks : c.len.result - 1 ≡ length (lives_of l) = omega (arith, c.len.ensures, length-listed l c.requires.listed, length-map (others l.blocks) live_of) in
     let free : c.from.result * b.free ≡ stride b.slots.size * free_chunks (ledger_of b) = ap (λ n. n * b.free) (c.from.ensures ∙ c.stride.ensures.value) ∙ ap (λ n. stride b.slots.size * n) c.requires.free in
     let first : Stats = record { total = c.total.result; blocks = c.len.result - 1; free = c.from.result * b.free; chunks = b.free } in
     ap (λ n. record first { total = n }) total
