@@ -1,0 +1,16 @@
+pub mod Entries
+pub mod Laid
+pub mod Counts
+pub mod Headed
+pub mod New
+pub mod Lessened
+pub mod Totals
+pub mod Refilled
+pub mod Spared
+pub mod Held
+pub mod Cuts
+pub mod Added
+pub mod Dropped
+pub mod Cleared
+pub mod Summed
+pub mod Carried

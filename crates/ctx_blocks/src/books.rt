@@ -192,6 +192,7 @@ impl Books {
         requires { IsKept self.old }
         ensures kept { IsKept self.new }
         ensures same { layout_of self.new ≡ record (layout_of self.old) { spare_blocks = (layout_of self.new).spare_blocks; spare_chunks = (layout_of self.new).spare_chunks } }
+        ensures footprint { footprint (layout_of self.new) ≡ footprint (layout_of self.old) }
         ensures spare_blocks { OnOk result (1 ≤ spare self.new.blocks) }
         ensures spare_chunks { OnOk result (1 ≤ spare self.new.chunks) }
         ensures only_memory { IfErr result (λ e. e ≡ CtxError.Memory) }
@@ -474,10 +475,11 @@ impl Books {
         space.give(at);
     }
 
-    // Forgets all chunks, and gives all blocks but so many first ones back.
+    // Forgets all chunks, and gives all blocks back, or all but the first one.
     fn shrink(&mut self, space: &mut Space, first: usize)
         requires kept { IsKept self.old }
         requires agrees { Agrees (footprint (layout_of self.old)) space.old }
+        requires few { first ≤ 1 }
         ensures laid { IsLaid (layout_of self.new) }
         ensures total { self.new.total ≡ total (layout_of self.new) }
         ensures rest { self.new ≡ record self.old { blocks = self.new.blocks; chunks = self.new.chunks; total = self.new.total } }

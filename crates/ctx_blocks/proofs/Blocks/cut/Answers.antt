@@ -1,0 +1,4 @@
+use Rattle.ctx_blocks.proofs.Blocks.cut.Goals as goal
+
+pub returns-clause-keeps : goal.returns-clause-keeps
+returns-clause-keeps c = rw (← c.self.view_is) c.cut.ensures.keeps

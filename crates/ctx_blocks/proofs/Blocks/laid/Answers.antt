@@ -1,0 +1,16 @@
+use Rattle.ctx_blocks.proofs.Laid.{chunks_clear}
+use Rattle.ctx_blocks.proofs.Counts.{none_in, some_in}
+use Rattle.ctx_blocks.specs.Kept.{layout_of}
+use Rattle.ctx_blocks.proofs.Blocks.laid.Goals as goal
+
+pub returns-clause-filled : goal.returns-clause-filled
+returns-clause-filled c = rw (← c.self.view_is) c.self.invariant.laid.filled
+
+pub returns-clause-apart : goal.returns-clause-apart
+returns-clause-apart c = rw (← c.self.view_is) (chunks_clear (layout_of c.self.inside.books) c.self.invariant.laid)
+
+pub returns-clause-empty : goal.returns-clause-empty
+returns-clause-empty c = rw (← c.self.view_is) (none_in (layout_of c.self.inside.books) c.self.invariant.counted)
+
+pub returns-clause-some : goal.returns-clause-some
+returns-clause-some c = rw (← c.self.view_is) (some_in (layout_of c.self.inside.books) c.self.invariant.counted)

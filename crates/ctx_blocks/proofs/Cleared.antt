@@ -1,0 +1,58 @@
+-- Lemmas on a context whose chunks are forgotten and whose last blocks go.
+use Rattle.std.proofs.Common.{◌≡◌, ℕ, ◌+◌, ◌-◌, ◌<◌, ◌≤◌, ◌==◌, List, [], ◌∷◌, length, take, Option, Some, None, Bool, true, if◌then◌else◌, refl, sym, ap, ◌∙◌, arith, sum_by}
+use Rattle.std.specs.Map.{lookup, values_of}
+use Rattle.std.proofs.lemmas.Bool.Decides.{nat_tests}
+use Rattle.std.proofs.lemmas.List.{take-take, take_all}
+use Rattle.addr_space.specs.declared.Addr.{Addr}
+use Rattle.ctx_blocks.specs.Layout.{Layout, same_addr, block_at, chunk_at, then_option, footprint}
+use Rattle.ctx_blocks.specs.Kept.{IsLaid, IsFirst}
+use Rattle.ctx_blocks.specs.Steps.{SameContext, with_block}
+use Rattle.ctx_blocks.specs.declared.parts.Block.{Block}
+use Rattle.addr_space.specs.Space.{Space}
+use Rattle.addr_space.specs.Footprint.{Agrees, Moves, nothing}
+use Rattle.addr_space.proofs.Steps.{Moves-still}
+use Rattle.ctx_blocks.proofs.New.{Agrees-nothing}
+use Rattle.ctx_blocks.proofs.Lessened.{Lessens}
+
+pub Lessens-cleared : (l m : Layout) → IsLaid l → SameContext l m → m.blocks ≡ l.blocks → m.chunks ≡ [] → Lessens l m
+Lessens-cleared l m laid same blocks chunks =
+    let none : (at : Addr) → chunk_at m at ≡ None = λ at. ap (λ es. lookup (same_addr at) es) chunks in
+    let still : (number : ℕ) → block_at m number ≡ block_at l number = λ number. ap (λ es. lookup (λ n. number == n) es) blocks in
+    record {
+      same = same;
+      chunk = λ at c found. let gone = none at in absurd (cc);
+      block = λ number b has. let had = sym (still number) ∙ has in (b, had, refl, laid.filled number b had);
+      under = λ at c found. let gone = none at in absurd (cc);
+    }
+
+-- the first block is there
+pub first-length : (keeper : ℕ) (blocks : List (ℕ × Block)) → IsFirst keeper blocks → 1 ≤ length blocks
+first-length keeper [] first = absurd first
+first-length keeper (e ∷ es) first = omega arith
+
+-- one entry less of the first ones
+pub take-less : {X : Type 0} (all now new : List X) → now ≡ take (length now) all → new ≡ take (length now - 1) now → length new + 1 ≡ length now → new ≡ take (length new) all
+take-less all now new is less len =
+    let short : length now - 1 ≡ length new = omega (arith, len) in
+    less ∙ ap (λ n. take n now) short ∙ ap (take (length new)) is ∙ take-take (length new) (length now) all (omega (arith, len))
+
+-- the keeper alone
+pub first_only : (keeper : ℕ) (blocks : List (ℕ × Block)) → IsFirst keeper blocks → (b : Block) × (take 1 blocks ≡ (keeper, b) ∷ []) × (lookup (λ n. keeper == n) blocks ≡ Some b)
+first_only keeper [] first = absurd first
+first_only keeper (e ∷ es) first =
+    let test : (keeper == e.0) ≡ true = grind (arith, nat_tests) in
+    (e.1, ap (λ k. (k, e.1) ∷ []) first, ap (λ b. if b then Some e.1 else lookup (λ n. keeper == n) es) test)
+
+pub put_only : (keeper : ℕ) (old new : Block) → with_block ((keeper, old) ∷ []) keeper new ≡ (keeper, new) ∷ []
+put_only keeper old new =
+    let test : (keeper == keeper) ≡ true = grind (arith, nat_tests) in
+    ap (λ b. if b then (keeper, new) ∷ [] else (keeper, old) ∷ (keeper, new) ∷ []) test
+
+-- a context without blocks has nothing
+pub Moves-nothing : (l : Layout) (account context : ℕ) → l.blocks ≡ [] → account ≡ l.account → context ≡ l.context → (s : Space) → Agrees (footprint l) s → Moves (footprint l) (nothing account context) s s
+Moves-nothing l account context blocks same_account same_context s agrees =
+    let f : Block → ℕ = λ b. b.size in
+    Moves-still (footprint l) (nothing account context) s agrees (Agrees-nothing account context s (omega (arith, agrees.account, same_account))).sound same_account same_context
+    (sym (ap (λ es. sum_by f (values_of es)) blocks))
+    (λ number. sym (ap (λ es. then_option (lookup (λ n. number == n) es) (λ b. Some b.size)) blocks))
+    (λ at bytes marked. absurd (cc))

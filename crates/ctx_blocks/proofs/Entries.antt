@@ -1,0 +1,45 @@
+-- Lemmas on the sums over a map's entries.
+use Rattle.std.proofs.Common.{◌≡◌, ℕ, ◌+◌, ◌≤◌, List, [], ◌∷◌, Bool, true, false, if◌then◌else◌, Option, Some, None, unwrap_or, option_map, is_some, sum_by, arith, refl, ap}
+use Rattle.std.proofs.lemmas.List.Sums.{sum_by-cons}
+use Rattle.std.specs.Map.{lookup, values_of}
+use Rattle.indexmap.specs.IndexMap.{insert_entry, shift_remove_entry}
+
+module _ {K X : Type 0} (eq : K → K → Bool) (k : K) (v : X) where
+  insert_step : (f : X → ℕ) (e : K × X) (es : List (K × X)) (b : Bool) → sum_by f (values_of (insert_entry eq es k v)) + unwrap_or (option_map f (lookup (eq k) es)) 0 ≡ sum_by f (values_of es) + f v → sum_by f (values_of (if b then (e.0, v) ∷ es else e ∷ insert_entry eq es k v)) + unwrap_or (option_map f (if b then Some e.1 else lookup (eq k) es)) 0 ≡ sum_by f (values_of (e ∷ es)) + f v
+  insert_step f e es true rest = omega (arith, sum_by-cons f v (values_of es), sum_by-cons f e.1 (values_of es))
+  insert_step f e es false rest = omega (arith, rest, sum_by-cons f e.1 (values_of (insert_entry eq es k v)), sum_by-cons f e.1 (values_of es))
+
+  -- what a sum gains where a value is put at a key
+  pub sum_by-insert : (f : X → ℕ) (es : List (K × X)) → sum_by f (values_of (insert_entry eq es k v)) + unwrap_or (option_map f (lookup (eq k) es)) 0 ≡ sum_by f (values_of es) + f v
+  sum_by-insert f [] = omega (arith, sum_by-cons f v [])
+  sum_by-insert f (e ∷ es) = insert_step f e es (eq k e.0) (sum_by-insert f es)
+
+  count_step : (g : K → ℕ) (e : K × X) (es : List (K × X)) (b : Bool) → (b ≡ true → g e.0 ≡ g k)
+      → sum_by (λ p. g p.0) (insert_entry eq es k v) + (if is_some (lookup (eq k) es) then g k else 0) ≡ sum_by (λ p. g p.0) es + g k
+      → sum_by (λ p. g p.0) (if b then (e.0, v) ∷ es else e ∷ insert_entry eq es k v) + (if is_some (if b then Some e.1 else lookup (eq k) es) then g k else 0) ≡ sum_by (λ p. g p.0) (e ∷ es) + g k
+  count_step g e es true same rest = let f : K × X → ℕ = λ p. g p.0 in omega (arith, sum_by-cons f (e.0, v) es, sum_by-cons f e es)
+  count_step g e es false same rest = let f : K × X → ℕ = λ p. g p.0 in omega (arith, rest, sum_by-cons f e (insert_entry eq es k v), sum_by-cons f e es)
+
+  -- what a count over the keys gains
+  pub count-insert : (g : K → ℕ) → ((q : K) → eq k q ≡ true → g q ≡ g k) → (es : List (K × X)) → sum_by (λ p. g p.0) (insert_entry eq es k v) + (if is_some (lookup (eq k) es) then g k else 0) ≡ sum_by (λ p. g p.0) es + g k
+  count-insert g congr [] = let f : K × X → ℕ = λ p. g p.0 in omega (arith, sum_by-cons f (k, v) [])
+  count-insert g congr (e ∷ es) = count_step g e es (eq k e.0) (congr e.0) (count-insert g congr es)
+
+module _ {K X : Type 0} (test : K → Bool) where
+  remove_step : (f : X → ℕ) (e : K × X) (es : List (K × X)) (b : Bool) → sum_by f (values_of (shift_remove_entry test es)) + unwrap_or (option_map f (lookup test es)) 0 ≡ sum_by f (values_of es) → sum_by f (values_of (if b then es else e ∷ shift_remove_entry test es)) + unwrap_or (option_map f (if b then Some e.1 else lookup test es)) 0 ≡ sum_by f (values_of (e ∷ es))
+  remove_step f e es true rest = omega (arith, sum_by-cons f e.1 (values_of es))
+  remove_step f e es false rest = omega (arith, rest, sum_by-cons f e.1 (values_of (shift_remove_entry test es)), sum_by-cons f e.1 (values_of es))
+
+  -- what a sum loses where a key is taken out
+  pub sum_by-remove : (f : X → ℕ) (es : List (K × X)) → sum_by f (values_of (shift_remove_entry test es)) + unwrap_or (option_map f (lookup test es)) 0 ≡ sum_by f (values_of es)
+  sum_by-remove f [] = refl
+  sum_by-remove f (e ∷ es) = remove_step f e es (test e.0) (sum_by-remove f es)
+
+  lookup_step : (g : K → ℕ) (n : ℕ) (x : X) (e : K × X) (es : List (K × X)) (b : Bool) → (b ≡ true → g e.0 ≡ n) → (lookup test es ≡ Some x → n ≤ sum_by (λ p. g p.0) es) → (if b then Some e.1 else lookup test es) ≡ Some x → n ≤ sum_by (λ p. g p.0) (e ∷ es)
+  lookup_step g n x e es true same rest found = let f : K × X → ℕ = λ p. g p.0 in omega (arith, same refl, sum_by-cons f e es)
+  lookup_step g n x e es false same rest found = let f : K × X → ℕ = λ p. g p.0 in omega (arith, rest found, sum_by-cons f e es)
+
+  -- an entry that is there is counted
+  pub lookup-counted : (g : K → ℕ) (n : ℕ) → ((q : K) → test q ≡ true → g q ≡ n) → (x : X) (es : List (K × X)) → lookup test es ≡ Some x → n ≤ sum_by (λ p. g p.0) es
+  lookup-counted g n congr x [] found = absurd (cc)
+  lookup-counted g n congr x (e ∷ es) found = lookup_step g n x e es (test e.0) (congr e.0) (lookup-counted g n congr x es) found

@@ -1,0 +1,62 @@
+-- Lemmas on the headers by which live chunks lead to their context.
+use Rattle.std.proofs.Common.{◌≡◌, ℕ, ◌+◌, ◌-◌, ◌%◌, ◌^◌, ◌<◌, ◌⊎◌, if◌then◌else◌, Bool, true, false, refl, ap, ◌∙◌, arith, inl, inr}
+use Rattle.std.specs.Map.{lookup}
+use Rattle.std.proofs.lemmas.Bool.{cases_eq}
+use Rattle.std.proofs.lemmas.Bool.Decides.{nat_tests}
+use Rattle.addr_space.specs.declared.Addr.{Addr}
+use Rattle.chunk_header.specs.declared.Kind.{Kind}
+use Rattle.chunk_header.specs.declared.Kind.TheVariants.{AllocSet, Slab, Generation, Bump, Aligned}
+use Rattle.chunk_header.specs.Header.{IsPackable, IsLeading, AllHeaded}
+use Rattle.ctx_blocks.specs.Layout.{Layout, same_addr, start_of, gap_of, header_room, header_of, footprint}
+use Rattle.ctx_blocks.specs.Kept.{IsLaid, IsSized}
+use Rattle.ctx_blocks.specs.declared.parts.Chunk.{Chunk}
+use Rattle.ctx_blocks.proofs.Laid.{from_live, behind, mark_from_block, mark_from_chunk}
+
+-- the value of a header has room in its word
+value_small : (own : Bool) (room : ℕ) → (own ≡ true) ⊎ (room < 2 ^ 30) → (if own then 0 else room) < 2 ^ 30
+value_small true room fits = omega arith
+value_small false room (inl clash) = absurd (cc)
+value_small false room (inr fits) = fits
+
+pub start_whole : (l : Layout) (number : ℕ) → start_of l number % 8 ≡ 0
+start_whole l number =
+    elim (cases_eq l.keeper number) [
+      | inl same ↦ grind (arith, nat_tests)
+      | inr differs ↦ grind (arith, nat_tests)
+    ]
+
+pub packable : (kind : Kind) (gap dist : ℕ) (chunk : Chunk) → IsSized gap chunk → dist < 2 ^ 32 → dist % 8 ≡ 0 → IsPackable (header_of kind chunk dist)
+packable kind gap dist chunk sized below whole = record { value = value_small chunk.own chunk.room sized.value; dist = below; whole = whole }
+
+leading : (kind : Kind) (chunk : Chunk) (dist : ℕ) → (kind ≡ Slab) ⊎ (kind ≡ Generation) → (gap_of kind ≡ 8) × IsLeading (header_of kind chunk dist)
+leading AllocSet chunk dist (inl clash) = absurd (cc)
+leading AllocSet chunk dist (inr clash) = absurd (cc)
+leading Slab chunk dist is = (refl, tt)
+leading Generation chunk dist is = (refl, tt)
+leading Bump chunk dist (inl clash) = absurd (cc)
+leading Bump chunk dist (inr clash) = absurd (cc)
+leading Aligned chunk dist (inl clash) = absurd (cc)
+leading Aligned chunk dist (inr clash) = absurd (cc)
+
+pub AllHeaded-laid : (l : Layout) → IsLaid l → (l.kind ≡ Slab) ⊎ (l.kind ≡ Generation) → AllHeaded (footprint l)
+AllHeaded-laid l laid is at n live =
+    let had = from_live l at n live in
+    let chunk = had.0 in
+    let placed = laid.placed at chunk had.1 in
+    let start = start_of l at.region in
+    let dist : ℕ = at.offset - 8 - start in
+    let filled = laid.filled at.region placed.block placed.owned in
+    let leads = leading l.kind chunk dist is in
+    let place : Addr = record { region = at.region; offset = at.offset - 8 } in
+    let back : at.offset - 8 + 8 ≡ at.offset = omega (arith, placed.first, leads.0) in
+    let found = ap (λ o. lookup (same_addr (record { region = at.region; offset = o })) l.chunks) back ∙ had.1 in
+    record {
+      header = header_of l.kind chunk dist;
+      size = placed.block.size;
+      packable = packable l.kind (header_room l) dist chunk placed.sized (omega (arith, placed.last, filled.small)) (omega (arith, placed.first, leads.0, placed.whole, start_whole l at.region));
+      leading = leads.1;
+      behind = omega (arith, placed.first, leads.0);
+      large = omega (arith, placed.first, leads.0, placed.last);
+      word = mark_from_chunk l place chunk (λ e. omega (arith, e, placed.first, leads.0)) found leads.0;
+      block = mark_from_block l (record { region = at.region; offset = at.offset - 8 - dist }) placed.block (omega (arith, placed.first, leads.0)) placed.owned (omega (arith, placed.first, placed.last));
+    }

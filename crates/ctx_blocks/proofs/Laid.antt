@@ -1,0 +1,240 @@
+-- Lemmas on where blocks and chunks are.
+use Rattle.std.proofs.Common.{◌≡◌, ◌≢◌, ℕ, ◌+◌, ◌-◌, ◌<◌, ◌≤◌, ◌⊎◌, ◌==◌, ◌&&◌, nat_le, if◌then◌else◌, List, length, Option, Some, None, true, false, refl, sym, ap, ◌∙◌, arith, inl, inr}
+use Rattle.std.specs.Map.{lookup}
+use Rattle.std.proofs.lemmas.Bool.{cases_eq, cases_lt}
+use Rattle.std.proofs.lemmas.Bool.Decides.{nat_tests}
+use Rattle.addr_space.specs.declared.Addr.{Addr}
+use Rattle.addr_space.specs.Footprint.{IsSound, IsWithin}
+use Rattle.chunk_header.specs.declared.Header.{Header}
+use Rattle.chunk_header.specs.declared.Kind.{Kind}
+use Rattle.chunk_header.specs.declared.Kind.TheVariants.{AllocSet, Slab, Generation, Bump, Aligned}
+use Rattle.chunk_header.specs.Header.{header_bytes, block_bytes}
+use Rattle.ctx_blocks.specs.Layout.{Layout, same_addr, block_at, chunk_at, start_of, gap_of, header_room, header_of, chunk_word, block_word, then_option, mark_of, footprint}
+use Rattle.ctx_blocks.specs.Kept.{IsLaid, IsClear}
+use Rattle.ctx_blocks.specs.Steps.{PutsChunk}
+use Rattle.ctx_blocks.specs.declared.parts.Block.{Block}
+use Rattle.ctx_blocks.specs.declared.parts.Chunk.{Chunk}
+
+-- a header has 8 bytes, and so has what is marked of a block's
+pub length-header_bytes : (h : Header) → length (header_bytes h) ≡ 8
+unfolding header_bytes
+length-header_bytes h = refl
+
+pub length-block_bytes : (context size : ℕ) → length (block_bytes context size) ≡ 8
+unfolding block_bytes
+length-block_bytes context size = refl
+
+-- a value that comes of an option
+pub from_then : {X Y : Type 0} (o : Option X) (f : X → Option Y) (y : Y) → then_option o f ≡ Some y → (x : X) × (o ≡ Some x) × (f x ≡ Some y)
+from_then None f y e = absurd (cc)
+from_then (Some x) f y e = (x, refl, e)
+
+-- an option has a value or none
+pub option_cases : {X : Type 0} (o : Option X) → (o ≡ None) ⊎ ((x : X) × (o ≡ Some x))
+option_cases None = inl refl
+option_cases (Some x) = inr (x, refl)
+
+-- one option has one value
+pub one_value : {X : Type 0} (o : Option X) (x y : X) → o ≡ Some x → o ≡ Some y → x ≡ y
+one_value o x y a b = let e : Some x ≡ Some y = sym a ∙ b in cc
+
+-- the length of a region of the context
+pub region_is : (l : Layout) (number : ℕ) (block : Block) → block_at l number ≡ Some block → (footprint l).region number ≡ Some block.size
+region_is l number block owned = ap (λ o. then_option o (λ b. Some b.size)) owned
+
+pub from_region : (l : Layout) (number len : ℕ) → (footprint l).region number ≡ Some len → (block : Block) × (block_at l number ≡ Some block) × (block.size ≡ len)
+from_region l number len owned = let it = from_then (block_at l number) (λ b. Some b.size) len owned in (it.0, it.1, let e = it.2 in cc)
+
+-- the size of a live chunk
+pub live_is : (l : Layout) (at : Addr) (chunk : Chunk) → chunk_at l at ≡ Some chunk → (footprint l).live at ≡ Some chunk.size
+live_is l at chunk found = ap (λ o. then_option o (λ c. Some c.size)) found
+
+pub from_live : (l : Layout) (at : Addr) (size : ℕ) → (footprint l).live at ≡ Some size → (chunk : Chunk) × (chunk_at l at ≡ Some chunk) × (chunk.size ≡ size)
+from_live l at size live = let it = from_then (chunk_at l at) (λ c. Some c.size) size live in (it.0, it.1, let e = it.2 in cc)
+
+-- a kind has headers of 8 bytes, or none
+pub gap_cases : (kind : Kind) → (gap_of kind ≡ 0) ⊎ (gap_of kind ≡ 8)
+gap_cases AllocSet = inr refl
+gap_cases Slab = inr refl
+gap_cases Generation = inr refl
+gap_cases Bump = inl refl
+gap_cases Aligned = inr refl
+
+word_cases : (kind : Kind) (chunk : Chunk) (dist : ℕ) (bytes : List ℕ) → chunk_word kind chunk dist ≡ Some bytes → (gap_of kind ≡ 8) × (header_bytes (header_of kind chunk dist) ≡ bytes)
+word_cases AllocSet chunk dist bytes e = (refl, cc)
+word_cases Slab chunk dist bytes e = (refl, cc)
+word_cases Generation chunk dist bytes e = (refl, cc)
+word_cases Bump chunk dist bytes e = absurd (cc)
+word_cases Aligned chunk dist bytes e = (refl, cc)
+
+pub word_is : (kind : Kind) (chunk : Chunk) (dist : ℕ) → gap_of kind ≡ 8 → chunk_word kind chunk dist ≡ Some (header_bytes (header_of kind chunk dist))
+word_is AllocSet chunk dist e = refl
+word_is Slab chunk dist e = refl
+word_is Generation chunk dist e = refl
+word_is Bump chunk dist e = absurd (omega (arith, e))
+word_is Aligned chunk dist e = refl
+
+block_word_cases : (context start : ℕ) (block : Block) (bytes : List ℕ) → block_word context start block ≡ Some bytes → (start + 40 ≤ block.size) × (block_bytes context block.size ≡ bytes)
+block_word_cases context start block bytes e =
+    elim (cases_lt block.size (start + 40)) [
+      | inl over ↦
+          let test : nat_le (start + 40) block.size ≡ false = grind (arith, nat_tests) in
+          let none = sym (ap (λ b. if b then Some (block_bytes context block.size) else None) test) ∙ e in
+          absurd (cc)
+      | inr fits ↦
+          let test : nat_le (start + 40) block.size ≡ true = grind (arith, nat_tests) in
+          let some = sym (ap (λ b. if b then Some (block_bytes context block.size) else None) test) ∙ e in
+          (fits, cc)
+    ]
+
+pub block_word_is : (context start : ℕ) (block : Block) → start + 40 ≤ block.size → block_word context start block ≡ Some (block_bytes context block.size)
+block_word_is context start block fits =
+    let test : nat_le (start + 40) block.size ≡ true = grind (arith, nat_tests) in
+    ap (λ b. if b then Some (block_bytes context block.size) else None) test
+
+-- where the chunk is whose header is at a place
+abbrev pub behind : Addr → Addr
+behind at = record { region = at.region; offset = at.offset + 8 }
+
+-- what is marked at a place: the header of a block, or that of a chunk
+pub mark_cases : (l : Layout) (at : Addr) (bytes : List ℕ) → mark_of l at ≡ Some bytes
+    → ((block : Block) × (at.offset ≡ start_of l at.region) × (block_at l at.region ≡ Some block) × (start_of l at.region + 40 ≤ block.size) × (block_bytes l.context block.size ≡ bytes))
+    ⊎ ((chunk : Chunk) × (at.offset ≢ start_of l at.region) × (chunk_at l (behind at) ≡ Some chunk) × (header_room l ≡ 8) × (header_bytes (header_of l.kind chunk (at.offset - start_of l at.region)) ≡ bytes))
+unfolding mark_of
+mark_cases l at bytes marked =
+    let block : Option (List ℕ) = then_option (block_at l at.region) (block_word l.context (start_of l at.region)) in
+    let other : Option (List ℕ) = then_option (chunk_at l (behind at)) (λ chunk. chunk_word l.kind chunk (at.offset - start_of l at.region)) in
+    elim (cases_eq at.offset (start_of l at.region)) [
+      | inl same ↦
+          let test : (at.offset == start_of l at.region) ≡ true = grind (arith, nat_tests) in
+          let it = from_then (block_at l at.region) (block_word l.context (start_of l at.region)) bytes (sym (ap (λ b. if b then block else other) test) ∙ marked) in
+          let word = block_word_cases l.context (start_of l at.region) it.0 bytes it.2 in
+          inl (it.0, same, it.1, word.0, word.1)
+      | inr differs ↦
+          let test : (at.offset == start_of l at.region) ≡ false = grind (arith, nat_tests) in
+          let it = from_then (chunk_at l (behind at)) (λ chunk. chunk_word l.kind chunk (at.offset - start_of l at.region)) bytes (sym (ap (λ b. if b then block else other) test) ∙ marked) in
+          let word = word_cases l.kind it.0 (at.offset - start_of l at.region) bytes it.2 in
+          inr (it.0, differs, it.1, word.0, word.1)
+    ]
+
+-- a mark, from what stands at its place
+pub mark_from_block : (l : Layout) (at : Addr) (block : Block) → at.offset ≡ start_of l at.region → block_at l at.region ≡ Some block → start_of l at.region + 40 ≤ block.size → mark_of l at ≡ Some (block_bytes l.context block.size)
+unfolding mark_of
+mark_from_block l at block first owned fits =
+    let test : (at.offset == start_of l at.region) ≡ true = grind (arith, nat_tests) in
+    let word : Option (List ℕ) = then_option (block_at l at.region) (block_word l.context (start_of l at.region)) in
+    let other : Option (List ℕ) = then_option (chunk_at l (behind at)) (λ chunk. chunk_word l.kind chunk (at.offset - start_of l at.region)) in
+    ap (λ b. if b then word else other) test ∙ ap (λ o. then_option o (block_word l.context (start_of l at.region))) owned ∙ block_word_is l.context (start_of l at.region) block fits
+
+pub mark_from_chunk : (l : Layout) (at : Addr) (chunk : Chunk) → at.offset ≢ start_of l at.region → chunk_at l (behind at) ≡ Some chunk → header_room l ≡ 8 → mark_of l at ≡ Some (header_bytes (header_of l.kind chunk (at.offset - start_of l at.region)))
+unfolding mark_of
+mark_from_chunk l at chunk differs found gap =
+    let test : (at.offset == start_of l at.region) ≡ false = grind (arith, nat_tests) in
+    let word : Option (List ℕ) = then_option (block_at l at.region) (block_word l.context (start_of l at.region)) in
+    let other : Option (List ℕ) = then_option (chunk_at l (behind at)) (λ chunk. chunk_word l.kind chunk (at.offset - start_of l at.region)) in
+    ap (λ b. if b then word else other) test ∙ ap (λ o. then_option o (λ c. chunk_word l.kind c (at.offset - start_of l at.region))) found ∙ word_is l.kind chunk (at.offset - start_of l at.region) gap
+
+-- addresses in one region with one offset are one
+pub same_addr_from : (a b : Addr) → a.region ≡ b.region → a.offset ≡ b.offset → a ≡ b
+same_addr_from a b region offset =
+    ap (λ r. record { region = r; offset = a.offset }) region ∙ ap (λ o. record { region = b.region; offset = o }) offset
+
+-- whether two addresses are one
+pub same_addr-cases : (a b : Addr) → ((a ≡ b) × (same_addr a b ≡ true)) ⊎ ((a ≢ b) × (same_addr a b ≡ false))
+same_addr-cases a b =
+    elim (cases_eq a.region b.region) [
+      | inl region ↦ elim (cases_eq a.offset b.offset) [
+        | inl offset ↦ inl (same_addr_from a b region offset, grind (arith, nat_tests))
+        | inr differs ↦ inr ((λ e. differs (ap (λ (x : Addr). x.offset) e)), grind (arith, nat_tests))
+      ]
+      | inr differs ↦ inr ((λ e. differs (ap (λ (x : Addr). x.region) e)), grind (arith, nat_tests))
+    ]
+
+-- what stands at an address after one chunk was put
+pub put_cases : (l m : Layout) (at : Addr) (chunk : Option Chunk) → PutsChunk l m at chunk → (other : Addr) → ((other ≡ at) × (chunk_at m other ≡ chunk)) ⊎ ((other ≢ at) × (chunk_at m other ≡ chunk_at l other))
+put_cases l m at chunk puts other =
+    elim (same_addr-cases at other) [
+      | inl same ↦ inl (sym same.0, puts other ∙ ap (λ b. if b then chunk else chunk_at l other) same.1)
+      | inr differs ↦ inr ((λ e. differs.0 (sym e)), puts other ∙ ap (λ b. if b then chunk else chunk_at l other) differs.1)
+    ]
+
+-- the block in a region after one block was put
+pub block_cases : (l m : Layout) (number : ℕ) (block : Option Block) → ((other : ℕ) → block_at m other ≡ (if number == other then block else block_at l other)) → (other : ℕ) → ((other ≡ number) × (block_at m other ≡ block)) ⊎ ((other ≢ number) × (block_at m other ≡ block_at l other))
+block_cases l m number block puts other =
+    elim (cases_eq number other) [
+      | inl same ↦
+          let test : (number == other) ≡ true = grind (arith, nat_tests) in
+          inl (sym same, puts other ∙ ap (λ b. if b then block else block_at l other) test)
+      | inr differs ↦
+          let test : (number == other) ≡ false = grind (arith, nat_tests) in
+          inr ((λ e. differs (sym e)), puts other ∙ ap (λ b. if b then block else block_at l other) test)
+    ]
+
+module _ (l : Layout) (laid : IsLaid l) where
+  -- chunks at two addresses have place for a header between them
+  pub chunks_clear : (a b : Addr) (first second : Chunk) → chunk_at l a ≡ Some first → chunk_at l b ≡ Some second → a ≢ b → IsClear (header_room l) a first b second
+  chunks_clear a b first second at_a at_b differ region =
+      elim (cases_lt a.offset b.offset) [
+        | inl below ↦ inl (laid.apart a b first second at_a at_b region below)
+        | inr above ↦ elim (cases_eq a.offset b.offset) [
+          | inl same ↦ absurd (differ (same_addr_from a b region same))
+          | inr other ↦ inr (laid.apart b a second first at_b at_a (sym region) (omega arith))
+        ]
+      ]
+
+  -- a chunk is apart from every mark
+  pub mark_apart : (a b : Addr) (chunk : Chunk) (bytes : List ℕ) → chunk_at l a ≡ Some chunk → mark_of l b ≡ Some bytes → a.region ≡ b.region → (a.offset + chunk.room ≤ b.offset) ⊎ (b.offset + length bytes ≤ a.offset)
+  mark_apart a b chunk bytes found marked region =
+      let placed = laid.placed a chunk found in
+      elim (mark_cases l b bytes marked) [
+        | inl block ↦
+            let len : length bytes ≡ 8 = ap length (sym block.4) ∙ length-block_bytes l.context block.0.size in
+            inr (omega (arith, placed.first, ap (start_of l) region, block.1))
+        | inr other ↦
+            let len : length bytes ≡ 8 = ap length (sym other.4) ∙ length-header_bytes (header_of l.kind other.0 (b.offset - start_of l b.region)) in
+            elim (cases_lt a.offset (b.offset + 8)) [
+              | inl below ↦ inl (omega (arith, laid.apart a (behind b) chunk other.0 found other.2 region below, other.3))
+              | inr above ↦ inr (omega arith)
+            ]
+      ]
+
+  -- a mark is in its block
+  pub mark_within : (at : Addr) (bytes : List ℕ) → mark_of l at ≡ Some bytes → (block : Block) × (block_at l at.region ≡ Some block) × (at.offset + 8 + block.room ≤ block.size) × (length bytes ≡ 8)
+  mark_within at bytes marked =
+      elim (mark_cases l at bytes marked) [
+        | inl block ↦
+            (block.0, block.2, omega (arith, block.1, block.3, (laid.filled at.region block.0 block.2).within), ap length (sym block.4) ∙ length-block_bytes l.context block.0.size)
+        | inr other ↦
+            let there = laid.placed (behind at) other.0 other.2 in
+            (there.block, there.owned, omega (arith, there.last), ap length (sym other.4) ∙ length-header_bytes (header_of l.kind other.0 (at.offset - start_of l at.region)))
+      ]
+
+  -- the footprint is sound
+  pub IsSound-laid : IsSound (footprint l)
+  IsSound-laid = record {
+    live_inside = λ at n live.
+        let it = from_live l at n live in
+        let placed = laid.placed at it.0 it.1 in
+        (placed.block.size, region_is l at.region placed.block placed.owned, omega (arith, placed.last, placed.sized.fits, it.2));
+    free_inside = λ at n free. absurd (cc);
+    mark_inside = λ at bytes marked.
+        let it = mark_within at bytes marked in
+        (it.0.size, region_is l at.region it.0 it.1, omega (arith, it.2, it.3));
+    live_apart = λ a b m n live_a live_b differ region.
+        let first = from_live l a m live_a in
+        let second = from_live l b n live_b in
+        let le_first = (laid.placed a first.0 first.1).sized.fits in
+        let le_second = (laid.placed b second.0 second.1).sized.fits in
+        elim (chunks_clear a b first.0 second.0 first.1 second.1 differ region) [
+          | inl below ↦ inl (omega (arith, first.2))
+          | inr above ↦ inr (omega (arith, second.2))
+        ];
+    free_apart = λ a b m n live free region. absurd (cc);
+    mark_apart = λ a b m bytes live marked region.
+        let first = from_live l a m live in
+        let le_first = (laid.placed a first.0 first.1).sized.fits in
+        elim (mark_apart a b first.0 bytes first.1 marked region) [
+          | inl below ↦ inl (omega (arith, first.2))
+          | inr above ↦ inr (omega arith)
+        ];
+  }

@@ -1,0 +1,70 @@
+-- Lemmas on the bytes of all blocks.
+use Rattle.std.proofs.Common.{◌≡◌, ℕ, ◌+◌, ◌==◌, List, [], ◌∷◌, ◌++◌, Option, Some, None, option_map, unwrap_or, refl, sym, ap, ◌∙◌, arith, sum_by, Bool, true, false, if◌then◌else◌}
+use Rattle.std.specs.Map.{lookup, values_of}
+use Rattle.std.proofs.lemmas.Bool.Decides.{nat_tests}
+use Rattle.std.proofs.lemmas.List.Sums.{sum_by-append, sum_by-cons}
+use Rattle.ctx_blocks.specs.Layout.{Layout, block_at, total}
+use Rattle.ctx_blocks.specs.Kept.{IsFirst}
+use Rattle.ctx_blocks.specs.Steps.{with_block, without_block}
+use Rattle.ctx_blocks.specs.declared.parts.Block.{Block}
+use Rattle.ctx_blocks.proofs.Entries.{sum_by-insert, sum_by-remove}
+
+-- what a sum over the blocks becomes where a block is put in the place of another one, is new, or goes
+module _ (f : Block → ℕ) (blocks : List (ℕ × Block)) (number : ℕ) where
+  pub sum-put : (old block : Block) → lookup (λ n. number == n) blocks ≡ Some old → sum_by f (values_of (with_block blocks number block)) + f old ≡ sum_by f (values_of blocks) + f block
+  sum-put old block was = rw was at (sum_by-insert (λ (a b : ℕ). a == b) number block f blocks)
+
+  pub sum-new : (block : Block) → lookup (λ n. number == n) blocks ≡ None → sum_by f (values_of (with_block blocks number block)) ≡ sum_by f (values_of blocks) + f block
+  sum-new block none = let sums = rw none at (sum_by-insert (λ (a b : ℕ). a == b) number block f blocks) in omega (arith, sums)
+
+  pub sum-dropped : (old : Block) → lookup (λ n. number == n) blocks ≡ Some old → sum_by f (values_of (without_block blocks number)) + f old ≡ sum_by f (values_of blocks)
+  sum-dropped old was = rw was at (sum_by-remove (λ n. number == n) f blocks)
+
+-- the bytes stay where a block of the same size is put
+pub total-put : (l m : Layout) (number : ℕ) (old block : Block) → m.blocks ≡ with_block l.blocks number block → block_at l number ≡ Some old → block.size ≡ old.size → total m ≡ total l
+total-put l m number old block blocks was size =
+    let f : Block → ℕ = λ b. b.size in
+    let now : total m ≡ sum_by f (values_of (with_block l.blocks number block)) = ap (λ es. sum_by f (values_of es)) blocks in
+    omega (arith, now, sum-put f l.blocks number old block was, size)
+
+-- the bytes lessen where a block goes
+pub total-dropped : (l m : Layout) (number : ℕ) (old : Block) → m.blocks ≡ without_block l.blocks number → block_at l number ≡ Some old → total m + old.size ≡ total l
+total-dropped l m number old blocks was =
+    let f : Block → ℕ = λ b. b.size in
+    let now : total m ≡ sum_by f (values_of (without_block l.blocks number)) = ap (λ es. sum_by f (values_of es)) blocks in
+    omega (arith, now, sum-dropped f l.blocks number old was)
+
+values-last : (blocks : List (ℕ × Block)) (e : ℕ × Block) → values_of (blocks ++ e ∷ []) ≡ values_of blocks ++ e.1 ∷ []
+values-last [] e = refl
+values-last (b ∷ bs) e = ap (λ es. b.1 ∷ es) (values-last bs e)
+
+pub total-last : (l m : Layout) (number : ℕ) (old : Block) → l.blocks ≡ m.blocks ++ (number, old) ∷ [] → total m + old.size ≡ total l
+total-last l m number old blocks =
+    let f : Block → ℕ = λ b. b.size in
+    let before : total l ≡ sum_by f (values_of m.blocks ++ old ∷ []) = ap (λ es. sum_by f (values_of es)) blocks ∙ ap (sum_by f) (values-last m.blocks (number, old)) in
+    omega (arith, before, sum_by-append f (values_of m.blocks) (old ∷ []), sum_by-cons f old [])
+
+-- the keeper stays the first block
+pub IsFirst-put : (keeper : ℕ) (blocks : List (ℕ × Block)) (number : ℕ) (block : Block) → IsFirst keeper blocks → IsFirst keeper (with_block blocks number block)
+IsFirst-put keeper [] number block first = absurd first
+IsFirst-put keeper (e ∷ es) number block first = by (number == e.0)
+  where
+    by : (b : Bool) → IsFirst keeper (if b then (e.0, block) ∷ es else e ∷ with_block es number block)
+    by true = first
+    by false = first
+
+pub IsFirst-dropped : (keeper : ℕ) (blocks : List (ℕ × Block)) (number : ℕ) → (number ≡ keeper → ⊥) → IsFirst keeper blocks → IsFirst keeper (without_block blocks number)
+IsFirst-dropped keeper [] number differs first = absurd first
+IsFirst-dropped keeper (e ∷ es) number differs first =
+    let test : (number == e.0) ≡ false = grind (arith, nat_tests) in
+    rw test first
+
+-- it is a block of the context
+pub keeper_owned : (l : Layout) → IsFirst l.keeper l.blocks → (b : Block) × (block_at l l.keeper ≡ Some b)
+keeper_owned l first = by l.blocks first
+  where
+    by : (es : List (ℕ × Block)) → IsFirst l.keeper es → (b : Block) × (lookup (λ n. l.keeper == n) es ≡ Some b)
+    by [] none = absurd none
+    by (e ∷ es) is =
+        let test : (l.keeper == e.0) ≡ true = grind (arith, nat_tests) in
+        (e.1, ap (λ b. if b then Some e.1 else lookup (λ n. l.keeper == n) es) test)

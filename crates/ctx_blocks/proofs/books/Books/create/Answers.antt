@@ -1,0 +1,67 @@
+use Rattle.std.proofs.Common.{◌≡◌, ℕ, ◌∷◌, [], ◌-◌, List, map, Some, ap, ◌∙◌, sym, subst, refl, arith}
+use Rattle.addr_space.specs.Space.{Space, Changes, region_at, overwritten}
+use Rattle.addr_space.specs.Footprint.{Moves, nothing}
+use Rattle.chunk_header.specs.Header.{block_bytes}
+use Rattle.ctx_blocks.specs.Layout.{Layout, total, footprint}
+use Rattle.ctx_blocks.specs.Kept.{layout_of, IsFilled}
+use Rattle.ctx_blocks.specs.Steps.{with_block}
+use Rattle.ctx_blocks.specs.declared.parts.Block.{Block}
+use Rattle.ctx_blocks.specs.declared.books.Books.{Books}
+use Rattle.ctx_blocks.proofs.New.{IsLaid-new, IsCounted-new, total_one, Moves-new, Moves-bare}
+use Rattle.ctx_blocks.proofs.books.Books.create.Goals as goal
+use Rattle.ctx_blocks.proofs.books.Books.create.Goals.{After-from, then-size-ge240, else-size-ge240}
+
+-- the books, and their one block
+books : After-from → Books
+books c = record {
+  kind = c.args.kind;
+  account = c.args.account;
+  context = c.args.context;
+  keeper = c.in-Ok-take.at.region;
+  blocks = c.note.new.blocks;
+  chunks = c.new.result;
+  total = c.from.result;
+}
+
+block : After-from → Block
+block c = record { size = c.args.size; room = c.saturating_sub.result; live = 0; freed = 0 }
+
+one : (c : After-from) → (layout_of (books c)).blocks ≡ ((books c).keeper, block c) ∷ []
+unfolding books block
+one c = c.note.ensures.blocks ∙ ap (λ es. with_block es c.in-Ok-take.at.region (record { size = c.args.size; room = c.saturating_sub.result; live = 0; freed = 0 })) c.in-Ok.ensures.empty
+
+filled : (c : After-from) → IsFilled ((block c).size - 200 - 40) (block c)
+unfolding block
+filled c = record {
+  small = omega (arith, c.requires.most);
+  even = omega (arith, c.requires.whole, c.requires.roomy, c.saturating_sub.ensures);
+  within = omega (arith, c.saturating_sub.ensures);
+}
+
+pub returns-clause-kept : goal.returns-clause-kept
+unfolding books block
+returns-clause-kept c =
+    let l = layout_of (books c) in
+    record {
+      laid = IsLaid-new l (block c) (one c) c.new.ensures.empty (filled c);
+      counted = IsCounted-new l (block c) (one c) c.new.ensures.empty refl;
+      first = rw (one c) refl;
+      total = c.from.ensures ∙ sym (total_one l (block c) (one c) c.new.ensures.empty);
+      most = omega (arith, c.from.ensures, c.requires.most);
+    }
+
+pub returns-clause-moves : goal.returns-clause-moves
+unfolding books block
+returns-clause-moves c =
+    let l : Layout = layout_of (books c) in
+    let number = c.in-Ok-take.at.region in
+    elim c.if-size-ge240.branch [
+      | then-size-ge240 w ↦
+          let wrote : Changes c.take.new.self w.write.new.self number (overwritten (region_at c.take.new.self number) 200 (map Some (block_bytes c.args.context c.args.size))) =
+          subst (λ b. Changes c.take.new.self w.write.new.self number (overwritten (region_at c.take.new.self number) 200 (map Some b))) w.block_header.ensures w.write.ensures.changes in
+          subst (λ s. Moves (nothing c.args.account c.args.context) (footprint l) c.args.space.now s) (sym w.space-is)
+          (Moves-new l (block c) (one c) c.new.ensures.empty (filled c) c.args.space.now c.take.new.self c.requires.account c.in-Ok-take.ensures.fresh c.in-Ok-take.ensures.changes c.in-Ok-take.ensures.held w.write.new.self w.if-size-ge240.true wrote)
+      | else-size-ge240 w ↦
+          subst (λ s. Moves (nothing c.args.account c.args.context) (footprint l) c.args.space.now s) (sym w.space-is)
+          (Moves-bare l (block c) (one c) c.new.ensures.empty (filled c) c.args.space.now c.take.new.self c.requires.account c.in-Ok-take.ensures.fresh c.in-Ok-take.ensures.changes c.in-Ok-take.ensures.held w.if-size-ge240.false)
+    ]

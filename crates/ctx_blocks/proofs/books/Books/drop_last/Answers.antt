@@ -1,0 +1,52 @@
+use Rattle.std.proofs.Common.{◌≡◌, ℕ, ◌+◌, ◌-◌, ◌==◌, true, Some, None, ap, sym, subst, ◌∙◌, refl, arith}
+use Rattle.std.specs.Map.{lookup}
+use Rattle.std.proofs.lemmas.Bool.Decides.{nat_tests}
+use Rattle.addr_space.specs.declared.Addr.{Addr}
+use Rattle.ctx_blocks.specs.Layout.{same_addr, block_at, chunk_at, total}
+use Rattle.ctx_blocks.specs.Kept.{layout_of, IsFirst}
+use Rattle.ctx_blocks.specs.Steps.{SameContext}
+use Rattle.ctx_blocks.specs.declared.parts.Block.{Block}
+use Rattle.ctx_blocks.specs.declared.books.Books.{Books}
+use Rattle.ctx_blocks.proofs.Totals.{total-last}
+use Rattle.ctx_blocks.proofs.Lessened.{IsLaid-lessened}
+use Rattle.ctx_blocks.proofs.Dropped.{IsRegion-owned, Lessens-dropped, Moves-dropped, lookup-last}
+use Rattle.ctx_blocks.proofs.books.Books.drop_last.Goals as goal
+use Rattle.ctx_blocks.proofs.books.Books.drop_last.Goals.{In-Some, After-give}
+
+-- the last block is the one that was popped
+owned : (c : In-Some) → block_at (layout_of c.args.self.now) c.in-Some.number ≡ Some c.in-Some.block
+owned c =
+    let test : (c.in-Some.number == c.in-Some.number) ≡ true = grind (arith, nat_tests) in
+    ap (λ es. lookup (λ n. c.in-Some.number == n) es) c.in-Some.ensures.entries ∙ lookup-last (λ n. c.in-Some.number == n) c.pop.new.self.entries c.in-Some.number c.in-Some.block c.in-Some.ensures.updates.1 test
+
+pub give-requires : goal.give-requires
+give-requires c = IsRegion-owned (layout_of c.args.self.now) c.args.space.now c.in-Some.number c.in-Some.block c.requires.agrees (owned (goal.at.give-requires c).In-Some)
+
+now : After-give → Books
+now c = record c.args.self.now { blocks = c.pop.new.self; total = c.args.self.now.total - c.from.result }
+
+same : (c : After-give) → SameContext (layout_of c.args.self.now) (layout_of (now c))
+unfolding now
+same c = record { kind = refl; account = refl; context = refl; keeper = refl }
+
+-- no chunk is in the block
+empty : (c : After-give) (at : Addr) → at.region ≡ c.in-Some.number → chunk_at (layout_of c.args.self.now) at ≡ None
+empty c at region = ap (λ es. lookup (same_addr at) es) c.requires.none
+
+totals : (c : After-give) → total (layout_of (now c)) + c.in-Some.block.size ≡ total (layout_of c.args.self.now)
+unfolding now
+totals c = total-last (layout_of c.args.self.now) (layout_of (now c)) c.in-Some.number c.in-Some.block c.in-Some.ensures.entries
+
+pub returns-clause-laid : goal.returns-clause-laid
+unfolding now
+returns-clause-laid c =
+    let l = layout_of c.args.self.now in
+    IsLaid-lessened l (layout_of (now c)) c.requires.laid
+    (Lessens-dropped l (layout_of (now c)) c.requires.laid (same c) refl c.in-Some.number c.in-Some.block (owned (goal.at.returns-clause-laid c).In-Some) (empty c) c.in-Some.ensures.updates.0)
+
+pub returns-clause-moves : goal.returns-clause-moves
+unfolding now
+returns-clause-moves c =
+    let l = layout_of c.args.self.now in
+    Moves-dropped l (layout_of (now c)) c.requires.laid (same c) refl c.in-Some.number c.in-Some.block (owned (goal.at.returns-clause-moves c).In-Some) (empty c) c.in-Some.ensures.updates.0
+    c.args.space.now c.give.new.self c.requires.agrees (totals c) c.give.ensures.changes c.give.ensures.held

@@ -1,0 +1,54 @@
+use Rattle.std.proofs.Common.{◌≡◌, ap, sym, ◌∙◌, refl}
+use Rattle.ctx_blocks.specs.Layout.{block_at, total}
+use Rattle.ctx_blocks.specs.Kept.{layout_of}
+use Rattle.ctx_blocks.specs.declared.parts.Block.{Block}
+use Rattle.ctx_blocks.specs.declared.books.Books.{Books}
+use Rattle.ctx_blocks.proofs.Laid.{one_value}
+use Rattle.ctx_blocks.proofs.Counts.{none_in}
+use Rattle.ctx_blocks.proofs.Lessened.{IsLaid-lessened, MovesStill-lessened, Lessens}
+use Rattle.ctx_blocks.proofs.Refilled.{Lessens-refilled, IsCounted-refilled, regions-refilled}
+use Rattle.ctx_blocks.proofs.Totals.{total-put, IsFirst-put}
+use Rattle.ctx_blocks.proofs.books.Books.refill.Goals as goal
+use Rattle.ctx_blocks.proofs.books.Books.refill.Goals.{After-note}
+
+now : After-note → Books
+now c = record c.args.self.now { blocks = c.note.new.blocks }
+
+-- the block counts no chunk
+none : (c : After-note) → c.owned-size.result.live ≡ 0
+none c = ap (λ (b : Block). b.live) (one_value (block_at (layout_of c.args.self.now) c.args.number) c.owned-size.result c.requires.block.0 c.owned-size.ensures c.requires.block.1) ∙ c.requires.block.2
+
+less : (c : After-note) → Lessens (layout_of c.args.self.now) (layout_of (now c))
+unfolding now
+less c =
+    let l = layout_of c.args.self.now in
+    Lessens-refilled l (layout_of (now c)) c.requires.kept.laid (record { kind = refl; account = refl; context = refl; keeper = refl }) refl c.args.number c.whole.result c.owned-size.result c.owned-size.ensures c.whole.ensures
+    (λ at region. none_in l c.requires.kept.counted c.args.number c.owned-size.result at c.owned-size.ensures (none c) region) c.note.ensures.at
+
+totals : (c : After-note) → total (layout_of (now c)) ≡ total (layout_of c.args.self.now)
+unfolding now
+totals c = total-put (layout_of c.args.self.now) (layout_of (now c)) c.args.number c.owned-size.result _ c.note.ensures.blocks c.owned-size.ensures refl
+
+pub returns-clause-kept : goal.returns-clause-kept
+unfolding now
+returns-clause-kept c =
+    let b = c.args.self.now in
+    let l = layout_of b in
+    let kept = c.requires.kept in
+    record {
+      laid = IsLaid-lessened l (layout_of (now c)) kept.laid (less c);
+      counted = IsCounted-refilled l (layout_of (now c)) kept.laid (record { kind = refl; account = refl; context = refl; keeper = refl }) refl c.args.number c.whole.result c.owned-size.result c.owned-size.ensures c.whole.ensures
+          (λ at region. none_in l kept.counted c.args.number c.owned-size.result at c.owned-size.ensures (none c) region) c.note.ensures.at kept.counted (sym (kept.counted c.args.number c.owned-size.result c.owned-size.ensures) ∙ none c);
+      first = rw c.note.ensures.blocks (IsFirst-put b.keeper b.blocks.entries c.args.number _ kept.first);
+      total = kept.total ∙ sym (totals c);
+      most = kept.most;
+    }
+
+pub returns-clause-moves : goal.returns-clause-moves
+unfolding now
+returns-clause-moves c =
+    let l = layout_of c.args.self.now in
+    MovesStill-lessened l (layout_of (now c)) c.requires.kept.laid (less c)
+    (regions-refilled l (layout_of (now c)) c.requires.kept.laid (record { kind = refl; account = refl; context = refl; keeper = refl }) refl c.args.number c.whole.result c.owned-size.result c.owned-size.ensures c.whole.ensures
+    (λ at region. none_in l c.requires.kept.counted c.args.number c.owned-size.result at c.owned-size.ensures (none c) region) c.note.ensures.at)
+    (totals c)
