@@ -9,7 +9,7 @@ use Rattle.generation_ctx.specs.Kept.{HasSize, IsIdle, IsSpare}
 
 -- what a test of the spare says
 pub not_spare : (a b : ℕ) → (a == b) ≡ false → a ≢ b
-not_spare a b no e = grind (arith, no, e)
+not_spare a b differs e = grind (arith, differs, e)
 
 pub is_not_spare : (a b : ℕ) → a ≢ b → (a == b) ≡ false
 is_not_spare a b ne = grind (arith, ne)
@@ -34,9 +34,9 @@ module _ (l m : Layout) (number : ℕ) (block : Block) (puts : PutsBlock l m num
 
   -- the spare stays, where another block was put
   pub spare_put : (current : ℕ) (spare : Option ℕ) → m.keeper ≡ l.keeper → is_spare spare number ≡ false → IsSpare l current spare → IsSpare m current spare
-  spare_put current None same no idle = idle
-  spare_put current (Some other) same no idle =
-    let ne : number ≢ other = λ e. not_spare other number no (sym e) in
+  spare_put current None same differs idle = idle
+  spare_put current (Some other) same differs idle =
+    let ne : number ≢ other = λ e. not_spare other number differs (sym e) in
     record { block = idle.block; is = put_other other ne ∙ idle.is; live = idle.live; not_keeper = λ e. idle.not_keeper (e ∙ same); not_current = idle.not_current }
 
 module _ (l m : Layout) (number : ℕ) (drops : DropsBlock l m number) where
@@ -48,9 +48,9 @@ module _ (l m : Layout) (number : ℕ) (drops : DropsBlock l m number) where
   size_drop k bytes ne has = record { block = has.block; is = drop_other k ne ∙ has.is; size = has.size }
 
   pub spare_drop : (current : ℕ) (spare : Option ℕ) → m.keeper ≡ l.keeper → is_spare spare number ≡ false → IsSpare l current spare → IsSpare m current spare
-  spare_drop current None same no idle = idle
-  spare_drop current (Some other) same no idle =
-    let ne : number ≢ other = λ e. not_spare other number no (sym e) in
+  spare_drop current None same differs idle = idle
+  spare_drop current (Some other) same differs idle =
+    let ne : number ≢ other = λ e. not_spare other number differs (sym e) in
     record { block = idle.block; is = drop_other other ne ∙ idle.is; live = idle.live; not_keeper = λ e. idle.not_keeper (e ∙ same); not_current = idle.not_current }
 
 -- which blocks aren't the spare: the current one

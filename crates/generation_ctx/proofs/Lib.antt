@@ -5,3 +5,7 @@ pub mod Kepts
 pub mod Alone
 pub mod Steps
 pub mod Ledgers
+pub mod Found
+pub mod Kept
+pub mod Resets
+pub mod Lives

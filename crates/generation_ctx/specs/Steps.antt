@@ -31,18 +31,16 @@ pub record Allocates (b n : Books) (s t : Space) (size : ℕ) (at : Addr) (step 
   pub moves : Moves (footprint b.blocks) (footprint n.blocks) s t
   pub keeps : Keeps (footprint b.blocks) (footprint n.blocks) s t
 
--- a live chunk is there no more, and the ledger is this one
-pub record Frees (b n : Books) (s t : Space) (at : Addr) (ledger : GenerationLedger) : Type 0 where
+-- a live chunk is there no more
+pub record Frees (b n : Books) (s t : Space) (at : Addr) : Type 0 where
   pub kept : IsKept n
-  pub ledger_is : ledger_of n ≡ ledger
   pub chunk : PutsChunk b.blocks n.blocks at None
   pub moves : Moves (footprint b.blocks) (footprint n.blocks) s t
   pub keeps : Keeps (footprint b.blocks) (footprint n.blocks) s t
 
--- a live chunk has this size now, at the same address or at another one, where the ledger's step answers so
-pub record Resizes (b n : Books) (s t : Space) (from to : Addr) (keep size : ℕ) (step : Result GenerationLedger CtxError) : Type 0 where
+-- a live chunk has this size now, at the same address or at another one
+pub record Resizes (b n : Books) (s t : Space) (from to : Addr) (keep size : ℕ) : Type 0 where
   pub kept : IsKept n
-  pub ledger : step ≡ Ok (ledger_of n)
   pub fresh : to ≢ from → (footprint b.blocks).live to ≡ None
   pub live : MovesLive (footprint b.blocks) (footprint n.blocks) from to size
   pub bytes : HasBytesOf s t from to keep

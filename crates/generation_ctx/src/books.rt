@@ -200,9 +200,13 @@ impl Books {
     }
 
     // Which block becomes current for so many bytes, where no new one is taken.
-    #[tactic(auto, unfolding(crate::specs::Ledger::chosen))]
+    #[tactic(auto, using(crate::proofs::Found::found), unfolding(crate::specs::Ledger::chosen))]
     fn choose(&self, bytes: u32) -> Option<u32>
-        ensures { result ≡ chosen (ledger_of self.now) bytes }
+        requires kept { IsKept self.now }
+        requires some { 0 < bytes }
+        ensures value { result ≡ chosen (ledger_of self.now) bytes }
+        ensures block { IfSome result (λ number. (block : Block) × (block_at self.now.blocks number ≡ Some block) × (bytes ≤ block.room)) }
+        ensures other { IfSome result (λ number. number ≢ self.now.current) }
     {
         if let Some(number) = self.spare {
             if self.block(number).room >= bytes {
@@ -397,7 +401,8 @@ impl Books {
         requires kept { IsKept self.old }
         requires agrees { Agrees (footprint self.old.blocks) space.now }
         requires chunk { (c : Chunk) × (chunk_at self.old.blocks at ≡ Some c) × (c.own ≡ false) }
-        ensures frees { Frees self.old self.new space.now space.now at (lessened (ledger_of self.old) at.region) }
+        ensures frees { Frees self.old self.new space.now space.now at }
+        ensures ledger { ledger_of self.new ≡ lessened (ledger_of self.old) at.region }
         ensures other { is_spare self.new.spare at.region ≡ false }
         ensures some { 1 ≤ (block_in (ledger_of self.old) at.region).live }
         ensures block { (block : Block) × (block_at self.new.blocks at.region ≡ Some block) }
@@ -412,7 +417,8 @@ impl Books {
         requires kept { IsKept self.old }
         requires agrees { Agrees (footprint self.old.blocks) space.old }
         requires chunk { (c : Chunk) × (chunk_at self.old.blocks at ≡ Some c) × (c.own ≡ false) }
-        ensures { Frees self.old self.new space.old space.new at (freed (ledger_of self.old) at.region false) }
+        ensures frees { Frees self.old self.new space.old space.new at }
+        ensures ledger { ledger_of self.new ≡ freed (ledger_of self.old) at.region false }
     {
         self.forget(space, at);
         if self.block(at.region).live == 0 {
@@ -425,7 +431,8 @@ impl Books {
         requires kept { IsKept self.old }
         requires agrees { Agrees (footprint self.old.blocks) space.old }
         requires chunk { (c : Chunk) × (chunk_at self.old.blocks at ≡ Some c) × (c.own ≡ true) }
-        ensures { Frees self.old self.new space.old space.new at (freed (ledger_of self.old) at.region true) }
+        ensures frees { Frees self.old self.new space.old space.new at }
+        ensures ledger { ledger_of self.new ≡ freed (ledger_of self.old) at.region true }
     {
         let _ = self.blocks.remove(at);
         self.blocks.laid();
@@ -437,7 +444,8 @@ impl Books {
         requires kept { IsKept self.old }
         requires agrees { Agrees (footprint self.old.blocks) space.old }
         requires chunk { (c : Chunk) × (chunk_at self.old.blocks at ≡ Some c) }
-        ensures { (c : Chunk) → chunk_at self.old.blocks at ≡ Some c → Frees self.old self.new space.old space.new at (freed (ledger_of self.old) at.region c.own) }
+        ensures frees { Frees self.old self.new space.old space.new at }
+        ensures ledger { (c : Chunk) → chunk_at self.old.blocks at ≡ Some c → ledger_of self.new ≡ freed (ledger_of self.old) at.region c.own }
     {
         match self.blocks.chunk(at) {
             Some(chunk) => {
@@ -465,7 +473,8 @@ impl Books {
         requires chunk { (c : Chunk) × (chunk_at self.old.blocks at ≡ Some c) × (keep ≤ c.size) × (c.room < size) }
         requires keep { keep ≤ size }
         requires known { IsKnown space.old at keep }
-        ensures ok { IfOk result (λ to. (c : Chunk) → chunk_at self.old.blocks at ≡ Some c → Resizes self.old self.new space.old space.new at to keep size (resized (ledger_of self.old) (space.old.limit - held space.old self.old.blocks.account) to.region size at.region c.room c.own)) }
+        ensures ok { IfOk result (λ to. Resizes self.old self.new space.old space.new at to keep size) }
+        ensures ledger { IfOk result (λ to. (c : Chunk) → chunk_at self.old.blocks at ≡ Some c → resized (ledger_of self.old) (space.old.limit - held space.old self.old.blocks.account) to.region size at.region c.room c.own ≡ Ok (ledger_of self.new)) }
         ensures no_space { result ≡ Err CtxError.NoSpace → (number : ℕ) (c : Chunk) → chunk_at self.old.blocks at ≡ Some c → resized (ledger_of self.old) (space.old.limit - held space.old self.old.blocks.account) number size at.region c.room c.own ≡ Err CtxError.NoSpace }
         ensures no_other { IfErr result (λ e. (e ≡ CtxError.NoSpace) ⊎ (e ≡ CtxError.Memory)) }
         ensures err { OnErr result (state_of self.new ≡ state_of self.old) }
@@ -499,7 +508,8 @@ impl Books {
         requires agrees { Agrees (footprint self.old.blocks) space.now }
         requires size { size ≤ 1073741823 }
         requires chunk { (c : Chunk) × (chunk_at self.old.blocks at ≡ Some c) × (size ≤ c.room) }
-        ensures { (c : Chunk) (left number : ℕ) → chunk_at self.old.blocks at ≡ Some c → Resizes self.old self.new space.now space.now at at keep size (resized (ledger_of self.old) left number size at.region c.room c.own) }
+        ensures resizes { Resizes self.old self.new space.now space.now at at keep size }
+        ensures ledger { (c : Chunk) (left number : ℕ) → chunk_at self.old.blocks at ≡ Some c → resized (ledger_of self.old) left number size at.region c.room c.own ≡ Ok (ledger_of self.new) }
     {
         let _ = (space.accounts(), keep);
         self.blocks.set_size(at, size);
@@ -517,7 +527,8 @@ impl Books {
         requires agrees { Agrees (footprint self.old.blocks) space.old }
         requires chunk { (c : Chunk) × (chunk_at self.old.blocks at ≡ Some c) × (keep ≤ c.size) }
         requires known { IsKnown space.old at keep }
-        ensures ok { IfOk result (λ to. (c : Chunk) → chunk_at self.old.blocks at ≡ Some c → Resizes self.old self.new space.old space.new at to (min keep size) size (resized (ledger_of self.old) (space.old.limit - held space.old self.old.blocks.account) to.region size at.region c.room c.own)) }
+        ensures ok { IfOk result (λ to. Resizes self.old self.new space.old space.new at to (min keep size) size) }
+        ensures ledger { IfOk result (λ to. (c : Chunk) → chunk_at self.old.blocks at ≡ Some c → resized (ledger_of self.old) (space.old.limit - held space.old self.old.blocks.account) to.region size at.region c.room c.own ≡ Ok (ledger_of self.new)) }
         ensures too_big { (result ≡ Err CtxError.TooBig) ↔ (1073741823 < size) }
         ensures no_space { result ≡ Err CtxError.NoSpace → (number : ℕ) (c : Chunk) → chunk_at self.old.blocks at ≡ Some c → resized (ledger_of self.old) (space.old.limit - held space.old self.old.blocks.account) number size at.region c.room c.own ≡ Err CtxError.NoSpace }
         ensures no_other { IfErr result (λ e. (e ≡ CtxError.TooBig) ⊎ ((e ≡ CtxError.NoSpace) ⊎ (e ≡ CtxError.Memory))) }

@@ -89,6 +89,7 @@ impl GenerationCtx {
         self.books.headed();
     }
 
+    #[tactic(auto, using(crate::proofs::Seen::agrees_bare, crate::proofs::Seen::moves_bare))]
     /// Takes a chunk of `size` bytes, which may be 0, and answers its address. No byte of it is known.
     ///
     /// `TooBig`, `NoSpace` and `Memory` are tried in this order. A refused call changes nothing.
@@ -115,6 +116,7 @@ impl GenerationCtx {
         self.books.alloc(space, size)
     }
 
+    #[tactic(auto, using(crate::proofs::Seen::agrees_bare, crate::proofs::Seen::moves_bare))]
     /// Frees a live chunk. It never refuses, and takes no memory. A block that the chunk had for itself goes back to
     /// the space. Of a shared block whose last live chunk it is, the room is whole again, or the block goes back.
     pub fn free(&mut self, space: &mut Space, at: Addr) -> Result<(), CtxError>
@@ -130,6 +132,7 @@ impl GenerationCtx {
         Ok(())
     }
 
+    #[tactic(auto, using(crate::proofs::Seen::agrees_bare, crate::proofs::Seen::moves_bare))]
     /// Gives a live chunk a size of `size` bytes, which may be 0, and answers where it is now. `keep` is how many of
     /// its first bytes are known.
     ///
@@ -169,6 +172,7 @@ impl GenerationCtx {
         self.books.realloc(space, at, keep, size)
     }
 
+    #[tactic(auto, using(crate::proofs::Seen::agrees_bare, crate::proofs::Seen::moves_bare))]
     /// Frees all chunks and gives every block but the first back: the context is as it was created. It takes no
     /// memory.
     pub fn reset(&mut self, space: &mut Space)
