@@ -9,3 +9,9 @@ pub mod Found
 pub mod Kept
 pub mod Resets
 pub mod Lives
+pub mod Refilled
+pub mod Forgotten
+pub mod Addrs
+pub mod Owned
+pub mod Sizes
+pub mod Resizes

@@ -16,6 +16,7 @@ module _ (n : ℕ) (a b : Block) where
     | false ↦ λ is. rw (is) (rw is (ap (λ (ys : List (ℕ × Block)). e ∷ ys) (put_twice es)))
   ]) refl
 
+module _ (n : ℕ) (a : Block) where
   -- a block that is put and taken away
   pub put_away : (xs : List (ℕ × Block)) → without_block (with_block xs n a) n ≡ without_block xs n
   put_away [] = rw (same_number n) refl
