@@ -38,3 +38,67 @@ kept_bytes c k below =
 
 pub carry-requires-clause-known : goal.carry-requires-clause-known
 carry-requires-clause-known c = λ k below. subst IsSome (sym (kept_bytes (goal.at.carry-requires-clause-known c).In-Ok k below)) (c.requires.known k below)
+
+pub returns-in-Ok-clause-ok : goal.returns-in-Ok-clause-ok
+returns-in-Ok-clause-ok c =
+    let it = (goal.at.returns-in-Ok-clause-ok c).In-Ok in
+    let b = c.args.self.now.blocks in
+    let m = c.serve.new.self.blocks in
+    let n = c.free.new.self.blocks in
+    let s = c.args.space.now in
+    let t = c.serve.new.space in
+    let v = c.carry.new.space in
+    let u = c.free.new.space in
+    let at = c.args.at in
+    let to = c.in-Ok.to in
+    let size = c.args.size in
+    let ok = c.in-Ok.ensures.ok in
+    let f = c.free.ensures.frees in
+    let new : Chunk = record { size = size; room = granted size; own = ok.own } in
+    let first = live_put b m to (Some new) ok.chunk in
+    let second = live_put m n at None f.chunk in
+    let in_m : chunk_at m to ≡ Some new = put_there b m to (Some new) ok.chunk in
+    let in_n : chunk_at n to ≡ Some new = stays m n at to None f.chunk (λ e. apart it (sym e)) ∙ in_m in
+    record {
+      kept = f.kept;
+      fresh = λ ne. fresh_put b to ok.fresh;
+      live = live_moves (footprint b) (footprint m) (footprint n) at to size (apart it) first second;
+      bytes = λ k below.
+        (let short : k < size = omega (arith, below, c.requires.keep) in
+        f.keeps to size size k (live_of (chunk_at m to) new in_m) (live_of (chunk_at n to) new in_n) short short ∙ c.carry.ensures.copied k below ∙ kept_bytes it k below);
+      moves = Moves-more (footprint b) (footprint m) (footprint n) s t u ok.moves (Moves-more (footprint m) (footprint m) (footprint n) t v u c.carry.ensures.moves f.moves);
+      keeps = λ other p q k ne live again below short.
+        (let ne_to : to ≢ other = λ e.
+          (let none : (footprint b).live other ≡ None = subst (λ (x : Addr). (footprint b).live x ≡ None) e (fresh_put b to ok.fresh) in
+          let clash : Some p ≡ None = sym live ∙ none in
+          absurd (cc)) in
+        let middle : (footprint m).live other ≡ Some p = ap (λ (o : Option Chunk). then_option o (λ (x : Chunk). Some x.size)) (stays b m to other (Some new) ok.chunk ne_to) ∙ live in
+        f.keeps other p q k middle again below short ∙ c.carry.ensures.keeps other p p k (λ e. ne_to (sym e)) middle middle below below ∙ ok.keeps other p p k live middle below below);
+    }
+
+pub returns-in-Ok-clause-ledger : goal.returns-in-Ok-clause-ledger
+returns-in-Ok-clause-ledger c = λ chunk is.
+    (let it = (goal.at.returns-in-Ok-clause-ledger c).In-Ok in
+    let b = c.args.self.now in
+    let left : ℕ = c.args.space.now.limit - held c.args.space.now b.blocks.account in
+    let at = c.args.at in
+    let q = c.requires.chunk in
+    let same : Some q.0 ≡ Some chunk = sym q.1 ∙ is in
+    let room : q.0.room ≡ chunk.room = cc in
+    let little : chunk.room < c.args.size = omega (arith, room, q.3) in
+    let there : chunk_at c.serve.new.self.blocks at ≡ Some chunk = still it ∙ same in
+    resized-moves (ledger_of b) left c.in-Ok.to.region c.args.size at.region chunk.room chunk.own c.requires.size little
+    ∙ ap (λ (r : Result GenerationLedger CtxError). moved r at.region chunk.own) c.in-Ok.ensures.ok.ledger
+    ∙ ap Ok (sym (c.free.ensures.ledger chunk there)))
+
+pub returns-in-Err-clause-no_space : goal.returns-in-Err-clause-no_space
+returns-in-Err-clause-no_space c = λ e number chunk is.
+    (let b = c.args.self.now in
+    let left : ℕ = c.args.space.now.limit - held c.args.space.now b.blocks.account in
+    let q = c.requires.chunk in
+    let same : Some q.0 ≡ Some chunk = sym q.1 ∙ is in
+    let room : q.0.room ≡ chunk.room = cc in
+    let little : chunk.room < c.args.size = omega (arith, room, q.3) in
+    let it : c.in-Err.error ≡ NoSpace = cc in
+    resized-moves (ledger_of b) left number c.args.size c.args.at.region chunk.room chunk.own c.requires.size little
+    ∙ ap (λ (r : Result GenerationLedger CtxError). moved r c.args.at.region chunk.own) (c.in-Err.ensures.no_space (ap Err it) number))

@@ -16,7 +16,7 @@ returns-in-Some-clause-ok c =
     let bytes : ℕ = granted c.args.size + 8 in
     let number = c.in-Some.number in
     let r = c.cut.result.region in
-    let value : Some number ≡ chosen l bytes = c.in-Some.ensures.value ∙ ap (λ g. chosen l (g + 8)) c.granted.ensures.value in
+    let value : Some number ≡ chosen l bytes = c.in-Some.ensures.value ∙ ap (λ g. chosen l (g + 8)) c.granted-bytes.ensures.value in
     let step : take_cut l left r bytes ≡ Ok (cut_off (ledger_of c.turn_to.new.self) bytes) =
       take_cut-from l left r bytes c.requires.little ∙ ap (λ (o : Option ℕ). take_from o l left r bytes) (sym value) ∙ take_from-other l left r bytes number ∙ ap (λ (x : GenerationLedger). Ok (cut_off x bytes)) (sym c.turn_to.ensures.rearranges.ledger_is) in
     rw step (allocates_more b c.turn_to.new.self c.cut.new.self c.args.space.now c.turn_to.new.space c.cut.new.space c.args.size c.cut.result _ _ c.turn_to.ensures.rearranges c.cut.ensures.allocates)
@@ -33,7 +33,7 @@ returns-in-Ok-clause-ok c =
     let m = c.turn_to-in-Ok.new.self in
     let n = c.cut-in-Ok.new.self in
     let r = c.cut-in-Ok.result.region in
-    let same : c.granted.result + 8 ≡ bytes = ap (λ g. g + 8) c.granted.ensures.value in
+    let same : c.granted-bytes.result + 8 ≡ bytes = ap (λ g. g + 8) c.granted-bytes.ensures.value in
     let value : None ≡ chosen l bytes = c.in_default.ensures.value ∙ ap (chosen l) same in
     let region : r ≡ number = c.cut-in-Ok.ensures.at ∙ c.turn_to-in-Ok.ensures.current in
     let fits : block_size l bytes ≤ left = rw (← same) c.in-Ok.ensures.fits in
@@ -49,7 +49,7 @@ returns-in-Err-clause-no_space c = λ e number.
     let l = ledger_of b in
     let left : ℕ = c.args.space.now.limit - held c.args.space.now b.blocks.account in
     let bytes : ℕ = granted c.args.size + 8 in
-    let same : c.granted.result + 8 ≡ bytes = ap (λ g. g + 8) c.granted.ensures.value in
+    let same : c.granted-bytes.result + 8 ≡ bytes = ap (λ g. g + 8) c.granted-bytes.ensures.value in
     let value : None ≡ chosen l bytes = c.in_default.ensures.value ∙ ap (chosen l) same in
     let it : c.in-Err.error ≡ NoSpace = cc in
     let over : left < block_size l bytes = rw (← same) (c.in-Err.ensures.no_space (ap Err it)) in
