@@ -170,15 +170,15 @@ Moves-gone size account context l sp sq moves =
 pub AllHeaded-full : (size : ℕ) (l : Layout) → AllHeaded (footprint_of l) → AllHeaded (full size (bare l))
 AllHeaded-full size l headed =
     let more : AllHeaded (full size l) = λ at n live.
-        let it = headed at n live in
-        record {
-          header = it.header;
-          size = it.size;
-          packable = it.packable;
-          leading = it.leading;
-          behind = it.behind;
-          large = it.large;
-          word = it.word;
-          block = it.block;
-        } in
+    let it = headed at n live in
+    record {
+      header = it.header;
+      size = it.size;
+      packable = it.packable;
+      leading = it.leading;
+      behind = it.behind;
+      large = it.large;
+      word = it.word;
+      block = it.block;
+    } in
     subst AllHeaded (sym (full-bare size l)) more

@@ -13,7 +13,6 @@ overflow_add-self c = omega (arith, empty-small c.args.self.now 0 c.requires.kep
 pub overflow_add-self-2 : goal.overflow_add-self-2
 overflow_add-self-2 c = omega (arith, free-small c.args.self.now 0 c.requires.kept, c.from.ensures, c.per_block.ensures.most)
 
-
 pub returns-clause-kept : goal.returns-clause-kept
 returns-clause-kept c =
     let b = c.args.self.now in

@@ -38,11 +38,13 @@ settle-requires-clause-kept c =
     let differs = c.remove.ensures.not_keeper in
     let n : Books = record { slots = c.remove.new.self; empty = b.empty; free = b.free + 1 } in
     let few = chunks-few l b.slots.size b.slots.stacks.entries c.requires.kept.slots number differs block found in
-    let one_less : is_empty counts.block.live ≡ is_empty (block.live - 1) = ap is_empty counts.count in
-    (counts.block, found_now l c.remove.new.self.blocks number counts.block counts.puts.at,
-    kept-changed b n 0 number c.requires.kept c.remove.ensures.slots c.remove.ensures.size c.remove.ensures.same differs block found (block.live - 1) counts (is_empty counts.block.live)
-    (omega (arith, one_less, is_empty-some block.live had.2))
-    (omega (arith, few, had.2)))
+    let one_less : is_empty counts.block.live ≡ is_empty (block.live - 1) = ap is_empty counts.count in (
+      counts.block,
+      found_now l c.remove.new.self.blocks number counts.block counts.puts.at,
+      kept-changed b n 0 number c.requires.kept c.remove.ensures.slots c.remove.ensures.size c.remove.ensures.same differs block found (block.live - 1) counts (is_empty counts.block.live)
+          (omega (arith, one_less, is_empty-some block.live had.2))
+          (omega (arith, few, had.2)),
+    )
 
 pub settle-requires-clause-agrees : goal.settle-requires-clause-agrees
 settle-requires-clause-agrees c =

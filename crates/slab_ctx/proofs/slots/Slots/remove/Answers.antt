@@ -60,10 +60,14 @@ returns-clause-block c =
     let chunk = c.requires.chunk.0 in
     let has = c.requires.chunk.1 in
     let b = c.owned-freed.result in
-    let found = c.owned-freed.ensures in
-    (b, found, c.laid.ensures.some c.args.at chunk b has found, record {
-      block = record b { live = b.live - 1; freed = b.freed + 1 };
-      puts = c.remove.ensures.block b found;
-      count = refl;
-      bytes = (c.requires.slots.filled c.args.at.region b (c.requires.slots.owned c.args.at chunk has) found).bytes;
-    })
+    let found = c.owned-freed.ensures in (
+      b,
+      found,
+      c.laid.ensures.some c.args.at chunk b has found,
+      record {
+        block = record b { live = b.live - 1; freed = b.freed + 1 };
+        puts = c.remove.ensures.block b found;
+        count = refl;
+        bytes = (c.requires.slots.filled c.args.at.region b (c.requires.slots.owned c.args.at chunk has) found).bytes;
+      },
+    )
