@@ -13,3 +13,4 @@ pub mod KeptSteps
 pub mod Chosen
 pub mod Freed
 pub mod Served
+pub mod Held

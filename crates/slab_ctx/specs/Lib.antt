@@ -5,3 +5,4 @@ pub mod Slots
 pub mod Counts
 pub mod Kept
 pub mod Steps
+pub mod Held
