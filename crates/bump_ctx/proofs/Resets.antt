@@ -1,7 +1,7 @@
 -- The books of a context with the keeper alone.
-use Rattle.std.proofs.Common.{◌≡◌, ℕ, ◌-◌, ◌∷◌, [], length, Some, refl, arith, ◌∙◌, sym, ap, subst, List}
+use Rattle.std.proofs.Common.{◌≡◌, ℕ, ◌-◌, ◌∷◌, [], length, Some, refl, arith, ◌∙◌, ap, List}
 use Rattle.chunk_header.specs.declared.Kind.TheVariants.{Bump}
-use Rattle.ctx_blocks.specs.Layout.{Layout, block_at, total, rooms, whole_room}
+use Rattle.ctx_blocks.specs.Layout.{block_at, total, rooms, whole_room}
 use Rattle.ctx_blocks.specs.declared.parts.Block.{Block}
 use Rattle.bump_ctx.specs.Ledger.{created}
 use Rattle.bump_ctx.specs.Kept.{ledger_of, room_of, room_at, IsSized, IsKept}
@@ -37,9 +37,9 @@ module _ (n : Books) (kind : n.blocks.kind ≡ Bump) (sized : IsSized n.sizes.in
   pub ledger_alone : ledger_of n ≡ created n.sizes.init n.sizes.max
   unfolding created
   ledger_alone =
-    let all : total n.blocks ≡ n.sizes.init = rw only (omega arith) in
-    let count : length n.blocks.blocks ≡ 1 = rw only refl in
-    let room : room_at n.blocks n.newest ≡ n.sizes.init - 240 = ap room_of at_newest ∙ omega arith in
-    let sums : rooms n.blocks ≡ n.sizes.init - 200 - 40 = rw only (omega arith) in
-    let idle : rooms n.blocks - room_at n.blocks n.newest ≡ 0 = omega (arith, sums, room) in
-    cc
+      let all : total n.blocks ≡ n.sizes.init = rw only (omega arith) in
+      let count : length n.blocks.blocks ≡ 1 = rw only refl in
+      let room : room_at n.blocks n.newest ≡ n.sizes.init - 240 = ap room_of at_newest ∙ omega arith in
+      let sums : rooms n.blocks ≡ n.sizes.init - 200 - 40 = rw only (omega arith) in
+      let idle : rooms n.blocks - room_at n.blocks n.newest ≡ 0 = omega (arith, sums, room) in
+      cc
