@@ -1,7 +1,7 @@
 -- The books of a context with the keeper alone.
-use Rattle.std.proofs.Common.{◌≡◌, ℕ, ◌-◌, ◌∷◌, [], length, Some, refl, arith, ◌∙◌, sym, ap, subst, List}
+use Rattle.std.proofs.Common.{◌≡◌, ℕ, ◌-◌, ◌∷◌, [], length, Some, refl, arith, ◌∙◌, ap, List}
 use Rattle.chunk_header.specs.declared.Kind.TheVariants.{Bump}
-use Rattle.ctx_blocks.specs.Layout.{Layout, block_at, total, rooms, whole_room}
+use Rattle.ctx_blocks.specs.Layout.{block_at, total, rooms, whole_room}
 use Rattle.ctx_blocks.specs.declared.parts.Block.{Block}
 use Rattle.bump_ctx.specs.Ledger.{created}
 use Rattle.bump_ctx.specs.Kept.{ledger_of, room_of, room_at, IsSized, IsKept}

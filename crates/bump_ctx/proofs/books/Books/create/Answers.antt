@@ -1,4 +1,4 @@
-use Rattle.std.proofs.Common.{◌≡◌, refl}
+use Rattle.std.proofs.Common.{refl}
 use Rattle.bump_ctx.specs.Kept.{IsSized}
 use Rattle.bump_ctx.specs.declared.books.Books.{Books}
 use Rattle.bump_ctx.proofs.Resets.{kept_alone, ledger_alone}
