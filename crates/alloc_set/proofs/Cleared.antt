@@ -1,7 +1,6 @@
 -- Lemmas on a context all of whose chunks are taken off the books.
-use Rattle.std.proofs.Common.{◌≡◌, ◌≢◌, ℕ, ◌+◌, ◌-◌, ◌≤◌, ◌==◌, if◌then◌else◌, List, [], replicate, map, sum, sum_by, option_map, unwrap_or, Option, Some, None, true, false, refl, sym, ap, ◌∙◌, arith, inl, inr, min}
+use Rattle.std.proofs.Common.{◌≡◌, ◌≢◌, ℕ, ◌+◌, ◌-◌, ◌≤◌, ◌==◌, if◌then◌else◌, List, [], replicate, map, sum, sum_by, Some, None, true, false, refl, sym, ap, ◌∙◌, arith, inl, inr, min}
 use Rattle.std.specs.Map.{lookup, values_of}
-use Rattle.std.proofs.lemmas.Bool.{cases_eq}
 use Rattle.std.proofs.lemmas.Bool.Decides.{nat_tests}
 use Rattle.addr_space.specs.declared.Addr.{Addr}
 use Rattle.addr_space.specs.Space.{Space, region_at, share, held, Changes}
@@ -9,8 +8,8 @@ use Rattle.addr_space.specs.Footprint.{Agrees, Moves, nothing}
 use Rattle.addr_space.proofs.Steps.{Moves-still, Moves-give}
 use Rattle.chunk_header.specs.Header.{block_bytes}
 use Rattle.alloc_set.specs.Ledger.{created}
-use Rattle.alloc_set.specs.State.{SetState, chunk_at, region_of, start_of, mark_of, emptied, footprint}
-use Rattle.alloc_set.specs.Kept.{state_of, no_shelf, IsSettled, IsCounted, IsCleared}
+use Rattle.alloc_set.specs.State.{SetState, chunk_at, start_of, mark_of, emptied, footprint}
+use Rattle.alloc_set.specs.Kept.{state_of, IsSettled, IsCounted, IsCleared}
 use Rattle.alloc_set.specs.Steps.{SameBlocks}
 use Rattle.alloc_set.proofs.Settled.{mark_cases, IsSound-settled}
 use Rattle.alloc_set.proofs.Carved.{region_same, start_same, mark_from_block}
@@ -19,7 +18,6 @@ use Rattle.alloc_set.proofs.Given.{held-owned}
 use Rattle.alloc_set.proofs.KeptAdded.{keeper_owned}
 use Rattle.alloc_set.proofs.KeptNew.{Agrees-nothing}
 use Rattle.alloc_set.specs.declared.books.Books.{Books}
-use Rattle.indexmap.specs.IndexMap.{swap_remove_entry}
 
 keeper_start : (s : SetState) → start_of s s.keeper ≡ 200
 keeper_start s =

@@ -4,7 +4,7 @@ use Rattle.std.specs.Map.{lookup}
 use Rattle.std.proofs.lemmas.Bool.{cases_eq}
 use Rattle.std.proofs.lemmas.Bool.Decides.{nat_tests}
 use Rattle.addr_space.specs.declared.Addr.{Addr}
-use Rattle.addr_space.specs.Space.{Region, Space, region_at, byte_at, bytes_of, share, held, Changes}
+use Rattle.addr_space.specs.Space.{Space, region_at, bytes_of, share, held, Changes}
 use Rattle.addr_space.specs.Footprint.{Footprint, Agrees, Moves, Keeps, HasRegion, counted}
 use Rattle.addr_space.proofs.Steps.{Moves-give}
 use Rattle.chunk_header.specs.Header.{header_bytes, block_bytes}

@@ -1,5 +1,5 @@
 -- Lemmas on a chunk that gets another size where it is.
-use Rattle.std.proofs.Common.{◌≡◌, ℕ, ◌<◌, ◌≤◌, if◌then◌else◌, Some, None, Ok, Result, refl, sym, ap, ◌∙◌, arith, inl, inr}
+use Rattle.std.proofs.Common.{◌≡◌, ℕ, ◌≤◌, if◌then◌else◌, Some, None, Ok, Result, refl, sym, ap, ◌∙◌, arith, inl, inr}
 use Rattle.chunk_header.specs.declared.CtxError.{CtxError}
 use Rattle.addr_space.specs.declared.Addr.{Addr}
 use Rattle.addr_space.specs.Space.{Space}

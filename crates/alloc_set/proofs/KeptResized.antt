@@ -1,5 +1,5 @@
 -- What the code keeps, after a chunk got another size where it is.
-use Rattle.std.proofs.Common.{◌≡◌, ◌≢◌, ℕ, ◌+◌, ◌-◌, ◌^◌, ◌<◌, ◌≤◌, ◌==◌, List, length, min, Option, Some, None, refl, sym, ap, ◌∙◌, subst, arith, inl, inr, sum, sum_by, unwrap_or, option_map, if◌then◌else◌, true, false}
+use Rattle.std.proofs.Common.{◌≡◌, ◌≢◌, ℕ, ◌+◌, ◌-◌, ◌^◌, ◌<◌, ◌≤◌, ◌==◌, List, length, min, Option, Some, None, refl, sym, ap, ◌∙◌, subst, arith, sum, sum_by, if◌then◌else◌, true, false}
 use Rattle.std.specs.Map.{values_of, lookup}
 use Rattle.std.proofs.lemmas.Bool.Decides.{nat_tests}
 use Rattle.addr_space.specs.declared.Addr.{Addr}
@@ -10,7 +10,7 @@ use Rattle.alloc_set.specs.Kept.{state_of, own_bytes, is_free, IsKept}
 use Rattle.alloc_set.specs.Steps.{SameBlocks, PutsChunk}
 use Rattle.alloc_set.specs.declared.books.Books.{Books}
 use Rattle.alloc_set.specs.declared.chunk.Chunk.{Chunk}
-use Rattle.alloc_set.specs.declared.chunk.Chunk.TheVariants.{Live, Free, Own}
+use Rattle.alloc_set.specs.declared.chunk.Chunk.TheVariants.{Live, Own}
 use Rattle.alloc_set.proofs.Entries.{sum_by-insert}
 use Rattle.alloc_set.proofs.Flipped.{IsSettled-flipped}
 use Rattle.alloc_set.proofs.Shelved.{IsShelved-taken, IsTaken}

@@ -2,18 +2,17 @@
 use Rattle.std.proofs.Common.{◌≡◌, ◌≢◌, ℕ, ◌+◌, ◌-◌, ◌<◌, ◌≤◌, if◌then◌else◌, length, Some, None, Ok, IsSome, refl, sym, ap, ◌∙◌, subst, arith, inl, inr}
 use Rattle.addr_space.specs.declared.Addr.{Addr}
 use Rattle.addr_space.specs.Space.{Space, held, byte_at, region_at, bytes_of, part, overwritten, Changes, IsKnown}
-use Rattle.addr_space.specs.Footprint.{Agrees, Moves, Keeps, KeepsBut}
+use Rattle.addr_space.specs.Footprint.{Agrees, Moves, KeepsBut}
 use Rattle.addr_space.proofs.Steps.{Moves-more}
-use Rattle.alloc_set.specs.Ledger.{SetLedger, class_size, shelved, take}
+use Rattle.alloc_set.specs.Ledger.{class_size, shelved, take}
 use Rattle.alloc_set.specs.State.{SetState, same_addr, chunk_at, then_option, live_size, footprint}
 use Rattle.alloc_set.specs.Kept.{state_of, IsKept}
-use Rattle.alloc_set.specs.Live.{PutsLive, LeavesLive}
+use Rattle.alloc_set.specs.Live.{PutsLive}
 use Rattle.alloc_set.specs.Cut.{Allocates}
 use Rattle.alloc_set.specs.Resize.{then_shelved, resize_class, StaysFor, MovesLive, HasBytesOf, Resizes}
 use Rattle.alloc_set.specs.declared.books.Books.{Books}
 use Rattle.alloc_set.specs.declared.chunk.Chunk.TheVariants.{Live}
 use Rattle.alloc_set.proofs.Carved.{same_addr-cases}
-use Rattle.alloc_set.proofs.Settled.{from_then}
 use Rattle.alloc_set.proofs.Refits.{resize_class-moves}
 use Rattle.alloc_set.proofs.Carried.{Moves-carried, KeepsBut-carried, HasBytesOf-carried}
 

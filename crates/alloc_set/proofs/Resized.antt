@@ -1,7 +1,6 @@
 -- Lemmas on a space after a region got another length and a word at its start.
-use Rattle.std.proofs.Common.{◌≡◌, ℕ, ◌+◌, ◌-◌, ◌<◌, ◌≤◌, ◌==◌, ◌++◌, if◌then◌else◌, List, length, map, get_or, take, drop, replicate, Option, Some, None, refl, sym, ap, ◌∙◌, arith}
+use Rattle.std.proofs.Common.{◌≡◌, ℕ, ◌+◌, ◌-◌, ◌<◌, ◌≤◌, ◌==◌, ◌++◌, if◌then◌else◌, List, length, map, get_or, take, drop, replicate, Option, Some, None, sym, ap, ◌∙◌, arith}
 use Rattle.std.proofs.lemmas.List.{length-append, length-map, length-take, length-replicate, get_or-map, get_or-take, get_or_append_left}
-use Rattle.addr_space.specs.declared.Addr.{Addr}
 use Rattle.addr_space.specs.Space.{Region, Space, region_at, bytes_of, byte_at, overwritten, resized, Changes, HasBytes, share}
 use Rattle.addr_space.specs.Footprint.{HasRegion}
 use Rattle.addr_space.proofs.Bytes.{length-overwritten, get_or-overwritten_in, get_or-overwritten_after}

@@ -1,5 +1,5 @@
 -- Lemmas on live chunks that stand where they stood.
-use Rattle.std.proofs.Common.{◌≡◌, ℕ, Option, Some, None, refl, sym, ap, ◌∙◌, inl, inr}
+use Rattle.std.proofs.Common.{◌≡◌, Option, None, sym, ap, ◌∙◌, inl, inr}
 use Rattle.std.specs.Map.{lookup}
 use Rattle.addr_space.specs.declared.Addr.{Addr}
 use Rattle.alloc_set.specs.State.{SetState, same_addr, chunk_at, then_option, live_size, footprint}

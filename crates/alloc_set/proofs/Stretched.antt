@@ -10,7 +10,7 @@ use Rattle.chunk_header.specs.Header.{header_bytes, block_bytes}
 use Rattle.alloc_set.specs.State.{SetState, chunk_at, region_of, start_of, capacity_of, live_size, header_of, mark_of, footprint}
 use Rattle.alloc_set.specs.Kept.{IsSettled, IsPlaced, IsSized, IsAlone}
 use Rattle.alloc_set.specs.Steps.{PutsChunk}
-use Rattle.alloc_set.proofs.Settled.{mark_cases, from_then, live_size-le, length-header_bytes, length-block_bytes, same_addr_from, IsSound-settled}
+use Rattle.alloc_set.proofs.Settled.{mark_cases, from_then, length-header_bytes, length-block_bytes, same_addr_from, IsSound-settled}
 use Rattle.alloc_set.proofs.Carved.{put_cases, mark_from_block, mark_from_chunk}
 use Rattle.alloc_set.proofs.Resized.{length-resized, share-len, HasRegion-resized, HasBytes-resized, byte_at-resized}
 use Rattle.alloc_set.specs.declared.chunk.Chunk.{Chunk}

@@ -6,7 +6,7 @@ use Rattle.addr_space.specs.Footprint.{Agrees, Moves}
 use Rattle.addr_space.proofs.Steps.{Moves-still}
 use Rattle.addr_space.proofs.Written.{option_cases}
 use Rattle.chunk_header.specs.Header.{header_bytes, block_bytes}
-use Rattle.alloc_set.specs.State.{SetState, chunk_at, region_of, start_of, header_of, mark_of, footprint}
+use Rattle.alloc_set.specs.State.{SetState, chunk_at, region_of, header_of, mark_of, footprint}
 use Rattle.alloc_set.specs.Kept.{IsSettled}
 use Rattle.alloc_set.specs.Steps.{PutsChunk, SameBlocks}
 use Rattle.alloc_set.proofs.Settled.{mark_cases, same_addr_from, IsSound-settled}

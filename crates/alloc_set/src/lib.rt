@@ -130,11 +130,15 @@ impl AllocSet {
         Ok(())
     }
 
-    /// Gives a live chunk a size of `size` bytes, which may be 0, and answers where it is now. `keep` is how many of its first bytes are known.
+    /// Gives a live chunk a size of `size` bytes, which may be 0, and answers where it is now. `keep` is how many
+    /// of its first bytes are known.
     ///
-    /// The chunk stays where its class has the size or where it has its block for itself; that block then gets another length. Else a new chunk is taken, the first `keep` bytes but no more than `size` are copied, and the old chunk is freed.
+    /// The chunk stays where its class has the size, or where it has a block for itself, which then gets another
+    /// length. Else a new chunk is taken, the known bytes that have room there are copied, and the old chunk is
+    /// freed.
     ///
-    /// `TooBig`, where `size` is over 1,073,741,823, comes before `NoSpace`, and `Memory` may come in place of any other. A refused call changes nothing.
+    /// `TooBig`, where `size` is over 1,073,741,823, comes before `NoSpace`, and `Memory` may come in place of
+    /// any other. A refused call changes nothing.
     pub fn realloc(
         &mut self,
         space: &mut Space,
@@ -150,7 +154,7 @@ impl AllocSet {
         // The ledger makes its step for the chunk, with what the account holds and may hold.
         ensures ledger { OnOk result (resized self.old.ledger (held space.old self.old.account) space.old.limit (chunk_at self.old at) size ≡ Ok self.new.ledger) }
 
-        // Where the chunk is at another address none was live there, the old address has none, and every other chunk stays.
+        // Where the chunk is at another address, none was live there, and the old address has none. Others stay.
         ensures place { IfOk result (λ to. (to ≡ at) ↔ StaysFor (chunk_at self.old at) size) }
         ensures fresh { IfOk result (λ to. to ≢ at → (footprint self.old).live to ≡ None) }
         ensures live { IfOk result (λ to. MovesLive self.old self.new at to size) }

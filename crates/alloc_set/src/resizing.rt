@@ -1,12 +1,11 @@
 //! What an AllocSet does when a chunk gets another size.
-ghost use Rattle.std.specs.Prelude.{◌≡◌, ◌≢◌, ℕ, ◌+◌, ◌-◌, ◌^◌, ◌<◌, ◌≤◌, ◌↔◌, ◌⊎◌, ◌==◌, Ok, Err, Some, None, IfOk, IfErr, OnOk, OnErr, IsSome, IfSome, Option, map, min, sum_by, unwrap_or, option_map, if◌then◌else◌};
+ghost use Rattle.std.specs.Prelude.{◌≡◌, ℕ, ◌+◌, ◌-◌, ◌^◌, ◌<◌, ◌≤◌, ◌↔◌, ◌⊎◌, ◌==◌, Ok, Err, Some, IfOk, IfErr, OnOk, OnErr, IsSome, IfSome, map, min, sum_by, unwrap_or, option_map, if◌then◌else◌};
 ghost use Rattle.std.specs.Map.{values_of, lookup};
-ghost use Rattle.addr_space.specs.declared.Addr.{Addr};
 ghost use Rattle.addr_space.specs.Space.{Space, held, share, region_at, resized as with_length, overwritten, Changes, IsOverLimit, IsKnown};
 ghost use Rattle.addr_space.specs.Footprint.{Agrees, Moves, Keeps};
 ghost use Rattle.chunk_header.specs.Header.{block_bytes};
 ghost use Rattle.alloc_set.specs.declared.chunk.Chunk.{Chunk};
-ghost use Rattle.alloc_set.specs.Ledger.{class_size, class_of};
+ghost use Rattle.alloc_set.specs.Ledger.{class_size};
 ghost use Rattle.alloc_set.specs.State.{chunk_at, footprint};
 
 use crate::books::{Books, LARGEST, MOST, put};

@@ -211,13 +211,12 @@ fn an_own_block_is_resized(rt: HostRuntime) -> Result<(), Fail> {
 
 #[test]
 fn a_moved_chunk_keeps_its_bytes(rt: HostRuntime) -> Result<(), Fail> {
+    let bytes = [3, 1, 4, 1, 5, 9, 2, 6];
     let mut space = Space::new(rt.alloc(), 1, 100_000)?;
-    let mut set = AllocSet::create(rt.alloc(), &mut space, 0, 7, GREAT)?;
-    let at = set.alloc(&mut space, 4)?;
-    space.write(at, b"abcd");
-    let to = set.realloc(&mut space, at, 4, 9)?;
-    let mut out = [0; 4];
-    space.read(to, &mut out);
-    assert_eq!(rt; out, *b"abcd");
+    let (mut set, _other, at) = written(rt.alloc(), &mut space, &bytes)?;
+    let to = set.realloc(&mut space, at, 8, 9)?;
+    let mut read = [0; 8];
+    space.read(to, &mut read);
+    assert_eq!(rt; read, bytes);
     Ok(())
 }

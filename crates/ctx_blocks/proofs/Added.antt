@@ -1,7 +1,6 @@
 -- Lemmas on a block that is added.
-use Rattle.std.proofs.Common.{◌≡◌, ◌≢◌, ℕ, ◌+◌, ◌-◌, ◌*◌, ◌%◌, ◌^◌, ◌<◌, ◌≤◌, ◌⊎◌, ◌==◌, if◌then◌else◌, List, length, Option, Some, None, false, refl, sym, ap, subst, ◌∙◌, arith, inl, inr, slice_index, slice_index_or, map, replicate}
+use Rattle.std.proofs.Common.{◌≡◌, ◌≢◌, ℕ, ◌+◌, ◌-◌, ◌%◌, ◌^◌, ◌<◌, ◌≤◌, ◌⊎◌, ◌==◌, if◌then◌else◌, List, length, Option, Some, None, false, refl, sym, ap, subst, ◌∙◌, arith, inl, inr, slice_index, slice_index_or, map}
 use Rattle.std.proofs.lemmas.List.{length-replicate}
-use Rattle.std.proofs.lemmas.Bool.{cases_eq}
 use Rattle.std.proofs.lemmas.Bool.Decides.{nat_tests}
 use Rattle.addr_space.specs.declared.Addr.{Addr}
 use Rattle.addr_space.specs.Space.{Space, region_at, byte_at, bytes_of, overwritten, unwritten, Changes, held}
@@ -9,13 +8,12 @@ use Rattle.addr_space.specs.Footprint.{Agrees, Moves, Keeps, HasRegion, counted}
 use Rattle.addr_space.proofs.Written.{HasRegion-written, HasBytes-written, held-written}
 use Rattle.addr_space.proofs.Steps.{Moves-one, Changes-more}
 use Rattle.chunk_header.specs.Header.{header_bytes, block_bytes}
-use Rattle.ctx_blocks.specs.Layout.{Layout, block_at, chunk_at, start_of, header_room, header_of, whole_of, total, count_in, mark_of, footprint}
+use Rattle.ctx_blocks.specs.Layout.{Layout, block_at, chunk_at, start_of, header_of, whole_of, total, count_in, mark_of, footprint}
 use Rattle.ctx_blocks.specs.Kept.{IsFilled, IsLaid, IsSized, IsCounted, IsFirst}
 use Rattle.ctx_blocks.specs.Steps.{SameContext}
 use Rattle.ctx_blocks.specs.declared.parts.Block.{Block}
-use Rattle.ctx_blocks.specs.declared.parts.Chunk.{Chunk}
 use Rattle.ctx_blocks.proofs.Laid.{mark_cases, mark_from_block, mark_from_chunk, from_live, region_is, one_value, option_cases, block_cases, behind, length-block_bytes, IsSound-laid}
-use Rattle.ctx_blocks.proofs.Counts.{counted_some, none_placed}
+use Rattle.ctx_blocks.proofs.Counts.{none_placed}
 use Rattle.ctx_blocks.proofs.Totals.{keeper_owned}
 use Rattle.ctx_blocks.proofs.Lessened.{start_same, gap_same}
 

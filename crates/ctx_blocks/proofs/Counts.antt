@@ -1,13 +1,13 @@
 -- Lemmas on the counts of live chunks.
-use Rattle.std.proofs.Common.{◌≡◌, ◌≢◌, ℕ, ◌+◌, ◌≤◌, ◌==◌, ◌&&◌, if◌then◌else◌, List, [], ◌∷◌, Option, Some, None, true, false, Bool, is_some, position, refl, sym, ap, ◌∙◌, arith, inl, inr, sum_by, length, get_or}
-use Rattle.std.specs.Map.{lookup, keys_of, values_of}
+use Rattle.std.proofs.Common.{◌≡◌, ◌≢◌, ℕ, ◌+◌, ◌≤◌, ◌==◌, if◌then◌else◌, List, [], ◌∷◌, Option, Some, None, true, false, is_some, position, refl, sym, ap, ◌∙◌, arith, inl, inr, sum_by, get_or}
+use Rattle.std.specs.Map.{lookup, keys_of}
 use Rattle.std.proofs.lemmas.Bool.{cases_eq}
 use Rattle.std.proofs.lemmas.Bool.Decides.{nat_tests}
 use Rattle.std.proofs.lemmas.List.{get_or-map}
 use Rattle.std.proofs.lemmas.List.Quantifiers.{position-Some}
 use Rattle.std.proofs.lemmas.List.Sums.{sum_by-cons, sum_by-swap_remove}
 use Rattle.indexmap.specs.IndexMap.{insert_entry, swap_remove_entry}
-use Rattle.indexmap.proofs.MapLemmas.{Found-position, some_index, swap_remove_entry-found, swap_remove_entry-missing}
+use Rattle.indexmap.proofs.MapLemmas.{Found-position, some_index, swap_remove_entry-found}
 use Rattle.addr_space.specs.declared.Addr.{Addr}
 use Rattle.ctx_blocks.specs.Layout.{Layout, same_addr, chunk_at, block_at, is_in, count_in}
 use Rattle.ctx_blocks.specs.Kept.{IsLaid, IsCounted}

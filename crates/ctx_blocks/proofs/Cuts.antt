@@ -1,8 +1,8 @@
 -- Lemmas on where a chunk can be noted.
-use Rattle.std.proofs.Common.{◌≡◌, ℕ, ◌+◌, ◌-◌, ◌*◌, ◌%◌, ◌^◌, ◌<◌, ◌≤◌, ◌⊎◌, Bool, true, Some, false, refl, sym, ap, ◌∙◌, arith, inl, inr}
+use Rattle.std.proofs.Common.{◌≡◌, ℕ, ◌+◌, ◌-◌, ◌%◌, ◌^◌, ◌<◌, ◌≤◌, ◌⊎◌, Bool, true, Some, false, refl, ap, ◌∙◌, arith, inl, inr}
 use Rattle.addr_space.specs.declared.Addr.{Addr}
-use Rattle.ctx_blocks.specs.Layout.{Layout, block_at, chunk_at, start_of, header_room, whole_of}
-use Rattle.ctx_blocks.specs.Kept.{IsFilled, IsLaid, IsSized, IsClear}
+use Rattle.ctx_blocks.specs.Layout.{Layout, block_at, chunk_at, start_of, header_room}
+use Rattle.ctx_blocks.specs.Kept.{IsLaid, IsClear}
 use Rattle.ctx_blocks.specs.Held.{Holds}
 use Rattle.ctx_blocks.specs.declared.parts.Block.{Block}
 use Rattle.ctx_blocks.specs.declared.parts.Chunk.{Chunk}

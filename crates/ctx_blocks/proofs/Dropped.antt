@@ -1,16 +1,14 @@
 -- Lemmas on a block that goes.
-use Rattle.std.proofs.Common.{◌≡◌, ◌≢◌, ℕ, ◌+◌, ◌-◌, ◌≤◌, ◌==◌, if◌then◌else◌, List, [], ◌∷◌, ◌++◌, length, Bool, true, false, Option, Some, None, refl, sym, ap, ◌∙◌, subst, arith, inl, inr, sum_by}
-use Rattle.std.specs.Map.{lookup, values_of}
-use Rattle.std.proofs.lemmas.Bool.Decides.{nat_tests}
+use Rattle.std.proofs.Common.{◌≡◌, ◌≢◌, ℕ, ◌+◌, ◌==◌, if◌then◌else◌, List, [], ◌∷◌, ◌++◌, length, Bool, true, false, Some, None, refl, sym, ap, ◌∙◌, arith, inl, inr}
+use Rattle.std.specs.Map.{lookup}
 use Rattle.addr_space.specs.declared.Addr.{Addr}
 use Rattle.addr_space.specs.Space.{Space, IsRegion, Changes, region_at, share, held}
 use Rattle.addr_space.specs.Footprint.{Agrees, Moves, Keeps}
-use Rattle.ctx_blocks.specs.Layout.{Layout, block_at, chunk_at, whole_of, total, count_in, footprint}
-use Rattle.ctx_blocks.specs.Kept.{IsFilled, IsLaid, IsCounted}
+use Rattle.ctx_blocks.specs.Layout.{Layout, block_at, chunk_at, total, count_in, footprint}
+use Rattle.ctx_blocks.specs.Kept.{IsLaid, IsCounted}
 use Rattle.ctx_blocks.specs.Steps.{SameContext}
 use Rattle.ctx_blocks.specs.declared.parts.Block.{Block}
-use Rattle.ctx_blocks.specs.declared.parts.Chunk.{Chunk}
-use Rattle.ctx_blocks.proofs.Laid.{one_value, block_cases, region_is, from_live}
+use Rattle.ctx_blocks.proofs.Laid.{block_cases, region_is, from_live}
 use Rattle.ctx_blocks.proofs.Lessened.{Lessens, Moves-given}
 
 -- a block's region is live in the space, and counts for the account

@@ -10,7 +10,7 @@ use Rattle.chunk_header.specs.Header.{IsPackable, IsLeading, AllHeaded}
 use Rattle.ctx_blocks.specs.Layout.{Layout, same_addr, start_of, gap_of, header_room, header_of, footprint}
 use Rattle.ctx_blocks.specs.Kept.{IsLaid, IsSized}
 use Rattle.ctx_blocks.specs.declared.parts.Chunk.{Chunk}
-use Rattle.ctx_blocks.proofs.Laid.{from_live, behind, mark_from_block, mark_from_chunk}
+use Rattle.ctx_blocks.proofs.Laid.{from_live, mark_from_block, mark_from_chunk}
 
 -- the value of a header has room in its word
 value_small : (own : Bool) (room : ℕ) → (own ≡ true) ⊎ (room < 2 ^ 30) → (if own then 0 else room) < 2 ^ 30

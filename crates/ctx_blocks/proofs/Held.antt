@@ -1,19 +1,18 @@
 -- Lemmas on a chunk that is noted in a block.
-use Rattle.std.proofs.Common.{◌≡◌, ◌≢◌, ℕ, ◌+◌, ◌-◌, ◌*◌, ◌%◌, ◌<◌, ◌≤◌, ◌⊎◌, ◌==◌, if◌then◌else◌, List, length, Option, Some, None, refl, sym, ap, subst, ◌∙◌, arith, inl, inr, slice_index, map}
-use Rattle.std.proofs.lemmas.Bool.{cases_eq}
+use Rattle.std.proofs.Common.{◌≡◌, ℕ, ◌+◌, ◌-◌, ◌<◌, ◌≤◌, ◌⊎◌, ◌==◌, if◌then◌else◌, List, length, Some, None, refl, sym, ap, subst, ◌∙◌, arith, inl, inr, slice_index, map}
 use Rattle.addr_space.specs.declared.Addr.{Addr}
 use Rattle.addr_space.specs.Space.{Space, region_at, byte_at, bytes_of, overwritten, Changes}
 use Rattle.addr_space.specs.Footprint.{Agrees, Moves, Keeps, HasRegion, counted}
 use Rattle.addr_space.proofs.Written.{HasRegion-written, byte_at-apart, HasBytes-written, held-written}
 use Rattle.addr_space.proofs.Steps.{Moves-one, Moves-still}
 use Rattle.chunk_header.specs.Header.{header_bytes, block_bytes}
-use Rattle.ctx_blocks.specs.Layout.{Layout, block_at, chunk_at, start_of, gap_of, header_room, header_of, whole_of, total, count_in, mark_of, footprint}
-use Rattle.ctx_blocks.specs.Kept.{IsFilled, IsLaid, IsPlaced, IsSized, IsClear, IsCounted}
+use Rattle.ctx_blocks.specs.Layout.{Layout, block_at, chunk_at, start_of, header_room, header_of, whole_of, total, count_in, mark_of, footprint}
+use Rattle.ctx_blocks.specs.Kept.{IsFilled, IsLaid, IsPlaced, IsSized, IsCounted}
 use Rattle.ctx_blocks.specs.Steps.{SameContext, PutsChunk}
 use Rattle.ctx_blocks.specs.Held.{Holds, IsWritten}
 use Rattle.ctx_blocks.specs.declared.parts.Block.{Block}
 use Rattle.ctx_blocks.specs.declared.parts.Chunk.{Chunk}
-use Rattle.ctx_blocks.proofs.Laid.{mark_cases, mark_within, mark_from_block, mark_from_chunk, from_region, from_live, region_is, one_value, option_cases, put_cases, block_cases, behind, same_addr_from, length-header_bytes, length-block_bytes, IsSound-laid}
+use Rattle.ctx_blocks.proofs.Laid.{mark_cases, mark_within, mark_from_block, mark_from_chunk, from_live, region_is, one_value, option_cases, put_cases, block_cases, behind, length-header_bytes, IsSound-laid}
 use Rattle.ctx_blocks.proofs.Counts.{one_in, one_in-self, one_in-other}
 use Rattle.ctx_blocks.proofs.Lessened.{start_same, gap_same}
 use Rattle.ctx_blocks.proofs.Refilled.{region-put}

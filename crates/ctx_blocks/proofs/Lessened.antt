@@ -1,17 +1,16 @@
 -- Lemmas on steps after which a context has no more chunks and blocks than before.
-use Rattle.std.proofs.Common.{◌≡◌, ◌≢◌, ℕ, ◌+◌, ◌-◌, ◌<◌, ◌≤◌, ◌⊎◌, ◌==◌, if◌then◌else◌, List, length, Option, Some, None, false, refl, sym, ap, ◌∙◌, subst, arith, inl, inr}
-use Rattle.std.proofs.lemmas.Bool.{cases_eq}
+use Rattle.std.proofs.Common.{◌≡◌, ◌≢◌, ℕ, ◌+◌, ◌-◌, ◌≤◌, ◌==◌, if◌then◌else◌, List, Some, None, refl, sym, ap, ◌∙◌, arith, inl, inr}
 use Rattle.addr_space.specs.declared.Addr.{Addr}
 use Rattle.addr_space.specs.Space.{Space, Changes, held}
-use Rattle.addr_space.specs.Footprint.{Agrees, Moves, Keeps, counted}
+use Rattle.addr_space.specs.Footprint.{Agrees, Moves, counted}
 use Rattle.addr_space.proofs.Steps.{Moves-still, Moves-give}
 use Rattle.chunk_header.specs.Header.{header_bytes, block_bytes}
 use Rattle.ctx_blocks.specs.Layout.{Layout, block_at, chunk_at, start_of, gap_of, header_room, header_of, whole_of, total, mark_of, footprint}
-use Rattle.ctx_blocks.specs.Kept.{IsFilled, IsLaid, IsSized}
+use Rattle.ctx_blocks.specs.Kept.{IsFilled, IsLaid}
 use Rattle.ctx_blocks.specs.Steps.{SameContext, MovesStill}
 use Rattle.ctx_blocks.specs.declared.parts.Block.{Block}
 use Rattle.ctx_blocks.specs.declared.parts.Chunk.{Chunk}
-use Rattle.ctx_blocks.proofs.Laid.{mark_cases, mark_from_block, mark_from_chunk, from_region, from_live, region_is, one_value, behind, IsSound-laid}
+use Rattle.ctx_blocks.proofs.Laid.{mark_cases, mark_from_block, mark_from_chunk, region_is, one_value, behind, IsSound-laid}
 
 -- each chunk and each block was there, with the same bytes; a block in which chunks are has no more room
 pub record Lessens (l m : Layout) : Type 0 where
@@ -74,13 +73,13 @@ module _ (l m : Layout) (laid : IsLaid l) (less : Lessens l m) where
         | inl block ↦
             let it = less.block at.region block.0 block.2 in
             mark_from_block l at it.0 (block.1 ∙ start) it.1 (omega (arith, start, block.3, it.2))
-                ∙ ap Some (ap (block_bytes l.context) it.2 ∙ ap (λ x. block_bytes x block.0.size) (sym less.same.context) ∙ block.4)
+            ∙ ap Some (ap (block_bytes l.context) it.2 ∙ ap (λ x. block_bytes x block.0.size) (sym less.same.context) ∙ block.4)
         | inr other ↦
             let it = less.chunk (behind at) other.0 other.2 in
             let header : header_of l.kind it.0 (at.offset - start_of l at.region) ≡ header_of m.kind other.0 (at.offset - start_of m at.region) =
             ap (λ o. header_of l.kind it.0 (at.offset - o)) (sym start) ∙ ap (λ k. header_of k it.0 (at.offset - start_of m at.region)) (sym less.same.kind)
-                ∙ ap (λ o. record { kind = m.kind; own = o; value = if o then 0 else it.0.room; dist = at.offset - start_of m at.region }) it.3
-                ∙ ap (λ r. record { kind = m.kind; own = other.0.own; value = if other.0.own then 0 else r; dist = at.offset - start_of m at.region }) it.2 in
+            ∙ ap (λ o. record { kind = m.kind; own = o; value = if o then 0 else it.0.room; dist = at.offset - start_of m at.region }) it.3
+            ∙ ap (λ r. record { kind = m.kind; own = other.0.own; value = if other.0.own then 0 else r; dist = at.offset - start_of m at.region }) it.2 in
             mark_from_chunk l at it.0 (λ e. other.1 (e ∙ sym start)) it.1 (sym (gap_same l m less.same) ∙ other.3) ∙ ap Some (ap header_bytes header ∙ other.4)
       ]
 

@@ -1,5 +1,5 @@
 -- Lemmas on the blocks of a new context.
-use Rattle.std.proofs.Common.{◌≡◌, ◌≢◌, ℕ, ◌+◌, ◌-◌, ◌*◌, ◌%◌, ◌^◌, ◌<◌, ◌≤◌, ◌⊎◌, ◌==◌, List, [], ◌∷◌, length, map, replicate, Option, Some, None, refl, sym, ap, ◌∙◌, arith, inl, inr, if◌then◌else◌, true, false, slice_index, Bool, sum_by}
+use Rattle.std.proofs.Common.{◌≡◌, ◌≢◌, ℕ, ◌+◌, ◌-◌, ◌<◌, ◌≤◌, ◌==◌, List, [], ◌∷◌, length, map, Option, Some, None, refl, sym, ap, ◌∙◌, arith, inl, inr, if◌then◌else◌, true, false, slice_index, Bool, sum_by}
 use Rattle.std.specs.Map.{lookup, values_of}
 use Rattle.std.proofs.lemmas.List.{length-replicate}
 use Rattle.std.proofs.lemmas.List.Sums.{sum_by-cons}
@@ -11,10 +11,10 @@ use Rattle.addr_space.specs.Footprint.{Agrees, Moves, HasRegion, nothing, counte
 use Rattle.addr_space.proofs.Written.{HasRegion-written, HasBytes-written, held-written}
 use Rattle.addr_space.proofs.Steps.{Moves-one, Changes-more}
 use Rattle.chunk_header.specs.Header.{block_bytes}
-use Rattle.ctx_blocks.specs.Layout.{Layout, block_at, chunk_at, start_of, whole_of, total, count_in, footprint}
+use Rattle.ctx_blocks.specs.Layout.{Layout, block_at, chunk_at, start_of, total, footprint}
 use Rattle.ctx_blocks.specs.Kept.{IsFilled, IsLaid, IsCounted}
 use Rattle.ctx_blocks.specs.declared.parts.Block.{Block}
-use Rattle.ctx_blocks.proofs.Laid.{mark_cases, length-block_bytes, region_is, from_region, one_value, behind, IsSound-laid}
+use Rattle.ctx_blocks.proofs.Laid.{mark_cases, length-block_bytes, region_is, one_value, behind, IsSound-laid}
 
 none_counted : (b : Bool) → ◌≡◌ {A = ℕ} (if b then 0 else 0) 0
 none_counted true = refl

@@ -1,10 +1,10 @@
 -- Lemmas on a block without chunks that gets its whole room, and on chunks that are forgotten or have another size.
-use Rattle.std.proofs.Common.{◌≡◌, ◌≢◌, ℕ, ◌+◌, ◌-◌, ◌*◌, ◌%◌, ◌<◌, ◌≤◌, ◌==◌, if◌then◌else◌, List, [], length, Option, Some, None, refl, sym, ap, ◌∙◌, subst, arith, inl, inr}
+use Rattle.std.proofs.Common.{◌≡◌, ℕ, ◌+◌, ◌-◌, ◌≤◌, ◌==◌, if◌then◌else◌, Some, None, refl, sym, ap, ◌∙◌, subst, arith, inl, inr}
 use Rattle.std.proofs.lemmas.Bool.{cases_eq}
 use Rattle.addr_space.specs.declared.Addr.{Addr}
-use Rattle.ctx_blocks.specs.Layout.{Layout, block_at, chunk_at, start_of, whole_of, total, count_in, footprint}
+use Rattle.ctx_blocks.specs.Layout.{Layout, block_at, chunk_at, whole_of, count_in, footprint}
 use Rattle.ctx_blocks.specs.Kept.{IsFilled, IsLaid, IsCounted}
-use Rattle.ctx_blocks.specs.Steps.{SameContext, PutsChunk, MovesStill}
+use Rattle.ctx_blocks.specs.Steps.{SameContext, PutsChunk}
 use Rattle.ctx_blocks.specs.declared.parts.Block.{Block}
 use Rattle.ctx_blocks.specs.declared.parts.Chunk.{Chunk}
 use Rattle.ctx_blocks.proofs.Laid.{put_cases, block_cases, one_value, region_is}

@@ -1,7 +1,7 @@
 -- Lemmas on books for which room was made.
-use Rattle.std.proofs.Common.{◌≡◌, ℕ, List, refl, sym, ap, ◌∙◌, subst, arith}
+use Rattle.std.proofs.Common.{◌≡◌, ℕ, refl, sym, ap, ◌∙◌, subst, arith}
 use Rattle.indexmap.specs.IndexMap.{spare}
-use Rattle.ctx_blocks.specs.Layout.{Layout, total}
+use Rattle.ctx_blocks.specs.Layout.{Layout, total, mark_of, footprint}
 use Rattle.ctx_blocks.specs.Kept.{layout_of, IsLaid, IsCounted, IsFirst, IsKept}
 use Rattle.ctx_blocks.specs.declared.books.Books.{Books}
 
@@ -35,3 +35,11 @@ IsKept-spare b n rest blocks chunks kept =
       total = total_same ∙ kept.total ∙ sym (ap total same);
       most = omega (arith, total_same, kept.most);
     }
+
+-- so does what the context has in a space
+pub footprint-spare : (l : Layout) (blocks chunks : ℕ) → footprint (with_spare l blocks chunks) ≡ footprint l
+unfolding mark_of
+footprint-spare l blocks chunks = refl
+
+pub footprint_same : (b n : Books) → n ≡ record b { blocks = n.blocks; chunks = n.chunks } → n.blocks.entries ≡ b.blocks.entries → n.chunks.entries ≡ b.chunks.entries → footprint (layout_of n) ≡ footprint (layout_of b)
+footprint_same b n rest blocks chunks = ap footprint (layout_same b n rest blocks chunks) ∙ footprint-spare (layout_of b) (spare n.blocks) (spare n.chunks)

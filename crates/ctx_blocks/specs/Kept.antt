@@ -1,5 +1,5 @@
 -- What holds of the blocks of a context and of the chunks in them.
-use Rattle.std.specs.Prelude.{◌≡◌, ℕ, ◌+◌, ◌-◌, ◌*◌, ◌%◌, ◌^◌, ◌<◌, ◌≤◌, ◌⊎◌, List, [], ◌∷◌, Some, false, true}
+use Rattle.std.specs.Prelude.{◌≡◌, ℕ, ◌+◌, ◌-◌, ◌*◌, ◌%◌, ◌^◌, ◌<◌, ◌≤◌, ◌⊎◌, List, [], ◌∷◌, Some, true}
 use Rattle.addr_space.specs.declared.Addr.{Addr}
 use Rattle.indexmap.specs.IndexMap.{spare}
 use Rattle.ctx_blocks.specs.Layout.{Layout, block_at, chunk_at, start_of, header_room, whole_of, count_in, total}

@@ -1,9 +1,8 @@
 -- What calls do to the blocks and chunks of a context.
-use Rattle.std.specs.Prelude.{◌≡◌, ◌≢◌, ℕ, ◌+◌, ◌-◌, ◌≤◌, ◌==◌, List, Option, Some, None, map, if◌then◌else◌}
+use Rattle.std.specs.Prelude.{◌≡◌, ℕ, ◌==◌, List, Option, Some, None, if◌then◌else◌}
 use Rattle.addr_space.specs.declared.Addr.{Addr}
-use Rattle.addr_space.specs.Space.{Space, region_at, overwritten, Changes}
-use Rattle.addr_space.specs.Footprint.{Footprint, Agrees, Moves}
-use Rattle.chunk_header.specs.declared.Kind.{Kind}
+use Rattle.addr_space.specs.Space.{Space}
+use Rattle.addr_space.specs.Footprint.{Agrees, Moves}
 use Rattle.indexmap.specs.IndexMap.{insert_entry, shift_remove_entry}
 use Rattle.ctx_blocks.specs.Layout.{Layout, same_addr, block_at, chunk_at, footprint}
 use Rattle.ctx_blocks.specs.declared.parts.Block.{Block}

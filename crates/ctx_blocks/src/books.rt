@@ -192,6 +192,7 @@ impl Books {
         requires { IsKept self.old }
         ensures kept { IsKept self.new }
         ensures same { layout_of self.new ≡ record (layout_of self.old) { spare_blocks = (layout_of self.new).spare_blocks; spare_chunks = (layout_of self.new).spare_chunks } }
+        ensures footprint { footprint (layout_of self.new) ≡ footprint (layout_of self.old) }
         ensures spare_blocks { OnOk result (1 ≤ spare self.new.blocks) }
         ensures spare_chunks { OnOk result (1 ≤ spare self.new.chunks) }
         ensures only_memory { IfErr result (λ e. e ≡ CtxError.Memory) }

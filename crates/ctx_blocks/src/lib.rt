@@ -87,6 +87,7 @@ impl Blocks {
     /// nothing else.
     pub fn make_room(&mut self) -> Result<(), CtxError>
         ensures same { self.new ≡ record self.old { spare_blocks = self.new.spare_blocks; spare_chunks = self.new.spare_chunks } }
+        ensures footprint { footprint self.new ≡ footprint self.old }
         ensures spare_blocks { OnOk result (1 ≤ self.new.spare_blocks) }
         ensures spare_chunks { OnOk result (1 ≤ self.new.spare_chunks) }
         ensures only_memory { IfErr result (λ e. e ≡ CtxError.Memory) }

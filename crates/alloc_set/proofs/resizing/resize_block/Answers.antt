@@ -1,5 +1,5 @@
 use Rattle.std.proofs.Common.{◌≡◌, ℕ, ◌+◌, ◌-◌, ◌≤◌, ◌++◌, length, map, take, replicate, Some, None, ap, ◌∙◌, subst, arith}
-use Rattle.addr_space.specs.Space.{Region, Changes, region_at, overwritten, resized, share}
+use Rattle.addr_space.specs.Space.{Region, Changes, region_at, overwritten, resized}
 use Rattle.addr_space.specs.declared.Addr.{Addr}
 use Rattle.addr_space.proofs.Copied.{some_region}
 use Rattle.addr_space.proofs.Written.{held-written}

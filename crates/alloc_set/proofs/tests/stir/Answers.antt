@@ -1,6 +1,6 @@
-use Rattle.std.proofs.Common.{◌≡◌, ◌≢◌, ℕ, ◌+◌, ◌<◌, Option, Some, None, IsSome, if◌then◌else◌, sym, ap, ◌∙◌, subst, inl, inr}
+use Rattle.std.proofs.Common.{◌≡◌, ◌≢◌, ℕ, ◌+◌, Option, Some, None, IsSome, if◌then◌else◌, sym, ap, ◌∙◌, subst, inl, inr}
 use Rattle.addr_space.specs.declared.Addr.{Addr}
-use Rattle.addr_space.specs.Space.{Space, IsKnown, byte_at}
+use Rattle.addr_space.specs.Space.{Space, IsKnown}
 use Rattle.addr_space.specs.Footprint.{Footprint, Agrees, Moves, Keeps, AreDisjoint}
 use Rattle.addr_space.proofs.Apart.{Agrees-other, Keeps-other, AreDisjoint-other, AreDisjoint-sym}
 use Rattle.alloc_set.specs.State.{SetState, footprint}

@@ -1,5 +1,5 @@
-use Rattle.std.proofs.Common.{◌≡◌, ℕ, ◌+◌, ◌<◌, ◌≤◌, length, Option, Some, None, IsSome, if◌then◌else◌, refl, sym, ap, ◌∙◌, subst, arith, inl, inr}
-use Rattle.addr_space.specs.Space.{Space, IsKnown}
+use Rattle.std.proofs.Common.{◌≡◌, ℕ, length, Option, Some, IsSome, if◌then◌else◌, refl, sym, ap, ◌∙◌, subst, arith, inl, inr}
+use Rattle.addr_space.specs.Space.{Space}
 use Rattle.addr_space.specs.Footprint.{Footprint, Agrees, Moves, AreDisjoint, WritesInside, nothing}
 use Rattle.addr_space.proofs.Apart.{Agrees-other, AreDisjoint-other, Moves-inside}
 use Rattle.addr_space.proofs.Written.{HasBytes-written}

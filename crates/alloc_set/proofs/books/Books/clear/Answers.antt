@@ -1,4 +1,4 @@
-use Rattle.std.proofs.Common.{◌+◌, ◌-◌, refl, arith}
+use Rattle.std.proofs.Common.{refl, arith}
 use Rattle.alloc_set.specs.Kept.{state_of}
 use Rattle.alloc_set.proofs.Cleared.{Moves-cleared}
 use Rattle.alloc_set.proofs.books.Books.clear.Goals as goal

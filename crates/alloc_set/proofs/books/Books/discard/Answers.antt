@@ -2,7 +2,7 @@ use Rattle.std.proofs.Common.{◌≡◌, ℕ, [], IsSome, refl, sym, ap, ◌∙�
 use Rattle.addr_space.specs.Footprint.{Moves, nothing}
 use Rattle.addr_space.proofs.Steps.{Moves-more}
 use Rattle.alloc_set.specs.Ledger.{created}
-use Rattle.alloc_set.specs.State.{SetState, emptied, footprint}
+use Rattle.alloc_set.specs.State.{SetState, footprint}
 use Rattle.alloc_set.specs.Kept.{state_of}
 use Rattle.alloc_set.proofs.KeptAdded.{keeper_owned}
 use Rattle.alloc_set.proofs.Cleared.{Moves-last}

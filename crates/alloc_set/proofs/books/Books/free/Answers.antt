@@ -1,4 +1,4 @@
-use Rattle.std.proofs.Common.{◌≡◌, ◌≤◌, Some, IfSome, ap, ◌∙◌, sym, subst, arith}
+use Rattle.std.proofs.Common.{◌≡◌, Some, IfSome, ap, ◌∙◌, sym, subst}
 use Rattle.alloc_set.specs.State.{chunk_at, freed}
 use Rattle.alloc_set.specs.Kept.{state_of}
 use Rattle.alloc_set.specs.declared.chunk.Chunk.TheVariants.{Live, Own}

@@ -1,7 +1,6 @@
-use Rattle.std.proofs.Common.{◌≡◌, ℕ, ◌+◌, ◌-◌, ◌==◌, ◌≤◌, if◌then◌else◌, Some, None, true, false, min, option_map, unwrap_or, refl, sym, ap, ◌∙◌, arith}
+use Rattle.std.proofs.Common.{◌≡◌, ◌-◌, ◌==◌, Some, min, refl, sym, ap, arith}
 use Rattle.std.specs.Map.{lookup}
 use Rattle.alloc_set.specs.Ledger.{without_own}
-use Rattle.alloc_set.specs.State.{SetState}
 use Rattle.alloc_set.specs.Kept.{state_of}
 use Rattle.alloc_set.proofs.Given.{Gives, IsSettled-given, Moves-given, noted, lookup_less, gone_now, others_left}
 use Rattle.alloc_set.proofs.Shelved.{IsShelved-same}

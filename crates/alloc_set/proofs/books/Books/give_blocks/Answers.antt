@@ -1,4 +1,4 @@
-use Rattle.std.proofs.Common.{◌≡◌, ◌+◌, ◌-◌, ap, ◌∙◌, arith, sum_by}
+use Rattle.std.proofs.Common.{ap, ◌∙◌, arith, sum_by}
 use Rattle.std.specs.Map.{values_of}
 use Rattle.addr_space.proofs.Steps.{Moves-more}
 use Rattle.alloc_set.specs.State.{footprint}

@@ -1,5 +1,4 @@
-use Rattle.std.proofs.Common.{◌≡◌, ℕ, ◌+◌, Some, sym, ap, ◌∙◌, subst, arith}
-use Rattle.addr_space.specs.Footprint.{Moves, Keeps}
+use Rattle.std.proofs.Common.{◌+◌, ap, ◌∙◌, arith}
 use Rattle.addr_space.proofs.Steps.{Moves-more}
 use Rattle.alloc_set.specs.State.{region_of, footprint}
 use Rattle.alloc_set.specs.Kept.{state_of}

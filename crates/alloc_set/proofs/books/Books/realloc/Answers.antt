@@ -1,11 +1,11 @@
-use Rattle.std.proofs.Common.{◌≡◌, ℕ, ◌+◌, ◌≤◌, min, Some, Ok, Err, Result, IfOk, IsSome, IfSome, Option, sym, ap, ◌∙◌, subst, arith}
+use Rattle.std.proofs.Common.{◌≡◌, ℕ, ◌≤◌, min, Some, Err, Result, IfOk, IfSome, Option, sym, ap, ◌∙◌, subst, arith}
 use Rattle.addr_space.specs.Space.{Space, held}
 use Rattle.chunk_header.specs.declared.CtxError.{CtxError}
 use Rattle.chunk_header.specs.declared.CtxError.TheVariants.{NoSpace}
 use Rattle.alloc_set.specs.Ledger.{SetLedger}
 use Rattle.alloc_set.specs.State.{chunk_at, then_option, live_size, footprint}
 use Rattle.alloc_set.specs.Kept.{state_of}
-use Rattle.alloc_set.specs.Resize.{resize_class, resize_block, kept_size, resized_chunk, resized, StaysFor, Resizes}
+use Rattle.alloc_set.specs.Resize.{resize_class, resized_chunk, resized, StaysFor, Resizes}
 use Rattle.alloc_set.proofs.Refits.{resized-small}
 use Rattle.alloc_set.proofs.InPlace.{Resizes-in_place}
 use Rattle.alloc_set.specs.declared.books.Books.{Books}

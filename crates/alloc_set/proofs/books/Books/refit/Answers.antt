@@ -1,4 +1,4 @@
-use Rattle.std.proofs.Common.{◌≡◌, ℕ, ◌+◌, Some, refl, arith}
+use Rattle.std.proofs.Common.{◌≡◌, Some, refl, arith}
 use Rattle.alloc_set.specs.State.{chunk_at}
 use Rattle.alloc_set.specs.Kept.{state_of}
 use Rattle.alloc_set.specs.Steps.{SameBlocks}

@@ -1,4 +1,4 @@
-use Rattle.std.proofs.Common.{◌≡◌, ap, ◌∙◌}
+use Rattle.std.proofs.Common.{ap, ◌∙◌}
 use Rattle.addr_space.proofs.Steps.{Moves-more}
 use Rattle.alloc_set.specs.State.{emptied, footprint}
 use Rattle.alloc_set.specs.Kept.{state_of}

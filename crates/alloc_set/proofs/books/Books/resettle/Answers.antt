@@ -1,5 +1,5 @@
-use Rattle.std.proofs.Common.{◌≡◌, ◌^◌, ◌≤◌, ℕ, ◌+◌, Some, refl, arith}
-use Rattle.alloc_set.specs.State.{SetState, chunk_at}
+use Rattle.std.proofs.Common.{◌≡◌, ◌^◌, ◌≤◌, ◌+◌, Some, refl, arith}
+use Rattle.alloc_set.specs.State.{chunk_at}
 use Rattle.alloc_set.specs.Kept.{state_of}
 use Rattle.alloc_set.proofs.Stretched.{Stretches, Moves-resettled}
 use Rattle.alloc_set.proofs.KeptResized.{IsKept-stretched}

@@ -1,7 +1,7 @@
-use Rattle.std.proofs.Common.{◌≡◌, ◌≢◌, ℕ, ◌+◌, ◌-◌, ◌<◌, ◌≤◌, Result, Ok, Err, OnOk, ap, ◌∙◌, sym, arith}
+use Rattle.std.proofs.Common.{◌≡◌, ◌+◌, Result, Ok, Err, OnOk, ap, ◌∙◌, sym, arith}
 use Rattle.addr_space.specs.Space.{held}
 use Rattle.alloc_set.specs.Kept.{state_of}
-use Rattle.alloc_set.specs.Resize.{resize_block, with_block, kept_size}
+use Rattle.alloc_set.specs.Resize.{with_block, kept_size}
 use Rattle.alloc_set.proofs.ClassSizes.{chunk_limit-most}
 use Rattle.alloc_set.proofs.Refits.{resize_block-same, resize_block-within, resize_block-over, kept_size-is}
 use Rattle.alloc_set.proofs.books.Books.resize_own.Goals as goal

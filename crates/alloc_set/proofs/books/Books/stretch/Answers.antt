@@ -1,16 +1,16 @@
-use Rattle.std.proofs.Common.{◌≡◌, ◌≢◌, ℕ, ◌+◌, ◌-◌, ◌^◌, ◌<◌, ◌≤◌, ◌==◌, if◌then◌else◌, Some, Err, IsSome, false, refl, ap, ◌∙◌, sym, arith, sum, inl, inr}
-use Rattle.std.specs.Map.{values_of, lookup}
+use Rattle.std.proofs.Common.{◌≡◌, ℕ, ◌+◌, ◌-◌, ◌≤◌, ◌==◌, if◌then◌else◌, Some, Err, false, refl, ap, ◌∙◌, arith, inl, inr}
+use Rattle.std.specs.Map.{lookup}
 use Rattle.std.proofs.lemmas.Bool.{cases_lt}
 use Rattle.std.proofs.lemmas.Bool.Decides.{nat_tests}
 use Rattle.addr_space.specs.declared.Addr.{Addr}
-use Rattle.addr_space.specs.Space.{Space, held, region_at, IsOverLimit}
+use Rattle.addr_space.specs.Space.{Space, held, region_at}
 use Rattle.addr_space.specs.Footprint.{HasRegion, Agrees}
 use Rattle.chunk_header.specs.declared.CtxError.TheVariants.{NoSpace}
-use Rattle.alloc_set.specs.State.{SetState, chunk_at, region_of, footprint}
+use Rattle.alloc_set.specs.State.{chunk_at, footprint}
 use Rattle.alloc_set.specs.Kept.{state_of, IsAlone, IsKept}
 use Rattle.alloc_set.specs.Steps.{PutsChunk}
 use Rattle.alloc_set.proofs.Stretched.{Stretches, Moves-stretched, Keeps-stretched}
-use Rattle.alloc_set.proofs.KeptResized.{noted, sum-least, owned_again, others_again, over_limit, not_over, with_others, Stretches-noted, IsKept-stretched}
+use Rattle.alloc_set.proofs.KeptResized.{noted, sum-least, over_limit, not_over, with_others, Stretches-noted, IsKept-stretched}
 use Rattle.alloc_set.specs.declared.books.Books.{Books}
 use Rattle.alloc_set.specs.declared.chunk.Chunk.TheVariants.{Own}
 use Rattle.alloc_set.proofs.books.Books.stretch.Goals as goal

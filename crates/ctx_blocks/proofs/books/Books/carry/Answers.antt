@@ -1,8 +1,7 @@
-use Rattle.std.proofs.Common.{◌≡◌, ◌≤◌, Some, ap, arith, inl, inr}
-use Rattle.addr_space.specs.Space.{IsApart}
+use Rattle.std.proofs.Common.{arith, inl, inr}
 use Rattle.ctx_blocks.specs.Layout.{footprint}
 use Rattle.ctx_blocks.specs.Kept.{layout_of}
-use Rattle.ctx_blocks.proofs.Laid.{live_is, IsSound-laid}
+use Rattle.ctx_blocks.proofs.Laid.{live_is}
 use Rattle.ctx_blocks.proofs.Carried.{IsInside-live, Moves-carried, KeepsBut-carried, bytes-carried}
 use Rattle.ctx_blocks.proofs.books.Books.carry.Goals as goal
 

@@ -1,8 +1,8 @@
-use Rattle.std.proofs.Common.{◌≡◌, ℕ, ◌∷◌, [], ◌-◌, List, map, Some, ap, ◌∙◌, sym, subst, refl, arith}
-use Rattle.addr_space.specs.Space.{Space, Changes, region_at, overwritten}
+use Rattle.std.proofs.Common.{◌≡◌, ◌∷◌, [], ◌-◌, map, Some, ap, ◌∙◌, sym, subst, refl, arith}
+use Rattle.addr_space.specs.Space.{Changes, region_at, overwritten}
 use Rattle.addr_space.specs.Footprint.{Moves, nothing}
 use Rattle.chunk_header.specs.Header.{block_bytes}
-use Rattle.ctx_blocks.specs.Layout.{Layout, total, footprint}
+use Rattle.ctx_blocks.specs.Layout.{Layout, footprint}
 use Rattle.ctx_blocks.specs.Kept.{layout_of, IsFilled}
 use Rattle.ctx_blocks.specs.Steps.{with_block}
 use Rattle.ctx_blocks.specs.declared.parts.Block.{Block}
@@ -56,7 +56,7 @@ returns-clause-moves c =
     let l : Layout = layout_of (books c) in
     let number = c.in-Ok-take.at.region in
     elim c.if-size-ge240.branch [
-      then-size-ge240 w ↦
+      | then-size-ge240 w ↦
           let wrote : Changes c.take.new.self w.write.new.self number (overwritten (region_at c.take.new.self number) 200 (map Some (block_bytes c.args.context c.args.size))) =
           subst (λ b. Changes c.take.new.self w.write.new.self number (overwritten (region_at c.take.new.self number) 200 (map Some b))) w.block_header.ensures w.write.ensures.changes in
           subst (λ s. Moves (nothing c.args.account c.args.context) (footprint l) c.args.space.now s) (sym w.space-is)

@@ -1,4 +1,4 @@
-use Rattle.std.proofs.Common.{◌∙◌, ap, sym, refl}
+use Rattle.std.proofs.Common.{ap, sym}
 use Rattle.addr_space.specs.Footprint.{nothing}
 use Rattle.addr_space.proofs.Steps.{Moves-more}
 use Rattle.ctx_blocks.specs.Layout.{footprint}

@@ -1,7 +1,7 @@
 use Rattle.std.proofs.Common.{◌≡◌, ℕ, ◌+◌, ap, sym, subst, ◌∙◌, refl, arith, inl, inr, is_some, if◌then◌else◌}
 use Rattle.addr_space.specs.Space.{Space}
 use Rattle.addr_space.specs.Footprint.{Moves, Keeps}
-use Rattle.ctx_blocks.specs.Layout.{count_in, total, header_room, footprint}
+use Rattle.ctx_blocks.specs.Layout.{count_in, total, footprint}
 use Rattle.ctx_blocks.specs.Kept.{layout_of}
 use Rattle.ctx_blocks.specs.Steps.{SameContext}
 use Rattle.ctx_blocks.specs.declared.books.Books.{Books}

@@ -1,8 +1,7 @@
-use Rattle.std.proofs.Common.{◌≡◌, ◌+◌, ◌-◌, ◌∷◌, [], List, Some, None, ap, sym, subst, ◌∙◌, refl, arith, take}
+use Rattle.std.proofs.Common.{◌≡◌, ◌-◌, ◌∷◌, [], Some, ap, sym, subst, ◌∙◌, refl, arith}
 use Rattle.std.specs.Map.{lookup}
-use Rattle.addr_space.specs.declared.Addr.{Addr}
 use Rattle.addr_space.proofs.Steps.{Moves-more}
-use Rattle.ctx_blocks.specs.Layout.{Layout, same_addr, block_at, chunk_at, start_of, whole_of, total, footprint}
+use Rattle.ctx_blocks.specs.Layout.{Layout, same_addr, block_at, footprint}
 use Rattle.ctx_blocks.specs.Kept.{layout_of, IsFilled, IsFirst}
 use Rattle.ctx_blocks.specs.Steps.{with_block, SameContext}
 use Rattle.ctx_blocks.specs.declared.parts.Block.{Block}

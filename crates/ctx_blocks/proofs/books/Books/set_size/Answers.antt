@@ -1,6 +1,6 @@
-use Rattle.std.proofs.Common.{◌≡◌, ℕ, ◌+◌, ap, sym, ◌∙◌, refl, arith, Some, is_some, if◌then◌else◌}
+use Rattle.std.proofs.Common.{◌≡◌, ℕ, ap, refl, arith, is_some, if◌then◌else◌}
 use Rattle.std.specs.Map.{lookup}
-use Rattle.ctx_blocks.specs.Layout.{same_addr, count_in, total, chunk_at}
+use Rattle.ctx_blocks.specs.Layout.{same_addr, count_in, chunk_at}
 use Rattle.ctx_blocks.specs.Kept.{layout_of}
 use Rattle.ctx_blocks.specs.declared.parts.Chunk.{Chunk}
 use Rattle.ctx_blocks.specs.declared.books.Books.{Books}

@@ -1,4 +1,4 @@
-use Rattle.std.proofs.Common.{◌≡◌, ◌≤◌, ℕ, length, [], take}
+use Rattle.std.proofs.Common.{◌≡◌, ◌≤◌, length, [], take}
 use Rattle.addr_space.specs.Footprint.{Moves}
 use Rattle.ctx_blocks.specs.Layout.{total, footprint}
 use Rattle.ctx_blocks.specs.Kept.{layout_of, IsLaid}

@@ -1,0 +1,6 @@
+use Rattle.chunk_header.specs.Header.{AllHeaded}
+use Rattle.generation_ctx.proofs.Seen.{footprint_spare}
+use Rattle.generation_ctx.proofs.GenerationCtx.headed.Goals as goal
+
+pub returns : goal.returns
+returns c = rw (← c.self.view_is) (rw (footprint_spare c.self.inside.books.blocks 0 0) c.headed.ensures)

@@ -1,0 +1,17 @@
+pub mod Seen
+pub mod Answered
+pub mod Lists
+pub mod Kepts
+pub mod Alone
+pub mod Steps
+pub mod Ledgers
+pub mod Found
+pub mod Kept
+pub mod Resets
+pub mod Lives
+pub mod Refilled
+pub mod Forgotten
+pub mod Addrs
+pub mod Owned
+pub mod Sizes
+pub mod Resizes

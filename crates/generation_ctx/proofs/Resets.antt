@@ -1,0 +1,37 @@
+-- The books of a context with the keeper alone.
+use Rattle.std.proofs.Common.{◌≡◌, ℕ, ◌∷◌, [], Some, None, refl, arith, ◌∙◌, sym, List}
+use Rattle.chunk_header.specs.declared.Kind.TheVariants.{Generation}
+use Rattle.ctx_blocks.specs.Layout.{block_at, chunk_at}
+use Rattle.ctx_blocks.specs.declared.parts.Block.{Block}
+use Rattle.generation_ctx.specs.Ledger.{created, whole_block}
+use Rattle.generation_ctx.specs.Kept.{ledger_of, IsSized, IsKept}
+use Rattle.generation_ctx.specs.declared.books.Books.{Books}
+
+abbrev pub keeper_alone : ℕ → ℕ → List (ℕ × Block)
+keeper_alone keeper size = (keeper, whole_block 200 size) ∷ []
+
+-- the same, by another name of the keeper and of its size
+pub alone_as : (l : List (ℕ × Block)) (keeper other size bytes : ℕ) → l ≡ keeper_alone keeper size → other ≡ keeper → size ≡ bytes → l ≡ keeper_alone other bytes
+alone_as l keeper other size bytes only same now = rw (same, ← now) only
+
+module _ (n : Books) (kind : n.blocks.kind ≡ Generation) (sized : IsSized n.sizes.init n.sizes.max n.next) (only : n.blocks.blocks ≡ keeper_alone n.blocks.keeper n.sizes.init) (first : n.current ≡ n.blocks.keeper) (spare : n.spare ≡ None) where
+  there : block_at n.blocks n.blocks.keeper ≡ Some (whole_block 200 n.sizes.init)
+  there = rw only (grind arith)
+
+  at_current : block_at n.blocks n.current ≡ Some (whole_block 200 n.sizes.init)
+  at_current = rw first there
+
+  pub kept_alone : n.blocks.chunks ≡ [] → IsKept n
+  kept_alone none = record {
+    kind = kind;
+    sizes = sized;
+    keeper = record { block = whole_block 200 n.sizes.init; is = there; size = refl };
+    bytes = n.sizes.init;
+    current = record { block = whole_block 200 n.sizes.init; is = at_current; size = refl };
+    spare = rw spare tt;
+    alone = λ at chunk is own. (let gone : chunk_at n.blocks at ≡ None = rw none refl in let clash : Some chunk ≡ None = sym is ∙ gone in absurd (cc));
+  }
+
+  pub ledger_alone : n.next ≡ n.sizes.init → ledger_of n ≡ created n.sizes.init n.sizes.max n.blocks.keeper
+  unfolding created
+  ledger_alone next = cc

@@ -1,0 +1,40 @@
+-- A chunk gets another size where it is.
+use Rattle.std.proofs.Common.{◌≡◌, ◌≢◌, ℕ, Bool, true, false, Option, Some, None, if◌then◌else◌, refl, ◌∙◌, sym, ap, subst}
+use Rattle.addr_space.specs.declared.Addr.{Addr}
+use Rattle.ctx_blocks.specs.Layout.{Layout, block_at, chunk_at, same_addr}
+use Rattle.ctx_blocks.specs.Steps.{PutsChunk, SameContext}
+use Rattle.ctx_blocks.specs.declared.parts.Chunk.{Chunk}
+use Rattle.generation_ctx.specs.Kept.{HasSize, IsIdle, IsSpare, IsAlone, IsKept}
+use Rattle.generation_ctx.specs.declared.books.Books.{Books}
+use Rattle.generation_ctx.proofs.Addrs.{same_region}
+
+module _ (b : Books) (m : Layout) (at : Addr) (old new : Chunk) (kept : IsKept b) (same : SameContext b.blocks m) (blocks : m.blocks ≡ b.blocks.blocks) (there : chunk_at b.blocks at ≡ Some old) (puts : PutsChunk b.blocks m at (Some new)) (own : new.own ≡ old.own) where
+  block_same : (number : ℕ) → block_at m number ≡ block_at b.blocks number
+  block_same number = rw blocks refl
+
+  size_same : (k bytes : ℕ) → HasSize b.blocks k bytes → HasSize m k bytes
+  size_same k bytes has = record { block = has.block; is = block_same k ∙ has.is; size = has.size }
+
+  spare_same : (spare : Option ℕ) → IsSpare b.blocks b.current spare → IsSpare m b.current spare
+  spare_same None idle = idle
+  spare_same (Some number) idle = record { block = idle.block; is = block_same number ∙ idle.is; live = idle.live; not_keeper = λ e. idle.not_keeper (e ∙ same.keeper); not_current = idle.not_current }
+
+  alone_as : (owner other : Addr) → owner.region ≡ other.region → IsAlone b.blocks b.current owner → IsAlone m b.current other
+  alone_as owner other it a = record { block = a.block; is = block_same other.region ∙ ap (block_at b.blocks) (sym it) ∙ a.is; live = a.live; room = a.room; not_keeper = λ e. a.not_keeper (it ∙ e ∙ same.keeper); not_current = λ e. a.not_current (it ∙ e) }
+
+  alone_by : (other : Addr) (x : Chunk) (t : Bool) → same_addr at other ≡ t → (if t then Some new else chunk_at b.blocks other) ≡ Some x → x.own ≡ true → IsAlone m b.current other
+  alone_by other x true is here mine =
+    let old_own : old.own ≡ true = cc in
+    alone_as at other (same_region at other is) (kept.alone at old there old_own)
+  alone_by other x false is here mine = alone_as other other refl (kept.alone other x here mine)
+
+  pub kept_sized : IsKept (record b { blocks = m })
+  kept_sized = record {
+    kind = same.kind ∙ kept.kind;
+    sizes = kept.sizes;
+    keeper = subst (λ k. HasSize m k b.sizes.init) (sym same.keeper) (size_same b.blocks.keeper b.sizes.init kept.keeper);
+    bytes = kept.bytes;
+    current = size_same b.current kept.bytes kept.current;
+    spare = spare_same b.spare kept.spare;
+    alone = λ other x here mine. alone_by other x (same_addr at other) refl (sym (puts other) ∙ here) mine;
+  }

@@ -1,0 +1,30 @@
+use Rattle.std.proofs.Common.{◌≡◌, ℕ, ◌-◌, sym, subst, Result, Ok, Err, IfOk, OnErr}
+use Rattle.addr_space.specs.Space.{held}
+use Rattle.ctx_blocks.specs.Layout.{Layout}
+use Rattle.generation_ctx.specs.Ledger.{take}
+use Rattle.generation_ctx.specs.Kept.{ledger_of, IsKept}
+use Rattle.generation_ctx.specs.Steps.{Allocates}
+use Rattle.generation_ctx.specs.declared.books.Books.{Books}
+use Rattle.generation_ctx.proofs.Answered.{if_ok, on_err}
+use Rattle.generation_ctx.proofs.Kept.{kept_made}
+use Rattle.generation_ctx.proofs.Steps.{allocates_made}
+use Rattle.generation_ctx.proofs.Seen.{footprint_made}
+use Rattle.generation_ctx.proofs.books.Books.serve.Goals as goal
+
+pub take-requires-clause-agrees : goal.take-requires-clause-agrees
+take-requires-clause-agrees c = rw (footprint_made c.args.self.now.blocks c.make_room.new.self c.make_room.ensures.same) c.requires.agrees
+
+pub returns-in-Ok-clause-ok : goal.returns-in-Ok-clause-ok
+returns-in-Ok-clause-ok c =
+    let b = c.args.self.now in
+    let m = c.make_room.new.self in
+    let s = c.args.space.now in
+    let served = subst (λ (l : Layout). IfOk c.take.result (λ at. Allocates (record b { blocks = l }) c.take.new.self s c.take.new.space c.args.size at (take (ledger_of (record b { blocks = l })) (s.limit - held s l.account) at.region c.args.size))) c.make_room.ensures.same c.take.ensures.ok in
+    if_ok c.take.result (λ at had. allocates_made b m.spare_blocks m.spare_chunks c.take.new.self s c.take.new.space c.args.size at _ had) served
+
+pub returns-in-Ok-clause-err_kept : goal.returns-in-Ok-clause-err_kept
+returns-in-Ok-clause-err_kept c =
+    let b = c.args.self.now in
+    let m = c.make_room.new.self in
+    let kept : IsKept (record b { blocks = m }) = subst (λ (l : Layout). IsKept (record b { blocks = l })) (sym c.make_room.ensures.same) (kept_made b m.spare_blocks m.spare_chunks c.requires.kept) in
+    on_err c.take.result (λ same. subst IsKept (sym same) kept) c.take.ensures.err

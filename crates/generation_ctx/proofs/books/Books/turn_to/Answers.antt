@@ -1,0 +1,23 @@
+use Rattle.std.proofs.Common.{◌≡◌, ◌∙◌, ℕ, None, sym, ap, subst, if◌then◌else◌}
+use Rattle.generation_ctx.specs.Ledger.{is_spare, turned, stopped}
+use Rattle.generation_ctx.specs.Kept.{ledger_of, IsKept}
+use Rattle.generation_ctx.specs.Steps.{Rearranges}
+use Rattle.generation_ctx.specs.declared.books.Books.{Books}
+use Rattle.generation_ctx.proofs.Kept.{kept_seated}
+use Rattle.generation_ctx.proofs.books.Books.turn_to.Goals as goal
+
+pub stop-requires-clause-kept : goal.stop-requires-clause-kept
+stop-requires-clause-kept c =
+    let b = c.args.self.now in
+    let block = c.requires.block in
+    subst IsKept (sym c.seat.ensures) (kept_seated b c.args.number block.0 c.requires.kept block.1 block.2)
+
+pub returns-clause-rearranges : goal.returns-clause-rearranges
+unfolding turned
+returns-clause-rearranges c =
+    let b = c.args.self.now in
+    let n = c.stop.new.self in
+    let s = c.args.space.now in
+    let t = c.stop.new.space in
+    let r = subst (λ (x : Books). Rearranges x n s t (stopped (ledger_of x) b.current)) c.seat.ensures c.stop.ensures.rearranges in
+    record { kept = r.kept; ledger_is = r.ledger_is; chunks = r.chunks; spare = r.spare; moves = r.moves; keeps = r.keeps }

@@ -1,0 +1,588 @@
+//! The books of a Generation context: its blocks and numbers.
+ghost use Rattle.std.specs.Prelude.{◌≡◌, ◌≢◌, ℕ, ◌+◌, ◌-◌, ◌%◌, ◌^◌, ◌<◌, ◌≤◌, ◌↔◌, ◌⊎◌, IsTrue, Ok, Err, Some, None, IfOk, IfErr, OnOk, OnErr, IfSome, IfNone, true, false, min, if◌then◌else◌};
+ghost use Rattle.addr_space.specs.declared.Addr.{Addr};
+ghost use Rattle.addr_space.specs.Space.{accounts, held, IsKnown};
+ghost use Rattle.addr_space.specs.Footprint.{Agrees, Moves, Keeps, nothing};
+ghost use Rattle.chunk_header.specs.Header.{AllHeaded};
+ghost use Rattle.ctx_blocks.specs.Layout.{footprint, block_at, chunk_at};
+ghost use Rattle.ctx_blocks.specs.Steps.{PutsChunk};
+ghost use Rattle.ctx_blocks.specs.declared.parts.Block.{Block};
+ghost use Rattle.ctx_blocks.specs.declared.parts.Chunk.{Chunk};
+ghost use Rattle.generation_ctx.specs.Room.{granted};
+ghost use Rattle.generation_ctx.specs.Ledger.{block_in, created, is_spare, set_aside, stopped, turned, with_new, cut_off, chosen, block_size, take_own, take_cut, take, emptied, lessened, freed, given, resized, stats};
+
+use addr_space::{Addr, Space};
+use chunk_header::{CtxError, Kind, Sizes, Stats, grown, up8};
+use ctx_blocks::{Block, Blocks};
+use std::alloc::Global;
+
+/// All that a Generation context keeps.
+#[derive(Drop)]
+pub struct Books {
+    pub sizes: Sizes,
+    // The size of the next block.
+    pub next: u32,
+    // The region of the block that chunks are cut off.
+    pub current: u32,
+    // The region of an empty block that waits to be current.
+    pub spare: Option<u32>,
+    pub blocks: Blocks,
+}
+
+// The greatest size of a request.
+const LARGEST: u64 = 1_073_741_823;
+
+// The greatest request that is cut off a shared block.
+const LIMIT: u32 = 524_288;
+
+// The bytes that a chunk of so many has.
+#[tactic(auto, unfolding(crate::specs::Room::granted))]
+fn granted(size: u32) -> u32
+    requires { size < 2 ^ 30 }
+    ensures value { result ≡ granted size }
+    ensures some { 8 ≤ result }
+    ensures least { size ≤ result }
+    ensures most { (result ≡ 8) ⊎ (result < size + 8) }
+    ensures whole { result % 8 ≡ 0 }
+{
+    up8(size.max(1))
+}
+
+impl Books {
+    ghost use Rattle.generation_ctx.specs.Kept.{ledger_of, state_of, HasSize, IsIdle, IsKept};
+    ghost use Rattle.generation_ctx.specs.Steps.{Rearranges, Allocates, Frees, Resizes};
+
+    // The books of a new context.
+    pub fn create(
+        alloc: Global,
+        space: &mut Space,
+        account: u8,
+        context: u32,
+        sizes: Sizes,
+    ) -> Result<Books, CtxError>
+        requires account { account < accounts space.old }
+        requires least { 1024 ≤ sizes.init }
+        requires order { sizes.init ≤ sizes.max }
+        requires most { sizes.max ≤ 8388608 }
+        requires whole_init { sizes.init % 8 ≡ 0 }
+        requires whole_max { sizes.max % 8 ≡ 0 }
+        ensures kept { IfOk result IsKept }
+        ensures ledger { IfOk result (λ b. ledger_of b ≡ created sizes.init sizes.max b.blocks.keeper) }
+        ensures account { IfOk result (λ b. b.blocks.account ≡ account) }
+        ensures context { IfOk result (λ b. b.blocks.context ≡ context) }
+        ensures live { IfOk result (λ b. (at : Addr) → (footprint b.blocks).live at ≡ None) }
+        ensures moves { IfOk result (λ b. Moves (nothing account context) (footprint b.blocks) space.old space.new) }
+        ensures no_space { (result ≡ Err CtxError.NoSpace) ↔ (space.old.limit < held space.old account + sizes.init) }
+        ensures no_other { IfErr result (λ e. (e ≡ CtxError.NoSpace) ⊎ (e ≡ CtxError.Memory)) }
+        ensures err { OnErr result (space.new ≡ space.old) }
+    {
+        let blocks =
+            match Blocks::create(alloc, space, Kind::Generation, account, context, sizes.init) {
+                Ok(blocks) => blocks,
+                Err(error) => return Err(error),
+            };
+        let current = blocks.keeper();
+        Ok(Books {
+            sizes,
+            next: sizes.init,
+            current,
+            spare: None,
+            blocks,
+        })
+    }
+
+    // What the books say.
+    #[tactic(auto, unfolding(crate::specs::Ledger::stats))]
+    pub fn stats(&self) -> Stats
+        ensures { result ≡ stats (ledger_of self.now) }
+    {
+        Stats {
+            total: self.blocks.total(),
+            blocks: self.blocks.len() as u64,
+            free: self.blocks.rooms(),
+            chunks: self.blocks.freed(),
+        }
+    }
+
+    // The block of a number, or one of no bytes.
+    fn block(&self, number: u32) -> Block
+        ensures { result ≡ block_in (ledger_of self.now) number }
+    {
+        match self.blocks.block(number) {
+            Some(block) => block,
+            None => Block {
+                size: 0,
+                room: 0,
+                live: 0,
+                freed: 0,
+            },
+        }
+    }
+
+    // Puts an empty block aside, as the spare where there is none, else back to the space.
+    fn set_aside(&mut self, space: &mut Space, number: u32)
+        requires kept { IsKept self.old }
+        requires agrees { Agrees (footprint self.old.blocks) space.old }
+        requires idle { IsIdle self.old.blocks self.old.current number }
+        requires other { is_spare self.old.spare number ≡ false }
+        ensures rearranges { Rearranges self.old self.new space.old space.new (set_aside (ledger_of self.old) number) }
+        ensures current { self.new.current ≡ self.old.current }
+        ensures others { (other : ℕ) → number ≢ other → block_at self.new.blocks other ≡ block_at self.old.blocks other }
+    {
+        match self.spare {
+            None => self.spare = Some(number),
+            Some(_) => self.blocks.give(space, number),
+        }
+    }
+
+    // Puts a block that stopped being current aside, where it has no live chunk.
+    fn stop(&mut self, space: &mut Space, number: u32)
+        requires kept { IsKept self.old }
+        requires agrees { Agrees (footprint self.old.blocks) space.old }
+        requires block { (bytes : ℕ) × HasSize self.old.blocks number bytes }
+        requires stopped { number ≢ self.old.current }
+        requires other { is_spare self.old.spare number ≡ false }
+        ensures rearranges { Rearranges self.old self.new space.old space.new (stopped (ledger_of self.old) number) }
+        ensures current { self.new.current ≡ self.old.current }
+        ensures others { (other : ℕ) → number ≢ other → block_at self.new.blocks other ≡ block_at self.old.blocks other }
+    {
+        if self.blocks.keeper() == number {
+            return;
+        }
+        if self.block(number).live == 0 {
+            self.set_aside(space, number);
+        }
+    }
+
+    // Makes a block current, which isn't the spare any more.
+    fn seat(&mut self, number: u32)
+        ensures { self.new ≡ record self.old { current = number; spare = if is_spare self.old.spare number then None else self.old.spare } }
+    {
+        self.current = number;
+        self.spare = match self.spare {
+            Some(other) => {
+                if other == number {
+                    None
+                } else {
+                    Some(other)
+                }
+            }
+            None => None,
+        };
+    }
+
+    // Makes a block current that has some room.
+    fn turn_to(&mut self, space: &mut Space, number: u32)
+        requires kept { IsKept self.old }
+        requires agrees { Agrees (footprint self.old.blocks) space.old }
+        requires block { (block : Block) × (block_at self.old.blocks number ≡ Some block) × (0 < block.room) }
+        requires other { number ≢ self.old.current }
+        ensures rearranges { Rearranges self.old self.new space.old space.new (turned (ledger_of self.old) number) }
+        ensures current { self.new.current ≡ number }
+        ensures block { block_at self.new.blocks number ≡ block_at self.old.blocks number }
+    {
+        let old = self.current;
+        self.seat(number);
+        self.stop(space, old);
+    }
+
+    // Cuts a chunk off the current block.
+    fn cut(&mut self, space: &mut Space, size: u32) -> Addr
+        requires kept { IsKept self.old }
+        requires agrees { Agrees (footprint self.old.blocks) space.old }
+        requires size { size ≤ 524288 }
+        requires room { granted size + 8 ≤ (block_in (ledger_of self.old) self.old.current).room }
+        requires spare { 1 ≤ self.old.blocks.spare_chunks }
+        ensures at { result.region ≡ self.old.current }
+        ensures allocates { Allocates self.old self.new space.old space.new size result (Ok (cut_off (ledger_of self.old) (granted size + 8))) }
+    {
+        self.blocks.cut(space, self.current, size, granted(size), false)
+    }
+
+    // Which block becomes current for so many bytes, where no new one is taken.
+    #[tactic(auto, using(crate::proofs::Found::found), unfolding(crate::specs::Ledger::chosen))]
+    fn choose(&self, bytes: u32) -> Option<u32>
+        requires kept { IsKept self.now }
+        requires some { 0 < bytes }
+        ensures value { result ≡ chosen (ledger_of self.now) bytes }
+        ensures block { IfSome result (λ number. (block : Block) × (block_at self.now.blocks number ≡ Some block) × (bytes ≤ block.room)) }
+        ensures other { IfSome result (λ number. number ≢ self.now.current) }
+    {
+        if let Some(number) = self.spare {
+            if self.block(number).room >= bytes {
+                return Some(number);
+            }
+        }
+        let keeper = self.blocks.keeper();
+        let block = self.block(keeper);
+        if keeper != self.current && block.live == 0 && block.room >= bytes {
+            return Some(keeper);
+        }
+        None
+    }
+
+    // Takes a new block for so many bytes.
+    #[tactic(auto, unfolding(crate::specs::Ledger::block_size))]
+    fn add(&mut self, space: &mut Space, bytes: u32) -> Result<u32, CtxError>
+        requires kept { IsKept self.old }
+        requires agrees { Agrees (footprint self.old.blocks) space.old }
+        requires some { 8 ≤ bytes }
+        requires most { bytes ≤ 2 ^ 20 }
+        requires spare { 1 ≤ self.old.blocks.spare_blocks }
+        ensures ok { IfOk result (λ number. Rearranges self.old self.new space.old space.new (with_new (ledger_of self.old) number (block_size (ledger_of self.old) bytes))) }
+        ensures other { IfOk result (λ number. number ≢ self.old.current) }
+        ensures current { OnOk result (self.new.current ≡ self.old.current) }
+        ensures block { IfOk result (λ number. (block : Block) × (block_at self.new.blocks number ≡ Some block) × (bytes ≤ block.room)) }
+        ensures fits { OnOk result (block_size (ledger_of self.old) bytes ≤ space.old.limit - held space.old self.old.blocks.account) }
+        ensures no_space { (result ≡ Err CtxError.NoSpace) → space.old.limit - held space.old self.old.blocks.account < block_size (ledger_of self.old) bytes }
+        ensures no_other { IfErr result (λ e. (e ≡ CtxError.NoSpace) ⊎ (e ≡ CtxError.Memory)) }
+        ensures err { OnErr result (self.new ≡ self.old) }
+        ensures err_space { OnErr result (space.new ≡ space.old) }
+    {
+        let size = grown(self.next, bytes + 40);
+        match self.blocks.add(space, size) {
+            Ok(number) => {
+                self.next = (self.next * 2).min(self.sizes.max);
+                Ok(number)
+            }
+            Err(error) => Err(error),
+        }
+    }
+
+    // Cuts a chunk off another block than the current one.
+    fn take_other(&mut self, space: &mut Space, size: u32) -> Result<Addr, CtxError>
+        requires kept { IsKept self.old }
+        requires agrees { Agrees (footprint self.old.blocks) space.old }
+        requires size { size ≤ 524288 }
+        requires little { (block_in (ledger_of self.old) self.old.current).room < granted size + 8 }
+        requires spare_blocks { 1 ≤ self.old.blocks.spare_blocks }
+        requires spare_chunks { 1 ≤ self.old.blocks.spare_chunks }
+        ensures ok { IfOk result (λ at. Allocates self.old self.new space.old space.new size at (take_cut (ledger_of self.old) (space.old.limit - held space.old self.old.blocks.account) at.region (granted size + 8))) }
+        ensures no_space { result ≡ Err CtxError.NoSpace → (number : ℕ) → take_cut (ledger_of self.old) (space.old.limit - held space.old self.old.blocks.account) number (granted size + 8) ≡ Err CtxError.NoSpace }
+        ensures no_other { IfErr result (λ e. (e ≡ CtxError.NoSpace) ⊎ (e ≡ CtxError.Memory)) }
+        ensures err { OnErr result (self.new ≡ self.old) }
+        ensures err_space { OnErr result (space.new ≡ space.old) }
+    {
+        let bytes = granted(size) + 8;
+        if let Some(number) = self.choose(bytes) {
+            self.turn_to(space, number);
+            return Ok(self.cut(space, size));
+        }
+        match self.add(space, bytes) {
+            Ok(number) => {
+                self.turn_to(space, number);
+                Ok(self.cut(space, size))
+            }
+            Err(error) => Err(error),
+        }
+    }
+
+    // Cuts a chunk off the current block, or off another one.
+    fn take_cut(&mut self, space: &mut Space, size: u32) -> Result<Addr, CtxError>
+        requires kept { IsKept self.old }
+        requires agrees { Agrees (footprint self.old.blocks) space.old }
+        requires size { size ≤ 524288 }
+        requires spare_blocks { 1 ≤ self.old.blocks.spare_blocks }
+        requires spare_chunks { 1 ≤ self.old.blocks.spare_chunks }
+        ensures ok { IfOk result (λ at. Allocates self.old self.new space.old space.new size at (take_cut (ledger_of self.old) (space.old.limit - held space.old self.old.blocks.account) at.region (granted size + 8))) }
+        ensures no_space { result ≡ Err CtxError.NoSpace → (number : ℕ) → take_cut (ledger_of self.old) (space.old.limit - held space.old self.old.blocks.account) number (granted size + 8) ≡ Err CtxError.NoSpace }
+        ensures no_other { IfErr result (λ e. (e ≡ CtxError.NoSpace) ⊎ (e ≡ CtxError.Memory)) }
+        ensures err { OnErr result (self.new ≡ self.old) }
+        ensures err_space { OnErr result (space.new ≡ space.old) }
+    {
+        if self.block(self.current).room >= granted(size) + 8 {
+            return Ok(self.cut(space, size));
+        }
+        self.take_other(space, size)
+    }
+
+    // Takes a block for one chunk.
+    fn take_own(&mut self, space: &mut Space, size: u32) -> Result<Addr, CtxError>
+        requires kept { IsKept self.old }
+        requires agrees { Agrees (footprint self.old.blocks) space.old }
+        requires size { size < 2 ^ 30 }
+        requires spare_blocks { 1 ≤ self.old.blocks.spare_blocks }
+        requires spare_chunks { 1 ≤ self.old.blocks.spare_chunks }
+        ensures ok { IfOk result (λ at. Allocates self.old self.new space.old space.new size at (take_own (ledger_of self.old) (space.old.limit - held space.old self.old.blocks.account) at.region (granted size + 48))) }
+        ensures no_space { result ≡ Err CtxError.NoSpace → (number : ℕ) → take_own (ledger_of self.old) (space.old.limit - held space.old self.old.blocks.account) number (granted size + 48) ≡ Err CtxError.NoSpace }
+        ensures no_other { IfErr result (λ e. (e ≡ CtxError.NoSpace) ⊎ (e ≡ CtxError.Memory)) }
+        ensures err { OnErr result (self.new ≡ self.old) }
+        ensures err_space { OnErr result (space.new ≡ space.old) }
+    {
+        let room = granted(size);
+        match self.blocks.add(space, room + 48) {
+            Ok(number) => Ok(self.blocks.cut(space, number, size, room, true)),
+            Err(error) => Err(error),
+        }
+    }
+
+    // Serves a request for which room was made.
+    fn take(&mut self, space: &mut Space, size: u32) -> Result<Addr, CtxError>
+        requires kept { IsKept self.old }
+        requires agrees { Agrees (footprint self.old.blocks) space.old }
+        requires size { size ≤ 1073741823 }
+        requires spare_blocks { 1 ≤ self.old.blocks.spare_blocks }
+        requires spare_chunks { 1 ≤ self.old.blocks.spare_chunks }
+        ensures ok { IfOk result (λ at. Allocates self.old self.new space.old space.new size at (take (ledger_of self.old) (space.old.limit - held space.old self.old.blocks.account) at.region size)) }
+        ensures no_space { result ≡ Err CtxError.NoSpace → (number : ℕ) → take (ledger_of self.old) (space.old.limit - held space.old self.old.blocks.account) number size ≡ Err CtxError.NoSpace }
+        ensures no_other { IfErr result (λ e. (e ≡ CtxError.NoSpace) ⊎ (e ≡ CtxError.Memory)) }
+        ensures err { OnErr result (self.new ≡ self.old) }
+        ensures err_space { OnErr result (space.new ≡ space.old) }
+    {
+        if size > LIMIT {
+            return self.take_own(space, size);
+        }
+        self.take_cut(space, size)
+    }
+
+    // Serves a request of a size that isn't too big.
+    fn serve(&mut self, space: &mut Space, size: u32) -> Result<Addr, CtxError>
+        requires kept { IsKept self.old }
+        requires agrees { Agrees (footprint self.old.blocks) space.old }
+        requires size { size ≤ 1073741823 }
+        ensures ok { IfOk result (λ at. Allocates self.old self.new space.old space.new size at (take (ledger_of self.old) (space.old.limit - held space.old self.old.blocks.account) at.region size)) }
+        ensures no_space { result ≡ Err CtxError.NoSpace → (number : ℕ) → take (ledger_of self.old) (space.old.limit - held space.old self.old.blocks.account) number size ≡ Err CtxError.NoSpace }
+        ensures no_other { IfErr result (λ e. (e ≡ CtxError.NoSpace) ⊎ (e ≡ CtxError.Memory)) }
+        ensures err { OnErr result (state_of self.new ≡ state_of self.old) }
+        ensures err_kept { OnErr result (IsKept self.new) }
+        ensures err_space { OnErr result (space.new ≡ space.old) }
+    {
+        match self.blocks.make_room() {
+            Ok(()) => self.take(space, size),
+            Err(error) => Err(error),
+        }
+    }
+
+    // Serves a request.
+    pub fn alloc(&mut self, space: &mut Space, size: u64) -> Result<Addr, CtxError>
+        requires kept { IsKept self.old }
+        requires agrees { Agrees (footprint self.old.blocks) space.old }
+        ensures ok { IfOk result (λ at. Allocates self.old self.new space.old space.new size at (take (ledger_of self.old) (space.old.limit - held space.old self.old.blocks.account) at.region size)) }
+        ensures too_big { (result ≡ Err CtxError.TooBig) ↔ (1073741823 < size) }
+        ensures no_space { result ≡ Err CtxError.NoSpace → (number : ℕ) → take (ledger_of self.old) (space.old.limit - held space.old self.old.blocks.account) number size ≡ Err CtxError.NoSpace }
+        ensures no_other { IfErr result (λ e. (e ≡ CtxError.TooBig) ⊎ ((e ≡ CtxError.NoSpace) ⊎ (e ≡ CtxError.Memory))) }
+        ensures err { OnErr result (state_of self.new ≡ state_of self.old) }
+        ensures err_kept { OnErr result (IsKept self.new) }
+        ensures err_space { OnErr result (space.new ≡ space.old) }
+    {
+        if size > LARGEST {
+            return Err(CtxError::TooBig);
+        }
+        self.serve(space, size as u32)
+    }
+
+    // Gives a shared block whose last live chunk was freed its whole room, or back.
+    fn empty(&mut self, space: &mut Space, number: u32)
+        requires kept { IsKept self.old }
+        requires agrees { Agrees (footprint self.old.blocks) space.old }
+        requires block { (block : Block) × (block_at self.old.blocks number ≡ Some block) × (block.live ≡ 0) }
+        requires other { is_spare self.old.spare number ≡ false }
+        ensures { Rearranges self.old self.new space.old space.new (emptied (ledger_of self.old) number) }
+    {
+        if self.blocks.keeper() == number {
+            self.blocks.refill(number);
+            return;
+        }
+        if self.current == number {
+            self.blocks.refill(number);
+            return;
+        }
+        match self.spare {
+            None => {
+                self.blocks.refill(number);
+                self.spare = Some(number);
+            }
+            Some(_) => self.blocks.give(space, number),
+        }
+    }
+
+    // Forgets a chunk of a shared block.
+    fn forget(&mut self, space: &Space, at: Addr)
+        requires kept { IsKept self.old }
+        requires agrees { Agrees (footprint self.old.blocks) space.now }
+        requires chunk { (c : Chunk) × (chunk_at self.old.blocks at ≡ Some c) × (c.own ≡ false) }
+        ensures frees { Frees self.old self.new space.now space.now at }
+        ensures ledger { ledger_of self.new ≡ lessened (ledger_of self.old) at.region }
+        ensures other { is_spare self.new.spare at.region ≡ false }
+        ensures some { 1 ≤ (block_in (ledger_of self.old) at.region).live }
+        ensures block { (block : Block) × (block_at self.new.blocks at.region ≡ Some block) }
+    {
+        self.blocks.laid();
+        let _ = self.blocks.remove(at);
+        self.blocks.laid();
+    }
+
+    // Frees a chunk of a shared block.
+    fn free_shared(&mut self, space: &mut Space, at: Addr)
+        requires kept { IsKept self.old }
+        requires agrees { Agrees (footprint self.old.blocks) space.old }
+        requires chunk { (c : Chunk) × (chunk_at self.old.blocks at ≡ Some c) × (c.own ≡ false) }
+        ensures frees { Frees self.old self.new space.old space.new at }
+        ensures ledger { ledger_of self.new ≡ freed (ledger_of self.old) at.region false }
+    {
+        self.forget(space, at);
+        if self.block(at.region).live == 0 {
+            self.empty(space, at.region);
+        }
+    }
+
+    // Frees a chunk that has a block for itself.
+    fn free_own(&mut self, space: &mut Space, at: Addr)
+        requires kept { IsKept self.old }
+        requires agrees { Agrees (footprint self.old.blocks) space.old }
+        requires chunk { (c : Chunk) × (chunk_at self.old.blocks at ≡ Some c) × (c.own ≡ true) }
+        ensures frees { Frees self.old self.new space.old space.new at }
+        ensures ledger { ledger_of self.new ≡ freed (ledger_of self.old) at.region true }
+    {
+        let _ = self.blocks.remove(at);
+        self.blocks.laid();
+        self.blocks.give(space, at.region);
+    }
+
+    // Frees a chunk.
+    pub fn free(&mut self, space: &mut Space, at: Addr)
+        requires kept { IsKept self.old }
+        requires agrees { Agrees (footprint self.old.blocks) space.old }
+        requires chunk { (c : Chunk) × (chunk_at self.old.blocks at ≡ Some c) }
+        ensures frees { Frees self.old self.new space.old space.new at }
+        ensures ledger { (c : Chunk) → chunk_at self.old.blocks at ≡ Some c → ledger_of self.new ≡ freed (ledger_of self.old) at.region c.own }
+    {
+        match self.blocks.chunk(at) {
+            Some(chunk) => {
+                if chunk.own {
+                    self.free_own(space, at);
+                } else {
+                    self.free_shared(space, at);
+                }
+            }
+            None => {}
+        }
+    }
+
+    // Takes a new chunk, copies the first bytes of one that can't have so many, and frees it.
+    fn relocate(
+        &mut self,
+        space: &mut Space,
+        at: Addr,
+        keep: u32,
+        size: u32,
+    ) -> Result<Addr, CtxError>
+        requires kept { IsKept self.old }
+        requires agrees { Agrees (footprint self.old.blocks) space.old }
+        requires size { size ≤ 1073741823 }
+        requires chunk { (c : Chunk) × (chunk_at self.old.blocks at ≡ Some c) × (keep ≤ c.size) × (c.room < size) }
+        requires keep { keep ≤ size }
+        requires known { IsKnown space.old at keep }
+        ensures ok { IfOk result (λ to. Resizes self.old self.new space.old space.new at to keep size) }
+        ensures ledger { IfOk result (λ to. (c : Chunk) → chunk_at self.old.blocks at ≡ Some c → resized (ledger_of self.old) (space.old.limit - held space.old self.old.blocks.account) to.region size at.region c.room c.own ≡ Ok (ledger_of self.new)) }
+        ensures no_space { result ≡ Err CtxError.NoSpace → (number : ℕ) (c : Chunk) → chunk_at self.old.blocks at ≡ Some c → resized (ledger_of self.old) (space.old.limit - held space.old self.old.blocks.account) number size at.region c.room c.own ≡ Err CtxError.NoSpace }
+        ensures no_other { IfErr result (λ e. (e ≡ CtxError.NoSpace) ⊎ (e ≡ CtxError.Memory)) }
+        ensures err { OnErr result (state_of self.new ≡ state_of self.old) }
+        ensures err_kept { OnErr result (IsKept self.new) }
+        ensures err_space { OnErr result (space.new ≡ space.old) }
+    {
+        match self.serve(space, size) {
+            Ok(to) => {
+                self.blocks.carry(space, at, to, keep);
+                self.free(space, at);
+                Ok(to)
+            }
+            Err(error) => Err(error),
+        }
+    }
+
+    // The bytes that the live chunk at an address may have.
+    fn room_at(&self, at: Addr) -> u32
+        requires { (c : Chunk) × (chunk_at self.now.blocks at ≡ Some c) }
+        ensures { (c : Chunk) → chunk_at self.now.blocks at ≡ Some c → result ≡ c.room }
+    {
+        match self.blocks.chunk(at) {
+            Some(chunk) => chunk.room,
+            None => 0,
+        }
+    }
+
+    // Gives a chunk another size that it may have where it is.
+    fn set_size(&mut self, space: &Space, at: Addr, keep: u32, size: u32)
+        requires kept { IsKept self.old }
+        requires agrees { Agrees (footprint self.old.blocks) space.now }
+        requires size { size ≤ 1073741823 }
+        requires chunk { (c : Chunk) × (chunk_at self.old.blocks at ≡ Some c) × (size ≤ c.room) }
+        ensures resizes { Resizes self.old self.new space.now space.now at at keep size }
+        ensures ledger { (c : Chunk) (left number : ℕ) → chunk_at self.old.blocks at ≡ Some c → resized (ledger_of self.old) left number size at.region c.room c.own ≡ Ok (ledger_of self.new) }
+    {
+        let _ = (space.accounts(), keep);
+        self.blocks.set_size(at, size);
+    }
+
+    // Gives a chunk another size, of which the first bytes are known.
+    pub fn realloc(
+        &mut self,
+        space: &mut Space,
+        at: Addr,
+        keep: u64,
+        size: u64,
+    ) -> Result<Addr, CtxError>
+        requires kept { IsKept self.old }
+        requires agrees { Agrees (footprint self.old.blocks) space.old }
+        requires chunk { (c : Chunk) × (chunk_at self.old.blocks at ≡ Some c) × (keep ≤ c.size) }
+        requires known { IsKnown space.old at keep }
+        ensures ok { IfOk result (λ to. Resizes self.old self.new space.old space.new at to (min keep size) size) }
+        ensures ledger { IfOk result (λ to. (c : Chunk) → chunk_at self.old.blocks at ≡ Some c → resized (ledger_of self.old) (space.old.limit - held space.old self.old.blocks.account) to.region size at.region c.room c.own ≡ Ok (ledger_of self.new)) }
+        ensures too_big { (result ≡ Err CtxError.TooBig) ↔ (1073741823 < size) }
+        ensures no_space { result ≡ Err CtxError.NoSpace → (number : ℕ) (c : Chunk) → chunk_at self.old.blocks at ≡ Some c → resized (ledger_of self.old) (space.old.limit - held space.old self.old.blocks.account) number size at.region c.room c.own ≡ Err CtxError.NoSpace }
+        ensures no_other { IfErr result (λ e. (e ≡ CtxError.TooBig) ⊎ ((e ≡ CtxError.NoSpace) ⊎ (e ≡ CtxError.Memory))) }
+        ensures err { OnErr result (state_of self.new ≡ state_of self.old) }
+        ensures err_kept { OnErr result (IsKept self.new) }
+        ensures err_space { OnErr result (space.new ≡ space.old) }
+    {
+        if size > LARGEST {
+            return Err(CtxError::TooBig);
+        }
+        let size = size as u32;
+        let keep = keep.min(u64::from(size)) as u32;
+        if self.room_at(at) >= size {
+            self.set_size(space, at, keep, size);
+            return Ok(at);
+        }
+        self.relocate(space, at, keep, size)
+    }
+
+    // Gives back all that was taken since the context was created.
+    pub fn reset(&mut self, space: &mut Space)
+        requires kept { IsKept self.old }
+        requires agrees { Agrees (footprint self.old.blocks) space.old }
+        ensures kept { IsKept self.new }
+        ensures ledger { ledger_of self.new ≡ created self.old.sizes.init self.old.sizes.max self.old.blocks.keeper }
+        ensures live { (at : Addr) → (footprint self.new.blocks).live at ≡ None }
+        ensures moves { Moves (footprint self.old.blocks) (footprint self.new.blocks) space.old space.new }
+    {
+        self.blocks.reset(space);
+        self.current = self.blocks.keeper();
+        self.next = self.sizes.init;
+        self.spare = None;
+    }
+
+    // Gives everything back.
+    pub fn discard(self, space: &mut Space)
+        requires { Agrees (footprint self.blocks) space.old }
+        ensures { Moves (footprint self.blocks) (nothing self.blocks.account self.blocks.context) space.old space.new }
+    {
+        let Books {
+            sizes: _,
+            next: _,
+            current: _,
+            spare: _,
+            blocks,
+        } = self;
+        blocks.discard(space);
+    }
+
+    // Each live chunk has a header that leads to the context.
+    pub fn headed(&self)
+        requires { IsKept self.now }
+        ensures { AllHeaded (footprint self.now.blocks) }
+    {
+        self.blocks.headed();
+    }
+}

@@ -1,0 +1,195 @@
+//! A Generation: a memory context for chunks that live about as long as their neighbours, whose blocks come free
+//! as a whole.
+#![tactic(auto)]
+
+ghost use Rattle.std.specs.Prelude.{◌≡◌, ◌≢◌, ℕ, ◌+◌, ◌-◌, ◌%◌, ◌<◌, ◌≤◌, ◌↔◌, ◌⊎◌, min, Ok, Err, None, Some, IsSome, IfSome, IfOk, IfErr, OnOk, OnErr};
+ghost use Rattle.addr_space.specs.declared.Addr.{Addr};
+ghost use Rattle.generation_ctx.specs.Ledger.{stats, take};
+
+mod books;
+#[cfg(test)]
+mod tests;
+
+use addr_space::{Addr, Space};
+use books::Books;
+use chunk_header::{CtxError, Sizes, Stats};
+use std::alloc::Global;
+use std::marker::Model;
+
+/// A context whose chunks have a multiple of 8 bytes, or a block for themselves. A block whose chunks were all freed
+/// is used again, or goes back.
+#[derive(Drop)]
+pub struct GenerationCtx {
+    books: Books,
+}
+
+impl Model for GenerationCtx {
+    ghost use Rattle.generation_ctx.specs.State.{GenerationState};
+
+    ghost Value = { GenerationState };
+
+    ghost use Rattle.generation_ctx.specs.Kept.{state_of, IsKept};
+
+    ghost view = { λ a. state_of a.books };
+
+    ghost invariant = { λ a. IsKept a.books };
+}
+
+impl GenerationCtx {
+    ghost use Rattle.addr_space.specs.Space.{accounts, held, IsKnown};
+    ghost use Rattle.addr_space.specs.Footprint.{nothing, Agrees, Moves, Keeps, KeepsBut};
+    ghost use Rattle.chunk_header.specs.Header.{AllHeaded};
+    ghost use Rattle.generation_ctx.specs.State.{chunk_at, footprint, account_of};
+    ghost use Rattle.generation_ctx.specs.Ledger.{created, freed, resized};
+    ghost use Rattle.generation_ctx.specs.Live.{PutsLive, MovesLive, HasBytesOf};
+
+    /// A context with one block, for an account of the space. `context` is the number that its blocks keep.
+    ///
+    /// `NoSpace` comes where the first block doesn't fit, and before `Memory`. A refused call changes nothing.
+    pub fn create(
+        alloc: Global,
+        space: &mut Space,
+        account: u8,
+        context: u32,
+        sizes: Sizes,
+    ) -> Result<GenerationCtx, CtxError>
+        requires account { account < accounts space.old }
+        requires least { 1024 ≤ sizes.init }
+        requires order { sizes.init ≤ sizes.max }
+        requires most { sizes.max ≤ 8388608 }
+        requires whole_init { sizes.init % 8 ≡ 0 }
+        requires whole_max { sizes.max % 8 ≡ 0 }
+        ensures ledger { IfOk result (λ a. a.ledger ≡ created sizes.init sizes.max a.ledger.keeper) }
+        ensures account { IfOk result (λ a. (footprint a).account ≡ account) }
+        ensures context { IfOk result (λ a. (footprint a).context ≡ context) }
+        ensures live { IfOk result (λ a. (at : Addr) → (footprint a).live at ≡ None) }
+        ensures moves { IfOk result (λ a. Moves (nothing account context) (footprint a) space.old space.new) }
+        ensures no_space { (result ≡ Err CtxError.NoSpace) ↔ (space.old.limit < held space.old account + sizes.init) }
+        ensures no_other { IfErr result (λ e. (e ≡ CtxError.NoSpace) ⊎ (e ≡ CtxError.Memory)) }
+        ensures err { OnErr result (space.new ≡ space.old) }
+    {
+        match Books::create(alloc, space, account, context, sizes) {
+            Ok(books) => Ok(GenerationCtx { books }),
+            Err(error) => Err(error),
+        }
+    }
+
+    /// What the context holds: `free` are the rooms of all blocks, and `chunks` how many chunks were freed in them
+    /// since each last had its whole room.
+    pub fn stats(&self) -> Stats
+        ensures { result ≡ stats self.now.ledger }
+    {
+        self.books.stats()
+    }
+
+    /// Each live chunk has a header that leads to its block, and so to the context. A caller cites the clause.
+    pub fn headed(&self)
+        ensures { AllHeaded (footprint self.now) }
+    {
+        self.books.headed();
+    }
+
+    #[tactic(auto, using(crate::proofs::Seen::agrees_bare, crate::proofs::Seen::moves_bare))]
+    /// Takes a chunk of `size` bytes, which may be 0, and answers its address. No byte of it is known.
+    ///
+    /// `TooBig`, `NoSpace` and `Memory` are tried in this order. A refused call changes nothing.
+    pub fn alloc(&mut self, space: &mut Space, size: u64) -> Result<Addr, CtxError>
+        requires { Agrees (footprint self.old) space.old }
+
+        // The ledger makes its step for the request, with what is left of the account and the block that the chunk is in.
+        ensures ledger { IfOk result (λ at. take self.old.ledger (space.old.limit - held space.old (account_of self.old)) at.region size ≡ Ok self.new.ledger) }
+
+        // The chunk was not live, and every other chunk stays.
+        ensures fresh { IfOk result (λ at. (footprint self.old).live at ≡ None) }
+        ensures live { IfOk result (λ at. PutsLive (footprint self.old) (footprint self.new) at (Some size)) }
+        ensures moves { OnOk result (Moves (footprint self.old) (footprint self.new) space.old space.new) }
+        ensures keeps { OnOk result (Keeps (footprint self.old) (footprint self.new) space.old space.new) }
+
+        ensures too_big { (result ≡ Err CtxError.TooBig) ↔ (1073741823 < size) }
+
+        // Whatever number a new block had.
+        ensures no_space { result ≡ Err CtxError.NoSpace → (number : ℕ) → take self.old.ledger (space.old.limit - held space.old (account_of self.old)) number size ≡ Err CtxError.NoSpace }
+        ensures no_other { IfErr result (λ e. (e ≡ CtxError.TooBig) ⊎ ((e ≡ CtxError.NoSpace) ⊎ (e ≡ CtxError.Memory))) }
+        ensures err { OnErr result (self.new ≡ self.old) }
+        ensures err_space { OnErr result (space.new ≡ space.old) }
+    {
+        self.books.alloc(space, size)
+    }
+
+    #[tactic(auto, using(crate::proofs::Seen::agrees_bare, crate::proofs::Seen::moves_bare))]
+    /// Frees a live chunk. It never refuses, and takes no memory. A block that the chunk had for itself goes back to
+    /// the space. Of a shared block whose last live chunk it is, the room is whole again, or the block goes back.
+    pub fn free(&mut self, space: &mut Space, at: Addr) -> Result<(), CtxError>
+        requires agrees { Agrees (footprint self.old) space.old }
+        requires live { IsSome ((footprint self.old).live at) }
+        ensures ok { result ≡ Ok tt }
+        ensures ledger { IfSome (chunk_at self.old at) (λ chunk. self.new.ledger ≡ freed self.old.ledger at.region chunk.own) }
+        ensures live { PutsLive (footprint self.old) (footprint self.new) at None }
+        ensures moves { Moves (footprint self.old) (footprint self.new) space.old space.new }
+        ensures keeps { Keeps (footprint self.old) (footprint self.new) space.old space.new }
+    {
+        self.books.free(space, at);
+        Ok(())
+    }
+
+    #[tactic(auto, using(crate::proofs::Seen::agrees_bare, crate::proofs::Seen::moves_bare))]
+    /// Gives a live chunk a size of `size` bytes, which may be 0, and answers where it is now. `keep` is how many of
+    /// its first bytes are known.
+    ///
+    /// The chunk stays where it may have the size. Else a new chunk is taken, the first `keep` bytes are copied, and
+    /// the old chunk is freed.
+    ///
+    /// `TooBig`, where `size` is over 1,073,741,823, comes before `NoSpace`, and `Memory` may come in place of any
+    /// other but `TooBig`. A refused call changes nothing.
+    pub fn realloc(
+        &mut self,
+        space: &mut Space,
+        at: Addr,
+        keep: u64,
+        size: u64,
+    ) -> Result<Addr, CtxError>
+        requires agrees { Agrees (footprint self.old) space.old }
+        requires live { IsSome ((footprint self.old).live at) }
+        requires keep { IfSome ((footprint self.old).live at) (λ n. keep ≤ n) }
+        requires known { IsKnown space.old at keep }
+
+        // The ledger makes its step for the chunk.
+        ensures ledger { IfOk result (λ to. IfSome (chunk_at self.old at) (λ chunk. resized self.old.ledger (space.old.limit - held space.old (account_of self.old)) to.region size at.region chunk.room chunk.own ≡ Ok self.new.ledger)) }
+
+        // Where the chunk is at another address none was live there, the old address has none, and every other chunk stays.
+        ensures fresh { IfOk result (λ to. to ≢ at → (footprint self.old).live to ≡ None) }
+        ensures live { IfOk result (λ to. MovesLive (footprint self.old) (footprint self.new) at to size) }
+        ensures bytes { IfOk result (λ to. HasBytesOf space.old space.new at to (min keep size)) }
+        ensures moves { OnOk result (Moves (footprint self.old) (footprint self.new) space.old space.new) }
+        ensures keeps { OnOk result (KeepsBut at (footprint self.old) (footprint self.new) space.old space.new) }
+
+        ensures too_big { (result ≡ Err CtxError.TooBig) ↔ (1073741823 < size) }
+        ensures no_space { result ≡ Err CtxError.NoSpace → (number : ℕ) → IfSome (chunk_at self.old at) (λ chunk. resized self.old.ledger (space.old.limit - held space.old (account_of self.old)) number size at.region chunk.room chunk.own ≡ Err CtxError.NoSpace) }
+        ensures no_other { IfErr result (λ e. (e ≡ CtxError.TooBig) ⊎ ((e ≡ CtxError.NoSpace) ⊎ (e ≡ CtxError.Memory))) }
+        ensures err { OnErr result (self.new ≡ self.old) }
+        ensures err_space { OnErr result (space.new ≡ space.old) }
+    {
+        self.books.realloc(space, at, keep, size)
+    }
+
+    #[tactic(auto, using(crate::proofs::Seen::agrees_bare, crate::proofs::Seen::moves_bare))]
+    /// Frees all chunks and gives every block but the first back: the context is as it was created. It takes no
+    /// memory.
+    pub fn reset(&mut self, space: &mut Space)
+        requires { Agrees (footprint self.old) space.old }
+        ensures ledger { self.new.ledger ≡ created self.old.ledger.init self.old.ledger.max self.old.ledger.keeper }
+        ensures live { (at : Addr) → (footprint self.new).live at ≡ None }
+        ensures moves { Moves (footprint self.old) (footprint self.new) space.old space.new }
+    {
+        self.books.reset(space);
+    }
+
+    /// Gives all blocks back. It takes no memory.
+    pub fn discard(self, space: &mut Space)
+        requires { Agrees (footprint self) space.old }
+        ensures { Moves (footprint self) (nothing (footprint self).account (footprint self).context) space.old space.new }
+    {
+        let GenerationCtx { books } = self;
+        books.discard(space);
+    }
+}

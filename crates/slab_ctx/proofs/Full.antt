@@ -1,0 +1,184 @@
+-- Lemmas on what a Slab has in a space with its free chunks.
+use Rattle.std.proofs.Common.{◌≡◌, ◌≢◌, ℕ, ◌+◌, ◌-◌, ◌*◌, ◌/◌, ◌%◌, ◌<◌, ◌≤◌, ◌⊎◌, ◌==◌, ◌&&◌, nat_le, if◌then◌else◌, Bool, true, false, List, Option, Some, None, refl, sym, ap, subst, ◌∙◌, inl, inr, arith}
+use Rattle.std.specs.Global.{Vec}
+use Rattle.std.proofs.Math.Nat.{mod-eq-sub-div-mul, div-mul-le_self}
+use Rattle.std.proofs.lemmas.Bool.{cases_eq, cases_lt}
+use Rattle.std.proofs.lemmas.Bool.Decides.{nat_tests}
+use Rattle.addr_space.specs.declared.Addr.{Addr}
+use Rattle.addr_space.specs.Space.{Space}
+use Rattle.addr_space.specs.Footprint.{Footprint, IsSound, Agrees, Moves, Keeps, nothing, counted}
+use Rattle.chunk_header.specs.Header.{AllHeaded}
+use Rattle.ctx_blocks.specs.Layout.{Layout, block_at, chunk_at, then_option, mark_of, footprint as footprint_of}
+use Rattle.ctx_blocks.specs.declared.parts.Block.{Block}
+use Rattle.ctx_blocks.specs.declared.parts.Chunk.{Chunk}
+use Rattle.slab_ctx.specs.Ledger.{stride}
+use Rattle.slab_ctx.specs.State.{bare, is_slot, free_slot, free_block, free_at}
+use Rattle.slab_ctx.specs.Slots.{IsSlot, IsSlotted, chunk_of}
+use Rattle.slab_ctx.proofs.Numbers.{stride-least, stride-some, slots_apart}
+use Rattle.slab_ctx.proofs.Puts.{one_value, none_or_some, same_addr_from}
+
+-- what the context has in a space: what the blocks have, and the free chunks
+abbrev pub full : ℕ → Layout → Footprint
+full size l = record (footprint_of l) { free = free_at size l }
+
+-- that room was made for more doesn't count
+full-bare : (size : ℕ) (l : Layout) → full size (bare l) ≡ full size l
+unfolding mark_of
+full-bare size l = refl
+
+-- the test of a slot
+slot-from : (size offset : ℕ) → 1 ≤ size → is_slot size offset ≡ true → IsSlot size offset × (offset + (stride size - 8) ≤ 8192)
+slot-from size offset some test =
+    let f = stride size in
+    let wide : 16 ≤ f = stride-some size some in
+    let first : 48 ≤ offset = grind (arith, nat_tests) in
+    let whole : (offset - 48) % f ≡ 0 = grind (arith, nat_tests) in
+    let last : offset + (f - 8) ≤ 8192 = grind (arith, nat_tests) in
+    let positive : 0 < f = omega arith in
+    (record { slot = (offset - 48) / f; at_slot = omega (arith, whole, first, mod-eq-sub-div-mul (offset - 48) f, div-mul-le_self (offset - 48) f) }, last)
+
+from_slot : (size offset : ℕ) (slot : Option Chunk) (n : ℕ) → free_slot size offset slot ≡ Some n → (slot ≡ None) × (is_slot size offset ≡ true) × (n ≡ size)
+from_slot size offset None n is = let it = by (is_slot size offset) is in (refl, it.0, it.1)
+  where
+    by : (t : Bool) → (if t then Some size else None) ≡ Some n → (t ≡ true) × (n ≡ size)
+    by true is = (refl, cc)
+    by false is = absurd (cc)
+from_slot size offset (Some chunk) n is = absurd (cc)
+
+-- what a free chunk is
+record IsFreeAt (l : Layout) (size : ℕ) (at : Addr) (n : ℕ) : Type 0 where
+  not_keeper : at.region ≢ l.keeper
+  block : Block
+  found : block_at l at.region ≡ Some block
+  none : chunk_at l at ≡ None
+  slot : is_slot size at.offset ≡ true
+  is : n ≡ size
+
+from_block : (l : Layout) (size : ℕ) (at : Addr) (n : ℕ) → at.region ≢ l.keeper → (block : Option Block) → block_at l at.region ≡ block → free_block size at.offset block (chunk_at l at) ≡ Some n → IsFreeAt l size at n
+from_block l size at n differs None found is = absurd (cc)
+from_block l size at n differs (Some block) found is =
+    let it = from_slot size at.offset (chunk_at l at) n is in
+    record { not_keeper = differs; block = block; found = found; none = it.0; slot = it.1; is = it.2 }
+
+from_free : (l : Layout) (size : ℕ) (at : Addr) (n : ℕ) → free_at size l at ≡ Some n → IsFreeAt l size at n
+from_free l size at n is = by (l.keeper == at.region) (λ test. grind (arith, nat_tests)) is
+  where
+    by : (t : Bool) → (t ≡ false → l.keeper ≢ at.region) → (if t then None else free_block size at.offset (block_at l at.region) (chunk_at l at)) ≡ Some n → IsFreeAt l size at n
+    by true differs is = absurd (cc)
+    by false differs is = from_block l size at n (λ e. differs refl (sym e)) (block_at l at.region) refl is
+
+-- what a live chunk is
+from_live : (o : Option Chunk) (n : ℕ) → then_option o (λ (c : Chunk). Some c.size) ≡ Some n → (c : Chunk) × (o ≡ Some c) × (c.size ≡ n)
+from_live None n is = absurd (cc)
+from_live (Some c) n is = (c, refl, cc)
+
+module _ (l : Layout) (size : ℕ) (s : List (ℕ × Vec ℕ)) (slotted : IsSlotted l size s) where
+  -- free chunks lie in their blocks and apart from live ones
+  pub IsSound-full : IsSound (footprint_of l) → IsSound (full size l)
+  IsSound-full sound = record {
+    live_inside = sound.live_inside;
+    free_inside = λ at n free.
+        let it = from_free l size at n free in
+        let slot = slot-from size at.offset slotted.least it.slot in
+        let filled = slotted.filled at.region it.block it.not_keeper it.found in
+        (it.block.size, ap (λ o. then_option o (λ (b : Block). Some b.size)) it.found, omega (arith, slot.1, it.is, filled.bytes, stride-least size));
+    mark_inside = sound.mark_inside;
+    live_apart = sound.live_apart;
+    free_apart = λ a b m n live free region.
+        let it = from_free l size b n free in
+        let had = from_live (chunk_at l a) m live in
+        let slot = slot-from size b.offset slotted.least it.slot in
+        let is : m ≡ size = sym had.2 ∙ ap (λ (c : Chunk). c.size) (slotted.chunk a had.0 had.1) in
+        let differs : a.offset ≢ b.offset = λ e. none_or_some (chunk_at l b) had.0 it.none (ap (chunk_at l) (sym (same_addr_from a b region e)) ∙ had.1) in
+        elim (slots_apart size a.offset b.offset (slotted.slot a had.0 had.1) slot.0 differs) [
+          | inl before ↦ inl (omega (arith, before, is, stride-least size))
+          | inr behind ↦ inr (omega (arith, behind, it.is, stride-least size))
+        ];
+    mark_apart = sound.mark_apart;
+  }
+
+  pub Agrees-full : (sp : Space) → Agrees (footprint_of l) sp → Agrees (full size l) sp
+  Agrees-full sp agrees = record {
+    sound = IsSound-full agrees.sound;
+    account = agrees.account;
+    regions = agrees.regions;
+    marks = agrees.marks;
+  }
+
+-- a space has the blocks of a context that it agrees with
+pub Agrees-plain : (size : ℕ) (l : Layout) (sp : Space) → Agrees (full size (bare l)) sp → Agrees (footprint_of l) sp
+Agrees-plain size l sp bare_agrees =
+    let agrees = subst (λ f. Agrees f sp) (full-bare size l) bare_agrees in
+    record {
+      sound = record {
+        live_inside = agrees.sound.live_inside;
+        free_inside = λ at n free. absurd (cc);
+        mark_inside = agrees.sound.mark_inside;
+        live_apart = agrees.sound.live_apart;
+        free_apart = λ a b m n live free. absurd (cc);
+        mark_apart = agrees.sound.mark_apart;
+      };
+      account = agrees.account;
+      regions = agrees.regions;
+      marks = agrees.marks;
+    }
+
+-- the steps, with the free chunks
+pub Moves-full : (size now : ℕ) (l m : Layout) (t : List (ℕ × Vec ℕ)) (sp sq : Space) → now ≡ size → IsSlotted m now t → Moves (footprint_of l) (footprint_of m) sp sq → Moves (full size (bare l)) (full now (bare m)) sp sq
+unfolding counted
+Moves-full size now l m t sp sq same slotted moves =
+    let more : Moves (full size l) (full now m) sp sq = record {
+      agrees = Agrees-full m now t slotted sq moves.agrees;
+      account = moves.account;
+      context = moves.context;
+      outside = moves.outside;
+      accounts = moves.accounts;
+      limit = moves.limit;
+      held = moves.held;
+    } in
+    subst (λ f. Moves f (full now (bare m)) sp sq) (sym (full-bare size l)) (subst (λ g. Moves (full size l) g sp sq) (sym (full-bare now m)) more)
+
+pub Moves-made : (size account context : ℕ) (m : Layout) (t : List (ℕ × Vec ℕ)) (sp sq : Space) → IsSlotted m size t → Moves (nothing account context) (footprint_of m) sp sq → Moves (nothing account context) (full size (bare m)) sp sq
+unfolding counted
+Moves-made size account context m t sp sq slotted moves =
+    let more : Moves (nothing account context) (full size m) sp sq = record {
+      agrees = Agrees-full m size t slotted sq moves.agrees;
+      account = moves.account;
+      context = moves.context;
+      outside = moves.outside;
+      accounts = moves.accounts;
+      limit = moves.limit;
+      held = moves.held;
+    } in
+    subst (λ g. Moves (nothing account context) g sp sq) (sym (full-bare size m)) more
+
+pub Moves-gone : (size account context : ℕ) (l : Layout) (sp sq : Space) → Moves (footprint_of l) (nothing account context) sp sq → Moves (full size (bare l)) (nothing account context) sp sq
+unfolding counted
+Moves-gone size account context l sp sq moves =
+    let more : Moves (full size l) (nothing account context) sp sq = record {
+      agrees = moves.agrees;
+      account = moves.account;
+      context = moves.context;
+      outside = moves.outside;
+      accounts = moves.accounts;
+      limit = moves.limit;
+      held = moves.held;
+    } in
+    subst (λ f. Moves f (nothing account context) sp sq) (sym (full-bare size l)) more
+
+-- live chunks have headers, free ones count for nothing there
+pub AllHeaded-full : (size : ℕ) (l : Layout) → AllHeaded (footprint_of l) → AllHeaded (full size (bare l))
+AllHeaded-full size l headed =
+    let more : AllHeaded (full size l) = λ at n live.
+        let it = headed at n live in
+        record {
+          header = it.header;
+          size = it.size;
+          packable = it.packable;
+          leading = it.leading;
+          behind = it.behind;
+          large = it.large;
+          word = it.word;
+          block = it.block;
+        } in
+    subst AllHeaded (sym (full-bare size l)) more

@@ -1,0 +1,136 @@
+-- What the code keeps, after a step.
+use Rattle.std.proofs.Common.{◌≡◌, ◌≢◌, ℕ, ◌+◌, ◌-◌, ◌*◌, ◌^◌, ◌<◌, ◌≤◌, ◌++◌, List, [], ◌∷◌, length, Some, None, slice_index, slice_set, sum_by, refl, sym, ap, subst, ◌∙◌, arith}
+use Rattle.std.specs.Prelude.{remove}
+use Rattle.std.proofs.lemmas.List.{length-set, length-append}
+use Rattle.std.proofs.lemmas.List.Edits.{length-remove}
+use Rattle.std.proofs.lemmas.List.Sums.{sum_by-append, sum_by-cons}
+use Rattle.ctx_blocks.specs.Layout.{Layout, block_at, total}
+use Rattle.ctx_blocks.specs.Steps.{PutsBlock, DropsBlock, SameContext}
+use Rattle.ctx_blocks.specs.declared.parts.Block.{Block}
+use Rattle.slab_ctx.specs.Ledger.{is_empty, empties, free_in, free_chunks, per_block}
+use Rattle.slab_ctx.specs.State.{others, lives_of, place_in}
+use Rattle.slab_ctx.specs.Slots.{HasSlots, first_region}
+use Rattle.slab_ctx.specs.Counts.{Counts}
+use Rattle.slab_ctx.specs.Kept.{ledger_of, IsListed, IsKeptBut, IsKept}
+use Rattle.slab_ctx.specs.declared.books.Books.{Books}
+use Rattle.slab_ctx.proofs.Bounds.{free-is}
+use Rattle.slab_ctx.proofs.Listed.{IsListed-none, total-none, lives-none, IsListed-put, lives-added, lives-changed, total-changed, IsListed-drop, lives-dropped, place-live, sum-set, sum-remove}
+
+-- the free chunks, where the books count them
+free_from : (n : Books) → n.free ≡ sum_by (free_in (per_block n.slots.size)) (lives_of n.slots.blocks) → n.free ≡ free_chunks (ledger_of n)
+unfolding free_chunks
+free_from n is = is
+
+-- a context without blocks
+pub kept-none : (n : Books) → HasSlots n.slots → n.slots.blocks.blocks ≡ (n.slots.blocks.keeper, first_region) ∷ [] → n.empty ≡ 0 → n.free ≡ 0 → IsKept n
+kept-none n slots blocks empty free =
+    let none = lives-none n.slots.blocks blocks in
+    record {
+      slots = slots;
+      listed = IsListed-none n.slots.blocks blocks;
+      empty = omega (arith, empty, ap empties none);
+      free = free_from n (free ∙ sym (ap (sum_by (free_in (per_block n.slots.size))) none));
+      bytes = omega (arith, total-none n.slots.blocks blocks, ap length none);
+      most = omega (arith, total-none n.slots.blocks blocks);
+    }
+
+-- the count of empty blocks is made up
+pub kept-counted : (b n : Books) (few : ℕ) → IsKeptBut b few → n.slots ≡ b.slots → n.free ≡ b.free → n.empty ≡ b.empty + few → IsKept n
+kept-counted b n few kept slots free empty =
+    let was : IsKeptBut (record { slots = b.slots; empty = n.empty; free = n.free }) 0 = record {
+      slots = kept.slots;
+      listed = kept.listed;
+      empty = omega (arith, empty, kept.empty);
+      free = free ∙ kept.free;
+      bytes = kept.bytes;
+      most = kept.most;
+    } in
+    subst (λ s. IsKept (record { slots = s; empty = n.empty; free = n.free })) (sym slots) was
+
+module _ (b n : Books) (few number : ℕ) (kept : IsKeptBut b few) (slots : HasSlots n.slots) (size : n.slots.size ≡ b.slots.size) (same : SameContext b.slots.blocks n.slots.blocks) (differs : number ≢ b.slots.blocks.keeper) where
+  per_same : (xs : List ℕ) → sum_by (free_in (per_block n.slots.size)) xs ≡ sum_by (free_in (per_block b.slots.size)) xs
+  per_same xs = ap (λ z. sum_by (free_in (per_block z)) xs) size
+
+  -- a block is new
+  pub kept-added : (block : Block) → few ≡ 0 → block_at b.slots.blocks number ≡ None → PutsBlock b.slots.blocks n.slots.blocks number block → block.live ≡ 0 → total n.slots.blocks ≡ total b.slots.blocks + 8192 → total n.slots.blocks ≤ 2 ^ 62
+      → n.empty ≡ b.empty + 1 → n.free ≡ b.free + per_block b.slots.size → IsKept n
+  kept-added block none fresh puts live more most empty free =
+      let l = b.slots.blocks in
+      let m = n.slots.blocks in
+      let per = per_block b.slots.size in
+      let lives : lives_of m ≡ lives_of l ++ 0 ∷ [] = lives-added l kept.listed number differs m same block puts fresh ∙ ap (λ x. lives_of l ++ x ∷ []) live in
+      let zero_empty : sum_by is_empty (0 ∷ []) ≡ 1 = sum_by-cons is_empty 0 [] in
+      let zero_free : sum_by (free_in per) (0 ∷ []) ≡ per = omega (arith, sum_by-cons (free_in per) 0 []) in
+      record {
+        slots = slots;
+        listed = IsListed-put l kept.listed number differs m same block puts;
+        empty = omega (arith, empty, none, kept.empty, ap empties lives, sum_by-append is_empty (lives_of l) (0 ∷ []), zero_empty);
+        free = free_from n (omega (arith, free, free-is b few kept, per_same (lives_of m), ap (sum_by (free_in per)) lives, sum_by-append (free_in per) (lives_of l) (0 ∷ []), zero_free));
+        bytes = omega (arith, more, kept.bytes, ap length lives, length-append (lives_of l) (0 ∷ []));
+        most = most;
+      }
+
+  module _ (block : Block) (found : block_at b.slots.blocks number ≡ Some block) where
+    -- a block has another number of live chunks
+    module _ (live : ℕ) (counts : Counts b.slots.blocks n.slots.blocks number live) where
+      pub lives-counted : lives_of n.slots.blocks ≡ slice_set (lives_of b.slots.blocks) (place_in (others b.slots.blocks.blocks) number) live
+      lives-counted = lives-changed b.slots.blocks kept.listed number differs n.slots.blocks same counts.block counts.puts block found ∙ ap (slice_set (lives_of b.slots.blocks) (place_in (others b.slots.blocks.blocks) number)) counts.count
+
+      sum_counted : (f : ℕ → ℕ) → sum_by f (lives_of n.slots.blocks) + f block.live ≡ sum_by f (lives_of b.slots.blocks) + f live
+      sum_counted f =
+          let at = place-live b.slots.blocks kept.listed number differs block found in
+          omega (arith, ap (sum_by f) lives-counted, sum-set f (lives_of b.slots.blocks) (place_in (others b.slots.blocks.blocks) number) live at.0, ap f at.1)
+
+      pub kept-changed : (more : ℕ) → n.empty + more + is_empty block.live ≡ b.empty + few + is_empty live → n.free + free_in (per_block b.slots.size) block.live ≡ b.free + free_in (per_block b.slots.size) live → IsKeptBut n more
+      kept-changed more empty free =
+          let l = b.slots.blocks in
+          let m = n.slots.blocks in
+          let per = per_block b.slots.size in
+          let filled = kept.slots.filled number block differs found in
+          let same_total = total-changed l kept.listed number differs m same counts.block counts.puts block found (counts.bytes ∙ sym filled.bytes) in
+          record {
+            slots = slots;
+            listed = IsListed-put l kept.listed number differs m same counts.block counts.puts;
+            empty = omega (arith, empty, kept.empty, sum_counted is_empty);
+            free = free_from n (omega (arith, free, free-is b few kept, per_same (lives_of m), sum_counted (free_in per)));
+            bytes = omega (arith, same_total, kept.bytes, ap length lives-counted, length-set (lives_of l) (place_in (others l.blocks) number) live);
+            most = omega (arith, same_total, kept.most);
+          }
+
+    -- an empty block is given back, which the books don't count
+    pub kept-dropped : block.live ≡ 0 → few ≡ 1 → DropsBlock b.slots.blocks n.slots.blocks number → total n.slots.blocks + 8192 ≡ total b.slots.blocks → n.empty ≡ b.empty → n.free ≡ b.free - per_block b.slots.size → IsKept n
+    kept-dropped live one drops less empty free =
+        let l = b.slots.blocks in
+        let m = n.slots.blocks in
+        let per = per_block b.slots.size in
+        let place = place_in (others l.blocks) number in
+        let at = place-live l kept.listed number differs block found in
+        let lives = lives-dropped l kept.listed number differs m same drops block found in
+        let index = at.1 ∙ live in
+        let gone_empty = sum-remove is_empty (lives_of l) place at.0 in
+        let gone_free = sum-remove (free_in per) (lives_of l) place at.0 in
+        let is_zero : is_empty (slice_index (lives_of l) place) ≡ 1 = ap is_empty index in
+        let is_per : free_in per (slice_index (lives_of l) place) ≡ per = omega (arith, index) in
+        record {
+          slots = slots;
+          listed = IsListed-drop l kept.listed number differs m same drops block found;
+          empty = omega (arith, empty, one, kept.empty, ap empties lives, gone_empty, is_zero);
+          free = free_from n (omega (arith, free, free-is b few kept, per_same (lives_of m), ap (sum_by (free_in per)) lives, gone_free, is_per));
+          bytes = omega (arith, less, kept.bytes, ap length lives, length-remove (lives_of l) place at.0);
+          most = omega (arith, less, kept.most);
+        }
+
+-- a block counts among the empty ones and with its free chunks
+module _ (b : Books) (few number : ℕ) (kept : IsKeptBut b few) (differs : number ≢ b.slots.blocks.keeper) (block : Block) (found : block_at b.slots.blocks number ≡ Some block) where
+  pub empty-least : is_empty block.live ≤ b.empty + few
+  empty-least =
+      let l = b.slots.blocks in
+      let at = place-live l kept.listed number differs block found in
+      omega (arith, kept.empty, sum-remove is_empty (lives_of l) (place_in (others l.blocks) number) at.0, ap is_empty at.1)
+
+  pub free-least : per_block b.slots.size - block.live ≤ b.free
+  free-least =
+      let l = b.slots.blocks in
+      let per = per_block b.slots.size in
+      let at = place-live l kept.listed number differs block found in
+      omega (arith, free-is b few kept, sum-remove (free_in per) (lives_of l) (place_in (others l.blocks) number) at.0, ap (free_in per) at.1)

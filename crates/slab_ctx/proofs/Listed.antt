@@ -1,0 +1,109 @@
+-- Lemmas on the list of a Slab's blocks.
+use Rattle.std.proofs.Common.{◌≡◌, ◌≢◌, ℕ, ◌+◌, ◌-◌, ◌*◌, ◌<◌, ◌≤◌, ◌==◌, ◌++◌, if◌then◌else◌, true, false, List, [], ◌∷◌, length, map, Option, Some, None, slice_index, slice_set, sum_by, unwrap_or, option_map, refl, sym, ap, subst, ◌∙◌, arith}
+use Rattle.std.specs.Prelude.{remove}
+use Rattle.std.specs.Map.{lookup, values_of}
+use Rattle.std.proofs.lemmas.List.{length-set}
+use Rattle.std.proofs.lemmas.List.Sums.{sum_by-set, sum_by-remove}
+use Rattle.ctx_blocks.specs.Layout.{Layout, block_at, total}
+use Rattle.ctx_blocks.specs.Steps.{with_block, without_block, PutsBlock, DropsBlock, SameContext}
+use Rattle.ctx_blocks.specs.declared.parts.Block.{Block}
+use Rattle.slab_ctx.specs.State.{others, live_of, lives_of, place_in}
+use Rattle.slab_ctx.specs.Slots.{first_region}
+use Rattle.slab_ctx.specs.Counts.{Counts}
+use Rattle.slab_ctx.specs.Kept.{IsListed}
+use Rattle.slab_ctx.proofs.Sums.{sum_by-insert}
+use Rattle.slab_ctx.proofs.Lives.{find, ne_test, lives-put, put-new, place-new, lives-new, alone-put, alone-drop, place-found, place-kept, lives-drop}
+
+-- a context without blocks
+pub IsListed-none : (l : Layout) → l.blocks ≡ (l.keeper, first_region) ∷ [] → IsListed l
+IsListed-none l blocks =
+    let none : others l.blocks ≡ [] = ap others blocks in
+    record {
+      shape = blocks ∙ ap (λ es. (l.keeper, first_region) ∷ es) (sym none);
+      alone = ap (find l.keeper) none;
+    }
+
+pub total-none : (l : Layout) → l.blocks ≡ (l.keeper, first_region) ∷ [] → total l ≡ 200
+total-none l blocks = ap (λ es. sum_by (λ (b : Block). b.size) (values_of es)) blocks
+
+pub lives-none : (l : Layout) → l.blocks ≡ (l.keeper, first_region) ∷ [] → lives_of l ≡ []
+lives-none l blocks = ap (λ es. map live_of (others es)) blocks
+
+module _ (l : Layout) (listed : IsListed l) (number : ℕ) (differs : number ≢ l.keeper) where
+  pub find-other : find number (others l.blocks) ≡ block_at l number
+  find-other = sym (ap (find number) listed.shape ∙ ap (λ t. if t then Some first_region else find number (others l.blocks)) (ne_test number l.keeper differs))
+
+  put_shape : (now : Block) → with_block l.blocks number now ≡ (l.keeper, first_region) ∷ with_block (others l.blocks) number now
+  put_shape now =
+      ap (λ es. with_block es number now) listed.shape
+      ∙ ap (λ t. if t then (l.keeper, now) ∷ others l.blocks else (l.keeper, first_region) ∷ with_block (others l.blocks) number now) (ne_test number l.keeper differs)
+
+  drop_shape : without_block l.blocks number ≡ (l.keeper, first_region) ∷ without_block (others l.blocks) number
+  drop_shape =
+      ap (λ es. without_block es number) listed.shape
+      ∙ ap (λ t. if t then others l.blocks else (l.keeper, first_region) ∷ without_block (others l.blocks) number) (ne_test number l.keeper differs)
+
+  module _ (m : Layout) (same : SameContext l m) where
+    listed_by : (es : List (ℕ × Block)) → m.blocks ≡ (l.keeper, first_region) ∷ es → find l.keeper es ≡ None → IsListed m
+    listed_by es shape alone =
+        let rest : others m.blocks ≡ es = ap others shape in
+        record {
+          shape = shape ∙ ap (λ k. (k, first_region) ∷ es) (sym same.keeper) ∙ ap (λ xs. (m.keeper, first_region) ∷ xs) (sym rest);
+          alone = ap (λ k. find k (others m.blocks)) same.keeper ∙ ap (find l.keeper) rest ∙ alone;
+        }
+
+    module _ (now : Block) (puts : PutsBlock l m number now) where
+      others-put : others m.blocks ≡ with_block (others l.blocks) number now
+      others-put = ap others (puts.blocks ∙ put_shape now)
+
+      -- a block is new, or another one
+      pub IsListed-put : IsListed m
+      IsListed-put = listed_by (with_block (others l.blocks) number now) (puts.blocks ∙ put_shape now) (alone-put number now l.keeper differs (others l.blocks) listed.alone)
+
+      -- it is new
+      pub lives-added : block_at l number ≡ None → lives_of m ≡ lives_of l ++ now.live ∷ []
+      lives-added fresh = ap (map live_of) (others-put ∙ put-new number now (others l.blocks) (find-other ∙ fresh)) ∙ lives-new number now (others l.blocks)
+
+      pub place-added : block_at l number ≡ None → place_in (others m.blocks) number ≡ length (lives_of l)
+      place-added fresh = ap (λ es. place_in es number) (others-put ∙ put-new number now (others l.blocks) (find-other ∙ fresh)) ∙ place-new number now (others l.blocks) (find-other ∙ fresh)
+
+      -- it is another one of the same size
+      module _ (b : Block) (found : block_at l number ≡ Some b) where
+        pub lives-changed : lives_of m ≡ slice_set (lives_of l) (place_in (others l.blocks) number) now.live
+        lives-changed = ap (map live_of) others-put ∙ lives-put number now (others l.blocks) b (find-other ∙ found)
+
+        pub place-changed : place_in (others m.blocks) number ≡ place_in (others l.blocks) number
+        place-changed = ap (λ es. place_in es number) others-put ∙ place-kept number now (others l.blocks) b (find-other ∙ found)
+
+        pub total-changed : now.size ≡ b.size → total m ≡ total l
+        total-changed bytes =
+            let f = λ (x : Block). x.size in
+            let sums = sum_by-insert (λ a c. a == c) number now f l.blocks in
+            let gone : unwrap_or (option_map f (block_at l number)) 0 ≡ b.size = ap (λ o. unwrap_or (option_map f o) 0) found in
+            omega (arith, sums, gone, bytes, ap (λ es. sum_by f (values_of es)) puts.blocks)
+
+    -- a block is given back
+    module _ (drops : DropsBlock l m number) (b : Block) (found : block_at l number ≡ Some b) where
+      pub IsListed-drop : IsListed m
+      IsListed-drop = listed_by (without_block (others l.blocks) number) (drops.blocks ∙ drop_shape) (alone-drop number l.keeper (others l.blocks) listed.alone)
+
+      pub lives-dropped : lives_of m ≡ remove (lives_of l) (place_in (others l.blocks) number)
+      lives-dropped = ap (λ es. map live_of (others es)) (drops.blocks ∙ drop_shape) ∙ lives-drop number b (others l.blocks) (find-other ∙ found)
+
+  -- where it stands in the list
+  pub place-live : (b : Block) → block_at l number ≡ Some b → (place_in (others l.blocks) number < length (lives_of l)) × (slice_index (lives_of l) (place_in (others l.blocks) number) ≡ b.live)
+  place-live b found = place-found number b (others l.blocks) (find-other ∙ found)
+
+-- sums, where one number becomes another one or goes
+pub sum-set : (f : ℕ → ℕ) (xs : List ℕ) (i x : ℕ) → i < length xs → sum_by f (slice_set xs i x) + f (slice_index xs i) ≡ sum_by f xs + f x
+sum-set f xs i x within = sum_by-set f xs i x 0 within
+
+pub sum-remove : (f : ℕ → ℕ) (xs : List ℕ) (i : ℕ) → i < length xs → sum_by f (remove xs i) + f (slice_index xs i) ≡ sum_by f xs
+sum-remove f xs i within = sum_by-remove f xs i 0 within
+
+-- no block changes
+pub IsListed-same : (l m : Layout) → IsListed l → m.keeper ≡ l.keeper → m.blocks ≡ l.blocks → IsListed m
+IsListed-same l m listed keeper blocks = record {
+  shape = blocks ∙ listed.shape ∙ ap (λ k. (k, first_region) ∷ others l.blocks) (sym keeper) ∙ ap (λ es. (m.keeper, first_region) ∷ others es) (sym blocks);
+  alone = ap (λ k. find k (others m.blocks)) keeper ∙ ap (λ es. find l.keeper (others es)) blocks ∙ listed.alone;
+}

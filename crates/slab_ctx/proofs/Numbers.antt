@@ -1,0 +1,65 @@
+-- Lemmas on the bytes of a chunk with its header, and on how many a block has.
+use Rattle.std.proofs.Common.{◌≡◌, ◌≢◌, ℕ, ◌+◌, ◌-◌, ◌*◌, ◌/◌, ◌%◌, ◌<◌, ◌≤◌, ◌⊎◌, refl, sym, ap, ◌∙◌, inl, inr, arith}
+use Rattle.std.proofs.Math.Nat.{le-div_iff_mul-le, mul-le-mul_right}
+use Rattle.std.proofs.lemmas.Bool.{cases_lt, cases_eq}
+use Rattle.chunk_header.specs.Growth.{up8}
+use Rattle.slab_ctx.specs.Ledger.{stride, per_block}
+use Rattle.slab_ctx.specs.Slots.{IsSlot}
+
+pub stride-least : (size : ℕ) → size + 8 ≤ stride size
+unfolding stride up8
+stride-least size = omega arith
+
+pub stride-most : (size : ℕ) → stride size ≤ size + 15
+unfolding stride up8
+stride-most size = omega arith
+
+pub stride-whole : (size : ℕ) → stride size % 8 ≡ 0
+unfolding stride up8
+stride-whole size = omega arith
+
+pub stride-some : (size : ℕ) → 1 ≤ size → 16 ≤ stride size
+unfolding stride up8
+stride-some size some = omega arith
+
+-- so many chunks have room in a block
+pub per_block-fits : (size n : ℕ) → n ≤ per_block size → n * stride size ≤ 8152
+unfolding per_block
+per_block-fits size n few =
+    let some : 0 < stride size = omega (arith, stride-least size) in
+    (le-div_iff_mul-le {x = n} {y = 8152} some).0 few
+
+-- no more than so many have
+pub per_block-most : (size n : ℕ) → n * stride size ≤ 8152 → n ≤ per_block size
+unfolding per_block
+per_block-most size n fit =
+    let some : 0 < stride size = omega (arith, stride-least size) in
+    (le-div_iff_mul-le {x = n} {y = 8152} some).1 fit
+
+pub per_block-few : (size : ℕ) → 1 ≤ size → per_block size ≤ 509
+per_block-few size some =
+    let fits = per_block-fits size (per_block size) (omega arith) in
+    let least = mul-le-mul_right (per_block size) (stride-some size some) in
+    omega (arith, fits, least)
+
+pub per_block-some : (size : ℕ) → size ≤ 1024 → 1 ≤ per_block size
+per_block-some size small = per_block-most size 1 (omega (arith, stride-most size))
+
+-- a slot ends where the next one begins, or before
+slot-before : (f a b : ℕ) → a < b → a * f + f ≤ b * f
+slot-before f a b before =
+    let more = mul-le-mul_right f before in
+    omega (arith, more)
+
+-- two slots have no byte in common, with their headers
+pub slots_apart : (size a b : ℕ) → IsSlot size a → IsSlot size b → a ≢ b → (a + stride size ≤ b) ⊎ (b + stride size ≤ a)
+slots_apart size a b first second differs =
+    elim (cases_lt first.slot second.slot) [
+      | inl less ↦ inl (omega (arith, first.at_slot, second.at_slot, slot-before (stride size) first.slot second.slot less))
+      | inr not ↦ elim (cases_eq first.slot second.slot) [
+        | inl same ↦ absurd (differs (first.at_slot ∙ ap (λ n. 48 + n * stride size) same ∙ sym second.at_slot))
+        | inr other ↦
+            let less : second.slot < first.slot = omega arith in
+            inr (omega (arith, first.at_slot, second.at_slot, slot-before (stride size) second.slot first.slot less))
+      ]
+    ]

@@ -1,0 +1,87 @@
+use Rattle.std.proofs.Common.{◌≡◌, ◌<◌, ◌≤◌, ◌+◌, ◌-◌, ◌==◌, if◌then◌else◌, ℕ, Some, ap, sym, subst, ◌∙◌, arith, refl}
+use Rattle.addr_space.specs.declared.Addr.{Addr}
+use Rattle.addr_space.specs.Footprint.{Footprint, Moves}
+use Rattle.addr_space.proofs.Steps.{Moves-more}
+use Rattle.std.specs.Map.{lookup}
+use Rattle.ctx_blocks.specs.declared.parts.Block.{Block}
+use Rattle.ctx_blocks.specs.Layout.{Layout, block_at, same_addr, footprint as footprint_of}
+use Rattle.slab_ctx.specs.Ledger.{SlabLedger, per_block, is_empty, freed}
+use Rattle.slab_ctx.specs.State.{lives_of, place_in, others}
+use Rattle.slab_ctx.specs.Kept.{ledger_of, IsKeptBut}
+use Rattle.slab_ctx.specs.declared.books.Books.{Books}
+use Rattle.slab_ctx.proofs.Bounds.{free-small}
+use Rattle.slab_ctx.proofs.Full.{Agrees-plain, Moves-full}
+use Rattle.slab_ctx.proofs.Freed.{is_empty-some, freed-is}
+use Rattle.slab_ctx.proofs.Lives.{eq_test}
+use Rattle.slab_ctx.proofs.Listed.{lives-changed, place-live, place-changed}
+use Rattle.slab_ctx.proofs.Places.{chunks-few}
+use Rattle.slab_ctx.proofs.KeptSteps.{kept-changed, lives-counted}
+use Rattle.slab_ctx.proofs.Served.{keeps-before, size_of}
+use Rattle.slab_ctx.proofs.books.Books.free.Goals as goal
+
+pub overflow_add-self : goal.overflow_add-self
+overflow_add-self c = omega (arith, free-small c.args.self.now 0 c.requires.kept)
+
+-- the block is there with one live chunk fewer
+found_now : (l m : Layout) (number : ℕ) (block : Block) → ((other : ℕ) → block_at m other ≡ (if number == other then Some block else block_at l other)) → block_at m number ≡ Some block
+found_now l m number block at = at number ∙ ap (λ t. if t then Some block else block_at l number) (eq_test number)
+
+pub settle-requires-clause-kept : goal.settle-requires-clause-kept
+settle-requires-clause-kept c =
+    let b = c.args.self.now in
+    let l = b.slots.blocks in
+    let number = c.args.at.region in
+    let had = c.remove.ensures.block in
+    let block = had.0 in
+    let found = had.1 in
+    let counts = had.3 in
+    let differs = c.remove.ensures.not_keeper in
+    let n : Books = record { slots = c.remove.new.self; empty = b.empty; free = b.free + 1 } in
+    let few = chunks-few l b.slots.size b.slots.stacks.entries c.requires.kept.slots number differs block found in
+    let one_less : is_empty counts.block.live ≡ is_empty (block.live - 1) = ap is_empty counts.count in
+    (counts.block, found_now l c.remove.new.self.blocks number counts.block counts.puts.at,
+    kept-changed b n 0 number c.requires.kept c.remove.ensures.slots c.remove.ensures.size c.remove.ensures.same differs block found (block.live - 1) counts (is_empty counts.block.live)
+    (omega (arith, one_less, is_empty-some block.live had.2))
+    (omega (arith, few, had.2)))
+
+pub settle-requires-clause-agrees : goal.settle-requires-clause-agrees
+settle-requires-clause-agrees c =
+    (c.remove.ensures.moves c.args.space.now (Agrees-plain c.args.self.now.slots.size c.args.self.now.slots.blocks c.args.space.now c.requires.agrees)).agrees
+
+pub returns-clause-ledger : goal.returns-clause-ledger
+returns-clause-ledger c =
+    let b = c.args.self.now in
+    let l = b.slots.blocks in
+    let m = c.remove.new.self.blocks in
+    let number = c.args.at.region in
+    let had = c.remove.ensures.block in
+    let block = had.0 in
+    let found = had.1 in
+    let counts = had.3 in
+    let differs = c.remove.ensures.not_keeper in
+    let n : Books = record { slots = c.remove.new.self; empty = b.empty; free = b.free + 1 } in
+    let mid = lives-counted b n 0 number c.requires.kept c.remove.ensures.slots c.remove.ensures.size c.remove.ensures.same differs block found (block.live - 1) counts in
+    let at = place-live l c.requires.kept.listed number differs block found in
+    let place = place-changed l c.requires.kept.listed number differs m c.remove.ensures.same counts.block counts.puts block found in
+    let after = c.settle.ensures.lives counts.block (found_now l m number counts.block counts.puts.at) in
+    let empty : b.empty ≡ _ = omega (arith, c.requires.kept.empty) in
+    ap (λ z. record { size = z; lives = lives_of c.settle.new.self.slots.blocks }) (c.settle.ensures.size ∙ c.remove.ensures.size)
+    ∙ freed-is (ledger_of b) (place_in (others l.blocks) number) (place_in (others m.blocks) number) block.live counts.block.live b.empty (lives_of m) (lives_of c.settle.new.self.slots.blocks) at.1 had.2 counts.count mid place empty after
+
+pub returns-clause-moves : goal.returns-clause-moves
+returns-clause-moves c =
+    let b = c.args.self.now in
+    let l = b.slots.blocks in
+    let m = c.remove.new.self.blocks in
+    let n = c.settle.new.self in
+    let still = c.remove.ensures.moves c.args.space.now (Agrees-plain b.slots.size l c.args.space.now c.requires.agrees) in
+    let both = Moves-more (footprint_of l) (footprint_of m) (footprint_of n.slots.blocks) c.args.space.now c.args.space.now c.settle.new.space still c.settle.ensures.moves in
+    Moves-full b.slots.size n.slots.size l n.slots.blocks n.slots.stacks.entries c.args.space.now c.settle.new.space (c.settle.ensures.size ∙ c.remove.ensures.size) c.settle.ensures.kept.slots both
+
+pub returns-clause-keeps : goal.returns-clause-keeps
+returns-clause-keeps c =
+    let l = c.args.self.now.slots.blocks in
+    let m = c.remove.new.self.blocks in
+    let n = c.settle.new.self.slots.blocks in
+    let stay : (at : Addr) (k : ℕ) → (footprint_of n).live at ≡ Some k → (footprint_of m).live at ≡ Some k = λ at k live. sym (ap (λ cs. size_of (lookup (same_addr at) cs)) c.settle.ensures.chunks) ∙ live in
+    keeps-before (footprint_of l) (footprint_of m) (footprint_of n) c.args.space.now c.settle.new.space stay c.settle.ensures.keeps

@@ -1,0 +1,36 @@
+use Rattle.std.proofs.Common.{◌≡◌, ◌<◌, ◌≤◌, ◌+◌, ◌-◌, Some, ap, sym, subst, ◌∙◌, arith}
+use Rattle.ctx_blocks.specs.declared.parts.Block.{Block}
+use Rattle.ctx_blocks.specs.Layout.{block_at}
+use Rattle.slab_ctx.specs.Ledger.{per_block, is_empty}
+use Rattle.slab_ctx.specs.declared.books.Books.{Books}
+use Rattle.slab_ctx.proofs.Puts.{one_value}
+use Rattle.slab_ctx.proofs.Freed.{is_empty-some}
+use Rattle.slab_ctx.proofs.KeptSteps.{empty-least, free-least, kept-changed, lives-counted}
+use Rattle.slab_ctx.proofs.books.Books.take.Goals as goal
+
+pub overflow_sub-self : goal.overflow_sub-self
+overflow_sub-self c = omega (arith, c.one_if_empty.ensures, empty-least c.args.self.now 0 c.args.number c.requires.kept c.requires.not_keeper c.owned.result c.owned.ensures)
+
+pub overflow_sub-self-2 : goal.overflow_sub-self-2
+overflow_sub-self-2 c =
+    omega (arith, c.requires.block.2, free-least c.args.self.now 0 c.args.number c.requires.kept c.requires.not_keeper c.requires.block.0 c.requires.block.1)
+
+pub returns-clause-kept : goal.returns-clause-kept
+returns-clause-kept c =
+    let b = c.args.self.now in
+    let block = c.owned.result in
+    let found = c.owned.ensures in
+    let is = one_value (block_at b.slots.blocks c.args.number) block c.requires.block.0 found c.requires.block.1 in
+    let under : block.live < per_block b.slots.size = subst (λ (x : Block). x.live < per_block b.slots.size) (sym is) c.requires.block.2 in
+    let n : Books = record { slots = c.take.new.self; empty = b.empty - c.one_if_empty.result; free = b.free - 1 } in
+    let empty = empty-least b 0 c.args.number c.requires.kept c.requires.not_keeper block found in
+    let free = free-least b 0 c.args.number c.requires.kept c.requires.not_keeper block found in
+    kept-changed b n 0 c.args.number c.requires.kept c.take.ensures.slots c.take.ensures.size c.take.ensures.same c.requires.not_keeper block found (block.live + 1) (c.take.ensures.block block found) 0
+    (omega (arith, empty, c.one_if_empty.ensures, is_empty-some (block.live + 1) (omega arith)))
+    (omega (arith, free, under))
+
+pub returns-clause-lives : goal.returns-clause-lives
+returns-clause-lives c = λ block found.
+    let b = c.args.self.now in
+    let n : Books = record { slots = c.take.new.self; empty = 0; free = 0 } in
+    lives-counted b n 0 c.args.number c.requires.kept c.take.ensures.slots c.take.ensures.size c.take.ensures.same c.requires.not_keeper block found (block.live + 1) (c.take.ensures.block block found)

@@ -1,0 +1,12 @@
+use Rattle.std.proofs.Common.{◌≡◌, length, ap, sym, ◌∙◌}
+use Rattle.slab_ctx.specs.Ledger.{per_block}
+use Rattle.slab_ctx.specs.Slots.{stack_at}
+use Rattle.slab_ctx.proofs.Slotted.{IsSlotted-added}
+use Rattle.slab_ctx.proofs.slots.Slots.add.Goals as goal
+
+pub returns-clause-slots : goal.returns-clause-slots
+returns-clause-slots c =
+    let stack = c.in-Ok.stack in
+    let long : length stack.items ≡ per_block c.args.self.now.size = sym stack.ok.0 ∙ c.in-Ok.ensures.len ∙ c.per_block.ensures.value in
+    let opened = rw c.reserve.ensures.entries at c.open.ensures in
+    IsSlotted-added c.args.self.now.blocks c.add.new.self c.args.self.now.size c.args.self.now.stacks.entries c.open.new.stacks.entries c.in-Ok-add.number stack.items c.requires.slots c.in-Ok-add.ensures.same c.in-Ok-add.ensures.fresh c.in-Ok-add.ensures.block c.in-Ok-add.ensures.chunks opened long

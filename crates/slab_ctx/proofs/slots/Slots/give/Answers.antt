@@ -1,0 +1,23 @@
+use Rattle.std.proofs.Common.{◌≡◌, ◌+◌, ap, sym, ◌∙◌, arith}
+use Rattle.std.specs.Map.{lookup}
+use Rattle.ctx_blocks.specs.Layout.{chunk_at, same_addr, total}
+use Rattle.slab_ctx.proofs.Slotted.{IsSlotted-drop}
+use Rattle.slab_ctx.proofs.slots.Slots.give.Goals as goal
+
+pub returns-clause-slots : goal.returns-clause-slots
+returns-clause-slots c =
+    let l = c.args.self.now.blocks in
+    let m = c.give.new.self in
+    let slotted = c.requires.slots in
+    IsSlotted-drop l m c.args.self.now.size c.args.self.now.stacks.entries c.close.new.stacks.entries c.args.number slotted c.give.ensures.same c.requires.not_keeper
+    (λ at apart. ap (λ cs. lookup (same_addr at) cs) c.give.ensures.chunks)
+    c.close.ensures
+    (λ at chunk region found. let was = sym (ap (λ cs. lookup (same_addr at) cs) c.give.ensures.chunks) ∙ found in (slotted.chunk at chunk was, slotted.slot at chunk was))
+    c.give.ensures.block
+
+pub returns-clause-total : goal.returns-clause-total
+returns-clause-total c =
+    let b = c.requires.block.0 in
+    let found = c.requires.block.1 in
+    let filled = c.requires.slots.filled c.args.number b c.requires.not_keeper found in
+    omega (arith, c.give.ensures.total b found, filled.bytes)

@@ -1,0 +1,69 @@
+use Rattle.std.proofs.Common.{◌≡◌, ◌≢◌, ℕ, ◌+◌, ◌-◌, ◌≤◌, ◌==◌, if◌then◌else◌, true, false, Some, slice_set, ap, sym, subst, ◌∙◌, refl, arith}
+use Rattle.std.proofs.lemmas.Bool.Decides.{nat_tests}
+use Rattle.addr_space.specs.declared.Addr.{Addr}
+use Rattle.ctx_blocks.specs.declared.parts.Block.{Block}
+use Rattle.ctx_blocks.specs.Layout.{block_at, chunk_at}
+use Rattle.ctx_blocks.specs.Kept.{IsPlaced}
+use Rattle.slab_ctx.specs.Slots.{IsFilled, stack_at}
+use Rattle.slab_ctx.proofs.Places.{chunks-few}
+use Rattle.slab_ctx.proofs.Puts.{one_value}
+use Rattle.slab_ctx.proofs.Taken.{IsSlotted-removed}
+use Rattle.slab_ctx.proofs.slots.Slots.remove.Goals as goal
+
+pub owned-freed-requires : goal.owned-freed-requires
+owned-freed-requires c =
+    let chunk = c.requires.chunk.0 in
+    let placed = c.laid.ensures.placed c.args.at chunk c.requires.chunk.1 in
+    (placed.block, placed.owned)
+
+pub overflow_cast-at : goal.overflow_cast-at
+overflow_cast-at c =
+    let chunk = c.requires.chunk.0 in
+    let placed = c.laid.ensures.placed c.args.at chunk c.requires.chunk.1 in
+    let filled = c.requires.slots.filled c.args.at.region placed.block (c.requires.slots.owned c.args.at chunk c.requires.chunk.1) placed.owned in
+    omega (arith, placed.last, filled.bytes)
+
+pub push-requires : goal.push-requires
+push-requires c =
+    let l = c.args.self.now.blocks in
+    let chunk = c.requires.chunk.0 in
+    let has = c.requires.chunk.1 in
+    let b = c.owned-freed.result in
+    let found = c.owned-freed.ensures in
+    let differs = c.requires.slots.owned c.args.at chunk has in
+    let filled = c.requires.slots.filled c.args.at.region b differs found in
+    omega (arith, chunks-few l c.args.self.now.size c.args.self.now.stacks.entries c.requires.slots c.args.at.region differs b found, filled.long, c.laid.ensures.some c.args.at chunk b has found)
+
+pub returns-clause-slots : goal.returns-clause-slots
+returns-clause-slots c =
+    let l = c.args.self.now.blocks in
+    let m = c.remove.new.self in
+    let size = c.args.self.now.size in
+    let s = c.args.self.now.stacks.entries in
+    let t = c.push.new.stacks.entries in
+    let at = c.args.at in
+    let chunk = c.requires.chunk.0 in
+    let has = c.requires.chunk.1 in
+    let b = c.owned-freed.result in
+    let found = c.owned-freed.ensures in
+    let differs = c.requires.slots.owned at chunk has in
+    let placed = c.laid.ensures.placed at chunk has in
+    let is : placed.block ≡ b = one_value (block_at l at.region) placed.block b placed.owned found in
+    let last : at.offset + chunk.room + b.room ≤ b.size = subst (λ (x : Block). at.offset + chunk.room + x.room ≤ x.size) is placed.last in
+    let here : stack_at t at.region ≡ slice_set (stack_at s at.region) b.freed at.offset = let test : (at.region == at.region) ≡ true = grind (arith, nat_tests) in c.push.ensures at.region ∙ ap (λ x. if x then slice_set (stack_at s at.region) b.freed at.offset else stack_at s at.region) test in
+    let there : (other : ℕ) → other ≢ at.region → stack_at t other ≡ stack_at s other = λ other apart. let test : (at.region == other) ≡ false = grind (arith, nat_tests) in c.push.ensures other ∙ ap (λ x. if x then slice_set (stack_at s at.region) b.freed at.offset else stack_at s other) test in
+    IsSlotted-removed l m size s at c.requires.slots c.remove.ensures.same differs b found c.remove.ensures.chunk t here there chunk has last (c.laid.ensures.some at chunk b has found)
+    (record b { live = b.live - 1; freed = b.freed + 1 }) refl refl refl refl (c.remove.ensures.block b found)
+
+pub returns-clause-block : goal.returns-clause-block
+returns-clause-block c =
+    let chunk = c.requires.chunk.0 in
+    let has = c.requires.chunk.1 in
+    let b = c.owned-freed.result in
+    let found = c.owned-freed.ensures in
+    (b, found, c.laid.ensures.some c.args.at chunk b has found, record {
+      block = record b { live = b.live - 1; freed = b.freed + 1 };
+      puts = c.remove.ensures.block b found;
+      count = refl;
+      bytes = (c.requires.slots.filled c.args.at.region b (c.requires.slots.owned c.args.at chunk has) found).bytes;
+    })

@@ -1,0 +1,66 @@
+use Rattle.std.proofs.Common.{◌≡◌, ℕ, ◌+◌, ◌-◌, Some, false, ap, sym, subst, ◌∙◌, refl, arith}
+use Rattle.addr_space.specs.declared.Addr.{Addr}
+use Rattle.ctx_blocks.specs.declared.parts.Block.{Block}
+use Rattle.ctx_blocks.specs.declared.parts.Chunk.{Chunk}
+use Rattle.ctx_blocks.specs.Layout.{Layout, block_at, header_room}
+use Rattle.ctx_blocks.specs.Steps.{PutsBlock, PutsChunk}
+use Rattle.slab_ctx.specs.Slots.{IsFree}
+use Rattle.slab_ctx.proofs.Numbers.{stride-least, stride-whole}
+use Rattle.slab_ctx.proofs.Places.{gap-is, start-is, slot-least, slot-whole, last-free, depth-few, clear-of}
+use Rattle.slab_ctx.proofs.Taken.{IsSlotted-placed}
+use Rattle.slab_ctx.proofs.slots.Slots.reuse.Goals as goal
+
+pub offset_at-requires : goal.offset_at-requires
+offset_at-requires c =
+    depth-few c.args.self.now.blocks c.args.self.now.size c.args.self.now.stacks.entries c.requires.slots c.args.number c.requires.not_keeper c.requires.block.0 c.requires.block.1 c.args.depth c.requires.block.2
+
+free_at : (c : goal.After-place-arg-2-1) → IsFree c.args.self.now.blocks c.args.self.now.size c.args.number c.requires.block.0 c.from.result
+free_at c =
+    let is = c.from.ensures ∙ c.offset_at.ensures in
+    subst (IsFree c.args.self.now.blocks c.args.self.now.size c.args.number c.requires.block.0) (sym is)
+    (last-free c.args.self.now.blocks c.args.self.now.size c.args.self.now.stacks.entries c.requires.slots c.args.number c.requires.not_keeper c.requires.block.0 c.requires.block.1 c.args.depth c.requires.block.2)
+
+pub place-requires-clause-block : goal.place-requires-clause-block
+place-requires-clause-block c =
+    let free = free_at c in
+    (c.requires.block.0, c.requires.block.1, omega (arith, free.last, c.stride-room.ensures.value), omega (arith, c.requires.block.2))
+
+pub place-requires-clause-first : goal.place-requires-clause-first
+place-requires-clause-first c =
+    let l = c.args.self.now.blocks in
+    let size = c.args.self.now.size in
+    let s = c.args.self.now.stacks.entries in
+    omega (arith, start-is l size s c.requires.slots c.args.number c.requires.not_keeper, gap-is l size s c.requires.slots, slot-least size c.from.result (free_at c).slot)
+
+pub place-requires-clause-whole : goal.place-requires-clause-whole
+place-requires-clause-whole c = slot-whole c.args.self.now.size c.from.result (free_at c).slot
+
+pub place-requires-clause-fits : goal.place-requires-clause-fits
+place-requires-clause-fits c = omega (arith, c.stride-room.ensures.value, stride-least c.args.self.now.size)
+
+pub place-requires-clause-clear : goal.place-requires-clause-clear
+place-requires-clause-clear c =
+    clear-of c.args.self.now.blocks c.args.self.now.size c.args.self.now.stacks.entries c.requires.slots c.args.number c.requires.not_keeper c.requires.block.0 c.requires.block.1
+    c.from.result (c.stride-room.result - 8) (ap (λ n. n - 8) c.stride-room.ensures.value) (free_at c)
+
+pub returns-clause-slots : goal.returns-clause-slots
+returns-clause-slots c =
+    let l = c.args.self.now.blocks in
+    let m = c.place.new.self in
+    let size = c.args.self.now.size in
+    let at : Addr = record { region = c.args.number; offset = c.from.result } in
+    let b = c.requires.block.0 in
+    let found = c.requires.block.1 in
+    let now : Block = record b { live = b.live + 1; freed = b.freed - 1 } in
+    let puts = subst (λ r. PutsChunk l m at (Some (record { size = size; room = r - 8; own = false }))) c.stride-room.ensures.value c.place.ensures.chunk in
+    let depth : b.freed - 1 ≡ c.args.depth = omega (arith, c.requires.block.2) in
+    IsSlotted-placed l m size c.args.self.now.stacks.entries at c.requires.slots c.place.ensures.same c.requires.not_keeper b found puts
+    now c.args.depth refl refl refl depth c.requires.block.2 (c.from.ensures ∙ c.offset_at.ensures) (c.place.ensures.block b found)
+
+pub returns-clause-block : goal.returns-clause-block
+returns-clause-block c = λ b found. record {
+  block = record b { live = b.live + 1; freed = b.freed - 1 };
+  puts = c.place.ensures.block b found;
+  count = refl;
+  bytes = (c.requires.slots.filled c.args.number b c.requires.not_keeper found).bytes;
+}

@@ -1,0 +1,7 @@
+-- What contracts cite: the ledger, the state of a context, what the code keeps, and what calls do.
+pub mod Ledger
+pub mod State
+pub mod Slots
+pub mod Counts
+pub mod Kept
+pub mod Steps

@@ -1,0 +1,62 @@
+-- What contracts see of a Slab: its ledger, and where its blocks and chunks are.
+use Rattle.std.specs.Prelude.{ℕ, suc, ◌+◌, ◌-◌, ◌%◌, ◌==◌, ◌&&◌, Bool, List, [], ◌∷◌, Option, Some, None, map, nat_le, if◌then◌else◌}
+use Rattle.addr_space.specs.declared.Addr.{Addr}
+use Rattle.addr_space.specs.Footprint.{Footprint}
+use Rattle.ctx_blocks.specs.Layout.{Layout, block_at, chunk_at, footprint as footprint_of}
+use Rattle.ctx_blocks.specs.declared.parts.Block.{Block}
+use Rattle.ctx_blocks.specs.declared.parts.Chunk.{Chunk}
+use Rattle.slab_ctx.specs.Ledger.{SlabLedger, stride}
+
+-- the ledger, and the blocks and live chunks
+pub record SlabState : Type 0 where
+  pub ledger : SlabLedger
+  pub layout : Layout
+
+-- the blocks and live chunks alone: that room was made for more of them doesn't count
+abbrev pub bare : Layout → Layout
+bare l = record l { spare_blocks = 0; spare_chunks = 0 }
+
+-- the account that the blocks count for
+abbrev pub account_of : SlabState → ℕ
+account_of s = s.layout.account
+
+-- the blocks but for the keeper, which is the first one
+abbrev pub others : List (ℕ × Block) → List (ℕ × Block)
+others [] = []
+others (e ∷ es) = es
+
+-- how many live chunks each of them has
+abbrev pub live_of : ℕ × Block → ℕ
+live_of e = e.1.live
+
+abbrev pub lives_of : Layout → List ℕ
+lives_of l = map live_of (others l.blocks)
+
+-- how many of a list of blocks stand before that of a region
+abbrev pub place_in : List (ℕ × Block) → ℕ → ℕ
+place_in [] number = 0
+place_in (e ∷ es) number = if number == e.0 then 0 else suc (place_in es number)
+
+abbrev pub place_of : SlabState → ℕ → ℕ
+place_of s number = place_in (others s.layout.blocks) number
+
+-- whether a chunk may stand at an offset of a block
+abbrev pub is_slot : ℕ → ℕ → Bool
+is_slot size offset = (nat_le 48 offset && ((offset - 48) % stride size == 0)) && nat_le (offset + (stride size - 8)) 8192
+
+-- the size of a free chunk at an offset of a block, where no live one stands
+abbrev pub free_slot : ℕ → ℕ → Option Chunk → Option ℕ
+free_slot size offset None = if is_slot size offset then Some size else None
+free_slot size offset (Some chunk) = None
+
+abbrev pub free_block : ℕ → ℕ → Option Block → Option Chunk → Option ℕ
+free_block size offset None chunk = None
+free_block size offset (Some block) chunk = free_slot size offset chunk
+
+-- the size of a free chunk at an address: the first region has none
+abbrev pub free_at : ℕ → Layout → Addr → Option ℕ
+free_at size l at = if l.keeper == at.region then None else free_block size at.offset (block_at l at.region) (chunk_at l at)
+
+-- what the context has in a space
+abbrev pub footprint : SlabState → Footprint
+footprint s = record (footprint_of s.layout) { free = free_at s.ledger.size s.layout }

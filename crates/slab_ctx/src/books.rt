@@ -1,0 +1,340 @@
+//! The books of a Slab: its blocks, and how many free chunks and empty blocks there are.
+ghost use Rattle.std.specs.Prelude.{◌≡◌, ◌≢◌, ℕ, ◌+◌, ◌-◌, ◌*◌, ◌^◌, ◌<◌, ◌≤◌, ◌↔◌, ◌⊎◌, ◌==◌, ◌&&◌, ◌++◌, Ok, Err, Some, None, IsSome, IfOk, IfErr, OnOk, OnErr, IfSome, IfNone, if◌then◌else◌, nat_le, length, [], ◌∷◌, slice_set, remove};
+ghost use Rattle.addr_space.specs.declared.Addr.{Addr};
+ghost use Rattle.addr_space.specs.Space.{Space, accounts, held};
+ghost use Rattle.addr_space.specs.Footprint.{Agrees, Moves, Keeps, nothing};
+ghost use Rattle.chunk_header.specs.Header.{AllHeaded};
+ghost use Rattle.ctx_blocks.specs.declared.parts.Block.{Block};
+ghost use Rattle.ctx_blocks.specs.Layout.{Layout, block_at, chunk_at, footprint as blocks_footprint};
+ghost use Rattle.ctx_blocks.specs.Steps.{PutsChunk, SameContext};
+ghost use Rattle.slab_ctx.specs.Ledger.{per_block, created, fullest, is_empty, serve, take, freed, resized, stats};
+ghost use Rattle.slab_ctx.specs.State.{account_of, footprint, lives_of, others, place_in, place_of};
+ghost use Rattle.slab_ctx.specs.Slots.{chunk_of};
+ghost use Rattle.slab_ctx.specs.Steps.{IsSeen, IsNext};
+
+use crate::slots::{Slots, per_block, stride};
+use addr_space::{Addr, Space};
+use chunk_header::{CtxError, Stats};
+use std::alloc::Global;
+
+/// All that a Slab keeps.
+#[derive(Drop)]
+pub struct Books {
+    pub slots: Slots,
+    // How many blocks have no live chunk.
+    pub empty: u64,
+    // How many free chunks all blocks have.
+    pub free: u64,
+}
+
+// The greatest size of a request.
+const LARGEST: u64 = 1_073_741_823;
+
+// As many empty blocks as are kept.
+const MOST_EMPTY: u64 = 10;
+
+// A block with fewer free chunks than others, and how many those are, or one more than all where there is none.
+#[derive(Clone, Copy)]
+struct Best {
+    number: Option<u32>,
+    fewest: u32,
+}
+
+// The better of the best block so far and another one: the one with fewer free chunks, but at least one.
+fn better(best: Best, number: u32, free: u32) -> Best
+    ensures { (l : Layout) (per count : ℕ) (block : Block) → IsSeen l per count best → IsNext l count number block → block.live ≤ per → free ≡ per - block.live → IsSeen l per (count + 1) result }
+{
+    if free > 0 && free < best.fewest {
+        return Best {
+            number: Some(number),
+            fewest: free,
+        };
+    }
+    best
+}
+
+// What a block with so many live chunks counts for among the empty ones.
+fn one_if_empty(live: u32) -> u64
+    ensures { result ≡ is_empty live }
+{
+    if live == 0 { 1 } else { 0 }
+}
+
+impl Books {
+    ghost use Rattle.slab_ctx.specs.Kept.{ledger_of, state_of, IsKept, IsKeptBut};
+    ghost use Rattle.slab_ctx.specs.Steps.{PutsLive, IsChosen, Allocates};
+
+    // The books of a new context, whose first region was taken.
+    pub fn create(
+        alloc: Global,
+        space: &mut Space,
+        account: u8,
+        context: u32,
+        size: u32,
+    ) -> Result<Books, CtxError>
+        requires account { account < accounts space.old }
+        requires least { 1 ≤ size }
+        requires most { size ≤ 1024 }
+        ensures kept { IfOk result IsKept }
+        ensures ledger { IfOk result (λ b. (state_of b).ledger ≡ created size) }
+        ensures account { IfOk result (λ b. account_of (state_of b) ≡ account) }
+        ensures context { IfOk result (λ b. (footprint (state_of b)).context ≡ context) }
+        ensures live { IfOk result (λ b. (at : Addr) → (footprint (state_of b)).live at ≡ None) }
+        ensures moves { IfOk result (λ b. Moves (nothing account context) (footprint (state_of b)) space.old space.new) }
+        ensures no_space { (result ≡ Err CtxError.NoSpace) ↔ (space.old.limit < held space.old account + 200) }
+        ensures no_other { IfErr result (λ e. (e ≡ CtxError.NoSpace) ⊎ (e ≡ CtxError.Memory)) }
+        ensures err { OnErr result (space.new ≡ space.old) }
+    {
+        match Slots::create(alloc, space, account, context, size) {
+            Ok(slots) => Ok(Books {
+                slots,
+                empty: 0,
+                free: 0,
+            }),
+            Err(error) => Err(error),
+        }
+    }
+
+    // What the books say.
+    pub fn stats(&self) -> Stats
+        requires { IsKept self.now }
+        ensures { result ≡ stats (state_of self.now).ledger }
+    {
+        Stats {
+            total: self.slots.blocks.total(),
+            blocks: self.slots.blocks.len() as u64 - 1,
+            free: u64::from(stride(self.slots.size)) * self.free,
+            chunks: self.free,
+        }
+    }
+
+    // Live chunks lead to the context.
+    pub fn headed(&self)
+        requires { IsKept self.now }
+        ensures { AllHeaded (footprint (state_of self.now)) }
+    {
+        self.slots.blocks.headed();
+    }
+
+    // The block with the fewest free chunks but at least one, the earliest of such ones.
+    fn fullest(&self) -> Option<u32>
+        requires { IsKept self.now }
+        ensures none { IfNone result (fullest (per_block self.now.slots.size) (lives_of self.now.slots.blocks) ≡ None) }
+        ensures some { IfSome result (λ number. IsChosen self.now.slots.blocks (per_block self.now.slots.size) number) }
+    {
+        let per_block = per_block(self.slots.size);
+        let mut best = Best {
+            number: None,
+            fewest: per_block + 1,
+        };
+        for index in 0..self.slots.blocks.len() - 1 {
+            let (number, block) = self.slots.blocks.at(index + 1);
+            best = better(best, number, per_block - block.live);
+        }
+        best.number
+    }
+
+    // Takes a chunk of a block that has a free one.
+    fn take(&mut self, space: &mut Space, number: u32) -> Addr
+        requires kept { IsKept self.old }
+        requires agrees { Agrees (blocks_footprint self.old.slots.blocks) space.old }
+        requires not_keeper { number ≢ self.old.slots.blocks.keeper }
+        requires block { (b : Block) × (block_at self.old.slots.blocks number ≡ Some b) × (b.live < per_block self.old.slots.size) }
+        requires spare { 1 ≤ self.old.slots.blocks.spare_chunks }
+        ensures kept { IsKept self.new }
+        ensures size { self.new.slots.size ≡ self.old.slots.size }
+        ensures lives { (b : Block) → block_at self.old.slots.blocks number ≡ Some b → lives_of self.new.slots.blocks ≡ slice_set (lives_of self.old.slots.blocks) (place_in (others self.old.slots.blocks.blocks) number) (b.live + 1) }
+        ensures fresh { chunk_at self.old.slots.blocks result ≡ None }
+        ensures chunk { PutsChunk self.old.slots.blocks self.new.slots.blocks result (Some (chunk_of self.old.slots.size)) }
+        ensures moves { Moves (blocks_footprint self.old.slots.blocks) (blocks_footprint self.new.slots.blocks) space.old space.new }
+        ensures keeps { Keeps (blocks_footprint self.old.slots.blocks) (blocks_footprint self.new.slots.blocks) space.old space.new }
+    {
+        self.empty -= one_if_empty(self.slots.owned(number).live);
+        self.free -= 1;
+        self.slots.take(space, number)
+    }
+
+    // Takes a block, for which room was made.
+    fn add(&mut self, space: &mut Space) -> Result<u32, CtxError>
+        requires kept { IsKept self.old }
+        requires agrees { Agrees (blocks_footprint self.old.slots.blocks) space.old }
+        requires spare { 1 ≤ self.old.slots.blocks.spare_blocks }
+        ensures kept { IsKept self.new }
+        ensures size { self.new.slots.size ≡ self.old.slots.size }
+        ensures lives { OnOk result (lives_of self.new.slots.blocks ≡ lives_of self.old.slots.blocks ++ 0 ∷ []) }
+        ensures place { IfOk result (λ number. place_in (others self.new.slots.blocks.blocks) number ≡ length (lives_of self.old.slots.blocks)) }
+        ensures block { IfOk result (λ number. block_at self.new.slots.blocks number ≡ Some (record { size = 8192; room = 8152; live = 0; freed = 0 })) }
+        ensures not_keeper { IfOk result (λ number. number ≢ self.new.slots.blocks.keeper) }
+        ensures chunks { OnOk result (self.new.slots.blocks.chunks ≡ self.old.slots.blocks.chunks) }
+        ensures spare { OnOk result (self.new.slots.blocks.spare_chunks ≡ self.old.slots.blocks.spare_chunks) }
+        ensures moves { OnOk result (Moves (blocks_footprint self.old.slots.blocks) (blocks_footprint self.new.slots.blocks) space.old space.new) }
+        ensures keeps { OnOk result (Keeps (blocks_footprint self.old.slots.blocks) (blocks_footprint self.new.slots.blocks) space.old space.new) }
+        ensures fits { OnOk result (8192 ≤ space.old.limit - held space.old self.old.slots.blocks.account) }
+        ensures no_space { (result ≡ Err CtxError.NoSpace) → space.old.limit - held space.old self.old.slots.blocks.account < 8192 }
+        ensures no_other { IfErr result (λ e. (e ≡ CtxError.NoSpace) ⊎ (e ≡ CtxError.Memory)) }
+        ensures err { OnErr result (self.new.slots.blocks ≡ self.old.slots.blocks) }
+        ensures err_space { OnErr result (space.new ≡ space.old) }
+    {
+        let number = match self.slots.add(space) {
+            Ok(number) => number,
+            Err(error) => return Err(error),
+        };
+        self.empty += 1;
+        self.free += u64::from(per_block(self.slots.size));
+        Ok(number)
+    }
+
+    // Makes room to note one chunk and one block.
+    fn make_room(&mut self) -> Result<(), CtxError>
+        requires { IsKept self.old }
+        ensures kept { IsKept self.new }
+        ensures state { state_of self.new ≡ state_of self.old }
+        ensures spare_blocks { OnOk result (1 ≤ self.new.slots.blocks.spare_blocks) }
+        ensures spare_chunks { OnOk result (1 ≤ self.new.slots.blocks.spare_chunks) }
+        ensures only_memory { IfErr result (λ e. e ≡ CtxError.Memory) }
+    {
+        self.slots.blocks.make_room()
+    }
+
+    // Serves a request for a chunk, for which room was made.
+    fn serve(&mut self, space: &mut Space) -> Result<Addr, CtxError>
+        requires kept { IsKept self.old }
+        requires agrees { Agrees (footprint (state_of self.old)) space.old }
+        requires spare_blocks { 1 ≤ self.old.slots.blocks.spare_blocks }
+        requires spare_chunks { 1 ≤ self.old.slots.blocks.spare_chunks }
+        ensures ok { IfOk result (λ at. Allocates (state_of self.old) self.new space.old space.new self.old.slots.size at (serve (state_of self.old).ledger (space.old.limit - held space.old (account_of (state_of self.old))) (fullest (per_block self.old.slots.size) (state_of self.old).ledger.lives))) }
+        ensures no_space { result ≡ Err CtxError.NoSpace → serve (state_of self.old).ledger (space.old.limit - held space.old (account_of (state_of self.old))) (fullest (per_block self.old.slots.size) (state_of self.old).ledger.lives) ≡ Err CtxError.NoSpace }
+        ensures no_other { IfErr result (λ e. (e ≡ CtxError.NoSpace) ⊎ (e ≡ CtxError.Memory)) }
+        ensures err_state { OnErr result (state_of self.new ≡ state_of self.old) }
+        ensures err_kept { OnErr result (IsKept self.new) }
+        ensures err_space { OnErr result (space.new ≡ space.old) }
+    {
+        if let Some(number) = self.fullest() {
+            return Ok(self.take(space, number));
+        }
+        match self.add(space) {
+            Ok(number) => Ok(self.take(space, number)),
+            Err(error) => Err(error),
+        }
+    }
+
+    // Serves a request.
+    pub fn alloc(&mut self, space: &mut Space, size: u64) -> Result<Addr, CtxError>
+        requires kept { IsKept self.old }
+        requires agrees { Agrees (footprint (state_of self.old)) space.old }
+        ensures ok { IfOk result (λ at. Allocates (state_of self.old) self.new space.old space.new size at (take (state_of self.old).ledger (space.old.limit - held space.old (account_of (state_of self.old))) size)) }
+        ensures too_big { (result ≡ Err CtxError.TooBig) ↔ (1073741823 < size) }
+        ensures wrong_size { (result ≡ Err CtxError.WrongSize) ↔ (take (state_of self.old).ledger (space.old.limit - held space.old (account_of (state_of self.old))) size ≡ Err CtxError.WrongSize) }
+        ensures no_space { result ≡ Err CtxError.NoSpace → take (state_of self.old).ledger (space.old.limit - held space.old (account_of (state_of self.old))) size ≡ Err CtxError.NoSpace }
+        ensures no_other { IfErr result (λ e. (e ≡ CtxError.TooBig) ⊎ ((e ≡ CtxError.WrongSize) ⊎ ((e ≡ CtxError.NoSpace) ⊎ (e ≡ CtxError.Memory)))) }
+        ensures err_state { OnErr result (state_of self.new ≡ state_of self.old) }
+        ensures err_kept { OnErr result (IsKept self.new) }
+        ensures err_space { OnErr result (space.new ≡ space.old) }
+    {
+        if size > LARGEST {
+            return Err(CtxError::TooBig);
+        }
+        if size != u64::from(self.slots.size) {
+            return Err(CtxError::WrongSize);
+        }
+        match self.make_room() {
+            Ok(()) => self.serve(space),
+            Err(error) => Err(error),
+        }
+    }
+
+    // Gives a block back, where it has no live chunk and enough others are empty.
+    fn settle(&mut self, space: &mut Space, number: u32)
+        requires kept { (b : Block) × (block_at self.old.slots.blocks number ≡ Some b) × IsKeptBut self.old (is_empty b.live) }
+        requires agrees { Agrees (blocks_footprint self.old.slots.blocks) space.old }
+        requires not_keeper { number ≢ self.old.slots.blocks.keeper }
+        ensures kept { IsKept self.new }
+        ensures size { self.new.slots.size ≡ self.old.slots.size }
+        ensures lives { (b : Block) → block_at self.old.slots.blocks number ≡ Some b → lives_of self.new.slots.blocks ≡ (if (b.live == 0) && nat_le 10 self.old.empty then remove (lives_of self.old.slots.blocks) (place_in (others self.old.slots.blocks.blocks) number) else lives_of self.old.slots.blocks) }
+        ensures chunks { self.new.slots.blocks.chunks ≡ self.old.slots.blocks.chunks }
+        ensures moves { Moves (blocks_footprint self.old.slots.blocks) (blocks_footprint self.new.slots.blocks) space.old space.new }
+        ensures keeps { Keeps (blocks_footprint self.old.slots.blocks) (blocks_footprint self.new.slots.blocks) space.old space.new }
+    {
+        if self.slots.owned(number).live > 0 {
+            return;
+        }
+        if self.empty < MOST_EMPTY {
+            self.empty += 1;
+            return;
+        }
+        self.slots.give(space, number);
+        self.free -= u64::from(per_block(self.slots.size));
+    }
+
+    // Frees a live chunk.
+    pub fn free(&mut self, space: &mut Space, at: Addr)
+        requires kept { IsKept self.old }
+        requires agrees { Agrees (footprint (state_of self.old)) space.old }
+        requires live { IsSome ((footprint (state_of self.old)).live at) }
+        ensures kept { IsKept self.new }
+        ensures ledger { (state_of self.new).ledger ≡ freed (state_of self.old).ledger (place_of (state_of self.old) at.region) }
+        ensures live { PutsLive (footprint (state_of self.old)) (footprint (state_of self.new)) at None }
+        ensures moves { Moves (footprint (state_of self.old)) (footprint (state_of self.new)) space.old space.new }
+        ensures keeps { Keeps (footprint (state_of self.old)) (footprint (state_of self.new)) space.old space.new }
+    {
+        self.slots.remove(at);
+        self.free += 1;
+        self.settle(space, at.region);
+    }
+
+    // Answers a request for another size of a live chunk.
+    pub fn realloc(&self, at: Addr, size: u64) -> Result<Addr, CtxError>
+        requires kept { IsKept self.now }
+        requires live { IsSome ((footprint (state_of self.now)).live at) }
+        ensures ledger { OnOk result (resized (state_of self.now).ledger size ≡ Ok (state_of self.now).ledger) }
+        ensures place { IfOk result (λ to. to ≡ at) }
+        ensures live { IfOk result (λ to. (footprint (state_of self.now)).live to ≡ Some size) }
+        ensures too_big { (result ≡ Err CtxError.TooBig) ↔ (1073741823 < size) }
+        ensures unsupported { (result ≡ Err CtxError.Unsupported) ↔ (resized (state_of self.now).ledger size ≡ Err CtxError.Unsupported) }
+        ensures no_other { IfErr result (λ e. (e ≡ CtxError.TooBig) ⊎ (e ≡ CtxError.Unsupported)) }
+    {
+        if size > LARGEST {
+            return Err(CtxError::TooBig);
+        }
+        if size != u64::from(self.slots.size) {
+            return Err(CtxError::Unsupported);
+        }
+        Ok(at)
+    }
+
+    // Frees all chunks, and gives all blocks back.
+    pub fn reset(&mut self, space: &mut Space)
+        requires kept { IsKept self.old }
+        requires agrees { Agrees (footprint (state_of self.old)) space.old }
+        ensures kept { IsKept self.new }
+        ensures ledger { (state_of self.new).ledger ≡ created (state_of self.old).ledger.size }
+        ensures account { account_of (state_of self.new) ≡ account_of (state_of self.old) }
+        ensures context { (footprint (state_of self.new)).context ≡ (footprint (state_of self.old)).context }
+        ensures live { (at : Addr) → (footprint (state_of self.new)).live at ≡ None }
+        ensures moves { Moves (footprint (state_of self.old)) (footprint (state_of self.new)) space.old space.new }
+    {
+        self.slots.reset(space);
+        self.empty = 0;
+        self.free = 0;
+    }
+
+    // Gives all blocks and the first region back.
+    pub fn discard(self, space: &mut Space)
+        requires kept { IsKept self }
+        requires agrees { Agrees (footprint (state_of self)) space.old }
+        ensures { Moves (footprint (state_of self)) (nothing (account_of (state_of self)) (footprint (state_of self)).context) space.old space.new }
+    {
+        let Books {
+            slots,
+            empty: _,
+            free: _,
+        } = self;
+        let Slots {
+            blocks,
+            size: _,
+            stacks: _,
+            alloc: _,
+        } = slots;
+        blocks.discard(space);
+    }
+}

@@ -1,0 +1,179 @@
+//! A Slab: a memory context whose chunks all have one size.
+#![tactic(auto)]
+
+ghost use Rattle.std.specs.Prelude.{◌≡◌, ℕ, ◌+◌, ◌-◌, ◌<◌, ◌≤◌, ◌↔◌, ◌⊎◌, Ok, Err, None, Some, IsSome, IfOk, IfErr, IfSome, OnOk, OnErr, min};
+ghost use Rattle.addr_space.specs.declared.Addr.{Addr};
+ghost use Rattle.slab_ctx.specs.Ledger.{stats, take, resized};
+
+mod books;
+mod slots;
+
+use addr_space::{Addr, Space};
+use books::Books;
+use chunk_header::{CtxError, Stats};
+use std::alloc::Global;
+use std::marker::Model;
+
+/// A context whose chunks all have one size. It begins with a region of 200 bytes that has no chunk, and takes
+/// blocks of 8,192 bytes.
+#[derive(Drop)]
+pub struct SlabCtx {
+    books: Books,
+}
+
+impl Model for SlabCtx {
+    ghost use Rattle.slab_ctx.specs.State.{SlabState};
+
+    ghost Value = { SlabState };
+
+    ghost use Rattle.slab_ctx.specs.Kept.{state_of, IsKept};
+
+    ghost view = { λ a. state_of a.books };
+
+    ghost invariant = { λ a. IsKept a.books };
+}
+
+impl SlabCtx {
+    ghost use Rattle.addr_space.specs.Space.{accounts, held, byte_at, IsKnown};
+    ghost use Rattle.addr_space.specs.Footprint.{nothing, Agrees, Moves, Keeps, KeepsBut};
+    ghost use Rattle.chunk_header.specs.Header.{AllHeaded};
+    ghost use Rattle.slab_ctx.specs.State.{footprint, account_of, place_of};
+    ghost use Rattle.slab_ctx.specs.Ledger.{created, freed};
+    ghost use Rattle.slab_ctx.specs.Steps.{PutsLive};
+
+    /// A context without blocks, for an account of the space. Each of its chunks has `size` bytes, and `context`
+    /// is the number that its blocks keep.
+    ///
+    /// `NoSpace` comes where the first region doesn't fit, and before `Memory`. A refused call changes nothing.
+    pub fn create(
+        alloc: Global,
+        space: &mut Space,
+        account: u8,
+        context: u32,
+        size: u32,
+    ) -> Result<SlabCtx, CtxError>
+        requires account { account < accounts space.old }
+        requires least { 1 ≤ size }
+        requires most { size ≤ 1024 }
+        ensures ledger { IfOk result (λ a. a.ledger ≡ created size) }
+        ensures account { IfOk result (λ a. account_of a ≡ account) }
+        ensures context { IfOk result (λ a. (footprint a).context ≡ context) }
+        ensures live { IfOk result (λ a. (at : Addr) → (footprint a).live at ≡ None) }
+        ensures moves { IfOk result (λ a. Moves (nothing account context) (footprint a) space.old space.new) }
+        ensures no_space { (result ≡ Err CtxError.NoSpace) ↔ (space.old.limit < held space.old account + 200) }
+        ensures no_other { IfErr result (λ e. (e ≡ CtxError.NoSpace) ⊎ (e ≡ CtxError.Memory)) }
+        ensures err { OnErr result (space.new ≡ space.old) }
+    {
+        match Books::create(alloc, space, account, context, size) {
+            Ok(books) => Ok(SlabCtx { books }),
+            Err(error) => Err(error),
+        }
+    }
+
+    /// What the context holds.
+    pub fn stats(&self) -> Stats
+        ensures { result ≡ stats self.now.ledger }
+    {
+        self.books.stats()
+    }
+
+    /// Each live chunk has a header that leads to its block, and so to the context. A caller cites the clause.
+    pub fn headed(&self)
+        ensures { AllHeaded (footprint self.now) }
+    {
+        self.books.headed();
+    }
+
+    /// Takes a chunk of `size` bytes, which must be the size of the context's chunks, and answers its address. No
+    /// byte of it is known.
+    ///
+    /// `TooBig`, where `size` is over 1,073,741,823, `WrongSize`, `NoSpace` and `Memory` are tried in this order.
+    /// A refused call changes nothing.
+    pub fn alloc(&mut self, space: &mut Space, size: u64) -> Result<Addr, CtxError>
+        requires { Agrees (footprint self.old) space.old }
+
+        // The ledger makes its step for the request, with what is left of the account.
+        ensures ledger { OnOk result (take self.old.ledger (space.old.limit - held space.old (account_of self.old)) size ≡ Ok self.new.ledger) }
+
+        // The chunk was not live, and every other chunk stays.
+        ensures fresh { IfOk result (λ at. (footprint self.old).live at ≡ None) }
+        ensures live { IfOk result (λ at. PutsLive (footprint self.old) (footprint self.new) at (Some size)) }
+        ensures moves { OnOk result (Moves (footprint self.old) (footprint self.new) space.old space.new) }
+        ensures keeps { OnOk result (Keeps (footprint self.old) (footprint self.new) space.old space.new) }
+
+        ensures too_big { (result ≡ Err CtxError.TooBig) ↔ (1073741823 < size) }
+        ensures wrong_size { (result ≡ Err CtxError.WrongSize) ↔ (take self.old.ledger (space.old.limit - held space.old (account_of self.old)) size ≡ Err CtxError.WrongSize) }
+        ensures no_space { result ≡ Err CtxError.NoSpace → take self.old.ledger (space.old.limit - held space.old (account_of self.old)) size ≡ Err CtxError.NoSpace }
+        ensures no_other { IfErr result (λ e. (e ≡ CtxError.TooBig) ⊎ ((e ≡ CtxError.WrongSize) ⊎ ((e ≡ CtxError.NoSpace) ⊎ (e ≡ CtxError.Memory)))) }
+        ensures err { OnErr result (self.new ≡ self.old) }
+        ensures err_space { OnErr result (space.new ≡ space.old) }
+    {
+        self.books.alloc(space, size)
+    }
+
+    /// Frees a live chunk. It never refuses, and takes no memory: another request may have the chunk again, and a
+    /// block whose last chunk it was goes back to the space where ten others are empty.
+    pub fn free(&mut self, space: &mut Space, at: Addr) -> Result<(), CtxError>
+        requires agrees { Agrees (footprint self.old) space.old }
+        requires live { IsSome ((footprint self.old).live at) }
+        ensures ok { result ≡ Ok tt }
+        ensures ledger { self.new.ledger ≡ freed self.old.ledger (place_of self.old at.region) }
+        ensures live { PutsLive (footprint self.old) (footprint self.new) at None }
+        ensures moves { Moves (footprint self.old) (footprint self.new) space.old space.new }
+        ensures keeps { Keeps (footprint self.old) (footprint self.new) space.old space.new }
+    {
+        self.books.free(space, at);
+        Ok(())
+    }
+
+    /// Answers the address of a live chunk that is asked to have `size` bytes, which must be the size of the
+    /// context's chunks: it stays where it is. `keep` is how many of its first bytes are known.
+    ///
+    /// `TooBig`, where `size` is over 1,073,741,823, comes before `Unsupported`. The call changes nothing.
+    pub fn realloc(
+        &mut self,
+        space: &mut Space,
+        at: Addr,
+        keep: u64,
+        size: u64,
+    ) -> Result<Addr, CtxError>
+        requires agrees { Agrees (footprint self.old) space.old }
+        requires live { IsSome ((footprint self.old).live at) }
+        requires keep { IfSome ((footprint self.old).live at) (λ n. keep ≤ n) }
+        requires known { IsKnown space.old at keep }
+        ensures ledger { OnOk result (resized self.old.ledger size ≡ Ok self.new.ledger) }
+        ensures place { IfOk result (λ to. to ≡ at) }
+        ensures live { IfOk result (λ to. (footprint self.new).live to ≡ Some size) }
+        ensures too_big { (result ≡ Err CtxError.TooBig) ↔ (1073741823 < size) }
+        ensures unsupported { (result ≡ Err CtxError.Unsupported) ↔ (resized self.old.ledger size ≡ Err CtxError.Unsupported) }
+        ensures no_other { IfErr result (λ e. (e ≡ CtxError.TooBig) ⊎ (e ≡ CtxError.Unsupported)) }
+        ensures same { self.new ≡ self.old }
+        ensures same_space { space.new ≡ space.old }
+    {
+        self.books.realloc(at, size)
+    }
+
+    /// Frees all chunks: all blocks go back to the space, and the context is as it was created.
+    pub fn reset(&mut self, space: &mut Space)
+        requires { Agrees (footprint self.old) space.old }
+        ensures ledger { self.new.ledger ≡ created self.old.ledger.size }
+        ensures account { account_of self.new ≡ account_of self.old }
+        ensures context { (footprint self.new).context ≡ (footprint self.old).context }
+        ensures live { (at : Addr) → (footprint self.new).live at ≡ None }
+        ensures moves { Moves (footprint self.old) (footprint self.new) space.old space.new }
+    {
+        self.books.reset(space);
+    }
+
+    /// Gives all blocks and the first region back to the space.
+    pub fn discard(self, space: &mut Space)
+        requires { Agrees (footprint self) space.old }
+        ensures { Moves (footprint self) (nothing (account_of self) (footprint self).context) space.old space.new }
+    {
+        let SlabCtx { books } = self;
+        books.discard(space);
+    }
+}
+
+#[cfg(test)]
+mod tests;

@@ -1,0 +1,302 @@
+//! The chunks in the blocks of a Slab, and the offsets of the freed ones.
+ghost use Rattle.std.specs.Prelude.{◌≡◌, ◌≢◌, ℕ, ◌+◌, ◌-◌, ◌*◌, ◌^◌, ◌<◌, ◌≤◌, ◌↔◌, ◌⊎◌, ◌==◌, Ok, Err, Some, None, IfOk, IfErr, OnOk, OnErr, if◌then◌else◌, length, [], ◌∷◌, slice_index, slice_set};
+ghost use Rattle.addr_space.specs.declared.Addr.{Addr};
+ghost use Rattle.indexmap.specs.IndexMap.{spare};
+ghost use Rattle.ctx_blocks.specs.declared.parts.Block.{Block};
+ghost use Rattle.ctx_blocks.specs.declared.parts.Chunk.{Chunk};
+ghost use Rattle.ctx_blocks.specs.Layout.{block_at, chunk_at};
+ghost use Rattle.slab_ctx.specs.Ledger.{stride, per_block};
+ghost use Rattle.slab_ctx.specs.Slots.{stack_at};
+
+use addr_space::{Addr, Space};
+use chunk_header::{CtxError, Kind, up8};
+use ctx_blocks::{Block, Blocks};
+use indexmap::IndexMap;
+use std::alloc::Global;
+
+/// The bytes of a block.
+const BLOCK: u32 = 8192;
+
+/// The blocks, and which of their chunks were freed.
+#[derive(Drop)]
+pub struct Slots {
+    pub blocks: Blocks,
+    // The size of every chunk.
+    pub size: u32,
+    // For each block the offsets of its freed chunks, as many as it counts, and room for those of all its chunks.
+    pub stacks: IndexMap<u32, Vec<u16>>,
+    pub alloc: Global,
+}
+
+// What a chunk takes in a block, with its header.
+pub fn stride(size: u32) -> u32
+    requires least { 1 ≤ size }
+    requires most { size ≤ 1024 }
+    ensures value { result ≡ stride size }
+    ensures least { 16 ≤ result }
+    ensures most { result ≤ 1039 }
+{
+    up8(size) + 8
+}
+
+// How many chunks a block has.
+pub fn per_block(size: u32) -> u32
+    requires least { 1 ≤ size }
+    requires most { size ≤ 1024 }
+    ensures value { result ≡ per_block size }
+    ensures most { result ≤ 509 }
+{
+    (BLOCK - 40) / stride(size)
+}
+
+// Notes the stack of a new block, for which room was made.
+fn open(stacks: &mut IndexMap<u32, Vec<u16>>, number: u32, stack: Vec<u16>)
+    requires { 0 < spare stacks.old }
+    ensures { (other : ℕ) → stack_at stacks.new.entries other ≡ (if number == other then stack.items else stack_at stacks.old.entries other) }
+{
+    match stacks.insert(number, stack) {
+        Ok(_) => {}
+        Err(_) => unreachable!(),
+    }
+}
+
+// Writes an offset at a depth of a block's stack.
+fn push(stacks: &mut IndexMap<u32, Vec<u16>>, number: u32, depth: u32, offset: u16)
+    requires { depth < length (stack_at stacks.old.entries number) }
+    ensures { (other : ℕ) → stack_at stacks.new.entries other ≡ (if number == other then slice_set (stack_at stacks.old.entries number) depth offset else stack_at stacks.old.entries other) }
+{
+    match stacks.get_mut(&number) {
+        Some(stack) => stack[depth as usize] = offset,
+        None => unreachable!(),
+    }
+}
+
+// The offset at a depth of a block's stack.
+fn offset_at(stacks: &IndexMap<u32, Vec<u16>>, number: u32, depth: u32) -> u16
+    requires { depth < length (stack_at stacks.now.entries number) }
+    ensures { result ≡ slice_index (stack_at stacks.now.entries number) depth }
+{
+    match stacks.get(&number) {
+        Some(stack) => stack[depth as usize],
+        None => unreachable!(),
+    }
+}
+
+// Forgets the stack of a block.
+fn close(stacks: &mut IndexMap<u32, Vec<u16>>, number: u32)
+    ensures { (other : ℕ) → other ≢ number → stack_at stacks.new.entries other ≡ stack_at stacks.old.entries other }
+{
+    let _ = stacks.swap_remove(&number);
+}
+
+impl Slots {
+    ghost use Rattle.addr_space.specs.Space.{Space, accounts, held};
+    ghost use Rattle.addr_space.specs.Footprint.{Agrees, Moves, Keeps, nothing};
+    ghost use Rattle.ctx_blocks.specs.Layout.{total, footprint};
+    ghost use Rattle.ctx_blocks.specs.Steps.{PutsBlock, DropsBlock, PutsChunk, SameContext, MovesStill};
+    ghost use Rattle.slab_ctx.specs.Slots.{HasSlots, chunk_of, first_region};
+    ghost use Rattle.slab_ctx.specs.Counts.{Counts};
+
+    // The slots of a new context, whose first region was taken.
+    pub fn create(
+        alloc: Global,
+        space: &mut Space,
+        account: u8,
+        context: u32,
+        size: u32,
+    ) -> Result<Slots, CtxError>
+        requires account { account < accounts space.old }
+        requires least { 1 ≤ size }
+        requires most { size ≤ 1024 }
+        ensures slots { IfOk result HasSlots }
+        ensures size { IfOk result (λ s. s.size ≡ size) }
+        ensures account { IfOk result (λ s. s.blocks.account ≡ account) }
+        ensures context { IfOk result (λ s. s.blocks.context ≡ context) }
+        ensures blocks { IfOk result (λ s. s.blocks.blocks ≡ (s.blocks.keeper, first_region) ∷ []) }
+        ensures chunks { IfOk result (λ s. s.blocks.chunks ≡ []) }
+        ensures moves { IfOk result (λ s. Moves (nothing account context) (footprint s.blocks) space.old space.new) }
+        ensures no_space { (result ≡ Err CtxError.NoSpace) ↔ (space.old.limit < held space.old account + 200) }
+        ensures no_other { IfErr result (λ e. (e ≡ CtxError.NoSpace) ⊎ (e ≡ CtxError.Memory)) }
+        ensures err { OnErr result (space.new ≡ space.old) }
+    {
+        match Blocks::create(alloc, space, Kind::Slab, account, context, 200) {
+            Ok(blocks) => Ok(Slots {
+                blocks,
+                size,
+                stacks: IndexMap::new(alloc),
+                alloc,
+            }),
+            Err(error) => Err(error),
+        }
+    }
+
+    // The block in a region of the context.
+    pub fn owned(&self, number: u32) -> Block
+        requires { (b : Block) × (block_at self.now.blocks number ≡ Some b) }
+        ensures { block_at self.now.blocks number ≡ Some result }
+    {
+        match self.blocks.block(number) {
+            Some(block) => block,
+            None => unreachable!(),
+        }
+    }
+
+    // Takes a block, for which room was made.
+    pub fn add(&mut self, space: &mut Space) -> Result<u32, CtxError>
+        requires slots { HasSlots self.old }
+        requires agrees { Agrees (footprint self.old.blocks) space.old }
+        requires spare { 1 ≤ self.old.blocks.spare_blocks }
+        ensures slots { HasSlots self.new }
+        ensures size { self.new.size ≡ self.old.size }
+        ensures same { OnOk result (SameContext self.old.blocks self.new.blocks) }
+        ensures not_keeper { IfOk result (λ number. number ≢ self.old.blocks.keeper) }
+        ensures fresh { IfOk result (λ number. block_at self.old.blocks number ≡ None) }
+        ensures block { IfOk result (λ number. PutsBlock self.old.blocks self.new.blocks number (record { size = 8192; room = 8152; live = 0; freed = 0 })) }
+        ensures chunks { OnOk result (self.new.blocks.chunks ≡ self.old.blocks.chunks) }
+        ensures spare { OnOk result (self.new.blocks.spare_chunks ≡ self.old.blocks.spare_chunks) }
+        ensures total { OnOk result (total self.new.blocks ≡ total self.old.blocks + 8192) }
+        ensures most { OnOk result (total self.new.blocks ≤ 2 ^ 62) }
+        ensures moves { OnOk result (Moves (footprint self.old.blocks) (footprint self.new.blocks) space.old space.new) }
+        ensures keeps { OnOk result (Keeps (footprint self.old.blocks) (footprint self.new.blocks) space.old space.new) }
+        ensures fits { OnOk result (8192 ≤ space.old.limit - held space.old self.old.blocks.account) }
+        ensures no_space { (result ≡ Err CtxError.NoSpace) → space.old.limit - held space.old self.old.blocks.account < 8192 }
+        ensures no_other { IfErr result (λ e. (e ≡ CtxError.NoSpace) ⊎ (e ≡ CtxError.Memory)) }
+        ensures err { OnErr result (self.new.blocks ≡ self.old.blocks) }
+        ensures err_space { OnErr result (space.new ≡ space.old) }
+    {
+        if self.stacks.reserve(1).is_err() {
+            return Err(CtxError::Memory);
+        }
+        let stack = match vec![in self.alloc; 0u16; per_block(self.size) as usize] {
+            Ok(stack) => stack,
+            Err(_) => return Err(CtxError::Memory),
+        };
+        let number = match self.blocks.add(space, BLOCK) {
+            Ok(number) => number,
+            Err(error) => return Err(error),
+        };
+        open(&mut self.stacks, number, stack);
+        let _ = self.blocks.total();
+        Ok(number)
+    }
+
+    // Takes the freed chunk that is the last of a block's stack.
+    fn reuse(&mut self, space: &mut Space, number: u32, depth: u32) -> Addr
+        requires slots { HasSlots self.old }
+        requires agrees { Agrees (footprint self.old.blocks) space.old }
+        requires not_keeper { number ≢ self.old.blocks.keeper }
+        requires block { (b : Block) × (block_at self.old.blocks number ≡ Some b) × (b.freed ≡ depth + 1) }
+        requires spare { 1 ≤ self.old.blocks.spare_chunks }
+        ensures slots { HasSlots self.new }
+        ensures size { self.new.size ≡ self.old.size }
+        ensures same { SameContext self.old.blocks self.new.blocks }
+        ensures fresh { chunk_at self.old.blocks result ≡ None }
+        ensures chunk { PutsChunk self.old.blocks self.new.blocks result (Some (chunk_of self.old.size)) }
+        ensures block { (b : Block) → block_at self.old.blocks number ≡ Some b → Counts self.old.blocks self.new.blocks number (b.live + 1) }
+        ensures moves { Moves (footprint self.old.blocks) (footprint self.new.blocks) space.old space.new }
+        ensures keeps { Keeps (footprint self.old.blocks) (footprint self.new.blocks) space.old space.new }
+    {
+        let at = Addr {
+            region: number,
+            offset: u32::from(offset_at(&self.stacks, number, depth)),
+        };
+        let room = stride(self.size) - 8;
+        self.blocks.place(space, at, self.size, room);
+        at
+    }
+
+    // Cuts a chunk off a block that has room for one.
+    fn cut(&mut self, space: &mut Space, number: u32) -> Addr
+        requires slots { HasSlots self.old }
+        requires agrees { Agrees (footprint self.old.blocks) space.old }
+        requires not_keeper { number ≢ self.old.blocks.keeper }
+        requires block { (b : Block) × (block_at self.old.blocks number ≡ Some b) × (stride self.old.size ≤ b.room) }
+        requires spare { 1 ≤ self.old.blocks.spare_chunks }
+        ensures slots { HasSlots self.new }
+        ensures size { self.new.size ≡ self.old.size }
+        ensures same { SameContext self.old.blocks self.new.blocks }
+        ensures fresh { chunk_at self.old.blocks result ≡ None }
+        ensures chunk { PutsChunk self.old.blocks self.new.blocks result (Some (chunk_of self.old.size)) }
+        ensures block { (b : Block) → block_at self.old.blocks number ≡ Some b → Counts self.old.blocks self.new.blocks number (b.live + 1) }
+        ensures moves { Moves (footprint self.old.blocks) (footprint self.new.blocks) space.old space.new }
+        ensures keeps { Keeps (footprint self.old.blocks) (footprint self.new.blocks) space.old space.new }
+    {
+        let room = stride(self.size) - 8;
+        self.blocks.cut(space, number, self.size, room, false)
+    }
+
+    // Takes a chunk of a block that has a free one.
+    pub fn take(&mut self, space: &mut Space, number: u32) -> Addr
+        requires slots { HasSlots self.old }
+        requires agrees { Agrees (footprint self.old.blocks) space.old }
+        requires not_keeper { number ≢ self.old.blocks.keeper }
+        requires block { (b : Block) × (block_at self.old.blocks number ≡ Some b) × (b.live < per_block self.old.size) }
+        requires spare { 1 ≤ self.old.blocks.spare_chunks }
+        ensures slots { HasSlots self.new }
+        ensures size { self.new.size ≡ self.old.size }
+        ensures same { SameContext self.old.blocks self.new.blocks }
+        ensures fresh { chunk_at self.old.blocks result ≡ None }
+        ensures chunk { PutsChunk self.old.blocks self.new.blocks result (Some (chunk_of self.old.size)) }
+        ensures block { (b : Block) → block_at self.old.blocks number ≡ Some b → Counts self.old.blocks self.new.blocks number (b.live + 1) }
+        ensures moves { Moves (footprint self.old.blocks) (footprint self.new.blocks) space.old space.new }
+        ensures keeps { Keeps (footprint self.old.blocks) (footprint self.new.blocks) space.old space.new }
+    {
+        let freed = self.owned(number).freed;
+        if freed > 0 {
+            return self.reuse(space, number, freed - 1);
+        }
+        self.cut(space, number)
+    }
+
+    // Frees a live chunk: it is the last of its block's stack.
+    pub fn remove(&mut self, at: Addr)
+        requires slots { HasSlots self.old }
+        requires chunk { (c : Chunk) × (chunk_at self.old.blocks at ≡ Some c) }
+        ensures slots { HasSlots self.new }
+        ensures size { self.new.size ≡ self.old.size }
+        ensures same { SameContext self.old.blocks self.new.blocks }
+        ensures chunk { PutsChunk self.old.blocks self.new.blocks at None }
+        ensures not_keeper { at.region ≢ self.old.blocks.keeper }
+        ensures block { (b : Block) × (block_at self.old.blocks at.region ≡ Some b) × (1 ≤ b.live) × Counts self.old.blocks self.new.blocks at.region (b.live - 1) }
+        ensures moves { MovesStill self.old.blocks self.new.blocks }
+    {
+        self.blocks.laid();
+        let freed = self.owned(at.region).freed;
+        let _ = self.blocks.remove(at);
+        push(&mut self.stacks, at.region, freed, at.offset as u16);
+    }
+
+    // Gives a block without live chunks back.
+    pub fn give(&mut self, space: &mut Space, number: u32)
+        requires slots { HasSlots self.old }
+        requires agrees { Agrees (footprint self.old.blocks) space.old }
+        requires block { (b : Block) × (block_at self.old.blocks number ≡ Some b) × (b.live ≡ 0) }
+        requires not_keeper { number ≢ self.old.blocks.keeper }
+        ensures slots { HasSlots self.new }
+        ensures size { self.new.size ≡ self.old.size }
+        ensures same { SameContext self.old.blocks self.new.blocks }
+        ensures chunks { self.new.blocks.chunks ≡ self.old.blocks.chunks }
+        ensures block { DropsBlock self.old.blocks self.new.blocks number }
+        ensures total { total self.new.blocks + 8192 ≡ total self.old.blocks }
+        ensures moves { Moves (footprint self.old.blocks) (footprint self.new.blocks) space.old space.new }
+        ensures keeps { Keeps (footprint self.old.blocks) (footprint self.new.blocks) space.old space.new }
+    {
+        self.blocks.give(space, number);
+        close(&mut self.stacks, number);
+    }
+
+    // Gives all blocks back, but for the first region.
+    pub fn reset(&mut self, space: &mut Space)
+        requires slots { HasSlots self.old }
+        requires agrees { Agrees (footprint self.old.blocks) space.old }
+        ensures slots { HasSlots self.new }
+        ensures size { self.new.size ≡ self.old.size }
+        ensures same { SameContext self.old.blocks self.new.blocks }
+        ensures blocks { self.new.blocks.blocks ≡ (self.new.blocks.keeper, first_region) ∷ [] }
+        ensures chunks { self.new.blocks.chunks ≡ [] }
+        ensures moves { Moves (footprint self.old.blocks) (footprint self.new.blocks) space.old space.new }
+    {
+        self.blocks.reset(space);
+        self.stacks.clear();
+    }
+}
