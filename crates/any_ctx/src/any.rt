@@ -12,6 +12,8 @@ use addr_space::{Addr, Space};
 use alloc_set::AllocSet;
 use bump_ctx::BumpCtx;
 use chunk_header::{CtxError, Sizes, Stats};
+use generation_ctx::GenerationCtx;
+use slab_ctx::SlabCtx;
 use std::alloc::Global;
 
 /// The kinds of contexts, with the sizes of their blocks.
@@ -25,6 +27,10 @@ pub enum CtxKind {
     Error,
     /// The AllocSet that transactions abort in: 32,768 bytes each.
     Abort,
+    /// A Slab with chunks of this size, from 1 to 1,024 bytes.
+    Slab(u32),
+    /// A Generation: 8,192 and 8,388,608 bytes.
+    Generation,
     /// A Bump: 8,192 and 8,388,608 bytes.
     Bump,
 }
@@ -40,6 +46,10 @@ const GREAT: Sizes = Sizes {
 pub enum AnyCtx {
     /// Chunks by class, kept when they are freed.
     AllocSet(AllocSet),
+    /// Chunks of one size.
+    Slab(SlabCtx),
+    /// Chunks that live about as long as their neighbours.
+    Generation(GenerationCtx),
     /// Chunks without headers that are never freed.
     Bump(BumpCtx),
 }
@@ -74,6 +84,7 @@ fn set_of(
 impl AnyCtx {
     /// A context of a kind, for an account of the space. `context` is the number that its blocks keep.
     ///
+    /// `NoSpace` comes where the first block doesn't fit, or the first region of a Slab, and before `Memory`. A
     /// refused call changes nothing.
     pub fn create(
         alloc: Global,
@@ -93,20 +104,38 @@ impl AnyCtx {
         ensures no_other { IfErr result (λ e. (e ≡ CtxError.NoSpace) ⊎ (e ≡ CtxError.Memory)) }
         ensures err { OnErr result (space.new ≡ space.old) }
     {
-        let small = Sizes { init: 1024, max: 8192 };
-        let error = Sizes { init: 8192, max: 8192 };
-        let abort = Sizes { init: 32_768, max: 32_768 };
+        let small = Sizes {
+            init: 1024,
+            max: 8192,
+        };
+        let error = Sizes {
+            init: 8192,
+            max: 8192,
+        };
+        let abort = Sizes {
+            init: 32_768,
+            max: 32_768,
+        };
         match kind {
             CtxKind::Default => set_of(alloc, space, account, context, GREAT),
             CtxKind::Small => set_of(alloc, space, account, context, small),
             CtxKind::Error => set_of(alloc, space, account, context, error),
             CtxKind::Abort => set_of(alloc, space, account, context, abort),
-            CtxKind::Bump => Ok(AnyCtx::Bump(BumpCtx::create(alloc, space, account, context, GREAT)?)),
+            CtxKind::Slab(size) => Ok(AnyCtx::Slab(SlabCtx::create(
+                alloc, space, account, context, size,
+            )?)),
+            CtxKind::Generation => Ok(AnyCtx::Generation(GenerationCtx::create(
+                alloc, space, account, context, GREAT,
+            )?)),
+            CtxKind::Bump => Ok(AnyCtx::Bump(BumpCtx::create(
+                alloc, space, account, context, GREAT,
+            )?)),
         }
     }
 
     /// Takes a chunk of `size` bytes, which may be 0, and answers its address. No byte of it is known.
     ///
+    /// `TooBig`, where `size` is over 1,073,741,823, and `WrongSize`, where a Slab has chunks of another size, come
     /// before `NoSpace`; `Memory` may come in place of `NoSpace`. A refused call changes nothing.
     pub fn alloc(&mut self, space: &mut Space, size: u64) -> Result<Addr, CtxError>
         requires { Agrees (footprint self.old) space.old }
@@ -124,6 +153,8 @@ impl AnyCtx {
     {
         match self {
             AnyCtx::AllocSet(set) => set.alloc(space, size),
+            AnyCtx::Slab(slab) => slab.alloc(space, size),
+            AnyCtx::Generation(generation) => generation.alloc(space, size),
             AnyCtx::Bump(bump) => bump.alloc(space, size),
         }
     }
@@ -145,6 +176,8 @@ impl AnyCtx {
     {
         match self {
             AnyCtx::AllocSet(set) => set.free(space, at),
+            AnyCtx::Slab(slab) => slab.free(space, at),
+            AnyCtx::Generation(generation) => generation.free(space, at),
             AnyCtx::Bump(bump) => bump.free(space, at),
         }
     }
@@ -155,6 +188,8 @@ impl AnyCtx {
     {
         match self {
             AnyCtx::AllocSet(set) => set.stats(),
+            AnyCtx::Slab(slab) => slab.stats(),
+            AnyCtx::Generation(generation) => generation.stats(),
             AnyCtx::Bump(bump) => bump.stats(),
         }
     }
@@ -169,6 +204,8 @@ impl AnyCtx {
     {
         match self {
             AnyCtx::AllocSet(set) => set.reset(space),
+            AnyCtx::Slab(slab) => slab.reset(space),
+            AnyCtx::Generation(generation) => generation.reset(space),
             AnyCtx::Bump(bump) => bump.reset(space),
         }
     }
@@ -180,6 +217,8 @@ impl AnyCtx {
     {
         match self {
             AnyCtx::AllocSet(set) => set.discard(space),
+            AnyCtx::Slab(slab) => slab.discard(space),
+            AnyCtx::Generation(generation) => generation.discard(space),
             AnyCtx::Bump(bump) => bump.discard(space),
         }
     }
@@ -192,6 +231,8 @@ impl AnyCtx {
     {
         match self {
             AnyCtx::AllocSet(set) => set.headed(),
+            AnyCtx::Slab(slab) => slab.headed(),
+            AnyCtx::Generation(generation) => generation.headed(),
             AnyCtx::Bump(_) => {}
         }
     }
@@ -199,6 +240,7 @@ impl AnyCtx {
     /// Gives a live chunk a size of `size` bytes, which may be 0, and answers where it is now. `keep` is how many of
     /// its first bytes are known; they are kept, as far as the new size goes.
     ///
+    /// `TooBig`, where `size` is over 1,073,741,823, comes before `Unsupported`, which a Bump answers, and a Slab to
     /// another size, and that before `NoSpace`; `Memory` may come in place of `NoSpace`. A refused call changes nothing.
     pub fn realloc(
         &mut self,
@@ -226,6 +268,8 @@ impl AnyCtx {
     {
         match self {
             AnyCtx::AllocSet(set) => set.realloc(space, at, keep, size),
+            AnyCtx::Slab(slab) => slab.realloc(space, at, keep, size),
+            AnyCtx::Generation(generation) => generation.realloc(space, at, keep, size),
             AnyCtx::Bump(bump) => bump.realloc(space, at, keep, size),
         }
     }

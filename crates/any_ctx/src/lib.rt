@@ -6,3 +6,6 @@ mod marked;
 
 pub use any::{AnyCtx, CtxKind};
 pub use marked::{chunk_space, owner_of};
+
+#[cfg(test)]
+mod tests;
