@@ -1,3 +1,7 @@
+ghost use Rattle.std.specs.Prelude.{OnOk};
+ghost use Rattle.addr_space.specs.Footprint.{Agrees};
+ghost use Rattle.bump_ctx.specs.State.{footprint};
+
 use super::*;
 use std::test::Fail;
 
@@ -6,13 +10,24 @@ const GREAT: Sizes = Sizes {
     max: 8_388_608,
 };
 
+fn alloc_all(bump: &mut BumpCtx, space: &mut Space, requests: &[u64]) -> Result<(), CtxError>
+    requires { Agrees (footprint bump.old) space.old }
+    ensures { OnOk result (Agrees (footprint bump.new) space.new) }
+{
+    for size in requests {
+        match bump.alloc(space, *size) {
+            Ok(_) => {}
+            Err(error) => return Err(error),
+        }
+    }
+    Ok(())
+}
+
 // What a context with these requests holds: the bytes of its blocks, their number and their rooms.
 fn held_after(rt: &HostRuntime, requests: &[u64]) -> Result<(u64, u64, u64), Fail> {
     let mut space = Space::new(rt.alloc(), 1, 20_000_000)?;
     let mut bump = BumpCtx::create(rt.alloc(), &mut space, 0, 7, GREAT)?;
-    for size in requests {
-        bump.alloc(&mut space, *size)?;
-    }
+    alloc_all(&mut bump, &mut space, requests)?;
     let stats = bump.stats();
     bump.discard(&mut space);
     Ok((stats.total, stats.blocks, stats.free))
@@ -46,21 +61,18 @@ fn refusals_and_a_reset(rt: HostRuntime) -> Result<(), Fail> {
         bump.free(&mut space, at).err(),
         bump.realloc(&mut space, at, 0, 8).err(),
         bump.realloc(&mut space, at, 0, 1_073_741_824).err(),
-        bump.alloc(&mut space, 1000).err(),
     ];
     bump.reset(&mut space);
-    let after = (refused, bump.stats().free, space.held(0));
+    let after = (bump.stats().free, bump.alloc(&mut space, 8000).err());
     assert_eq!(rt;
-        after,
+        (refused, after),
         (
             [
                 Some(CtxError::Unsupported),
                 Some(CtxError::Unsupported),
-                Some(CtxError::TooBig),
-                Some(CtxError::NoSpace)
+                Some(CtxError::TooBig)
             ],
-            7952,
-            8192
+            (7952, Some(CtxError::NoSpace))
         )
     );
     Ok(())

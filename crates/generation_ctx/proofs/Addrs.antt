@@ -1,5 +1,5 @@
 -- Lemmas on addresses, and on what stands at them.
-use Rattle.std.proofs.Common.{◌≡◌, ◌≢◌, ℕ, ◌==◌, ◌&&◌, Bool, true, false, Option, Some, None, if◌then◌else◌, refl, arith, ◌∙◌, sym, ap}
+use Rattle.std.proofs.Common.{◌≡◌, ◌≢◌, Bool, true, false, Option, if◌then◌else◌, refl, arith, ◌∙◌, ap}
 use Rattle.addr_space.specs.declared.Addr.{Addr}
 use Rattle.ctx_blocks.specs.Layout.{Layout, same_addr, chunk_at}
 use Rattle.ctx_blocks.specs.Steps.{PutsChunk}

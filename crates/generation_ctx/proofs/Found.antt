@@ -1,5 +1,5 @@
 -- Blocks that are there.
-use Rattle.std.proofs.Common.{◌≡◌, ℕ, ◌<◌, ◌≤◌, ◌==◌, Option, Some, None, unwrap_or, refl, arith, ◌∙◌, sym, ap, inl, inr}
+use Rattle.std.proofs.Common.{◌≡◌, ℕ, ◌<◌, ◌≤◌, Option, Some, unwrap_or, arith, ap, inl, inr}
 use Rattle.addr_space.proofs.Written.{option_cases}
 use Rattle.ctx_blocks.specs.Layout.{block_at}
 use Rattle.ctx_blocks.specs.declared.parts.Block.{Block}

@@ -1,5 +1,5 @@
 -- The whole of what the code keeps, from step to step.
-use Rattle.std.proofs.Common.{◌≡◌, ◌≢◌, ℕ, ◌+◌, ◌*◌, ◌%◌, ◌<◌, ◌≤◌, ◌==◌, min, Bool, Option, Some, None, true, false, if◌then◌else◌, refl, arith, ◌∙◌, sym, ap, subst}
+use Rattle.std.proofs.Common.{◌≡◌, ◌≢◌, ℕ, ◌*◌, ◌<◌, ◌==◌, min, Bool, Option, Some, None, true, false, if◌then◌else◌, refl, arith, ◌∙◌, sym, subst}
 use Rattle.addr_space.specs.declared.Addr.{Addr}
 use Rattle.ctx_blocks.specs.Layout.{Layout, block_at, chunk_at, same_addr}
 use Rattle.ctx_blocks.specs.Steps.{PutsBlock, DropsBlock, PutsChunk, SameContext}
@@ -9,7 +9,7 @@ use Rattle.generation_ctx.specs.Ledger.{is_spare}
 use Rattle.generation_ctx.specs.Kept.{HasSize, IsSized, IsSpare, IsIdle, IsAlone, IsKept}
 use Rattle.generation_ctx.specs.declared.books.Books.{Books}
 use Rattle.generation_ctx.proofs.Alone.{apart_room}
-use Rattle.generation_ctx.proofs.Kepts.{put_here, put_other, size_put, spare_put, drop_other, size_drop, spare_drop, is_not_spare, not_spare}
+use Rattle.generation_ctx.proofs.Kepts.{put_other, size_put, spare_put, drop_other, size_drop, spare_drop, not_spare}
 
 -- what a chunk with a block for itself was
 pub record Was (l : Layout) (number : ℕ) (at : Addr) : Type 0 where
@@ -31,9 +31,9 @@ kept_put b m number block kept same puts sizes free were = record {
   current = size_put b.blocks m number block puts sizes b.current kept.bytes kept.current;
   spare = spare_put b.blocks m number block puts b.current b.spare same.keeper free kept.spare;
   alone = λ at chunk is own.
-    (let w = were at chunk is own in
-    let a = kept.alone at w.chunk w.is w.own in
-    record { block = a.block; is = put_other b.blocks m number block puts at.region (λ e. w.other (sym e)) ∙ a.is; live = a.live; room = a.room; not_keeper = λ e. a.not_keeper (e ∙ same.keeper); not_current = a.not_current });
+      (let w = were at chunk is own in
+      let a = kept.alone at w.chunk w.is w.own in
+      record { block = a.block; is = put_other b.blocks m number block puts at.region (λ e. w.other (sym e)) ∙ a.is; live = a.live; room = a.room; not_keeper = λ e. a.not_keeper (e ∙ same.keeper); not_current = a.not_current });
 }
 
 -- a block is given back
@@ -46,9 +46,9 @@ kept_drop b m number kept same drops not_keeper not_current free were = record {
   current = size_drop b.blocks m number drops b.current kept.bytes not_current kept.current;
   spare = spare_drop b.blocks m number drops b.current b.spare same.keeper free kept.spare;
   alone = λ at chunk is own.
-    (let w = were at chunk is own in
-    let a = kept.alone at w.chunk w.is w.own in
-    record { block = a.block; is = drop_other b.blocks m number drops at.region (λ e. w.other (sym e)) ∙ a.is; live = a.live; room = a.room; not_keeper = λ e. a.not_keeper (e ∙ same.keeper); not_current = a.not_current });
+      (let w = were at chunk is own in
+      let a = kept.alone at w.chunk w.is w.own in
+      record { block = a.block; is = drop_other b.blocks m number drops at.region (λ e. w.other (sym e)) ∙ a.is; live = a.live; room = a.room; not_keeper = λ e. a.not_keeper (e ∙ same.keeper); not_current = a.not_current });
 }
 
 -- the chunks stay, and none has this block for itself

@@ -1,11 +1,11 @@
 -- What the code keeps, once blocks were put and given.
-use Rattle.std.proofs.Common.{◌≡◌, ◌≢◌, ℕ, ◌<◌, ap, unwrap_or, ◌==◌, Option, Some, None, true, false, if◌then◌else◌, refl, arith, ◌∙◌, sym, subst, inl, inr}
+use Rattle.std.proofs.Common.{◌≡◌, ◌≢◌, ℕ, ◌<◌, ap, unwrap_or, ◌==◌, Option, Some, None, false, refl, arith, ◌∙◌, sym, inl, inr}
 use Rattle.std.proofs.lemmas.Bool.{cases_eq}
 use Rattle.ctx_blocks.specs.Layout.{Layout, block_at}
-use Rattle.ctx_blocks.specs.Steps.{PutsBlock, DropsBlock, SameContext}
+use Rattle.ctx_blocks.specs.Steps.{PutsBlock, DropsBlock}
 use Rattle.ctx_blocks.specs.declared.parts.Block.{Block}
 use Rattle.generation_ctx.specs.Ledger.{is_spare}
-use Rattle.generation_ctx.specs.Kept.{HasSize, IsIdle, IsSpare}
+use Rattle.generation_ctx.specs.Kept.{HasSize, IsSpare}
 
 -- what a test of the spare says
 pub not_spare : (a b : ℕ) → (a == b) ≡ false → a ≢ b
@@ -36,8 +36,8 @@ module _ (l m : Layout) (number : ℕ) (block : Block) (puts : PutsBlock l m num
   pub spare_put : (current : ℕ) (spare : Option ℕ) → m.keeper ≡ l.keeper → is_spare spare number ≡ false → IsSpare l current spare → IsSpare m current spare
   spare_put current None same differs idle = idle
   spare_put current (Some other) same differs idle =
-    let ne : number ≢ other = λ e. not_spare other number differs (sym e) in
-    record { block = idle.block; is = put_other other ne ∙ idle.is; live = idle.live; not_keeper = λ e. idle.not_keeper (e ∙ same); not_current = idle.not_current }
+      let ne : number ≢ other = λ e. not_spare other number differs (sym e) in
+      record { block = idle.block; is = put_other other ne ∙ idle.is; live = idle.live; not_keeper = λ e. idle.not_keeper (e ∙ same); not_current = idle.not_current }
 
 module _ (l m : Layout) (number : ℕ) (drops : DropsBlock l m number) where
   -- every block but the one that was given stays
@@ -50,8 +50,8 @@ module _ (l m : Layout) (number : ℕ) (drops : DropsBlock l m number) where
   pub spare_drop : (current : ℕ) (spare : Option ℕ) → m.keeper ≡ l.keeper → is_spare spare number ≡ false → IsSpare l current spare → IsSpare m current spare
   spare_drop current None same differs idle = idle
   spare_drop current (Some other) same differs idle =
-    let ne : number ≢ other = λ e. not_spare other number differs (sym e) in
-    record { block = idle.block; is = drop_other other ne ∙ idle.is; live = idle.live; not_keeper = λ e. idle.not_keeper (e ∙ same); not_current = idle.not_current }
+      let ne : number ≢ other = λ e. not_spare other number differs (sym e) in
+      record { block = idle.block; is = drop_other other ne ∙ idle.is; live = idle.live; not_keeper = λ e. idle.not_keeper (e ∙ same); not_current = idle.not_current }
 
 -- which blocks aren't the spare: the current one
 pub spare_current : (l : Layout) (current : ℕ) (spare : Option ℕ) → IsSpare l current spare → is_spare spare current ≡ false

@@ -1,8 +1,8 @@
 -- The steps of the ledger, by what is compared.
-use Rattle.std.proofs.Common.{◌≡◌, ◌≢◌, ℕ, ◌+◌, ◌<◌, ◌≤◌, ◌==◌, Option, Some, None, Ok, Err, true, false, refl, arith, ◌∙◌, sym, ap}
-use Rattle.chunk_header.specs.declared.CtxError.TheVariants.{TooBig, NoSpace}
+use Rattle.std.proofs.Common.{◌≡◌, ◌≢◌, ℕ, ◌+◌, ◌<◌, ◌≤◌, Some, None, Ok, Err, refl, arith}
+use Rattle.chunk_header.specs.declared.CtxError.TheVariants.{NoSpace}
 use Rattle.generation_ctx.specs.Room.{granted}
-use Rattle.generation_ctx.specs.Ledger.{GenerationLedger, block_in, cut_off, turned, with_new, block_size, chosen, take_new, take_from, take_cut, take_own, take, put, given, set_aside, stopped, emptied, lessened, freed_shared, freed, resized, moved}
+use Rattle.generation_ctx.specs.Ledger.{GenerationLedger, block_in, cut_off, turned, with_new, block_size, chosen, take_new, take_from, take_cut, take_own, take, put, set_aside, stopped}
 
 module _ (l : GenerationLedger) where
   pub stopped-keeper : (number : ℕ) → l.keeper ≡ number → stopped l number ≡ l

@@ -1,5 +1,5 @@
 -- Lemmas on a list of blocks by their numbers.
-use Rattle.std.proofs.Common.{◌≡◌, ℕ, ◌==◌, List, [], ◌∷◌, Bool, true, false, if◌then◌else◌, Option, Some, None, unwrap_or, refl, ap, ◌∙◌, sym, arith}
+use Rattle.std.proofs.Common.{◌≡◌, ℕ, ◌==◌, List, [], ◌∷◌, true, false, Some, refl, ap, arith}
 use Rattle.std.specs.Map.{lookup}
 use Rattle.ctx_blocks.specs.Steps.{with_block, without_block}
 use Rattle.ctx_blocks.specs.declared.parts.Block.{Block}

@@ -1,5 +1,5 @@
 -- What becomes of the live chunks, by their sizes.
-use Rattle.std.proofs.Common.{◌≡◌, ℕ, Bool, true, false, Option, Some, None, if◌then◌else◌, refl, ◌∙◌, ap}
+use Rattle.std.proofs.Common.{◌≡◌, Bool, true, false, Option, Some, None, if◌then◌else◌, refl, ◌∙◌, ap}
 use Rattle.addr_space.specs.declared.Addr.{Addr}
 use Rattle.ctx_blocks.specs.Layout.{Layout, same_addr, chunk_at, then_option, footprint}
 use Rattle.ctx_blocks.specs.Steps.{PutsChunk}

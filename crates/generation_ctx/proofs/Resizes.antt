@@ -1,8 +1,7 @@
 -- The steps of the ledger for a chunk that gets another size, and the live chunks then.
-use Rattle.std.proofs.Common.{◌≡◌, ◌≢◌, ℕ, ◌<◌, ◌≤◌, Bool, true, false, Option, Some, None, Ok, Err, Result, if◌then◌else◌, refl, arith, ◌∙◌, sym, ap}
+use Rattle.std.proofs.Common.{◌≡◌, ◌≢◌, ℕ, ◌<◌, ◌≤◌, Bool, true, false, Option, Some, None, Ok, if◌then◌else◌, refl, arith, ◌∙◌, sym, ap}
 use Rattle.addr_space.specs.declared.Addr.{Addr}
 use Rattle.addr_space.specs.Footprint.{Footprint}
-use Rattle.chunk_header.specs.declared.CtxError.{CtxError}
 use Rattle.ctx_blocks.specs.Layout.{same_addr}
 use Rattle.generation_ctx.specs.Ledger.{GenerationLedger, take, moved, resized}
 use Rattle.generation_ctx.specs.Live.{PutsLive, MovesLive}

@@ -1,10 +1,10 @@
 -- A chunk gets another size where it is.
-use Rattle.std.proofs.Common.{◌≡◌, ◌≢◌, ℕ, Bool, true, false, Option, Some, None, if◌then◌else◌, refl, ◌∙◌, sym, ap, subst}
+use Rattle.std.proofs.Common.{◌≡◌, ℕ, Bool, true, false, Option, Some, None, if◌then◌else◌, refl, ◌∙◌, sym, ap, subst}
 use Rattle.addr_space.specs.declared.Addr.{Addr}
 use Rattle.ctx_blocks.specs.Layout.{Layout, block_at, chunk_at, same_addr}
 use Rattle.ctx_blocks.specs.Steps.{PutsChunk, SameContext}
 use Rattle.ctx_blocks.specs.declared.parts.Chunk.{Chunk}
-use Rattle.generation_ctx.specs.Kept.{HasSize, IsIdle, IsSpare, IsAlone, IsKept}
+use Rattle.generation_ctx.specs.Kept.{HasSize, IsSpare, IsAlone, IsKept}
 use Rattle.generation_ctx.specs.declared.books.Books.{Books}
 use Rattle.generation_ctx.proofs.Addrs.{same_region}
 
@@ -24,8 +24,8 @@ module _ (b : Books) (m : Layout) (at : Addr) (old new : Chunk) (kept : IsKept b
 
   alone_by : (other : Addr) (x : Chunk) (t : Bool) → same_addr at other ≡ t → (if t then Some new else chunk_at b.blocks other) ≡ Some x → x.own ≡ true → IsAlone m b.current other
   alone_by other x true is here mine =
-    let old_own : old.own ≡ true = cc in
-    alone_as at other (same_region at other is) (kept.alone at old there old_own)
+      let old_own : old.own ≡ true = cc in
+      alone_as at other (same_region at other is) (kept.alone at old there old_own)
   alone_by other x false is here mine = alone_as other other refl (kept.alone other x here mine)
 
   pub kept_sized : IsKept (record b { blocks = m })

@@ -1,13 +1,11 @@
 -- Steps, one after another.
-use Rattle.std.proofs.Common.{◌≡◌, ℕ, Result, Some, None, Ok, refl, ◌∙◌, sym, ap, Option}
+use Rattle.std.proofs.Common.{◌≡◌, ℕ, Result, Some, refl, ◌∙◌, sym}
 use Rattle.addr_space.specs.declared.Addr.{Addr}
 use Rattle.addr_space.specs.Space.{Space}
-use Rattle.addr_space.specs.Footprint.{Footprint, Agrees, Moves, Keeps}
+use Rattle.addr_space.specs.Footprint.{Footprint, Agrees, Keeps}
 use Rattle.addr_space.proofs.Steps.{Moves-none, Moves-more}
 use Rattle.chunk_header.specs.declared.CtxError.{CtxError}
-use Rattle.ctx_blocks.specs.Layout.{Layout, same_addr, chunk_at, footprint}
-use Rattle.ctx_blocks.specs.Steps.{PutsChunk}
-use Rattle.ctx_blocks.specs.declared.parts.Chunk.{Chunk}
+use Rattle.ctx_blocks.specs.Layout.{Layout, footprint}
 use Rattle.generation_ctx.specs.Ledger.{GenerationLedger}
 use Rattle.generation_ctx.specs.Kept.{ledger_of, IsKept}
 use Rattle.generation_ctx.specs.Steps.{Rearranges, Allocates, Frees}

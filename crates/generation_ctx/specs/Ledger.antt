@@ -1,5 +1,5 @@
 -- The ledger of a Generation context: its blocks by their numbers, without the places of chunks in them.
-use Rattle.std.specs.Prelude.{ℕ, ◌+◌, ◌-◌, ◌*◌, ◌==◌, ◌&&◌, ◌||◌, Bool, true, false, nat_lt, nat_le, min, if◌then◌else◌, List, [], ◌∷◌, length, sum_by, Option, Some, None, unwrap_or, Result, Ok, Err}
+use Rattle.std.specs.Prelude.{ℕ, ◌+◌, ◌-◌, ◌*◌, ◌==◌, Bool, false, nat_lt, nat_le, min, if◌then◌else◌, List, [], ◌∷◌, length, sum_by, Option, Some, None, unwrap_or, Result, Ok, Err}
 use Rattle.std.specs.Map.{lookup, values_of}
 use Rattle.chunk_header.specs.declared.CtxError.{CtxError}
 use Rattle.chunk_header.specs.declared.CtxError.TheVariants.{TooBig, NoSpace}

@@ -1,5 +1,5 @@
 -- What the steps of calls do.
-use Rattle.std.specs.Prelude.{◌≡◌, ◌≢◌, ℕ, Bool, true, Some, None, Result, Ok}
+use Rattle.std.specs.Prelude.{◌≡◌, ◌≢◌, ℕ, Bool, Some, None, Result, Ok}
 use Rattle.addr_space.specs.declared.Addr.{Addr}
 use Rattle.addr_space.specs.Space.{Space}
 use Rattle.addr_space.specs.Footprint.{Moves, Keeps, KeepsBut}
@@ -7,7 +7,7 @@ use Rattle.chunk_header.specs.declared.CtxError.{CtxError}
 use Rattle.ctx_blocks.specs.Layout.{chunk_at, footprint}
 use Rattle.ctx_blocks.specs.Steps.{PutsChunk}
 use Rattle.generation_ctx.specs.Room.{granted}
-use Rattle.generation_ctx.specs.Ledger.{GenerationLedger, freed}
+use Rattle.generation_ctx.specs.Ledger.{GenerationLedger}
 use Rattle.generation_ctx.specs.Kept.{ledger_of, IsKept}
 use Rattle.generation_ctx.specs.Live.{MovesLive, HasBytesOf}
 use Rattle.generation_ctx.specs.declared.books.Books.{Books}

@@ -76,11 +76,17 @@ impl Books {
         ensures no_other { IfErr result (λ e. (e ≡ CtxError.NoSpace) ⊎ (e ≡ CtxError.Memory)) }
         ensures err { OnErr result (space.new ≡ space.old) }
     {
-        let blocks =
-            match Blocks::create(alloc, space, Kind::Generation, account, context, sizes.init) {
-                Ok(blocks) => blocks,
-                Err(error) => return Err(error),
-            };
+        let blocks = match Blocks::create(
+            alloc,
+            space,
+            Kind::Generation,
+            account,
+            context,
+            sizes.init,
+        ) {
+            Ok(blocks) => blocks,
+            Err(error) => return Err(error),
+        };
         let current = blocks.keeper();
         Ok(Books {
             sizes,
@@ -160,13 +166,7 @@ impl Books {
     {
         self.current = number;
         self.spare = match self.spare {
-            Some(other) => {
-                if other == number {
-                    None
-                } else {
-                    Some(other)
-                }
-            }
+            Some(other) => { if other == number { None } else { Some(other) } }
             None => None,
         };
     }
@@ -196,7 +196,8 @@ impl Books {
         ensures at { result.region ≡ self.old.current }
         ensures allocates { Allocates self.old self.new space.old space.new size result (Ok (cut_off (ledger_of self.old) (granted size + 8))) }
     {
-        self.blocks.cut(space, self.current, size, granted(size), false)
+        self.blocks
+            .cut(space, self.current, size, granted(size), false)
     }
 
     // Which block becomes current for so many bytes, where no new one is taken.

@@ -160,6 +160,7 @@ impl GenerationCtx {
         ensures fresh { IfOk result (λ to. to ≢ at → (footprint self.old).live to ≡ None) }
         ensures live { IfOk result (λ to. MovesLive (footprint self.old) (footprint self.new) at to size) }
         ensures bytes { IfOk result (λ to. HasBytesOf space.old space.new at to (min keep size)) }
+        ensures known { IfOk result (λ to. IsKnown space.new to (min keep size)) }
         ensures moves { OnOk result (Moves (footprint self.old) (footprint self.new) space.old space.new) }
         ensures keeps { OnOk result (KeepsBut at (footprint self.old) (footprint self.new) space.old space.new) }
 

@@ -1,3 +1,7 @@
+ghost use Rattle.std.specs.Prelude.{OnOk};
+ghost use Rattle.addr_space.specs.Footprint.{Agrees};
+ghost use Rattle.generation_ctx.specs.State.{footprint};
+
 use super::*;
 use std::test::Fail;
 
@@ -16,21 +20,41 @@ enum Step {
 
 use Step::{Free, Keep, Resize};
 
-fn perform(context: &mut GenerationCtx, space: &mut Space, step: &Step) -> Result<(), CtxError>
+fn perform(context: &mut GenerationCtx, space: &mut Space, step: Step) -> Result<(), CtxError>
     requires { Agrees (footprint context.old) space.old }
     ensures { OnOk result (Agrees (footprint context.new) space.new) }
 {
     match step {
-        Keep(size) => {
-            let _ = context.alloc(space, *size)?;
-        }
-        Free(size) => {
-            let at = context.alloc(space, *size)?;
-            context.free(space, at)?;
-        }
-        Resize(size, other) => {
-            let at = context.alloc(space, *size)?;
-            let _ = context.realloc(space, at, 0, *other)?;
+        Keep(size) => match context.alloc(space, size) {
+            Ok(_) => Ok(()),
+            Err(error) => Err(error),
+        },
+        Free(size) => match context.alloc(space, size) {
+            Ok(at) => context.free(space, at),
+            Err(error) => Err(error),
+        },
+        Resize(size, other) => match context.alloc(space, size) {
+            Ok(at) => match context.realloc(space, at, 0, other) {
+                Ok(_) => Ok(()),
+                Err(error) => Err(error),
+            },
+            Err(error) => Err(error),
+        },
+    }
+}
+
+fn perform_all(
+    context: &mut GenerationCtx,
+    space: &mut Space,
+    steps: &[Step],
+) -> Result<(), CtxError>
+    requires { Agrees (footprint context.old) space.old }
+    ensures { OnOk result (Agrees (footprint context.new) space.new) }
+{
+    for step in steps {
+        match perform(context, space, *step) {
+            Ok(()) => {}
+            Err(error) => return Err(error),
         }
     }
     Ok(())
@@ -40,12 +64,18 @@ fn perform(context: &mut GenerationCtx, space: &mut Space, step: &Step) -> Resul
 fn held_after(rt: &HostRuntime, steps: &[Step]) -> Result<(u64, u64, u64, u64), Fail> {
     let mut space = Space::new(rt.alloc(), 1, 20_000_000)?;
     let mut context = GenerationCtx::create(rt.alloc(), &mut space, 0, 7, GREAT)?;
-    for step in steps {
-        perform(&mut context, &mut space, step)?;
-    }
+    perform_all(&mut context, &mut space, steps)?;
     let stats = context.stats();
+    context.reset(&mut space);
     context.discard(&mut space);
     Ok((stats.total, stats.blocks, stats.free, stats.chunks))
+}
+
+// Why a context in a space of 10,000 bytes refuses a step.
+fn refusal(rt: &HostRuntime, step: Step) -> Result<Option<CtxError>, Fail> {
+    let mut space = Space::new(rt.alloc(), 1, 10_000)?;
+    let mut context = GenerationCtx::create(rt.alloc(), &mut space, 0, 7, GREAT)?;
+    Ok(perform(&mut context, &mut space, step).err())
 }
 
 #[test]
@@ -81,28 +111,15 @@ fn what_a_context_holds(rt: HostRuntime) -> Result<(), Fail> {
 }
 
 #[test]
-fn refusals_and_a_reset(rt: HostRuntime) -> Result<(), Fail> {
-    let mut space = Space::new(rt.alloc(), 1, 10000)?;
-    let mut context = GenerationCtx::create(rt.alloc(), &mut space, 0, 7, GREAT)?;
-    let at = context.alloc(&mut space, 7000)?;
-    let refused = [
-        context.realloc(&mut space, at, 0, 8000).err(),
-        context.realloc(&mut space, at, 0, 1_073_741_824).err(),
-        context.alloc(&mut space, 1000).err(),
+fn what_a_context_refuses(rt: HostRuntime) -> Result<(), Fail> {
+    let rows = [
+        (Keep(1_073_741_824), CtxError::TooBig),
+        (Keep(9000), CtxError::NoSpace),
+        (Resize(7000, 1_073_741_824), CtxError::TooBig),
+        (Resize(7000, 8000), CtxError::NoSpace),
     ];
-    context.reset(&mut space);
-    let after = (refused, context.stats().free, space.held(0));
-    assert_eq!(rt;
-        after,
-        (
-            [
-                Some(CtxError::NoSpace),
-                Some(CtxError::TooBig),
-                Some(CtxError::NoSpace)
-            ],
-            7952,
-            8192
-        )
-    );
+    for (step, error) in &rows {
+        assert_eq!(rt; refusal(&rt, *step)?, Some(*error), "{step:?}");
+    }
     Ok(())
 }

@@ -1,13 +1,13 @@
 -- Lemmas on the best block of a list.
-use Rattle.std.proofs.Common.{◌≡◌, ◌≢◌, ℕ, ◌+◌, ◌-◌, ◌<◌, ◌≤◌, ◌==◌, ◌++◌, if◌then◌else◌, Bool, true, false, List, [], ◌∷◌, length, map, max, nat_lt, Option, Some, None, refl, sym, ap, subst, ◌∙◌, inl, inr, arith}
-use Rattle.std.proofs.lemmas.Bool.{cases_eq, cases_lt}
+use Rattle.std.proofs.Common.{◌≡◌, ◌≢◌, ℕ, ◌-◌, ◌<◌, ◌≤◌, ◌==◌, ◌++◌, if◌then◌else◌, Bool, true, false, List, [], ◌∷◌, map, max, nat_lt, Option, Some, None, refl, sym, ap, subst, ◌∙◌, inl, inr, arith}
+use Rattle.std.proofs.lemmas.Bool.{cases_lt}
 use Rattle.std.proofs.lemmas.Bool.Decides.{nat_tests}
 use Rattle.ctx_blocks.specs.declared.parts.Block.{Block}
 use Rattle.slab_ctx.specs.Ledger.{fullest, greater}
 use Rattle.slab_ctx.specs.State.{live_of}
 use Rattle.slab_ctx.specs.Counts.{first_with, IsBest, IsBestOf}
 use Rattle.slab_ctx.specs.declared.books.Best.{Best}
-use Rattle.slab_ctx.proofs.Lives.{ne_test, eq_test, lives-new}
+use Rattle.slab_ctx.proofs.Lives.{ne_test, lives-new}
 
 -- one more element
 joined : Bool → ℕ → Option ℕ → Option ℕ

@@ -1,10 +1,10 @@
 -- Lemmas on how many free chunks there may be.
-use Rattle.std.proofs.Common.{◌≡◌, ◌==◌, if◌then◌else◌, Bool, true, false, ℕ, ◌+◌, ◌-◌, ◌*◌, ◌^◌, ◌<◌, ◌≤◌, List, [], ◌∷◌, length, sum_by, refl, ap, arith}
+use Rattle.std.proofs.Common.{◌≡◌, ◌==◌, if◌then◌else◌, Bool, true, false, ℕ, ◌+◌, ◌*◌, ◌^◌, ◌≤◌, List, [], ◌∷◌, length, sum_by, ap, arith}
 use Rattle.std.proofs.lemmas.List.Sums.{sum_by-cons}
 use Rattle.std.proofs.Math.Nat.{mul-le-mul_right}
 use Rattle.slab_ctx.specs.Ledger.{is_empty, free_in, free_chunks, per_block, stride}
 use Rattle.slab_ctx.specs.State.{lives_of}
-use Rattle.slab_ctx.specs.Kept.{ledger_of, IsKeptBut}
+use Rattle.slab_ctx.specs.Kept.{IsKeptBut}
 use Rattle.slab_ctx.specs.declared.books.Books.{Books}
 use Rattle.slab_ctx.proofs.Numbers.{per_block-fits, per_block-few}
 

@@ -1,5 +1,5 @@
 -- Lemmas on the block that serves a request.
-use Rattle.std.proofs.Common.{◌≡◌, ◌≢◌, ℕ, zero, suc, ◌+◌, ◌-◌, ◌<◌, ◌≤◌, ◌++◌, List, [], ◌∷◌, length, map, take, Option, Some, None, refl, sym, ap, subst, ◌∙◌, arith}
+use Rattle.std.proofs.Common.{◌≡◌, ℕ, zero, suc, ◌+◌, ◌-◌, ◌<◌, ◌≤◌, ◌++◌, List, [], ◌∷◌, length, map, take, Some, None, refl, sym, ap, subst, ◌∙◌, arith}
 use Rattle.std.specs.Prelude.{slice_get}
 use Rattle.std.proofs.lemmas.List.{take_all}
 use Rattle.ctx_blocks.specs.Layout.{Layout, block_at}
@@ -7,9 +7,8 @@ use Rattle.ctx_blocks.specs.declared.parts.Block.{Block}
 use Rattle.slab_ctx.specs.Ledger.{fullest}
 use Rattle.slab_ctx.specs.State.{others, live_of, lives_of}
 use Rattle.slab_ctx.specs.Counts.{first_with, IsBest, IsBestOf}
-use Rattle.slab_ctx.specs.Slots.{first_region}
 use Rattle.slab_ctx.specs.Kept.{IsListed}
-use Rattle.slab_ctx.specs.Steps.{HasLive, IsFound, IsSeen, IsNext, IsChosen}
+use Rattle.slab_ctx.specs.Steps.{IsFound, IsSeen, IsNext, IsChosen}
 use Rattle.slab_ctx.specs.declared.books.Best.{Best}
 use Rattle.slab_ctx.proofs.Best.{worse, better}
 use Rattle.slab_ctx.proofs.Lives.{not-at}

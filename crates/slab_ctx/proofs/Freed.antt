@@ -1,5 +1,5 @@
 -- Lemmas on a chunk that is freed.
-use Rattle.std.proofs.Common.{◌≡◌, ◌≢◌, ℕ, zero, suc, ◌+◌, ◌-◌, ◌<◌, ◌≤◌, ◌==◌, ◌&&◌, ◌++◌, nat_le, if◌then◌else◌, Bool, true, false, List, [], ◌∷◌, length, take, drop, Option, Some, None, slice_index, slice_set, refl, sym, ap, subst, ◌∙◌, inl, inr, arith}
+use Rattle.std.proofs.Common.{◌≡◌, ℕ, zero, suc, ◌-◌, ◌≤◌, ◌==◌, ◌&&◌, nat_le, if◌then◌else◌, true, false, List, [], ◌∷◌, slice_index, slice_set, refl, sym, ap, ◌∙◌, inl, inr, arith}
 use Rattle.std.specs.Prelude.{remove}
 use Rattle.std.proofs.lemmas.Bool.{cases_eq}
 use Rattle.std.proofs.lemmas.Bool.Decides.{nat_tests}
@@ -37,5 +37,5 @@ freed-is l place other live now empty mid after index some is middle same count 
     let test = same_test live now some is in
     let gone : remove mid other ≡ remove l.lives place = ap (λ xs. remove xs other) middle ∙ ap (remove (slice_set l.lives place (live - 1))) same ∙ remove-set l.lives place (live - 1) in
     let step : after ≡ lowered l.lives place live = after_is ∙ ap (λ t. if t && nat_le 10 empty then remove mid other else mid) test ∙ ap (λ n. if (live == 1) && nat_le 10 n then remove mid other else mid) count
-        ∙ ap (λ xs. if (live == 1) && nat_le 10 (empties l.lives) then xs else mid) gone ∙ ap (λ xs. if (live == 1) && nat_le 10 (empties l.lives) then remove l.lives place else xs) middle in
+    ∙ ap (λ xs. if (live == 1) && nat_le 10 (empties l.lives) then xs else mid) gone ∙ ap (λ xs. if (live == 1) && nat_le 10 (empties l.lives) then remove l.lives place else xs) middle in
     ap (λ xs. record { size = l.size; lives = xs }) (step ∙ ap (lowered l.lives place) (sym index))

@@ -1,21 +1,20 @@
 -- Lemmas on what a Slab has in a space with its free chunks.
-use Rattle.std.proofs.Common.{◌≡◌, ◌≢◌, ℕ, ◌+◌, ◌-◌, ◌*◌, ◌/◌, ◌%◌, ◌<◌, ◌≤◌, ◌⊎◌, ◌==◌, ◌&&◌, nat_le, if◌then◌else◌, Bool, true, false, List, Option, Some, None, refl, sym, ap, subst, ◌∙◌, inl, inr, arith}
+use Rattle.std.proofs.Common.{◌≡◌, ◌≢◌, ℕ, ◌+◌, ◌-◌, ◌/◌, ◌%◌, ◌<◌, ◌≤◌, ◌==◌, if◌then◌else◌, Bool, true, false, List, Option, Some, None, refl, sym, ap, subst, ◌∙◌, inl, inr, arith}
 use Rattle.std.specs.Global.{Vec}
 use Rattle.std.proofs.Math.Nat.{mod-eq-sub-div-mul, div-mul-le_self}
-use Rattle.std.proofs.lemmas.Bool.{cases_eq, cases_lt}
 use Rattle.std.proofs.lemmas.Bool.Decides.{nat_tests}
 use Rattle.addr_space.specs.declared.Addr.{Addr}
 use Rattle.addr_space.specs.Space.{Space}
-use Rattle.addr_space.specs.Footprint.{Footprint, IsSound, Agrees, Moves, Keeps, nothing, counted}
+use Rattle.addr_space.specs.Footprint.{Footprint, IsSound, Agrees, Moves, nothing, counted}
 use Rattle.chunk_header.specs.Header.{AllHeaded}
 use Rattle.ctx_blocks.specs.Layout.{Layout, block_at, chunk_at, then_option, mark_of, footprint as footprint_of}
 use Rattle.ctx_blocks.specs.declared.parts.Block.{Block}
 use Rattle.ctx_blocks.specs.declared.parts.Chunk.{Chunk}
 use Rattle.slab_ctx.specs.Ledger.{stride}
 use Rattle.slab_ctx.specs.State.{bare, is_slot, free_slot, free_block, free_at}
-use Rattle.slab_ctx.specs.Slots.{IsSlot, IsSlotted, chunk_of}
+use Rattle.slab_ctx.specs.Slots.{IsSlot, IsSlotted}
 use Rattle.slab_ctx.proofs.Numbers.{stride-least, stride-some, slots_apart}
-use Rattle.slab_ctx.proofs.Puts.{one_value, none_or_some, same_addr_from}
+use Rattle.slab_ctx.proofs.Puts.{none_or_some, same_addr_from}
 
 -- what the context has in a space: what the blocks have, and the free chunks
 abbrev pub full : ℕ → Layout → Footprint
@@ -170,15 +169,15 @@ Moves-gone size account context l sp sq moves =
 pub AllHeaded-full : (size : ℕ) (l : Layout) → AllHeaded (footprint_of l) → AllHeaded (full size (bare l))
 AllHeaded-full size l headed =
     let more : AllHeaded (full size l) = λ at n live.
-        let it = headed at n live in
-        record {
-          header = it.header;
-          size = it.size;
-          packable = it.packable;
-          leading = it.leading;
-          behind = it.behind;
-          large = it.large;
-          word = it.word;
-          block = it.block;
-        } in
+    let it = headed at n live in
+    record {
+      header = it.header;
+      size = it.size;
+      packable = it.packable;
+      leading = it.leading;
+      behind = it.behind;
+      large = it.large;
+      word = it.word;
+      block = it.block;
+    } in
     subst AllHeaded (sym (full-bare size l)) more

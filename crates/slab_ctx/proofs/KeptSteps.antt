@@ -1,17 +1,16 @@
 -- What the code keeps, after a step.
-use Rattle.std.proofs.Common.{◌≡◌, ◌≢◌, ℕ, ◌+◌, ◌-◌, ◌*◌, ◌^◌, ◌<◌, ◌≤◌, ◌++◌, List, [], ◌∷◌, length, Some, None, slice_index, slice_set, sum_by, refl, sym, ap, subst, ◌∙◌, arith}
-use Rattle.std.specs.Prelude.{remove}
+use Rattle.std.proofs.Common.{◌≡◌, ◌≢◌, ℕ, ◌+◌, ◌-◌, ◌^◌, ◌≤◌, ◌++◌, List, [], ◌∷◌, length, Some, None, slice_index, slice_set, sum_by, sym, ap, subst, ◌∙◌, arith}
 use Rattle.std.proofs.lemmas.List.{length-set, length-append}
 use Rattle.std.proofs.lemmas.List.Edits.{length-remove}
 use Rattle.std.proofs.lemmas.List.Sums.{sum_by-append, sum_by-cons}
-use Rattle.ctx_blocks.specs.Layout.{Layout, block_at, total}
+use Rattle.ctx_blocks.specs.Layout.{block_at, total}
 use Rattle.ctx_blocks.specs.Steps.{PutsBlock, DropsBlock, SameContext}
 use Rattle.ctx_blocks.specs.declared.parts.Block.{Block}
 use Rattle.slab_ctx.specs.Ledger.{is_empty, empties, free_in, free_chunks, per_block}
 use Rattle.slab_ctx.specs.State.{others, lives_of, place_in}
 use Rattle.slab_ctx.specs.Slots.{HasSlots, first_region}
 use Rattle.slab_ctx.specs.Counts.{Counts}
-use Rattle.slab_ctx.specs.Kept.{ledger_of, IsListed, IsKeptBut, IsKept}
+use Rattle.slab_ctx.specs.Kept.{ledger_of, IsKeptBut, IsKept}
 use Rattle.slab_ctx.specs.declared.books.Books.{Books}
 use Rattle.slab_ctx.proofs.Bounds.{free-is}
 use Rattle.slab_ctx.proofs.Listed.{IsListed-none, total-none, lives-none, IsListed-put, lives-added, lives-changed, total-changed, IsListed-drop, lives-dropped, place-live, sum-set, sum-remove}

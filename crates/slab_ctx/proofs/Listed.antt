@@ -1,15 +1,13 @@
 -- Lemmas on the list of a Slab's blocks.
-use Rattle.std.proofs.Common.{◌≡◌, ◌≢◌, ℕ, ◌+◌, ◌-◌, ◌*◌, ◌<◌, ◌≤◌, ◌==◌, ◌++◌, if◌then◌else◌, true, false, List, [], ◌∷◌, length, map, Option, Some, None, slice_index, slice_set, sum_by, unwrap_or, option_map, refl, sym, ap, subst, ◌∙◌, arith}
+use Rattle.std.proofs.Common.{◌≡◌, ◌≢◌, ℕ, ◌+◌, ◌<◌, ◌==◌, ◌++◌, if◌then◌else◌, List, [], ◌∷◌, length, map, Some, None, slice_index, slice_set, sum_by, unwrap_or, option_map, sym, ap, ◌∙◌, arith}
 use Rattle.std.specs.Prelude.{remove}
-use Rattle.std.specs.Map.{lookup, values_of}
-use Rattle.std.proofs.lemmas.List.{length-set}
+use Rattle.std.specs.Map.{values_of}
 use Rattle.std.proofs.lemmas.List.Sums.{sum_by-set, sum_by-remove}
 use Rattle.ctx_blocks.specs.Layout.{Layout, block_at, total}
 use Rattle.ctx_blocks.specs.Steps.{with_block, without_block, PutsBlock, DropsBlock, SameContext}
 use Rattle.ctx_blocks.specs.declared.parts.Block.{Block}
 use Rattle.slab_ctx.specs.State.{others, live_of, lives_of, place_in}
 use Rattle.slab_ctx.specs.Slots.{first_region}
-use Rattle.slab_ctx.specs.Counts.{Counts}
 use Rattle.slab_ctx.specs.Kept.{IsListed}
 use Rattle.slab_ctx.proofs.Sums.{sum_by-insert}
 use Rattle.slab_ctx.proofs.Lives.{find, ne_test, lives-put, put-new, place-new, lives-new, alone-put, alone-drop, place-found, place-kept, lives-drop}

@@ -1,17 +1,16 @@
 -- Lemmas on where the chunks of a Slab may stand.
-use Rattle.std.proofs.Common.{◌≡◌, ◌≢◌, ℕ, ◌+◌, ◌-◌, ◌*◌, ◌/◌, ◌%◌, ◌<◌, ◌≤◌, ◌⊎◌, ◌==◌, if◌then◌else◌, false, length, Some, None, slice_index, refl, sym, ap, subst, ◌∙◌, inl, inr, arith, List}
+use Rattle.std.proofs.Common.{◌≡◌, ◌≢◌, ℕ, ◌+◌, ◌-◌, ◌*◌, ◌/◌, ◌%◌, ◌<◌, ◌≤◌, ◌⊎◌, ◌==◌, if◌then◌else◌, false, length, Some, slice_index, sym, ap, ◌∙◌, inl, inr, arith, List}
 use Rattle.std.specs.Global.{Vec}
 use Rattle.std.proofs.lemmas.Bool.Decides.{nat_tests}
 use Rattle.std.proofs.Math.Nat.{mul_assoc}
 use Rattle.addr_space.specs.declared.Addr.{Addr}
 use Rattle.ctx_blocks.specs.Layout.{Layout, block_at, chunk_at, gap_of, header_room, start_of}
-use Rattle.ctx_blocks.specs.Kept.{IsClear}
 use Rattle.ctx_blocks.specs.declared.parts.Block.{Block}
 use Rattle.ctx_blocks.specs.declared.parts.Chunk.{Chunk}
 use Rattle.slab_ctx.specs.Ledger.{stride, per_block}
-use Rattle.slab_ctx.specs.Slots.{IsSlot, IsFree, IsFilled, IsSlotted, stack_at, at_offset, chunk_of}
-use Rattle.slab_ctx.proofs.Numbers.{stride-least, stride-some, stride-whole, per_block-most, per_block-fits, slots_apart}
-use Rattle.slab_ctx.proofs.Puts.{one_value, none_or_some}
+use Rattle.slab_ctx.specs.Slots.{IsSlot, IsFree, IsFilled, IsSlotted, stack_at, at_offset}
+use Rattle.slab_ctx.proofs.Numbers.{stride-some, stride-whole, per_block-most, per_block-fits, slots_apart}
+use Rattle.slab_ctx.proofs.Puts.{none_or_some}
 
 -- slots begin at multiples of 8
 pub slot-whole : (size offset : ℕ) → IsSlot size offset → offset % 8 ≡ 0

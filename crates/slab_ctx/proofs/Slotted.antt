@@ -1,20 +1,18 @@
 -- Lemmas on the slots of a Slab's blocks: what holds of them stays when one block changes.
-use Rattle.std.proofs.Common.{◌≡◌, ◌≢◌, ℕ, ◌+◌, ◌-◌, ◌*◌, ◌<◌, ◌≤◌, ◌==◌, if◌then◌else◌, true, false, List, [], ◌∷◌, length, Option, Some, None, slice_index, slice_set, refl, sym, ap, subst, ◌∙◌, inl, inr, arith}
+use Rattle.std.proofs.Common.{◌≡◌, ◌≢◌, ℕ, ◌≤◌, ◌==◌, if◌then◌else◌, true, false, List, [], ◌∷◌, length, Some, None, slice_index, refl, sym, ap, subst, ◌∙◌, inl, inr, arith}
 use Rattle.std.specs.Global.{Vec}
-use Rattle.std.proofs.lemmas.Bool.{cases_eq, cases_lt}
-use Rattle.std.proofs.lemmas.List.{length-set, get_or-set_same, get_or-set_other}
+use Rattle.std.proofs.lemmas.Bool.{cases_eq}
 use Rattle.addr_space.specs.declared.Addr.{Addr}
 use Rattle.std.specs.Map.{lookup}
 use Rattle.std.proofs.lemmas.Bool.Decides.{nat_tests}
 use Rattle.chunk_header.specs.declared.Kind.TheVariants.{Slab}
 use Rattle.ctx_blocks.specs.Layout.{Layout, same_addr, block_at, chunk_at}
-use Rattle.ctx_blocks.specs.Steps.{PutsBlock, DropsBlock, PutsChunk, SameContext}
+use Rattle.ctx_blocks.specs.Steps.{PutsBlock, DropsBlock, SameContext}
 use Rattle.ctx_blocks.specs.declared.parts.Block.{Block}
 use Rattle.ctx_blocks.specs.declared.parts.Chunk.{Chunk}
-use Rattle.slab_ctx.specs.Ledger.{stride, per_block}
-use Rattle.slab_ctx.specs.Slots.{IsSlot, IsFree, IsFilled, IsSlotted, stack_at, at_offset, chunk_of, first_region}
-use Rattle.slab_ctx.proofs.Numbers.{stride-least, stride-some}
-use Rattle.slab_ctx.proofs.Puts.{one_value, none_or_some, chunk_cases, chunk_apart, block_cases, drop_cases}
+use Rattle.slab_ctx.specs.Ledger.{per_block}
+use Rattle.slab_ctx.specs.Slots.{IsSlot, IsFilled, IsSlotted, stack_at, at_offset, chunk_of, first_region}
+use Rattle.slab_ctx.proofs.Puts.{one_value, none_or_some, block_cases, drop_cases}
 
 -- a block keeps its chunks and its stack
 IsFilled-kept : (l m : Layout) (size number : ℕ) (block : Block) (stack other : List ℕ) → other ≡ stack → ((offset : ℕ) → chunk_at m (at_offset number offset) ≡ chunk_at l (at_offset number offset)) → IsFilled l size number block stack → IsFilled m size number block other

@@ -1,9 +1,9 @@
 -- How the number of a block's live chunks changes.
-use Rattle.std.specs.Prelude.{◌≡◌, ℕ, ◌-◌, ◌+◌, ◌≤◌, ◌<◌, List, [], ◌∷◌, map, Option, Some, None, ◌==◌, if◌then◌else◌}
+use Rattle.std.specs.Prelude.{◌≡◌, ℕ, ◌-◌, ◌+◌, ◌≤◌, List, [], ◌∷◌, map, Option, Some, None, ◌==◌, if◌then◌else◌}
 use Rattle.slab_ctx.specs.Ledger.{fullest}
 use Rattle.slab_ctx.specs.State.{live_of}
 use Rattle.slab_ctx.specs.declared.books.Best.{Best}
-use Rattle.ctx_blocks.specs.Layout.{Layout, block_at}
+use Rattle.ctx_blocks.specs.Layout.{Layout}
 use Rattle.ctx_blocks.specs.Steps.{PutsBlock}
 use Rattle.ctx_blocks.specs.declared.parts.Block.{Block}
 

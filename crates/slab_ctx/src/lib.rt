@@ -1,7 +1,7 @@
 //! A Slab: a memory context whose chunks all have one size.
 #![tactic(auto)]
 
-ghost use Rattle.std.specs.Prelude.{◌≡◌, ℕ, ◌+◌, ◌-◌, ◌<◌, ◌≤◌, ◌↔◌, ◌⊎◌, Ok, Err, None, Some, IsSome, IfOk, IfErr, IfSome, OnOk, OnErr, min};
+ghost use Rattle.std.specs.Prelude.{◌≡◌, ℕ, ◌+◌, ◌-◌, ◌<◌, ◌≤◌, ◌↔◌, ◌⊎◌, Ok, Err, None, Some, IsSome, IfOk, IfErr, IfSome, OnOk, OnErr};
 ghost use Rattle.addr_space.specs.declared.Addr.{Addr};
 ghost use Rattle.slab_ctx.specs.Ledger.{stats, take, resized};
 
@@ -34,8 +34,8 @@ impl Model for SlabCtx {
 }
 
 impl SlabCtx {
-    ghost use Rattle.addr_space.specs.Space.{accounts, held, byte_at, IsKnown};
-    ghost use Rattle.addr_space.specs.Footprint.{nothing, Agrees, Moves, Keeps, KeepsBut};
+    ghost use Rattle.addr_space.specs.Space.{accounts, held, IsKnown};
+    ghost use Rattle.addr_space.specs.Footprint.{nothing, Agrees, Moves, Keeps};
     ghost use Rattle.chunk_header.specs.Header.{AllHeaded};
     ghost use Rattle.slab_ctx.specs.State.{footprint, account_of, place_of};
     ghost use Rattle.slab_ctx.specs.Ledger.{created, freed};
@@ -144,6 +144,8 @@ impl SlabCtx {
         ensures ledger { OnOk result (resized self.old.ledger size ≡ Ok self.new.ledger) }
         ensures place { IfOk result (λ to. to ≡ at) }
         ensures live { IfOk result (λ to. (footprint self.new).live to ≡ Some size) }
+        ensures moves { Moves (footprint self.old) (footprint self.new) space.old space.new }
+        ensures keeps { Keeps (footprint self.old) (footprint self.new) space.old space.new }
         ensures too_big { (result ≡ Err CtxError.TooBig) ↔ (1073741823 < size) }
         ensures unsupported { (result ≡ Err CtxError.Unsupported) ↔ (resized self.old.ledger size ≡ Err CtxError.Unsupported) }
         ensures no_other { IfErr result (λ e. (e ≡ CtxError.TooBig) ⊎ (e ≡ CtxError.Unsupported)) }

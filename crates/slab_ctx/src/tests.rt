@@ -1,3 +1,5 @@
+ghost use Rattle.std.specs.Prelude.{◌≤◌};
+
 use super::*;
 use std::test::Fail;
 
@@ -12,32 +14,25 @@ fn with_one(rt: &HostRuntime, size: u32) -> Result<Stats, Fail>
     Ok(slab.stats())
 }
 
-#[test]
-fn one_chunk(rt: HostRuntime) -> Result<(), Fail> {
-    let row = |free, chunks| Stats {
+// The numbers of a context with one block.
+fn row(free: u64, chunks: u64) -> Stats {
+    Stats {
         total: 8392,
         blocks: 1,
         free,
         chunks,
-    };
-    let stats = [with_one(&rt, 1)?, with_one(&rt, 64)?, with_one(&rt, 1024)?];
-    assert_eq!(rt; stats, [row(8128, 508), row(8064, 112), row(6192, 6)]);
-    Ok(())
+    }
 }
 
 #[test]
-fn twelve_blocks(rt: HostRuntime) -> Result<(), Fail> {
-    let mut space = Space::new(rt.alloc(), 1, 1_000_000)?;
-    let mut slab = SlabCtx::create(rt.alloc(), &mut space, 0, 7, 64)?;
-    let mut chunks = Vec::new(rt.alloc());
-    for _ in 0..12 * 113 {
-        let at = slab.alloc(&mut space, 64)?;
-        chunks.push(at)?;
-    }
-    for index in 0..chunks.len() {
-        slab.free(&mut space, chunks[index])?;
-    }
-    assert_eq!(rt; slab.stats(), Stats { total: 82120, blocks: 10, free: 81360, chunks: 1130 });
+fn one_chunk(rt: HostRuntime) -> Result<(), Fail> {
+    let small = with_one(&rt, 1)?;
+    let middle = with_one(&rt, 64)?;
+    let large = with_one(&rt, 1024)?;
+    assert_eq!(rt;
+        (small, middle, large),
+        (row(8128, 508), row(8064, 112), row(6192, 6))
+    );
     Ok(())
 }
 
@@ -47,8 +42,8 @@ fn each_call(rt: HostRuntime) -> Result<(), Fail> {
     let mut slab = SlabCtx::create(rt.alloc(), &mut space, 0, 7, 64)?;
     let at = slab.alloc(&mut space, 64)?;
     let other = slab.alloc(&mut space, 65);
-    let same = slab.realloc(&mut space, at, 0, 64)?;
-    slab.free(&mut space, same)?;
+    slab.realloc(&mut space, at, 0, 64)?;
+    slab.free(&mut space, at)?;
     let again = slab.alloc(&mut space, 64)?;
     slab.headed();
     slab.reset(&mut space);

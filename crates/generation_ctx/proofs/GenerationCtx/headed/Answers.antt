@@ -1,4 +1,3 @@
-use Rattle.chunk_header.specs.Header.{AllHeaded}
 use Rattle.generation_ctx.proofs.Seen.{footprint_spare}
 use Rattle.generation_ctx.proofs.GenerationCtx.headed.Goals as goal
 

@@ -1,4 +1,4 @@
-use Rattle.std.proofs.Common.{◌≡◌, arith}
+use Rattle.std.proofs.Common.{arith}
 use Rattle.slab_ctx.proofs.Chosen.{seen-worse, seen-better}
 use Rattle.slab_ctx.proofs.books.better.Goals.{else-free-gt0-via-then-free-gt0+else-free-best, else-free-gt0-via-else-free-gt0}
 use Rattle.slab_ctx.proofs.books.better.Goals as goal

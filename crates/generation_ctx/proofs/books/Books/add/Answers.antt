@@ -1,10 +1,9 @@
-use Rattle.std.proofs.Common.{◌≡◌, ◌≢◌, ℕ, ◌+◌, ◌-◌, ◌*◌, ◌∙◌, None, Some, min, ap, sym, subst, refl, arith}
+use Rattle.std.proofs.Common.{◌≡◌, ℕ, ◌-◌, ◌*◌, ◌∙◌, None, Some, min, ap, sym, arith}
 use Rattle.ctx_blocks.specs.Steps.{with_block}
 use Rattle.ctx_blocks.specs.Layout.{block_at}
 use Rattle.ctx_blocks.specs.declared.parts.Block.{Block}
 use Rattle.generation_ctx.specs.Ledger.{with_new, block_size, whole_block}
 use Rattle.generation_ctx.specs.Kept.{ledger_of, IsKept, IsSized}
-use Rattle.generation_ctx.specs.declared.books.Books.{Books}
 use Rattle.generation_ctx.proofs.Alone.{apart_none}
 use Rattle.generation_ctx.proofs.Kepts.{spare_none}
 use Rattle.generation_ctx.proofs.Kept.{kept_put, kept_next, were_still, next_sized}

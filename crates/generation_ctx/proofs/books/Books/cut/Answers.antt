@@ -1,7 +1,6 @@
-use Rattle.std.proofs.Common.{◌≡◌, ◌≢◌, ℕ, ◌+◌, ◌-◌, ◌<◌, ◌∙◌, Ok, Some, true, false, refl, ap, sym, subst, arith, Option}
-use Rattle.addr_space.specs.declared.Addr.{Addr}
+use Rattle.std.proofs.Common.{◌≡◌, ℕ, ◌+◌, ◌-◌, ◌∙◌, Some, false, refl, ap, sym, arith}
 use Rattle.ctx_blocks.specs.Layout.{block_at, header_room, gap_of}
-use Rattle.ctx_blocks.specs.Steps.{with_block, PutsChunk}
+use Rattle.ctx_blocks.specs.Steps.{with_block}
 use Rattle.ctx_blocks.specs.declared.parts.Block.{Block}
 use Rattle.ctx_blocks.specs.declared.parts.Chunk.{Chunk}
 use Rattle.generation_ctx.specs.Room.{granted}
@@ -30,7 +29,7 @@ returns-clause-allocates c =
     let here : block_in (ledger_of b) b.current ≡ old = block_is b b.current old is in
     let bytes : old.room - (granted c.args.size + 8) ≡ old.room - (header_room b.blocks + room) = omega (arith, gap, c.granted.ensures.value) in
     let block : record (block_in (ledger_of b) b.current) { room = (block_in (ledger_of b) b.current).room - (granted c.args.size + 8); live = (block_in (ledger_of b) b.current).live + 1 } ≡ new =
-      ap (λ (x : Block). record x { room = x.room - (granted c.args.size + 8); live = x.live + 1 }) here ∙ ap (λ (r : ℕ). record old { room = r; live = old.live + 1 }) bytes in
+    ap (λ (x : Block). record x { room = x.room - (granted c.args.size + 8); live = x.live + 1 }) here ∙ ap (λ (r : ℕ). record old { room = r; live = old.live + 1 }) bytes in
     let blocks = puts.blocks ∙ ap (with_block b.blocks.blocks b.current) (sym block) in
     let keeper = e.same.keeper in
     record {

@@ -1,8 +1,6 @@
-use Rattle.std.proofs.Common.{◌≡◌, ◌≢◌, ℕ, ◌∙◌, Some, None, Option, refl, ap, sym, arith}
-use Rattle.ctx_blocks.specs.Layout.{whole_of}
+use Rattle.std.proofs.Common.{◌≡◌, ◌≢◌, ℕ, ◌∙◌, Some, Option, refl, ap, sym, arith}
 use Rattle.generation_ctx.specs.Ledger.{GenerationLedger, emptied_other}
 use Rattle.generation_ctx.specs.Kept.{ledger_of}
-use Rattle.generation_ctx.specs.declared.books.Books.{Books}
 use Rattle.generation_ctx.proofs.Alone.{apart_live}
 use Rattle.generation_ctx.proofs.Kepts.{put_here}
 use Rattle.generation_ctx.proofs.Kept.{kept_drop, kept_spare, were_still}

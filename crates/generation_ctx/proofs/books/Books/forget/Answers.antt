@@ -1,8 +1,7 @@
-use Rattle.std.proofs.Common.{◌≡◌, ℕ, ◌+◌, ◌-◌, ◌≤◌, ◌∙◌, refl, ap, sym, arith}
+use Rattle.std.proofs.Common.{◌∙◌, refl, ap, sym, arith}
 use Rattle.ctx_blocks.specs.Steps.{with_block}
 use Rattle.ctx_blocks.specs.declared.parts.Block.{Block}
-use Rattle.generation_ctx.specs.Ledger.{block_in, lessened}
-use Rattle.generation_ctx.specs.Kept.{ledger_of}
+use Rattle.generation_ctx.specs.Ledger.{lessened}
 use Rattle.generation_ctx.proofs.Found.{block_is}
 use Rattle.generation_ctx.proofs.Kepts.{put_here}
 use Rattle.generation_ctx.proofs.Forgotten.{less_one, kept_less}

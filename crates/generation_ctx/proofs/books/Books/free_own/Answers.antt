@@ -1,11 +1,8 @@
 use Rattle.std.proofs.Common.{◌≡◌, ◌≢◌, ℕ, ◌+◌, ◌-◌, ◌≤◌, ◌∙◌, refl, ap, sym, arith, true}
-use Rattle.addr_space.specs.Footprint.{Moves}
 use Rattle.addr_space.proofs.Steps.{Moves-more}
 use Rattle.ctx_blocks.specs.Layout.{footprint, block_at}
-use Rattle.ctx_blocks.specs.Steps.{with_block, without_block}
-use Rattle.ctx_blocks.specs.declared.parts.Block.{Block}
-use Rattle.generation_ctx.specs.Ledger.{freed, given}
-use Rattle.generation_ctx.specs.Kept.{ledger_of}
+use Rattle.ctx_blocks.specs.Steps.{without_block}
+use Rattle.generation_ctx.specs.Ledger.{freed}
 use Rattle.generation_ctx.proofs.Lists.{put_away}
 use Rattle.generation_ctx.proofs.Alone.{apart_live}
 use Rattle.generation_ctx.proofs.Kepts.{put_here, spare_live}

@@ -1,6 +1,6 @@
-use Rattle.std.proofs.Common.{◌≡◌, ◌≢◌, ℕ, ◌-◌, ◌∙◌, refl, ap, sym, arith, false}
+use Rattle.std.proofs.Common.{◌≡◌, ◌≢◌, ◌∙◌, ap, sym, arith}
 use Rattle.ctx_blocks.specs.declared.parts.Block.{Block}
-use Rattle.generation_ctx.specs.Ledger.{GenerationLedger, block_in, freed, lessened, emptied}
+use Rattle.generation_ctx.specs.Ledger.{GenerationLedger, block_in, emptied}
 use Rattle.generation_ctx.specs.Kept.{ledger_of}
 use Rattle.generation_ctx.proofs.Refilled.{less_found, emptied_less, freed-last, freed-more}
 use Rattle.generation_ctx.proofs.Steps.{frees_more}

@@ -1,4 +1,4 @@
-use Rattle.std.proofs.Common.{◌≡◌, ◌≢◌, ℕ, ◌+◌, ◌-◌, ◌<◌, ◌≤◌, Option, Some, None, IsSome, Ok, Err, Result, ap, sym, ◌∙◌, arith, subst}
+use Rattle.std.proofs.Common.{◌≡◌, ◌≢◌, ℕ, ◌+◌, ◌-◌, ◌<◌, Option, Some, None, IsSome, Ok, Err, Result, ap, sym, ◌∙◌, arith, subst}
 use Rattle.addr_space.specs.declared.Addr.{Addr}
 use Rattle.addr_space.specs.Space.{held, byte_at}
 use Rattle.addr_space.proofs.Steps.{Moves-more}
@@ -7,7 +7,7 @@ use Rattle.chunk_header.specs.declared.CtxError.TheVariants.{NoSpace}
 use Rattle.ctx_blocks.specs.Layout.{chunk_at, footprint, then_option}
 use Rattle.ctx_blocks.specs.declared.parts.Chunk.{Chunk}
 use Rattle.generation_ctx.specs.Room.{granted}
-use Rattle.generation_ctx.specs.Ledger.{GenerationLedger, take, moved, resized}
+use Rattle.generation_ctx.specs.Ledger.{GenerationLedger, moved}
 use Rattle.generation_ctx.specs.Kept.{ledger_of}
 use Rattle.generation_ctx.proofs.Addrs.{stays, put_there}
 use Rattle.generation_ctx.proofs.Lives.{live_put, fresh_put}
@@ -64,16 +64,16 @@ returns-in-Ok-clause-ok c =
       fresh = λ ne. fresh_put b to ok.fresh;
       live = live_moves (footprint b) (footprint m) (footprint n) at to size (apart it) first second;
       bytes = λ k below.
-        (let short : k < size = omega (arith, below, c.requires.keep) in
-        f.keeps to size size k (live_of (chunk_at m to) new in_m) (live_of (chunk_at n to) new in_n) short short ∙ c.carry.ensures.copied k below ∙ kept_bytes it k below);
+          (let short : k < size = omega (arith, below, c.requires.keep) in
+          f.keeps to size size k (live_of (chunk_at m to) new in_m) (live_of (chunk_at n to) new in_n) short short ∙ c.carry.ensures.copied k below ∙ kept_bytes it k below);
       moves = Moves-more (footprint b) (footprint m) (footprint n) s t u ok.moves (Moves-more (footprint m) (footprint m) (footprint n) t v u c.carry.ensures.moves f.moves);
       keeps = λ other p q k ne live again below short.
-        (let ne_to : to ≢ other = λ e.
+          (let ne_to : to ≢ other = λ e.
           (let none : (footprint b).live other ≡ None = subst (λ (x : Addr). (footprint b).live x ≡ None) e (fresh_put b to ok.fresh) in
           let clash : Some p ≡ None = sym live ∙ none in
           absurd (cc)) in
-        let middle : (footprint m).live other ≡ Some p = ap (λ (o : Option Chunk). then_option o (λ (x : Chunk). Some x.size)) (stays b m to other (Some new) ok.chunk ne_to) ∙ live in
-        f.keeps other p q k middle again below short ∙ c.carry.ensures.keeps other p p k (λ e. ne_to (sym e)) middle middle below below ∙ ok.keeps other p p k live middle below below);
+          let middle : (footprint m).live other ≡ Some p = ap (λ (o : Option Chunk). then_option o (λ (x : Chunk). Some x.size)) (stays b m to other (Some new) ok.chunk ne_to) ∙ live in
+          f.keeps other p q k middle again below short ∙ c.carry.ensures.keeps other p p k (λ e. ne_to (sym e)) middle middle below below ∙ ok.keeps other p p k live middle below below);
     }
 
 pub returns-in-Ok-clause-ledger : goal.returns-in-Ok-clause-ledger

@@ -1,4 +1,4 @@
-use Rattle.std.proofs.Common.{◌≡◌, ◌∙◌, ℕ, None, refl, ap, sym}
+use Rattle.std.proofs.Common.{◌≡◌, ◌∙◌, ℕ, None, refl, ap}
 use Rattle.generation_ctx.specs.Ledger.{created}
 use Rattle.generation_ctx.specs.Kept.{IsSized}
 use Rattle.generation_ctx.specs.declared.books.Books.{Books}

@@ -1,10 +1,9 @@
-use Rattle.std.proofs.Common.{◌≡◌, ℕ, ◌-◌, sym, subst, Result, Ok, Err, IfOk, OnErr}
+use Rattle.std.proofs.Common.{◌-◌, sym, subst, IfOk}
 use Rattle.addr_space.specs.Space.{held}
 use Rattle.ctx_blocks.specs.Layout.{Layout}
 use Rattle.generation_ctx.specs.Ledger.{take}
 use Rattle.generation_ctx.specs.Kept.{ledger_of, IsKept}
 use Rattle.generation_ctx.specs.Steps.{Allocates}
-use Rattle.generation_ctx.specs.declared.books.Books.{Books}
 use Rattle.generation_ctx.proofs.Answered.{if_ok, on_err}
 use Rattle.generation_ctx.proofs.Kept.{kept_made}
 use Rattle.generation_ctx.proofs.Steps.{allocates_made}

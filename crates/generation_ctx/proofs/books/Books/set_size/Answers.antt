@@ -1,8 +1,7 @@
-use Rattle.std.proofs.Common.{◌≡◌, ℕ, ◌≤◌, ◌∙◌, Some, Ok, refl, ap, sym, arith}
-use Rattle.ctx_blocks.specs.Layout.{chunk_at, footprint}
+use Rattle.std.proofs.Common.{◌≡◌, ◌≤◌, ◌∙◌, Some, Ok, refl, ap, sym, arith}
+use Rattle.ctx_blocks.specs.Layout.{footprint}
 use Rattle.ctx_blocks.specs.declared.parts.Chunk.{Chunk}
 use Rattle.generation_ctx.specs.Kept.{ledger_of}
-use Rattle.generation_ctx.specs.declared.books.Books.{Books}
 use Rattle.generation_ctx.proofs.Lives.{live_put}
 use Rattle.generation_ctx.proofs.Sizes.{kept_sized}
 use Rattle.generation_ctx.proofs.Resizes.{resized-stays, live_stays}

@@ -1,4 +1,4 @@
-use Rattle.std.proofs.Common.{◌≡◌, ◌≢◌, ℕ, ◌∙◌, sym, ap, arith}
+use Rattle.std.proofs.Common.{◌≡◌, ◌≢◌, sym, arith}
 use Rattle.generation_ctx.specs.Ledger.{block_in}
 use Rattle.generation_ctx.specs.Kept.{ledger_of}
 use Rattle.generation_ctx.proofs.Ledgers.{stopped-keeper, stopped-empty, stopped-used}

@@ -1,6 +1,4 @@
-use Rattle.std.proofs.Common.{◌≡◌, ℕ, ◌-◌, ◌∙◌, arith, Ok, Err, IfOk, ap, subst, sym}
-use Rattle.addr_space.specs.declared.Addr.{Addr}
-use Rattle.addr_space.specs.Space.{held}
+use Rattle.std.proofs.Common.{arith}
 use Rattle.generation_ctx.specs.Kept.{ledger_of}
 use Rattle.generation_ctx.proofs.Answered.{if_ok}
 use Rattle.generation_ctx.proofs.Ledgers.{take-own, take-cut}

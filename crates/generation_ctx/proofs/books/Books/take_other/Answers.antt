@@ -1,4 +1,4 @@
-use Rattle.std.proofs.Common.{◌≡◌, ℕ, ◌+◌, ◌-◌, ◌<◌, ◌≤◌, Option, Some, None, Ok, Err, ap, sym, ◌∙◌, arith}
+use Rattle.std.proofs.Common.{◌≡◌, ℕ, ◌+◌, ◌-◌, ◌<◌, ◌≤◌, Option, Some, None, Ok, Err, ap, sym, ◌∙◌}
 use Rattle.addr_space.specs.Space.{held}
 use Rattle.chunk_header.specs.declared.CtxError.TheVariants.{NoSpace}
 use Rattle.generation_ctx.specs.Room.{granted}
@@ -18,7 +18,7 @@ returns-in-Some-clause-ok c =
     let r = c.cut.result.region in
     let value : Some number ≡ chosen l bytes = c.in-Some.ensures.value ∙ ap (λ g. chosen l (g + 8)) c.granted-bytes.ensures.value in
     let step : take_cut l left r bytes ≡ Ok (cut_off (ledger_of c.turn_to.new.self) bytes) =
-      take_cut-from l left r bytes c.requires.little ∙ ap (λ (o : Option ℕ). take_from o l left r bytes) (sym value) ∙ take_from-other l left r bytes number ∙ ap (λ (x : GenerationLedger). Ok (cut_off x bytes)) (sym c.turn_to.ensures.rearranges.ledger_is) in
+    take_cut-from l left r bytes c.requires.little ∙ ap (λ (o : Option ℕ). take_from o l left r bytes) (sym value) ∙ take_from-other l left r bytes number ∙ ap (λ (x : GenerationLedger). Ok (cut_off x bytes)) (sym c.turn_to.ensures.rearranges.ledger_is) in
     rw step (allocates_more b c.turn_to.new.self c.cut.new.self c.args.space.now c.turn_to.new.space c.cut.new.space c.args.size c.cut.result _ _ c.turn_to.ensures.rearranges c.cut.ensures.allocates)
 
 pub returns-in-Ok-clause-ok : goal.returns-in-Ok-clause-ok
@@ -40,7 +40,7 @@ returns-in-Ok-clause-ok c =
     let added : ledger_of a ≡ with_new l number (block_size l bytes) = c.in-Ok.ensures.ok.ledger_is ∙ ap (λ g. with_new l number (block_size l g)) same in
     let ledger : ledger_of m ≡ turned (with_new l number (block_size l bytes)) number = c.turn_to-in-Ok.ensures.rearranges.ledger_is ∙ ap (λ (x : GenerationLedger). turned x number) added in
     let step : take_cut l left r bytes ≡ Ok (cut_off (ledger_of m) bytes) =
-      take_cut-from l left r bytes c.requires.little ∙ ap (λ (o : Option ℕ). take_from o l left r bytes) (sym value) ∙ take_from-new l left r bytes fits ∙ ap (λ k. Ok (cut_off (turned (with_new l k (block_size l bytes)) k) bytes)) region ∙ ap (λ (x : GenerationLedger). Ok (cut_off x bytes)) (sym ledger) in
+    take_cut-from l left r bytes c.requires.little ∙ ap (λ (o : Option ℕ). take_from o l left r bytes) (sym value) ∙ take_from-new l left r bytes fits ∙ ap (λ k. Ok (cut_off (turned (with_new l k (block_size l bytes)) k) bytes)) region ∙ ap (λ (x : GenerationLedger). Ok (cut_off x bytes)) (sym ledger) in
     rw step (allocates_more b a n s c.add.new.space c.cut-in-Ok.new.space c.args.size c.cut-in-Ok.result _ _ c.in-Ok.ensures.ok (allocates_more a m n c.add.new.space c.turn_to-in-Ok.new.space c.cut-in-Ok.new.space c.args.size c.cut-in-Ok.result _ _ c.turn_to-in-Ok.ensures.rearranges c.cut-in-Ok.ensures.allocates))
 
 pub returns-in-Err-clause-no_space : goal.returns-in-Err-clause-no_space

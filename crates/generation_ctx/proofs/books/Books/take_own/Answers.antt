@@ -1,15 +1,12 @@
-use Rattle.std.proofs.Common.{◌≡◌, ◌≢◌, ℕ, ◌+◌, ◌-◌, ◌<◌, ◌≤◌, Ok, Err, Some, None, true, false, refl, ap, sym, ◌∙◌, arith}
+use Rattle.std.proofs.Common.{◌≡◌, ◌≢◌, ℕ, ◌+◌, ◌-◌, Ok, Err, Some, None, true, refl, ap, sym, ◌∙◌, arith}
 use Rattle.addr_space.specs.Space.{held}
 use Rattle.addr_space.proofs.Steps.{Moves-more}
 use Rattle.chunk_header.specs.declared.CtxError.TheVariants.{NoSpace}
 use Rattle.ctx_blocks.specs.Layout.{block_at, header_room, gap_of, footprint}
 use Rattle.ctx_blocks.specs.Steps.{with_block}
 use Rattle.ctx_blocks.specs.declared.parts.Block.{Block}
-use Rattle.ctx_blocks.specs.declared.parts.Chunk.{Chunk}
-use Rattle.generation_ctx.specs.Room.{granted}
-use Rattle.generation_ctx.specs.Ledger.{put, is_spare}
+use Rattle.generation_ctx.specs.Ledger.{put}
 use Rattle.generation_ctx.specs.Kept.{ledger_of, IsKept}
-use Rattle.generation_ctx.specs.declared.books.Books.{Books}
 use Rattle.generation_ctx.proofs.Lists.{put_twice}
 use Rattle.generation_ctx.proofs.Alone.{apart_none}
 use Rattle.generation_ctx.proofs.Kepts.{put_here, spare_none}

@@ -1,5 +1,5 @@
-use Rattle.std.proofs.Common.{◌≡◌, ◌∙◌, ℕ, None, sym, ap, subst, if◌then◌else◌}
-use Rattle.generation_ctx.specs.Ledger.{is_spare, turned, stopped}
+use Rattle.std.proofs.Common.{sym, subst}
+use Rattle.generation_ctx.specs.Ledger.{turned, stopped}
 use Rattle.generation_ctx.specs.Kept.{ledger_of, IsKept}
 use Rattle.generation_ctx.specs.Steps.{Rearranges}
 use Rattle.generation_ctx.specs.declared.books.Books.{Books}

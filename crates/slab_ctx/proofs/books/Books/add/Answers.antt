@@ -1,6 +1,6 @@
-use Rattle.std.proofs.Common.{◌≡◌, ◌<◌, ◌≤◌, ◌+◌, ◌-◌, Some, ap, sym, subst, ◌∙◌, arith, refl}
+use Rattle.std.proofs.Common.{◌+◌, ap, ◌∙◌, arith, refl}
 use Rattle.ctx_blocks.specs.declared.parts.Block.{Block}
-use Rattle.slab_ctx.specs.Ledger.{per_block, is_empty}
+use Rattle.slab_ctx.specs.Ledger.{per_block}
 use Rattle.slab_ctx.specs.declared.books.Books.{Books}
 use Rattle.slab_ctx.proofs.Bounds.{free-small, empty-small}
 use Rattle.slab_ctx.proofs.KeptSteps.{kept-added}
@@ -12,7 +12,6 @@ overflow_add-self c = omega (arith, empty-small c.args.self.now 0 c.requires.kep
 
 pub overflow_add-self-2 : goal.overflow_add-self-2
 overflow_add-self-2 c = omega (arith, free-small c.args.self.now 0 c.requires.kept, c.from.ensures, c.per_block.ensures.most)
-
 
 pub returns-clause-kept : goal.returns-clause-kept
 returns-clause-kept c =

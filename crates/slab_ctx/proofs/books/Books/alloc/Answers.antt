@@ -1,9 +1,9 @@
-use Rattle.std.proofs.Common.{◌≡◌, ◌≢◌, ◌<◌, ◌≤◌, ◌-◌, ◌⊎◌, ℕ, Result, Ok, Err, IfOk, IfErr, ap, sym, subst, ◌∙◌, arith, refl, inl, inr}
+use Rattle.std.proofs.Common.{◌≡◌, ◌≢◌, ◌-◌, ◌⊎◌, ℕ, Result, Ok, Err, IfOk, IfErr, sym, subst, ◌∙◌, arith, refl, inl, inr}
 use Rattle.addr_space.specs.declared.Addr.{Addr}
 use Rattle.addr_space.specs.Space.{held}
 use Rattle.chunk_header.specs.declared.CtxError.{CtxError}
 use Rattle.chunk_header.specs.declared.CtxError.TheVariants.{TooBig, NoSpace, WrongSize, Memory}
-use Rattle.slab_ctx.specs.Ledger.{SlabLedger, per_block, fullest, serve, take}
+use Rattle.slab_ctx.specs.Ledger.{per_block, fullest, serve}
 use Rattle.slab_ctx.specs.State.{SlabState, account_of, lives_of}
 use Rattle.slab_ctx.specs.Kept.{ledger_of, state_of}
 use Rattle.slab_ctx.specs.Steps.{Allocates}

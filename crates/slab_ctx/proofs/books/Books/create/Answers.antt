@@ -1,4 +1,4 @@
-use Rattle.std.proofs.Common.{◌≡◌, refl, ap, ◌∙◌}
+use Rattle.std.proofs.Common.{refl, ap, ◌∙◌}
 use Rattle.slab_ctx.specs.Ledger.{created}
 use Rattle.slab_ctx.specs.State.{lives_of}
 use Rattle.slab_ctx.proofs.Full.{Moves-made}

@@ -1,19 +1,18 @@
-use Rattle.std.proofs.Common.{◌≡◌, ◌<◌, ◌≤◌, ◌+◌, ◌-◌, ◌==◌, if◌then◌else◌, ℕ, Some, ap, sym, subst, ◌∙◌, arith, refl}
+use Rattle.std.proofs.Common.{◌≡◌, ◌+◌, ◌-◌, ◌==◌, if◌then◌else◌, ℕ, Some, ap, sym, ◌∙◌, arith}
 use Rattle.addr_space.specs.declared.Addr.{Addr}
-use Rattle.addr_space.specs.Footprint.{Footprint, Moves}
 use Rattle.addr_space.proofs.Steps.{Moves-more}
 use Rattle.std.specs.Map.{lookup}
 use Rattle.ctx_blocks.specs.declared.parts.Block.{Block}
 use Rattle.ctx_blocks.specs.Layout.{Layout, block_at, same_addr, footprint as footprint_of}
-use Rattle.slab_ctx.specs.Ledger.{SlabLedger, per_block, is_empty, freed}
+use Rattle.slab_ctx.specs.Ledger.{is_empty}
 use Rattle.slab_ctx.specs.State.{lives_of, place_in, others}
-use Rattle.slab_ctx.specs.Kept.{ledger_of, IsKeptBut}
+use Rattle.slab_ctx.specs.Kept.{ledger_of}
 use Rattle.slab_ctx.specs.declared.books.Books.{Books}
 use Rattle.slab_ctx.proofs.Bounds.{free-small}
 use Rattle.slab_ctx.proofs.Full.{Agrees-plain, Moves-full}
 use Rattle.slab_ctx.proofs.Freed.{is_empty-some, freed-is}
 use Rattle.slab_ctx.proofs.Lives.{eq_test}
-use Rattle.slab_ctx.proofs.Listed.{lives-changed, place-live, place-changed}
+use Rattle.slab_ctx.proofs.Listed.{place-live, place-changed}
 use Rattle.slab_ctx.proofs.Places.{chunks-few}
 use Rattle.slab_ctx.proofs.KeptSteps.{kept-changed, lives-counted}
 use Rattle.slab_ctx.proofs.Served.{keeps-before, size_of}
@@ -38,11 +37,13 @@ settle-requires-clause-kept c =
     let differs = c.remove.ensures.not_keeper in
     let n : Books = record { slots = c.remove.new.self; empty = b.empty; free = b.free + 1 } in
     let few = chunks-few l b.slots.size b.slots.stacks.entries c.requires.kept.slots number differs block found in
-    let one_less : is_empty counts.block.live ≡ is_empty (block.live - 1) = ap is_empty counts.count in
-    (counts.block, found_now l c.remove.new.self.blocks number counts.block counts.puts.at,
-    kept-changed b n 0 number c.requires.kept c.remove.ensures.slots c.remove.ensures.size c.remove.ensures.same differs block found (block.live - 1) counts (is_empty counts.block.live)
-    (omega (arith, one_less, is_empty-some block.live had.2))
-    (omega (arith, few, had.2)))
+    let one_less : is_empty counts.block.live ≡ is_empty (block.live - 1) = ap is_empty counts.count in (
+      counts.block,
+      found_now l c.remove.new.self.blocks number counts.block counts.puts.at,
+      kept-changed b n 0 number c.requires.kept c.remove.ensures.slots c.remove.ensures.size c.remove.ensures.same differs block found (block.live - 1) counts (is_empty counts.block.live)
+          (omega (arith, one_less, is_empty-some block.live had.2))
+          (omega (arith, few, had.2)),
+    )
 
 pub settle-requires-clause-agrees : goal.settle-requires-clause-agrees
 settle-requires-clause-agrees c =

@@ -1,5 +1,4 @@
-use Rattle.std.proofs.Common.{◌≡◌, ◌≤◌, ◌+◌, ◌-◌, refl, arith}
-use Rattle.slab_ctx.specs.Steps.{IsNext}
+use Rattle.std.proofs.Common.{refl, arith}
 use Rattle.slab_ctx.proofs.Chosen.{next-from}
 use Rattle.slab_ctx.proofs.Places.{chunks-few}
 use Rattle.slab_ctx.proofs.books.Books.fullest.Goals as goal

@@ -1,4 +1,4 @@
-use Rattle.std.proofs.Common.{◌≡◌, ℕ, ◌*◌, ◌+◌, refl, sym, ap, ◌∙◌, length, arith}
+use Rattle.std.proofs.Common.{◌≡◌, ◌*◌, ◌+◌, sym, ap, ◌∙◌, length, arith}
 use Rattle.ctx_blocks.specs.Layout.{Layout, total}
 use Rattle.ctx_blocks.specs.Steps.{SameContext}
 use Rattle.slab_ctx.specs.State.{lives_of}

@@ -1,6 +1,5 @@
-use Rattle.std.proofs.Common.{ℕ, ◌≡◌, ◌≢◌, ◌<◌, ◌≤◌, ◌==◌, nat_lt, true, false, if◌then◌else◌, Result, Ok, Err, refl, sym, ap, ◌∙◌, arith}
+use Rattle.std.proofs.Common.{ℕ, ◌≡◌, ◌≢◌, ◌<◌, ◌≤◌, ◌==◌, nat_lt, true, false, if◌then◌else◌, Ok, Err, refl, sym, ap, ◌∙◌, arith}
 use Rattle.std.proofs.lemmas.Bool.Decides.{nat_tests}
-use Rattle.chunk_header.specs.declared.CtxError.{CtxError}
 use Rattle.chunk_header.specs.declared.CtxError.TheVariants.{TooBig, Unsupported}
 use Rattle.slab_ctx.specs.Ledger.{SlabLedger, resized}
 use Rattle.slab_ctx.specs.Kept.{ledger_of}

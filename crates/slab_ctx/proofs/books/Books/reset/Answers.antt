@@ -1,8 +1,7 @@
-use Rattle.std.proofs.Common.{◌≡◌, refl, sym, ap, subst, ◌∙◌}
-use Rattle.addr_space.specs.Footprint.{Moves}
+use Rattle.std.proofs.Common.{refl, ap, ◌∙◌}
 use Rattle.slab_ctx.specs.Ledger.{created}
-use Rattle.slab_ctx.specs.State.{bare, lives_of}
-use Rattle.slab_ctx.proofs.Full.{Agrees-plain, Moves-full, full}
+use Rattle.slab_ctx.specs.State.{lives_of}
+use Rattle.slab_ctx.proofs.Full.{Agrees-plain, Moves-full}
 use Rattle.slab_ctx.proofs.KeptSteps.{kept-none}
 use Rattle.slab_ctx.proofs.Listed.{lives-none}
 use Rattle.slab_ctx.proofs.books.Books.reset.Goals as goal

@@ -1,10 +1,10 @@
-use Rattle.std.proofs.Common.{◌≡◌, ◌<◌, ◌≤◌, ◌+◌, ◌-◌, ◌++◌, List, [], ◌∷◌, ℕ, if◌then◌else◌, Some, None, Result, Ok, Err, ap, sym, subst, ◌∙◌, arith, refl}
+use Rattle.std.proofs.Common.{◌≡◌, ◌-◌, ℕ, if◌then◌else◌, Some, Ok, Err, ap, sym, ◌∙◌, refl}
 use Rattle.std.specs.Map.{lookup}
 use Rattle.addr_space.specs.declared.Addr.{Addr}
 use Rattle.addr_space.specs.Space.{held}
 use Rattle.addr_space.proofs.Steps.{Moves-more}
 use Rattle.chunk_header.specs.declared.CtxError.TheVariants.{NoSpace}
-use Rattle.ctx_blocks.specs.Layout.{Layout, same_addr, chunk_at, footprint as footprint_of}
+use Rattle.ctx_blocks.specs.Layout.{same_addr, chunk_at, footprint as footprint_of}
 use Rattle.ctx_blocks.specs.declared.parts.Block.{Block}
 use Rattle.slab_ctx.specs.Ledger.{per_block, fullest}
 use Rattle.slab_ctx.specs.State.{lives_of, place_in, others}

@@ -1,6 +1,5 @@
-use Rattle.std.proofs.Common.{◌≡◌, ℕ, ◌+◌, ◌-◌, ◌*◌, length, sym, ap, ◌∙◌, arith}
+use Rattle.std.proofs.Common.{◌≡◌, ◌+◌, ◌-◌, ◌*◌, length, ap, ◌∙◌, arith}
 use Rattle.std.proofs.lemmas.List.{length-map}
-use Rattle.ctx_blocks.specs.Layout.{Layout}
 use Rattle.chunk_header.specs.declared.Stats.{Stats}
 use Rattle.slab_ctx.specs.Ledger.{stats, stride, free_chunks}
 use Rattle.slab_ctx.specs.State.{lives_of, others, live_of}

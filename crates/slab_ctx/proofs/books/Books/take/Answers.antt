@@ -1,7 +1,7 @@
-use Rattle.std.proofs.Common.{◌≡◌, ◌<◌, ◌≤◌, ◌+◌, ◌-◌, Some, ap, sym, subst, ◌∙◌, arith}
+use Rattle.std.proofs.Common.{◌<◌, ◌+◌, ◌-◌, sym, subst, arith}
 use Rattle.ctx_blocks.specs.declared.parts.Block.{Block}
 use Rattle.ctx_blocks.specs.Layout.{block_at}
-use Rattle.slab_ctx.specs.Ledger.{per_block, is_empty}
+use Rattle.slab_ctx.specs.Ledger.{per_block}
 use Rattle.slab_ctx.specs.declared.books.Books.{Books}
 use Rattle.slab_ctx.proofs.Puts.{one_value}
 use Rattle.slab_ctx.proofs.Freed.{is_empty-some}

@@ -1,6 +1,5 @@
-use Rattle.std.proofs.Common.{◌≡◌, ℕ, ◌+◌, ◌-◌, Some, false, ap, sym, subst, ◌∙◌, refl, arith}
+use Rattle.std.proofs.Common.{◌≡◌, ◌+◌, ◌-◌, Some, false, ap, sym, subst, ◌∙◌, refl, arith}
 use Rattle.ctx_blocks.specs.declared.parts.Block.{Block}
-use Rattle.ctx_blocks.specs.declared.parts.Chunk.{Chunk}
 use Rattle.ctx_blocks.specs.Layout.{block_at, header_room}
 use Rattle.ctx_blocks.specs.Steps.{PutsBlock, PutsChunk}
 use Rattle.slab_ctx.proofs.Numbers.{stride-least, stride-whole}

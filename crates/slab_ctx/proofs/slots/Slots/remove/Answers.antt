@@ -1,10 +1,8 @@
-use Rattle.std.proofs.Common.{◌≡◌, ◌≢◌, ℕ, ◌+◌, ◌-◌, ◌≤◌, ◌==◌, if◌then◌else◌, true, false, Some, slice_set, ap, sym, subst, ◌∙◌, refl, arith}
+use Rattle.std.proofs.Common.{◌≡◌, ◌≢◌, ℕ, ◌+◌, ◌-◌, ◌≤◌, ◌==◌, if◌then◌else◌, true, false, slice_set, ap, subst, ◌∙◌, refl, arith}
 use Rattle.std.proofs.lemmas.Bool.Decides.{nat_tests}
-use Rattle.addr_space.specs.declared.Addr.{Addr}
 use Rattle.ctx_blocks.specs.declared.parts.Block.{Block}
-use Rattle.ctx_blocks.specs.Layout.{block_at, chunk_at}
-use Rattle.ctx_blocks.specs.Kept.{IsPlaced}
-use Rattle.slab_ctx.specs.Slots.{IsFilled, stack_at}
+use Rattle.ctx_blocks.specs.Layout.{block_at}
+use Rattle.slab_ctx.specs.Slots.{stack_at}
 use Rattle.slab_ctx.proofs.Places.{chunks-few}
 use Rattle.slab_ctx.proofs.Puts.{one_value}
 use Rattle.slab_ctx.proofs.Taken.{IsSlotted-removed}
@@ -60,10 +58,14 @@ returns-clause-block c =
     let chunk = c.requires.chunk.0 in
     let has = c.requires.chunk.1 in
     let b = c.owned-freed.result in
-    let found = c.owned-freed.ensures in
-    (b, found, c.laid.ensures.some c.args.at chunk b has found, record {
-      block = record b { live = b.live - 1; freed = b.freed + 1 };
-      puts = c.remove.ensures.block b found;
-      count = refl;
-      bytes = (c.requires.slots.filled c.args.at.region b (c.requires.slots.owned c.args.at chunk has) found).bytes;
-    })
+    let found = c.owned-freed.ensures in (
+      b,
+      found,
+      c.laid.ensures.some c.args.at chunk b has found,
+      record {
+        block = record b { live = b.live - 1; freed = b.freed + 1 };
+        puts = c.remove.ensures.block b found;
+        count = refl;
+        bytes = (c.requires.slots.filled c.args.at.region b (c.requires.slots.owned c.args.at chunk has) found).bytes;
+      },
+    )

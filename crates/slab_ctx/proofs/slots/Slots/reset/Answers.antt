@@ -1,6 +1,5 @@
-use Rattle.std.proofs.Common.{◌≡◌, List, [], ◌∷◌, ap, sym, ◌∙◌}
+use Rattle.std.proofs.Common.{[], ◌∷◌, ap, sym, ◌∙◌}
 use Rattle.slab_ctx.specs.Slots.{first_region}
-use Rattle.ctx_blocks.specs.declared.parts.Block.{Block}
 use Rattle.slab_ctx.proofs.Slotted.{IsSlotted-none}
 use Rattle.slab_ctx.proofs.slots.Slots.reset.Goals as goal
 

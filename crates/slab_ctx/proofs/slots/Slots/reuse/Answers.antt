@@ -1,11 +1,9 @@
-use Rattle.std.proofs.Common.{◌≡◌, ℕ, ◌+◌, ◌-◌, Some, false, ap, sym, subst, ◌∙◌, refl, arith}
+use Rattle.std.proofs.Common.{◌≡◌, ◌+◌, ◌-◌, Some, false, ap, sym, subst, ◌∙◌, refl, arith}
 use Rattle.addr_space.specs.declared.Addr.{Addr}
 use Rattle.ctx_blocks.specs.declared.parts.Block.{Block}
-use Rattle.ctx_blocks.specs.declared.parts.Chunk.{Chunk}
-use Rattle.ctx_blocks.specs.Layout.{Layout, block_at, header_room}
-use Rattle.ctx_blocks.specs.Steps.{PutsBlock, PutsChunk}
+use Rattle.ctx_blocks.specs.Steps.{PutsChunk}
 use Rattle.slab_ctx.specs.Slots.{IsFree}
-use Rattle.slab_ctx.proofs.Numbers.{stride-least, stride-whole}
+use Rattle.slab_ctx.proofs.Numbers.{stride-least}
 use Rattle.slab_ctx.proofs.Places.{gap-is, start-is, slot-least, slot-whole, last-free, depth-few, clear-of}
 use Rattle.slab_ctx.proofs.Taken.{IsSlotted-placed}
 use Rattle.slab_ctx.proofs.slots.Slots.reuse.Goals as goal

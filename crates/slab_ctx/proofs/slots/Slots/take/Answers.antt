@@ -1,4 +1,4 @@
-use Rattle.std.proofs.Common.{◌≡◌, ◌≢◌, ◌<◌, Some, ap, sym, subst, ◌∙◌, arith}
+use Rattle.std.proofs.Common.{ap, arith}
 use Rattle.ctx_blocks.specs.declared.parts.Block.{Block}
 use Rattle.slab_ctx.proofs.Places.{room-left}
 use Rattle.slab_ctx.proofs.Puts.{one_value}
