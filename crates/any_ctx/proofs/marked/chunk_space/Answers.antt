@@ -1,6 +1,6 @@
-use Rattle.std.proofs.Common.{◌≡◌, ℕ, ◌+◌, ◌-◌, ◌<◌, ◌≤◌, if◌then◌else◌, sym, ap, ◌∙◌, subst, arith}
+use Rattle.std.proofs.Common.{◌+◌, ◌-◌, if◌then◌else◌, sym, ap, ◌∙◌, subst, arith}
 use Rattle.chunk_header.specs.declared.Header.{Header}
-use Rattle.chunk_header.specs.Header.{IsMarked, IsLeading}
+use Rattle.chunk_header.specs.Header.{IsLeading}
 use Rattle.any_ctx.specs.Marked.{space_of, shared_bytes}
 use Rattle.any_ctx.proofs.marked.chunk_space.Goals as goal
 
