@@ -1,2 +1,5 @@
 -- What contracts cite.
 pub mod Marked
+pub mod Kinds
+pub mod Contexts
+pub mod Calls

@@ -1,6 +1,11 @@
 //! A memory context of any kind, and what the headers in a space tell of a chunk.
 #![tactic(auto)]
 
+mod any;
 mod marked;
 
+pub use any::{AnyCtx, CtxKind};
 pub use marked::{chunk_space, owner_of};
+
+#[cfg(test)]
+mod tests;

@@ -75,12 +75,12 @@ fn block_size(space: &Space, at: Addr, header: Header) -> u32
 ///
 /// The chunk's address is marked: each live chunk's is, but those of a Bump context.
 pub fn chunk_space(space: &Space, at: Addr) -> u64
-    requires { (context : ℕ) × (m : IsMarked space.now at context) × (m.size < 2 ^ 32) }
+    requires { (context : ℕ) × IsMarked space.now at context }
     ensures { (context : ℕ) → (m : IsMarked space.now at context) → m.size < 2 ^ 32 → result ≡ space_of m.header m.size }
 {
     let header = header_at(space, at);
     if header.own {
-        u64::from(block_size(space, at, header) - BLOCK_HEADER)
+        u64::from(block_size(space, at, header).saturating_sub(BLOCK_HEADER))
     } else {
         u64::from(shared_bytes(header) + CHUNK_HEADER)
     }

@@ -1,8 +1,7 @@
-use Rattle.std.proofs.Common.{◌≡◌, ℕ, ◌+◌, ◌-◌, Some, sym, ap, ◌∙◌, subst}
-use Rattle.addr_space.specs.declared.Addr.{Addr}
+use Rattle.std.proofs.Common.{sym, subst}
 use Rattle.addr_space.specs.Space.{HasBytes}
 use Rattle.chunk_header.specs.declared.Header.{Header}
-use Rattle.chunk_header.specs.Header.{block_bytes, block_place, IsMarked}
+use Rattle.chunk_header.specs.Header.{block_bytes, block_place}
 use Rattle.any_ctx.proofs.MarkLemmas.{length-block_bytes}
 use Rattle.any_ctx.proofs.marked.block_word.Goals as goal
 

@@ -1,6 +1,6 @@
-use Rattle.std.proofs.Common.{◌≡◌, ℕ, ◌+◌, ◌-◌, ◌<◌, ◌≤◌, if◌then◌else◌, sym, ap, ◌∙◌, subst, arith}
+use Rattle.std.proofs.Common.{◌+◌, ◌-◌, if◌then◌else◌, sym, ap, ◌∙◌, subst, arith}
 use Rattle.chunk_header.specs.declared.Header.{Header}
-use Rattle.chunk_header.specs.Header.{IsMarked, IsLeading}
+use Rattle.chunk_header.specs.Header.{IsLeading}
 use Rattle.any_ctx.specs.Marked.{space_of, shared_bytes}
 use Rattle.any_ctx.proofs.marked.chunk_space.Goals as goal
 
@@ -8,12 +8,6 @@ pub block_size-requires : goal.block_size-requires
 block_size-requires c =
     let m = c.requires.1 in
     (c.requires.0, m, c.header_at-header.ensures c.requires.0 m)
-
-pub overflow_sub-block_size : goal.overflow_sub-block_size
-overflow_sub-block_size c =
-    let m = c.requires.1 in
-    let size = c.block_size.ensures c.requires.0 m (c.header_at-header.ensures c.requires.0 m) c.requires.2 in
-    omega (arith, size, m.large)
 
 pub shared_bytes-requires-clause-value : goal.shared_bytes-requires-clause-value
 shared_bytes-requires-clause-value c =
@@ -32,7 +26,7 @@ returns-then-header c = λ context m below.
     let header = c.header_at-header.ensures context m in
     let own = sym (ap (λ (h : Header). h.own) header) ∙ c.if-header.true in
     let size = c.block_size.ensures context m header below in
-    c.from.ensures ∙ ap (λ n. n - 40) size ∙ sym (ap (λ b. if b then m.size - 40 else shared_bytes m.header.kind m.header.value + 8) own)
+    c.from.ensures ∙ c.saturating_sub.ensures ∙ ap (λ n. n - 40) size ∙ sym (ap (λ b. if b then m.size - 40 else shared_bytes m.header.kind m.header.value + 8) own)
 
 pub returns-else-header : goal.returns-else-header
 unfolding space_of

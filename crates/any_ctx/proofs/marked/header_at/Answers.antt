@@ -1,6 +1,6 @@
-use Rattle.std.proofs.Common.{◌≡◌, ℕ, length, refl, sym, ap, ◌∙◌}
+use Rattle.std.proofs.Common.{◌≡◌, ap, ◌∙◌}
 use Rattle.std.specs.Int.{from_le_bytes, w64}
-use Rattle.chunk_header.specs.Header.{header_bytes, header_place, IsMarked, word_of}
+use Rattle.chunk_header.specs.Header.{header_bytes, word_of}
 use Rattle.any_ctx.proofs.MarkLemmas.{length-header_bytes, from-header_bytes}
 use Rattle.any_ctx.proofs.marked.header_at.Goals as goal
 

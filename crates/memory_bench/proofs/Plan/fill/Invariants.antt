@@ -1,6 +1,6 @@
 use Rattle.addr_space.specs.Footprint.{Agrees}
-use Rattle.alloc_set.specs.State.{footprint}
+use Rattle.any_ctx.specs.Contexts.{footprint}
 use Rattle.memory_bench.proofs.Plan.fill.Given as goal
 
 abbrev pub invariant-loop : goal.invariant-loop
-invariant-loop l = Agrees (footprint l.set) l.space
+invariant-loop l = Agrees (footprint l.context) l.space

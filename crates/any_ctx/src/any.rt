@@ -1,0 +1,276 @@
+//! A memory context of any kind.
+ghost use Rattle.std.specs.Prelude.{◌≡◌, ◌≢◌, ℕ, ◌+◌, ◌-◌, ◌%◌, ◌<◌, ◌≤◌, ◌↔◌, ◌⊎◌, Ok, Err, None, Some, IsSome, IfOk, IfErr, IfSome, OnOk, OnErr, min};
+ghost use Rattle.addr_space.specs.declared.Addr.{Addr};
+ghost use Rattle.addr_space.specs.Space.{accounts, held, IsKnown};
+ghost use Rattle.addr_space.specs.Footprint.{nothing, Agrees, Moves, Keeps, KeepsBut};
+ghost use Rattle.chunk_header.specs.Header.{AllHeaded};
+ghost use Rattle.any_ctx.specs.Kinds.{first_size, IsSlabSize, IsCreated, IsSetOf};
+ghost use Rattle.any_ctx.specs.Contexts.{footprint, stats, IsBump};
+ghost use Rattle.any_ctx.specs.Calls.{Takes, LacksSpace, IsWrongSize, Frees, Resizes, LacksRoom, IsUnsupported, IsReset, PutsLive, MovesLive, HasBytesOf};
+
+use addr_space::{Addr, Space};
+use alloc_set::AllocSet;
+use bump_ctx::BumpCtx;
+use chunk_header::{CtxError, Sizes, Stats};
+use generation_ctx::GenerationCtx;
+use slab_ctx::SlabCtx;
+use std::alloc::Global;
+
+/// The kinds of contexts, with the sizes of their blocks.
+#[derive(Clone, Copy, PartialEq, Eq, Debug)]
+pub enum CtxKind {
+    /// An AllocSet whose first block has 8,192 bytes and whose greatest has 8,388,608.
+    Default,
+    /// An AllocSet for little: 1,024 and 8,192 bytes.
+    Small,
+    /// The AllocSet that errors are made in: 8,192 bytes each.
+    Error,
+    /// The AllocSet that transactions abort in: 32,768 bytes each.
+    Abort,
+    /// A Slab with chunks of this size, from 1 to 1,024 bytes.
+    Slab(u32),
+    /// A Generation: 8,192 and 8,388,608 bytes.
+    Generation,
+    /// A Bump: 8,192 and 8,388,608 bytes.
+    Bump,
+}
+
+/// The blocks of a context whose first one has 8,192 bytes and whose greatest has 8,388,608.
+const GREAT: Sizes = Sizes {
+    init: 8192,
+    max: 8_388_608,
+};
+
+/// A memory context of one of the kinds.
+#[derive(Drop)]
+pub enum AnyCtx {
+    /// Chunks by class, kept when they are freed.
+    AllocSet(AllocSet),
+    /// Chunks of one size.
+    Slab(SlabCtx),
+    /// Chunks that live about as long as their neighbours.
+    Generation(GenerationCtx),
+    /// Chunks without headers that are never freed.
+    Bump(BumpCtx),
+}
+
+// An AllocSet whose blocks have these sizes.
+fn set_of(
+    alloc: Global,
+    space: &mut Space,
+    account: u8,
+    context: u32,
+    sizes: Sizes,
+) -> Result<AnyCtx, CtxError>
+    requires account { account < accounts space.old }
+    requires least { 1024 ≤ sizes.init }
+    requires order { sizes.init ≤ sizes.max }
+    requires most { sizes.max ≤ 8388608 }
+    requires whole_init { sizes.init % 8 ≡ 0 }
+    requires whole_max { sizes.max % 8 ≡ 0 }
+    ensures kind { IfOk result (IsSetOf sizes.init sizes.max) }
+    ensures account { IfOk result (λ a. (footprint a).account ≡ account) }
+    ensures context { IfOk result (λ a. (footprint a).context ≡ context) }
+    ensures live { IfOk result (λ a. (at : Addr) → (footprint a).live at ≡ None) }
+    ensures moves { IfOk result (λ a. Moves (nothing account context) (footprint a) space.old space.new) }
+    ensures no_space { (result ≡ Err CtxError.NoSpace) ↔ (space.old.limit < held space.old account + sizes.init) }
+    ensures no_other { IfErr result (λ e. (e ≡ CtxError.NoSpace) ⊎ (e ≡ CtxError.Memory)) }
+    ensures err { OnErr result (space.new ≡ space.old) }
+{
+    let set = AllocSet::create(alloc, space, account, context, sizes)?;
+    Ok(AnyCtx::AllocSet(set))
+}
+
+impl AnyCtx {
+    /// A context of a kind, for an account of the space. `context` is the number that its blocks keep.
+    ///
+    /// `NoSpace` comes where the first block doesn't fit, or the first region of a Slab, and before `Memory`. A
+    /// refused call changes nothing.
+    pub fn create(
+        alloc: Global,
+        space: &mut Space,
+        account: u8,
+        context: u32,
+        kind: CtxKind,
+    ) -> Result<AnyCtx, CtxError>
+        requires account { account < accounts space.old }
+        requires slab { IsSlabSize kind }
+        ensures kind { IfOk result (IsCreated kind) }
+        ensures account { IfOk result (λ a. (footprint a).account ≡ account) }
+        ensures context { IfOk result (λ a. (footprint a).context ≡ context) }
+        ensures live { IfOk result (λ a. (at : Addr) → (footprint a).live at ≡ None) }
+        ensures moves { IfOk result (λ a. Moves (nothing account context) (footprint a) space.old space.new) }
+        ensures no_space { (result ≡ Err CtxError.NoSpace) ↔ (space.old.limit < held space.old account + first_size kind) }
+        ensures no_other { IfErr result (λ e. (e ≡ CtxError.NoSpace) ⊎ (e ≡ CtxError.Memory)) }
+        ensures err { OnErr result (space.new ≡ space.old) }
+    {
+        let small = Sizes {
+            init: 1024,
+            max: 8192,
+        };
+        let error = Sizes {
+            init: 8192,
+            max: 8192,
+        };
+        let abort = Sizes {
+            init: 32_768,
+            max: 32_768,
+        };
+        match kind {
+            CtxKind::Default => set_of(alloc, space, account, context, GREAT),
+            CtxKind::Small => set_of(alloc, space, account, context, small),
+            CtxKind::Error => set_of(alloc, space, account, context, error),
+            CtxKind::Abort => set_of(alloc, space, account, context, abort),
+            CtxKind::Slab(size) => Ok(AnyCtx::Slab(SlabCtx::create(
+                alloc, space, account, context, size,
+            )?)),
+            CtxKind::Generation => Ok(AnyCtx::Generation(GenerationCtx::create(
+                alloc, space, account, context, GREAT,
+            )?)),
+            CtxKind::Bump => Ok(AnyCtx::Bump(BumpCtx::create(
+                alloc, space, account, context, GREAT,
+            )?)),
+        }
+    }
+
+    /// Takes a chunk of `size` bytes, which may be 0, and answers its address. No byte of it is known.
+    ///
+    /// `TooBig`, where `size` is over 1,073,741,823, and `WrongSize`, where a Slab has chunks of another size, come
+    /// before `NoSpace`; `Memory` may come in place of `NoSpace`. A refused call changes nothing.
+    pub fn alloc(&mut self, space: &mut Space, size: u64) -> Result<Addr, CtxError>
+        requires { Agrees (footprint self.old) space.old }
+        ensures ledger { IfOk result (λ at. Takes self.old self.new (space.old.limit - held space.old (footprint self.old).account) at size) }
+        ensures fresh { IfOk result (λ at. (footprint self.old).live at ≡ None) }
+        ensures live { IfOk result (λ at. PutsLive (footprint self.old) (footprint self.new) at (Some size)) }
+        ensures moves { OnOk result (Moves (footprint self.old) (footprint self.new) space.old space.new) }
+        ensures keeps { OnOk result (Keeps (footprint self.old) (footprint self.new) space.old space.new) }
+        ensures too_big { (result ≡ Err CtxError.TooBig) ↔ (1073741823 < size) }
+        ensures wrong_size { (result ≡ Err CtxError.WrongSize) ↔ IsWrongSize self.old (space.old.limit - held space.old (footprint self.old).account) size }
+        ensures no_space { result ≡ Err CtxError.NoSpace → LacksSpace self.old (space.old.limit - held space.old (footprint self.old).account) size }
+        ensures supported { result ≢ Err CtxError.Unsupported }
+        ensures err { OnErr result (self.new ≡ self.old) }
+        ensures err_space { OnErr result (space.new ≡ space.old) }
+    {
+        match self {
+            AnyCtx::AllocSet(set) => set.alloc(space, size),
+            AnyCtx::Slab(slab) => slab.alloc(space, size),
+            AnyCtx::Generation(generation) => generation.alloc(space, size),
+            AnyCtx::Bump(bump) => bump.alloc(space, size),
+        }
+    }
+
+    /// Frees a live chunk. It takes no memory.
+    ///
+    /// The answer is `Unsupported` exactly in a Bump, and nothing changes then.
+    pub fn free(&mut self, space: &mut Space, at: Addr) -> Result<(), CtxError>
+        requires agrees { Agrees (footprint self.old) space.old }
+        requires live { IsSome ((footprint self.old).live at) }
+        ensures ledger { OnOk result (Frees self.old self.new at) }
+        ensures live { OnOk result (PutsLive (footprint self.old) (footprint self.new) at None) }
+        ensures moves { OnOk result (Moves (footprint self.old) (footprint self.new) space.old space.new) }
+        ensures keeps { OnOk result (Keeps (footprint self.old) (footprint self.new) space.old space.new) }
+        ensures unsupported { (result ≡ Err CtxError.Unsupported) ↔ IsBump self.old }
+        ensures no_other { IfErr result (λ e. e ≡ CtxError.Unsupported) }
+        ensures err { OnErr result (self.new ≡ self.old) }
+        ensures err_space { OnErr result (space.new ≡ space.old) }
+    {
+        match self {
+            AnyCtx::AllocSet(set) => set.free(space, at),
+            AnyCtx::Slab(slab) => slab.free(space, at),
+            AnyCtx::Generation(generation) => generation.free(space, at),
+            AnyCtx::Bump(bump) => bump.free(space, at),
+        }
+    }
+
+    /// What the context holds.
+    pub fn stats(&self) -> Stats
+        ensures { result ≡ stats self.now }
+    {
+        match self {
+            AnyCtx::AllocSet(set) => set.stats(),
+            AnyCtx::Slab(slab) => slab.stats(),
+            AnyCtx::Generation(generation) => generation.stats(),
+            AnyCtx::Bump(bump) => bump.stats(),
+        }
+    }
+
+    /// Frees all chunks: all blocks but the first go back to the space, and the context is as it was created. It
+    /// takes no memory.
+    pub fn reset(&mut self, space: &mut Space)
+        requires { Agrees (footprint self.old) space.old }
+        ensures ledger { IsReset self.old self.new }
+        ensures live { (at : Addr) → (footprint self.new).live at ≡ None }
+        ensures moves { Moves (footprint self.old) (footprint self.new) space.old space.new }
+    {
+        match self {
+            AnyCtx::AllocSet(set) => set.reset(space),
+            AnyCtx::Slab(slab) => slab.reset(space),
+            AnyCtx::Generation(generation) => generation.reset(space),
+            AnyCtx::Bump(bump) => bump.reset(space),
+        }
+    }
+
+    /// Gives all blocks back. It takes no memory.
+    pub fn discard(self, space: &mut Space)
+        requires { Agrees (footprint self) space.old }
+        ensures { Moves (footprint self) (nothing (footprint self).account (footprint self).context) space.old space.new }
+    {
+        match self {
+            AnyCtx::AllocSet(set) => set.discard(space),
+            AnyCtx::Slab(slab) => slab.discard(space),
+            AnyCtx::Generation(generation) => generation.discard(space),
+            AnyCtx::Bump(bump) => bump.discard(space),
+        }
+    }
+
+    /// Each live chunk of a context that isn't a Bump has a header that leads to its block, and so to the context. A
+    /// caller cites the clause.
+    pub fn headed(&self)
+        requires { ¬ (IsBump self.now) }
+        ensures { AllHeaded (footprint self.now) }
+    {
+        match self {
+            AnyCtx::AllocSet(set) => set.headed(),
+            AnyCtx::Slab(slab) => slab.headed(),
+            AnyCtx::Generation(generation) => generation.headed(),
+            AnyCtx::Bump(_) => {}
+        }
+    }
+
+    /// Gives a live chunk a size of `size` bytes, which may be 0, and answers where it is now. `keep` is how many of
+    /// its first bytes are known; they are kept, as far as the new size goes.
+    ///
+    /// `TooBig`, where `size` is over 1,073,741,823, comes before `Unsupported`, which a Bump answers, and a Slab to
+    /// another size, and that before `NoSpace`; `Memory` may come in place of `NoSpace`. A refused call changes nothing.
+    pub fn realloc(
+        &mut self,
+        space: &mut Space,
+        at: Addr,
+        keep: u64,
+        size: u64,
+    ) -> Result<Addr, CtxError>
+        requires agrees { Agrees (footprint self.old) space.old }
+        requires live { IsSome ((footprint self.old).live at) }
+        requires keep { IfSome ((footprint self.old).live at) (λ n. keep ≤ n) }
+        requires known { IsKnown space.old at keep }
+        ensures ledger { IfOk result (λ to. Resizes self.old self.new (held space.old (footprint self.old).account) space.old.limit at to size) }
+        ensures fresh { IfOk result (λ to. to ≢ at → (footprint self.old).live to ≡ None) }
+        ensures live { IfOk result (λ to. MovesLive (footprint self.old) (footprint self.new) at to size) }
+        ensures bytes { IfOk result (λ to. HasBytesOf space.old space.new at to (min keep size)) }
+        ensures moves { OnOk result (Moves (footprint self.old) (footprint self.new) space.old space.new) }
+        ensures keeps { OnOk result (KeepsBut at (footprint self.old) (footprint self.new) space.old space.new) }
+        ensures too_big { (result ≡ Err CtxError.TooBig) ↔ (1073741823 < size) }
+        ensures unsupported { (result ≡ Err CtxError.Unsupported) ↔ IsUnsupported self.old size }
+        ensures no_space { result ≡ Err CtxError.NoSpace → LacksRoom self.old (held space.old (footprint self.old).account) space.old.limit at size }
+        ensures fitting { result ≢ Err CtxError.WrongSize }
+        ensures err { OnErr result (self.new ≡ self.old) }
+        ensures err_space { OnErr result (space.new ≡ space.old) }
+    {
+        match self {
+            AnyCtx::AllocSet(set) => set.realloc(space, at, keep, size),
+            AnyCtx::Slab(slab) => slab.realloc(space, at, keep, size),
+            AnyCtx::Generation(generation) => generation.realloc(space, at, keep, size),
+            AnyCtx::Bump(bump) => bump.realloc(space, at, keep, size),
+        }
+    }
+}
