@@ -16,9 +16,30 @@ enum Step {
     Keep(u64),
     Free(u64),
     Resize(u64, u64),
+    FreeTwo(u64),
 }
 
-use Step::{Free, Keep, Resize};
+use Step::{Free, FreeTwo, Keep, Resize};
+
+// Takes two chunks, and frees the older one and then the other.
+fn free_two(context: &mut GenerationCtx, space: &mut Space, size: u64) -> Result<(), CtxError>
+    requires { Agrees (footprint context.old) space.old }
+    ensures { OnOk result (Agrees (footprint context.new) space.new) }
+{
+    let older = match context.alloc(space, size) {
+        Ok(at) => at,
+        Err(error) => return Err(error),
+    };
+    let newer = match context.alloc(space, size) {
+        Ok(at) => at,
+        Err(error) => return Err(error),
+    };
+    match context.free(space, older) {
+        Ok(()) => {}
+        Err(error) => return Err(error),
+    }
+    context.free(space, newer)
+}
 
 fn perform(context: &mut GenerationCtx, space: &mut Space, step: Step) -> Result<(), CtxError>
     requires { Agrees (footprint context.old) space.old }
@@ -40,6 +61,7 @@ fn perform(context: &mut GenerationCtx, space: &mut Space, step: Step) -> Result
             },
             Err(error) => Err(error),
         },
+        FreeTwo(size) => free_two(context, space, size),
     }
 }
 
@@ -80,8 +102,9 @@ fn refusal(rt: &HostRuntime, step: Step) -> Result<Option<CtxError>, Fail> {
 
 #[test]
 fn what_a_context_holds(rt: HostRuntime) -> Result<(), Fail> {
-    let rows: [(&[Step], (u64, u64, u64, u64)); 13] = [
+    let rows: [(&[Step], (u64, u64, u64, u64)); 14] = [
         (&[Keep(100), Free(100)], (8192, 1, 7728, 1)),
+        (&[FreeTwo(100)], (8192, 1, 7952, 0)),
         (&[Free(100)], (8192, 1, 7952, 0)),
         (&[Keep(0), Keep(9)], (8192, 1, 7912, 0)),
         (&[Keep(524_288)], (1_056_768, 2, 532_192, 0)),
