@@ -5,7 +5,8 @@ use Rattle.std.proofs.lemmas.List.{length-set, get_or-set_same, get_or-set_other
 use Rattle.addr_space.specs.declared.Addr.{Addr}
 use Rattle.addr_space.specs.Space.{Space, region_at, bytes_of, byte_at, IsApart}
 use Rattle.addr_space.specs.Footprint.{Footprint, IsWithin, HasRegion, Agrees, Moves, Keeps, KeepsBut, AreDisjoint, AllAgree, context_at, nothing, WritesInside}
-use Rattle.addr_space.proofs.Written.{option_cases, HasRegion-written, byte_at-apart, held-written}
+use Rattle.addr_space.proofs.Options.{option_cases}
+use Rattle.addr_space.proofs.Written.{HasRegion-written, byte_at-apart, held-written}
 
 module _ (f g other : Footprint) (s t : Space) (moves : Moves f g s t) (disjoint : AreDisjoint f other) (agrees : Agrees other s) where
   -- a region of the other context is as it was, and isn't the moving one's

@@ -1,9 +1,30 @@
 -- Steps of a context over a space, for the allocators.
-use Rattle.std.proofs.Common.{◌≡◌, ◌≢◌, ℕ, ◌+◌, ◌==◌, if◌then◌else◌, List, length, get_or, Option, Some, None, refl, sym, ap, ◌∙◌, inl, inr, arith}
+use Rattle.std.proofs.Common.{◌≡◌, ◌≢◌, ℕ, ◌+◌, ◌==◌, if◌then◌else◌, List, length, get_or, Option, Some, None, refl, sym, ap, ◌∙◌, inl, inr, arith, ◌<◌, Bool, true, false}
 use Rattle.std.proofs.lemmas.Bool.{cases_eq}
 use Rattle.addr_space.specs.declared.Addr.{Addr}
-use Rattle.addr_space.specs.Space.{Region, Space, region_at, bytes_of, Changes, HasBytes, held}
-use Rattle.addr_space.specs.Footprint.{Footprint, IsSound, Agrees, Moves, counted}
+use Rattle.addr_space.specs.Space.{Region, Space, region_at, bytes_of, Changes, HasBytes, held, accounts}
+use Rattle.addr_space.specs.Footprint.{Footprint, IsSound, Agrees, Moves, Keeps, counted, nothing}
+use Rattle.addr_space.specs.Live.{SameLive, StaysLive}
+
+-- a context that has nothing agrees with each space that has its account, and counts nothing
+pub Agrees-nothing : (account context : ℕ) (s : Space) → account < accounts s → Agrees (nothing account context) s
+Agrees-nothing account context s below = record {
+  sound = record {
+    live_inside = λ at n live. absurd (cc);
+    free_inside = λ at n free. absurd (cc);
+    mark_inside = λ at bytes marked. absurd (cc);
+    live_apart = λ a b m n live other differ. absurd (cc);
+    free_apart = λ a b m n live free. absurd (cc);
+    mark_apart = λ a b m bytes live marked. absurd (cc);
+  };
+  account = below;
+  regions = λ number len owned. absurd (cc);
+  marks = λ at bytes marked. absurd (cc);
+}
+
+pub none_counted : (b : Bool) → ◌≡◌ {A = ℕ} (if b then 0 else 0) 0
+none_counted true = refl
+none_counted false = refl
 
 -- nothing happens
 pub Moves-none : (f : Footprint) (s : Space) → Agrees f s → Moves f f s s
@@ -31,6 +52,25 @@ Moves-more f g h s t u first second = record {
   limit = second.limit ∙ first.limit;
   held = λ account. omega (arith, first.held account, second.held account);
 }
+
+-- where the same chunks are live, each stays so, and was so
+pub same_stays : (f g : Footprint) → SameLive f g → StaysLive f g
+same_stays f g same at size live = same at ∙ live
+
+pub same_was : (f g : Footprint) → SameLive f g → StaysLive g f
+same_was f g same at size live = sym (same at) ∙ live
+
+-- bytes are kept in two steps, where what was live before the first one stays so in it
+pub Keeps-more : (f g h : Footprint) (s t u : Space) → StaysLive f g → Keeps f g s t → Keeps g h t u → Keeps f h s u
+Keeps-more f g h s t u stays first second at m n k live again below short =
+    let middle : g.live at ≡ Some m = stays at m live in
+    second at m n k middle again below short ∙ first at m m k live middle below below
+
+-- or where what is live after the second one was so before it
+pub Keeps-then : (f g h : Footprint) (s t u : Space) → StaysLive h g → Keeps f g s t → Keeps g h t u → Keeps f h s u
+Keeps-then f g h s t u stays first second at m n k live again below short =
+    let middle : g.live at ≡ Some n = stays at n again in
+    second at n n k middle again short short ∙ first at m n k live middle below short
 
 -- two changes of one region
 pub Changes-more : (s t u : Space) (number : ℕ) (a b : Option Region) → Changes s t number a → Changes t u number b → Changes s u number b

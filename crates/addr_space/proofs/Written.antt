@@ -8,11 +8,6 @@ use Rattle.addr_space.specs.Footprint.{HasRegion}
 use Rattle.addr_space.proofs.Bytes.{length-overwritten, get_or-overwritten_in, get_or-overwritten_before, get_or-overwritten_after}
 use Rattle.addr_space.proofs.Held.{held-Changes, share-same}
 
--- an option is nothing or something
-pub option_cases : {X : Type 0} (o : Option X) → (o ≡ None) ⊎ ((x : X) × (o ≡ Some x))
-option_cases None = inl refl
-option_cases (Some x) = inr (x, refl)
-
 module _ (s t : Space) (at : Addr) (bytes : List ℕ) (region : Region) (found : region_at s at.region ≡ Some region) (inside : at.offset + length bytes ≤ length region.bytes) (writes : Changes s t at.region (overwritten (region_at s at.region) at.offset (map Some bytes))) where
   new_bytes : List (Option ℕ)
   new_bytes = take at.offset region.bytes ++ map Some bytes ++ drop (at.offset + length (map Some bytes)) region.bytes

@@ -11,7 +11,9 @@ use Rattle.addr_space.proofs.Steps.{Moves-one, Changes-more}
 use Rattle.chunk_header.specs.Header.{header_bytes, block_bytes}
 use Rattle.alloc_set.specs.State.{SetState, chunk_at, region_of, start_of, live_size, header_of, mark_of, footprint}
 use Rattle.alloc_set.specs.Kept.{IsSettled, IsAlone}
-use Rattle.alloc_set.proofs.Settled.{mark_cases, from_then, length-block_bytes, IsSound-settled}
+use Rattle.addr_space.proofs.Options.{from_then}
+use Rattle.chunk_header.proofs.Words.{length-block_bytes}
+use Rattle.alloc_set.proofs.Settled.{mark_cases, IsSound-settled}
 use Rattle.alloc_set.proofs.Carved.{mark_from_block, mark_from_chunk}
 use Rattle.alloc_set.specs.declared.chunk.Chunk.{Chunk}
 use Rattle.alloc_set.specs.declared.chunk.Chunk.TheVariants.{Live, Free, Own}
@@ -152,7 +154,7 @@ module _ (s t : SetState) (active active_size number size : ℕ) (settled : IsSe
 
     pub Keeps-added : Keeps (footprint s) (footprint t) sp tp
     Keeps-added b m n k live again below short =
-        let it = from_then (chunk_at s b) live_size m live in
+        let it = from_then live_size (chunk_at s b) m live in
         let was = settled.placed b it.0 it.1 in
         let differs = owned_differs b.region was.len was.owned in
         let both = Changes-more sp mp tp number (Some (unwritten s.account size)) (overwritten (region_at mp number) 0 (map Some (block_bytes s.context size))) took wrote in

@@ -1,41 +1,28 @@
 -- Lemmas on a chunk that is cut off the active block.
 use Rattle.std.proofs.Common.{◌≡◌, ◌≢◌, ℕ, ◌+◌, ◌-◌, ◌%◌, ◌<◌, ◌≤◌, ◌⊎◌, ◌==◌, if◌then◌else◌, List, length, Option, Some, None, option_map, true, false, refl, sym, ap, subst, ◌∙◌, arith, inl, inr, slice_index, map}
-use Rattle.std.proofs.lemmas.Bool.{cases_eq}
 use Rattle.std.proofs.lemmas.Bool.Decides.{nat_tests}
 use Rattle.addr_space.specs.declared.Addr.{Addr}
 use Rattle.addr_space.specs.Space.{Space, region_at, byte_at, overwritten, Changes}
 use Rattle.addr_space.specs.Footprint.{Agrees, Moves, Keeps, HasRegion, counted}
-use Rattle.addr_space.proofs.Written.{option_cases, HasRegion-written, byte_at-apart, HasBytes-written, held-written}
+use Rattle.addr_space.proofs.Written.{HasRegion-written, byte_at-apart, HasBytes-written, held-written}
 use Rattle.addr_space.proofs.Steps.{Moves-one}
 use Rattle.chunk_header.specs.declared.Kind.TheVariants.{AllocSet as SetKind}
 use Rattle.chunk_header.specs.Header.{header_bytes, block_bytes}
 use Rattle.alloc_set.specs.Ledger.{class_size}
-use Rattle.alloc_set.specs.State.{SetState, same_addr, chunk_at, region_of, start_of, capacity_of, live_size, header_of, mark_of, footprint}
+use Rattle.alloc_set.specs.State.{SetState, chunk_at, region_of, start_of, capacity_of, live_size, header_of, mark_of, footprint}
 use Rattle.alloc_set.specs.Kept.{IsSettled, IsPlaced, IsSized, IsAlone}
 use Rattle.alloc_set.specs.Steps.{IsOfClass, PutsChunk, SameBlocks, Carves}
 use Rattle.alloc_set.proofs.ClassSizes.{class_size-least}
-use Rattle.alloc_set.proofs.Settled.{mark_cases, from_then, live_size-le, length-header_bytes, length-block_bytes, same_addr_from, IsSound-settled}
+use Rattle.addr_space.proofs.Options.{from_then, option_cases}
+use Rattle.addr_space.proofs.Addresses.{same_addr_from, put_at-cases}
+use Rattle.chunk_header.proofs.Words.{length-header_bytes, length-block_bytes}
+use Rattle.alloc_set.proofs.Settled.{mark_cases, live_size-le, IsSound-settled}
 use Rattle.alloc_set.specs.declared.chunk.Chunk.{Chunk}
 use Rattle.alloc_set.specs.declared.chunk.Chunk.TheVariants.{Live, Free, Own}
 
--- whether two addresses are one
-pub same_addr-cases : (a b : Addr) → ((a ≡ b) × (same_addr a b ≡ true)) ⊎ ((a ≢ b) × (same_addr a b ≡ false))
-same_addr-cases a b =
-    elim (cases_eq a.region b.region) [
-      | inl region ↦ elim (cases_eq a.offset b.offset) [
-        | inl offset ↦ inl (same_addr_from a b region offset, grind (arith, nat_tests))
-        | inr differs ↦ inr ((λ e. differs (ap (λ (x : Addr). x.offset) e)), grind (arith, nat_tests))
-      ]
-      | inr differs ↦ inr ((λ e. differs (ap (λ (x : Addr). x.region) e)), grind (arith, nat_tests))
-    ]
-
 -- what stands at an address after one chunk was put
 pub put_cases : (s t : SetState) (at : Addr) (chunk : Option Chunk) → PutsChunk s t at chunk → (other : Addr) → ((other ≡ at) × (chunk_at t other ≡ chunk)) ⊎ ((other ≢ at) × (chunk_at t other ≡ chunk_at s other))
-put_cases s t at chunk puts other =
-    elim (same_addr-cases at other) [
-      | inl same ↦ inl (sym same.0, puts other ∙ ap (λ b. if b then chunk else chunk_at s other) same.1)
-      | inr differs ↦ inr ((λ e. differs.0 (sym e)), puts other ∙ ap (λ b. if b then chunk else chunk_at s other) differs.1)
-    ]
+put_cases s t at chunk puts other = put_at-cases (chunk_at s) (chunk_at t) at chunk puts other
 
 -- a chunk of a class has its capacity, and is no own one
 pub capacity-class : (class : ℕ) (chunk : Chunk) → IsOfClass class chunk → (capacity_of chunk ≡ class_size class) × IsSized chunk
@@ -247,7 +234,7 @@ module _ (s t : SetState) (active size class : ℕ) (at : Addr) (chunk : Chunk) 
 
       pub Keeps-carved : Keeps (footprint s) (footprint t) sp tp
       Keeps-carved b m n k live again below short =
-          let it = from_then (chunk_at s b) live_size m live in
+          let it = from_then live_size (chunk_at s b) m live in
           let was = settled.placed b it.0 it.1 in
           let le = live_size-le it.0 m was.sized it.2 in
           below_same b.region (b.offset + k) (λ same. omega (arith, was.below same, le, below))

@@ -5,7 +5,7 @@ use Rattle.std.proofs.lemmas.Bool.Decides.{nat_tests}
 use Rattle.addr_space.specs.declared.Addr.{Addr}
 use Rattle.addr_space.specs.Space.{Space, region_at, share, held, Changes}
 use Rattle.addr_space.specs.Footprint.{Agrees, Moves, nothing}
-use Rattle.addr_space.proofs.Steps.{Moves-still, Moves-give}
+use Rattle.addr_space.proofs.Steps.{Moves-still, Moves-give, Agrees-nothing}
 use Rattle.chunk_header.specs.Header.{block_bytes}
 use Rattle.alloc_set.specs.Ledger.{created}
 use Rattle.alloc_set.specs.State.{SetState, chunk_at, start_of, mark_of, emptied, footprint}
@@ -16,7 +16,6 @@ use Rattle.alloc_set.proofs.Carved.{region_same, start_same, mark_from_block}
 use Rattle.alloc_set.proofs.Entries.{sum_by-swap_remove_entry}
 use Rattle.alloc_set.proofs.Given.{held-owned}
 use Rattle.alloc_set.proofs.KeptAdded.{keeper_owned}
-use Rattle.alloc_set.proofs.KeptNew.{Agrees-nothing}
 use Rattle.alloc_set.specs.declared.books.Books.{Books}
 
 keeper_start : (s : SetState) → start_of s s.keeper ≡ 200

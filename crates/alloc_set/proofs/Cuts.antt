@@ -1,12 +1,8 @@
 -- Lemmas on a room that is cut up.
-use Rattle.std.proofs.Common.{◌≡◌, ℕ, suc, ◌+◌, ◌-◌, ◌*◌, ◌/◌, ◌<◌, ◌≤◌, List, get_or, set, refl, ap, ◌∙◌, arith, Some}
+use Rattle.std.proofs.Common.{◌≡◌, ℕ, suc, ◌+◌, ◌-◌, ◌*◌, ◌/◌, ◌<◌, ◌≤◌, List, get_or, set, refl, ap, ◌∙◌, arith}
 use Rattle.std.proofs.Math.Nat.{pow-succ', mod-eq_of_lt, div-eq_of_lt, div-eq_of_lt-le, mod-eq-sub-mod}
 use Rattle.std.proofs.lemmas.List.{set-get_or}
-use Rattle.addr_space.specs.Space.{Space}
-use Rattle.addr_space.specs.Footprint.{Keeps}
 use Rattle.alloc_set.specs.Ledger.{class_bytes, cut_rest, cut_up, with_free}
-use Rattle.alloc_set.specs.State.{SetState, footprint}
-use Rattle.alloc_set.specs.Live.{SameLive}
 use Rattle.alloc_set.specs.Cut.{CutsUp}
 use Rattle.alloc_set.specs.declared.books.Books.{Books}
 
@@ -53,12 +49,6 @@ cut_rest-zero room = refl
 pub cut_up-zero : (room : ℕ) (free : List ℕ) → cut_up 0 room free ≡ free
 unfolding cut_up
 cut_up-zero room free = refl
-
--- bytes stay through two calls that leave the live chunks
-pub Keeps-more : (a b c : SetState) (s t u : Space) → SameLive a b → Keeps (footprint a) (footprint b) s t → Keeps (footprint b) (footprint c) t u → Keeps (footprint a) (footprint c) s u
-Keeps-more a b c s t u same first second at m n k live again below short =
-    let middle : (footprint b).live at ≡ Some m = same at ∙ live in
-    second at m n k middle again below short ∙ first at m m k live middle below below
 
 -- one class less, with nothing cut
 pub CutsUp-less : (b n : Books) (room few more : ℕ) → few ≤ more → CutsUp b n room few → CutsUp b n room more

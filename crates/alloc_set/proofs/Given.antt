@@ -10,8 +10,8 @@ use Rattle.addr_space.proofs.Steps.{Moves-give}
 use Rattle.chunk_header.specs.Header.{header_bytes, block_bytes}
 use Rattle.alloc_set.specs.State.{SetState, chunk_at, region_of, start_of, live_size, header_of, mark_of, footprint}
 use Rattle.alloc_set.specs.Kept.{IsSettled, IsAlone}
-use Rattle.alloc_set.specs.Live.{SameLive}
-use Rattle.alloc_set.proofs.Settled.{mark_cases, from_then, IsSound-settled}
+use Rattle.addr_space.proofs.Options.{from_then}
+use Rattle.alloc_set.proofs.Settled.{mark_cases, IsSound-settled}
 use Rattle.alloc_set.proofs.Carved.{mark_from_block, mark_from_chunk}
 use Rattle.alloc_set.specs.declared.chunk.Chunk.{Chunk}
 use Rattle.alloc_set.specs.declared.chunk.Chunk.TheVariants.{Live, Free, Own}
@@ -147,9 +147,5 @@ module _ (s t : SetState) (active active_size number size : ℕ) (settled : IsSe
 
     pub Keeps-given : Keeps (footprint s) (footprint t) sp tp
     Keeps-given b m n k live again below short =
-        let it = from_then (chunk_at s b) live_size m live in
+        let it = from_then live_size (chunk_at s b) m live in
         ap (λ r. get_or (bytes_of r) (b.offset + k) None) (changes.others b.region (elsewhere b it.0 it.1))
-
--- bytes that a second call keeps, where the first left the space, stay through both
-pub Keeps-behind : (a b c : SetState) (s t : Space) → SameLive b c → Keeps (footprint b) (footprint c) s t → Keeps (footprint a) (footprint c) s t
-Keeps-behind a b c s t same second at m n k live again below short = second at n n k (sym (same at) ∙ again) again short short

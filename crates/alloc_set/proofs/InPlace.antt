@@ -5,15 +5,15 @@ use Rattle.addr_space.specs.declared.Addr.{Addr}
 use Rattle.addr_space.specs.Space.{Space}
 use Rattle.addr_space.specs.Footprint.{Moves, Keeps}
 use Rattle.alloc_set.specs.Ledger.{SetLedger}
-use Rattle.alloc_set.specs.State.{SetState, same_addr, chunk_at, footprint}
+use Rattle.addr_space.specs.Live.{same_addr, PutsLive, MovesLive}
+use Rattle.alloc_set.specs.State.{SetState, chunk_at, footprint}
 use Rattle.alloc_set.specs.Kept.{state_of, IsKept}
-use Rattle.alloc_set.specs.Live.{PutsLive}
-use Rattle.alloc_set.specs.Resize.{StaysFor, MovesLive, Resizes}
+use Rattle.alloc_set.specs.Resize.{StaysFor, Resizes}
 use Rattle.alloc_set.specs.declared.books.Books.{Books}
-use Rattle.alloc_set.proofs.Carved.{same_addr-cases}
+use Rattle.addr_space.proofs.Addresses.{same_addr-cases}
 
 -- the chunk is live at its own address
-pub MovesLive-same : (s t : SetState) (at : Addr) (size : ℕ) → PutsLive s t at (Some size) → MovesLive s t at at size
+pub MovesLive-same : (s t : SetState) (at : Addr) (size : ℕ) → PutsLive (footprint s) (footprint t) at (Some size) → MovesLive (footprint s) (footprint t) at at size
 MovesLive-same s t at size puts other =
     elim (same_addr-cases at other) [
       | inl same ↦
@@ -24,7 +24,7 @@ MovesLive-same s t at size puts other =
     ]
 
 pub Resizes-in_place : (b n : Books) (s t : Space) (at : Addr) (old keep size : ℕ) (step : Result SetLedger CtxError) → IsKept n → step ≡ Ok (state_of n).ledger
-    → (footprint (state_of b)).live at ≡ Some old → StaysFor (chunk_at (state_of b) at) size → keep ≤ old → keep ≤ size → PutsLive (state_of b) (state_of n) at (Some size)
+    → (footprint (state_of b)).live at ≡ Some old → StaysFor (chunk_at (state_of b) at) size → keep ≤ old → keep ≤ size → PutsLive (footprint (state_of b)) (footprint (state_of n)) at (Some size)
     → Moves (footprint (state_of b)) (footprint (state_of n)) s t → Keeps (footprint (state_of b)) (footprint (state_of n)) s t → Resizes b n s t at at keep size step
 Resizes-in_place b n s t at old keep size step kept ledger live stays few short puts moves keeps =
     let now : (footprint (state_of n)).live at ≡ Some size = elim (same_addr-cases at at) [

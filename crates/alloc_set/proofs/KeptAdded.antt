@@ -5,7 +5,7 @@ use Rattle.std.proofs.lemmas.List.Sums.{sum_by-le-sum_by}
 use Rattle.std.proofs.lemmas.Bool.Decides.{nat_tests}
 use Rattle.addr_space.specs.Space.{Space, region_at}
 use Rattle.addr_space.specs.Footprint.{Agrees}
-use Rattle.addr_space.proofs.Written.{option_cases}
+use Rattle.addr_space.proofs.Options.{option_cases}
 use Rattle.alloc_set.specs.Ledger.{chunk_limit}
 use Rattle.alloc_set.specs.State.{SetState, region_of, footprint}
 use Rattle.alloc_set.specs.Kept.{state_of, own_bytes, IsCounted, IsSettled, IsShelved, IsKept}

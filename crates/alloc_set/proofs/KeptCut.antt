@@ -1,13 +1,13 @@
 -- What the code keeps, after a chunk was cut off the active block.
-use Rattle.std.proofs.Common.{◌≡◌, ℕ, ◌+◌, ◌-◌, ◌^◌, ◌<◌, ◌≤◌, ◌==◌, List, length, Option, Some, None, refl, min, sym, ap, ◌∙◌, subst, arith, inl, inr, sum, sum_by, set}
+use Rattle.std.proofs.Common.{◌≡◌, ℕ, ◌+◌, ◌-◌, ◌^◌, ◌<◌, ◌≤◌, ◌==◌, List, length, Option, Some, None, refl, min, sym, ap, ◌∙◌, subst, arith, inl, inr, sum, sum_by, set, option_and_then}
 use Rattle.std.specs.Map.{values_of, lookup}
 use Rattle.std.proofs.lemmas.List.{length-map}
 use Rattle.addr_space.specs.declared.Addr.{Addr}
 use Rattle.alloc_set.specs.Ledger.{class_bytes, chunk_limit}
-use Rattle.alloc_set.specs.State.{SetState, chunk_at, then_option, live_size, footprint}
+use Rattle.alloc_set.specs.State.{SetState, chunk_at, live_size, footprint}
 use Rattle.alloc_set.specs.Kept.{state_of, own_bytes, IsCounted, IsSettled, IsShelved, IsKept, is_free, shelf_at}
 use Rattle.alloc_set.specs.Steps.{IsOfClass, Carves, PutsChunk}
-use Rattle.alloc_set.specs.Live.{SameLive}
+use Rattle.addr_space.specs.Live.{SameLive}
 use Rattle.alloc_set.specs.declared.books.Books.{Books}
 use Rattle.alloc_set.specs.declared.books.Block.{Block}
 use Rattle.alloc_set.specs.declared.chunk.Chunk.{Chunk}
@@ -80,7 +80,7 @@ module _ (b n : Books) (class : ℕ) (at : Addr) (chunk : Chunk) (kept : IsKept 
 
   -- no chunk was live there
   pub live-without : (footprint (state_of b)).live at ≡ None
-  live-without = ap (λ o. then_option o live_size) without
+  live-without = ap (λ o. option_and_then live_size o) without
 
   -- the room of the active block
   pub room_now : n.active.room ≡ b.active.room - class_bytes class
@@ -105,11 +105,11 @@ Carves-shelved s t free active size class at chunk carves = record {
 }
 
 -- a chunk that is not live before or after leaves the live chunks
-pub SameLive-put : (s t : SetState) (at : Addr) (slot : Option Chunk) → PutsChunk s t at slot → then_option slot live_size ≡ None → (footprint s).live at ≡ None → SameLive s t
+pub SameLive-put : (s t : SetState) (at : Addr) (slot : Option Chunk) → PutsChunk s t at slot → option_and_then live_size slot ≡ None → (footprint s).live at ≡ None → SameLive (footprint s) (footprint t)
 SameLive-put s t at slot puts after before other =
     elim (put_cases s t at slot puts other) [
-      | inl here ↦ ap (λ o. then_option o live_size) here.1 ∙ after ∙ sym before ∙ ap (λ a. then_option (chunk_at s a) live_size) (sym here.0)
-      | inr there ↦ ap (λ o. then_option o live_size) there.1
+      | inl here ↦ ap (λ o. option_and_then live_size o) here.1 ∙ after ∙ sym before ∙ ap (λ a. option_and_then live_size (chunk_at s a)) (sym here.0)
+      | inr there ↦ ap (λ o. option_and_then live_size o) there.1
     ]
 
 -- a count of free chunks is small

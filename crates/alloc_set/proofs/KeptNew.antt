@@ -1,40 +1,22 @@
 -- What the code keeps of a new context.
-use Rattle.std.proofs.Common.{◌≡◌, ℕ, ◌+◌, ◌<◌, ◌≤◌, ◌==◌, List, [], length, map, replicate, Option, Some, None, refl, sym, ap, ◌∙◌, arith, inl, inr, if◌then◌else◌, true, false, slice_index, Bool}
+use Rattle.std.proofs.Common.{◌≡◌, ℕ, ◌+◌, ◌<◌, ◌≤◌, ◌==◌, List, [], length, map, replicate, Option, Some, None, refl, sym, ap, ◌∙◌, arith, inl, inr, if◌then◌else◌, true, false, slice_index}
 use Rattle.std.specs.Map.{lookup}
 use Rattle.std.proofs.lemmas.List.{length-replicate, get_or-replicate}
 use Rattle.std.proofs.lemmas.Bool.{cases_eq}
 use Rattle.std.proofs.lemmas.Bool.Decides.{nat_tests}
 use Rattle.addr_space.specs.declared.Addr.{Addr}
 use Rattle.addr_space.specs.Space.{Space, region_at, byte_at, overwritten, unwritten, Changes, accounts, held}
-use Rattle.addr_space.specs.Footprint.{Agrees, Moves, HasRegion, nothing, counted}
+use Rattle.addr_space.specs.Footprint.{Moves, HasRegion, nothing, counted}
 use Rattle.addr_space.proofs.Written.{HasRegion-written, HasBytes-written, held-written}
-use Rattle.addr_space.proofs.Steps.{Moves-one, Changes-more}
+use Rattle.addr_space.proofs.Steps.{Moves-one, Changes-more, Agrees-nothing, none_counted}
 use Rattle.chunk_header.specs.Header.{block_bytes}
 use Rattle.alloc_set.specs.State.{SetState, chunk_at, region_of, start_of, footprint}
 use Rattle.alloc_set.specs.Kept.{no_shelf, shelf_at, IsSettled, IsShelved}
-use Rattle.alloc_set.proofs.Settled.{mark_cases, length-block_bytes, IsSound-settled}
+use Rattle.chunk_header.proofs.Words.{length-block_bytes}
+use Rattle.alloc_set.proofs.Settled.{mark_cases, IsSound-settled}
 use Rattle.alloc_set.proofs.KeptAdded.{keeper_owned}
 
-none_counted : (b : Bool) → ◌≡◌ {A = ℕ} (if b then 0 else 0) 0
-none_counted true = refl
-none_counted false = refl
-
 -- what agrees with a context that has nothing
-pub Agrees-nothing : (account context : ℕ) (s : Space) → account < accounts s → Agrees (nothing account context) s
-Agrees-nothing account context s below = record {
-  sound = record {
-    live_inside = λ at n live. absurd (cc);
-    free_inside = λ at n free. absurd (cc);
-    mark_inside = λ at bytes marked. absurd (cc);
-    live_apart = λ a b m n live other differ. absurd (cc);
-    free_apart = λ a b m n live free. absurd (cc);
-    mark_apart = λ a b m bytes live marked. absurd (cc);
-  };
-  account = below;
-  regions = λ number len owned. absurd (cc);
-  marks = λ at bytes marked. absurd (cc);
-}
-
 module _ (s : SetState) (blocks : s.blocks ≡ []) (chunks : s.chunks ≡ []) (large : 1024 ≤ s.ledger.init) (small : s.ledger.init ≤ 8388608) (room : s.ledger.room + 240 ≡ s.ledger.init) where
   no_chunk : (at : Addr) → chunk_at s at ≡ None
   no_chunk at = rw chunks refl

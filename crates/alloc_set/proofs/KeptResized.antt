@@ -11,7 +11,7 @@ use Rattle.alloc_set.specs.Steps.{SameBlocks, PutsChunk}
 use Rattle.alloc_set.specs.declared.books.Books.{Books}
 use Rattle.alloc_set.specs.declared.chunk.Chunk.{Chunk}
 use Rattle.alloc_set.specs.declared.chunk.Chunk.TheVariants.{Live, Own}
-use Rattle.alloc_set.proofs.Entries.{sum_by-insert}
+use Rattle.chunk_header.proofs.Sums.{sum_by-insert}
 use Rattle.alloc_set.proofs.Flipped.{IsSettled-flipped}
 use Rattle.alloc_set.proofs.Shelved.{IsShelved-taken, IsTaken}
 use Rattle.alloc_set.proofs.Stretched.{Stretches, IsSettled-stretched}

@@ -5,9 +5,10 @@ use Rattle.std.proofs.lemmas.Bool.Decides.{nat_tests}
 use Rattle.addr_space.specs.declared.Addr.{Addr}
 use Rattle.chunk_header.specs.Header.{IsPackable, IsLeading, AllHeaded}
 use Rattle.std.specs.Map.{lookup}
-use Rattle.alloc_set.specs.State.{SetState, same_addr, start_of, live_size, header_of, footprint}
+use Rattle.addr_space.specs.Live.{same_addr}
+use Rattle.alloc_set.specs.State.{SetState, start_of, live_size, header_of, footprint}
 use Rattle.alloc_set.specs.Kept.{IsSettled, IsSized}
-use Rattle.alloc_set.proofs.Settled.{from_then}
+use Rattle.addr_space.proofs.Options.{from_then}
 use Rattle.alloc_set.proofs.Carved.{mark_from_block, mark_from_chunk}
 use Rattle.alloc_set.specs.declared.chunk.Chunk.{Chunk}
 use Rattle.alloc_set.specs.declared.chunk.Chunk.TheVariants.{Live, Free, Own}
@@ -32,7 +33,7 @@ start_whole s number =
 
 pub AllHeaded-settled : (s : SetState) (active size : ℕ) → IsSettled s active size → AllHeaded (footprint s)
 AllHeaded-settled s active size settled at n live =
-    let had = from_then _ live_size n live in
+    let had = from_then live_size _ n live in
     let chunk = had.0 in
     let placed = settled.placed at chunk had.1 in
     let start = start_of s at.region in

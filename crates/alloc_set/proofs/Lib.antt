@@ -22,6 +22,5 @@ pub mod Resized
 pub mod Stretched
 pub mod KeptResized
 pub mod Refits
-pub mod Carried
 pub mod Replaced
 pub mod InPlace

@@ -10,7 +10,9 @@ use Rattle.chunk_header.specs.Header.{header_bytes, block_bytes}
 use Rattle.alloc_set.specs.State.{SetState, chunk_at, region_of, start_of, capacity_of, live_size, header_of, mark_of, footprint}
 use Rattle.alloc_set.specs.Kept.{IsSettled, IsPlaced, IsSized, IsAlone}
 use Rattle.alloc_set.specs.Steps.{PutsChunk, SameBlocks}
-use Rattle.alloc_set.proofs.Settled.{mark_cases, from_then, length-header_bytes, length-block_bytes, IsSound-settled}
+use Rattle.addr_space.proofs.Options.{from_then}
+use Rattle.chunk_header.proofs.Words.{length-header_bytes, length-block_bytes}
+use Rattle.alloc_set.proofs.Settled.{mark_cases, IsSound-settled}
 use Rattle.alloc_set.proofs.Carved.{put_cases, region_same, start_same, IsAlone-same, mark_from_block, mark_from_chunk}
 use Rattle.alloc_set.specs.declared.chunk.Chunk.{Chunk}
 use Rattle.alloc_set.specs.declared.chunk.Chunk.TheVariants.{Own}
@@ -163,5 +165,5 @@ module _ (s t : SetState) (active active_size number size room : ℕ) (at : Addr
 
     pub Keeps-owned : Keeps (footprint s) (footprint t) sp tp
     Keeps-owned b m n k live again below short =
-        let it = from_then (chunk_at s b) live_size m live in
+        let it = from_then live_size (chunk_at s b) m live in
         ap (λ r. slice_index_or (bytes_of r) (b.offset + k) None) (wrote.others b.region (clash b it.0 it.1))

@@ -1,23 +1,23 @@
 -- Lemmas on a chunk that another one takes the place of.
-use Rattle.std.proofs.Common.{◌≡◌, ◌≢◌, ℕ, ◌+◌, ◌-◌, ◌<◌, ◌≤◌, if◌then◌else◌, length, Some, None, Ok, IsSome, refl, sym, ap, ◌∙◌, subst, arith, inl, inr}
+use Rattle.std.proofs.Common.{◌≡◌, ◌≢◌, ℕ, ◌+◌, ◌-◌, ◌<◌, ◌≤◌, if◌then◌else◌, length, Some, None, Ok, IsSome, refl, sym, ap, ◌∙◌, subst, arith, inl, inr, option_and_then}
 use Rattle.addr_space.specs.declared.Addr.{Addr}
 use Rattle.addr_space.specs.Space.{Space, held, byte_at, region_at, bytes_of, part, overwritten, Changes, IsKnown}
 use Rattle.addr_space.specs.Footprint.{Agrees, Moves, KeepsBut}
 use Rattle.addr_space.proofs.Steps.{Moves-more}
 use Rattle.alloc_set.specs.Ledger.{class_size, shelved, take}
-use Rattle.alloc_set.specs.State.{SetState, same_addr, chunk_at, then_option, live_size, footprint}
+use Rattle.addr_space.specs.Live.{same_addr, PutsLive, MovesLive, HasBytesOf}
+use Rattle.alloc_set.specs.State.{SetState, chunk_at, live_size, footprint}
 use Rattle.alloc_set.specs.Kept.{state_of, IsKept}
-use Rattle.alloc_set.specs.Live.{PutsLive}
 use Rattle.alloc_set.specs.Cut.{Allocates}
-use Rattle.alloc_set.specs.Resize.{then_shelved, resize_class, StaysFor, MovesLive, HasBytesOf, Resizes}
+use Rattle.alloc_set.specs.Resize.{then_shelved, resize_class, StaysFor, Resizes}
 use Rattle.alloc_set.specs.declared.books.Books.{Books}
 use Rattle.alloc_set.specs.declared.chunk.Chunk.TheVariants.{Live}
-use Rattle.alloc_set.proofs.Carved.{same_addr-cases}
+use Rattle.addr_space.proofs.Addresses.{same_addr-cases}
 use Rattle.alloc_set.proofs.Refits.{resize_class-moves}
-use Rattle.alloc_set.proofs.Carried.{Moves-carried, KeepsBut-carried, HasBytesOf-carried}
+use Rattle.addr_space.proofs.Carried.{Moves-carried, KeepsBut-carried, HasBytesOf-carried}
 
 -- one chunk is live, and then another one isn't
-pub MovesLive-from : (s m t : SetState) (from to : Addr) (size : ℕ) → to ≢ from → PutsLive s m to (Some size) → PutsLive m t from None → MovesLive s t from to size
+pub MovesLive-from : (s m t : SetState) (from to : Addr) (size : ℕ) → to ≢ from → PutsLive (footprint s) (footprint m) to (Some size) → PutsLive (footprint m) (footprint t) from None → MovesLive (footprint s) (footprint t) from to size
 MovesLive-from s m t from to size differs first second other =
     elim (same_addr-cases from other) [
       | inl old ↦
@@ -35,13 +35,13 @@ MovesLive-from s m t from to size differs first second other =
 module _ (b m : Books) (s u : Space) (at to : Addr) (class old keep size : ℕ) (was : chunk_at (state_of b) at ≡ Some (Live class old)) (few : keep ≤ old)
     (took : Allocates b m s u size to (take (state_of b).ledger (s.limit - held s b.account) size)) where
   live_was : (footprint (state_of b)).live at ≡ Some old
-  live_was = ap (λ o. then_option o live_size) was
+  live_was = ap (λ o. option_and_then live_size o) was
 
   pub stands : chunk_at (state_of m) at ≡ Some (Live class old)
   stands = took.stays at old live_was ∙ was
 
   live_now : (footprint (state_of m)).live at ≡ Some old
-  live_now = ap (λ o. then_option o live_size) stands
+  live_now = ap (λ o. option_and_then live_size o) stands
 
   pub differs : to ≢ at
   differs same = let clash = sym took.fresh ∙ ap (λ a. (footprint (state_of b)).live a) same ∙ live_was in absurd (cc)
@@ -55,7 +55,7 @@ module _ (b m : Books) (s u : Space) (at to : Addr) (class old keep size : ℕ) 
 
   pub Resizes-replaced : (n : Books) (v : Space) → class_size class < size → keep ≤ size → IsKnown s at keep
       → Changes u v to.region (overwritten (region_at u to.region) to.offset (part (bytes_of (region_at u at.region)) at.offset keep))
-      → IsKept n → (state_of n).ledger ≡ shelved (state_of m).ledger class → PutsLive (state_of m) (state_of n) at None
+      → IsKept n → (state_of n).ledger ≡ shelved (state_of m).ledger class → PutsLive (footprint (state_of m)) (footprint (state_of n)) at None
       → ((sp : Space) → Agrees (footprint (state_of m)) sp → Moves (footprint (state_of m)) (footprint (state_of n)) sp sp)
       → Resizes b n s v at to keep size (resize_class (state_of b).ledger (held s b.account) s.limit class size)
   Resizes-replaced n v over short known copied kept ledger gone moves =
@@ -80,7 +80,7 @@ module _ (b m : Books) (s u : Space) (at to : Addr) (class old keep size : ℕ) 
         bytes = λ k below. bytes k below ∙ byte_kept k below;
         moves = Moves-more (footprint (state_of b)) (footprint (state_of m)) (footprint (state_of n)) s v v both (moves v carried.agrees);
         keeps = λ other p q k apart live again below low.
-            let middle : (footprint (state_of m)).live other ≡ Some p = ap (λ o. then_option o live_size) (took.stays other p live) ∙ live in
+            let middle : (footprint (state_of m)).live other ≡ Some p = ap (λ o. option_and_then live_size o) (took.stays other p live) ∙ live in
             let not_to : other ≢ to = λ same. let clash = sym took.fresh ∙ ap (λ a. (footprint (state_of b)).live a) (sym same) ∙ live in absurd (cc) in
             but other p p k not_to middle middle below below ∙ took.keeps other p p k live middle below below;
       }

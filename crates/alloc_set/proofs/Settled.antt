@@ -1,33 +1,17 @@
 -- Lemmas on where the blocks and chunks of an AllocSet are.
-use Rattle.std.proofs.Common.{◌≡◌, ◌≢◌, ℕ, ◌+◌, ◌-◌, ◌≤◌, ◌⊎◌, List, length, Option, Some, None, option_map, refl, sym, ap, ◌∙◌, arith, inl, inr}
+use Rattle.std.proofs.Common.{◌≡◌, ◌≢◌, ℕ, ◌+◌, ◌-◌, ◌≤◌, ◌⊎◌, List, length, Some, option_map, sym, ap, ◌∙◌, arith, inl, inr}
 use Rattle.std.proofs.lemmas.Bool.{cases_eq, cases_lt}
 use Rattle.std.proofs.lemmas.Bool.Decides.{nat_tests}
 use Rattle.addr_space.specs.declared.Addr.{Addr}
 use Rattle.addr_space.specs.Footprint.{IsSound, IsWithin}
-use Rattle.chunk_header.specs.declared.Header.{Header}
 use Rattle.chunk_header.specs.Header.{header_bytes, block_bytes}
-use Rattle.alloc_set.specs.State.{SetState, chunk_at, region_of, start_of, capacity_of, live_size, free_size, header_of, then_option, mark_of, footprint}
+use Rattle.alloc_set.specs.State.{SetState, chunk_at, region_of, start_of, capacity_of, live_size, free_size, header_of, mark_of, footprint}
 use Rattle.alloc_set.specs.Kept.{IsSettled, IsSized}
 use Rattle.alloc_set.specs.declared.chunk.Chunk.{Chunk}
 use Rattle.alloc_set.specs.declared.chunk.Chunk.TheVariants.{Live, Free, Own}
-
--- a header has 8 bytes, and so has what is marked of a block's
-pub length-header_bytes : (h : Header) → length (header_bytes h) ≡ 8
-unfolding header_bytes
-length-header_bytes h = refl
-
-pub length-block_bytes : (context size : ℕ) → length (block_bytes context size) ≡ 8
-unfolding block_bytes
-length-block_bytes context size = refl
-
--- a value that comes of an option
-pub from_then : {X Y : Type 0} (o : Option X) (f : X → Option Y) (y : Y) → then_option o f ≡ Some y → (x : X) × (o ≡ Some x) × (f x ≡ Some y)
-from_then None f y e = absurd (cc)
-from_then (Some x) f y e = (x, refl, e)
-
-pub from_map : {X Y : Type 0} (o : Option X) (f : X → Y) (y : Y) → option_map f o ≡ Some y → (x : X) × (o ≡ Some x) × (f x ≡ y)
-from_map None f y e = absurd (cc)
-from_map (Some x) f y e = (x, refl, cc)
+use Rattle.chunk_header.proofs.Words.{length-header_bytes, length-block_bytes}
+use Rattle.addr_space.proofs.Options.{from_then, from_map}
+use Rattle.addr_space.proofs.Addresses.{same_addr_from}
 
 -- a live chunk is within what it may have
 pub live_size-le : (chunk : Chunk) (size : ℕ) → IsSized chunk → live_size chunk ≡ Some size → size ≤ capacity_of chunk
@@ -55,18 +39,13 @@ mark_cases s at bytes marked =
     elim (cases_eq at.offset (start_of s at.region)) [
       | inl same ↦
           let block : option_map (block_bytes s.context) (region_of s at.region) ≡ Some bytes = grind (arith, nat_tests) in
-          let found = from_map (region_of s at.region) (block_bytes s.context) bytes block in
+          let found = from_map (block_bytes s.context) (region_of s at.region) bytes block in
           inl (found.0, same, found.1, found.2)
       | inr differs ↦
           let chunk : option_map (λ chunk. header_bytes (header_of chunk (at.offset - start_of s at.region))) (chunk_at s (record { region = at.region; offset = at.offset + 8 })) ≡ Some bytes = grind (arith, nat_tests) in
-          let found = from_map (chunk_at s (record { region = at.region; offset = at.offset + 8 })) (λ chunk. header_bytes (header_of chunk (at.offset - start_of s at.region))) bytes chunk in
+          let found = from_map (λ (chunk : Chunk). header_bytes (header_of chunk (at.offset - start_of s at.region))) (chunk_at s (record { region = at.region; offset = at.offset + 8 })) bytes chunk in
           inr (found.0, differs, found.1, found.2)
     ]
-
--- addresses in one region with different offsets are different, and the other way round
-pub same_addr_from : (a b : Addr) → a.region ≡ b.region → a.offset ≡ b.offset → a ≡ b
-same_addr_from a b region offset =
-    ap (λ r. record { region = r; offset = a.offset }) region ∙ ap (λ o. record { region = b.region; offset = o }) offset
 
 module _ (s : SetState) (active size : ℕ) (settled : IsSettled s active size) where
   -- chunks at two addresses have a header between them
@@ -113,17 +92,17 @@ module _ (s : SetState) (active size : ℕ) (settled : IsSettled s active size) 
   pub IsSound-settled : IsSound (footprint s)
   IsSound-settled = record {
     live_inside = λ at n live.
-        let it = from_then (chunk_at s at) live_size n live in
+        let it = from_then live_size (chunk_at s at) n live in
         let placed = settled.placed at it.0 it.1 in
         (placed.len, placed.owned, omega (arith, placed.last, live_size-le it.0 n placed.sized it.2));
     free_inside = λ at n free.
-        let it = from_then (chunk_at s at) free_size n free in
+        let it = from_then free_size (chunk_at s at) n free in
         let placed = settled.placed at it.0 it.1 in
         (placed.len, placed.owned, omega (arith, placed.last, free_size-is it.0 n it.2));
     mark_inside = mark_within;
     live_apart = λ a b m n live_a live_b differ region.
-        let first = from_then (chunk_at s a) live_size m live_a in
-        let second = from_then (chunk_at s b) live_size n live_b in
+        let first = from_then live_size (chunk_at s a) m live_a in
+        let second = from_then live_size (chunk_at s b) n live_b in
         let le_first = live_size-le first.0 m (settled.placed a first.0 first.1).sized first.2 in
         let le_second = live_size-le second.0 n (settled.placed b second.0 second.1).sized second.2 in
         elim (chunks_apart a b first.0 second.0 first.1 second.1 differ region) [
@@ -131,8 +110,8 @@ module _ (s : SetState) (active size : ℕ) (settled : IsSettled s active size) 
           | inr above ↦ inr (omega arith)
         ];
     free_apart = λ a b m n live free region.
-        let first = from_then (chunk_at s a) live_size m live in
-        let second = from_then (chunk_at s b) free_size n free in
+        let first = from_then live_size (chunk_at s a) m live in
+        let second = from_then free_size (chunk_at s b) n free in
         let le_first = live_size-le first.0 m (settled.placed a first.0 first.1).sized first.2 in
         let is_second = free_size-is second.0 n second.2 in
         let differ : a ≢ b = λ e.
@@ -144,7 +123,7 @@ module _ (s : SetState) (active size : ℕ) (settled : IsSettled s active size) 
           | inr above ↦ inr (omega arith)
         ];
     mark_apart = λ a b m bytes live marked region.
-        let first = from_then (chunk_at s a) live_size m live in
+        let first = from_then live_size (chunk_at s a) m live in
         let le_first = live_size-le first.0 m (settled.placed a first.0 first.1).sized first.2 in
         elim (mark_apart a b first.0 bytes first.1 marked region) [
           | inl below ↦ inl (omega arith)

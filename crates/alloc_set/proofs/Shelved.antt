@@ -6,7 +6,8 @@ use Rattle.std.proofs.lemmas.List.{length-set, get_or-set_same, get_or-set_other
 use Rattle.std.proofs.lemmas.List.Sums.{sum_by-cons}
 use Rattle.std.specs.Map.{values_of, lookup}
 use Rattle.addr_space.specs.declared.Addr.{Addr}
-use Rattle.alloc_set.specs.State.{SetState, chunk_at, same_addr}
+use Rattle.addr_space.specs.Live.{same_addr}
+use Rattle.alloc_set.specs.State.{SetState, chunk_at}
 use Rattle.alloc_set.specs.Kept.{IsChain, IsShelved, is_free, shelf_at, no_shelf}
 use Rattle.alloc_set.specs.Steps.{PutsChunk}
 use Rattle.alloc_set.specs.declared.chunk.Chunk.{Chunk}

@@ -10,7 +10,10 @@ use Rattle.chunk_header.specs.Header.{header_bytes, block_bytes}
 use Rattle.alloc_set.specs.State.{SetState, chunk_at, region_of, start_of, capacity_of, live_size, header_of, mark_of, footprint}
 use Rattle.alloc_set.specs.Kept.{IsSettled, IsPlaced, IsSized, IsAlone}
 use Rattle.alloc_set.specs.Steps.{PutsChunk}
-use Rattle.alloc_set.proofs.Settled.{mark_cases, from_then, length-header_bytes, length-block_bytes, same_addr_from, IsSound-settled}
+use Rattle.addr_space.proofs.Options.{from_then}
+use Rattle.addr_space.proofs.Addresses.{same_addr_from}
+use Rattle.chunk_header.proofs.Words.{length-header_bytes, length-block_bytes}
+use Rattle.alloc_set.proofs.Settled.{mark_cases, IsSound-settled}
 use Rattle.alloc_set.proofs.Carved.{put_cases, mark_from_block, mark_from_chunk}
 use Rattle.alloc_set.proofs.Resized.{length-resized, share-len, HasRegion-resized, HasBytes-resized, byte_at-resized}
 use Rattle.alloc_set.specs.declared.chunk.Chunk.{Chunk}
@@ -239,13 +242,13 @@ module _ (s t : SetState) (active active_size n old size room : ℕ) (at : Addr)
 
     pub Keeps-stretched : Keeps (footprint s) (footprint t) sp tp
     Keeps-stretched b m k j live again below short =
-        let it = from_then (chunk_at s b) live_size m live in
+        let it = from_then live_size (chunk_at s b) m live in
         elim (put_cases s t at (Some (Own size room)) stretches.puts b) [
           | inl here ↦
               let one : Some it.0 ≡ Some (Own n old) = sym it.1 ∙ ap (chunk_at s) here.0 ∙ was in
               let is : it.0 ≡ Own n old = cc in
               let had : Some m ≡ Some n = sym it.2 ∙ ap live_size is in
-              let now = from_then (chunk_at t b) live_size k again in
+              let now = from_then live_size (chunk_at t b) k again in
               let two : Some now.0 ≡ Some (Own size room) = sym now.1 ∙ here.1 in
               let is_now : now.0 ≡ Own size room = cc in
               let has : Some k ≡ Some size = sym now.2 ∙ ap live_size is_now in

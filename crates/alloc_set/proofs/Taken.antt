@@ -4,9 +4,9 @@ use Rattle.std.proofs.lemmas.Bool.Decides.{nat_tests}
 use Rattle.chunk_header.specs.declared.CtxError.TheVariants.{TooBig, NoSpace}
 use Rattle.addr_space.specs.declared.Addr.{Addr}
 use Rattle.alloc_set.specs.Ledger.{SetLedger, class_bytes, class_of, chunk_limit, own_size, take, take_class, take_own, from_new, reused, cut_off, renewed, with_own, block_size}
-use Rattle.alloc_set.specs.State.{SetState, same_addr}
+use Rattle.addr_space.specs.Live.{same_addr, PutsLive, SameLive}
+use Rattle.alloc_set.specs.State.{SetState, footprint}
 use Rattle.alloc_set.specs.Kept.{state_of}
-use Rattle.alloc_set.specs.Live.{PutsLive, SameLive}
 use Rattle.alloc_set.specs.declared.books.Books.{Books}
 
 module _ (l : SetLedger) (left class : ℕ) where
@@ -47,7 +47,7 @@ state_same b m rest blocks chunks =
     ap state_of rest ∙ ap (λ e. record (state_of b) { blocks = e; chunks = m.chunks.entries }) blocks ∙ ap (λ e. record (state_of b) { chunks = e }) chunks
 
 -- a live chunk is put after a step that leaves the live ones
-pub PutsLive-after : (a b c : SetState) (at : Addr) (size : Option ℕ) → SameLive a b → PutsLive b c at size → PutsLive a c at size
+pub PutsLive-after : (a b c : SetState) (at : Addr) (size : Option ℕ) → SameLive (footprint a) (footprint b) → PutsLive (footprint b) (footprint c) at size → PutsLive (footprint a) (footprint c) at size
 PutsLive-after a b c at size same puts other = puts other ∙ ap (λ o. if same_addr at other then size else o) (same other)
 
 module _ (l : SetLedger) (left size : ℕ) where

@@ -4,12 +4,13 @@ use Rattle.addr_space.specs.declared.Addr.{Addr}
 use Rattle.addr_space.specs.Space.{Space}
 use Rattle.addr_space.specs.Footprint.{Agrees, Moves}
 use Rattle.addr_space.proofs.Steps.{Moves-still}
-use Rattle.addr_space.proofs.Written.{option_cases}
+use Rattle.addr_space.proofs.Options.{option_cases}
 use Rattle.chunk_header.specs.Header.{header_bytes, block_bytes}
 use Rattle.alloc_set.specs.State.{SetState, chunk_at, region_of, header_of, mark_of, footprint}
 use Rattle.alloc_set.specs.Kept.{IsSettled}
 use Rattle.alloc_set.specs.Steps.{PutsChunk, SameBlocks}
-use Rattle.alloc_set.proofs.Settled.{mark_cases, same_addr_from, IsSound-settled}
+use Rattle.addr_space.proofs.Addresses.{same_addr_from}
+use Rattle.alloc_set.proofs.Settled.{mark_cases, IsSound-settled}
 use Rattle.alloc_set.proofs.Carved.{put_cases, region_same, start_same, IsAlone-same, mark_from_block, mark_from_chunk}
 use Rattle.alloc_set.specs.declared.chunk.Chunk.{Chunk}
 use Rattle.alloc_set.specs.declared.chunk.Chunk.TheVariants.{Own}

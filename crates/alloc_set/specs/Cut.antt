@@ -9,7 +9,8 @@ use Rattle.indexmap.specs.IndexMap.{spare}
 use Rattle.addr_space.specs.declared.Addr.{Addr}
 use Rattle.alloc_set.specs.State.{chunk_at, footprint}
 use Rattle.alloc_set.specs.Kept.{state_of, IsKept, own_bytes}
-use Rattle.alloc_set.specs.Live.{SameLive, PutsLive, LeavesLive}
+use Rattle.addr_space.specs.Live.{PutsLive, SameLive}
+use Rattle.alloc_set.specs.Live.{LeavesLive}
 use Rattle.alloc_set.specs.declared.books.Books.{Books}
 
 -- free chunks of the active block were made, of so many classes at most
@@ -27,7 +28,7 @@ pub record CutsUp (b n : Books) (room classes : ℕ) : Type 0 where
   pub len : length n.chunks.entries ≤ length b.chunks.entries + classes
   pub others : (at : Addr) → at.region ≢ b.active.region → chunk_at (state_of n) at ≡ chunk_at (state_of b) at
   pub owned : sum_by own_bytes (values_of n.chunks.entries) ≡ sum_by own_bytes (values_of b.chunks.entries)
-  pub live : SameLive (state_of b) (state_of n)
+  pub live : SameLive (footprint (state_of b)) (footprint (state_of n))
   pub stays : LeavesLive (state_of b) (state_of n)
 
 -- a new block is active, with room for a chunk of a class
@@ -40,7 +41,7 @@ pub record Renews (b n : Books) (s : Space) (class : ℕ) : Type 0 where
   pub limit : n.limit ≡ b.limit
   pub spare : 0 < spare n.chunks
   pub len : length n.chunks.entries < 2 ^ 40
-  pub live : SameLive (state_of b) (state_of n)
+  pub live : SameLive (footprint (state_of b)) (footprint (state_of n))
   pub stays : LeavesLive (state_of b) (state_of n)
 
 -- a live chunk of this size is there now, where the ledger's step answers so
@@ -48,7 +49,7 @@ pub record Allocates (b n : Books) (s t : Space) (size : ℕ) (at : Addr) (step 
   pub kept : IsKept n
   pub ledger : step ≡ Ok (state_of n).ledger
   pub fresh : (footprint (state_of b)).live at ≡ None
-  pub live : PutsLive (state_of b) (state_of n) at (Some size)
+  pub live : PutsLive (footprint (state_of b)) (footprint (state_of n)) at (Some size)
   pub stays : LeavesLive (state_of b) (state_of n)
   pub moves : Moves (footprint (state_of b)) (footprint (state_of n)) s t
   pub keeps : Keeps (footprint (state_of b)) (footprint (state_of n)) s t

@@ -1,12 +1,13 @@
 -- Resizing a chunk: what it does to the ledger, to the live chunks and to their bytes.
-use Rattle.std.specs.Prelude.{◌≡◌, ◌≢◌, ◌↔◌, ℕ, ◌+◌, ◌-◌, ◌<◌, ◌≤◌, nat_lt, nat_le, max, ◌==◌, if◌then◌else◌, Option, Some, None, Result, Ok, Err}
+use Rattle.std.specs.Prelude.{◌≡◌, ◌≢◌, ◌↔◌, ℕ, ◌+◌, ◌-◌, ◌≤◌, nat_lt, nat_le, max, ◌==◌, if◌then◌else◌, Option, Some, None, Result, Ok, Err}
 use Rattle.chunk_header.specs.declared.CtxError.{CtxError}
 use Rattle.chunk_header.specs.declared.CtxError.TheVariants.{TooBig, NoSpace}
 use Rattle.addr_space.specs.declared.Addr.{Addr}
-use Rattle.addr_space.specs.Space.{Space, byte_at, held}
+use Rattle.addr_space.specs.Space.{Space, held}
 use Rattle.addr_space.specs.Footprint.{Moves, KeepsBut}
 use Rattle.alloc_set.specs.Ledger.{SetLedger, class_size, chunk_limit, own_size, shelved, take}
-use Rattle.alloc_set.specs.State.{SetState, same_addr, chunk_at, footprint}
+use Rattle.addr_space.specs.Live.{MovesLive, HasBytesOf}
+use Rattle.alloc_set.specs.State.{chunk_at, footprint}
 use Rattle.alloc_set.specs.Kept.{state_of, IsKept}
 use Rattle.alloc_set.specs.declared.books.Books.{Books}
 use Rattle.alloc_set.specs.declared.chunk.Chunk.{Chunk}
@@ -53,23 +54,13 @@ StaysFor (Some (Own old room)) size = Unit {0}
 StaysFor (Some (Free class next)) size = ⊥
 StaysFor None size = ⊥
 
--- one address has a live chunk of this size, another one has none unless it is that one, and every other one
--- has what it had
-abbrev pub MovesLive : SetState → SetState → Addr → Addr → ℕ → Type 0
-MovesLive s t from to size =
-    (other : Addr) → (footprint t).live other ≡ (if same_addr to other then Some size else (if same_addr from other then None else (footprint s).live other))
-
--- so many bytes at one address are those that stood at another one
-abbrev pub HasBytesOf : Space → Space → Addr → Addr → ℕ → Type 0
-HasBytesOf s t from to n = (k : ℕ) → k < n → byte_at t to.region (to.offset + k) ≡ byte_at s from.region (from.offset + k)
-
 -- a live chunk has this size now, at the same address or at another one, where the ledger's step answers so
 pub record Resizes (b n : Books) (s t : Space) (from to : Addr) (keep size : ℕ) (step : Result SetLedger CtxError) : Type 0 where
   pub kept : IsKept n
   pub ledger : step ≡ Ok (state_of n).ledger
   pub place : (to ≡ from) ↔ StaysFor (chunk_at (state_of b) from) size
   pub fresh : to ≢ from → (footprint (state_of b)).live to ≡ None
-  pub live : MovesLive (state_of b) (state_of n) from to size
+  pub live : MovesLive (footprint (state_of b)) (footprint (state_of n)) from to size
   pub bytes : HasBytesOf s t from to keep
   pub moves : Moves (footprint (state_of b)) (footprint (state_of n)) s t
   pub keeps : KeepsBut from (footprint (state_of b)) (footprint (state_of n)) s t

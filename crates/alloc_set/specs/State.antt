@@ -1,5 +1,5 @@
 -- What contracts see of an AllocSet: its ledger, and where its blocks and chunks are.
-use Rattle.std.specs.Prelude.{ℕ, ◌+◌, ◌-◌, ◌==◌, ◌&&◌, Bool, true, false, List, [], Option, Some, None, option_map, if◌then◌else◌}
+use Rattle.std.specs.Prelude.{ℕ, ◌+◌, ◌-◌, ◌==◌, true, false, List, [], Option, Some, None, option_map, if◌then◌else◌, option_and_then}
 use Rattle.std.specs.Map.{lookup}
 use Rattle.addr_space.specs.declared.Addr.{Addr}
 use Rattle.addr_space.specs.Footprint.{Footprint}
@@ -9,6 +9,7 @@ use Rattle.chunk_header.specs.Header.{header_bytes, block_bytes}
 use Rattle.alloc_set.specs.Ledger.{SetLedger, created, class_size, shelved, without_own}
 use Rattle.alloc_set.specs.declared.chunk.Chunk.{Chunk}
 use Rattle.alloc_set.specs.declared.chunk.Chunk.TheVariants.{Live, Free, Own}
+use Rattle.addr_space.specs.Live.{same_addr}
 
 -- the ledger; the account and the number that it was created with; the region of the keeper; the size of each
 -- other region, by its number; and what stands at each address where a chunk was cut
@@ -19,10 +20,6 @@ pub record SetState : Type 0 where
   pub keeper : ℕ
   pub blocks : List (ℕ × ℕ)
   pub chunks : List (Addr × Chunk)
-
--- whether two addresses are one
-abbrev pub same_addr : Addr → Addr → Bool
-same_addr a b = (a.region == b.region) && (a.offset == b.offset)
 
 -- the chunk at an address
 abbrev pub chunk_at : SetState → Addr → Option Chunk
@@ -69,11 +66,6 @@ freed l (Live class size) = shelved l class
 freed l (Free class next) = l
 freed l (Own size room) = without_own l (room + 48)
 
--- a fact of an option's value
-abbrev pub then_option : {X Y : Type 0} → Option X → (X → Option Y) → Option Y
-then_option None f = None
-then_option (Some x) f = f x
-
 -- the marks: a block's header begins with the context's number and the block's size, and a chunk's header
 -- stands before it
 unfoldable pub mark_of : SetState → Addr → Option (List ℕ)
@@ -89,6 +81,6 @@ footprint s = record {
   total = s.ledger.total;
   region = region_of s;
   mark = mark_of s;
-  live = λ at. then_option (chunk_at s at) live_size;
-  free = λ at. then_option (chunk_at s at) free_size;
+  live = λ at. option_and_then live_size (chunk_at s at);
+  free = λ at. option_and_then free_size (chunk_at s at);
 }

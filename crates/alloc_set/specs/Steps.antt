@@ -2,7 +2,8 @@
 use Rattle.std.specs.Prelude.{◌≡◌, ℕ, ◌+◌, ◌≤◌, Option, Some, if◌then◌else◌}
 use Rattle.addr_space.specs.declared.Addr.{Addr}
 use Rattle.alloc_set.specs.Ledger.{class_size, class_bytes}
-use Rattle.alloc_set.specs.State.{SetState, same_addr, chunk_at}
+use Rattle.addr_space.specs.Live.{same_addr}
+use Rattle.alloc_set.specs.State.{SetState, chunk_at}
 use Rattle.alloc_set.specs.declared.chunk.Chunk.{Chunk}
 use Rattle.alloc_set.specs.declared.chunk.Chunk.TheVariants.{Live, Free, Own}
 

@@ -7,13 +7,14 @@ ghost use Rattle.alloc_set.specs.declared.chunk.Chunk.{Chunk};
 ghost use Rattle.addr_space.specs.Footprint.{Agrees, Moves, Keeps, nothing};
 ghost use Rattle.alloc_set.specs.Ledger.{class_bytes, class_size, cut_off, with_free, stats, with_own, cut_rest, cut_up, halved, block_size, reused, created, take_class, class_of, take_own, own_size, take};
 ghost use Rattle.chunk_header.specs.Growth.{grown};
-ghost use Rattle.alloc_set.specs.State.{same_addr, start_of, chunk_at, region_of, mark_of, footprint};
+ghost use Rattle.addr_space.specs.Live.{same_addr};
+ghost use Rattle.alloc_set.specs.State.{start_of, chunk_at, region_of, mark_of, footprint};
 ghost use Rattle.addr_space.specs.Space.{Space, held, accounts};
 
 use crate::chunk::{Chunk, Shelf};
 use crate::classes::{chunk_limit, class_of, class_size};
 use addr_space::{Addr, Space, SpaceError};
-use chunk_header::{CtxError, Header, Kind, Sizes, Stats, block_header, grown, up8};
+use chunk_header::{CtxError, Header, Kind, LARGEST, Sizes, Stats, block_header, grown, up8};
 use indexmap::IndexMap;
 use std::alloc::Global;
 
@@ -76,9 +77,6 @@ fn note(blocks: &mut IndexMap<u32, u32>, number: u32, size: u32)
     }
 }
 
-// The greatest size of a request.
-pub const LARGEST: u64 = 1_073_741_823;
-
 // The greatest total with which a context takes one more block, in bytes.
 pub const MOST: u64 = 1 << 61;
 
@@ -91,7 +89,8 @@ const MOST_CHUNKS: usize = 1 << 39;
 impl Books {
     ghost use Rattle.alloc_set.specs.Kept.{state_of, own_bytes, IsSettled, IsShelved, IsCounted, IsKept};
     ghost use Rattle.alloc_set.specs.Steps.{IsOfClass, Carves};
-    ghost use Rattle.alloc_set.specs.Live.{PutsLive, SameLive, LeavesLive};
+    ghost use Rattle.addr_space.specs.Live.{PutsLive, SameLive};
+    ghost use Rattle.alloc_set.specs.Live.{LeavesLive};
     ghost use Rattle.alloc_set.specs.Cut.{CutsUp, Renews, Allocates};
 
     // The books of a new context, whose keeper was taken.
@@ -208,7 +207,7 @@ impl Books {
         ensures kept { IsKept self.new }
         ensures ledger { (state_of self.new).ledger ≡ cut_off (state_of self.old).ledger class }
         ensures fresh { (footprint (state_of self.old)).live result ≡ None }
-        ensures live { PutsLive (state_of self.old) (state_of self.new) result (Some size) }
+        ensures live { PutsLive (footprint (state_of self.old)) (footprint (state_of self.new)) result (Some size) }
         ensures stays { LeavesLive (state_of self.old) (state_of self.new) }
         ensures moves { Moves (footprint (state_of self.old)) (footprint (state_of self.new)) space.old space.new }
         ensures keeps { Keeps (footprint (state_of self.old)) (footprint (state_of self.new)) space.old space.new }
@@ -232,7 +231,7 @@ impl Books {
         ensures rest { self.new ≡ record self.old { chunks = self.new.chunks; active = self.new.active; shelves = self.new.shelves } }
         ensures owned { sum_by own_bytes (values_of self.new.chunks.entries) ≡ sum_by own_bytes (values_of self.old.chunks.entries) }
         ensures others { (at : Addr) → at.region ≢ self.old.active.region → chunk_at (state_of self.new) at ≡ chunk_at (state_of self.old) at }
-        ensures live { SameLive (state_of self.old) (state_of self.new) }
+        ensures live { SameLive (footprint (state_of self.old)) (footprint (state_of self.new)) }
         ensures stays { LeavesLive (state_of self.old) (state_of self.new) }
         ensures moves { Moves (footprint (state_of self.old)) (footprint (state_of self.new)) space.old space.new }
         ensures keeps { Keeps (footprint (state_of self.old)) (footprint (state_of self.new)) space.old space.new }
@@ -431,7 +430,7 @@ impl Books {
         ensures kept { OnSome result (IsKept self.new) }
         ensures ledger { OnSome result ((state_of self.new).ledger ≡ reused (state_of self.old).ledger class) }
         ensures fresh { IfSome result (λ at. (footprint (state_of self.old)).live at ≡ None) }
-        ensures live { IfSome result (λ at. PutsLive (state_of self.old) (state_of self.new) at (Some size)) }
+        ensures live { IfSome result (λ at. PutsLive (footprint (state_of self.old)) (footprint (state_of self.new)) at (Some size)) }
         ensures stays { LeavesLive (state_of self.old) (state_of self.new) }
         ensures moves { OnSome result ((sp : Space) → Agrees (footprint (state_of self.old)) sp → Moves (footprint (state_of self.old)) (footprint (state_of self.new)) sp sp) }
         ensures rest { self.new ≡ record self.old { chunks = self.new.chunks; shelves = self.new.shelves } }
@@ -456,7 +455,7 @@ impl Books {
         requires live { (size : ℕ) × (chunk_at (state_of self.old) at ≡ Some (Chunk.Live class size)) }
         ensures kept { IsKept self.new }
         ensures ledger { (state_of self.new).ledger ≡ record (state_of self.old).ledger { free = with_free (state_of self.old).ledger.free class 1 } }
-        ensures live { PutsLive (state_of self.old) (state_of self.new) at None }
+        ensures live { PutsLive (footprint (state_of self.old)) (footprint (state_of self.new)) at None }
         ensures moves { (sp : Space) → Agrees (footprint (state_of self.old)) sp → Moves (footprint (state_of self.old)) (footprint (state_of self.new)) sp sp }
         ensures rest { self.new ≡ record self.old { chunks = self.new.chunks; shelves = self.new.shelves } }
     {
@@ -514,7 +513,7 @@ impl Books {
         ensures kept { IsKept self.new }
         ensures ledger { (state_of self.new).ledger ≡ (state_of self.old).ledger }
         ensures fresh { (footprint (state_of self.old)).live result ≡ None }
-        ensures live { PutsLive (state_of self.old) (state_of self.new) result (Some size) }
+        ensures live { PutsLive (footprint (state_of self.old)) (footprint (state_of self.new)) result (Some size) }
         ensures stays { LeavesLive (state_of self.old) (state_of self.new) }
         ensures moves { Moves (footprint (state_of self.old)) (footprint (state_of self.new)) space.old space.new }
         ensures keeps { Keeps (footprint (state_of self.old)) (footprint (state_of self.new)) space.old space.new }

@@ -5,7 +5,8 @@ ghost use Rattle.addr_space.specs.declared.Addr.{Addr};
 ghost use Rattle.alloc_set.specs.declared.chunk.Chunk.{Chunk};
 ghost use Rattle.addr_space.specs.Footprint.{Agrees, Moves, Keeps, nothing};
 ghost use Rattle.alloc_set.specs.Ledger.{without_own};
-ghost use Rattle.alloc_set.specs.State.{same_addr, chunk_at, region_of, freed, emptied, footprint};
+ghost use Rattle.addr_space.specs.Live.{same_addr};
+ghost use Rattle.alloc_set.specs.State.{chunk_at, region_of, freed, emptied, footprint};
 ghost use Rattle.addr_space.specs.Space.{Space};
 
 use crate::books::{Block, Books};
@@ -33,7 +34,7 @@ fn strike(blocks: &mut IndexMap<u32, u32>, number: u32)
 
 impl Books {
     ghost use Rattle.alloc_set.specs.Kept.{state_of, own_bytes, IsCleared, IsKept};
-    ghost use Rattle.alloc_set.specs.Live.{PutsLive, SameLive};
+    ghost use Rattle.addr_space.specs.Live.{PutsLive, SameLive};
     ghost use Rattle.alloc_set.specs.Steps.{PutsChunk};
 
     // What stands at an address.
@@ -51,7 +52,7 @@ impl Books {
         ensures rest { self.new ≡ record self.old { chunks = self.new.chunks } }
         ensures empty { (other : Addr) → other.region ≡ at.region → chunk_at (state_of self.new) other ≡ None }
         ensures counted { self.new.active.room + self.new.idle + sum_by own_bytes (values_of self.new.chunks.entries) + (room + 48) ≤ self.new.total }
-        ensures live { PutsLive (state_of self.old) (state_of self.new) at None }
+        ensures live { PutsLive (footprint (state_of self.old)) (footprint (state_of self.new)) at None }
         ensures moves { (sp : Space) → Agrees (footprint (state_of self.old)) sp → Moves (footprint (state_of self.old)) (footprint (state_of self.new)) sp sp }
     {
         forget(&mut self.chunks, at);
@@ -89,7 +90,7 @@ impl Books {
         requires own { (size : ℕ) × (chunk_at (state_of self.old) at ≡ Some (Chunk.Own size room)) }
         ensures kept { IsKept self.new }
         ensures ledger { (state_of self.new).ledger ≡ without_own (state_of self.old).ledger (room + 48) }
-        ensures live { PutsLive (state_of self.old) (state_of self.new) at None }
+        ensures live { PutsLive (footprint (state_of self.old)) (footprint (state_of self.new)) at None }
         ensures moves { Moves (footprint (state_of self.old)) (footprint (state_of self.new)) space.old space.new }
         ensures keeps { Keeps (footprint (state_of self.old)) (footprint (state_of self.new)) space.old space.new }
     {
@@ -104,7 +105,7 @@ impl Books {
         requires live { IsSome ((footprint (state_of self.old)).live at) }
         ensures kept { IsKept self.new }
         ensures ledger { IfSome (chunk_at (state_of self.old) at) (λ chunk. (state_of self.new).ledger ≡ freed (state_of self.old).ledger chunk) }
-        ensures live { PutsLive (state_of self.old) (state_of self.new) at None }
+        ensures live { PutsLive (footprint (state_of self.old)) (footprint (state_of self.new)) at None }
         ensures moves { Moves (footprint (state_of self.old)) (footprint (state_of self.new)) space.old space.new }
         ensures keeps { Keeps (footprint (state_of self.old)) (footprint (state_of self.new)) space.old space.new }
     {

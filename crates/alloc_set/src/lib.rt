@@ -41,8 +41,8 @@ impl AllocSet {
     ghost use Rattle.chunk_header.specs.Header.{AllHeaded};
     ghost use Rattle.alloc_set.specs.State.{chunk_at, region_of, freed, footprint};
     ghost use Rattle.alloc_set.specs.Ledger.{created, take};
-    ghost use Rattle.alloc_set.specs.Live.{PutsLive};
-    ghost use Rattle.alloc_set.specs.Resize.{resized, StaysFor, MovesLive, HasBytesOf};
+    ghost use Rattle.addr_space.specs.Live.{PutsLive, MovesLive, HasBytesOf};
+    ghost use Rattle.alloc_set.specs.Resize.{resized, StaysFor};
 
     /// A context with one block, for an account of the space. `context` is the number that its blocks keep.
     ///
@@ -100,7 +100,7 @@ impl AllocSet {
 
         // The chunk was not live, and every other chunk stays.
         ensures fresh { IfOk result (λ at. (footprint self.old).live at ≡ None) }
-        ensures live { IfOk result (λ at. PutsLive self.old self.new at (Some size)) }
+        ensures live { IfOk result (λ at. PutsLive (footprint self.old) (footprint self.new) at (Some size)) }
         ensures moves { OnOk result (Moves (footprint self.old) (footprint self.new) space.old space.new) }
         ensures keeps { OnOk result (Keeps (footprint self.old) (footprint self.new) space.old space.new) }
 
@@ -122,7 +122,7 @@ impl AllocSet {
         requires live { IsSome ((footprint self.old).live at) }
         ensures ok { result ≡ Ok tt }
         ensures ledger { IfSome (chunk_at self.old at) (λ chunk. self.new.ledger ≡ freed self.old.ledger chunk) }
-        ensures live { PutsLive self.old self.new at None }
+        ensures live { PutsLive (footprint self.old) (footprint self.new) at None }
         ensures moves { Moves (footprint self.old) (footprint self.new) space.old space.new }
         ensures keeps { Keeps (footprint self.old) (footprint self.new) space.old space.new }
     {
@@ -157,7 +157,7 @@ impl AllocSet {
         // Where the chunk is at another address, none was live there, and the old address has none. Others stay.
         ensures place { IfOk result (λ to. (to ≡ at) ↔ StaysFor (chunk_at self.old at) size) }
         ensures fresh { IfOk result (λ to. to ≢ at → (footprint self.old).live to ≡ None) }
-        ensures live { IfOk result (λ to. MovesLive self.old self.new at to size) }
+        ensures live { IfOk result (λ to. MovesLive (footprint self.old) (footprint self.new) at to size) }
         ensures bytes { IfOk result (λ to. HasBytesOf space.old space.new at to (min keep size)) }
         ensures known { IfOk result (λ to. IsKnown space.new to (min keep size)) }
         ensures moves { OnOk result (Moves (footprint self.old) (footprint self.new) space.old space.new) }

@@ -8,11 +8,11 @@ ghost use Rattle.alloc_set.specs.declared.chunk.Chunk.{Chunk};
 ghost use Rattle.alloc_set.specs.Ledger.{class_size};
 ghost use Rattle.alloc_set.specs.State.{chunk_at, footprint};
 
-use crate::books::{Books, LARGEST, MOST, put};
+use crate::books::{Books, MOST, put};
 use crate::chunk::Chunk;
 use crate::classes::class_size;
 use addr_space::{Addr, Space, SpaceError};
-use chunk_header::{CtxError, block_header, up8};
+use chunk_header::{CtxError, LARGEST, block_header, up8};
 use indexmap::IndexMap;
 
 // Notes another size of a block.
@@ -50,7 +50,7 @@ fn resize_block(space: &mut Space, context: u32, region: u32, size: u32) -> Resu
 
 impl Books {
     ghost use Rattle.alloc_set.specs.Kept.{state_of, IsKept};
-    ghost use Rattle.alloc_set.specs.Live.{PutsLive};
+    ghost use Rattle.addr_space.specs.Live.{PutsLive};
     ghost use Rattle.alloc_set.specs.Resize.{with_block, resize_class, resize_block, kept_size, resized, Resizes};
 
     // Gives a chunk of a class another size in place.
@@ -61,7 +61,7 @@ impl Books {
         requires live { (old : ℕ) × (chunk_at (state_of self.old) at ≡ Some (Chunk.Live class old)) }
         ensures kept { IsKept self.new }
         ensures ledger { (state_of self.new).ledger ≡ (state_of self.old).ledger }
-        ensures live { PutsLive (state_of self.old) (state_of self.new) at (Some size) }
+        ensures live { PutsLive (footprint (state_of self.old)) (footprint (state_of self.new)) at (Some size) }
         ensures moves { (sp : Space) → Agrees (footprint (state_of self.old)) sp → Moves (footprint (state_of self.old)) (footprint (state_of self.new)) sp sp }
     {
         put(&mut self.chunks, at, Chunk::Live { class, size });
@@ -146,7 +146,7 @@ impl Books {
         requires most { room + 48 ≤ 2 ^ 31 }
         ensures kept { OnOk result (IsKept self.new) }
         ensures ledger { OnOk result ((state_of self.new).ledger ≡ with_block (state_of self.old).ledger (old + 48) (room + 48)) }
-        ensures live { OnOk result (PutsLive (state_of self.old) (state_of self.new) at (Some size)) }
+        ensures live { OnOk result (PutsLive (footprint (state_of self.old)) (footprint (state_of self.new)) at (Some size)) }
         ensures moves { OnOk result (Moves (footprint (state_of self.old)) (footprint (state_of self.new)) space.old space.new) }
         ensures keeps { OnOk result (Keeps (footprint (state_of self.old)) (footprint (state_of self.new)) space.old space.new) }
         ensures within { OnOk result (held space.old self.old.account - (old + 48) + (room + 48) ≤ space.old.limit) }
@@ -175,7 +175,7 @@ impl Books {
         requires fits { size ≤ room }
         ensures kept { IsKept self.new }
         ensures ledger { (state_of self.new).ledger ≡ (state_of self.old).ledger }
-        ensures live { PutsLive (state_of self.old) (state_of self.new) at (Some size) }
+        ensures live { PutsLive (footprint (state_of self.old)) (footprint (state_of self.new)) at (Some size) }
         ensures moves { (sp : Space) → Agrees (footprint (state_of self.old)) sp → Moves (footprint (state_of self.old)) (footprint (state_of self.new)) sp sp }
     {
         put(&mut self.chunks, at, Chunk::Own { size, room });
@@ -195,7 +195,7 @@ impl Books {
         requires live { (n : ℕ) × (chunk_at (state_of self.old) at ≡ Some (Chunk.Own n old)) }
         ensures kept { OnOk result (IsKept self.new) }
         ensures ledger { OnOk result (resize_block (state_of self.old).ledger (held space.old self.old.account) space.old.limit (old + 48) (kept_size (state_of self.old).ledger size) ≡ Ok (state_of self.new).ledger) }
-        ensures live { OnOk result (PutsLive (state_of self.old) (state_of self.new) at (Some size)) }
+        ensures live { OnOk result (PutsLive (footprint (state_of self.old)) (footprint (state_of self.new)) at (Some size)) }
         ensures moves { OnOk result (Moves (footprint (state_of self.old)) (footprint (state_of self.new)) space.old space.new) }
         ensures keeps { OnOk result (Keeps (footprint (state_of self.old)) (footprint (state_of self.new)) space.old space.new) }
         ensures no_space { result ≡ Err CtxError.NoSpace → resize_block (state_of self.old).ledger (held space.old self.old.account) space.old.limit (old + 48) (kept_size (state_of self.old).ledger size) ≡ Err CtxError.NoSpace }

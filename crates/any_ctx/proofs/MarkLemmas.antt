@@ -1,5 +1,5 @@
 -- Lemmas on the words of headers in a space.
-use Rattle.std.proofs.Common.{◌≡◌, ℕ, ◌+◌, ◌^◌, ◌<◌, ◌≤◌, List, length, map, get_or, slice_index, Option, Some, None, refl, sym, ap, ◌∙◌, arith, inl, inr}
+use Rattle.std.proofs.Common.{◌≡◌, ℕ, ◌+◌, ◌^◌, ◌<◌, ◌≤◌, List, length, map, get_or, slice_index, Option, Some, None, sym, ap, ◌∙◌, arith, inl, inr}
 use Rattle.std.proofs.lemmas.Bool.{cases_lt}
 use Rattle.std.proofs.lemmas.List.{ext_get_or, get_or-map, get_or_past, length-map, length-take, length-drop}
 use Rattle.addr_space.specs.Space.{Space, part, byte_at, bytes_of, region_at, HasBytes}
@@ -8,7 +8,7 @@ use Rattle.addr_space.proofs.Bytes.{known-part}
 use Rattle.std.specs.Int.{from_le_bytes, w64}
 use Rattle.std.proofs.lemmas.Nat.{from_le_bytes-to_le_bytes_8}
 use Rattle.chunk_header.specs.declared.Header.{Header}
-use Rattle.chunk_header.specs.Header.{header_bytes, block_bytes, word_of, IsPackable}
+use Rattle.chunk_header.specs.Header.{header_bytes, word_of, IsPackable}
 use Rattle.chunk_header.proofs.Words.{kind_code-lt, own_bit-lt}
 
 -- known bytes lie in their region
@@ -36,15 +36,6 @@ same_bytes s at out bytes len has is =
     let second : get_or (map Some bytes) k None ≡ Some (get_or bytes k 0) = get_or-map Some bytes k 0 None (omega (arith, below, len_out, len)) in
     let one : Some (get_or out k 0) ≡ Some (get_or bytes k 0) = sym first ∙ ap (λ l. get_or l k None) both ∙ second in
     cc)
-
--- the lengths of words
-pub length-header_bytes : (h : Header) → length (header_bytes h) ≡ 8
-unfolding header_bytes
-length-header_bytes h = refl
-
-pub length-block_bytes : (context size : ℕ) → length (block_bytes context size) ≡ 8
-unfolding block_bytes
-length-block_bytes context size = refl
 
 -- a header's word has 64 bits
 pub word_of-lt : (h : Header) → IsPackable h → word_of h < 2 ^ 64

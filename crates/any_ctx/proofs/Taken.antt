@@ -2,9 +2,8 @@
 use Rattle.std.proofs.Common.{◌≡◌, ◌∙◌, ℕ, ap, if◌then◌else◌, true, Some, refl, inl, inr}
 use Rattle.addr_space.specs.declared.Addr.{Addr}
 use Rattle.addr_space.specs.Footprint.{Footprint}
-use Rattle.ctx_blocks.specs.Layout.{same_addr}
-use Rattle.ctx_blocks.proofs.Laid.{same_addr-cases}
-use Rattle.any_ctx.specs.Calls.{PutsLive}
+use Rattle.addr_space.specs.Live.{same_addr, PutsLive}
+use Rattle.addr_space.proofs.Addresses.{same_addr-cases}
 
 same_addr-refl : (at : Addr) → same_addr at at ≡ true
 same_addr-refl at =

@@ -6,7 +6,8 @@ ghost use Rattle.addr_space.specs.Footprint.{nothing, Agrees, Moves, Keeps, Keep
 ghost use Rattle.chunk_header.specs.Header.{AllHeaded};
 ghost use Rattle.any_ctx.specs.Kinds.{first_size, IsSlabSize, IsCreated, IsSetOf};
 ghost use Rattle.any_ctx.specs.Contexts.{footprint, stats, IsBump};
-ghost use Rattle.any_ctx.specs.Calls.{Takes, LacksSpace, IsWrongSize, Frees, Resizes, LacksRoom, IsUnsupported, IsReset, PutsLive, MovesLive, HasBytesOf};
+ghost use Rattle.addr_space.specs.Live.{PutsLive, MovesLive, HasBytesOf};
+ghost use Rattle.any_ctx.specs.Calls.{Takes, LacksSpace, IsWrongSize, Frees, Resizes, LacksRoom, IsUnsupported, IsReset};
 
 use addr_space::{Addr, Space};
 use alloc_set::AllocSet;

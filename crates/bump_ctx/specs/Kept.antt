@@ -1,11 +1,13 @@
 -- What holds of the insides of a Bump context.
-use Rattle.std.specs.Prelude.{◌≡◌, ℕ, ◌-◌, ◌%◌, ◌≤◌, length, Option, Some, None}
+use Rattle.std.specs.Prelude.{◌≡◌, ℕ, ◌-◌, length, Option, Some, None}
 use Rattle.chunk_header.specs.declared.Kind.TheVariants.{Bump}
-use Rattle.ctx_blocks.specs.Layout.{Layout, block_at, total, rooms}
+use Rattle.ctx_blocks.specs.Layout.{Layout, block_at, total, rooms, bare}
 use Rattle.ctx_blocks.specs.declared.parts.Block.{Block}
 use Rattle.bump_ctx.specs.Ledger.{BumpLedger}
-use Rattle.bump_ctx.specs.State.{BumpState, bare}
+use Rattle.bump_ctx.specs.State.{BumpState}
 use Rattle.bump_ctx.specs.declared.books.Books.{Books}
+use Rattle.chunk_header.specs.Growth.{AreSizes}
+use Rattle.ctx_blocks.specs.Kept.{HasSize}
 
 -- the room of a block, where there is one
 abbrev pub room_of : Option Block → ℕ
@@ -31,27 +33,10 @@ ledger_of b = record {
 abbrev pub state_of : Books → BumpState
 state_of b = record { ledger = ledger_of b; layout = bare b.blocks }
 
--- the sizes, and the size of the next block
-pub record IsSized (init max next : ℕ) : Type 0 where
-  pub least : 1024 ≤ init
-  pub order : init ≤ max
-  pub most : max ≤ 8388608
-  pub whole_init : init % 8 ≡ 0
-  pub whole_max : max % 8 ≡ 0
-  pub next_least : 1024 ≤ next
-  pub next_most : next ≤ max
-  pub next_whole : next % 8 ≡ 0
-
--- there is a block, and it has this size
-pub record HasSize (l : Layout) (number bytes : ℕ) : Type 0 where
-  pub block : Block
-  pub is : block_at l number ≡ Some block
-  pub size : block.size ≡ bytes
-
 -- all that the code keeps
 pub record IsKept (b : Books) : Type 0 where
   pub kind : b.blocks.kind ≡ Bump
-  pub sizes : IsSized b.sizes.init b.sizes.max b.next
+  pub sizes : AreSizes b.sizes.init b.sizes.max b.next
   pub keeper : HasSize b.blocks b.blocks.keeper b.sizes.init
   pub bytes : ℕ
   pub newest : HasSize b.blocks b.newest bytes

@@ -3,8 +3,7 @@ use Rattle.std.specs.Prelude.{ℕ, ◌+◌, ◌-◌, ◌*◌, nat_lt, nat_le, mi
 use Rattle.chunk_header.specs.declared.CtxError.{CtxError}
 use Rattle.chunk_header.specs.declared.CtxError.TheVariants.{TooBig, NoSpace, Unsupported}
 use Rattle.chunk_header.specs.declared.Stats.{Stats}
-use Rattle.chunk_header.specs.Growth.{grown}
-use Rattle.bump_ctx.specs.Room.{granted}
+use Rattle.chunk_header.specs.Growth.{grown, granted}
 
 -- the sizes that it was created with; the size of the next block; the bytes of all blocks and how many they
 -- are; and the room of the newest ordinary block, off which chunks are cut, and the rooms of all others

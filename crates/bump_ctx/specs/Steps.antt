@@ -7,7 +7,7 @@ use Rattle.chunk_header.specs.declared.CtxError.{CtxError}
 use Rattle.ctx_blocks.specs.Layout.{footprint}
 use Rattle.bump_ctx.specs.Ledger.{BumpLedger}
 use Rattle.bump_ctx.specs.Kept.{ledger_of, IsKept}
-use Rattle.bump_ctx.specs.Live.{PutsLive}
+use Rattle.addr_space.specs.Live.{PutsLive}
 use Rattle.bump_ctx.specs.declared.books.Books.{Books}
 
 -- a live chunk of this size is there now, where the ledger's step answers so

@@ -4,12 +4,12 @@ ghost use Rattle.addr_space.specs.declared.Addr.{Addr};
 ghost use Rattle.addr_space.specs.Space.{accounts, held};
 ghost use Rattle.addr_space.specs.Footprint.{Agrees, Moves, Keeps, nothing};
 ghost use Rattle.ctx_blocks.specs.Layout.{footprint};
-ghost use Rattle.bump_ctx.specs.Room.{granted};
+ghost use Rattle.chunk_header.specs.Growth.{granted};
 ghost use Rattle.bump_ctx.specs.Ledger.{created, cut_off, renewed, block_size, take_own, take_cut, take, stats};
-ghost use Rattle.bump_ctx.specs.Live.{PutsLive};
+ghost use Rattle.addr_space.specs.Live.{PutsLive};
 
 use addr_space::{Addr, Space};
-use chunk_header::{CtxError, Kind, Sizes, Stats, grown, up8};
+use chunk_header::{CtxError, Kind, LARGEST, Sizes, Stats, granted, grown};
 use ctx_blocks::Blocks;
 use std::alloc::Global;
 
@@ -24,24 +24,8 @@ pub struct Books {
     pub blocks: Blocks,
 }
 
-// The greatest size of a request.
-pub const LARGEST: u64 = 1_073_741_823;
-
 // The greatest request that is cut off a shared block.
 const LIMIT: u32 = 524_288;
-
-// The bytes that a chunk of so many has.
-#[tactic(auto, unfolding(crate::specs::Room::granted))]
-fn granted(size: u32) -> u32
-    requires { size < 2 ^ 30 }
-    ensures value { result ≡ granted size }
-    ensures some { 8 ≤ result }
-    ensures least { size ≤ result }
-    ensures most { (result ≡ 8) ⊎ (result < size + 8) }
-    ensures whole { result % 8 ≡ 0 }
-{
-    up8(size.max(1))
-}
 
 impl Books {
     ghost use Rattle.bump_ctx.specs.Kept.{ledger_of, state_of, room_at, IsKept};
@@ -85,7 +69,7 @@ impl Books {
     }
 
     // What the books say.
-    #[tactic(auto, using(crate::proofs::Sums::room_within), unfolding(crate::specs::Ledger::stats))]
+    #[tactic(auto, using(ctx_blocks::proofs::Totals::room_within), unfolding(crate::specs::Ledger::stats))]
     pub fn stats(&self) -> Stats
         requires { IsKept self.now }
         ensures { result ≡ stats (ledger_of self.now) }

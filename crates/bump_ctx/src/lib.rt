@@ -10,8 +10,8 @@ mod books;
 mod tests;
 
 use addr_space::{Addr, Space};
-use books::{Books, LARGEST};
-use chunk_header::{CtxError, Sizes, Stats};
+use books::Books;
+use chunk_header::{CtxError, LARGEST, Sizes, Stats};
 use std::alloc::Global;
 use std::marker::Model;
 
@@ -37,9 +37,9 @@ impl Model for BumpCtx {
 impl BumpCtx {
     ghost use Rattle.addr_space.specs.Space.{accounts, held};
     ghost use Rattle.addr_space.specs.Footprint.{nothing, Agrees, Moves, Keeps};
-    ghost use Rattle.bump_ctx.specs.State.{footprint, account_of};
+    ghost use Rattle.bump_ctx.specs.State.{footprint};
     ghost use Rattle.bump_ctx.specs.Ledger.{created, refusal};
-    ghost use Rattle.bump_ctx.specs.Live.{PutsLive};
+    ghost use Rattle.addr_space.specs.Live.{PutsLive};
 
     /// A context with one block, for an account of the space. `context` is the number that its blocks keep.
     ///
@@ -79,7 +79,7 @@ impl BumpCtx {
         self.books.stats()
     }
 
-    #[tactic(auto, using(crate::proofs::Seen::agrees_bare, crate::proofs::Seen::moves_bare))]
+    #[tactic(auto, using(ctx_blocks::proofs::Spared::agrees_bare, ctx_blocks::proofs::Spared::moves_bare))]
     /// Takes a chunk of `size` bytes, which may be 0, and answers its address. No byte of it is known.
     ///
     /// `TooBig`, `NoSpace` and `Memory` are tried in this order. A refused call changes nothing.
@@ -87,7 +87,7 @@ impl BumpCtx {
         requires { Agrees (footprint self.old) space.old }
 
         // The ledger makes its step for the request, with what is left of the account.
-        ensures ledger { OnOk result (take self.old.ledger (space.old.limit - held space.old (account_of self.old)) size ≡ Ok self.new.ledger) }
+        ensures ledger { OnOk result (take self.old.ledger (space.old.limit - held space.old self.old.layout.account) size ≡ Ok self.new.ledger) }
 
         // The chunk was not live, and every other chunk stays.
         ensures fresh { IfOk result (λ at. (footprint self.old).live at ≡ None) }
@@ -96,7 +96,7 @@ impl BumpCtx {
         ensures keeps { OnOk result (Keeps (footprint self.old) (footprint self.new) space.old space.new) }
 
         ensures too_big { (result ≡ Err CtxError.TooBig) ↔ (1073741823 < size) }
-        ensures no_space { result ≡ Err CtxError.NoSpace → take self.old.ledger (space.old.limit - held space.old (account_of self.old)) size ≡ Err CtxError.NoSpace }
+        ensures no_space { result ≡ Err CtxError.NoSpace → take self.old.ledger (space.old.limit - held space.old self.old.layout.account) size ≡ Err CtxError.NoSpace }
         ensures no_other { IfErr result (λ e. (e ≡ CtxError.TooBig) ⊎ ((e ≡ CtxError.NoSpace) ⊎ (e ≡ CtxError.Memory))) }
         ensures err { OnErr result (self.new ≡ self.old) }
         ensures err_space { OnErr result (space.new ≡ space.old) }
@@ -139,7 +139,7 @@ impl BumpCtx {
         Err(CtxError::Unsupported)
     }
 
-    #[tactic(auto, using(crate::proofs::Seen::agrees_bare, crate::proofs::Seen::moves_bare))]
+    #[tactic(auto, using(ctx_blocks::proofs::Spared::agrees_bare, ctx_blocks::proofs::Spared::moves_bare))]
     /// Frees all chunks and gives every block but the first back: the context is as it was created. It takes no memory.
     pub fn reset(&mut self, space: &mut Space)
         requires { Agrees (footprint self.old) space.old }

@@ -1,9 +1,9 @@
--- Lemmas on a size that is doubled while it is below a need.
-use Rattle.std.proofs.Common.{◌≡◌, ℕ, zero, suc, ◌+◌, ◌*◌, ◌<◌, ◌≤◌, refl, sym, ◌∙◌, arith}
+-- Lemmas on a size that is doubled while it is below a need, and on the sizes of blocks.
+use Rattle.std.proofs.Common.{◌≡◌, ℕ, zero, suc, ◌+◌, ◌*◌, ◌<◌, ◌≤◌, refl, sym, ◌∙◌, arith, min}
 use Rattle.std.proofs.lemmas.Bool.{cases_lt}
 use Rattle.std.proofs.lemmas.Bool.Decides.{nat_tests}
 use Rattle.std.proofs.Common.{inl, inr}
-use Rattle.chunk_header.specs.Growth.{doubled, grown}
+use Rattle.chunk_header.specs.Growth.{doubled, grown, AreSizes}
 
 -- a size that meets the need stays
 pub doubled-stop : (times size need : ℕ) → need ≤ size → doubled times size need ≡ size
@@ -35,3 +35,29 @@ grown-stop size need meets = doubled-stop need size need meets
 pub grown-go : (size need : ℕ) → 0 < size → size < need → grown size need ≡ grown (2 * size) need
 unfolding grown
 grown-go size need some below = doubled-enough need (suc need) size need some (omega arith) (omega arith) ∙ doubled-go need size need below
+
+-- the first block's size is one that the next block may have
+pub AreSizes-first : (init max next : ℕ) → AreSizes init max next → AreSizes init max init
+AreSizes-first init max next s = record {
+  least = s.least;
+  order = s.order;
+  most = s.most;
+  whole_init = s.whole_init;
+  whole_max = s.whole_max;
+  next_least = s.least;
+  next_most = s.order;
+  next_whole = s.whole_init;
+}
+
+-- and so is twice the next one's, up to the greatest
+pub AreSizes-next : (init max next : ℕ) → AreSizes init max next → AreSizes init max (min (2 * next) max)
+AreSizes-next init max next s = record {
+  least = s.least;
+  order = s.order;
+  most = s.most;
+  whole_init = s.whole_init;
+  whole_max = s.whole_max;
+  next_least = omega (arith, s.least, s.order, s.next_least);
+  next_most = omega arith;
+  next_whole = omega (arith, s.next_whole, s.whole_max);
+}

@@ -1,3 +1,4 @@
 -- Lemmas for this crate, and for the allocators above it.
 pub mod Words
 pub mod Doubling
+pub mod Sums

@@ -1,10 +1,19 @@
 -- Lemmas on the words of headers.
-use Rattle.std.proofs.Common.{◌≡◌, ℕ, ◌+◌, ◌*◌, ◌/◌, ◌%◌, ◌^◌, ◌<◌, ◌≤◌, ◌==◌, if◌then◌else◌, Bool, true, false, refl, sym, ap, ◌∙◌, arith}
+use Rattle.std.proofs.Common.{◌≡◌, ℕ, ◌+◌, ◌*◌, ◌/◌, ◌%◌, ◌^◌, ◌<◌, ◌≤◌, ◌==◌, if◌then◌else◌, length, Bool, true, false, refl, sym, ap, ◌∙◌, arith}
 use Rattle.std.proofs.lemmas.Bool.Decides.{nat_tests}
 use Rattle.chunk_header.specs.declared.Kind.{Kind}
 use Rattle.chunk_header.specs.declared.Kind.TheVariants.{AllocSet, Slab, Generation, Bump, Aligned}
 use Rattle.chunk_header.specs.declared.Header.{Header}
-use Rattle.chunk_header.specs.Header.{kind_code, own_bit, word_of, IsPackable}
+use Rattle.chunk_header.specs.Header.{kind_code, own_bit, word_of, header_bytes, block_bytes, IsPackable}
+
+-- a header has 8 bytes, and so has what is marked of a block's
+pub length-header_bytes : (h : Header) → length (header_bytes h) ≡ 8
+unfolding header_bytes
+length-header_bytes h = refl
+
+pub length-block_bytes : (context size : ℕ) → length (block_bytes context size) ≡ 8
+unfolding block_bytes
+length-block_bytes context size = refl
 
 -- the parts of a word
 pub word_parts : (k o v d w : ℕ) → k < 16 → o < 2 → v < 2 ^ 30 → w ≡ k + 2 ^ 4 * (o + 2 * (v + 2 ^ 30 * d)) → (w % 16 ≡ k) × (w / 16 % 2 ≡ o) × (w / 32 % 0x4000_0000 ≡ v) × (w / 0x8_0000_0000 ≡ d)

@@ -1,9 +1,13 @@
 -- Sizes of chunks and blocks.
-use Rattle.std.specs.Prelude.{ℕ, zero, suc, ◌+◌, ◌*◌, ◌/◌, nat_lt, if◌then◌else◌}
+use Rattle.std.specs.Prelude.{◌≡◌, ℕ, zero, suc, ◌+◌, ◌*◌, ◌/◌, ◌%◌, ◌≤◌, max, nat_lt, if◌then◌else◌}
 
 -- rounded up to a multiple of 8
 unfoldable pub up8 : ℕ → ℕ
 up8 n = (n + 7) / 8 * 8
+
+-- the bytes of a chunk that is cut to measure: a multiple of 8, and 8 where none was asked for
+unfoldable pub granted : ℕ → ℕ
+granted size = up8 (max size 1)
 
 -- doubled while it is below a need, so many times at most
 unfoldable pub doubled : ℕ → ℕ → ℕ → ℕ
@@ -13,3 +17,14 @@ doubled (suc times) size need = if nat_lt size need then doubled times (2 * size
 -- doubled while it is below a need
 unfoldable pub grown : ℕ → ℕ → ℕ
 grown size need = doubled need size need
+
+-- the sizes of a context's blocks, and that of its next one
+pub record AreSizes (init max next : ℕ) : Type 0 where
+  pub least : 1024 ≤ init
+  pub order : init ≤ max
+  pub most : max ≤ 8388608
+  pub whole_init : init % 8 ≡ 0
+  pub whole_max : max % 8 ≡ 0
+  pub next_least : 1024 ≤ next
+  pub next_most : next ≤ max
+  pub next_whole : next % 8 ≡ 0

@@ -6,7 +6,7 @@ ghost use Rattle.addr_space.specs.declared.Addr.{Addr};
 ghost use Rattle.addr_space.specs.Space.{Space};
 ghost use Rattle.addr_space.specs.Footprint.{Footprint, Agrees};
 ghost use Rattle.chunk_header.specs.Header.{kind_code, word_of, IsPackable, header_bytes, block_bytes, IsMarked, IsHeaded};
-ghost use Rattle.chunk_header.specs.Growth.{up8, grown};
+ghost use Rattle.chunk_header.specs.Growth.{up8, granted, grown};
 
 /// The kinds of memory context, as a chunk's header names them.
 #[derive(Clone, Copy, PartialEq, Eq, Debug)]
@@ -98,6 +98,9 @@ pub struct Stats {
     pub chunks: u64,
 }
 
+/// The greatest size of a request, in bytes.
+pub const LARGEST: u64 = 1_073_741_823;
+
 /// The sizes of a context's blocks, in bytes: both multiples of 8.
 #[derive(Clone, Copy, PartialEq, Eq, Debug)]
 pub struct Sizes {
@@ -177,6 +180,19 @@ pub fn up8(n: u32) -> u32
     ensures whole { result % 8 ≡ 0 }
 {
     (n + 7) / 8 * 8
+}
+
+/// The bytes of a chunk that is cut to measure: a multiple of 8, and 8 where none was asked for.
+#[tactic(auto, unfolding(crate::specs::Growth::granted))]
+pub fn granted(size: u32) -> u32
+    requires { size < 2 ^ 30 }
+    ensures value { result ≡ granted size }
+    ensures some { 8 ≤ result }
+    ensures least { size ≤ result }
+    ensures most { (result ≡ 8) ⊎ (result < size + 8) }
+    ensures whole { result % 8 ≡ 0 }
+{
+    up8(size.max(1))
 }
 
 /// A block's size, doubled while it is below a need.

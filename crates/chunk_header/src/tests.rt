@@ -28,6 +28,7 @@ fn words_of_headers(rt: HostRuntime) -> Result<(), Fail> {
 #[test]
 fn sizes_of_blocks(rt: HostRuntime) -> Result<(), Fail> {
     assert_eq!(rt; up8(9), 16);
+    assert_eq!(rt; granted(0), 8);
     assert_eq!(rt; grown(1024, 1072), 2048);
     assert_eq!(rt; block_header(258, 8192), [2, 1, 0, 0, 0, 32, 0, 0]);
     Ok(())

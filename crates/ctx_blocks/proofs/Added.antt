@@ -12,7 +12,9 @@ use Rattle.ctx_blocks.specs.Layout.{Layout, block_at, chunk_at, start_of, header
 use Rattle.ctx_blocks.specs.Kept.{IsFilled, IsLaid, IsSized, IsCounted, IsFirst}
 use Rattle.ctx_blocks.specs.Steps.{SameContext}
 use Rattle.ctx_blocks.specs.declared.parts.Block.{Block}
-use Rattle.ctx_blocks.proofs.Laid.{mark_cases, mark_from_block, mark_from_chunk, from_live, region_is, one_value, option_cases, block_cases, behind, length-block_bytes, IsSound-laid}
+use Rattle.addr_space.proofs.Options.{option_cases, one_value}
+use Rattle.chunk_header.proofs.Words.{length-block_bytes}
+use Rattle.ctx_blocks.proofs.Laid.{mark_cases, mark_from_block, mark_from_chunk, from_live, region_is, block_cases, behind, IsSound-laid}
 use Rattle.ctx_blocks.proofs.Counts.{none_placed}
 use Rattle.ctx_blocks.proofs.Totals.{keeper_owned}
 use Rattle.ctx_blocks.proofs.Lessened.{start_same, gap_same}

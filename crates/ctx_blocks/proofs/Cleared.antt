@@ -1,17 +1,17 @@
 -- Lemmas on a context whose chunks are forgotten and whose last blocks go.
-use Rattle.std.proofs.Common.{◌≡◌, ℕ, ◌+◌, ◌-◌, ◌≤◌, ◌==◌, List, [], ◌∷◌, length, take, Some, None, true, if◌then◌else◌, refl, sym, ap, ◌∙◌, arith, sum_by}
+use Rattle.std.proofs.Common.{◌≡◌, ℕ, ◌+◌, ◌-◌, ◌≤◌, ◌==◌, List, [], ◌∷◌, length, take, Some, None, true, if◌then◌else◌, refl, sym, ap, ◌∙◌, arith, sum_by, option_map}
 use Rattle.std.specs.Map.{lookup, values_of}
 use Rattle.std.proofs.lemmas.Bool.Decides.{nat_tests}
 use Rattle.std.proofs.lemmas.List.{take-take}
 use Rattle.addr_space.specs.declared.Addr.{Addr}
-use Rattle.ctx_blocks.specs.Layout.{Layout, same_addr, block_at, chunk_at, then_option, footprint}
+use Rattle.addr_space.specs.Live.{same_addr}
+use Rattle.ctx_blocks.specs.Layout.{Layout, block_at, chunk_at, footprint}
 use Rattle.ctx_blocks.specs.Kept.{IsLaid, IsFirst}
 use Rattle.ctx_blocks.specs.Steps.{SameContext, with_block}
 use Rattle.ctx_blocks.specs.declared.parts.Block.{Block}
 use Rattle.addr_space.specs.Space.{Space}
 use Rattle.addr_space.specs.Footprint.{Agrees, Moves, nothing}
-use Rattle.addr_space.proofs.Steps.{Moves-still}
-use Rattle.ctx_blocks.proofs.New.{Agrees-nothing}
+use Rattle.addr_space.proofs.Steps.{Moves-still, Agrees-nothing}
 use Rattle.ctx_blocks.proofs.Lessened.{Lessens}
 
 pub Lessens-cleared : (l m : Layout) → IsLaid l → SameContext l m → m.blocks ≡ l.blocks → m.chunks ≡ [] → Lessens l m
@@ -54,5 +54,5 @@ Moves-nothing l account context blocks same_account same_context s agrees =
     let f : Block → ℕ = λ b. b.size in
     Moves-still (footprint l) (nothing account context) s agrees (Agrees-nothing account context s (omega (arith, agrees.account, same_account))).sound same_account same_context
     (sym (ap (λ es. sum_by f (values_of es)) blocks))
-    (λ number. sym (ap (λ es. then_option (lookup (λ n. number == n) es) (λ b. Some b.size)) blocks))
+    (λ number. sym (ap (λ es. option_map (λ b. b.size) (lookup (λ n. number == n) es)) blocks))
     (λ at bytes marked. absurd (cc))

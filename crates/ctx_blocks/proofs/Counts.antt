@@ -9,12 +9,14 @@ use Rattle.std.proofs.lemmas.List.Sums.{sum_by-cons, sum_by-swap_remove}
 use Rattle.indexmap.specs.IndexMap.{insert_entry, swap_remove_entry}
 use Rattle.indexmap.proofs.MapLemmas.{Found-position, some_index, swap_remove_entry-found}
 use Rattle.addr_space.specs.declared.Addr.{Addr}
-use Rattle.ctx_blocks.specs.Layout.{Layout, same_addr, chunk_at, block_at, is_in, count_in}
+use Rattle.addr_space.specs.Live.{same_addr}
+use Rattle.ctx_blocks.specs.Layout.{Layout, chunk_at, block_at, is_in, count_in}
 use Rattle.ctx_blocks.specs.Kept.{IsLaid, IsCounted}
 use Rattle.ctx_blocks.specs.declared.parts.Block.{Block}
 use Rattle.ctx_blocks.specs.declared.parts.Chunk.{Chunk}
 use Rattle.ctx_blocks.proofs.Entries.{count-insert, lookup-counted}
-use Rattle.ctx_blocks.proofs.Laid.{same_addr-cases, option_cases}
+use Rattle.addr_space.proofs.Options.{option_cases}
+use Rattle.addr_space.proofs.Addresses.{same_addr-cases}
 
 -- one or none by whether a region is another one
 abbrev pub one_in : ℕ → ℕ → ℕ

@@ -6,7 +6,8 @@ use Rattle.ctx_blocks.specs.Kept.{IsLaid, IsClear}
 use Rattle.ctx_blocks.specs.Held.{Holds}
 use Rattle.ctx_blocks.specs.declared.parts.Block.{Block}
 use Rattle.ctx_blocks.specs.declared.parts.Chunk.{Chunk}
-use Rattle.ctx_blocks.proofs.Laid.{gap_cases, one_value}
+use Rattle.addr_space.proofs.Options.{one_value}
+use Rattle.ctx_blocks.proofs.Laid.{gap_cases}
 use Rattle.ctx_blocks.proofs.Headed.{start_whole}
 
 -- at the beginning of a block's room

@@ -1,18 +1,18 @@
 -- Lemmas on the sums over a map's entries.
-use Rattle.std.proofs.Common.{◌≡◌, ℕ, ◌+◌, ◌≤◌, List, [], ◌∷◌, Bool, true, false, if◌then◌else◌, Some, unwrap_or, option_map, is_some, sum_by, arith, refl}
+use Rattle.std.proofs.Common.{◌≡◌, ℕ, ◌+◌, ◌≤◌, List, [], ◌∷◌, Bool, true, false, if◌then◌else◌, Some, unwrap_or, option_map, is_some, sum_by, arith, refl, length}
 use Rattle.std.proofs.lemmas.List.Sums.{sum_by-cons}
 use Rattle.std.specs.Map.{lookup, values_of}
 use Rattle.indexmap.specs.IndexMap.{insert_entry, shift_remove_entry}
 
 module _ {K X : Type 0} (eq : K → K → Bool) (k : K) (v : X) where
-  insert_step : (f : X → ℕ) (e : K × X) (es : List (K × X)) (b : Bool) → sum_by f (values_of (insert_entry eq es k v)) + unwrap_or (option_map f (lookup (eq k) es)) 0 ≡ sum_by f (values_of es) + f v → sum_by f (values_of (if b then (e.0, v) ∷ es else e ∷ insert_entry eq es k v)) + unwrap_or (option_map f (if b then Some e.1 else lookup (eq k) es)) 0 ≡ sum_by f (values_of (e ∷ es)) + f v
-  insert_step f e es true rest = omega (arith, sum_by-cons f v (values_of es), sum_by-cons f e.1 (values_of es))
-  insert_step f e es false rest = omega (arith, rest, sum_by-cons f e.1 (values_of (insert_entry eq es k v)), sum_by-cons f e.1 (values_of es))
+  length_step : (e : K × X) (es : List (K × X)) (b : Bool) → length (insert_entry eq es k v) ≡ length es + (if is_some (lookup (eq k) es) then 0 else 1) → length (if b then (e.0, v) ∷ es else e ∷ insert_entry eq es k v) ≡ length (e ∷ es) + (if is_some (if b then Some e.1 else lookup (eq k) es) then 0 else 1)
+  length_step e es true rest = omega arith
+  length_step e es false rest = omega (arith, rest)
 
-  -- what a sum gains where a value is put at a key
-  pub sum_by-insert : (f : X → ℕ) (es : List (K × X)) → sum_by f (values_of (insert_entry eq es k v)) + unwrap_or (option_map f (lookup (eq k) es)) 0 ≡ sum_by f (values_of es) + f v
-  sum_by-insert f [] = omega (arith, sum_by-cons f v [])
-  sum_by-insert f (e ∷ es) = insert_step f e es (eq k e.0) (sum_by-insert f es)
+  -- a value that is put at a new key is one more
+  pub length-insert : (es : List (K × X)) → length (insert_entry eq es k v) ≡ length es + (if is_some (lookup (eq k) es) then 0 else 1)
+  length-insert [] = refl
+  length-insert (e ∷ es) = length_step e es (eq k e.0) (length-insert es)
 
   count_step : (g : K → ℕ) (e : K × X) (es : List (K × X)) (b : Bool) → (b ≡ true → g e.0 ≡ g k)
       → sum_by (λ p. g p.0) (insert_entry eq es k v) + (if is_some (lookup (eq k) es) then g k else 0) ≡ sum_by (λ p. g p.0) es + g k

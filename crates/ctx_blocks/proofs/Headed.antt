@@ -7,7 +7,8 @@ use Rattle.addr_space.specs.declared.Addr.{Addr}
 use Rattle.chunk_header.specs.declared.Kind.{Kind}
 use Rattle.chunk_header.specs.declared.Kind.TheVariants.{AllocSet, Slab, Generation, Bump, Aligned}
 use Rattle.chunk_header.specs.Header.{IsPackable, IsLeading, AllHeaded}
-use Rattle.ctx_blocks.specs.Layout.{Layout, same_addr, start_of, gap_of, header_room, header_of, footprint}
+use Rattle.addr_space.specs.Live.{same_addr}
+use Rattle.ctx_blocks.specs.Layout.{Layout, start_of, gap_of, header_room, header_of, footprint}
 use Rattle.ctx_blocks.specs.Kept.{IsLaid, IsSized}
 use Rattle.ctx_blocks.specs.declared.parts.Chunk.{Chunk}
 use Rattle.ctx_blocks.proofs.Laid.{from_live, mark_from_block, mark_from_chunk}

@@ -12,7 +12,9 @@ use Rattle.ctx_blocks.specs.Steps.{SameContext, PutsChunk}
 use Rattle.ctx_blocks.specs.Held.{Holds, IsWritten}
 use Rattle.ctx_blocks.specs.declared.parts.Block.{Block}
 use Rattle.ctx_blocks.specs.declared.parts.Chunk.{Chunk}
-use Rattle.ctx_blocks.proofs.Laid.{mark_cases, mark_within, mark_from_block, mark_from_chunk, from_live, region_is, one_value, option_cases, put_cases, block_cases, behind, length-header_bytes, IsSound-laid}
+use Rattle.addr_space.proofs.Options.{option_cases, one_value}
+use Rattle.chunk_header.proofs.Words.{length-header_bytes}
+use Rattle.ctx_blocks.proofs.Laid.{mark_cases, mark_within, mark_from_block, mark_from_chunk, from_live, region_is, put_cases, block_cases, behind, IsSound-laid}
 use Rattle.ctx_blocks.proofs.Counts.{one_in, one_in-self, one_in-other}
 use Rattle.ctx_blocks.proofs.Lessened.{start_same, gap_same}
 use Rattle.ctx_blocks.proofs.Refilled.{region-put}

@@ -1,55 +1,34 @@
 -- Lemmas on where blocks and chunks are.
-use Rattle.std.proofs.Common.{◌≡◌, ◌≢◌, ℕ, ◌+◌, ◌-◌, ◌≤◌, ◌⊎◌, ◌==◌, nat_le, if◌then◌else◌, List, length, Option, Some, None, true, false, refl, sym, ap, ◌∙◌, arith, inl, inr}
+use Rattle.std.proofs.Common.{◌≡◌, ◌≢◌, ℕ, ◌+◌, ◌-◌, ◌≤◌, ◌⊎◌, ◌==◌, nat_le, if◌then◌else◌, List, length, Option, Some, None, true, false, refl, sym, ap, ◌∙◌, arith, inl, inr, option_map, option_and_then}
 use Rattle.std.proofs.lemmas.Bool.{cases_eq, cases_lt}
 use Rattle.std.proofs.lemmas.Bool.Decides.{nat_tests}
 use Rattle.addr_space.specs.declared.Addr.{Addr}
 use Rattle.addr_space.specs.Footprint.{IsSound}
-use Rattle.chunk_header.specs.declared.Header.{Header}
 use Rattle.chunk_header.specs.declared.Kind.{Kind}
 use Rattle.chunk_header.specs.declared.Kind.TheVariants.{AllocSet, Slab, Generation, Bump, Aligned}
 use Rattle.chunk_header.specs.Header.{header_bytes, block_bytes}
-use Rattle.ctx_blocks.specs.Layout.{Layout, same_addr, block_at, chunk_at, start_of, gap_of, header_room, header_of, chunk_word, block_word, then_option, mark_of, footprint}
+use Rattle.ctx_blocks.specs.Layout.{Layout, block_at, chunk_at, start_of, gap_of, header_room, header_of, chunk_word, block_word, mark_of, footprint}
 use Rattle.ctx_blocks.specs.Kept.{IsLaid, IsClear}
 use Rattle.ctx_blocks.specs.Steps.{PutsChunk}
 use Rattle.ctx_blocks.specs.declared.parts.Block.{Block}
 use Rattle.ctx_blocks.specs.declared.parts.Chunk.{Chunk}
-
--- a header has 8 bytes, and so has what is marked of a block's
-pub length-header_bytes : (h : Header) → length (header_bytes h) ≡ 8
-unfolding header_bytes
-length-header_bytes h = refl
-
-pub length-block_bytes : (context size : ℕ) → length (block_bytes context size) ≡ 8
-unfolding block_bytes
-length-block_bytes context size = refl
-
--- a value that comes of an option
-pub from_then : {X Y : Type 0} (o : Option X) (f : X → Option Y) (y : Y) → then_option o f ≡ Some y → (x : X) × (o ≡ Some x) × (f x ≡ Some y)
-from_then None f y e = absurd (cc)
-from_then (Some x) f y e = (x, refl, e)
-
--- an option has a value or none
-pub option_cases : {X : Type 0} (o : Option X) → (o ≡ None) ⊎ ((x : X) × (o ≡ Some x))
-option_cases None = inl refl
-option_cases (Some x) = inr (x, refl)
-
--- one option has one value
-pub one_value : {X : Type 0} (o : Option X) (x y : X) → o ≡ Some x → o ≡ Some y → x ≡ y
-one_value o x y a b = let e : Some x ≡ Some y = sym a ∙ b in cc
+use Rattle.addr_space.proofs.Options.{from_then, from_map}
+use Rattle.addr_space.proofs.Addresses.{same_addr_from, put_at-cases}
+use Rattle.chunk_header.proofs.Words.{length-header_bytes, length-block_bytes}
 
 -- the length of a region of the context
 pub region_is : (l : Layout) (number : ℕ) (block : Block) → block_at l number ≡ Some block → (footprint l).region number ≡ Some block.size
-region_is l number block owned = ap (λ o. then_option o (λ b. Some b.size)) owned
+region_is l number block owned = ap (option_map (λ (b : Block). b.size)) owned
 
 pub from_region : (l : Layout) (number len : ℕ) → (footprint l).region number ≡ Some len → (block : Block) × (block_at l number ≡ Some block) × (block.size ≡ len)
-from_region l number len owned = let it = from_then (block_at l number) (λ b. Some b.size) len owned in (it.0, it.1, let e = it.2 in cc)
+from_region l number len owned = from_map (λ (b : Block). b.size) (block_at l number) len owned
 
 -- the size of a live chunk
 pub live_is : (l : Layout) (at : Addr) (chunk : Chunk) → chunk_at l at ≡ Some chunk → (footprint l).live at ≡ Some chunk.size
-live_is l at chunk found = ap (λ o. then_option o (λ c. Some c.size)) found
+live_is l at chunk found = ap (option_map (λ (c : Chunk). c.size)) found
 
 pub from_live : (l : Layout) (at : Addr) (size : ℕ) → (footprint l).live at ≡ Some size → (chunk : Chunk) × (chunk_at l at ≡ Some chunk) × (chunk.size ≡ size)
-from_live l at size live = let it = from_then (chunk_at l at) (λ c. Some c.size) size live in (it.0, it.1, let e = it.2 in cc)
+from_live l at size live = from_map (λ (c : Chunk). c.size) (chunk_at l at) size live
 
 -- a kind has headers of 8 bytes, or none
 pub gap_cases : (kind : Kind) → (gap_of kind ≡ 0) ⊎ (gap_of kind ≡ 8)
@@ -101,17 +80,17 @@ pub mark_cases : (l : Layout) (at : Addr) (bytes : List ℕ) → mark_of l at �
     ⊎ ((chunk : Chunk) × (at.offset ≢ start_of l at.region) × (chunk_at l (behind at) ≡ Some chunk) × (header_room l ≡ 8) × (header_bytes (header_of l.kind chunk (at.offset - start_of l at.region)) ≡ bytes))
 unfolding mark_of
 mark_cases l at bytes marked =
-    let block : Option (List ℕ) = then_option (block_at l at.region) (block_word l.context (start_of l at.region)) in
-    let other : Option (List ℕ) = then_option (chunk_at l (behind at)) (λ chunk. chunk_word l.kind chunk (at.offset - start_of l at.region)) in
+    let block : Option (List ℕ) = option_and_then (block_word l.context (start_of l at.region)) (block_at l at.region) in
+    let other : Option (List ℕ) = option_and_then (λ chunk. chunk_word l.kind chunk (at.offset - start_of l at.region)) (chunk_at l (behind at)) in
     elim (cases_eq at.offset (start_of l at.region)) [
       | inl same ↦
           let test : (at.offset == start_of l at.region) ≡ true = grind (arith, nat_tests) in
-          let it = from_then (block_at l at.region) (block_word l.context (start_of l at.region)) bytes (sym (ap (λ b. if b then block else other) test) ∙ marked) in
+          let it = from_then (block_word l.context (start_of l at.region)) (block_at l at.region) bytes (sym (ap (λ b. if b then block else other) test) ∙ marked) in
           let word = block_word_cases l.context (start_of l at.region) it.0 bytes it.2 in
           inl (it.0, same, it.1, word.0, word.1)
       | inr differs ↦
           let test : (at.offset == start_of l at.region) ≡ false = grind (arith, nat_tests) in
-          let it = from_then (chunk_at l (behind at)) (λ chunk. chunk_word l.kind chunk (at.offset - start_of l at.region)) bytes (sym (ap (λ b. if b then block else other) test) ∙ marked) in
+          let it = from_then (λ (chunk : Chunk). chunk_word l.kind chunk (at.offset - start_of l at.region)) (chunk_at l (behind at)) bytes (sym (ap (λ b. if b then block else other) test) ∙ marked) in
           let word = word_cases l.kind it.0 (at.offset - start_of l at.region) bytes it.2 in
           inr (it.0, differs, it.1, word.0, word.1)
     ]
@@ -121,41 +100,21 @@ pub mark_from_block : (l : Layout) (at : Addr) (block : Block) → at.offset ≡
 unfolding mark_of
 mark_from_block l at block first owned fits =
     let test : (at.offset == start_of l at.region) ≡ true = grind (arith, nat_tests) in
-    let word : Option (List ℕ) = then_option (block_at l at.region) (block_word l.context (start_of l at.region)) in
-    let other : Option (List ℕ) = then_option (chunk_at l (behind at)) (λ chunk. chunk_word l.kind chunk (at.offset - start_of l at.region)) in
-    ap (λ b. if b then word else other) test ∙ ap (λ o. then_option o (block_word l.context (start_of l at.region))) owned ∙ block_word_is l.context (start_of l at.region) block fits
+    let word : Option (List ℕ) = option_and_then (block_word l.context (start_of l at.region)) (block_at l at.region) in
+    let other : Option (List ℕ) = option_and_then (λ chunk. chunk_word l.kind chunk (at.offset - start_of l at.region)) (chunk_at l (behind at)) in
+    ap (λ b. if b then word else other) test ∙ ap (option_and_then (block_word l.context (start_of l at.region))) owned ∙ block_word_is l.context (start_of l at.region) block fits
 
 pub mark_from_chunk : (l : Layout) (at : Addr) (chunk : Chunk) → at.offset ≢ start_of l at.region → chunk_at l (behind at) ≡ Some chunk → header_room l ≡ 8 → mark_of l at ≡ Some (header_bytes (header_of l.kind chunk (at.offset - start_of l at.region)))
 unfolding mark_of
 mark_from_chunk l at chunk differs found gap =
     let test : (at.offset == start_of l at.region) ≡ false = grind (arith, nat_tests) in
-    let word : Option (List ℕ) = then_option (block_at l at.region) (block_word l.context (start_of l at.region)) in
-    let other : Option (List ℕ) = then_option (chunk_at l (behind at)) (λ chunk. chunk_word l.kind chunk (at.offset - start_of l at.region)) in
-    ap (λ b. if b then word else other) test ∙ ap (λ o. then_option o (λ c. chunk_word l.kind c (at.offset - start_of l at.region))) found ∙ word_is l.kind chunk (at.offset - start_of l at.region) gap
-
--- addresses in one region with one offset are one
-pub same_addr_from : (a b : Addr) → a.region ≡ b.region → a.offset ≡ b.offset → a ≡ b
-same_addr_from a b region offset =
-    ap (λ r. record { region = r; offset = a.offset }) region ∙ ap (λ o. record { region = b.region; offset = o }) offset
-
--- whether two addresses are one
-pub same_addr-cases : (a b : Addr) → ((a ≡ b) × (same_addr a b ≡ true)) ⊎ ((a ≢ b) × (same_addr a b ≡ false))
-same_addr-cases a b =
-    elim (cases_eq a.region b.region) [
-      | inl region ↦ elim (cases_eq a.offset b.offset) [
-        | inl offset ↦ inl (same_addr_from a b region offset, grind (arith, nat_tests))
-        | inr differs ↦ inr ((λ e. differs (ap (λ (x : Addr). x.offset) e)), grind (arith, nat_tests))
-      ]
-      | inr differs ↦ inr ((λ e. differs (ap (λ (x : Addr). x.region) e)), grind (arith, nat_tests))
-    ]
+    let word : Option (List ℕ) = option_and_then (block_word l.context (start_of l at.region)) (block_at l at.region) in
+    let other : Option (List ℕ) = option_and_then (λ chunk. chunk_word l.kind chunk (at.offset - start_of l at.region)) (chunk_at l (behind at)) in
+    ap (λ b. if b then word else other) test ∙ ap (option_and_then (λ (c : Chunk). chunk_word l.kind c (at.offset - start_of l at.region))) found ∙ word_is l.kind chunk (at.offset - start_of l at.region) gap
 
 -- what stands at an address after one chunk was put
 pub put_cases : (l m : Layout) (at : Addr) (chunk : Option Chunk) → PutsChunk l m at chunk → (other : Addr) → ((other ≡ at) × (chunk_at m other ≡ chunk)) ⊎ ((other ≢ at) × (chunk_at m other ≡ chunk_at l other))
-put_cases l m at chunk puts other =
-    elim (same_addr-cases at other) [
-      | inl same ↦ inl (sym same.0, puts other ∙ ap (λ b. if b then chunk else chunk_at l other) same.1)
-      | inr differs ↦ inr ((λ e. differs.0 (sym e)), puts other ∙ ap (λ b. if b then chunk else chunk_at l other) differs.1)
-    ]
+put_cases l m at chunk puts other = put_at-cases (chunk_at l) (chunk_at m) at chunk puts other
 
 -- the block in a region after one block was put
 pub block_cases : (l m : Layout) (number : ℕ) (block : Option Block) → ((other : ℕ) → block_at m other ≡ (if number == other then block else block_at l other)) → (other : ℕ) → ((other ≡ number) × (block_at m other ≡ block)) ⊎ ((other ≢ number) × (block_at m other ≡ block_at l other))

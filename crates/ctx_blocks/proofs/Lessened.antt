@@ -10,7 +10,8 @@ use Rattle.ctx_blocks.specs.Kept.{IsFilled, IsLaid}
 use Rattle.ctx_blocks.specs.Steps.{SameContext, MovesStill}
 use Rattle.ctx_blocks.specs.declared.parts.Block.{Block}
 use Rattle.ctx_blocks.specs.declared.parts.Chunk.{Chunk}
-use Rattle.ctx_blocks.proofs.Laid.{mark_cases, mark_from_block, mark_from_chunk, region_is, one_value, behind, IsSound-laid}
+use Rattle.addr_space.proofs.Options.{one_value}
+use Rattle.ctx_blocks.proofs.Laid.{mark_cases, mark_from_block, mark_from_chunk, region_is, behind, IsSound-laid}
 
 -- each chunk and each block was there, with the same bytes; a block in which chunks are has no more room
 pub record Lessens (l m : Layout) : Type 0 where

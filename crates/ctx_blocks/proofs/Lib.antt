@@ -1,5 +1,6 @@
 pub mod Entries
 pub mod Laid
+pub mod Changed
 pub mod Counts
 pub mod Headed
 pub mod New
@@ -13,4 +14,3 @@ pub mod Added
 pub mod Dropped
 pub mod Cleared
 pub mod Summed
-pub mod Carried

@@ -1,5 +1,5 @@
 -- Lemmas on the blocks of a new context.
-use Rattle.std.proofs.Common.{◌≡◌, ◌≢◌, ℕ, ◌+◌, ◌-◌, ◌<◌, ◌≤◌, ◌==◌, List, [], ◌∷◌, length, map, Option, Some, None, refl, sym, ap, ◌∙◌, arith, inl, inr, if◌then◌else◌, true, false, slice_index, Bool, sum_by}
+use Rattle.std.proofs.Common.{◌≡◌, ◌≢◌, ℕ, ◌+◌, ◌-◌, ◌<◌, ◌≤◌, ◌==◌, List, [], ◌∷◌, length, map, Option, Some, None, refl, sym, ap, ◌∙◌, arith, inl, inr, if◌then◌else◌, true, false, slice_index, sum_by}
 use Rattle.std.specs.Map.{lookup, values_of}
 use Rattle.std.proofs.lemmas.List.{length-replicate}
 use Rattle.std.proofs.lemmas.List.Sums.{sum_by-cons}
@@ -7,35 +7,18 @@ use Rattle.std.proofs.lemmas.Bool.{cases_eq}
 use Rattle.std.proofs.lemmas.Bool.Decides.{nat_tests}
 use Rattle.addr_space.specs.declared.Addr.{Addr}
 use Rattle.addr_space.specs.Space.{Space, region_at, byte_at, overwritten, unwritten, Changes, accounts, held}
-use Rattle.addr_space.specs.Footprint.{Agrees, Moves, HasRegion, nothing, counted}
+use Rattle.addr_space.specs.Footprint.{Moves, HasRegion, nothing, counted}
 use Rattle.addr_space.proofs.Written.{HasRegion-written, HasBytes-written, held-written}
-use Rattle.addr_space.proofs.Steps.{Moves-one, Changes-more}
+use Rattle.addr_space.proofs.Steps.{Moves-one, Changes-more, Agrees-nothing, none_counted}
 use Rattle.chunk_header.specs.Header.{block_bytes}
 use Rattle.ctx_blocks.specs.Layout.{Layout, block_at, chunk_at, start_of, total, footprint}
 use Rattle.ctx_blocks.specs.Kept.{IsFilled, IsLaid, IsCounted}
 use Rattle.ctx_blocks.specs.declared.parts.Block.{Block}
-use Rattle.ctx_blocks.proofs.Laid.{mark_cases, length-block_bytes, region_is, one_value, behind, IsSound-laid}
-
-none_counted : (b : Bool) → ◌≡◌ {A = ℕ} (if b then 0 else 0) 0
-none_counted true = refl
-none_counted false = refl
+use Rattle.addr_space.proofs.Options.{one_value}
+use Rattle.chunk_header.proofs.Words.{length-block_bytes}
+use Rattle.ctx_blocks.proofs.Laid.{mark_cases, region_is, behind, IsSound-laid}
 
 -- what agrees with a context that has nothing
-pub Agrees-nothing : (account context : ℕ) (s : Space) → account < accounts s → Agrees (nothing account context) s
-Agrees-nothing account context s below = record {
-  sound = record {
-    live_inside = λ at n live. absurd (cc);
-    free_inside = λ at n free. absurd (cc);
-    mark_inside = λ at bytes marked. absurd (cc);
-    live_apart = λ a b m n live other differ. absurd (cc);
-    free_apart = λ a b m n live free. absurd (cc);
-    mark_apart = λ a b m bytes live marked. absurd (cc);
-  };
-  account = below;
-  regions = λ number len owned. absurd (cc);
-  marks = λ at bytes marked. absurd (cc);
-}
-
 -- the region of the keeper has 200 bytes before its block
 pub keeper_start : (l : Layout) → start_of l l.keeper ≡ 200
 keeper_start l =

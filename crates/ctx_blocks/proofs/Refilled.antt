@@ -7,7 +7,8 @@ use Rattle.ctx_blocks.specs.Kept.{IsFilled, IsLaid, IsCounted}
 use Rattle.ctx_blocks.specs.Steps.{SameContext, PutsChunk}
 use Rattle.ctx_blocks.specs.declared.parts.Block.{Block}
 use Rattle.ctx_blocks.specs.declared.parts.Chunk.{Chunk}
-use Rattle.ctx_blocks.proofs.Laid.{put_cases, block_cases, one_value, region_is}
+use Rattle.addr_space.proofs.Options.{one_value}
+use Rattle.ctx_blocks.proofs.Laid.{put_cases, block_cases, region_is}
 use Rattle.ctx_blocks.proofs.Counts.{one_in, one_in-self, one_in-other}
 use Rattle.ctx_blocks.proofs.Headed.{start_whole}
 use Rattle.ctx_blocks.proofs.Lessened.{Lessens}

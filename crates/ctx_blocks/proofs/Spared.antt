@@ -1,7 +1,9 @@
 -- Lemmas on books for which room was made.
 use Rattle.std.proofs.Common.{◌≡◌, ℕ, refl, sym, ap, ◌∙◌, subst, arith}
 use Rattle.indexmap.specs.IndexMap.{spare}
-use Rattle.ctx_blocks.specs.Layout.{Layout, total, mark_of, footprint}
+use Rattle.addr_space.specs.Space.{Space}
+use Rattle.addr_space.specs.Footprint.{Footprint, Agrees, Moves}
+use Rattle.ctx_blocks.specs.Layout.{Layout, total, mark_of, footprint, bare}
 use Rattle.ctx_blocks.specs.Kept.{layout_of, IsLaid, IsCounted, IsFirst, IsKept}
 use Rattle.ctx_blocks.specs.declared.books.Books.{Books}
 
@@ -43,3 +45,16 @@ footprint-spare l blocks chunks = refl
 
 pub footprint_same : (b n : Books) → n ≡ record b { blocks = n.blocks; chunks = n.chunks } → n.blocks.entries ≡ b.blocks.entries → n.chunks.entries ≡ b.chunks.entries → footprint (layout_of n) ≡ footprint (layout_of b)
 footprint_same b n rest blocks chunks = ap footprint (layout_same b n rest blocks chunks) ∙ footprint-spare (layout_of b) (spare n.blocks) (spare n.chunks)
+
+-- and so do calls over a space, whose contracts speak of the bare layout
+pub agrees_bare : (l : Layout) (s : Space) → Agrees (footprint (bare l)) s → Agrees (footprint l) s
+agrees_bare l s agrees = rw (footprint-spare l 0 0) at agrees
+
+pub moves_bare : (l m : Layout) (s t : Space) → Moves (footprint l) (footprint m) s t → Moves (footprint (bare l)) (footprint (bare m)) s t
+moves_bare l m s t moves = rw (footprint-spare l 0 0, footprint-spare m 0 0) moves
+
+pub moves_from : (l : Layout) (g : Footprint) (s t : Space) → Moves (footprint l) g s t → Moves (footprint (bare l)) g s t
+moves_from l g s t moves = rw (footprint-spare l 0 0) moves
+
+pub moves_to : (f : Footprint) (m : Layout) (s t : Space) → Moves f (footprint m) s t → Moves f (footprint (bare m)) s t
+moves_to f m s t moves = rw (footprint-spare m 0 0) moves

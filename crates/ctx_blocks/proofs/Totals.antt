@@ -1,13 +1,14 @@
 -- Lemmas on the bytes of all blocks.
-use Rattle.std.proofs.Common.{◌≡◌, ℕ, ◌+◌, ◌==◌, List, [], ◌∷◌, ◌++◌, Some, None, refl, ap, ◌∙◌, arith, sum_by, Bool, true, false, if◌then◌else◌}
+use Rattle.std.proofs.Common.{◌≡◌, ℕ, ◌+◌, ◌==◌, List, [], ◌∷◌, ◌++◌, Some, None, refl, ap, ◌∙◌, arith, sum_by, Bool, true, false, if◌then◌else◌, ◌≤◌, length, Option, unwrap_or}
 use Rattle.std.specs.Map.{lookup, values_of}
 use Rattle.std.proofs.lemmas.Bool.Decides.{nat_tests}
 use Rattle.std.proofs.lemmas.List.Sums.{sum_by-append, sum_by-cons}
-use Rattle.ctx_blocks.specs.Layout.{Layout, block_at, total}
+use Rattle.ctx_blocks.specs.Layout.{Layout, block_at, total, rooms}
 use Rattle.ctx_blocks.specs.Kept.{IsFirst}
-use Rattle.ctx_blocks.specs.Steps.{with_block, without_block}
+use Rattle.ctx_blocks.specs.Steps.{with_block, without_block, PutsBlock}
 use Rattle.ctx_blocks.specs.declared.parts.Block.{Block}
-use Rattle.ctx_blocks.proofs.Entries.{sum_by-insert, sum_by-remove}
+use Rattle.chunk_header.proofs.Sums.{sum_by-insert}
+use Rattle.ctx_blocks.proofs.Entries.{sum_by-remove, length-insert}
 
 -- what a sum over the blocks becomes where a block is put in the place of another one, is new, or goes
 module _ (f : Block → ℕ) (blocks : List (ℕ × Block)) (number : ℕ) where
@@ -19,6 +20,43 @@ module _ (f : Block → ℕ) (blocks : List (ℕ × Block)) (number : ℕ) where
 
   pub sum-dropped : (old : Block) → lookup (λ n. number == n) blocks ≡ Some old → sum_by f (values_of (without_block blocks number)) + f old ≡ sum_by f (values_of blocks)
   sum-dropped old was = rw was at (sum_by-remove (λ n. number == n) f blocks)
+
+-- what the bytes of all blocks, their rooms and their number become where a block is put in the place of another
+-- one, or is new
+module _ (l m : Layout) (number : ℕ) (block : Block) (puts : PutsBlock l m number block) where
+  sums-put : (f : Block → ℕ) (old : Block) → block_at l number ≡ Some old → sum_by f (values_of m.blocks) + f old ≡ sum_by f (values_of l.blocks) + f block
+  sums-put f old was = rw puts.blocks (sum-put f l.blocks number old block was)
+
+  pub total-same : (old : Block) → block_at l number ≡ Some old → total m + old.size ≡ total l + block.size
+  total-same old was = sums-put (λ b. b.size) old was
+
+  pub rooms-same : (old : Block) → block_at l number ≡ Some old → rooms m + old.room ≡ rooms l + block.room
+  rooms-same old was = sums-put (λ b. b.room) old was
+
+  pub rooms-more : block_at l number ≡ None → rooms m ≡ rooms l + block.room
+  rooms-more none = rw puts.blocks (sum-new (λ b. b.room) l.blocks number block none)
+
+  pub length-same : (old : Block) → block_at l number ≡ Some old → length m.blocks ≡ length l.blocks
+  length-same old was =
+      let more = rw was at (length-insert (λ (a b : ℕ). a == b) number block l.blocks) in
+      rw puts.blocks (omega (arith, more))
+
+  pub length-more : block_at l number ≡ None → length m.blocks ≡ length l.blocks + 1
+  length-more none = rw puts.blocks (rw none at (length-insert (λ (a b : ℕ). a == b) number block l.blocks))
+
+value_step : (f : Block → ℕ) (test : ℕ → Bool) (e : ℕ × Block) (es : List (ℕ × Block)) (b : Bool) → ((block : Block) → lookup test es ≡ Some block → f block ≤ sum_by f (values_of es)) → (block : Block) → (if b then Some e.1 else lookup test es) ≡ Some block → f block ≤ sum_by f (values_of (e ∷ es))
+value_step f test e es true rest block is =
+    let it : f e.1 ≡ f block = ap (λ (o : Option Block). f (unwrap_or o block)) is in
+    omega (arith, it, sum_by-cons f e.1 (values_of es))
+value_step f test e es false rest block is = omega (arith, rest block is, sum_by-cons f e.1 (values_of es))
+
+-- what a block has is among what all have
+pub value-within : (f : Block → ℕ) (test : ℕ → Bool) (blocks : List (ℕ × Block)) (block : Block) → lookup test blocks ≡ Some block → f block ≤ sum_by f (values_of blocks)
+value-within f test [] block is = absurd (cc)
+value-within f test (e ∷ es) block is = value_step f test e es (test e.0) (value-within f test es) block is
+
+pub room_within : (l : Layout) (number : ℕ) (block : Block) → block_at l number ≡ Some block → block.room ≤ rooms l
+room_within l number block is = value-within (λ b. b.room) (λ n. number == n) l.blocks block is
 
 -- the bytes stay where a block of the same size is put
 pub total-put : (l m : Layout) (number : ℕ) (old block : Block) → m.blocks ≡ with_block l.blocks number block → block_at l number ≡ Some old → block.size ≡ old.size → total m ≡ total l

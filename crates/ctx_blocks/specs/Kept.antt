@@ -20,6 +20,12 @@ layout_of b = record {
   spare_chunks = spare b.chunks;
 }
 
+-- there is a block in a region, and it has so many bytes
+pub record HasSize (l : Layout) (number bytes : ℕ) : Type 0 where
+  pub block : Block
+  pub is : block_at l number ≡ Some block
+  pub size : block.size ≡ bytes
+
 -- a block of so many bytes whose whole room is this much: each chunk that was cut off it took 8 bytes or more
 pub record IsFilled (whole : ℕ) (block : Block) : Type 0 where
   pub small : block.size ≤ 2 ^ 31

@@ -1,5 +1,5 @@
 -- What contracts see of the blocks of a context: where they are, and the live chunks in them.
-use Rattle.std.specs.Prelude.{ℕ, ◌+◌, ◌-◌, ◌==◌, ◌&&◌, Bool, List, Option, Some, None, if◌then◌else◌, nat_le, sum_by}
+use Rattle.std.specs.Prelude.{ℕ, ◌+◌, ◌-◌, ◌==◌, List, [], ◌∷◌, Option, Some, None, if◌then◌else◌, nat_le, sum_by, option_map, option_and_then}
 use Rattle.std.specs.Map.{lookup, values_of}
 use Rattle.addr_space.specs.declared.Addr.{Addr}
 use Rattle.addr_space.specs.Footprint.{Footprint}
@@ -9,6 +9,7 @@ use Rattle.chunk_header.specs.declared.Kind.TheVariants.{Bump}
 use Rattle.chunk_header.specs.Header.{header_bytes, block_bytes}
 use Rattle.ctx_blocks.specs.declared.parts.Block.{Block}
 use Rattle.ctx_blocks.specs.declared.parts.Chunk.{Chunk}
+use Rattle.addr_space.specs.Live.{same_addr}
 
 -- the kind of the context; the account and the number that it was created with; the region of the keeper; each
 -- block by the number of its region, in the order in which they were taken; each live chunk by its address; and
@@ -23,9 +24,9 @@ pub record Layout : Type 0 where
   pub spare_blocks : ℕ
   pub spare_chunks : ℕ
 
--- whether two addresses are one
-abbrev pub same_addr : Addr → Addr → Bool
-same_addr a b = (a.region == b.region) && (a.offset == b.offset)
+-- the blocks and live chunks alone: that room was made for more of them doesn't count
+abbrev pub bare : Layout → Layout
+bare l = record l { spare_blocks = 0; spare_chunks = 0 }
 
 -- the block in a region, and the live chunk at an address
 abbrev pub block_at : Layout → ℕ → Option Block
@@ -71,6 +72,14 @@ whole_room start size = size - start - 40
 abbrev pub whole_of : Layout → ℕ → ℕ → ℕ
 whole_of l number size = whole_room (start_of l number) size
 
+-- a block of so many bytes with its whole room
+abbrev pub whole_block : ℕ → ℕ → Block
+whole_block start size = record { size = size; room = whole_room start size; live = 0; freed = 0 }
+
+-- the keeper of a number and of so many bytes alone
+abbrev pub keeper_alone : ℕ → ℕ → List (ℕ × Block)
+keeper_alone keeper size = (keeper, whole_block 200 size) ∷ []
+
 -- the header of a chunk, so far from the header of its block
 abbrev pub header_of : Kind → Chunk → ℕ → Header
 header_of kind chunk dist = record { kind = kind; own = chunk.own; value = if chunk.own then 0 else chunk.room; dist = dist }
@@ -84,17 +93,12 @@ chunk_word kind chunk dist = Some (header_bytes (header_of kind chunk dist))
 abbrev pub block_word : ℕ → ℕ → Block → Option (List ℕ)
 block_word context start block = if nat_le (start + 40) block.size then Some (block_bytes context block.size) else None
 
--- what comes of an option's value
-abbrev pub then_option : {X Y : Type 0} → Option X → (X → Option Y) → Option Y
-then_option None f = None
-then_option (Some x) f = f x
-
 -- the marks: a block's header begins with the context's number and the block's size, and a chunk's header
 -- stands before it
 unfoldable pub mark_of : Layout → Addr → Option (List ℕ)
 mark_of l at =
-    if at.offset == start_of l at.region then then_option (block_at l at.region) (block_word l.context (start_of l at.region))
-    else then_option (chunk_at l (record { region = at.region; offset = at.offset + 8 })) (λ chunk. chunk_word l.kind chunk (at.offset - start_of l at.region))
+    if at.offset == start_of l at.region then option_and_then (block_word l.context (start_of l at.region)) (block_at l at.region)
+    else option_and_then (λ chunk. chunk_word l.kind chunk (at.offset - start_of l at.region)) (chunk_at l (record { region = at.region; offset = at.offset + 8 }))
 
 -- what the context has in a space
 abbrev pub footprint : Layout → Footprint
@@ -102,8 +106,8 @@ footprint l = record {
   account = l.account;
   context = l.context;
   total = total l;
-  region = λ number. then_option (block_at l number) (λ b. Some b.size);
+  region = λ number. option_map (λ b. b.size) (block_at l number);
   mark = mark_of l;
-  live = λ at. then_option (chunk_at l at) (λ c. Some c.size);
+  live = λ at. option_map (λ c. c.size) (chunk_at l at);
   free = λ at. None;
 }

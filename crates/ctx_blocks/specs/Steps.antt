@@ -4,7 +4,8 @@ use Rattle.addr_space.specs.declared.Addr.{Addr}
 use Rattle.addr_space.specs.Space.{Space}
 use Rattle.addr_space.specs.Footprint.{Agrees, Moves}
 use Rattle.indexmap.specs.IndexMap.{insert_entry, shift_remove_entry}
-use Rattle.ctx_blocks.specs.Layout.{Layout, same_addr, block_at, chunk_at, footprint}
+use Rattle.addr_space.specs.Live.{same_addr}
+use Rattle.ctx_blocks.specs.Layout.{Layout, block_at, chunk_at, footprint}
 use Rattle.ctx_blocks.specs.declared.parts.Block.{Block}
 use Rattle.ctx_blocks.specs.declared.parts.Chunk.{Chunk}
 

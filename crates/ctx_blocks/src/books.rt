@@ -3,12 +3,13 @@ ghost use Rattle.std.specs.Prelude.{◌≡◌, ◌≢◌, ℕ, ◌+◌, ◌-◌,
 ghost use Rattle.std.specs.Map.{lookup};
 ghost use Rattle.indexmap.specs.IndexMap.{spare};
 ghost use Rattle.addr_space.specs.declared.Addr.{Addr};
-ghost use Rattle.addr_space.specs.Space.{Space, accounts, held, byte_at, region_at, overwritten, IsKnown, Changes};
+ghost use Rattle.addr_space.specs.Space.{Space, accounts, held, region_at, overwritten, IsKnown, Changes};
 ghost use Rattle.addr_space.specs.Footprint.{Agrees, Moves, Keeps, KeepsBut, nothing};
 ghost use Rattle.chunk_header.specs.Header.{header_bytes};
 ghost use Rattle.ctx_blocks.specs.declared.parts.Block.{Block};
 ghost use Rattle.ctx_blocks.specs.declared.parts.Chunk.{Chunk};
-ghost use Rattle.ctx_blocks.specs.Layout.{Layout, same_addr, block_at, chunk_at, total, rooms, all_freed, is_in, start_of, header_room, gap_of, whole_room, whole_of, header_of, footprint};
+ghost use Rattle.addr_space.specs.Live.{same_addr, HasBytesOf};
+ghost use Rattle.ctx_blocks.specs.Layout.{Layout, block_at, chunk_at, total, rooms, all_freed, is_in, start_of, header_room, gap_of, whole_of, header_of, footprint, keeper_alone, whole_block};
 ghost use Rattle.ctx_blocks.specs.Steps.{with_block, without_block, PutsBlock, DropsBlock, PutsChunk, SameContext, MovesStill};
 
 use crate::parts::{Block, Chunk};
@@ -83,7 +84,7 @@ impl Books {
         ensures kind { IfOk result (λ b. b.kind ≡ kind) }
         ensures account { IfOk result (λ b. b.account ≡ account) }
         ensures context { IfOk result (λ b. b.context ≡ context) }
-        ensures blocks { IfOk result (λ b. (layout_of b).blocks ≡ (b.keeper, record { size = size; room = whole_room 200 size; live = 0; freed = 0 }) ∷ []) }
+        ensures blocks { IfOk result (λ b. (layout_of b).blocks ≡ keeper_alone b.keeper size) }
         ensures chunks { IfOk result (λ b. (layout_of b).chunks ≡ []) }
         ensures moves { IfOk result (λ b. Moves (nothing account context) (footprint (layout_of b)) space.old space.new) }
         ensures no_space { (result ≡ Err CtxError.NoSpace) ↔ (space.old.limit < held space.old account + size) }
@@ -412,7 +413,7 @@ impl Books {
         ensures kept { IsKept self.new }
         ensures same { SameContext (layout_of self.old) (layout_of self.new) }
         ensures chunks { self.new.chunks ≡ self.old.chunks }
-        ensures block { (b : Block) → block_at (layout_of self.old) number ≡ Some b → PutsBlock (layout_of self.old) (layout_of self.new) number (record { size = b.size; room = whole_of (layout_of self.old) number b.size; live = 0; freed = 0 }) }
+        ensures block { (b : Block) → block_at (layout_of self.old) number ≡ Some b → PutsBlock (layout_of self.old) (layout_of self.new) number (whole_block (start_of (layout_of self.old) number) b.size) }
         ensures moves { MovesStill (layout_of self.old) (layout_of self.new) }
     {
         let size = self.owned(number).size;
@@ -500,7 +501,7 @@ impl Books {
         ensures kept { IsKept self.new }
         ensures same { SameContext (layout_of self.old) (layout_of self.new) }
         ensures chunks { (layout_of self.new).chunks ≡ [] }
-        ensures blocks { (b : Block) → block_at (layout_of self.old) self.old.keeper ≡ Some b → (layout_of self.new).blocks ≡ (self.old.keeper, record { size = b.size; room = whole_room 200 b.size; live = 0; freed = 0 }) ∷ [] }
+        ensures blocks { (b : Block) → block_at (layout_of self.old) self.old.keeper ≡ Some b → (layout_of self.new).blocks ≡ keeper_alone self.old.keeper b.size }
         ensures moves { Moves (footprint (layout_of self.old)) (footprint (layout_of self.new)) space.old space.new }
     {
         self.shrink(space, 1);
@@ -535,7 +536,7 @@ impl Books {
         requires known { IsKnown space.old from n }
         ensures moves { Moves (footprint (layout_of self.now)) (footprint (layout_of self.now)) space.old space.new }
         ensures keeps { KeepsBut to (footprint (layout_of self.now)) (footprint (layout_of self.now)) space.old space.new }
-        ensures copied { (k : ℕ) → k < n → byte_at space.new to.region (to.offset + k) ≡ byte_at space.old from.region (from.offset + k) }
+        ensures copied { HasBytesOf space.old space.new from to n }
     {
         space.copy(from, to, n);
     }

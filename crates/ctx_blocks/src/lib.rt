@@ -40,13 +40,14 @@ impl Model for Blocks {
 }
 
 impl Blocks {
-    ghost use Rattle.addr_space.specs.Space.{accounts, held, byte_at, IsKnown};
+    ghost use Rattle.addr_space.specs.Space.{accounts, held, IsKnown};
     ghost use Rattle.addr_space.specs.Footprint.{nothing, Agrees, Moves, Keeps, KeepsBut};
+    ghost use Rattle.addr_space.specs.Live.{HasBytesOf};
     ghost use Rattle.chunk_header.specs.declared.Kind.TheVariants.{Slab, Generation};
     ghost use Rattle.chunk_header.specs.Header.{AllHeaded};
     ghost use Rattle.ctx_blocks.specs.declared.parts.Block.{Block};
     ghost use Rattle.ctx_blocks.specs.declared.parts.Chunk.{Chunk};
-    ghost use Rattle.ctx_blocks.specs.Layout.{block_at, chunk_at, total, rooms, all_freed, start_of, header_room, whole_room, whole_of, footprint};
+    ghost use Rattle.ctx_blocks.specs.Layout.{block_at, chunk_at, total, rooms, all_freed, start_of, header_room, whole_block, whole_of, keeper_alone, footprint};
     ghost use Rattle.ctx_blocks.specs.Kept.{IsFilled, IsPlaced, IsClear, IsFirst};
     ghost use Rattle.ctx_blocks.specs.Steps.{PutsBlock, DropsBlock, PutsChunk, SameContext, MovesStill};
 
@@ -70,7 +71,7 @@ impl Blocks {
         ensures kind { IfOk result (λ b. b.kind ≡ kind) }
         ensures account { IfOk result (λ b. b.account ≡ account) }
         ensures context { IfOk result (λ b. b.context ≡ context) }
-        ensures blocks { IfOk result (λ b. b.blocks ≡ (b.keeper, record { size = size; room = whole_room 200 size; live = 0; freed = 0 }) ∷ []) }
+        ensures blocks { IfOk result (λ b. b.blocks ≡ keeper_alone b.keeper size) }
         ensures chunks { IfOk result (λ b. b.chunks ≡ []) }
         ensures moves { IfOk result (λ b. Moves (nothing account context) (footprint b) space.old space.new) }
         ensures no_space { (result ≡ Err CtxError.NoSpace) ↔ (space.old.limit < held space.old account + size) }
@@ -197,7 +198,7 @@ impl Blocks {
         ensures same { SameContext self.old self.new }
         ensures chunks { self.new.chunks ≡ self.old.chunks }
         ensures spare { self.new.spare_chunks ≡ self.old.spare_chunks }
-        ensures block { (b : Block) → block_at self.old number ≡ Some b → PutsBlock self.old self.new number (record { size = b.size; room = whole_of self.old number b.size; live = 0; freed = 0 }) }
+        ensures block { (b : Block) → block_at self.old number ≡ Some b → PutsBlock self.old self.new number (whole_block (start_of self.old number) b.size) }
         ensures moves { MovesStill self.old self.new }
     {
         self.books.refill(number);
@@ -225,7 +226,7 @@ impl Blocks {
         requires { Agrees (footprint self.old) space.old }
         ensures same { SameContext self.old self.new }
         ensures chunks { self.new.chunks ≡ [] }
-        ensures blocks { (b : Block) → block_at self.old self.old.keeper ≡ Some b → self.new.blocks ≡ (self.old.keeper, record { size = b.size; room = whole_room 200 b.size; live = 0; freed = 0 }) ∷ [] }
+        ensures blocks { (b : Block) → block_at self.old self.old.keeper ≡ Some b → self.new.blocks ≡ keeper_alone self.old.keeper b.size }
         ensures moves { Moves (footprint self.old) (footprint self.new) space.old space.new }
     {
         self.books.reset(space);
@@ -249,7 +250,7 @@ impl Blocks {
         requires known { IsKnown space.old from n }
         ensures moves { Moves (footprint self.now) (footprint self.now) space.old space.new }
         ensures keeps { KeepsBut to (footprint self.now) (footprint self.now) space.old space.new }
-        ensures copied { (k : ℕ) → k < n → byte_at space.new to.region (to.offset + k) ≡ byte_at space.old from.region (from.offset + k) }
+        ensures copied { HasBytesOf space.old space.new from to n }
     {
         self.books.carry(space, from, to, n);
     }

@@ -1,10 +1,11 @@
 -- Lemmas on addresses, and on what stands at them.
 use Rattle.std.proofs.Common.{◌≡◌, ◌≢◌, Bool, true, false, Option, if◌then◌else◌, refl, arith, ◌∙◌, ap}
 use Rattle.addr_space.specs.declared.Addr.{Addr}
-use Rattle.ctx_blocks.specs.Layout.{Layout, same_addr, chunk_at}
+use Rattle.addr_space.specs.Live.{same_addr}
+use Rattle.ctx_blocks.specs.Layout.{Layout, chunk_at}
 use Rattle.ctx_blocks.specs.Steps.{PutsChunk}
 use Rattle.ctx_blocks.specs.declared.parts.Chunk.{Chunk}
-use Rattle.ctx_blocks.proofs.Laid.{same_addr_from}
+use Rattle.addr_space.proofs.Addresses.{same_addr_from}
 
 pub same_region : (a b : Addr) → same_addr a b ≡ true → a.region ≡ b.region
 same_region a b is = grind (arith, is)

@@ -1,13 +1,15 @@
 -- A chunk is forgotten.
 use Rattle.std.proofs.Common.{◌≡◌, ◌+◌, ◌-◌, ◌≤◌, Bool, true, false, Option, Some, None, unwrap_or, if◌then◌else◌, arith, ◌∙◌, sym, ap, subst}
 use Rattle.addr_space.specs.declared.Addr.{Addr}
-use Rattle.ctx_blocks.specs.Layout.{Layout, block_at, chunk_at, same_addr}
+use Rattle.addr_space.specs.Live.{same_addr}
+use Rattle.ctx_blocks.specs.Layout.{Layout, block_at, chunk_at}
 use Rattle.ctx_blocks.specs.Steps.{PutsBlock, PutsChunk, SameContext}
 use Rattle.ctx_blocks.specs.declared.parts.Block.{Block}
 use Rattle.ctx_blocks.specs.declared.parts.Chunk.{Chunk}
 use Rattle.generation_ctx.specs.Kept.{IsKept}
 use Rattle.generation_ctx.specs.declared.books.Books.{Books}
-use Rattle.generation_ctx.proofs.Kepts.{put_here, spare_live}
+use Rattle.ctx_blocks.proofs.Changed.{put_here}
+use Rattle.generation_ctx.proofs.Kepts.{spare_live}
 use Rattle.generation_ctx.proofs.Kept.{AllWere, kept_put}
 
 none_was : (t : Bool) (old : Option Chunk) (chunk : Chunk) → (if t then None else old) ≡ Some chunk → old ≡ Some chunk

@@ -1,6 +1,6 @@
 -- Blocks that are there.
 use Rattle.std.proofs.Common.{◌≡◌, ℕ, ◌<◌, ◌≤◌, Option, Some, unwrap_or, arith, ap, inl, inr}
-use Rattle.addr_space.proofs.Written.{option_cases}
+use Rattle.addr_space.proofs.Options.{option_cases}
 use Rattle.ctx_blocks.specs.Layout.{block_at}
 use Rattle.ctx_blocks.specs.declared.parts.Block.{Block}
 use Rattle.generation_ctx.specs.Ledger.{block_in, no_block}

@@ -1,15 +1,19 @@
 -- The whole of what the code keeps, from step to step.
-use Rattle.std.proofs.Common.{◌≡◌, ◌≢◌, ℕ, ◌*◌, ◌<◌, ◌==◌, min, Bool, Option, Some, None, true, false, if◌then◌else◌, refl, arith, ◌∙◌, sym, subst}
+use Rattle.std.proofs.Common.{◌≡◌, ◌≢◌, ℕ, ◌<◌, ◌==◌, Bool, Option, Some, None, true, false, if◌then◌else◌, refl, ◌∙◌, sym, subst}
 use Rattle.addr_space.specs.declared.Addr.{Addr}
-use Rattle.ctx_blocks.specs.Layout.{Layout, block_at, chunk_at, same_addr}
+use Rattle.addr_space.specs.Live.{same_addr}
+use Rattle.ctx_blocks.specs.Layout.{Layout, block_at, chunk_at}
 use Rattle.ctx_blocks.specs.Steps.{PutsBlock, DropsBlock, PutsChunk, SameContext}
 use Rattle.ctx_blocks.specs.declared.parts.Block.{Block}
 use Rattle.ctx_blocks.specs.declared.parts.Chunk.{Chunk}
 use Rattle.generation_ctx.specs.Ledger.{is_spare}
-use Rattle.generation_ctx.specs.Kept.{HasSize, IsSized, IsSpare, IsIdle, IsAlone, IsKept}
+use Rattle.chunk_header.specs.Growth.{AreSizes}
+use Rattle.ctx_blocks.specs.Kept.{HasSize}
+use Rattle.generation_ctx.specs.Kept.{IsSpare, IsIdle, IsAlone, IsKept}
 use Rattle.generation_ctx.specs.declared.books.Books.{Books}
 use Rattle.generation_ctx.proofs.Alone.{apart_room}
-use Rattle.generation_ctx.proofs.Kepts.{put_other, size_put, spare_put, drop_other, size_drop, spare_drop, not_spare}
+use Rattle.ctx_blocks.proofs.Changed.{put_other, size_put, drop_other, size_drop}
+use Rattle.generation_ctx.proofs.Kepts.{spare_put, spare_drop, not_spare}
 
 -- what a chunk with a block for itself was
 pub record Was (l : Layout) (number : ℕ) (at : Addr) : Type 0 where
@@ -67,20 +71,8 @@ were_put l m number to new puts shared apart at chunk is own =
     let was : chunk_at l at ≡ Some chunk = put_was (same_addr to at) new (chunk_at l at) chunk shared (sym (puts at) ∙ is) own in
     record { chunk = chunk; is = was; own = own; other = apart at chunk was own }
 
--- the next block's size
-pub next_sized : (init max next : ℕ) → IsSized init max next → IsSized init max (min (2 * next) max)
-next_sized init max next s = record {
-  least = s.least;
-  order = s.order;
-  most = s.most;
-  whole_init = s.whole_init;
-  whole_max = s.whole_max;
-  next_least = omega (arith, s.least, s.order, s.next_least);
-  next_most = omega arith;
-  next_whole = omega (arith, s.next_whole, s.whole_max);
-}
-
-pub kept_next : (b : Books) (next : ℕ) → IsKept b → IsSized b.sizes.init b.sizes.max next → IsKept (record b { next = next })
+-- the next block has another size
+pub kept_next : (b : Books) (next : ℕ) → IsKept b → AreSizes b.sizes.init b.sizes.max next → IsKept (record b { next = next })
 kept_next b next kept sized = record { kind = kept.kind; sizes = sized; keeper = kept.keeper; bytes = kept.bytes; current = kept.current; spare = kept.spare; alone = kept.alone }
 
 pub kept_spare : (b : Books) (number : ℕ) → IsKept b → IsIdle b.blocks b.current number → IsKept (record b { spare = Some number })

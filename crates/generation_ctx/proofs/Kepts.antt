@@ -1,11 +1,11 @@
 -- What the code keeps, once blocks were put and given.
-use Rattle.std.proofs.Common.{◌≡◌, ◌≢◌, ℕ, ◌<◌, ap, unwrap_or, ◌==◌, Option, Some, None, false, refl, arith, ◌∙◌, sym, inl, inr}
-use Rattle.std.proofs.lemmas.Bool.{cases_eq}
+use Rattle.std.proofs.Common.{◌≡◌, ◌≢◌, ℕ, ◌<◌, ap, unwrap_or, ◌==◌, Option, Some, None, false, refl, arith, ◌∙◌, sym}
 use Rattle.ctx_blocks.specs.Layout.{Layout, block_at}
 use Rattle.ctx_blocks.specs.Steps.{PutsBlock, DropsBlock}
 use Rattle.ctx_blocks.specs.declared.parts.Block.{Block}
 use Rattle.generation_ctx.specs.Ledger.{is_spare}
-use Rattle.generation_ctx.specs.Kept.{HasSize, IsSpare}
+use Rattle.generation_ctx.specs.Kept.{IsSpare}
+use Rattle.ctx_blocks.proofs.Changed.{put_other, drop_other}
 
 -- what a test of the spare says
 pub not_spare : (a b : ℕ) → (a == b) ≡ false → a ≢ b
@@ -15,43 +15,19 @@ pub is_not_spare : (a b : ℕ) → a ≢ b → (a == b) ≡ false
 is_not_spare a b ne = grind (arith, ne)
 
 module _ (l m : Layout) (number : ℕ) (block : Block) (puts : PutsBlock l m number block) where
-  -- the block that was put is there
-  pub put_here : block_at m number ≡ Some block
-  put_here = grind (arith, puts.at number)
-
-  -- and every other one stays
-  pub put_other : (other : ℕ) → number ≢ other → block_at m other ≡ block_at l other
-  put_other other ne = grind (arith, puts.at other, ne)
-
-  -- blocks keep their sizes, where the block that was put has that of the one before
-  pub size_put : ((old : Block) → block_at l number ≡ Some old → block.size ≡ old.size) → (k bytes : ℕ) → HasSize l k bytes → HasSize m k bytes
-  size_put same k bytes has = elim (cases_eq number k) [
-    | inl e ↦
-        let is : block_at l number ≡ Some has.block = rw e has.is in
-        record { block = block; is = rw (← e) put_here; size = same has.block is ∙ has.size }
-    | inr ne ↦ record { block = has.block; is = put_other k ne ∙ has.is; size = has.size }
-  ]
-
   -- the spare stays, where another block was put
   pub spare_put : (current : ℕ) (spare : Option ℕ) → m.keeper ≡ l.keeper → is_spare spare number ≡ false → IsSpare l current spare → IsSpare m current spare
   spare_put current None same differs idle = idle
   spare_put current (Some other) same differs idle =
       let ne : number ≢ other = λ e. not_spare other number differs (sym e) in
-      record { block = idle.block; is = put_other other ne ∙ idle.is; live = idle.live; not_keeper = λ e. idle.not_keeper (e ∙ same); not_current = idle.not_current }
+      record { block = idle.block; is = put_other l m number block puts other ne ∙ idle.is; live = idle.live; not_keeper = λ e. idle.not_keeper (e ∙ same); not_current = idle.not_current }
 
 module _ (l m : Layout) (number : ℕ) (drops : DropsBlock l m number) where
-  -- every block but the one that was given stays
-  pub drop_other : (other : ℕ) → number ≢ other → block_at m other ≡ block_at l other
-  drop_other other ne = grind (arith, drops.at other, ne)
-
-  pub size_drop : (k bytes : ℕ) → number ≢ k → HasSize l k bytes → HasSize m k bytes
-  size_drop k bytes ne has = record { block = has.block; is = drop_other k ne ∙ has.is; size = has.size }
-
   pub spare_drop : (current : ℕ) (spare : Option ℕ) → m.keeper ≡ l.keeper → is_spare spare number ≡ false → IsSpare l current spare → IsSpare m current spare
   spare_drop current None same differs idle = idle
   spare_drop current (Some other) same differs idle =
       let ne : number ≢ other = λ e. not_spare other number differs (sym e) in
-      record { block = idle.block; is = drop_other other ne ∙ idle.is; live = idle.live; not_keeper = λ e. idle.not_keeper (e ∙ same); not_current = idle.not_current }
+      record { block = idle.block; is = drop_other l m number drops other ne ∙ idle.is; live = idle.live; not_keeper = λ e. idle.not_keeper (e ∙ same); not_current = idle.not_current }
 
 -- which blocks aren't the spare: the current one
 pub spare_current : (l : Layout) (current : ℕ) (spare : Option ℕ) → IsSpare l current spare → is_spare spare current ≡ false

@@ -1,7 +1,7 @@
 -- The steps of the ledger, by what is compared.
 use Rattle.std.proofs.Common.{◌≡◌, ◌≢◌, ℕ, ◌+◌, ◌<◌, ◌≤◌, Some, None, Ok, Err, refl, arith}
 use Rattle.chunk_header.specs.declared.CtxError.TheVariants.{NoSpace}
-use Rattle.generation_ctx.specs.Room.{granted}
+use Rattle.chunk_header.specs.Growth.{granted}
 use Rattle.generation_ctx.specs.Ledger.{GenerationLedger, block_in, cut_off, turned, with_new, block_size, chosen, take_new, take_from, take_cut, take_own, take, put, set_aside, stopped}
 
 module _ (l : GenerationLedger) where

@@ -1,5 +1,3 @@
-pub mod Seen
-pub mod Answered
 pub mod Lists
 pub mod Kepts
 pub mod Alone
@@ -8,7 +6,6 @@ pub mod Ledgers
 pub mod Found
 pub mod Kept
 pub mod Resets
-pub mod Lives
 pub mod Refilled
 pub mod Forgotten
 pub mod Addrs

@@ -1,16 +1,19 @@
 -- A chunk gets a new block for itself.
 use Rattle.std.proofs.Common.{◌≡◌, ◌≢◌, ℕ, Bool, true, false, Some, if◌then◌else◌, refl, ◌∙◌, sym, subst}
 use Rattle.addr_space.specs.declared.Addr.{Addr}
-use Rattle.ctx_blocks.specs.Layout.{Layout, block_at, chunk_at, same_addr}
+use Rattle.addr_space.specs.Live.{same_addr}
+use Rattle.ctx_blocks.specs.Layout.{Layout, block_at, chunk_at}
 use Rattle.ctx_blocks.specs.Steps.{PutsBlock, PutsChunk, SameContext}
 use Rattle.ctx_blocks.specs.declared.parts.Block.{Block}
 use Rattle.ctx_blocks.specs.declared.parts.Chunk.{Chunk}
 use Rattle.generation_ctx.specs.Ledger.{is_spare}
-use Rattle.generation_ctx.specs.Kept.{HasSize, IsAlone, IsKept}
+use Rattle.ctx_blocks.specs.Kept.{HasSize}
+use Rattle.generation_ctx.specs.Kept.{IsAlone, IsKept}
 use Rattle.generation_ctx.specs.declared.books.Books.{Books}
 use Rattle.generation_ctx.proofs.Addrs.{same_region}
 use Rattle.generation_ctx.proofs.Alone.{apart_live}
-use Rattle.generation_ctx.proofs.Kepts.{put_here, put_other, size_put, spare_put}
+use Rattle.ctx_blocks.proofs.Changed.{put_here, put_other, size_put}
+use Rattle.generation_ctx.proofs.Kepts.{spare_put}
 
 module _ (b : Books) (m : Layout) (number : ℕ) (first last : Block) (at : Addr) (new : Chunk) (kept : IsKept b) (here : block_at b.blocks number ≡ Some first) (empty : first.live ≡ 0) (same : SameContext b.blocks m) (puts : PutsBlock b.blocks m number last) (chunk : PutsChunk b.blocks m at (Some new)) (region : at.region ≡ number) (live : last.live ≡ 1) (room : last.room ≡ 0) (size : last.size ≡ first.size) (not_keeper : number ≢ b.blocks.keeper) (not_current : number ≢ b.current) (free : is_spare b.spare number ≡ false) where
   alone_by : (other : Addr) (x : Chunk) (t : Bool) → same_addr at other ≡ t → (if t then Some new else chunk_at b.blocks other) ≡ Some x → x.own ≡ true → IsAlone m b.current other

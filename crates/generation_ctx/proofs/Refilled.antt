@@ -1,9 +1,9 @@
 -- A shared block without live chunks gets its whole room, or goes back.
 use Rattle.std.proofs.Common.{◌≡◌, ◌≢◌, ℕ, ◌+◌, ◌-◌, ◌==◌, Option, Some, None, false, if◌then◌else◌, refl, arith, ◌∙◌, sym, ap}
-use Rattle.ctx_blocks.specs.Layout.{Layout, block_at, whole_of}
+use Rattle.ctx_blocks.specs.Layout.{Layout, block_at, whole_of, whole_block}
 use Rattle.ctx_blocks.specs.Steps.{PutsBlock, SameContext, with_block}
 use Rattle.ctx_blocks.specs.declared.parts.Block.{Block}
-use Rattle.generation_ctx.specs.Ledger.{GenerationLedger, block_in, is_spare, put, given, filled, whole_block, emptied, emptied_other, lessened, freed, freed_shared}
+use Rattle.generation_ctx.specs.Ledger.{GenerationLedger, block_in, is_spare, put, given, filled, emptied, emptied_other, lessened, freed, freed_shared}
 use Rattle.generation_ctx.specs.Kept.{ledger_of, IsKept}
 use Rattle.generation_ctx.specs.declared.books.Books.{Books}
 use Rattle.generation_ctx.proofs.Alone.{apart_live}

@@ -1,20 +1,13 @@
 -- The books of a context with the keeper alone.
-use Rattle.std.proofs.Common.{◌≡◌, ℕ, ◌∷◌, [], Some, None, refl, arith, ◌∙◌, sym, List}
+use Rattle.std.proofs.Common.{◌≡◌, [], Some, None, refl, arith, ◌∙◌, sym}
 use Rattle.chunk_header.specs.declared.Kind.TheVariants.{Generation}
-use Rattle.ctx_blocks.specs.Layout.{block_at, chunk_at}
-use Rattle.ctx_blocks.specs.declared.parts.Block.{Block}
-use Rattle.generation_ctx.specs.Ledger.{created, whole_block}
-use Rattle.generation_ctx.specs.Kept.{ledger_of, IsSized, IsKept}
+use Rattle.ctx_blocks.specs.Layout.{block_at, chunk_at, whole_block, keeper_alone}
+use Rattle.generation_ctx.specs.Ledger.{created}
+use Rattle.chunk_header.specs.Growth.{AreSizes}
+use Rattle.generation_ctx.specs.Kept.{ledger_of, IsKept}
 use Rattle.generation_ctx.specs.declared.books.Books.{Books}
 
-abbrev pub keeper_alone : ℕ → ℕ → List (ℕ × Block)
-keeper_alone keeper size = (keeper, whole_block 200 size) ∷ []
-
--- the same, by another name of the keeper and of its size
-pub alone_as : (l : List (ℕ × Block)) (keeper other size bytes : ℕ) → l ≡ keeper_alone keeper size → other ≡ keeper → size ≡ bytes → l ≡ keeper_alone other bytes
-alone_as l keeper other size bytes only same now = rw (same, ← now) only
-
-module _ (n : Books) (kind : n.blocks.kind ≡ Generation) (sized : IsSized n.sizes.init n.sizes.max n.next) (only : n.blocks.blocks ≡ keeper_alone n.blocks.keeper n.sizes.init) (first : n.current ≡ n.blocks.keeper) (spare : n.spare ≡ None) where
+module _ (n : Books) (kind : n.blocks.kind ≡ Generation) (sized : AreSizes n.sizes.init n.sizes.max n.next) (only : n.blocks.blocks ≡ keeper_alone n.blocks.keeper n.sizes.init) (first : n.current ≡ n.blocks.keeper) (spare : n.spare ≡ None) where
   there : block_at n.blocks n.blocks.keeper ≡ Some (whole_block 200 n.sizes.init)
   there = rw only (grind arith)
 

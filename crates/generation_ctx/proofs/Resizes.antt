@@ -2,9 +2,8 @@
 use Rattle.std.proofs.Common.{◌≡◌, ◌≢◌, ℕ, ◌<◌, ◌≤◌, Bool, true, false, Option, Some, None, Ok, if◌then◌else◌, refl, arith, ◌∙◌, sym, ap}
 use Rattle.addr_space.specs.declared.Addr.{Addr}
 use Rattle.addr_space.specs.Footprint.{Footprint}
-use Rattle.ctx_blocks.specs.Layout.{same_addr}
+use Rattle.addr_space.specs.Live.{same_addr, PutsLive, MovesLive}
 use Rattle.generation_ctx.specs.Ledger.{GenerationLedger, take, moved, resized}
-use Rattle.generation_ctx.specs.Live.{PutsLive, MovesLive}
 use Rattle.generation_ctx.proofs.Addrs.{same_is}
 
 module _ (l : GenerationLedger) (left number size from room : ℕ) (own : Bool) where

@@ -1,30 +1,17 @@
 -- Steps, one after another.
-use Rattle.std.proofs.Common.{◌≡◌, ℕ, Result, Some, refl, ◌∙◌, sym}
+use Rattle.std.proofs.Common.{◌≡◌, ℕ, Result, refl, sym}
 use Rattle.addr_space.specs.declared.Addr.{Addr}
 use Rattle.addr_space.specs.Space.{Space}
-use Rattle.addr_space.specs.Footprint.{Footprint, Agrees, Keeps}
-use Rattle.addr_space.proofs.Steps.{Moves-none, Moves-more}
+use Rattle.addr_space.specs.Footprint.{Agrees}
+use Rattle.addr_space.proofs.Steps.{Moves-none, Moves-more, Keeps-more, Keeps-then}
 use Rattle.chunk_header.specs.declared.CtxError.{CtxError}
-use Rattle.ctx_blocks.specs.Layout.{Layout, footprint}
+use Rattle.ctx_blocks.specs.Layout.{footprint}
 use Rattle.generation_ctx.specs.Ledger.{GenerationLedger}
 use Rattle.generation_ctx.specs.Kept.{ledger_of, IsKept}
 use Rattle.generation_ctx.specs.Steps.{Rearranges, Allocates, Frees}
 use Rattle.generation_ctx.specs.declared.books.Books.{Books}
-use Rattle.generation_ctx.proofs.Seen.{footprint_spare}
-
--- bytes are kept in two steps, the first of which left the chunks
-pub keeps_more : (l m : Layout) (h : Footprint) (s t u : Space) → m.chunks ≡ l.chunks → Keeps (footprint l) (footprint m) s t → Keeps (footprint m) h t u → Keeps (footprint l) h s u
-keeps_more l m h s t u same first second at p q k live again below short =
-    let were : (footprint m).live at ≡ (footprint l).live at = rw same refl in
-    let middle : (footprint m).live at ≡ Some p = were ∙ live in
-    second at p q k middle again below short ∙ first at p p k live middle below below
-
--- or the second of which did
-pub keeps_then : (f : Footprint) (m n : Layout) (s t u : Space) → n.chunks ≡ m.chunks → Keeps f (footprint m) s t → Keeps (footprint m) (footprint n) t u → Keeps f (footprint n) s u
-keeps_then f m n s t u same first second at p q k live again below short =
-    let were : (footprint n).live at ≡ (footprint m).live at = rw same refl in
-    let middle : (footprint m).live at ≡ Some q = sym were ∙ again in
-    second at q q k middle again short short ∙ first at p q k live middle below short
+use Rattle.ctx_blocks.proofs.Spared.{footprint-spare}
+use Rattle.ctx_blocks.proofs.Changed.{stays_live}
 
 -- nothing happens
 pub rearranges_none : (b : Books) (s : Space) (ledger : GenerationLedger) → IsKept b → Agrees (footprint b.blocks) s → ledger_of b ≡ ledger → Rearranges b b s s ledger
@@ -46,7 +33,7 @@ allocates_more b m n s t u size at ledger step first rest = record {
   fresh = rw (← first.chunks) rest.fresh;
   chunk = rw (← first.chunks) rest.chunk;
   moves = Moves-more (footprint b.blocks) (footprint m.blocks) (footprint n.blocks) s t u first.moves rest.moves;
-  keeps = keeps_more b.blocks m.blocks (footprint n.blocks) s t u first.chunks first.keeps rest.keeps;
+  keeps = Keeps-more (footprint b.blocks) (footprint m.blocks) (footprint n.blocks) s t u (stays_live b.blocks m.blocks first.chunks) first.keeps rest.keeps;
 }
 
 -- after room was made
@@ -57,7 +44,7 @@ allocates_made b i j n s t size at step rest = record {
   own = rest.own;
   fresh = rest.fresh;
   chunk = rest.chunk;
-  moves = rw (← footprint_spare b.blocks i j) rest.moves;
+  moves = rw (← footprint-spare b.blocks i j) rest.moves;
   keeps = rest.keeps;
 }
 
@@ -67,5 +54,5 @@ frees_more b m n s t u at ledger frees rest = record {
   kept = rest.kept;
   chunk = rw rest.chunks frees.chunk;
   moves = Moves-more (footprint b.blocks) (footprint m.blocks) (footprint n.blocks) s t u frees.moves rest.moves;
-  keeps = keeps_then (footprint b.blocks) m.blocks n.blocks s t u rest.chunks frees.keeps rest.keeps;
+  keeps = Keeps-then (footprint b.blocks) (footprint m.blocks) (footprint n.blocks) s t u (stays_live n.blocks m.blocks (sym rest.chunks)) frees.keeps rest.keeps;
 }

@@ -1,13 +1,15 @@
 -- What holds of the insides of a Generation context.
-use Rattle.std.specs.Prelude.{◌≡◌, ◌≢◌, ℕ, ◌%◌, ◌≤◌, true, Option, Some, None}
+use Rattle.std.specs.Prelude.{◌≡◌, ◌≢◌, ℕ, true, Option, Some, None}
 use Rattle.addr_space.specs.declared.Addr.{Addr}
 use Rattle.chunk_header.specs.declared.Kind.TheVariants.{Generation}
-use Rattle.ctx_blocks.specs.Layout.{Layout, block_at, chunk_at}
+use Rattle.ctx_blocks.specs.Layout.{Layout, block_at, chunk_at, bare}
 use Rattle.ctx_blocks.specs.declared.parts.Block.{Block}
 use Rattle.ctx_blocks.specs.declared.parts.Chunk.{Chunk}
 use Rattle.generation_ctx.specs.Ledger.{GenerationLedger}
-use Rattle.generation_ctx.specs.State.{GenerationState, bare}
+use Rattle.generation_ctx.specs.State.{GenerationState}
 use Rattle.generation_ctx.specs.declared.books.Books.{Books}
+use Rattle.chunk_header.specs.Growth.{AreSizes}
+use Rattle.ctx_blocks.specs.Kept.{HasSize}
 
 -- the ledger: its blocks are those that there are
 abbrev pub ledger_of : Books → GenerationLedger
@@ -24,23 +26,6 @@ ledger_of b = record {
 -- the value that contracts see
 abbrev pub state_of : Books → GenerationState
 state_of b = record { ledger = ledger_of b; layout = bare b.blocks }
-
--- the sizes, and the size of the next block
-pub record IsSized (init max next : ℕ) : Type 0 where
-  pub least : 1024 ≤ init
-  pub order : init ≤ max
-  pub most : max ≤ 8388608
-  pub whole_init : init % 8 ≡ 0
-  pub whole_max : max % 8 ≡ 0
-  pub next_least : 1024 ≤ next
-  pub next_most : next ≤ max
-  pub next_whole : next % 8 ≡ 0
-
--- there is a block, and it has this size
-pub record HasSize (l : Layout) (number bytes : ℕ) : Type 0 where
-  pub block : Block
-  pub is : block_at l number ≡ Some block
-  pub size : block.size ≡ bytes
 
 -- there is a block without live chunks, and it is neither the keeper nor the current one
 pub record IsIdle (l : Layout) (current number : ℕ) : Type 0 where
@@ -70,7 +55,7 @@ AllAlone l current = (at : Addr) (chunk : Chunk) → chunk_at l at ≡ Some chun
 -- all that the code keeps
 pub record IsKept (b : Books) : Type 0 where
   pub kind : b.blocks.kind ≡ Generation
-  pub sizes : IsSized b.sizes.init b.sizes.max b.next
+  pub sizes : AreSizes b.sizes.init b.sizes.max b.next
   pub keeper : HasSize b.blocks b.blocks.keeper b.sizes.init
   pub bytes : ℕ
   pub current : HasSize b.blocks b.current bytes

@@ -1,14 +1,13 @@
 -- The ledger of a Generation context: its blocks by their numbers, without the places of chunks in them.
-use Rattle.std.specs.Prelude.{ℕ, ◌+◌, ◌-◌, ◌*◌, ◌==◌, Bool, false, nat_lt, nat_le, min, if◌then◌else◌, List, [], ◌∷◌, length, sum_by, Option, Some, None, unwrap_or, Result, Ok, Err}
+use Rattle.std.specs.Prelude.{ℕ, ◌+◌, ◌-◌, ◌*◌, ◌==◌, Bool, false, nat_lt, nat_le, min, if◌then◌else◌, List, length, sum_by, Option, Some, None, unwrap_or, Result, Ok, Err}
 use Rattle.std.specs.Map.{lookup, values_of}
 use Rattle.chunk_header.specs.declared.CtxError.{CtxError}
 use Rattle.chunk_header.specs.declared.CtxError.TheVariants.{TooBig, NoSpace}
 use Rattle.chunk_header.specs.declared.Stats.{Stats}
-use Rattle.chunk_header.specs.Growth.{grown}
-use Rattle.ctx_blocks.specs.Layout.{whole_room}
+use Rattle.chunk_header.specs.Growth.{grown, granted}
+use Rattle.ctx_blocks.specs.Layout.{whole_block, keeper_alone}
 use Rattle.ctx_blocks.specs.Steps.{with_block, without_block}
 use Rattle.ctx_blocks.specs.declared.parts.Block.{Block}
-use Rattle.generation_ctx.specs.Room.{granted}
 
 -- the sizes that it was created with; the size of the next block; the number of the first block; that of the
 -- block off which chunks are cut, and of an empty one that waits to be so; and each block by its number, in the
@@ -30,10 +29,6 @@ no_block = record { size = 0; room = 0; live = 0; freed = 0 }
 abbrev pub block_in : GenerationLedger → ℕ → Block
 block_in l number = unwrap_or (lookup (λ n. number == n) l.blocks) no_block
 
--- a block of so many bytes whose whole room is this much
-abbrev pub whole_block : ℕ → ℕ → Block
-whole_block start size = record { size = size; room = whole_room start size; live = 0; freed = 0 }
-
 -- a block is there, in the place of that of its number or as the last one; or is there no more
 abbrev pub put : GenerationLedger → ℕ → Block → GenerationLedger
 put l number block = record l { blocks = with_block l.blocks number block }
@@ -50,7 +45,7 @@ created init max keeper = record {
   keeper = keeper;
   current = keeper;
   spare = None;
-  blocks = (keeper, whole_block 200 init) ∷ [];
+  blocks = keeper_alone keeper init;
 }
 
 -- an empty block that isn't used any more becomes the spare where there is none, else it goes back

@@ -6,10 +6,10 @@ use Rattle.addr_space.specs.Footprint.{Moves, Keeps, KeepsBut}
 use Rattle.chunk_header.specs.declared.CtxError.{CtxError}
 use Rattle.ctx_blocks.specs.Layout.{chunk_at, footprint}
 use Rattle.ctx_blocks.specs.Steps.{PutsChunk}
-use Rattle.generation_ctx.specs.Room.{granted}
+use Rattle.chunk_header.specs.Growth.{granted}
 use Rattle.generation_ctx.specs.Ledger.{GenerationLedger}
 use Rattle.generation_ctx.specs.Kept.{ledger_of, IsKept}
-use Rattle.generation_ctx.specs.Live.{MovesLive, HasBytesOf}
+use Rattle.addr_space.specs.Live.{MovesLive, HasBytesOf}
 use Rattle.generation_ctx.specs.declared.books.Books.{Books}
 
 -- blocks come and go and change their parts, while the live chunks stay

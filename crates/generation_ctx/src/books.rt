@@ -8,11 +8,11 @@ ghost use Rattle.ctx_blocks.specs.Layout.{footprint, block_at, chunk_at};
 ghost use Rattle.ctx_blocks.specs.Steps.{PutsChunk};
 ghost use Rattle.ctx_blocks.specs.declared.parts.Block.{Block};
 ghost use Rattle.ctx_blocks.specs.declared.parts.Chunk.{Chunk};
-ghost use Rattle.generation_ctx.specs.Room.{granted};
+ghost use Rattle.chunk_header.specs.Growth.{granted};
 ghost use Rattle.generation_ctx.specs.Ledger.{block_in, created, is_spare, set_aside, stopped, turned, with_new, cut_off, chosen, block_size, take_own, take_cut, take, emptied, lessened, freed, given, resized, stats};
 
 use addr_space::{Addr, Space};
-use chunk_header::{CtxError, Kind, Sizes, Stats, grown, up8};
+use chunk_header::{CtxError, Kind, LARGEST, Sizes, Stats, granted, grown};
 use ctx_blocks::{Block, Blocks};
 use std::alloc::Global;
 
@@ -29,27 +29,12 @@ pub struct Books {
     pub blocks: Blocks,
 }
 
-// The greatest size of a request.
-const LARGEST: u64 = 1_073_741_823;
-
 // The greatest request that is cut off a shared block.
 const LIMIT: u32 = 524_288;
 
-// The bytes that a chunk of so many has.
-#[tactic(auto, unfolding(crate::specs::Room::granted))]
-fn granted(size: u32) -> u32
-    requires { size < 2 ^ 30 }
-    ensures value { result ≡ granted size }
-    ensures some { 8 ≤ result }
-    ensures least { size ≤ result }
-    ensures most { (result ≡ 8) ⊎ (result < size + 8) }
-    ensures whole { result % 8 ≡ 0 }
-{
-    up8(size.max(1))
-}
-
 impl Books {
-    ghost use Rattle.generation_ctx.specs.Kept.{ledger_of, state_of, HasSize, IsIdle, IsKept};
+    ghost use Rattle.ctx_blocks.specs.Kept.{HasSize};
+    ghost use Rattle.generation_ctx.specs.Kept.{ledger_of, state_of, IsIdle, IsKept};
     ghost use Rattle.generation_ctx.specs.Steps.{Rearranges, Allocates, Frees, Resizes};
 
     // The books of a new context.

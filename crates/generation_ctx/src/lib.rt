@@ -39,9 +39,9 @@ impl GenerationCtx {
     ghost use Rattle.addr_space.specs.Space.{accounts, held, IsKnown};
     ghost use Rattle.addr_space.specs.Footprint.{nothing, Agrees, Moves, Keeps, KeepsBut};
     ghost use Rattle.chunk_header.specs.Header.{AllHeaded};
-    ghost use Rattle.generation_ctx.specs.State.{chunk_at, footprint, account_of};
+    ghost use Rattle.generation_ctx.specs.State.{chunk_at, footprint};
     ghost use Rattle.generation_ctx.specs.Ledger.{created, freed, resized};
-    ghost use Rattle.generation_ctx.specs.Live.{PutsLive, MovesLive, HasBytesOf};
+    ghost use Rattle.addr_space.specs.Live.{PutsLive, MovesLive, HasBytesOf};
 
     /// A context with one block, for an account of the space. `context` is the number that its blocks keep.
     ///
@@ -89,7 +89,7 @@ impl GenerationCtx {
         self.books.headed();
     }
 
-    #[tactic(auto, using(crate::proofs::Seen::agrees_bare, crate::proofs::Seen::moves_bare))]
+    #[tactic(auto, using(ctx_blocks::proofs::Spared::agrees_bare, ctx_blocks::proofs::Spared::moves_bare))]
     /// Takes a chunk of `size` bytes, which may be 0, and answers its address. No byte of it is known.
     ///
     /// `TooBig`, `NoSpace` and `Memory` are tried in this order. A refused call changes nothing.
@@ -97,7 +97,7 @@ impl GenerationCtx {
         requires { Agrees (footprint self.old) space.old }
 
         // The ledger makes its step for the request, with what is left of the account and the block that the chunk is in.
-        ensures ledger { IfOk result (λ at. take self.old.ledger (space.old.limit - held space.old (account_of self.old)) at.region size ≡ Ok self.new.ledger) }
+        ensures ledger { IfOk result (λ at. take self.old.ledger (space.old.limit - held space.old self.old.layout.account) at.region size ≡ Ok self.new.ledger) }
 
         // The chunk was not live, and every other chunk stays.
         ensures fresh { IfOk result (λ at. (footprint self.old).live at ≡ None) }
@@ -108,7 +108,7 @@ impl GenerationCtx {
         ensures too_big { (result ≡ Err CtxError.TooBig) ↔ (1073741823 < size) }
 
         // Whatever number a new block had.
-        ensures no_space { result ≡ Err CtxError.NoSpace → (number : ℕ) → take self.old.ledger (space.old.limit - held space.old (account_of self.old)) number size ≡ Err CtxError.NoSpace }
+        ensures no_space { result ≡ Err CtxError.NoSpace → (number : ℕ) → take self.old.ledger (space.old.limit - held space.old self.old.layout.account) number size ≡ Err CtxError.NoSpace }
         ensures no_other { IfErr result (λ e. (e ≡ CtxError.TooBig) ⊎ ((e ≡ CtxError.NoSpace) ⊎ (e ≡ CtxError.Memory))) }
         ensures err { OnErr result (self.new ≡ self.old) }
         ensures err_space { OnErr result (space.new ≡ space.old) }
@@ -116,7 +116,7 @@ impl GenerationCtx {
         self.books.alloc(space, size)
     }
 
-    #[tactic(auto, using(crate::proofs::Seen::agrees_bare, crate::proofs::Seen::moves_bare))]
+    #[tactic(auto, using(ctx_blocks::proofs::Spared::agrees_bare, ctx_blocks::proofs::Spared::moves_bare))]
     /// Frees a live chunk. It never refuses, and takes no memory. A block that the chunk had for itself goes back to
     /// the space. Of a shared block whose last live chunk it is, the room is whole again, or the block goes back.
     pub fn free(&mut self, space: &mut Space, at: Addr) -> Result<(), CtxError>
@@ -132,7 +132,7 @@ impl GenerationCtx {
         Ok(())
     }
 
-    #[tactic(auto, using(crate::proofs::Seen::agrees_bare, crate::proofs::Seen::moves_bare))]
+    #[tactic(auto, using(ctx_blocks::proofs::Spared::agrees_bare, ctx_blocks::proofs::Spared::moves_bare))]
     /// Gives a live chunk a size of `size` bytes, which may be 0, and answers where it is now. `keep` is how many of
     /// its first bytes are known.
     ///
@@ -154,7 +154,7 @@ impl GenerationCtx {
         requires known { IsKnown space.old at keep }
 
         // The ledger makes its step for the chunk.
-        ensures ledger { IfOk result (λ to. IfSome (chunk_at self.old at) (λ chunk. resized self.old.ledger (space.old.limit - held space.old (account_of self.old)) to.region size at.region chunk.room chunk.own ≡ Ok self.new.ledger)) }
+        ensures ledger { IfOk result (λ to. IfSome (chunk_at self.old at) (λ chunk. resized self.old.ledger (space.old.limit - held space.old self.old.layout.account) to.region size at.region chunk.room chunk.own ≡ Ok self.new.ledger)) }
 
         // Where the chunk is at another address none was live there, the old address has none, and every other chunk stays.
         ensures fresh { IfOk result (λ to. to ≢ at → (footprint self.old).live to ≡ None) }
@@ -165,7 +165,7 @@ impl GenerationCtx {
         ensures keeps { OnOk result (KeepsBut at (footprint self.old) (footprint self.new) space.old space.new) }
 
         ensures too_big { (result ≡ Err CtxError.TooBig) ↔ (1073741823 < size) }
-        ensures no_space { result ≡ Err CtxError.NoSpace → (number : ℕ) → IfSome (chunk_at self.old at) (λ chunk. resized self.old.ledger (space.old.limit - held space.old (account_of self.old)) number size at.region chunk.room chunk.own ≡ Err CtxError.NoSpace) }
+        ensures no_space { result ≡ Err CtxError.NoSpace → (number : ℕ) → IfSome (chunk_at self.old at) (λ chunk. resized self.old.ledger (space.old.limit - held space.old self.old.layout.account) number size at.region chunk.room chunk.own ≡ Err CtxError.NoSpace) }
         ensures no_other { IfErr result (λ e. (e ≡ CtxError.TooBig) ⊎ ((e ≡ CtxError.NoSpace) ⊎ (e ≡ CtxError.Memory))) }
         ensures err { OnErr result (self.new ≡ self.old) }
         ensures err_space { OnErr result (space.new ≡ space.old) }
@@ -173,7 +173,7 @@ impl GenerationCtx {
         self.books.realloc(space, at, keep, size)
     }
 
-    #[tactic(auto, using(crate::proofs::Seen::agrees_bare, crate::proofs::Seen::moves_bare))]
+    #[tactic(auto, using(ctx_blocks::proofs::Spared::agrees_bare, ctx_blocks::proofs::Spared::moves_bare))]
     /// Frees all chunks and gives every block but the first back: the context is as it was created. It takes no
     /// memory.
     pub fn reset(&mut self, space: &mut Space)

@@ -7,14 +7,16 @@ use Rattle.addr_space.specs.declared.Addr.{Addr}
 use Rattle.addr_space.specs.Space.{Space}
 use Rattle.addr_space.specs.Footprint.{Footprint, IsSound, Agrees, Moves, nothing, counted}
 use Rattle.chunk_header.specs.Header.{AllHeaded}
-use Rattle.ctx_blocks.specs.Layout.{Layout, block_at, chunk_at, then_option, mark_of, footprint as footprint_of}
+use Rattle.ctx_blocks.specs.Layout.{Layout, block_at, chunk_at, mark_of, footprint as footprint_of, bare}
 use Rattle.ctx_blocks.specs.declared.parts.Block.{Block}
 use Rattle.ctx_blocks.specs.declared.parts.Chunk.{Chunk}
 use Rattle.slab_ctx.specs.Ledger.{stride}
-use Rattle.slab_ctx.specs.State.{bare, is_slot, free_slot, free_block, free_at}
+use Rattle.slab_ctx.specs.State.{is_slot, free_slot, free_block, free_at}
 use Rattle.slab_ctx.specs.Slots.{IsSlot, IsSlotted}
 use Rattle.slab_ctx.proofs.Numbers.{stride-least, stride-some, slots_apart}
-use Rattle.slab_ctx.proofs.Puts.{none_or_some, same_addr_from}
+use Rattle.addr_space.proofs.Options.{none_or_some}
+use Rattle.addr_space.proofs.Addresses.{same_addr_from}
+use Rattle.ctx_blocks.proofs.Laid.{region_is, from_live}
 
 -- what the context has in a space: what the blocks have, and the free chunks
 abbrev pub full : ℕ → Layout → Footprint
@@ -66,11 +68,6 @@ from_free l size at n is = by (l.keeper == at.region) (λ test. grind (arith, na
     by true differs is = absurd (cc)
     by false differs is = from_block l size at n (λ e. differs refl (sym e)) (block_at l at.region) refl is
 
--- what a live chunk is
-from_live : (o : Option Chunk) (n : ℕ) → then_option o (λ (c : Chunk). Some c.size) ≡ Some n → (c : Chunk) × (o ≡ Some c) × (c.size ≡ n)
-from_live None n is = absurd (cc)
-from_live (Some c) n is = (c, refl, cc)
-
 module _ (l : Layout) (size : ℕ) (s : List (ℕ × Vec ℕ)) (slotted : IsSlotted l size s) where
   -- free chunks lie in their blocks and apart from live ones
   pub IsSound-full : IsSound (footprint_of l) → IsSound (full size l)
@@ -80,12 +77,12 @@ module _ (l : Layout) (size : ℕ) (s : List (ℕ × Vec ℕ)) (slotted : IsSlot
         let it = from_free l size at n free in
         let slot = slot-from size at.offset slotted.least it.slot in
         let filled = slotted.filled at.region it.block it.not_keeper it.found in
-        (it.block.size, ap (λ o. then_option o (λ (b : Block). Some b.size)) it.found, omega (arith, slot.1, it.is, filled.bytes, stride-least size));
+        (it.block.size, region_is l at.region it.block it.found, omega (arith, slot.1, it.is, filled.bytes, stride-least size));
     mark_inside = sound.mark_inside;
     live_apart = sound.live_apart;
     free_apart = λ a b m n live free region.
         let it = from_free l size b n free in
-        let had = from_live (chunk_at l a) m live in
+        let had = from_live l a m live in
         let slot = slot-from size b.offset slotted.least it.slot in
         let is : m ≡ size = sym had.2 ∙ ap (λ (c : Chunk). c.size) (slotted.chunk a had.0 had.1) in
         let differs : a.offset ≢ b.offset = λ e. none_or_some (chunk_at l b) had.0 it.none (ap (chunk_at l) (sym (same_addr_from a b region e)) ∙ had.1) in

@@ -3,10 +3,10 @@ use Rattle.std.proofs.Common.{◌≡◌, ℕ, zero, suc, ◌+◌, ◌<◌, ◌�
 use Rattle.std.specs.Prelude.{slice_get}
 use Rattle.addr_space.specs.declared.Addr.{Addr}
 use Rattle.addr_space.specs.Footprint.{Footprint}
-use Rattle.ctx_blocks.specs.Layout.{same_addr}
-use Rattle.slab_ctx.specs.Steps.{PutsLive}
+use Rattle.addr_space.specs.Live.{same_addr, PutsLive}
 use Rattle.slab_ctx.specs.Held.{AreLive}
-use Rattle.slab_ctx.proofs.Puts.{same_addr-cases, none_or_some}
+use Rattle.addr_space.proofs.Options.{none_or_some}
+use Rattle.addr_space.proofs.Addresses.{same_addr-cases}
 
 -- an element of a list with one more
 get_push : {X : Type 0} (xs : List X) (x y : X) (k : ℕ) → slice_get (xs ++ x ∷ []) k ≡ Some y → (slice_get xs k ≡ Some y) ⊎ ((x ≡ y) × (length xs ≤ k))

@@ -1,12 +1,10 @@
 pub mod Numbers
-pub mod Puts
 pub mod Slotted
 pub mod Taken
 pub mod Places
 pub mod Lives
 pub mod Best
 pub mod Full
-pub mod Sums
 pub mod Listed
 pub mod Bounds
 pub mod KeptSteps

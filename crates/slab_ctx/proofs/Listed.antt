@@ -9,7 +9,7 @@ use Rattle.ctx_blocks.specs.declared.parts.Block.{Block}
 use Rattle.slab_ctx.specs.State.{others, live_of, lives_of, place_in}
 use Rattle.slab_ctx.specs.Slots.{first_region}
 use Rattle.slab_ctx.specs.Kept.{IsListed}
-use Rattle.slab_ctx.proofs.Sums.{sum_by-insert}
+use Rattle.chunk_header.proofs.Sums.{sum_by-insert}
 use Rattle.slab_ctx.proofs.Lives.{find, ne_test, lives-put, put-new, place-new, lives-new, alone-put, alone-drop, place-found, place-kept, lives-drop}
 
 -- a context without blocks

@@ -10,7 +10,7 @@ use Rattle.ctx_blocks.specs.declared.parts.Chunk.{Chunk}
 use Rattle.slab_ctx.specs.Ledger.{stride, per_block}
 use Rattle.slab_ctx.specs.Slots.{IsSlot, IsFree, IsFilled, IsSlotted, stack_at, at_offset}
 use Rattle.slab_ctx.proofs.Numbers.{stride-some, stride-whole, per_block-most, per_block-fits, slots_apart}
-use Rattle.slab_ctx.proofs.Puts.{none_or_some}
+use Rattle.addr_space.proofs.Options.{none_or_some}
 
 -- slots begin at multiples of 8
 pub slot-whole : (size offset : ℕ) → IsSlot size offset → offset % 8 ≡ 0

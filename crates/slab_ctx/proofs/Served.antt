@@ -1,37 +1,10 @@
 -- Lemmas on a request that is served.
-use Rattle.std.proofs.Common.{◌≡◌, ◌≢◌, ℕ, ◌+◌, ◌<◌, ◌≤◌, ◌==◌, ◌++◌, nat_le, nat_lt, if◌then◌else◌, Bool, true, false, List, [], ◌∷◌, length, Option, Some, None, Result, Ok, Err, slice_set, refl, sym, ap, ◌∙◌, arith}
+use Rattle.std.proofs.Common.{◌≡◌, ◌≢◌, ℕ, ◌+◌, ◌<◌, ◌≤◌, ◌==◌, ◌++◌, nat_le, nat_lt, if◌then◌else◌, Bool, true, false, List, [], ◌∷◌, length, Option, Some, None, Result, Ok, Err, slice_set, sym, ap, ◌∙◌, arith}
 use Rattle.std.proofs.lemmas.Bool.Decides.{nat_tests}
 use Rattle.std.proofs.Math.Seq.{set-append_seam}
-use Rattle.addr_space.specs.declared.Addr.{Addr}
-use Rattle.addr_space.specs.Space.{Space}
-use Rattle.addr_space.specs.Footprint.{Footprint, Keeps}
 use Rattle.chunk_header.specs.declared.CtxError.{CtxError}
 use Rattle.chunk_header.specs.declared.CtxError.TheVariants.{TooBig, NoSpace, WrongSize}
-use Rattle.ctx_blocks.specs.Layout.{Layout, same_addr, chunk_at, then_option, footprint as footprint_of}
-use Rattle.ctx_blocks.specs.Steps.{PutsChunk}
-use Rattle.ctx_blocks.specs.declared.parts.Chunk.{Chunk}
 use Rattle.slab_ctx.specs.Ledger.{SlabLedger, fullest, raised, serve, take, per_block}
-
--- the size of a live chunk
-abbrev pub size_of : Option Chunk → Option ℕ
-size_of o = then_option o (λ (c : Chunk). Some c.size)
-
-size_if : (t : Bool) (a b : Option Chunk) → size_of (if t then a else b) ≡ (if t then size_of a else size_of b)
-size_if true a b = refl
-size_if false a b = refl
-
--- what is live after a chunk was put or taken away
-pub live-put : (l m : Layout) (at : Addr) (chunk : Option Chunk) → PutsChunk l m at chunk → (other : Addr) → (footprint_of m).live other ≡ (if same_addr at other then size_of chunk else (footprint_of l).live other)
-live-put l m at chunk puts other = ap size_of (puts other) ∙ size_if (same_addr at other) chunk (chunk_at l other)
-
--- two steps keep what each keeps, where what was live stays so in the first one
-pub keeps-after : (f g h : Footprint) (s t u : Space) → ((at : Addr) (m : ℕ) → f.live at ≡ Some m → g.live at ≡ Some m) → Keeps f g s t → Keeps g h t u → Keeps f h s u
-keeps-after f g h s t u stay first second at m n k live now below under =
-    second at m n k (stay at m live) now below under ∙ first at m m k live (stay at m live) below below
-
--- the same, where the space stays in the first one, and what is live at the end was so between
-pub keeps-before : (f g h : Footprint) (s t : Space) → ((at : Addr) (n : ℕ) → h.live at ≡ Some n → g.live at ≡ Some n) → Keeps g h s t → Keeps f h s t
-keeps-before f g h s t stay second at m n k live now below under = second at n n k (stay at n now) now under under
 
 -- the ledger's step by a block that has a free chunk
 pub serve-some : (l : SlabLedger) (left count : ℕ) (chosen : Option ℕ) (lives : List ℕ) → chosen ≡ Some count → lives ≡ raised count l.lives → serve l left chosen ≡ Ok (record { size = l.size; lives = lives })

@@ -6,13 +6,15 @@ use Rattle.addr_space.specs.declared.Addr.{Addr}
 use Rattle.std.specs.Map.{lookup}
 use Rattle.std.proofs.lemmas.Bool.Decides.{nat_tests}
 use Rattle.chunk_header.specs.declared.Kind.TheVariants.{Slab}
-use Rattle.ctx_blocks.specs.Layout.{Layout, same_addr, block_at, chunk_at}
+use Rattle.addr_space.specs.Live.{same_addr}
+use Rattle.ctx_blocks.specs.Layout.{Layout, block_at, chunk_at}
 use Rattle.ctx_blocks.specs.Steps.{PutsBlock, DropsBlock, SameContext}
 use Rattle.ctx_blocks.specs.declared.parts.Block.{Block}
 use Rattle.ctx_blocks.specs.declared.parts.Chunk.{Chunk}
 use Rattle.slab_ctx.specs.Ledger.{per_block}
 use Rattle.slab_ctx.specs.Slots.{IsSlot, IsFilled, IsSlotted, stack_at, at_offset, chunk_of, first_region}
-use Rattle.slab_ctx.proofs.Puts.{one_value, none_or_some, block_cases, drop_cases}
+use Rattle.addr_space.proofs.Options.{one_value, none_or_some}
+use Rattle.ctx_blocks.proofs.Laid.{block_cases}
 
 -- a block keeps its chunks and its stack
 IsFilled-kept : (l m : Layout) (size number : ℕ) (block : Block) (stack other : List ℕ) → other ≡ stack → ((offset : ℕ) → chunk_at m (at_offset number offset) ≡ chunk_at l (at_offset number offset)) → IsFilled l size number block stack → IsFilled m size number block other
@@ -51,11 +53,11 @@ module _ (l m : Layout) (size : ℕ) (s t : List (ℕ × Vec ℕ)) (number : ℕ
     kind = same.kind ∙ slotted.kind;
     least = slotted.least;
     most = slotted.most;
-    keeper = elim (block_cases l m number block puts m.keeper) [
+    keeper = elim (block_cases l m number (Some block) puts.at m.keeper) [
       | inl here ↦ absurd (differs (sym here.0 ∙ same.keeper))
       | inr there ↦ there.1 ∙ ap (block_at l) same.keeper ∙ slotted.keeper
     ];
-    filled = λ other b not_keeper found. elim (block_cases l m number block puts other) [
+    filled = λ other b not_keeper found. elim (block_cases l m number (Some block) puts.at other) [
       | inl here ↦
           let is : block ≡ b = one_value (block_at m other) block b here.1 found in
           subst (λ n. IsFilled m size n b (stack_at t n)) (sym here.0) (subst (λ x. IsFilled m size number x (stack_at t number)) is filled)
@@ -72,11 +74,11 @@ module _ (l m : Layout) (size : ℕ) (s t : List (ℕ × Vec ℕ)) (number : ℕ
     kind = same.kind ∙ slotted.kind;
     least = slotted.least;
     most = slotted.most;
-    keeper = elim (drop_cases l m number drops m.keeper) [
+    keeper = elim (block_cases l m number None drops.at m.keeper) [
       | inl here ↦ absurd (differs (sym here.0 ∙ same.keeper))
       | inr there ↦ there.1 ∙ ap (block_at l) same.keeper ∙ slotted.keeper
     ];
-    filled = λ other b not_keeper found. elim (drop_cases l m number drops other) [
+    filled = λ other b not_keeper found. elim (block_cases l m number None drops.at other) [
       | inl here ↦ absurd (none_or_some (block_at m other) b here.1 found)
       | inr there ↦ filled_there other b there.0 not_keeper (sym there.1 ∙ found)
     ];

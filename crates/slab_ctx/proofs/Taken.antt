@@ -11,7 +11,9 @@ use Rattle.ctx_blocks.specs.declared.parts.Chunk.{Chunk}
 use Rattle.slab_ctx.specs.Ledger.{stride}
 use Rattle.slab_ctx.specs.Slots.{IsSlot, IsFree, IsFilled, IsSlotted, stack_at, at_offset, chunk_of}
 use Rattle.slab_ctx.proofs.Numbers.{stride-some, per_block-most}
-use Rattle.slab_ctx.proofs.Puts.{one_value, none_or_some, chunk_cases, chunk_apart}
+use Rattle.addr_space.proofs.Options.{one_value, none_or_some}
+use Rattle.ctx_blocks.proofs.Laid.{put_cases}
+use Rattle.ctx_blocks.proofs.Changed.{chunk_apart}
 use Rattle.slab_ctx.proofs.Slotted.{IsSlotted-put}
 
 module _ (l m : Layout) (size : ℕ) (s : List (ℕ × Vec ℕ)) (at : Addr) (slotted : IsSlotted l size s) (same : SameContext l m) (differs : at.region ≢ l.keeper) (b : Block) (found : block_at l at.region ≡ Some b) where
@@ -24,7 +26,7 @@ module _ (l m : Layout) (size : ℕ) (s : List (ℕ × Vec ℕ)) (at : Addr) (sl
   module _ (puts : PutsChunk l m at (Some (chunk_of size))) where
     placed_put : IsSlot size at.offset → (other : Addr) (chunk : Chunk) → other.region ≡ at.region → chunk_at m other ≡ Some chunk → (chunk ≡ chunk_of size) × IsSlot size other.offset
     placed_put slot other chunk region has =
-        elim (chunk_cases l m at (Some (chunk_of size)) puts other) [
+        elim (put_cases l m at (Some (chunk_of size)) puts other) [
           | inl here ↦
               let is : chunk ≡ chunk_of size = one_value (chunk_at m other) chunk (chunk_of size) has here.1 in
               (is, subst (IsSlot size) (ap (λ (x : Addr). x.offset) (sym here.0)) slot)
@@ -50,7 +52,7 @@ module _ (l m : Layout) (size : ℕ) (s : List (ℕ × Vec ℕ)) (at : Addr) (sl
               record {
                 slot = free.slot;
                 last = omega (arith, free.last, room, bytes);
-                free = elim (chunk_cases l m at (Some (chunk_of size)) puts (at_offset at.region o)) [
+                free = elim (put_cases l m at (Some (chunk_of size)) puts (at_offset at.region o)) [
                   | inl here ↦ let is : o ≡ at.offset = ap (λ (x : Addr). x.offset) here.0 in absurd (omega (arith, is, offset, free.last, was.bytes, some))
                   | inr there ↦ there.1 ∙ free.free
                 ];
@@ -75,7 +77,7 @@ module _ (l m : Layout) (size : ℕ) (s : List (ℕ × Vec ℕ)) (at : Addr) (sl
               record {
                 slot = free.slot;
                 last = omega (arith, free.last, room, bytes);
-                free = elim (chunk_cases l m at (Some (chunk_of size)) puts (at_offset at.region o)) [
+                free = elim (put_cases l m at (Some (chunk_of size)) puts (at_offset at.region o)) [
                   | inl here ↦
                       let is : o ≡ slice_index (stack_at s at.region) depth = ap (λ (x : Addr). x.offset) here.0 ∙ offset in
                       absurd (was.distinct k depth (omega (arith, below, freed)) (omega (arith, was_freed)) is)
@@ -105,7 +107,7 @@ module _ (l m : Layout) (size : ℕ) (s : List (ℕ × Vec ℕ)) (at : Addr) (sl
 
     -- no chunk is live at the offsets of the stack
     none_at : (offset : ℕ) → chunk_at l (at_offset at.region offset) ≡ None → chunk_at m (at_offset at.region offset) ≡ None
-    none_at offset none = elim (chunk_cases l m at None puts (at_offset at.region offset)) [
+    none_at offset none = elim (put_cases l m at None puts (at_offset at.region offset)) [
       | inl here ↦ here.1
       | inr there ↦ there.1 ∙ none
     ]
@@ -128,7 +130,7 @@ module _ (l m : Layout) (size : ℕ) (s : List (ℕ × Vec ℕ)) (at : Addr) (sl
               subst (IsFree m size at.region now) is (record {
                 slot = slotted.slot at chunk has;
                 last = omega (arith, last, bytes, room, room_is);
-                free = elim (chunk_cases l m at None puts at) [
+                free = elim (put_cases l m at None puts at) [
                   | inl here ↦ here.1
                   | inr there ↦ absurd (there.0 refl)
                 ];
@@ -149,7 +151,7 @@ module _ (l m : Layout) (size : ℕ) (s : List (ℕ × Vec ℕ)) (at : Addr) (sl
 
     placed_now : (other : Addr) (c : Chunk) → other.region ≡ at.region → chunk_at m other ≡ Some c → (c ≡ chunk_of size) × IsSlot size other.offset
     placed_now other c region found =
-        elim (chunk_cases l m at None puts other) [
+        elim (put_cases l m at None puts other) [
           | inl here ↦ absurd (none_or_some (chunk_at m other) c here.1 found)
           | inr there ↦
               let was = sym there.1 ∙ found in

@@ -1,9 +1,9 @@
 -- What holds of the insides of a Slab.
 use Rattle.std.specs.Prelude.{◌≡◌, ℕ, ◌+◌, ◌*◌, ◌^◌, ◌≤◌, ◌==◌, ◌∷◌, length, None}
 use Rattle.std.specs.Map.{lookup}
-use Rattle.ctx_blocks.specs.Layout.{Layout, total}
+use Rattle.ctx_blocks.specs.Layout.{Layout, total, bare}
 use Rattle.slab_ctx.specs.Ledger.{SlabLedger, empties, free_chunks}
-use Rattle.slab_ctx.specs.State.{SlabState, bare, others, lives_of}
+use Rattle.slab_ctx.specs.State.{SlabState, others, lives_of}
 use Rattle.slab_ctx.specs.Slots.{HasSlots, first_region}
 use Rattle.slab_ctx.specs.declared.books.Books.{Books}
 

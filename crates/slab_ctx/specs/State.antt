@@ -12,14 +12,6 @@ pub record SlabState : Type 0 where
   pub ledger : SlabLedger
   pub layout : Layout
 
--- the blocks and live chunks alone: that room was made for more of them doesn't count
-abbrev pub bare : Layout → Layout
-bare l = record l { spare_blocks = 0; spare_chunks = 0 }
-
--- the account that the blocks count for
-abbrev pub account_of : SlabState → ℕ
-account_of s = s.layout.account
-
 -- the blocks but for the keeper, which is the first one
 abbrev pub others : List (ℕ × Block) → List (ℕ × Block)
 others [] = []

@@ -1,10 +1,11 @@
 -- What calls do to a Slab's blocks and live chunks.
-use Rattle.std.specs.Prelude.{◌≡◌, ◌≢◌, ℕ, ◌-◌, ◌<◌, Option, Some, None, Result, Ok, take, slice_get, if◌then◌else◌}
+use Rattle.std.specs.Prelude.{◌≡◌, ◌≢◌, ℕ, ◌-◌, ◌<◌, Option, Some, None, Result, Ok, take, slice_get}
 use Rattle.addr_space.specs.declared.Addr.{Addr}
 use Rattle.addr_space.specs.Space.{Space}
-use Rattle.addr_space.specs.Footprint.{Footprint, Moves, Keeps}
+use Rattle.addr_space.specs.Footprint.{Moves, Keeps}
 use Rattle.chunk_header.specs.declared.CtxError.{CtxError}
-use Rattle.ctx_blocks.specs.Layout.{Layout, same_addr, block_at}
+use Rattle.addr_space.specs.Live.{PutsLive}
+use Rattle.ctx_blocks.specs.Layout.{Layout, block_at}
 use Rattle.ctx_blocks.specs.declared.parts.Block.{Block}
 use Rattle.slab_ctx.specs.Ledger.{SlabLedger, fullest}
 use Rattle.slab_ctx.specs.State.{SlabState, others, lives_of, footprint}
@@ -12,10 +13,6 @@ use Rattle.slab_ctx.specs.Counts.{first_with, IsBest}
 use Rattle.slab_ctx.specs.Kept.{state_of, IsKept}
 use Rattle.slab_ctx.specs.declared.books.Books.{Books}
 use Rattle.slab_ctx.specs.declared.books.Best.{Best}
-
--- one address has a live chunk of this size or none, and every other one has what it had
-abbrev pub PutsLive : Footprint → Footprint → Addr → Option ℕ → Type 0
-PutsLive f g at size = (other : Addr) → g.live other ≡ (if same_addr at other then size else f.live other)
 
 -- a block that isn't the first region has so many live chunks
 pub record HasLive (l : Layout) (number live : ℕ) : Type 0 where

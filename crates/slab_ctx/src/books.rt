@@ -8,13 +8,13 @@ ghost use Rattle.ctx_blocks.specs.declared.parts.Block.{Block};
 ghost use Rattle.ctx_blocks.specs.Layout.{Layout, block_at, chunk_at, footprint as blocks_footprint};
 ghost use Rattle.ctx_blocks.specs.Steps.{PutsChunk, SameContext};
 ghost use Rattle.slab_ctx.specs.Ledger.{per_block, created, fullest, is_empty, serve, take, freed, resized, stats};
-ghost use Rattle.slab_ctx.specs.State.{account_of, footprint, lives_of, others, place_in, place_of};
+ghost use Rattle.slab_ctx.specs.State.{footprint, lives_of, others, place_in, place_of};
 ghost use Rattle.slab_ctx.specs.Slots.{chunk_of};
 ghost use Rattle.slab_ctx.specs.Steps.{IsSeen, IsNext};
 
 use crate::slots::{Slots, per_block, stride};
 use addr_space::{Addr, Space};
-use chunk_header::{CtxError, Stats};
+use chunk_header::{CtxError, LARGEST, Stats};
 use std::alloc::Global;
 
 /// All that a Slab keeps.
@@ -26,9 +26,6 @@ pub struct Books {
     // How many free chunks all blocks have.
     pub free: u64,
 }
-
-// The greatest size of a request.
-const LARGEST: u64 = 1_073_741_823;
 
 // As many empty blocks as are kept.
 const MOST_EMPTY: u64 = 10;
@@ -62,7 +59,8 @@ fn one_if_empty(live: u32) -> u64
 
 impl Books {
     ghost use Rattle.slab_ctx.specs.Kept.{ledger_of, state_of, IsKept, IsKeptBut};
-    ghost use Rattle.slab_ctx.specs.Steps.{PutsLive, IsChosen, Allocates};
+    ghost use Rattle.addr_space.specs.Live.{PutsLive};
+    ghost use Rattle.slab_ctx.specs.Steps.{IsChosen, Allocates};
 
     // The books of a new context, whose first region was taken.
     pub fn create(
@@ -77,7 +75,7 @@ impl Books {
         requires most { size ≤ 1024 }
         ensures kept { IfOk result IsKept }
         ensures ledger { IfOk result (λ b. (state_of b).ledger ≡ created size) }
-        ensures account { IfOk result (λ b. account_of (state_of b) ≡ account) }
+        ensures account { IfOk result (λ b. (state_of b).layout.account ≡ account) }
         ensures context { IfOk result (λ b. (footprint (state_of b)).context ≡ context) }
         ensures live { IfOk result (λ b. (at : Addr) → (footprint (state_of b)).live at ≡ None) }
         ensures moves { IfOk result (λ b. Moves (nothing account context) (footprint (state_of b)) space.old space.new) }
@@ -202,8 +200,8 @@ impl Books {
         requires agrees { Agrees (footprint (state_of self.old)) space.old }
         requires spare_blocks { 1 ≤ self.old.slots.blocks.spare_blocks }
         requires spare_chunks { 1 ≤ self.old.slots.blocks.spare_chunks }
-        ensures ok { IfOk result (λ at. Allocates (state_of self.old) self.new space.old space.new self.old.slots.size at (serve (state_of self.old).ledger (space.old.limit - held space.old (account_of (state_of self.old))) (fullest (per_block self.old.slots.size) (state_of self.old).ledger.lives))) }
-        ensures no_space { result ≡ Err CtxError.NoSpace → serve (state_of self.old).ledger (space.old.limit - held space.old (account_of (state_of self.old))) (fullest (per_block self.old.slots.size) (state_of self.old).ledger.lives) ≡ Err CtxError.NoSpace }
+        ensures ok { IfOk result (λ at. Allocates (state_of self.old) self.new space.old space.new self.old.slots.size at (serve (state_of self.old).ledger (space.old.limit - held space.old (state_of self.old).layout.account) (fullest (per_block self.old.slots.size) (state_of self.old).ledger.lives))) }
+        ensures no_space { result ≡ Err CtxError.NoSpace → serve (state_of self.old).ledger (space.old.limit - held space.old (state_of self.old).layout.account) (fullest (per_block self.old.slots.size) (state_of self.old).ledger.lives) ≡ Err CtxError.NoSpace }
         ensures no_other { IfErr result (λ e. (e ≡ CtxError.NoSpace) ⊎ (e ≡ CtxError.Memory)) }
         ensures err_state { OnErr result (state_of self.new ≡ state_of self.old) }
         ensures err_kept { OnErr result (IsKept self.new) }
@@ -222,10 +220,10 @@ impl Books {
     pub fn alloc(&mut self, space: &mut Space, size: u64) -> Result<Addr, CtxError>
         requires kept { IsKept self.old }
         requires agrees { Agrees (footprint (state_of self.old)) space.old }
-        ensures ok { IfOk result (λ at. Allocates (state_of self.old) self.new space.old space.new size at (take (state_of self.old).ledger (space.old.limit - held space.old (account_of (state_of self.old))) size)) }
+        ensures ok { IfOk result (λ at. Allocates (state_of self.old) self.new space.old space.new size at (take (state_of self.old).ledger (space.old.limit - held space.old (state_of self.old).layout.account) size)) }
         ensures too_big { (result ≡ Err CtxError.TooBig) ↔ (1073741823 < size) }
-        ensures wrong_size { (result ≡ Err CtxError.WrongSize) ↔ (take (state_of self.old).ledger (space.old.limit - held space.old (account_of (state_of self.old))) size ≡ Err CtxError.WrongSize) }
-        ensures no_space { result ≡ Err CtxError.NoSpace → take (state_of self.old).ledger (space.old.limit - held space.old (account_of (state_of self.old))) size ≡ Err CtxError.NoSpace }
+        ensures wrong_size { (result ≡ Err CtxError.WrongSize) ↔ (take (state_of self.old).ledger (space.old.limit - held space.old (state_of self.old).layout.account) size ≡ Err CtxError.WrongSize) }
+        ensures no_space { result ≡ Err CtxError.NoSpace → take (state_of self.old).ledger (space.old.limit - held space.old (state_of self.old).layout.account) size ≡ Err CtxError.NoSpace }
         ensures no_other { IfErr result (λ e. (e ≡ CtxError.TooBig) ⊎ ((e ≡ CtxError.WrongSize) ⊎ ((e ≡ CtxError.NoSpace) ⊎ (e ≡ CtxError.Memory)))) }
         ensures err_state { OnErr result (state_of self.new ≡ state_of self.old) }
         ensures err_kept { OnErr result (IsKept self.new) }
@@ -308,7 +306,7 @@ impl Books {
         requires agrees { Agrees (footprint (state_of self.old)) space.old }
         ensures kept { IsKept self.new }
         ensures ledger { (state_of self.new).ledger ≡ created (state_of self.old).ledger.size }
-        ensures account { account_of (state_of self.new) ≡ account_of (state_of self.old) }
+        ensures account { (state_of self.new).layout.account ≡ (state_of self.old).layout.account }
         ensures context { (footprint (state_of self.new)).context ≡ (footprint (state_of self.old)).context }
         ensures live { (at : Addr) → (footprint (state_of self.new)).live at ≡ None }
         ensures moves { Moves (footprint (state_of self.old)) (footprint (state_of self.new)) space.old space.new }
@@ -322,7 +320,7 @@ impl Books {
     pub fn discard(self, space: &mut Space)
         requires kept { IsKept self }
         requires agrees { Agrees (footprint (state_of self)) space.old }
-        ensures { Moves (footprint (state_of self)) (nothing (account_of (state_of self)) (footprint (state_of self)).context) space.old space.new }
+        ensures { Moves (footprint (state_of self)) (nothing (state_of self).layout.account (footprint (state_of self)).context) space.old space.new }
     {
         let Books {
             slots,

@@ -37,9 +37,9 @@ impl SlabCtx {
     ghost use Rattle.addr_space.specs.Space.{accounts, held, IsKnown};
     ghost use Rattle.addr_space.specs.Footprint.{nothing, Agrees, Moves, Keeps};
     ghost use Rattle.chunk_header.specs.Header.{AllHeaded};
-    ghost use Rattle.slab_ctx.specs.State.{footprint, account_of, place_of};
+    ghost use Rattle.slab_ctx.specs.State.{footprint, place_of};
     ghost use Rattle.slab_ctx.specs.Ledger.{created, freed};
-    ghost use Rattle.slab_ctx.specs.Steps.{PutsLive};
+    ghost use Rattle.addr_space.specs.Live.{PutsLive};
 
     /// A context without blocks, for an account of the space. Each of its chunks has `size` bytes, and `context`
     /// is the number that its blocks keep.
@@ -56,7 +56,7 @@ impl SlabCtx {
         requires least { 1 ≤ size }
         requires most { size ≤ 1024 }
         ensures ledger { IfOk result (λ a. a.ledger ≡ created size) }
-        ensures account { IfOk result (λ a. account_of a ≡ account) }
+        ensures account { IfOk result (λ a. a.layout.account ≡ account) }
         ensures context { IfOk result (λ a. (footprint a).context ≡ context) }
         ensures live { IfOk result (λ a. (at : Addr) → (footprint a).live at ≡ None) }
         ensures moves { IfOk result (λ a. Moves (nothing account context) (footprint a) space.old space.new) }
@@ -93,7 +93,7 @@ impl SlabCtx {
         requires { Agrees (footprint self.old) space.old }
 
         // The ledger makes its step for the request, with what is left of the account.
-        ensures ledger { OnOk result (take self.old.ledger (space.old.limit - held space.old (account_of self.old)) size ≡ Ok self.new.ledger) }
+        ensures ledger { OnOk result (take self.old.ledger (space.old.limit - held space.old self.old.layout.account) size ≡ Ok self.new.ledger) }
 
         // The chunk was not live, and every other chunk stays.
         ensures fresh { IfOk result (λ at. (footprint self.old).live at ≡ None) }
@@ -102,8 +102,8 @@ impl SlabCtx {
         ensures keeps { OnOk result (Keeps (footprint self.old) (footprint self.new) space.old space.new) }
 
         ensures too_big { (result ≡ Err CtxError.TooBig) ↔ (1073741823 < size) }
-        ensures wrong_size { (result ≡ Err CtxError.WrongSize) ↔ (take self.old.ledger (space.old.limit - held space.old (account_of self.old)) size ≡ Err CtxError.WrongSize) }
-        ensures no_space { result ≡ Err CtxError.NoSpace → take self.old.ledger (space.old.limit - held space.old (account_of self.old)) size ≡ Err CtxError.NoSpace }
+        ensures wrong_size { (result ≡ Err CtxError.WrongSize) ↔ (take self.old.ledger (space.old.limit - held space.old self.old.layout.account) size ≡ Err CtxError.WrongSize) }
+        ensures no_space { result ≡ Err CtxError.NoSpace → take self.old.ledger (space.old.limit - held space.old self.old.layout.account) size ≡ Err CtxError.NoSpace }
         ensures no_other { IfErr result (λ e. (e ≡ CtxError.TooBig) ⊎ ((e ≡ CtxError.WrongSize) ⊎ ((e ≡ CtxError.NoSpace) ⊎ (e ≡ CtxError.Memory)))) }
         ensures err { OnErr result (self.new ≡ self.old) }
         ensures err_space { OnErr result (space.new ≡ space.old) }
@@ -159,7 +159,7 @@ impl SlabCtx {
     pub fn reset(&mut self, space: &mut Space)
         requires { Agrees (footprint self.old) space.old }
         ensures ledger { self.new.ledger ≡ created self.old.ledger.size }
-        ensures account { account_of self.new ≡ account_of self.old }
+        ensures account { self.new.layout.account ≡ self.old.layout.account }
         ensures context { (footprint self.new).context ≡ (footprint self.old).context }
         ensures live { (at : Addr) → (footprint self.new).live at ≡ None }
         ensures moves { Moves (footprint self.old) (footprint self.new) space.old space.new }
@@ -170,7 +170,7 @@ impl SlabCtx {
     /// Gives all blocks and the first region back to the space.
     pub fn discard(self, space: &mut Space)
         requires { Agrees (footprint self) space.old }
-        ensures { Moves (footprint self) (nothing (account_of self) (footprint self).context) space.old space.new }
+        ensures { Moves (footprint self) (nothing self.layout.account (footprint self).context) space.old space.new }
     {
         let SlabCtx { books } = self;
         books.discard(space);

@@ -1,5 +1,5 @@
 use Rattle.std.proofs.Common.{ℕ, ◌==◌, arith}
-use Rattle.alloc_set.proofs.Entries.{sum_by-insert}
+use Rattle.chunk_header.proofs.Sums.{sum_by-insert}
 use Rattle.alloc_set.proofs.books.note.Goals as goal
 
 pub returns-clause-sums : goal.returns-clause-sums

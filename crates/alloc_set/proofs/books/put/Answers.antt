@@ -1,5 +1,5 @@
-use Rattle.alloc_set.specs.State.{same_addr}
-use Rattle.alloc_set.proofs.Entries.{sum_by-insert}
+use Rattle.addr_space.specs.Live.{same_addr}
+use Rattle.chunk_header.proofs.Sums.{sum_by-insert}
 use Rattle.alloc_set.proofs.books.put.Goals as goal
 
 pub returns-clause-sums : goal.returns-clause-sums

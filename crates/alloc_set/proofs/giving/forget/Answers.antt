@@ -1,4 +1,4 @@
-use Rattle.alloc_set.specs.State.{same_addr}
+use Rattle.addr_space.specs.Live.{same_addr}
 use Rattle.alloc_set.proofs.Entries.{sum_by-swap_remove_entry}
 use Rattle.alloc_set.proofs.giving.forget.Goals as goal
 

@@ -5,7 +5,7 @@ use Rattle.addr_space.proofs.Copied.{some_region}
 use Rattle.addr_space.proofs.Written.{held-written}
 use Rattle.chunk_header.specs.Header.{block_bytes}
 use Rattle.alloc_set.proofs.Resized.{length-resized}
-use Rattle.alloc_set.proofs.Settled.{length-block_bytes}
+use Rattle.chunk_header.proofs.Words.{length-block_bytes}
 use Rattle.alloc_set.proofs.resizing.resize_block.Goals as goal
 
 pub returns-clause-held : goal.returns-clause-held

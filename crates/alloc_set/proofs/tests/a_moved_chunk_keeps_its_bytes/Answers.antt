@@ -2,8 +2,9 @@ use Rattle.std.proofs.Common.{◌≡◌, ℕ, ◌≤◌, Option, Some, None, if�
 use Rattle.addr_space.specs.declared.Addr.{Addr}
 use Rattle.addr_space.specs.Space.{Space, IsInside}
 use Rattle.addr_space.specs.Footprint.{Footprint, Agrees}
-use Rattle.alloc_set.specs.State.{same_addr, footprint}
-use Rattle.alloc_set.proofs.Carved.{same_addr-cases}
+use Rattle.addr_space.specs.Live.{same_addr}
+use Rattle.alloc_set.specs.State.{footprint}
+use Rattle.addr_space.proofs.Addresses.{same_addr-cases}
 use Rattle.alloc_set.proofs.tests.a_moved_chunk_keeps_its_bytes.Goals as goal
 
 -- the chunk is live where it is now

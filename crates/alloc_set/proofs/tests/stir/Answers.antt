@@ -4,8 +4,8 @@ use Rattle.addr_space.specs.Space.{Space, IsKnown}
 use Rattle.addr_space.specs.Footprint.{Footprint, Agrees, Moves, Keeps, AreDisjoint}
 use Rattle.addr_space.proofs.Apart.{Agrees-other, Keeps-other, AreDisjoint-other, AreDisjoint-sym}
 use Rattle.alloc_set.specs.State.{SetState, footprint}
-use Rattle.alloc_set.specs.Live.{PutsLive}
-use Rattle.alloc_set.proofs.Carved.{same_addr-cases}
+use Rattle.addr_space.specs.Live.{PutsLive}
+use Rattle.addr_space.proofs.Addresses.{same_addr-cases}
 use Rattle.alloc_set.proofs.tests.stir.Goals as goal
 use Rattle.alloc_set.proofs.tests.stir.Goals.{After-free, After-reset}
 
@@ -40,7 +40,7 @@ other f g h s t at stands moves =
     }
 
 -- what a call puts elsewhere leaves a chunk
-stays : (s t : SetState) (put at : Addr) (slot : Option ℕ) → PutsLive s t put slot → put ≢ at → (footprint t).live at ≡ (footprint s).live at
+stays : (s t : SetState) (put at : Addr) (slot : Option ℕ) → PutsLive (footprint s) (footprint t) put slot → put ≢ at → (footprint t).live at ≡ (footprint s).live at
 stays s t put at slot puts differs =
     elim (same_addr-cases put at) [
       | inl same ↦ absurd (differs same.0)

@@ -4,8 +4,8 @@ use Rattle.addr_space.specs.Footprint.{Footprint, Agrees, Moves, AreDisjoint, Wr
 use Rattle.addr_space.proofs.Apart.{Agrees-other, AreDisjoint-other, Moves-inside}
 use Rattle.addr_space.proofs.Written.{HasBytes-written}
 use Rattle.alloc_set.specs.State.{SetState, footprint}
-use Rattle.alloc_set.specs.Live.{PutsLive}
-use Rattle.alloc_set.proofs.Carved.{same_addr-cases}
+use Rattle.addr_space.specs.Live.{PutsLive}
+use Rattle.addr_space.proofs.Addresses.{same_addr-cases}
 use Rattle.addr_space.specs.declared.Addr.{Addr}
 use Rattle.alloc_set.proofs.tests.written.Goals as goal
 use Rattle.alloc_set.proofs.tests.written.Goals.{After-write}
@@ -24,7 +24,7 @@ move f h g s t disjoint others moves = record {
 }
 
 -- what was put stands there
-put_live : (s t : SetState) (at : Addr) (slot : Option ℕ) → PutsLive s t at slot → (footprint t).live at ≡ slot
+put_live : (s t : SetState) (at : Addr) (slot : Option ℕ) → PutsLive (footprint s) (footprint t) at slot → (footprint t).live at ≡ slot
 put_live s t at slot puts =
     elim (same_addr-cases at at) [
       | inl same ↦ puts at ∙ ap (λ b. if b then slot else (footprint s).live at) same.1

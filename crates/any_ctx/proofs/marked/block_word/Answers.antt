@@ -2,7 +2,7 @@ use Rattle.std.proofs.Common.{sym, subst}
 use Rattle.addr_space.specs.Space.{HasBytes}
 use Rattle.chunk_header.specs.declared.Header.{Header}
 use Rattle.chunk_header.specs.Header.{block_bytes, block_place}
-use Rattle.any_ctx.proofs.MarkLemmas.{length-block_bytes}
+use Rattle.chunk_header.proofs.Words.{length-block_bytes}
 use Rattle.any_ctx.proofs.marked.block_word.Goals as goal
 
 pub read_word-requires : goal.read_word-requires

@@ -1,7 +1,8 @@
 use Rattle.std.proofs.Common.{◌≡◌, ap, ◌∙◌}
 use Rattle.std.specs.Int.{from_le_bytes, w64}
 use Rattle.chunk_header.specs.Header.{header_bytes, word_of}
-use Rattle.any_ctx.proofs.MarkLemmas.{length-header_bytes, from-header_bytes}
+use Rattle.chunk_header.proofs.Words.{length-header_bytes}
+use Rattle.any_ctx.proofs.MarkLemmas.{from-header_bytes}
 use Rattle.any_ctx.proofs.marked.header_at.Goals as goal
 
 pub read_word-requires : goal.read_word-requires

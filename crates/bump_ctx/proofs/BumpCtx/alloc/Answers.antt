@@ -1,5 +1,5 @@
-use Rattle.bump_ctx.proofs.Answered.{on_ok}
-use Rattle.bump_ctx.proofs.Seen.{moves_bare}
+use Rattle.addr_space.proofs.Options.{on_ok}
+use Rattle.ctx_blocks.proofs.Spared.{moves_bare}
 use Rattle.bump_ctx.proofs.BumpCtx.alloc.Goals as goal
 
 pub returns-clause-moves : goal.returns-clause-moves

@@ -1,5 +1,5 @@
 use Rattle.addr_space.specs.Footprint.{nothing}
-use Rattle.bump_ctx.proofs.Seen.{moves_to}
+use Rattle.ctx_blocks.proofs.Spared.{moves_to}
 use Rattle.bump_ctx.proofs.BumpCtx.create.Goals as goal
 
 pub returns-in-Ok-clause-moves : goal.returns-in-Ok-clause-moves

@@ -1,9 +1,11 @@
 use Rattle.std.proofs.Common.{◌≡◌, Some, None, false, ap, sym, ◌∙◌, arith, inl, inr}
 use Rattle.std.specs.Map.{lookup}
 use Rattle.addr_space.specs.declared.Addr.{Addr}
-use Rattle.ctx_blocks.specs.Layout.{Layout, same_addr, block_at, chunk_at, gap_of, header_room}
+use Rattle.addr_space.specs.Live.{same_addr}
+use Rattle.ctx_blocks.specs.Layout.{Layout, block_at, chunk_at, gap_of, header_room}
 use Rattle.ctx_blocks.specs.declared.parts.Block.{Block}
-use Rattle.ctx_blocks.proofs.Laid.{put_cases, same_addr_from}
+use Rattle.addr_space.proofs.Addresses.{same_addr_from}
+use Rattle.ctx_blocks.proofs.Laid.{put_cases}
 use Rattle.ctx_blocks.proofs.New.{keeper_is}
 use Rattle.ctx_blocks.proofs.tests.a_chunk_is_placed.Given.{Over}
 use Rattle.ctx_blocks.proofs.tests.a_chunk_is_placed.Goals as goal

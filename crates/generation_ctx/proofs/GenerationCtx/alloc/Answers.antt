@@ -1,5 +1,5 @@
-use Rattle.generation_ctx.proofs.Answered.{on_ok}
-use Rattle.generation_ctx.proofs.Seen.{moves_bare}
+use Rattle.addr_space.proofs.Options.{on_ok}
+use Rattle.ctx_blocks.proofs.Spared.{moves_bare}
 use Rattle.generation_ctx.proofs.GenerationCtx.alloc.Goals as goal
 
 pub returns-clause-moves : goal.returns-clause-moves

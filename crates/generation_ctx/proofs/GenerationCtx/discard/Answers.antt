@@ -1,4 +1,4 @@
-use Rattle.generation_ctx.proofs.Seen.{agrees_bare, moves_from}
+use Rattle.ctx_blocks.proofs.Spared.{agrees_bare, moves_from}
 use Rattle.generation_ctx.proofs.GenerationCtx.discard.Goals as goal
 
 pub discard-requires : goal.discard-requires

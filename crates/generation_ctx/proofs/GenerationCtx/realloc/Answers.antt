@@ -1,6 +1,6 @@
 use Rattle.std.proofs.Common.{IsSome, sym, subst, arith}
-use Rattle.generation_ctx.proofs.Answered.{if_ok, on_ok}
-use Rattle.generation_ctx.proofs.Seen.{moves_bare}
+use Rattle.addr_space.proofs.Options.{if_ok, on_ok}
+use Rattle.ctx_blocks.proofs.Spared.{moves_bare}
 use Rattle.generation_ctx.proofs.GenerationCtx.realloc.Goals as goal
 
 pub returns-clause-known : goal.returns-clause-known

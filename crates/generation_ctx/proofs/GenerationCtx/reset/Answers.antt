@@ -1,4 +1,4 @@
-use Rattle.generation_ctx.proofs.Seen.{moves_bare}
+use Rattle.ctx_blocks.proofs.Spared.{moves_bare}
 use Rattle.generation_ctx.proofs.GenerationCtx.reset.Goals as goal
 
 pub returns-clause-moves : goal.returns-clause-moves

@@ -1,11 +1,11 @@
 use Rattle.std.proofs.Common.{◌≡◌, ℕ, suc, ◌-◌, ◌<◌, ◌≤◌, ap, ◌∙◌, sym, subst, arith}
-use Rattle.addr_space.proofs.Steps.{Moves-more}
+use Rattle.addr_space.proofs.Steps.{Moves-more, Keeps-more, same_stays}
 use Rattle.alloc_set.specs.Ledger.{SetLedger, class_bytes, cut_rest, cut_up, with_free}
 use Rattle.alloc_set.specs.State.{footprint}
 use Rattle.alloc_set.specs.Kept.{state_of}
 use Rattle.alloc_set.specs.declared.books.Books.{Books}
 use Rattle.alloc_set.specs.declared.books.Block.{Block}
-use Rattle.alloc_set.proofs.Cuts.{class_bytes-suc, cut_rest-in, cut_up-in, cut_rest-out, cut_up-out, cut_rest-zero, cut_up-zero, Keeps-more, CutsUp-less}
+use Rattle.alloc_set.proofs.Cuts.{class_bytes-suc, cut_rest-in, cut_up-in, cut_rest-out, cut_up-out, cut_rest-zero, cut_up-zero, CutsUp-less}
 use Rattle.alloc_set.proofs.Stays.{LeavesLive-more}
 use Rattle.alloc_set.proofs.books.Books.cut_up.Goals as goal
 
@@ -46,7 +46,7 @@ loop-class-preserved-then-self-class_size c =
       room = ap (cut_rest class) room ∙ sym (cut_rest-in class m.active.room fits little) ∙ ap (λ k. cut_rest k m.active.room) up ∙ kept.room;
       free = ap (λ r. cut_up class r (state_of n).ledger.free) room ∙ ap (cut_up class (m.active.room - class_bytes class)) free ∙ sym (cut_up-in class m.active.room (state_of m).ledger.free fits little) ∙ ap (λ k. cut_up k m.active.room (state_of m).ledger.free) up ∙ kept.free;
       moves = Moves-more (footprint (state_of b)) (footprint (state_of m)) (footprint (state_of n)) c.args.space.now c.loop-class.space c.cut_free.new.space kept.moves c.cut_free.ensures.moves;
-      keeps = Keeps-more (state_of b) (state_of m) (state_of n) c.args.space.now c.loop-class.space c.cut_free.new.space kept.cut.live kept.keeps c.cut_free.ensures.keeps;
+      keeps = Keeps-more (footprint (state_of b)) (footprint (state_of m)) (footprint (state_of n)) c.args.space.now c.loop-class.space c.cut_free.new.space (same_stays (footprint (state_of b)) (footprint (state_of m)) kept.cut.live) kept.keeps c.cut_free.ensures.keeps;
     }
 
 pub loop-class-preserved : goal.loop-class-preserved

@@ -1,11 +1,10 @@
-use Rattle.std.proofs.Common.{◌+◌, ap, ◌∙◌, arith}
-use Rattle.addr_space.proofs.Steps.{Moves-more}
+use Rattle.std.proofs.Common.{◌+◌, ap, ◌∙◌, arith, refl}
+use Rattle.addr_space.proofs.Steps.{Moves-more, Keeps-then, same_was}
 use Rattle.alloc_set.specs.State.{region_of, footprint}
 use Rattle.alloc_set.specs.Kept.{state_of}
-use Rattle.alloc_set.specs.Live.{SameLive}
+use Rattle.addr_space.specs.Live.{SameLive}
 use Rattle.alloc_set.specs.declared.books.Books.{Books}
 use Rattle.alloc_set.specs.declared.chunk.Chunk.TheVariants.{Own}
-use Rattle.alloc_set.proofs.Given.{Keeps-behind}
 use Rattle.alloc_set.proofs.books.Books.give_own.Goals as goal
 
 pub overflow_add-room : goal.overflow_add-room
@@ -41,5 +40,5 @@ returns-clause-keeps c =
     let b = c.args.self.now in
     let m = c.unlist.new.self in
     let n = c.give_block.new.self in
-    let same : SameLive (state_of m) (state_of n) = λ at. ap (λ (x : Books). (footprint (state_of x)).live at) c.give_block.ensures.rest in
-    Keeps-behind (state_of b) (state_of m) (state_of n) c.args.space.now c.give_block.new.space same c.give_block.ensures.keeps
+    let same : SameLive (footprint (state_of m)) (footprint (state_of n)) = λ at. ap (λ (x : Books). (footprint (state_of x)).live at) c.give_block.ensures.rest in
+    Keeps-then (footprint (state_of b)) (footprint (state_of m)) (footprint (state_of n)) c.args.space.now c.args.space.now c.give_block.new.space (same_was (footprint (state_of m)) (footprint (state_of n)) same) (λ at x y k live again below short. refl) c.give_block.ensures.keeps

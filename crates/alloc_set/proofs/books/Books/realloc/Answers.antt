@@ -1,9 +1,9 @@
-use Rattle.std.proofs.Common.{◌≡◌, ℕ, ◌≤◌, min, Some, Err, Result, IfOk, IfSome, Option, sym, ap, ◌∙◌, subst, arith}
+use Rattle.std.proofs.Common.{◌≡◌, ℕ, ◌≤◌, min, Some, Err, Result, IfOk, IfSome, Option, sym, ap, ◌∙◌, subst, arith, option_and_then}
 use Rattle.addr_space.specs.Space.{Space, held}
 use Rattle.chunk_header.specs.declared.CtxError.{CtxError}
 use Rattle.chunk_header.specs.declared.CtxError.TheVariants.{NoSpace}
 use Rattle.alloc_set.specs.Ledger.{SetLedger}
-use Rattle.alloc_set.specs.State.{chunk_at, then_option, live_size, footprint}
+use Rattle.alloc_set.specs.State.{chunk_at, live_size, footprint}
 use Rattle.alloc_set.specs.Kept.{state_of}
 use Rattle.alloc_set.specs.Resize.{resize_class, resized_chunk, resized, StaysFor, Resizes}
 use Rattle.alloc_set.proofs.Refits.{resized-small}
@@ -53,7 +53,7 @@ returns-in-Ok-clause-ok c =
     let old : ℕ = c.in-Some-Own.field-0-0 in
     let room : ℕ = c.in-Some-Own.room in
     let found : chunk_at (state_of b) c.args.at ≡ Some (Own old room) = cc in
-    let live : (footprint (state_of b)).live c.args.at ≡ Some old = ap (λ o. then_option o live_size) found in
+    let live : (footprint (state_of b)).live c.args.at ≡ Some old = ap (λ o. option_and_then live_size o) found in
     let same = step b s (Own old room) (chunk_at (state_of b) c.args.at) c.args.size (omega (arith, c.if-size-gt-LARGEST.false)) found in
     let few : c.args.keep ≤ old = if_some (λ n. c.args.keep ≤ n) ((footprint (state_of b)).live c.args.at) old live c.requires.keep in
     Resizes-in_place b c.resize_own.new.self s c.resize_own.new.space c.args.at old (min c.args.keep c.args.size) c.args.size (resized (state_of b).ledger (held s b.account) s.limit (chunk_at (state_of b) c.args.at) c.args.size)

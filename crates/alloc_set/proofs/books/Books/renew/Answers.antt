@@ -3,8 +3,8 @@ use Rattle.std.specs.Map.{values_of}
 use Rattle.indexmap.specs.IndexMap.{spare}
 use Rattle.addr_space.specs.Space.{held}
 use Rattle.addr_space.specs.Footprint.{Footprint, Moves, Keeps}
-use Rattle.addr_space.proofs.Steps.{Moves-more}
-use Rattle.addr_space.proofs.Written.{option_cases}
+use Rattle.addr_space.proofs.Steps.{Moves-more, Keeps-more, same_stays}
+use Rattle.addr_space.proofs.Options.{option_cases}
 use Rattle.std.proofs.Common.{Err}
 use Rattle.chunk_header.specs.declared.CtxError.TheVariants.{NoSpace}
 use Rattle.chunk_header.specs.Growth.{grown}
@@ -12,7 +12,6 @@ use Rattle.alloc_set.specs.Ledger.{SetLedger, class_size, cut_rest, cut_up, with
 use Rattle.alloc_set.specs.State.{SetState, chunk_at, region_of, footprint}
 use Rattle.alloc_set.specs.Kept.{state_of, own_bytes}
 use Rattle.alloc_set.specs.declared.books.Books.{Books}
-use Rattle.alloc_set.proofs.Cuts.{Keeps-more}
 use Rattle.alloc_set.proofs.Stays.{LeavesLive-same, LeavesLive-more}
 use Rattle.alloc_set.proofs.books.Books.renew.Goals as goal
 use Rattle.alloc_set.proofs.books.Books.renew.Goals.{After-cut_up}
@@ -118,4 +117,4 @@ returns-clause-keeps c =
     let m = c.add_block.new.self in
     let n = c.cut_up.new.self in
     subst (λ (f : Footprint). Keeps (footprint (state_of b)) f c.args.space.now c.cut_up.new.space) (sym c.activate.ensures.footprint)
-    (Keeps-more (state_of b) (state_of m) (state_of n) c.args.space.now c.add_block.new.space c.cut_up.new.space (λ at. ap (λ (x : Books). (footprint (state_of x)).live at) c.in-Ok.ensures.rest) c.in-Ok.ensures.keeps c.cut_up.ensures.keeps)
+    (Keeps-more (footprint (state_of b)) (footprint (state_of m)) (footprint (state_of n)) c.args.space.now c.add_block.new.space c.cut_up.new.space (same_stays (footprint (state_of b)) (footprint (state_of m)) (λ at. ap (λ (x : Books). (footprint (state_of x)).live at) c.in-Ok.ensures.rest)) c.in-Ok.ensures.keeps c.cut_up.ensures.keeps)

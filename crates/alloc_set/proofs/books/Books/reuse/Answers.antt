@@ -1,7 +1,7 @@
-use Rattle.std.proofs.Common.{◌≡◌, ℕ, suc, ◌-◌, ◌<◌, ap, ◌∙◌, sym, refl, arith, Some, List, length, map, set, get_or}
+use Rattle.std.proofs.Common.{◌≡◌, ℕ, suc, ◌-◌, ◌<◌, ap, ◌∙◌, sym, refl, arith, Some, List, length, map, set, get_or, option_and_then}
 use Rattle.std.proofs.lemmas.List.{map-set, get_or-map}
 use Rattle.alloc_set.specs.Ledger.{reused}
-use Rattle.alloc_set.specs.State.{chunk_at, then_option, live_size}
+use Rattle.alloc_set.specs.State.{chunk_at, live_size}
 use Rattle.alloc_set.specs.Kept.{state_of, shelf_at, no_shelf, is_free, own_bytes}
 use Rattle.alloc_set.specs.Steps.{SameBlocks}
 use Rattle.alloc_set.proofs.Flipped.{IsSettled-flipped, Moves-flipped}
@@ -98,4 +98,4 @@ returns-clause-stays c =
     let class : ℕ = c.args.class in
     let next = c.next_free-next.result in
     let n : Books = record b { chunks = c.put.new.chunks; shelves = set b.shelves class (record { first = next; count = (shelf_at b.shelves class).count - 1 }) } in
-    LeavesLive-put (state_of b) (state_of n) c.in-Some.at (Some (Live class c.args.size)) c.put.ensures.at (ap (λ o. then_option o live_size) c.next_free-next.ensures)
+    LeavesLive-put (state_of b) (state_of n) c.in-Some.at (Some (Live class c.args.size)) c.put.ensures.at (ap (λ o. option_and_then live_size o) c.next_free-next.ensures)

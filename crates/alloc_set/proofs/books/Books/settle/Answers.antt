@@ -1,8 +1,8 @@
-use Rattle.std.proofs.Common.{◌≡◌, map, Some, None, ap, subst, refl, arith}
+use Rattle.std.proofs.Common.{◌≡◌, map, Some, None, ap, subst, refl, arith, option_and_then}
 use Rattle.addr_space.specs.declared.Addr.{Addr}
 use Rattle.addr_space.specs.Space.{Changes, region_at, overwritten}
 use Rattle.chunk_header.specs.Header.{header_bytes}
-use Rattle.alloc_set.specs.State.{chunk_at, header_of, then_option, live_size}
+use Rattle.alloc_set.specs.State.{chunk_at, header_of, live_size}
 use Rattle.alloc_set.specs.Kept.{state_of, is_free, own_bytes}
 use Rattle.alloc_set.specs.Steps.{SameBlocks}
 use Rattle.alloc_set.proofs.Owned.{IsSettled-owned, Moves-owned}
@@ -62,4 +62,4 @@ returns-clause-stays c =
     let b = c.args.self.now in
     let n : Books = record b { chunks = c.put.new.chunks } in
     let at : Addr = record { region = c.args.region; offset = 48 } in
-    LeavesLive-put (state_of b) (state_of n) at (Some (Own c.args.size c.args.room)) c.put.ensures.at (ap (λ o. then_option o live_size) (c.requires.empty at refl))
+    LeavesLive-put (state_of b) (state_of n) at (Some (Own c.args.size c.args.room)) c.put.ensures.at (ap (λ o. option_and_then live_size o) (c.requires.empty at refl))

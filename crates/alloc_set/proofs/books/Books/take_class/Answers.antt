@@ -1,15 +1,15 @@
 use Rattle.std.proofs.Common.{◌≡◌, ℕ, ◌-◌, ◌<◌, ◌≤◌, ap, ◌∙◌, sym, refl, subst, arith, Some, None, Ok, Err, slice_index}
 use Rattle.addr_space.specs.Space.{held}
 use Rattle.addr_space.specs.Footprint.{Agrees, Moves, Keeps}
-use Rattle.addr_space.proofs.Steps.{Moves-more}
+use Rattle.addr_space.proofs.Steps.{Moves-more, Keeps-more, same_stays}
 use Rattle.chunk_header.specs.declared.CtxError.TheVariants.{NoSpace}
 use Rattle.alloc_set.specs.Ledger.{SetLedger, class_bytes, take_class, cut_off, block_size}
 use Rattle.alloc_set.specs.State.{SetState, footprint}
 use Rattle.alloc_set.specs.Kept.{state_of}
-use Rattle.alloc_set.specs.Live.{PutsLive, LeavesLive}
+use Rattle.addr_space.specs.Live.{PutsLive}
+use Rattle.alloc_set.specs.Live.{LeavesLive}
 use Rattle.alloc_set.specs.Cut.{Renews}
 use Rattle.alloc_set.specs.declared.books.Books.{Books}
-use Rattle.alloc_set.proofs.Cuts.{Keeps-more}
 use Rattle.alloc_set.proofs.Taken.{take_class-reused, take_class-cut, take_class-had, take_class-none, state_same, PutsLive-after}
 use Rattle.alloc_set.proofs.Stays.{LeavesLive-more}
 use Rattle.alloc_set.proofs.books.Books.take_class.Goals as goal
@@ -37,7 +37,7 @@ returns-in-Some-clause-ok c =
       kept = c.in-Some.ensures.kept;
       ledger = ap (take_class (state_of b).ledger left) (sym c.class_of-class.ensures.value) ∙ ap (λ (s : SetState). take_class s.ledger left class) back ∙ ledger;
       fresh = ap (λ (s : SetState). (footprint s).live c.in-Some.at) back ∙ c.in-Some.ensures.fresh;
-      live = subst (λ (s : SetState). PutsLive s (state_of n) c.in-Some.at (Some c.args.size)) same c.in-Some.ensures.live;
+      live = subst (λ (s : SetState). PutsLive (footprint s) (footprint (state_of n)) c.in-Some.at (Some c.args.size)) same c.in-Some.ensures.live;
       stays = subst (λ (s : SetState). LeavesLive s (state_of n)) same c.reuse.ensures.stays;
       moves = subst (λ (s : SetState). Moves (footprint s) (footprint (state_of n)) c.args.space.now c.args.space.now) same (c.in-Some.ensures.moves c.args.space.now (subst (λ (s : SetState). Agrees (footprint s) c.args.space.now) back c.requires.agrees));
       keeps = λ at p q k live again below short. refl;
@@ -59,7 +59,7 @@ returns-then-self-class_size-clause-ok c =
       kept = c.cut.ensures.kept;
       ledger = ap (take_class (state_of b).ledger left) (sym c.class_of-class.ensures.value) ∙ ap (λ (s : SetState). take_class s.ledger left class) (sym same) ∙ ledger;
       fresh = ap (λ (s : SetState). (footprint s).live c.cut.result) (sym same) ∙ c.cut.ensures.fresh;
-      live = subst (λ (s : SetState). PutsLive s (state_of n) c.cut.result (Some c.args.size)) same c.cut.ensures.live;
+      live = subst (λ (s : SetState). PutsLive (footprint s) (footprint (state_of n)) c.cut.result (Some c.args.size)) same c.cut.ensures.live;
       stays = subst (λ (s : SetState). LeavesLive s (state_of n)) same c.cut.ensures.stays;
       moves = subst (λ (s : SetState). Moves (footprint s) (footprint (state_of n)) c.args.space.now c.cut.new.space) same c.cut.ensures.moves;
       keeps = subst (λ (s : SetState). Keeps (footprint s) (footprint (state_of n)) c.args.space.now c.cut.new.space) same c.cut.ensures.keeps;
@@ -98,14 +98,14 @@ returns-clause-ok c =
     let had : block_size (state_of r).ledger left class ≡ Some new.size = subst (λ a. block_size (state_of r).ledger (c.args.space.now.limit - held c.args.space.now a) class ≡ Some new.size) account new.had in
     let ledger : take_class (state_of r).ledger left class ≡ Ok (state_of n).ledger =
     take_class-had (state_of r).ledger left class none new.size little had ∙ ap Ok (ap (λ (l : SetLedger). cut_off l class) (sym new.ledger) ∙ sym c.cut-2.ensures.ledger) in
-    let puts : PutsLive (state_of r) (state_of n) c.cut-2.result (Some c.args.size) = PutsLive-after (state_of r) (state_of w) (state_of n) c.cut-2.result (Some c.args.size) new.live c.cut-2.ensures.live in
+    let puts : PutsLive (footprint (state_of r)) (footprint (state_of n)) c.cut-2.result (Some c.args.size) = PutsLive-after (state_of r) (state_of w) (state_of n) c.cut-2.result (Some c.args.size) new.live c.cut-2.ensures.live in
     let moves : Moves (footprint (state_of r)) (footprint (state_of n)) c.args.space.now c.cut-2.new.space = Moves-more (footprint (state_of r)) (footprint (state_of w)) (footprint (state_of n)) c.args.space.now c.renew.new.space c.cut-2.new.space c.in-Ok-renew.ensures.moves c.cut-2.ensures.moves in
-    let keeps : Keeps (footprint (state_of r)) (footprint (state_of n)) c.args.space.now c.cut-2.new.space = Keeps-more (state_of r) (state_of w) (state_of n) c.args.space.now c.renew.new.space c.cut-2.new.space new.live c.in-Ok-renew.ensures.keeps c.cut-2.ensures.keeps in
+    let keeps : Keeps (footprint (state_of r)) (footprint (state_of n)) c.args.space.now c.cut-2.new.space = Keeps-more (footprint (state_of r)) (footprint (state_of w)) (footprint (state_of n)) c.args.space.now c.renew.new.space c.cut-2.new.space (same_stays (footprint (state_of r)) (footprint (state_of w)) new.live) c.in-Ok-renew.ensures.keeps c.cut-2.ensures.keeps in
     record {
       kept = c.cut-2.ensures.kept;
       ledger = ap (take_class (state_of b).ledger left) (sym c.class_of-class.ensures.value) ∙ ap (λ (s : SetState). take_class s.ledger left class) (sym same) ∙ ledger;
       fresh = ap (λ (s : SetState). (footprint s).live c.cut-2.result) (sym same) ∙ sym (new.live c.cut-2.result) ∙ c.cut-2.ensures.fresh;
-      live = subst (λ (s : SetState). PutsLive s (state_of n) c.cut-2.result (Some c.args.size)) same puts;
+      live = subst (λ (s : SetState). PutsLive (footprint s) (footprint (state_of n)) c.cut-2.result (Some c.args.size)) same puts;
       stays = subst (λ (s : SetState). LeavesLive s (state_of n)) same (LeavesLive-more (state_of r) (state_of w) (state_of n) new.stays c.cut-2.ensures.stays);
       moves = subst (λ (s : SetState). Moves (footprint s) (footprint (state_of n)) c.args.space.now c.cut-2.new.space) same moves;
       keeps = subst (λ (s : SetState). Keeps (footprint s) (footprint (state_of n)) c.args.space.now c.cut-2.new.space) same keeps;

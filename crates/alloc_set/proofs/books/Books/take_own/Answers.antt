@@ -2,15 +2,15 @@ use Rattle.std.proofs.Common.{◌≡◌, ℕ, ◌+◌, ◌-◌, ◌<◌, ◌≤�
 use Rattle.std.specs.Map.{values_of}
 use Rattle.addr_space.specs.Space.{held}
 use Rattle.addr_space.specs.Footprint.{Moves, Keeps}
-use Rattle.addr_space.proofs.Steps.{Moves-more}
-use Rattle.addr_space.proofs.Written.{option_cases}
+use Rattle.addr_space.proofs.Steps.{Moves-more, Keeps-more, same_stays}
+use Rattle.addr_space.proofs.Options.{option_cases}
 use Rattle.chunk_header.specs.declared.CtxError.TheVariants.{NoSpace}
 use Rattle.alloc_set.specs.Ledger.{SetLedger, take_own, with_own, own_size}
 use Rattle.alloc_set.specs.State.{SetState, chunk_at, region_of, footprint}
 use Rattle.alloc_set.specs.Kept.{state_of, own_bytes}
-use Rattle.alloc_set.specs.Live.{PutsLive, SameLive, LeavesLive}
+use Rattle.addr_space.specs.Live.{PutsLive, SameLive}
+use Rattle.alloc_set.specs.Live.{LeavesLive}
 use Rattle.alloc_set.specs.declared.books.Books.{Books}
-use Rattle.alloc_set.proofs.Cuts.{Keeps-more}
 use Rattle.alloc_set.proofs.Taken.{take_own-had, take_own-none, state_same, PutsLive-after}
 use Rattle.alloc_set.proofs.Stays.{LeavesLive-same, LeavesLive-more}
 use Rattle.alloc_set.proofs.books.Books.take_own.Goals as goal
@@ -76,15 +76,15 @@ returns-clause-ok c =
     let step : take_own (state_of b).ledger left (own_size c.args.size) ≡ Ok (with_own (state_of b).ledger (own_size c.args.size)) = take_own-had (state_of b).ledger left (own_size c.args.size) (omega (arith, fits, room)) in
     let ledger : (state_of n).ledger ≡ with_own (state_of b).ledger (own_size c.args.size) =
     c.settle.ensures.ledger ∙ c.in-Ok-add_block.ensures.ledger ∙ ap (λ (s : SetState). with_own s.ledger (c.up8-room.result + 48)) same ∙ ap (with_own (state_of b).ledger) room in
-    let live : SameLive (state_of m) (state_of a) = λ at. ap (λ (x : Books). (footprint (state_of x)).live at) c.in-Ok-add_block.ensures.rest in
-    let puts : PutsLive (state_of m) (state_of n) c.settle.result (Some c.args.size) = PutsLive-after (state_of m) (state_of a) (state_of n) c.settle.result (Some c.args.size) live c.settle.ensures.live in
+    let live : SameLive (footprint (state_of m)) (footprint (state_of a)) = λ at. ap (λ (x : Books). (footprint (state_of x)).live at) c.in-Ok-add_block.ensures.rest in
+    let puts : PutsLive (footprint (state_of m)) (footprint (state_of n)) c.settle.result (Some c.args.size) = PutsLive-after (state_of m) (state_of a) (state_of n) c.settle.result (Some c.args.size) live c.settle.ensures.live in
     let moves : Moves (footprint (state_of m)) (footprint (state_of n)) c.args.space.now c.settle.new.space = Moves-more (footprint (state_of m)) (footprint (state_of a)) (footprint (state_of n)) c.args.space.now c.add_block.new.space c.settle.new.space c.in-Ok-add_block.ensures.moves c.settle.ensures.moves in
-    let keeps : Keeps (footprint (state_of m)) (footprint (state_of n)) c.args.space.now c.settle.new.space = Keeps-more (state_of m) (state_of a) (state_of n) c.args.space.now c.add_block.new.space c.settle.new.space live c.in-Ok-add_block.ensures.keeps c.settle.ensures.keeps in
+    let keeps : Keeps (footprint (state_of m)) (footprint (state_of n)) c.args.space.now c.settle.new.space = Keeps-more (footprint (state_of m)) (footprint (state_of a)) (footprint (state_of n)) c.args.space.now c.add_block.new.space c.settle.new.space (same_stays (footprint (state_of m)) (footprint (state_of a)) live) c.in-Ok-add_block.ensures.keeps c.settle.ensures.keeps in
     record {
       kept = c.settle.ensures.kept;
       ledger = step ∙ ap Ok (sym ledger);
       fresh = ap (λ (s : SetState). (footprint s).live c.settle.result) (sym same) ∙ sym (live c.settle.result) ∙ c.settle.ensures.fresh;
-      live = subst (λ (s : SetState). PutsLive s (state_of n) c.settle.result (Some c.args.size)) same puts;
+      live = subst (λ (s : SetState). PutsLive (footprint s) (footprint (state_of n)) c.settle.result (Some c.args.size)) same puts;
       stays = subst (λ (s : SetState). LeavesLive s (state_of n)) same (LeavesLive-more (state_of m) (state_of a) (state_of n) (LeavesLive-same (state_of m) (state_of a) (ap (λ (x : Books). x.chunks.entries) c.in-Ok-add_block.ensures.rest)) c.settle.ensures.stays);
       moves = subst (λ (s : SetState). Moves (footprint s) (footprint (state_of n)) c.args.space.now c.settle.new.space) same moves;
       keeps = subst (λ (s : SetState). Keeps (footprint s) (footprint (state_of n)) c.args.space.now c.settle.new.space) same keeps;

@@ -4,13 +4,12 @@ use Rattle.ctx_blocks.specs.Layout.{Layout}
 use Rattle.bump_ctx.specs.Ledger.{take}
 use Rattle.bump_ctx.specs.Kept.{ledger_of}
 use Rattle.bump_ctx.specs.Steps.{Allocates}
-use Rattle.bump_ctx.proofs.Answered.{if_ok}
+use Rattle.addr_space.proofs.Options.{if_ok}
 use Rattle.bump_ctx.proofs.Allocated.{allocates_made}
-use Rattle.bump_ctx.proofs.Seen.{footprint_made}
 use Rattle.bump_ctx.proofs.books.Books.alloc.Goals as goal
 
 pub take-requires-clause-agrees : goal.take-requires-clause-agrees
-take-requires-clause-agrees c = rw (footprint_made c.args.self.now.blocks c.make_room.new.self c.make_room.ensures.same) c.requires.agrees
+take-requires-clause-agrees c = rw c.make_room.ensures.footprint c.requires.agrees
 
 pub returns-in-Ok-clause-ok : goal.returns-in-Ok-clause-ok
 returns-in-Ok-clause-ok c =

@@ -1,10 +1,10 @@
-use Rattle.std.proofs.Common.{◌≡◌, ℕ, ◌+◌, ◌-◌, Ok, Some, refl, ap, sym, arith}
+use Rattle.std.proofs.Common.{◌≡◌, ◌+◌, ◌-◌, Ok, Some, refl, ap, sym, arith, false}
 use Rattle.ctx_blocks.specs.Layout.{header_room, gap_of}
 use Rattle.ctx_blocks.specs.declared.parts.Block.{Block}
 use Rattle.bump_ctx.specs.Kept.{room_at, room_of}
 use Rattle.bump_ctx.proofs.Kepts.{kept_same}
 use Rattle.bump_ctx.proofs.Ledgers.{ledger_cut}
-use Rattle.bump_ctx.proofs.Lives.{live_put, fresh_put}
+use Rattle.ctx_blocks.proofs.Changed.{live_put, fresh_put}
 use Rattle.bump_ctx.proofs.books.Books.cut.Goals as goal
 
 pub returns : goal.returns
@@ -20,8 +20,8 @@ returns c =
     record {
       kept = kept_same b c.cut.new.self b.newest old new kept c.cut.ensures.same puts is refl;
       ledger = ap Ok (sym (ledger_cut b c.cut.new.self old new c.args.room puts is refl (omega (arith, gap, room, c.requires.room))));
-      fresh = fresh_put b.blocks b.blocks c.cut.result refl c.cut.ensures.fresh;
-      live = live_put b.blocks b.blocks c.cut.new.self c.cut.result (record { size = c.args.size; room = c.args.room; own = Rattle.std.proofs.Common.false }) refl c.cut.ensures.chunk;
+      fresh = fresh_put b.blocks c.cut.result c.cut.ensures.fresh;
+      live = live_put b.blocks c.cut.new.self c.cut.result (Some (record { size = c.args.size; room = c.args.room; own = false })) c.cut.ensures.chunk;
       moves = c.cut.ensures.moves;
       keeps = c.cut.ensures.keeps;
     }

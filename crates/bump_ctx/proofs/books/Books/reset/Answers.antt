@@ -1,11 +1,10 @@
-use Rattle.std.proofs.Common.{◌≡◌, ◌∙◌, refl, ℕ}
-use Rattle.bump_ctx.specs.Kept.{IsSized}
+use Rattle.std.proofs.Common.{◌≡◌, ◌∙◌, refl}
 use Rattle.bump_ctx.specs.declared.books.Books.{Books}
-use Rattle.bump_ctx.proofs.Resets.{keeper_alone, alone_as, kept_alone, ledger_alone}
+use Rattle.ctx_blocks.proofs.Changed.{alone_as}
+use Rattle.ctx_blocks.specs.Layout.{keeper_alone}
+use Rattle.bump_ctx.proofs.Resets.{kept_alone, ledger_alone}
 use Rattle.bump_ctx.proofs.books.Books.reset.Goals as goal
-
-reset_sizes : (init max next : ℕ) → IsSized init max next → IsSized init max init
-reset_sizes init max next s = record { least = s.least; order = s.order; most = s.most; whole_init = s.whole_init; whole_max = s.whole_max; next_least = s.least; next_most = s.order; next_whole = s.whole_init }
+use Rattle.chunk_header.proofs.Doubling.{AreSizes-first}
 
 pub returns-clause-kept : goal.returns-clause-kept
 returns-clause-kept c =
@@ -14,7 +13,7 @@ returns-clause-kept c =
     let keeper = c.requires.kept.keeper in
     let n : Books = record b { next = b.sizes.init; newest = c.keeper-self.result; blocks = m } in
     let only : m.blocks ≡ keeper_alone m.keeper b.sizes.init = alone_as m.blocks b.blocks.keeper m.keeper keeper.block.size b.sizes.init (c.reset.ensures.blocks keeper.block keeper.is) c.reset.ensures.same.keeper keeper.size in
-    kept_alone n (c.reset.ensures.same.kind ∙ c.requires.kept.kind) (reset_sizes b.sizes.init b.sizes.max b.next c.requires.kept.sizes) refl only c.keeper-self.ensures
+    kept_alone n (c.reset.ensures.same.kind ∙ c.requires.kept.kind) (AreSizes-first b.sizes.init b.sizes.max b.next c.requires.kept.sizes) refl only c.keeper-self.ensures
 
 pub returns-clause-ledger : goal.returns-clause-ledger
 returns-clause-ledger c =
@@ -23,4 +22,4 @@ returns-clause-ledger c =
     let keeper = c.requires.kept.keeper in
     let n : Books = record b { next = b.sizes.init; newest = c.keeper-self.result; blocks = m } in
     let only : m.blocks ≡ keeper_alone m.keeper b.sizes.init = alone_as m.blocks b.blocks.keeper m.keeper keeper.block.size b.sizes.init (c.reset.ensures.blocks keeper.block keeper.is) c.reset.ensures.same.keeper keeper.size in
-    ledger_alone n (c.reset.ensures.same.kind ∙ c.requires.kept.kind) (reset_sizes b.sizes.init b.sizes.max b.next c.requires.kept.sizes) refl only c.keeper-self.ensures
+    ledger_alone n (c.reset.ensures.same.kind ∙ c.requires.kept.kind) (AreSizes-first b.sizes.init b.sizes.max b.next c.requires.kept.sizes) refl only c.keeper-self.ensures

@@ -1,13 +1,13 @@
 use Rattle.std.proofs.Common.{◌≡◌, ℕ, ◌+◌, ◌-◌, Ok, Err, Some, true, refl, ap, sym, ◌∙◌, arith}
 use Rattle.addr_space.specs.Space.{held}
-use Rattle.addr_space.proofs.Steps.{Moves-more}
+use Rattle.addr_space.proofs.Steps.{Moves-more, Keeps-more}
 use Rattle.chunk_header.specs.declared.CtxError.TheVariants.{NoSpace}
 use Rattle.ctx_blocks.specs.Layout.{block_at, header_room, gap_of, footprint}
 use Rattle.ctx_blocks.specs.declared.parts.Block.{Block}
 use Rattle.bump_ctx.specs.Kept.{ledger_of}
-use Rattle.bump_ctx.proofs.Kepts.{put_here, kept_more, kept_same}
+use Rattle.ctx_blocks.proofs.Changed.{put_here, live_put, fresh_put, same_live, puts_same, stays_live}
+use Rattle.bump_ctx.proofs.Kepts.{kept_more, kept_same}
 use Rattle.bump_ctx.proofs.Ledgers.{ledger_own, take_own-had, take_own-none}
-use Rattle.bump_ctx.proofs.Lives.{live_put, fresh_put, keeps_more}
 use Rattle.bump_ctx.proofs.books.Books.take_own.Goals as goal
 
 pub returns-in-Ok-clause-ok : goal.returns-in-Ok-clause-ok
@@ -32,10 +32,10 @@ returns-in-Ok-clause-ok c =
     rw (← c.granted-room.ensures.value) (record {
       kept = kept_same (record b { blocks = m }) n number first last kept c.cut.ensures.same again here refl;
       ledger = step ∙ ap Ok (sym ledger);
-      fresh = fresh_put b.blocks m c.cut.result e.chunks c.cut.ensures.fresh;
-      live = live_put b.blocks m n c.cut.result (record { size = c.args.size; room = room; own = true }) e.chunks c.cut.ensures.chunk;
+      fresh = sym (same_live b.blocks m e.chunks c.cut.result) ∙ fresh_put m c.cut.result c.cut.ensures.fresh;
+      live = live_put b.blocks n c.cut.result (Some (record { size = c.args.size; room = room; own = true })) (puts_same b.blocks m n c.cut.result _ e.chunks c.cut.ensures.chunk);
       moves = Moves-more (footprint b.blocks) (footprint m) (footprint n) s c.add.new.space c.cut.new.space e.moves c.cut.ensures.moves;
-      keeps = keeps_more b.blocks m (footprint n) s c.add.new.space c.cut.new.space e.chunks e.keeps c.cut.ensures.keeps;
+      keeps = Keeps-more (footprint b.blocks) (footprint m) (footprint n) s c.add.new.space c.cut.new.space (stays_live b.blocks m e.chunks) e.keeps c.cut.ensures.keeps;
     })
 
 pub returns-in-Err-clause-no_space : goal.returns-in-Err-clause-no_space

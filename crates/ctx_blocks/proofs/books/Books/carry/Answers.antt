@@ -2,7 +2,7 @@ use Rattle.std.proofs.Common.{arith, inl, inr}
 use Rattle.ctx_blocks.specs.Layout.{footprint}
 use Rattle.ctx_blocks.specs.Kept.{layout_of}
 use Rattle.ctx_blocks.proofs.Laid.{live_is}
-use Rattle.ctx_blocks.proofs.Carried.{IsInside-live, Moves-carried, KeepsBut-carried, bytes-carried}
+use Rattle.addr_space.proofs.Carried.{IsInside-live, Moves-carried, KeepsBut-carried, HasBytesOf-carried}
 use Rattle.ctx_blocks.proofs.books.Books.carry.Goals as goal
 
 pub copy-requires-clause-from : goal.copy-requires-clause-from
@@ -41,4 +41,4 @@ pub returns-clause-copied : goal.returns-clause-copied
 returns-clause-copied c =
     let l = layout_of c.args.self.now in
     let inside = IsInside-live (footprint l) c.args.space.now c.args.from c.requires.from.0.size c.args.n c.requires.agrees (live_is l c.args.from c.requires.from.0 c.requires.from.1) c.requires.from.2 in
-    bytes-carried (footprint l) c.args.space.now c.copy.new.self c.args.from c.args.to c.args.n c.requires.to.0.size c.requires.agrees (live_is l c.args.to c.requires.to.0 c.requires.to.1) c.requires.to.2 c.requires.known inside.end_in_region c.copy.ensures.changes
+    HasBytesOf-carried (footprint l) c.args.space.now c.copy.new.self c.args.from c.args.to c.args.n c.requires.to.0.size c.requires.agrees (live_is l c.args.to c.requires.to.0 c.requires.to.1) c.requires.to.2 c.requires.known inside.end_in_region c.copy.ensures.changes

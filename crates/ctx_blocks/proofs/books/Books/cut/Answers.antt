@@ -2,7 +2,7 @@ use Rattle.std.proofs.Common.{◌≡◌, ◌+◌, ◌≤◌, ap, arith}
 use Rattle.ctx_blocks.specs.Layout.{block_at, header_room}
 use Rattle.ctx_blocks.specs.Kept.{layout_of}
 use Rattle.ctx_blocks.specs.declared.parts.Block.{Block}
-use Rattle.ctx_blocks.proofs.Laid.{one_value}
+use Rattle.addr_space.proofs.Options.{one_value}
 use Rattle.ctx_blocks.proofs.Cuts.{Holds-cut}
 use Rattle.ctx_blocks.proofs.books.Books.cut.Goals as goal
 

@@ -2,7 +2,8 @@ use Rattle.std.proofs.Common.{◌≡◌, ◌+◌, ◌-◌, ◌==◌, true, Some,
 use Rattle.std.specs.Map.{lookup}
 use Rattle.std.proofs.lemmas.Bool.Decides.{nat_tests}
 use Rattle.addr_space.specs.declared.Addr.{Addr}
-use Rattle.ctx_blocks.specs.Layout.{same_addr, block_at, chunk_at, total}
+use Rattle.addr_space.specs.Live.{same_addr}
+use Rattle.ctx_blocks.specs.Layout.{block_at, chunk_at, total}
 use Rattle.ctx_blocks.specs.Kept.{layout_of}
 use Rattle.ctx_blocks.specs.Steps.{SameContext}
 use Rattle.ctx_blocks.specs.declared.books.Books.{Books}

@@ -5,7 +5,7 @@ use Rattle.ctx_blocks.specs.Kept.{layout_of, IsFirst}
 use Rattle.ctx_blocks.specs.Steps.{SameContext}
 use Rattle.ctx_blocks.specs.declared.parts.Block.{Block}
 use Rattle.ctx_blocks.specs.declared.books.Books.{Books}
-use Rattle.ctx_blocks.proofs.Laid.{one_value}
+use Rattle.addr_space.proofs.Options.{one_value}
 use Rattle.ctx_blocks.proofs.Counts.{none_in}
 use Rattle.ctx_blocks.proofs.Totals.{sum-dropped, total-dropped, IsFirst-dropped}
 use Rattle.ctx_blocks.proofs.Lessened.{IsLaid-lessened}

@@ -3,7 +3,7 @@ use Rattle.ctx_blocks.specs.Layout.{block_at, total}
 use Rattle.ctx_blocks.specs.Kept.{layout_of}
 use Rattle.ctx_blocks.specs.declared.parts.Block.{Block}
 use Rattle.ctx_blocks.specs.declared.books.Books.{Books}
-use Rattle.ctx_blocks.proofs.Laid.{one_value}
+use Rattle.addr_space.proofs.Options.{one_value}
 use Rattle.ctx_blocks.proofs.Counts.{none_in}
 use Rattle.ctx_blocks.proofs.Lessened.{IsLaid-lessened, MovesStill-lessened, Lessens}
 use Rattle.ctx_blocks.proofs.Refilled.{Lessens-refilled, IsCounted-refilled, regions-refilled}

@@ -1,12 +1,13 @@
 use Rattle.std.proofs.Common.{◌≡◌, ◌-◌, ◌∷◌, [], Some, ap, sym, subst, ◌∙◌, refl, arith}
 use Rattle.std.specs.Map.{lookup}
 use Rattle.addr_space.proofs.Steps.{Moves-more}
-use Rattle.ctx_blocks.specs.Layout.{Layout, same_addr, block_at, footprint}
+use Rattle.addr_space.specs.Live.{same_addr}
+use Rattle.ctx_blocks.specs.Layout.{Layout, block_at, footprint}
 use Rattle.ctx_blocks.specs.Kept.{layout_of, IsFilled, IsFirst}
 use Rattle.ctx_blocks.specs.Steps.{with_block, SameContext}
 use Rattle.ctx_blocks.specs.declared.parts.Block.{Block}
 use Rattle.ctx_blocks.specs.declared.books.Books.{Books}
-use Rattle.ctx_blocks.proofs.Laid.{one_value}
+use Rattle.addr_space.proofs.Options.{one_value}
 use Rattle.ctx_blocks.proofs.New.{keeper_start, keeper_is, total_one, IsLaid-new, IsCounted-new}
 use Rattle.ctx_blocks.proofs.Totals.{total-put}
 use Rattle.ctx_blocks.proofs.Lessened.{MovesStill-lessened}

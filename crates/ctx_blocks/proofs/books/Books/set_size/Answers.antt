@@ -1,10 +1,11 @@
 use Rattle.std.proofs.Common.{◌≡◌, ℕ, ap, refl, arith, is_some, if◌then◌else◌}
 use Rattle.std.specs.Map.{lookup}
-use Rattle.ctx_blocks.specs.Layout.{same_addr, count_in, chunk_at}
+use Rattle.addr_space.specs.Live.{same_addr}
+use Rattle.ctx_blocks.specs.Layout.{count_in, chunk_at}
 use Rattle.ctx_blocks.specs.Kept.{layout_of}
 use Rattle.ctx_blocks.specs.declared.parts.Chunk.{Chunk}
 use Rattle.ctx_blocks.specs.declared.books.Books.{Books}
-use Rattle.ctx_blocks.proofs.Laid.{one_value}
+use Rattle.addr_space.proofs.Options.{one_value}
 use Rattle.ctx_blocks.proofs.Counts.{one_in}
 use Rattle.ctx_blocks.proofs.Lessened.{IsLaid-lessened, MovesStill-lessened, Lessens}
 use Rattle.ctx_blocks.proofs.Refilled.{Lessens-sized, IsCounted-sized}

@@ -2,7 +2,7 @@ use Rattle.std.proofs.Common.{◌≡◌, ◌≢◌, ℕ, ◌∙◌, Some, Option
 use Rattle.generation_ctx.specs.Ledger.{GenerationLedger, emptied_other}
 use Rattle.generation_ctx.specs.Kept.{ledger_of}
 use Rattle.generation_ctx.proofs.Alone.{apart_live}
-use Rattle.generation_ctx.proofs.Kepts.{put_here}
+use Rattle.ctx_blocks.proofs.Changed.{put_here}
 use Rattle.generation_ctx.proofs.Kept.{kept_drop, kept_spare, were_still}
 use Rattle.generation_ctx.proofs.Refilled.{refilled, kept_refill, ledger_refill, emptied-keeper, emptied-current, emptied-other}
 use Rattle.generation_ctx.proofs.books.Books.empty.Goals as goal

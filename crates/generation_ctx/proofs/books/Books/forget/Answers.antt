@@ -3,7 +3,7 @@ use Rattle.ctx_blocks.specs.Steps.{with_block}
 use Rattle.ctx_blocks.specs.declared.parts.Block.{Block}
 use Rattle.generation_ctx.specs.Ledger.{lessened}
 use Rattle.generation_ctx.proofs.Found.{block_is}
-use Rattle.generation_ctx.proofs.Kepts.{put_here}
+use Rattle.ctx_blocks.proofs.Changed.{put_here}
 use Rattle.generation_ctx.proofs.Forgotten.{less_one, kept_less}
 use Rattle.generation_ctx.proofs.books.Books.forget.Goals as goal
 

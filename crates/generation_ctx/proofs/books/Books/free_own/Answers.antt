@@ -1,14 +1,14 @@
 use Rattle.std.proofs.Common.{◌≡◌, ◌≢◌, ℕ, ◌+◌, ◌-◌, ◌≤◌, ◌∙◌, refl, ap, sym, arith, true}
-use Rattle.addr_space.proofs.Steps.{Moves-more}
+use Rattle.addr_space.proofs.Steps.{Moves-more, Keeps-then}
 use Rattle.ctx_blocks.specs.Layout.{footprint, block_at}
 use Rattle.ctx_blocks.specs.Steps.{without_block}
 use Rattle.generation_ctx.specs.Ledger.{freed}
 use Rattle.generation_ctx.proofs.Lists.{put_away}
 use Rattle.generation_ctx.proofs.Alone.{apart_live}
-use Rattle.generation_ctx.proofs.Kepts.{put_here, spare_live}
+use Rattle.ctx_blocks.proofs.Changed.{put_here, stays_live}
+use Rattle.generation_ctx.proofs.Kepts.{spare_live}
 use Rattle.generation_ctx.proofs.Kept.{kept_drop, were_still}
 use Rattle.generation_ctx.proofs.Forgotten.{less_one, kept_less}
-use Rattle.generation_ctx.proofs.Steps.{keeps_then}
 use Rattle.generation_ctx.proofs.books.Books.free_own.Goals as goal
 
 pub give-requires-clause-block : goal.give-requires-clause-block
@@ -37,7 +37,7 @@ returns-clause-frees c =
       kept = kept_drop (record b { blocks = m }) n at.region kept g.same g.block (λ z. a.not_keeper (z ∙ e.same.keeper)) a.not_current (spare_live b.blocks b.current b.spare at.region a.block a.is live c.requires.kept.spare) (were_still m n b.current at.region g.chunks kept.alone (λ other x. apart_live m b.current other x at.region (less_one a.block) here none));
       chunk = rw g.chunks e.chunk;
       moves = Moves-more (footprint b.blocks) (footprint m) (footprint n) c.args.space.now c.args.space.now c.give.new.space (e.moves c.args.space.now c.requires.agrees) g.moves;
-      keeps = keeps_then (footprint b.blocks) m n c.args.space.now c.args.space.now c.give.new.space g.chunks (λ other p r k l again below short. refl) g.keeps;
+      keeps = Keeps-then (footprint b.blocks) (footprint m) (footprint n) c.args.space.now c.args.space.now c.give.new.space (stays_live n m (sym g.chunks)) (λ other p r k l again below short. refl) g.keeps;
     }
 
 pub returns-clause-ledger : goal.returns-clause-ledger

@@ -1,22 +1,22 @@
-use Rattle.std.proofs.Common.{◌≡◌, ◌≢◌, ℕ, ◌+◌, ◌-◌, ◌<◌, Option, Some, None, IsSome, Ok, Err, Result, ap, sym, ◌∙◌, arith, subst}
+use Rattle.std.proofs.Common.{◌≡◌, ◌≢◌, ℕ, ◌+◌, ◌-◌, ◌<◌, Option, Some, None, IsSome, Ok, Err, Result, ap, sym, ◌∙◌, arith, subst, option_map}
 use Rattle.addr_space.specs.declared.Addr.{Addr}
 use Rattle.addr_space.specs.Space.{held, byte_at}
 use Rattle.addr_space.proofs.Steps.{Moves-more}
 use Rattle.chunk_header.specs.declared.CtxError.{CtxError}
 use Rattle.chunk_header.specs.declared.CtxError.TheVariants.{NoSpace}
-use Rattle.ctx_blocks.specs.Layout.{chunk_at, footprint, then_option}
+use Rattle.ctx_blocks.specs.Layout.{chunk_at, footprint}
 use Rattle.ctx_blocks.specs.declared.parts.Chunk.{Chunk}
-use Rattle.generation_ctx.specs.Room.{granted}
+use Rattle.chunk_header.specs.Growth.{granted}
 use Rattle.generation_ctx.specs.Ledger.{GenerationLedger, moved}
 use Rattle.generation_ctx.specs.Kept.{ledger_of}
 use Rattle.generation_ctx.proofs.Addrs.{stays, put_there}
-use Rattle.generation_ctx.proofs.Lives.{live_put, fresh_put}
+use Rattle.ctx_blocks.proofs.Changed.{live_put, fresh_put}
 use Rattle.generation_ctx.proofs.Resizes.{resized-moves, live_moves}
 use Rattle.generation_ctx.proofs.books.Books.relocate.Goals as goal
 use Rattle.generation_ctx.proofs.books.Books.relocate.Goals.{In-Ok}
 
-live_of : (o : Option Chunk) (x : Chunk) → o ≡ Some x → then_option o (λ c. Some c.size) ≡ Some x.size
-live_of o x is = ap (λ (o : Option Chunk). then_option o (λ (c : Chunk). Some c.size)) is
+live_of : (o : Option Chunk) (x : Chunk) → o ≡ Some x → option_map (λ c. c.size) o ≡ Some x.size
+live_of o x is = ap (λ (o : Option Chunk). option_map (λ (c : Chunk). c.size) o) is
 
 -- the new chunk is another one
 apart : (c : In-Ok) → c.in-Ok.to ≢ c.args.at
@@ -72,7 +72,7 @@ returns-in-Ok-clause-ok c =
           (let none : (footprint b).live other ≡ None = subst (λ (x : Addr). (footprint b).live x ≡ None) e (fresh_put b to ok.fresh) in
           let clash : Some p ≡ None = sym live ∙ none in
           absurd (cc)) in
-          let middle : (footprint m).live other ≡ Some p = ap (λ (o : Option Chunk). then_option o (λ (x : Chunk). Some x.size)) (stays b m to other (Some new) ok.chunk ne_to) ∙ live in
+          let middle : (footprint m).live other ≡ Some p = ap (λ (o : Option Chunk). option_map (λ (x : Chunk). x.size) o) (stays b m to other (Some new) ok.chunk ne_to) ∙ live in
           f.keeps other p q k middle again below short ∙ c.carry.ensures.keeps other p p k (λ e. ne_to (sym e)) middle middle below below ∙ ok.keeps other p p k live middle below below);
     }
 

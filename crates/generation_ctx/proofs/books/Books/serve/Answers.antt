@@ -4,14 +4,13 @@ use Rattle.ctx_blocks.specs.Layout.{Layout}
 use Rattle.generation_ctx.specs.Ledger.{take}
 use Rattle.generation_ctx.specs.Kept.{ledger_of, IsKept}
 use Rattle.generation_ctx.specs.Steps.{Allocates}
-use Rattle.generation_ctx.proofs.Answered.{if_ok, on_err}
+use Rattle.addr_space.proofs.Options.{if_ok, on_err}
 use Rattle.generation_ctx.proofs.Kept.{kept_made}
 use Rattle.generation_ctx.proofs.Steps.{allocates_made}
-use Rattle.generation_ctx.proofs.Seen.{footprint_made}
 use Rattle.generation_ctx.proofs.books.Books.serve.Goals as goal
 
 pub take-requires-clause-agrees : goal.take-requires-clause-agrees
-take-requires-clause-agrees c = rw (footprint_made c.args.self.now.blocks c.make_room.new.self c.make_room.ensures.same) c.requires.agrees
+take-requires-clause-agrees c = rw c.make_room.ensures.footprint c.requires.agrees
 
 pub returns-in-Ok-clause-ok : goal.returns-in-Ok-clause-ok
 returns-in-Ok-clause-ok c =

@@ -2,7 +2,7 @@ use Rattle.std.proofs.Common.{◌≡◌, ◌≤◌, ◌∙◌, Some, Ok, refl, a
 use Rattle.ctx_blocks.specs.Layout.{footprint}
 use Rattle.ctx_blocks.specs.declared.parts.Chunk.{Chunk}
 use Rattle.generation_ctx.specs.Kept.{ledger_of}
-use Rattle.generation_ctx.proofs.Lives.{live_put}
+use Rattle.ctx_blocks.proofs.Changed.{live_put}
 use Rattle.generation_ctx.proofs.Sizes.{kept_sized}
 use Rattle.generation_ctx.proofs.Resizes.{resized-stays, live_stays}
 use Rattle.generation_ctx.proofs.books.Books.set_size.Goals as goal

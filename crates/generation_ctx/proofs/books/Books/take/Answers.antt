@@ -1,6 +1,6 @@
 use Rattle.std.proofs.Common.{arith}
 use Rattle.generation_ctx.specs.Kept.{ledger_of}
-use Rattle.generation_ctx.proofs.Answered.{if_ok}
+use Rattle.addr_space.proofs.Options.{if_ok}
 use Rattle.generation_ctx.proofs.Ledgers.{take-own, take-cut}
 use Rattle.generation_ctx.proofs.books.Books.take.Goals as goal
 

@@ -1,7 +1,7 @@
 use Rattle.std.proofs.Common.{ℕ, ◌+◌, ◌-◌, ◌≤◌, arith, ap}
 use Rattle.addr_space.specs.Space.{held}
 use Rattle.ctx_blocks.specs.declared.parts.Block.{Block}
-use Rattle.generation_ctx.specs.Room.{granted}
+use Rattle.chunk_header.specs.Growth.{granted}
 use Rattle.generation_ctx.specs.Ledger.{block_in}
 use Rattle.generation_ctx.specs.Kept.{ledger_of}
 use Rattle.generation_ctx.proofs.Ledgers.{take_cut-room}

@@ -1,7 +1,7 @@
 use Rattle.std.proofs.Common.{◌≡◌, ℕ, ◌+◌, ◌-◌, ◌<◌, ◌≤◌, Option, Some, None, Ok, Err, ap, sym, ◌∙◌}
 use Rattle.addr_space.specs.Space.{held}
 use Rattle.chunk_header.specs.declared.CtxError.TheVariants.{NoSpace}
-use Rattle.generation_ctx.specs.Room.{granted}
+use Rattle.chunk_header.specs.Growth.{granted}
 use Rattle.generation_ctx.specs.Ledger.{GenerationLedger, block_size, chosen, cut_off, turned, with_new, take_from, take_cut}
 use Rattle.generation_ctx.specs.Kept.{ledger_of}
 use Rattle.generation_ctx.proofs.Ledgers.{take_cut-from, take_from-other, take_from-new, take_from-none}

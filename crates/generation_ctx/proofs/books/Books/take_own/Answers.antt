@@ -1,6 +1,6 @@
 use Rattle.std.proofs.Common.{◌≡◌, ◌≢◌, ℕ, ◌+◌, ◌-◌, Ok, Err, Some, None, true, refl, ap, sym, ◌∙◌, arith}
 use Rattle.addr_space.specs.Space.{held}
-use Rattle.addr_space.proofs.Steps.{Moves-more}
+use Rattle.addr_space.proofs.Steps.{Moves-more, Keeps-more}
 use Rattle.chunk_header.specs.declared.CtxError.TheVariants.{NoSpace}
 use Rattle.ctx_blocks.specs.Layout.{block_at, header_room, gap_of, footprint}
 use Rattle.ctx_blocks.specs.Steps.{with_block}
@@ -9,11 +9,11 @@ use Rattle.generation_ctx.specs.Ledger.{put}
 use Rattle.generation_ctx.specs.Kept.{ledger_of, IsKept}
 use Rattle.generation_ctx.proofs.Lists.{put_twice}
 use Rattle.generation_ctx.proofs.Alone.{apart_none}
-use Rattle.generation_ctx.proofs.Kepts.{put_here, spare_none}
+use Rattle.ctx_blocks.proofs.Changed.{put_here, stays_live}
+use Rattle.generation_ctx.proofs.Kepts.{spare_none}
 use Rattle.generation_ctx.proofs.Kept.{kept_put, were_still}
 use Rattle.generation_ctx.proofs.Owned.{kept_own}
 use Rattle.generation_ctx.proofs.Ledgers.{take_own-had, take_own-none}
-use Rattle.generation_ctx.proofs.Steps.{keeps_more}
 use Rattle.generation_ctx.proofs.books.Books.take_own.Goals as goal
 
 pub returns-in-Ok-clause-ok : goal.returns-in-Ok-clause-ok
@@ -54,7 +54,7 @@ returns-in-Ok-clause-ok c =
       fresh = rw (← e.chunks) q.fresh;
       chunk = rw (← c.granted-room.ensures.value, ← e.chunks) q.chunk;
       moves = Moves-more (footprint b.blocks) (footprint m) (footprint n) s c.add.new.space c.cut.new.space e.moves q.moves;
-      keeps = keeps_more b.blocks m (footprint n) s c.add.new.space c.cut.new.space e.chunks e.keeps q.keeps;
+      keeps = Keeps-more (footprint b.blocks) (footprint m) (footprint n) s c.add.new.space c.cut.new.space (stays_live b.blocks m e.chunks) e.keeps q.keeps;
     })
 
 pub returns-in-Err-clause-no_space : goal.returns-in-Err-clause-no_space

@@ -4,7 +4,7 @@ use Rattle.addr_space.specs.Space.{held}
 use Rattle.chunk_header.specs.declared.CtxError.{CtxError}
 use Rattle.chunk_header.specs.declared.CtxError.TheVariants.{TooBig, NoSpace, WrongSize, Memory}
 use Rattle.slab_ctx.specs.Ledger.{per_block, fullest, serve}
-use Rattle.slab_ctx.specs.State.{SlabState, account_of, lives_of}
+use Rattle.slab_ctx.specs.State.{SlabState, lives_of}
 use Rattle.slab_ctx.specs.Kept.{ledger_of, state_of}
 use Rattle.slab_ctx.specs.Steps.{Allocates}
 use Rattle.slab_ctx.proofs.Served.{take-big, take-other, take-right, serve-not_wrong}
@@ -36,7 +36,7 @@ returns-in-Ok-clause-ok c =
     let sq = c.serve.new.space in
     let right = c.if-size-from.false ∙ c.from.ensures in
     let is = take-right (ledger_of b) (sp.limit - held sp b.slots.blocks.account) c.args.size (omega (arith, c.if-size-gt-LARGEST.false)) right in
-    let there = subst (λ (s : SlabState). IfOk c.serve.result (λ at. Allocates s n sp sq s.ledger.size at (serve s.ledger (sp.limit - held sp (account_of s)) (fullest (per_block s.ledger.size) s.ledger.lives)))) c.make_room.ensures.state c.serve.ensures.ok in
+    let there = subst (λ (s : SlabState). IfOk c.serve.result (λ at. Allocates s n sp sq s.ledger.size at (serve s.ledger (sp.limit - held sp s.layout.account) (fullest (per_block s.ledger.size) s.ledger.lives)))) c.make_room.ensures.state c.serve.ensures.ok in
     let sized = subst (λ z. IfOk c.serve.result (λ at. Allocates (state_of b) n sp sq z at (serve (ledger_of b) (sp.limit - held sp b.slots.blocks.account) (fullest (per_block b.slots.size) (lives_of b.slots.blocks))))) (sym right) there in
     subst (λ step. IfOk c.serve.result (λ at. Allocates (state_of b) n sp sq c.args.size at step)) (sym is) sized
 
@@ -53,7 +53,7 @@ returns-in-Ok-clause-no_space c = λ e.
     let b = c.args.self.now in
     let sp = c.args.space.now in
     let is = take-right (ledger_of b) (sp.limit - held sp b.slots.blocks.account) c.args.size (omega (arith, c.if-size-gt-LARGEST.false)) (c.if-size-from.false ∙ c.from.ensures) in
-    is ∙ subst (λ (s : SlabState). serve s.ledger (sp.limit - held sp (account_of s)) (fullest (per_block s.ledger.size) s.ledger.lives) ≡ Err NoSpace) c.make_room.ensures.state (c.serve.ensures.no_space e)
+    is ∙ subst (λ (s : SlabState). serve s.ledger (sp.limit - held sp s.layout.account) (fullest (per_block s.ledger.size) s.ledger.lives) ≡ Err NoSpace) c.make_room.ensures.state (c.serve.ensures.no_space e)
 
 pub returns-in-Err-clause-wrong_size : goal.returns-in-Err-clause-wrong_size
 returns-in-Err-clause-wrong_size c =

@@ -1,9 +1,10 @@
-use Rattle.std.proofs.Common.{◌≡◌, ◌+◌, ◌-◌, ◌==◌, if◌then◌else◌, ℕ, Some, ap, sym, ◌∙◌, arith}
+use Rattle.std.proofs.Common.{◌≡◌, ◌+◌, ◌-◌, ◌==◌, if◌then◌else◌, ℕ, Some, ap, sym, ◌∙◌, arith, refl}
 use Rattle.addr_space.specs.declared.Addr.{Addr}
 use Rattle.addr_space.proofs.Steps.{Moves-more}
 use Rattle.std.specs.Map.{lookup}
 use Rattle.ctx_blocks.specs.declared.parts.Block.{Block}
-use Rattle.ctx_blocks.specs.Layout.{Layout, block_at, same_addr, footprint as footprint_of}
+use Rattle.addr_space.specs.Live.{same_addr}
+use Rattle.ctx_blocks.specs.Layout.{Layout, block_at, footprint as footprint_of}
 use Rattle.slab_ctx.specs.Ledger.{is_empty}
 use Rattle.slab_ctx.specs.State.{lives_of, place_in, others}
 use Rattle.slab_ctx.specs.Kept.{ledger_of}
@@ -15,7 +16,8 @@ use Rattle.slab_ctx.proofs.Lives.{eq_test}
 use Rattle.slab_ctx.proofs.Listed.{place-live, place-changed}
 use Rattle.slab_ctx.proofs.Places.{chunks-few}
 use Rattle.slab_ctx.proofs.KeptSteps.{kept-changed, lives-counted}
-use Rattle.slab_ctx.proofs.Served.{keeps-before, size_of}
+use Rattle.addr_space.proofs.Steps.{Keeps-then}
+use Rattle.ctx_blocks.proofs.Changed.{size_of}
 use Rattle.slab_ctx.proofs.books.Books.free.Goals as goal
 
 pub overflow_add-self : goal.overflow_add-self
@@ -85,4 +87,4 @@ returns-clause-keeps c =
     let m = c.remove.new.self.blocks in
     let n = c.settle.new.self.slots.blocks in
     let stay : (at : Addr) (k : ℕ) → (footprint_of n).live at ≡ Some k → (footprint_of m).live at ≡ Some k = λ at k live. sym (ap (λ cs. size_of (lookup (same_addr at) cs)) c.settle.ensures.chunks) ∙ live in
-    keeps-before (footprint_of l) (footprint_of m) (footprint_of n) c.args.space.now c.settle.new.space stay c.settle.ensures.keeps
+    Keeps-then (footprint_of l) (footprint_of m) (footprint_of n) c.args.space.now c.args.space.now c.settle.new.space stay (λ at x y k live again below short. refl) c.settle.ensures.keeps

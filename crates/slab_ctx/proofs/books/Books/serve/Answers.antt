@@ -2,9 +2,10 @@ use Rattle.std.proofs.Common.{◌≡◌, ◌-◌, ℕ, if◌then◌else◌, Some
 use Rattle.std.specs.Map.{lookup}
 use Rattle.addr_space.specs.declared.Addr.{Addr}
 use Rattle.addr_space.specs.Space.{held}
-use Rattle.addr_space.proofs.Steps.{Moves-more}
+use Rattle.addr_space.proofs.Steps.{Moves-more, Keeps-more}
 use Rattle.chunk_header.specs.declared.CtxError.TheVariants.{NoSpace}
-use Rattle.ctx_blocks.specs.Layout.{same_addr, chunk_at, footprint as footprint_of}
+use Rattle.addr_space.specs.Live.{same_addr}
+use Rattle.ctx_blocks.specs.Layout.{chunk_at, footprint as footprint_of}
 use Rattle.ctx_blocks.specs.declared.parts.Block.{Block}
 use Rattle.slab_ctx.specs.Ledger.{per_block, fullest}
 use Rattle.slab_ctx.specs.State.{lives_of, place_in, others}
@@ -14,8 +15,9 @@ use Rattle.slab_ctx.proofs.Numbers.{per_block-some}
 use Rattle.slab_ctx.proofs.Full.{Agrees-plain, Moves-full}
 use Rattle.slab_ctx.proofs.Lives.{lives-raised}
 use Rattle.slab_ctx.proofs.Listed.{find-other}
-use Rattle.slab_ctx.proofs.Served.{size_of, live-put, keeps-after, serve-some, serve-none, serve-full, lives-first}
+use Rattle.slab_ctx.proofs.Served.{serve-some, serve-none, serve-full, lives-first}
 use Rattle.slab_ctx.proofs.books.Books.serve.Goals as goal
+use Rattle.ctx_blocks.proofs.Changed.{size_of, live_put}
 
 pub take-requires-clause-agrees : goal.take-requires-clause-agrees
 take-requires-clause-agrees c = Agrees-plain c.args.self.now.slots.size c.args.self.now.slots.blocks c.args.space.now c.requires.agrees
@@ -35,7 +37,7 @@ returns-in-Some-clause-ok c =
       kept = c.take.ensures.kept;
       ledger = serve-some (ledger_of b) left chosen.block.live (fullest (per_block b.slots.size) (lives_of l)) (lives_of m) chosen.greatest lives ∙ ap (λ z. Ok (record { size = z; lives = lives_of m })) (sym c.take.ensures.size);
       fresh = ap size_of c.take.ensures.fresh;
-      live = live-put l m at (Some (chunk_of b.slots.size)) c.take.ensures.chunk;
+      live = live_put l m at (Some (chunk_of b.slots.size)) c.take.ensures.chunk;
       moves = Moves-full b.slots.size n.slots.size l m n.slots.stacks.entries c.args.space.now c.take.new.space c.take.ensures.size c.take.ensures.kept.slots c.take.ensures.moves;
       keeps = c.take.ensures.keeps;
     }
@@ -67,11 +69,11 @@ returns-in-Ok-clause-ok c =
       kept = c.take-in-Ok.ensures.kept;
       ledger = serve-none (ledger_of b) left (fullest (per_block size) (lives_of l)) (lives_of m) c.in_default.ensures.none c.in-Ok.ensures.fits lives ∙ ap (λ z. Ok (record { size = z; lives = lives_of m })) (sym sizes);
       fresh = ap size_of (sym (stay at) ∙ c.take-in-Ok.ensures.fresh);
-      live = λ other. live-put k m at (Some (chunk_of d.slots.size)) c.take-in-Ok.ensures.chunk other
+      live = λ other. live_put k m at (Some (chunk_of d.slots.size)) c.take-in-Ok.ensures.chunk other
           ∙ ap (λ z. if same_addr at other then Some z else size_of (chunk_at k other)) c.add.ensures.size
           ∙ ap (λ o. if same_addr at other then Some size else size_of o) (stay other);
       moves = Moves-full size n.slots.size l m n.slots.stacks.entries c.args.space.now c.take-in-Ok.new.space sizes c.take-in-Ok.ensures.kept.slots moves;
-      keeps = keeps-after (footprint_of l) (footprint_of k) (footprint_of m) c.args.space.now c.add.new.space c.take-in-Ok.new.space (λ other x live. ap size_of (stay other) ∙ live) c.in-Ok.ensures.keeps c.take-in-Ok.ensures.keeps;
+      keeps = Keeps-more (footprint_of l) (footprint_of k) (footprint_of m) c.args.space.now c.add.new.space c.take-in-Ok.new.space (λ other x live. ap size_of (stay other) ∙ live) c.in-Ok.ensures.keeps c.take-in-Ok.ensures.keeps;
     }
 
 pub returns-in-Err-clause-no_space : goal.returns-in-Err-clause-no_space

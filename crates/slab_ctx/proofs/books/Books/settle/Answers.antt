@@ -6,7 +6,7 @@ use Rattle.ctx_blocks.specs.Layout.{block_at}
 use Rattle.slab_ctx.specs.Ledger.{per_block, is_empty}
 use Rattle.slab_ctx.specs.State.{lives_of, place_in, others}
 use Rattle.slab_ctx.specs.declared.books.Books.{Books}
-use Rattle.slab_ctx.proofs.Puts.{one_value}
+use Rattle.addr_space.proofs.Options.{one_value}
 use Rattle.slab_ctx.proofs.KeptSteps.{free-least, kept-dropped}
 use Rattle.slab_ctx.proofs.Listed.{lives-dropped}
 use Rattle.slab_ctx.proofs.books.Books.settle.Goals as goal

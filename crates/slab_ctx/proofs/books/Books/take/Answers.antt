@@ -3,7 +3,7 @@ use Rattle.ctx_blocks.specs.declared.parts.Block.{Block}
 use Rattle.ctx_blocks.specs.Layout.{block_at}
 use Rattle.slab_ctx.specs.Ledger.{per_block}
 use Rattle.slab_ctx.specs.declared.books.Books.{Books}
-use Rattle.slab_ctx.proofs.Puts.{one_value}
+use Rattle.addr_space.proofs.Options.{one_value}
 use Rattle.slab_ctx.proofs.Freed.{is_empty-some}
 use Rattle.slab_ctx.proofs.KeptSteps.{empty-least, free-least, kept-changed, lives-counted}
 use Rattle.slab_ctx.proofs.books.Books.take.Goals as goal

@@ -1,6 +1,6 @@
 use Rattle.std.proofs.Common.{ap, sym, ◌∙◌, arith}
 use Rattle.std.specs.Map.{lookup}
-use Rattle.ctx_blocks.specs.Layout.{same_addr}
+use Rattle.addr_space.specs.Live.{same_addr}
 use Rattle.slab_ctx.proofs.Slotted.{IsSlotted-drop}
 use Rattle.slab_ctx.proofs.slots.Slots.give.Goals as goal
 

@@ -4,7 +4,7 @@ use Rattle.ctx_blocks.specs.declared.parts.Block.{Block}
 use Rattle.ctx_blocks.specs.Layout.{block_at}
 use Rattle.slab_ctx.specs.Slots.{stack_at}
 use Rattle.slab_ctx.proofs.Places.{chunks-few}
-use Rattle.slab_ctx.proofs.Puts.{one_value}
+use Rattle.addr_space.proofs.Options.{one_value}
 use Rattle.slab_ctx.proofs.Taken.{IsSlotted-removed}
 use Rattle.slab_ctx.proofs.slots.Slots.remove.Goals as goal
 

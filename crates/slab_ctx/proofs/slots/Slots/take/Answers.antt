@@ -1,7 +1,7 @@
 use Rattle.std.proofs.Common.{ap, arith}
 use Rattle.ctx_blocks.specs.declared.parts.Block.{Block}
 use Rattle.slab_ctx.proofs.Places.{room-left}
-use Rattle.slab_ctx.proofs.Puts.{one_value}
+use Rattle.addr_space.proofs.Options.{one_value}
 use Rattle.ctx_blocks.specs.Layout.{block_at}
 use Rattle.slab_ctx.proofs.slots.Slots.take.Goals as goal
 

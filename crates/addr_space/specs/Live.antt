@@ -1,9 +1,20 @@
--- What calls do to the live chunks and their bytes.
-use Rattle.std.specs.Prelude.{◌≡◌, ℕ, ◌+◌, ◌<◌, Option, Some, None, if◌then◌else◌}
+-- What calls do to the live chunks of a context, and to their bytes.
+use Rattle.std.specs.Prelude.{◌≡◌, ℕ, ◌+◌, ◌<◌, ◌==◌, ◌&&◌, Bool, Option, Some, None, if◌then◌else◌}
 use Rattle.addr_space.specs.declared.Addr.{Addr}
 use Rattle.addr_space.specs.Space.{Space, byte_at}
 use Rattle.addr_space.specs.Footprint.{Footprint}
-use Rattle.ctx_blocks.specs.Layout.{same_addr}
+
+-- whether two addresses are one
+abbrev pub same_addr : Addr → Addr → Bool
+same_addr a b = (a.region == b.region) && (a.offset == b.offset)
+
+-- the same chunks are live
+abbrev pub SameLive : Footprint → Footprint → Type 0
+SameLive f g = (at : Addr) → g.live at ≡ f.live at
+
+-- whatever was live is so, with its size
+abbrev pub StaysLive : Footprint → Footprint → Type 0
+StaysLive f g = (at : Addr) (size : ℕ) → f.live at ≡ Some size → g.live at ≡ Some size
 
 -- one address has a live chunk of this size or none, and every other one has what it had
 abbrev pub PutsLive : Footprint → Footprint → Addr → Option ℕ → Type 0

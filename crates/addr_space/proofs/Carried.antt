@@ -4,6 +4,7 @@ use Rattle.std.proofs.lemmas.List.{length-map, get_or-map, get_or-take, get_or-d
 use Rattle.addr_space.specs.declared.Addr.{Addr}
 use Rattle.addr_space.specs.Space.{Space, region_at, bytes_of, byte_at, part, overwritten, Changes, IsInside, IsKnown}
 use Rattle.addr_space.specs.Footprint.{Footprint, Agrees, Moves, KeepsBut, WritesInside, HasRegion}
+use Rattle.addr_space.specs.Live.{HasBytesOf}
 use Rattle.addr_space.proofs.Bytes.{known-part, length-part}
 use Rattle.addr_space.proofs.Written.{HasBytes-written}
 use Rattle.addr_space.proofs.Apart.{Moves-inside, KeepsBut-inside}
@@ -61,8 +62,8 @@ module _ (f : Footprint) (s t : Space) (from to : Addr) (n size : ℕ) (agrees :
   pub KeepsBut-carried : KeepsBut to f f s t
   KeepsBut-carried = KeepsBut-inside f s t to to size bytes agrees within
 
-  pub bytes-carried : (k : ℕ) → k < n → byte_at t to.region (to.offset + k) ≡ byte_at s from.region (from.offset + k)
-  bytes-carried k below =
+  pub HasBytesOf-carried : HasBytesOf s t from to n
+  HasBytesOf-carried k below =
       let it = agrees.sound.live_inside to size live in
       let target : HasRegion s to.region f.account it.0 = agrees.regions to.region it.0 it.1 in
       HasBytes-written s t to bytes target.0 target.1 (omega (arith, len, fits, it.2, target.3)) writes k (omega (arith, len, below)) ∙ sym (byte_is k below)

@@ -1,4 +1,4 @@
--- Lemmas on the sums over a map's values.
+-- Lemmas on the sums over the values of a map, for the contexts that keep their blocks and chunks in one.
 use Rattle.std.proofs.Common.{◌≡◌, ℕ, ◌+◌, List, [], ◌∷◌, Bool, true, false, if◌then◌else◌, Some, unwrap_or, option_map, sum_by, arith}
 use Rattle.std.proofs.lemmas.List.Sums.{sum_by-cons}
 use Rattle.std.specs.Map.{lookup, values_of}

@@ -1,0 +1,39 @@
+-- Lemmas on options and answers.
+use Rattle.std.proofs.Common.{◌≡◌, ◌⊎◌, Option, Some, None, Result, Ok, Err, IfOk, OnOk, OnErr, option_map, option_and_then, refl, sym, ◌∙◌, inl, inr}
+
+-- an option has a value or none
+pub option_cases : {X : Type 0} (o : Option X) → (o ≡ None) ⊎ ((x : X) × (o ≡ Some x))
+option_cases None = inl refl
+option_cases (Some x) = inr (x, refl)
+
+-- one option has one value
+pub one_value : {X : Type 0} (o : Option X) (x y : X) → o ≡ Some x → o ≡ Some y → x ≡ y
+one_value o x y a b = let e : Some x ≡ Some y = sym a ∙ b in cc
+
+-- it has none or some
+pub none_or_some : {X : Type 0} (o : Option X) (x : X) → o ≡ None → o ≡ Some x → ⊥
+none_or_some o x a b = let e : None ≡ Some x = sym a ∙ b in cc
+
+-- a value that comes of an option
+pub from_then : {X Y : Type 0} (f : X → Option Y) (o : Option X) (y : Y) → option_and_then f o ≡ Some y → (x : X) × (o ≡ Some x) × (f x ≡ Some y)
+from_then f None y e = absurd (cc)
+from_then f (Some x) y e = (x, refl, e)
+
+pub from_map : {X Y : Type 0} (f : X → Y) (o : Option X) (y : Y) → option_map f o ≡ Some y → (x : X) × (o ≡ Some x) × (f x ≡ y)
+from_map f None y e = absurd (cc)
+from_map f (Some x) y e = (x, refl, cc)
+
+-- what follows at each value that may be answered
+pub if_ok : {A E : Type 0} {P Q : A → Type 0} (r : Result A E) → ((a : A) → P a → Q a) → IfOk r P → IfOk r Q
+if_ok (Ok a) all holds = all a holds
+if_ok (Err e) all holds = holds
+
+-- what holds whatever was answered
+pub on_ok : {A E : Type 0} {P : A → Type 0} {Q : Type 0} (r : Result A E) → ((a : A) → P a → Q) → IfOk r P → OnOk r Q
+on_ok (Ok a) all holds = all a holds
+on_ok (Err e) all holds = holds
+
+-- what follows where the call was refused
+pub on_err : {A E : Type 0} {P Q : Type 0} (r : Result A E) → (P → Q) → OnErr r P → OnErr r Q
+on_err (Ok a) all holds = holds
+on_err (Err e) all holds = all holds

@@ -1,0 +1,76 @@
+-- Lemmas on layouts in which one block or one chunk is another one, or is there no more.
+use Rattle.std.proofs.Common.{◌≡◌, ◌≢◌, ℕ, if◌then◌else◌, List, Option, Some, None, true, false, option_map, refl, ap, ◌∙◌, arith, inl, inr, Bool}
+use Rattle.std.proofs.lemmas.Bool.{cases_eq}
+use Rattle.addr_space.specs.declared.Addr.{Addr}
+use Rattle.addr_space.specs.Live.{same_addr, SameLive, StaysLive, PutsLive}
+use Rattle.ctx_blocks.specs.Layout.{Layout, block_at, chunk_at, keeper_alone, footprint}
+use Rattle.ctx_blocks.specs.Kept.{HasSize}
+use Rattle.ctx_blocks.specs.Steps.{PutsBlock, DropsBlock, PutsChunk}
+use Rattle.ctx_blocks.specs.declared.parts.Block.{Block}
+use Rattle.ctx_blocks.specs.declared.parts.Chunk.{Chunk}
+use Rattle.ctx_blocks.proofs.Laid.{put_cases}
+
+module _ (l m : Layout) (number : ℕ) (block : Block) (puts : PutsBlock l m number block) where
+  -- the block that was put is there
+  pub put_here : block_at m number ≡ Some block
+  put_here = grind (arith, puts.at number)
+
+  -- and every other one stays
+  pub put_other : (other : ℕ) → number ≢ other → block_at m other ≡ block_at l other
+  put_other other ne = grind (arith, puts.at other, ne)
+
+  -- blocks keep their sizes, where the block that was put has that of the one before
+  pub size_put : ((old : Block) → block_at l number ≡ Some old → block.size ≡ old.size) → (k bytes : ℕ) → HasSize l k bytes → HasSize m k bytes
+  size_put same k bytes has = elim (cases_eq number k) [
+    | inl e ↦
+        let is : block_at l number ≡ Some has.block = rw e has.is in
+        record { block = block; is = rw (← e) put_here; size = same has.block is ∙ has.size }
+    | inr ne ↦ record { block = has.block; is = put_other k ne ∙ has.is; size = has.size }
+  ]
+
+module _ (l m : Layout) (number : ℕ) (drops : DropsBlock l m number) where
+  -- every block but the one that was given stays
+  pub drop_other : (other : ℕ) → number ≢ other → block_at m other ≡ block_at l other
+  drop_other other ne = grind (arith, drops.at other, ne)
+
+  pub size_drop : (k bytes : ℕ) → number ≢ k → HasSize l k bytes → HasSize m k bytes
+  size_drop k bytes ne has = record { block = has.block; is = drop_other k ne ∙ has.is; size = has.size }
+
+-- a chunk in another region stays
+pub chunk_apart : (l m : Layout) (at : Addr) (chunk : Option Chunk) → PutsChunk l m at chunk → (other : Addr) → other.region ≢ at.region → chunk_at m other ≡ chunk_at l other
+chunk_apart l m at chunk puts other differs =
+    elim (put_cases l m at chunk puts other) [
+      | inl here ↦ absurd (differs (ap (λ (x : Addr). x.region) here.0))
+      | inr there ↦ there.1
+    ]
+
+-- the size of a live chunk
+abbrev pub size_of : Option Chunk → Option ℕ
+size_of chunk = option_map (λ c. c.size) chunk
+
+choose : (b : Bool) (chunk other : Option Chunk) → size_of (if b then chunk else other) ≡ (if b then size_of chunk else size_of other)
+choose true chunk other = refl
+choose false chunk other = refl
+
+-- a live chunk is put or taken away
+pub live_put : (l m : Layout) (at : Addr) (chunk : Option Chunk) → PutsChunk l m at chunk → PutsLive (footprint l) (footprint m) at (size_of chunk)
+live_put l m at chunk puts other =
+    ap size_of (puts other) ∙ choose (same_addr at other) chunk (chunk_at l other)
+
+-- none was live where there was no chunk
+pub fresh_put : (l : Layout) (at : Addr) → chunk_at l at ≡ None → (footprint l).live at ≡ None
+fresh_put l at none = ap size_of none
+
+-- the live chunks stay while the chunks do
+pub same_live : (l m : Layout) → m.chunks ≡ l.chunks → SameLive (footprint l) (footprint m)
+same_live l m same at = rw same refl
+
+pub stays_live : (l m : Layout) → m.chunks ≡ l.chunks → StaysLive (footprint l) (footprint m)
+stays_live l m same at size live = same_live l m same at ∙ live
+
+pub puts_same : (l m n : Layout) (at : Addr) (chunk : Option Chunk) → m.chunks ≡ l.chunks → PutsChunk m n at chunk → PutsChunk l n at chunk
+puts_same l m n at chunk same puts = rw (← same) puts
+
+-- the keeper alone, by another name and another name of its size
+pub alone_as : (blocks : List (ℕ × Block)) (keeper other size bytes : ℕ) → blocks ≡ keeper_alone keeper size → other ≡ keeper → size ≡ bytes → blocks ≡ keeper_alone other bytes
+alone_as blocks keeper other size bytes only same now = rw (same, ← now) only
