@@ -6,7 +6,7 @@ use Rattle.addr_space.specs.Footprint.{Footprint}
 use Rattle.chunk_header.specs.declared.Header.{Header}
 use Rattle.chunk_header.specs.declared.Kind.TheVariants.{AllocSet as SetKind}
 use Rattle.chunk_header.specs.Header.{header_bytes, block_bytes}
-use Rattle.alloc_set.specs.Ledger.{SetLedger, created, class_size, shelved, without_own}
+use Rattle.alloc_set.specs.Ledger.{SetLedger, created, class_size, shelved, without_own, class_bytes}
 use Rattle.alloc_set.specs.declared.chunk.Chunk.{Chunk}
 use Rattle.alloc_set.specs.declared.chunk.Chunk.TheVariants.{Live, Free, Own}
 use Rattle.addr_space.specs.Live.{same_addr}
@@ -49,6 +49,15 @@ abbrev pub free_size : Chunk → Option ℕ
 free_size (Live class size) = None
 free_size (Free class next) = Some (class_size class)
 free_size (Own size room) = None
+
+-- what a live chunk takes in its block, with its header
+abbrev pub live_space : Chunk → Option ℕ
+live_space (Live class size) = Some (class_bytes class)
+live_space (Free class next) = None
+live_space (Own size room) = Some (room + 8)
+
+abbrev pub space_at : SetState → Addr → Option ℕ
+space_at s at = option_and_then live_space (chunk_at s at)
 
 -- the header of a chunk, so far from the header of its block
 abbrev pub header_of : Chunk → ℕ → Header

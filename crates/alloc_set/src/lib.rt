@@ -38,8 +38,8 @@ impl Model for AllocSet {
 impl AllocSet {
     ghost use Rattle.addr_space.specs.Space.{accounts, held, IsKnown};
     ghost use Rattle.addr_space.specs.Footprint.{nothing, Agrees, Moves, Keeps, KeepsBut};
-    ghost use Rattle.chunk_header.specs.Header.{AllHeaded};
-    ghost use Rattle.alloc_set.specs.State.{chunk_at, region_of, freed, footprint};
+    ghost use Rattle.chunk_header.specs.Header.{AllHeaded, TakesSpace};
+    ghost use Rattle.alloc_set.specs.State.{chunk_at, region_of, space_at, freed, footprint};
     ghost use Rattle.alloc_set.specs.Ledger.{created, take};
     ghost use Rattle.addr_space.specs.Live.{PutsLive, MovesLive, HasBytesOf};
     ghost use Rattle.alloc_set.specs.Resize.{resized, StaysFor};
@@ -82,9 +82,11 @@ impl AllocSet {
         self.books.stats()
     }
 
-    /// Each live chunk has a header that leads to its block, and so to the context. A caller cites the clause.
+    /// Each live chunk has a header that leads to its block, and so to the context, and says what the chunk takes. A
+    /// caller cites the clauses.
     pub fn headed(&self)
-        ensures { AllHeaded (footprint self.now) }
+        ensures headed { AllHeaded (footprint self.now) }
+        ensures spaces { (at : Addr) (space : ℕ) → space_at self.now at ≡ Some space → TakesSpace (footprint self.now) at space }
     {
         let _ = &self.books;
     }

@@ -1,4 +1,6 @@
 -- What contracts see of a context of any kind.
+use Rattle.std.specs.Prelude.{ℕ, ◌+◌, Option, None, option_map}
+use Rattle.addr_space.specs.declared.Addr.{Addr}
 use Rattle.addr_space.specs.Footprint.{Footprint}
 use Rattle.chunk_header.specs.declared.Stats.{Stats}
 use Rattle.alloc_set.specs.Ledger as set
@@ -25,6 +27,13 @@ stats (AllocSet s) = set.stats s.ledger
 stats (Slab s) = slab.stats s.ledger
 stats (Generation s) = generation.stats s.ledger
 stats (Bump s) = bump.stats s.ledger
+
+-- what a live chunk takes in its block, with its header; a Bump's chunks have none
+abbrev pub space_at : AnyCtx → Addr → Option ℕ
+space_at (AllocSet s) at = set_state.space_at s at
+space_at (Slab s) at = option_map (λ size. slab.stride s.ledger.size) ((slab_state.footprint s).live at)
+space_at (Generation s) at = option_map (λ chunk. chunk.room + 8) (generation_state.chunk_at s at)
+space_at (Bump s) at = None
 
 -- the context frees no chunk, and its chunks have no headers
 abbrev pub IsBump : AnyCtx → Type 0

@@ -1,5 +1,4 @@
 -- What contracts cite.
-pub mod Marked
 pub mod Kinds
 pub mod Contexts
 pub mod Calls

@@ -3,9 +3,9 @@ ghost use Rattle.std.specs.Prelude.{◌≡◌, ◌≢◌, ℕ, ◌+◌, ◌-◌,
 ghost use Rattle.addr_space.specs.declared.Addr.{Addr};
 ghost use Rattle.addr_space.specs.Space.{accounts, held, IsKnown};
 ghost use Rattle.addr_space.specs.Footprint.{nothing, Agrees, Moves, Keeps, KeepsBut};
-ghost use Rattle.chunk_header.specs.Header.{AllHeaded};
+ghost use Rattle.chunk_header.specs.Header.{AllHeaded, TakesSpace};
 ghost use Rattle.any_ctx.specs.Kinds.{first_size, IsSlabSize, IsCreated, IsSetOf};
-ghost use Rattle.any_ctx.specs.Contexts.{footprint, stats, IsBump};
+ghost use Rattle.any_ctx.specs.Contexts.{footprint, stats, space_at, IsBump};
 ghost use Rattle.addr_space.specs.Live.{PutsLive, MovesLive, HasBytesOf};
 ghost use Rattle.any_ctx.specs.Calls.{Takes, LacksSpace, IsWrongSize, Frees, Resizes, LacksRoom, IsUnsupported, IsReset};
 
@@ -224,11 +224,12 @@ impl AnyCtx {
         }
     }
 
-    /// Each live chunk of a context that isn't a Bump has a header that leads to its block, and so to the context. A
-    /// caller cites the clause.
+    /// Each live chunk of a context that isn't a Bump has a header that leads to its block, and so to the context, and
+    /// says what the chunk takes. A caller cites the clauses.
     pub fn headed(&self)
         requires { ¬ (IsBump self.now) }
-        ensures { AllHeaded (footprint self.now) }
+        ensures headed { AllHeaded (footprint self.now) }
+        ensures spaces { (at : Addr) (space : ℕ) → space_at self.now at ≡ Some space → TakesSpace (footprint self.now) at space }
     {
         match self {
             AnyCtx::AllocSet(set) => set.headed(),

@@ -1,8 +1,8 @@
 //! What the headers in a space tell of a chunk.
 ghost use Rattle.std.specs.Prelude.{◌≡◌, ℕ, ◌^◌, ◌<◌, List, length};
 ghost use Rattle.addr_space.specs.Space.{HasBytes};
-ghost use Rattle.chunk_header.specs.Header.{IsMarked, IsLeading, block_bytes};
-ghost use Rattle.any_ctx.specs.Marked.{space_of, shared_bytes};
+ghost use Rattle.addr_space.specs.Footprint.{Footprint, Agrees};
+ghost use Rattle.chunk_header.specs.Header.{IsMarked, IsLeading, block_bytes, space_of, shared_bytes, TakesSpace, IsHeaded};
 
 use addr_space::{Addr, Space};
 use chunk_header::{Header, Kind};
@@ -56,7 +56,10 @@ fn block_word(space: &Space, at: Addr, header: Header) -> [u8; 8]
 /// The chunk's address is marked: each live chunk's is, but those of a Bump context.
 pub fn owner_of(space: &Space, at: Addr) -> u32
     requires { (context : ℕ) × IsMarked space.now at context }
-    ensures { (context : ℕ) → context < 2 ^ 32 → IsMarked space.now at context → result ≡ context }
+    ensures marked { (context : ℕ) → context < 2 ^ 32 → IsMarked space.now at context → result ≡ context }
+
+    // A context in the space that has the chunk.
+    ensures live { (f : Footprint) → f.context < 2 ^ 32 → Agrees f space.now → IsHeaded f at → result ≡ f.context }
 {
     let word = block_word(space, at, header_at(space, at));
     u32::from_le_bytes([word[0], word[1], word[2], word[3]])
@@ -76,7 +79,10 @@ fn block_size(space: &Space, at: Addr, header: Header) -> u32
 /// The chunk's address is marked: each live chunk's is, but those of a Bump context.
 pub fn chunk_space(space: &Space, at: Addr) -> u64
     requires { (context : ℕ) × IsMarked space.now at context }
-    ensures { (context : ℕ) → (m : IsMarked space.now at context) → m.size < 2 ^ 32 → result ≡ space_of m.header m.size }
+    ensures marked { (context : ℕ) → (m : IsMarked space.now at context) → m.size < 2 ^ 32 → result ≡ space_of m.header m.size }
+
+    // What a context in the space says of its chunk.
+    ensures live { (f : Footprint) (n : ℕ) → Agrees f space.now → TakesSpace f at n → result ≡ n }
 {
     let header = header_at(space, at);
     if header.own {

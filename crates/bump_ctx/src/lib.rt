@@ -79,10 +79,10 @@ impl BumpCtx {
         self.books.stats()
     }
 
-    #[tactic(auto, using(ctx_blocks::proofs::Spared::agrees_bare, ctx_blocks::proofs::Spared::moves_bare))]
     /// Takes a chunk of `size` bytes, which may be 0, and answers its address. No byte of it is known.
     ///
     /// `TooBig`, `NoSpace` and `Memory` are tried in this order. A refused call changes nothing.
+    #[tactic(auto, using(ctx_blocks::proofs::Spared::agrees_bare, ctx_blocks::proofs::Spared::moves_bare))]
     pub fn alloc(&mut self, space: &mut Space, size: u64) -> Result<Addr, CtxError>
         requires { Agrees (footprint self.old) space.old }
 
@@ -116,9 +116,9 @@ impl BumpCtx {
         Err(CtxError::Unsupported)
     }
 
-    #[tactic(auto, unfolding(crate::specs::Ledger::refusal))]
     /// Refuses to give a live chunk another size: the answer is `TooBig` where `size` is over 1,073,741,823, else
     /// `Unsupported`, and nothing changes.
+    #[tactic(auto, unfolding(crate::specs::Ledger::refusal))]
     pub fn realloc(
         &mut self,
         space: &mut Space,
@@ -139,8 +139,8 @@ impl BumpCtx {
         Err(CtxError::Unsupported)
     }
 
-    #[tactic(auto, using(ctx_blocks::proofs::Spared::agrees_bare, ctx_blocks::proofs::Spared::moves_bare))]
     /// Frees all chunks and gives every block but the first back: the context is as it was created. It takes no memory.
+    #[tactic(auto, using(ctx_blocks::proofs::Spared::agrees_bare, ctx_blocks::proofs::Spared::moves_bare))]
     pub fn reset(&mut self, space: &mut Space)
         requires { Agrees (footprint self.old) space.old }
         ensures ledger { self.new.ledger ≡ created self.old.ledger.init self.old.ledger.max }

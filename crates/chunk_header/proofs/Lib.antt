@@ -2,3 +2,4 @@
 pub mod Words
 pub mod Doubling
 pub mod Sums
+pub mod Marks

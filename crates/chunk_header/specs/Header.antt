@@ -1,5 +1,5 @@
 -- The words that a context writes before its chunks and at the start of its blocks.
-use Rattle.std.specs.Prelude.{◌≡◌, ℕ, ◌+◌, ◌-◌, ◌*◌, ◌/◌, ◌%◌, ◌^◌, ◌<◌, ◌≤◌, ◌++◌, List, Bool, true, false, Some}
+use Rattle.std.specs.Prelude.{◌≡◌, ℕ, ◌+◌, ◌-◌, ◌*◌, ◌/◌, ◌%◌, ◌^◌, ◌<◌, ◌≤◌, ◌++◌, List, Bool, true, false, Some, if◌then◌else◌}
 use Rattle.std.specs.Int.{to_le_bytes, w32, w64}
 use Rattle.addr_space.specs.declared.Addr.{Addr}
 use Rattle.addr_space.specs.Space.{Space, HasBytes}
@@ -83,3 +83,22 @@ pub record IsHeaded (f : Footprint) (at : Addr) : Type 0 where
 -- each live chunk leads to its context
 abbrev pub AllHeaded : Footprint → Type 0
 AllHeaded f = (at : Addr) (size : ℕ) → f.live at ≡ Some size → IsHeaded f at
+
+-- the bytes of a chunk that shares its block: an AllocSet's header has the class, the others' the bytes
+abbrev pub shared_bytes : Kind → ℕ → ℕ
+shared_bytes AllocSet value = 8 * 2 ^ value
+shared_bytes Slab value = value
+shared_bytes Generation value = value
+shared_bytes Bump value = value
+shared_bytes Aligned value = value
+
+-- what a chunk takes in its block, with its header: one that has its block for itself takes all but the header
+-- of the block
+unfoldable pub space_of : Header → ℕ → ℕ
+space_of header size = if header.own then size - 40 else shared_bytes header.kind header.value + 8
+
+-- the context's marks say that a chunk takes so many bytes in its block, with its header
+pub record TakesSpace (f : Footprint) (at : Addr) (space : ℕ) : Type 0 where
+  pub headed : IsHeaded f at
+  pub small : headed.size < 2 ^ 32
+  pub is : space_of headed.header headed.size ≡ space

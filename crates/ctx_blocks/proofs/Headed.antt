@@ -1,17 +1,19 @@
 -- Lemmas on the headers by which live chunks lead to their context.
-use Rattle.std.proofs.Common.{◌≡◌, ℕ, ◌+◌, ◌-◌, ◌%◌, ◌^◌, ◌<◌, ◌⊎◌, if◌then◌else◌, Bool, true, false, refl, ap, ◌∙◌, arith, inl, inr}
+use Rattle.std.proofs.Common.{◌≡◌, ℕ, ◌+◌, ◌-◌, ◌%◌, ◌^◌, ◌<◌, ◌⊎◌, if◌then◌else◌, Bool, true, false, refl, ap, ◌∙◌, arith, inl, inr, Some}
 use Rattle.std.specs.Map.{lookup}
 use Rattle.std.proofs.lemmas.Bool.{cases_eq}
 use Rattle.std.proofs.lemmas.Bool.Decides.{nat_tests}
 use Rattle.addr_space.specs.declared.Addr.{Addr}
 use Rattle.chunk_header.specs.declared.Kind.{Kind}
 use Rattle.chunk_header.specs.declared.Kind.TheVariants.{AllocSet, Slab, Generation, Bump, Aligned}
-use Rattle.chunk_header.specs.Header.{IsPackable, IsLeading, AllHeaded}
+use Rattle.chunk_header.specs.Header.{IsPackable, IsLeading, IsHeaded, AllHeaded, space_of, TakesSpace}
 use Rattle.addr_space.specs.Live.{same_addr}
-use Rattle.ctx_blocks.specs.Layout.{Layout, start_of, gap_of, header_room, header_of, footprint}
+use Rattle.ctx_blocks.specs.Layout.{Layout, start_of, gap_of, header_room, header_of, footprint, chunk_at, block_at}
 use Rattle.ctx_blocks.specs.Kept.{IsLaid, IsSized}
 use Rattle.ctx_blocks.specs.declared.parts.Chunk.{Chunk}
 use Rattle.ctx_blocks.proofs.Laid.{from_live, mark_from_block, mark_from_chunk}
+use Rattle.ctx_blocks.specs.declared.parts.Block.{Block}
+use Rattle.addr_space.proofs.Options.{one_value}
 
 -- the value of a header has room in its word
 value_small : (own : Bool) (room : ℕ) → (own ≡ true) ⊎ (room < 2 ^ 30) → (if own then 0 else room) < 2 ^ 30
@@ -29,7 +31,7 @@ start_whole l number =
 pub packable : (kind : Kind) (gap dist : ℕ) (chunk : Chunk) → IsSized gap chunk → dist < 2 ^ 32 → dist % 8 ≡ 0 → IsPackable (header_of kind chunk dist)
 packable kind gap dist chunk sized below whole = record { value = value_small chunk.own chunk.room sized.value; dist = below; whole = whole }
 
-leading : (kind : Kind) (chunk : Chunk) (dist : ℕ) → (kind ≡ Slab) ⊎ (kind ≡ Generation) → (gap_of kind ≡ 8) × IsLeading (header_of kind chunk dist)
+pub leading : (kind : Kind) (chunk : Chunk) (dist : ℕ) → (kind ≡ Slab) ⊎ (kind ≡ Generation) → (gap_of kind ≡ 8) × IsLeading (header_of kind chunk dist)
 leading AllocSet chunk dist (inl clash) = absurd (cc)
 leading AllocSet chunk dist (inr clash) = absurd (cc)
 leading Slab chunk dist is = (refl, tt)
@@ -39,25 +41,59 @@ leading Bump chunk dist (inr clash) = absurd (cc)
 leading Aligned chunk dist (inl clash) = absurd (cc)
 leading Aligned chunk dist (inr clash) = absurd (cc)
 
+-- what a header says that its chunk takes
+space-shared : (kind : Kind) (chunk : Chunk) (dist size : ℕ) → (kind ≡ Slab) ⊎ (kind ≡ Generation) → chunk.own ≡ false → space_of (header_of kind chunk dist) size ≡ chunk.room + 8
+unfolding space_of
+space-shared kind chunk dist size (inl slab) shared = rw (slab, shared) refl
+space-shared kind chunk dist size (inr generation) shared = rw (generation, shared) refl
+
+space-own : (kind : Kind) (chunk : Chunk) (dist size : ℕ) → chunk.own ≡ true → space_of (header_of kind chunk dist) size ≡ size - 40
+unfolding space_of
+space-own kind chunk dist size own = rw own refl
+
+module _ (l : Layout) (laid : IsLaid l) (is : (l.kind ≡ Slab) ⊎ (l.kind ≡ Generation)) (at : Addr) (chunk : Chunk) (there : chunk_at l at ≡ Some chunk) where
+  -- a chunk's header leads to its block
+  abbrev pub headed_by : IsHeaded (footprint l) at
+  headed_by =
+      let placed = laid.placed at chunk there in
+      let start = start_of l at.region in
+      let dist : ℕ = at.offset - 8 - start in
+      let filled = laid.filled at.region placed.block placed.owned in
+      let leads = leading l.kind chunk dist is in
+      let place : Addr = record { region = at.region; offset = at.offset - 8 } in
+      let back : at.offset - 8 + 8 ≡ at.offset = omega (arith, placed.first, leads.0) in
+      let found = ap (λ o. lookup (same_addr (record { region = at.region; offset = o })) l.chunks) back ∙ there in
+      record {
+        header = header_of l.kind chunk dist;
+        size = placed.block.size;
+        packable = packable l.kind (header_room l) dist chunk placed.sized (omega (arith, placed.last, filled.small)) (omega (arith, placed.first, leads.0, placed.whole, start_whole l at.region));
+        leading = leads.1;
+        behind = omega (arith, placed.first, leads.0);
+        large = omega (arith, placed.first, leads.0, placed.last);
+        word = mark_from_chunk l place chunk (λ e. omega (arith, e, placed.first, leads.0)) found leads.0;
+        block = mark_from_block l (record { region = at.region; offset = at.offset - 8 - dist }) placed.block (omega (arith, placed.first, leads.0)) placed.owned (omega (arith, placed.first, placed.last));
+      }
+
+  small_block : (laid.placed at chunk there).block.size < 2 ^ 32
+  small_block = let placed = laid.placed at chunk there in omega (arith, (laid.filled at.region placed.block placed.owned).small)
+
+  -- and says what it takes
+  pub takes-shared : chunk.own ≡ false → TakesSpace (footprint l) at (chunk.room + 8)
+  takes-shared shared = record {
+    headed = headed_by;
+    small = small_block;
+    is = space-shared l.kind chunk (at.offset - 8 - start_of l at.region) (laid.placed at chunk there).block.size is shared;
+  }
+
+  pub takes-own : (block : Block) → chunk.own ≡ true → block_at l at.region ≡ Some block → TakesSpace (footprint l) at (block.size - 40)
+  takes-own block own found =
+      let placed = laid.placed at chunk there in
+      let it : placed.block ≡ block = one_value (block_at l at.region) placed.block block placed.owned found in
+      record {
+        headed = headed_by;
+        small = small_block;
+        is = space-own l.kind chunk (at.offset - 8 - start_of l at.region) placed.block.size own ∙ ap (λ (b : Block). b.size - 40) it;
+      }
+
 pub AllHeaded-laid : (l : Layout) → IsLaid l → (l.kind ≡ Slab) ⊎ (l.kind ≡ Generation) → AllHeaded (footprint l)
-AllHeaded-laid l laid is at n live =
-    let had = from_live l at n live in
-    let chunk = had.0 in
-    let placed = laid.placed at chunk had.1 in
-    let start = start_of l at.region in
-    let dist : ℕ = at.offset - 8 - start in
-    let filled = laid.filled at.region placed.block placed.owned in
-    let leads = leading l.kind chunk dist is in
-    let place : Addr = record { region = at.region; offset = at.offset - 8 } in
-    let back : at.offset - 8 + 8 ≡ at.offset = omega (arith, placed.first, leads.0) in
-    let found = ap (λ o. lookup (same_addr (record { region = at.region; offset = o })) l.chunks) back ∙ had.1 in
-    record {
-      header = header_of l.kind chunk dist;
-      size = placed.block.size;
-      packable = packable l.kind (header_room l) dist chunk placed.sized (omega (arith, placed.last, filled.small)) (omega (arith, placed.first, leads.0, placed.whole, start_whole l at.region));
-      leading = leads.1;
-      behind = omega (arith, placed.first, leads.0);
-      large = omega (arith, placed.first, leads.0, placed.last);
-      word = mark_from_chunk l place chunk (λ e. omega (arith, e, placed.first, leads.0)) found leads.0;
-      block = mark_from_block l (record { region = at.region; offset = at.offset - 8 - dist }) placed.block (omega (arith, placed.first, leads.0)) placed.owned (omega (arith, placed.first, placed.last));
-    }
+AllHeaded-laid l laid is at n live = let had = from_live l at n live in headed_by l laid is at had.0 had.1

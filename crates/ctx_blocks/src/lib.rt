@@ -44,7 +44,7 @@ impl Blocks {
     ghost use Rattle.addr_space.specs.Footprint.{nothing, Agrees, Moves, Keeps, KeepsBut};
     ghost use Rattle.addr_space.specs.Live.{HasBytesOf};
     ghost use Rattle.chunk_header.specs.declared.Kind.TheVariants.{Slab, Generation};
-    ghost use Rattle.chunk_header.specs.Header.{AllHeaded};
+    ghost use Rattle.chunk_header.specs.Header.{AllHeaded, TakesSpace};
     ghost use Rattle.ctx_blocks.specs.declared.parts.Block.{Block};
     ghost use Rattle.ctx_blocks.specs.declared.parts.Chunk.{Chunk};
     ghost use Rattle.ctx_blocks.specs.Layout.{block_at, chunk_at, total, rooms, all_freed, start_of, header_room, whole_block, whole_of, keeper_alone, footprint};
@@ -325,7 +325,11 @@ impl Blocks {
     /// caller cites the clause.
     pub fn headed(&self)
         requires { (self.now.kind ≡ Slab) ⊎ (self.now.kind ≡ Generation) }
-        ensures { AllHeaded (footprint self.now) }
+        ensures headed { AllHeaded (footprint self.now) }
+
+        // What a chunk takes: one with its block for itself takes all of that but its header.
+        ensures shared { (at : Addr) (chunk : Chunk) → chunk_at self.now at ≡ Some chunk → chunk.own ≡ false → TakesSpace (footprint self.now) at (chunk.room + 8) }
+        ensures own { (at : Addr) (chunk : Chunk) (block : Block) → chunk_at self.now at ≡ Some chunk → chunk.own ≡ true → block_at self.now at.region ≡ Some block → TakesSpace (footprint self.now) at (block.size - 40) }
     {
         let _ = &self.books;
     }

@@ -1,3 +1,10 @@
+ghost use Rattle.std.specs.Prelude.{◌≡◌, ◌<◌, Some, false, IfOk};
+ghost use Rattle.addr_space.specs.declared.Addr.{Addr};
+ghost use Rattle.addr_space.specs.Space.{IsInside, IsKnown, accounts};
+ghost use Rattle.addr_space.specs.Footprint.{Agrees};
+ghost use Rattle.chunk_header.specs.declared.Kind.TheVariants.{Generation};
+ghost use Rattle.ctx_blocks.specs.Layout.{block_at, chunk_at, footprint};
+
 use super::*;
 use std::test::Fail;
 
@@ -102,5 +109,49 @@ fn a_chunk_is_placed(rt: HostRuntime) -> Result<(), Fail> {
         freed: 0,
     };
     assert_eq!(rt; blocks.block(number), Some(block));
+    Ok(())
+}
+
+// A new context with a live chunk of these bytes.
+fn written(alloc: Global, space: &mut Space, bytes: &[u8; 5]) -> Result<(Blocks, Addr), CtxError>
+    requires { 0 < accounts space.old }
+    ensures kind { IfOk result (λ made. made.0.kind ≡ Generation) }
+    ensures agrees { IfOk result (λ made. Agrees (footprint made.0) space.new) }
+    ensures block { IfOk result (λ made. block_at made.0 made.1.region ≡ Some (record { size = 1024; room = 768; live = 1; freed = 0 })) }
+    ensures chunk { IfOk result (λ made. chunk_at made.0 made.1 ≡ Some (record { size = 5; room = 8; own = false })) }
+    ensures known { IfOk result (λ made. IsKnown space.new made.1 5) }
+{
+    let mut blocks = Blocks::create(alloc, space, Kind::Generation, 0, 7, 1024)?;
+    blocks.make_room()?;
+    let number = blocks.keeper();
+    let at = blocks.cut(space, number, 5, 8, false);
+    space.write(at, bytes);
+    Ok((blocks, at))
+}
+
+// Cuts a second chunk off the block of a chunk of five bytes, and carries them to it.
+fn carried(space: &mut Space, blocks: &mut Blocks, from: Addr) -> Result<Addr, CtxError>
+    requires kind { blocks.old.kind ≡ Generation }
+    requires agrees { Agrees (footprint blocks.old) space.old }
+    requires block { block_at blocks.old from.region ≡ Some (record { size = 1024; room = 768; live = 1; freed = 0 }) }
+    requires chunk { chunk_at blocks.old from ≡ Some (record { size = 5; room = 8; own = false }) }
+    requires known { IsKnown space.old from 5 }
+    ensures inside { IfOk result (λ to. IsInside space.new to 5) }
+    ensures known { IfOk result (λ to. IsKnown space.new to 5) }
+{
+    blocks.make_room()?;
+    let to = blocks.cut(space, from.region, 16, 16, false);
+    blocks.carry(space, from, to, 5);
+    Ok(to)
+}
+
+#[test]
+fn bytes_are_carried(rt: HostRuntime) -> Result<(), Fail> {
+    let mut space = Space::new(rt.alloc(), 1, 100_000)?;
+    let (mut blocks, from) = written(rt.alloc(), &mut space, b"abcde")?;
+    let to = carried(&mut space, &mut blocks, from)?;
+    let mut read = [0; 5];
+    space.read(to, &mut read);
+    assert_eq!(rt; read, *b"abcde");
     Ok(())
 }

@@ -26,7 +26,6 @@ module _ (b : Books) (m : Layout) (at : Addr) (old : Block) (kept : IsKept b) (o
       let was : chunk_at b.blocks other ≡ Some chunk = none_was (same_addr at other) (chunk_at b.blocks other) chunk (sym (gone other) ∙ there) in
       let a = kept.alone other chunk was own in
       record {
-        chunk = chunk;
         is = was;
         own = own;
         other = λ e.

@@ -16,14 +16,13 @@ use Rattle.ctx_blocks.proofs.Changed.{put_other, size_put, drop_other, size_drop
 use Rattle.generation_ctx.proofs.Kepts.{spare_put, spare_drop, not_spare}
 
 -- what a chunk with a block for itself was
-pub record Was (l : Layout) (number : ℕ) (at : Addr) : Type 0 where
-  pub chunk : Chunk
+pub record Was (l : Layout) (number : ℕ) (at : Addr) (chunk : Chunk) : Type 0 where
   pub is : chunk_at l at ≡ Some chunk
   pub own : chunk.own ≡ true
   pub other : at.region ≢ number
 
 abbrev pub AllWere : Layout → Layout → ℕ → Type 0
-AllWere l m number = (at : Addr) (chunk : Chunk) → chunk_at m at ≡ Some chunk → chunk.own ≡ true → Was l number at
+AllWere l m number = (at : Addr) (chunk : Chunk) → chunk_at m at ≡ Some chunk → chunk.own ≡ true → Was l number at chunk
 
 -- a block is put
 pub kept_put : (b : Books) (m : Layout) (number : ℕ) (block : Block) → IsKept b → SameContext b.blocks m → PutsBlock b.blocks m number block → ((old : Block) → block_at b.blocks number ≡ Some old → block.size ≡ old.size) → is_spare b.spare number ≡ false → AllWere b.blocks m number → IsKept (record b { blocks = m })
@@ -36,8 +35,8 @@ kept_put b m number block kept same puts sizes free were = record {
   spare = spare_put b.blocks m number block puts b.current b.spare same.keeper free kept.spare;
   alone = λ at chunk is own.
       (let w = were at chunk is own in
-      let a = kept.alone at w.chunk w.is w.own in
-      record { block = a.block; is = put_other b.blocks m number block puts at.region (λ e. w.other (sym e)) ∙ a.is; live = a.live; room = a.room; not_keeper = λ e. a.not_keeper (e ∙ same.keeper); not_current = a.not_current });
+      let a = kept.alone at chunk w.is w.own in
+      record { block = a.block; is = put_other b.blocks m number block puts at.region (λ e. w.other (sym e)) ∙ a.is; live = a.live; room = a.room; whole = a.whole; not_keeper = λ e. a.not_keeper (e ∙ same.keeper); not_current = a.not_current });
 }
 
 -- a block is given back
@@ -51,15 +50,15 @@ kept_drop b m number kept same drops not_keeper not_current free were = record {
   spare = spare_drop b.blocks m number drops b.current b.spare same.keeper free kept.spare;
   alone = λ at chunk is own.
       (let w = were at chunk is own in
-      let a = kept.alone at w.chunk w.is w.own in
-      record { block = a.block; is = drop_other b.blocks m number drops at.region (λ e. w.other (sym e)) ∙ a.is; live = a.live; room = a.room; not_keeper = λ e. a.not_keeper (e ∙ same.keeper); not_current = a.not_current });
+      let a = kept.alone at chunk w.is w.own in
+      record { block = a.block; is = drop_other b.blocks m number drops at.region (λ e. w.other (sym e)) ∙ a.is; live = a.live; room = a.room; whole = a.whole; not_keeper = λ e. a.not_keeper (e ∙ same.keeper); not_current = a.not_current });
 }
 
 -- the chunks stay, and none has this block for itself
-pub were_still : (l m : Layout) (current number : ℕ) → m.chunks ≡ l.chunks → ((at : Addr) (chunk : Chunk) → chunk_at l at ≡ Some chunk → chunk.own ≡ true → IsAlone l current at) → ((at : Addr) → IsAlone l current at → at.region ≢ number) → AllWere l m number
+pub were_still : (l m : Layout) (current number : ℕ) → m.chunks ≡ l.chunks → ((at : Addr) (chunk : Chunk) → chunk_at l at ≡ Some chunk → chunk.own ≡ true → IsAlone l current at chunk) → ((at : Addr) (chunk : Chunk) → IsAlone l current at chunk → at.region ≢ number) → AllWere l m number
 were_still l m current number same alone apart at chunk is own =
     let was : chunk_at l at ≡ Some chunk = rw (← same) is in
-    record { chunk = chunk; is = was; own = own; other = apart at (alone at chunk was own) }
+    record { is = was; own = own; other = apart at chunk (alone at chunk was own) }
 
 -- one chunk of a shared block is put
 put_was : (t : Bool) (new : Chunk) (old : Option Chunk) (chunk : Chunk) → new.own ≡ false → (if t then Some new else old) ≡ Some chunk → chunk.own ≡ true → old ≡ Some chunk
@@ -69,7 +68,7 @@ put_was false new old chunk shared is own = is
 pub were_put : (l m : Layout) (number : ℕ) (to : Addr) (new : Chunk) → PutsChunk l m to (Some new) → new.own ≡ false → ((at : Addr) (chunk : Chunk) → chunk_at l at ≡ Some chunk → chunk.own ≡ true → at.region ≢ number) → AllWere l m number
 were_put l m number to new puts shared apart at chunk is own =
     let was : chunk_at l at ≡ Some chunk = put_was (same_addr to at) new (chunk_at l at) chunk shared (sym (puts at) ∙ is) own in
-    record { chunk = chunk; is = was; own = own; other = apart at chunk was own }
+    record { is = was; own = own; other = apart at chunk was own }
 
 -- the next block has another size
 pub kept_next : (b : Books) (next : ℕ) → IsKept b → AreSizes b.sizes.init b.sizes.max next → IsKept (record b { next = next })
@@ -80,7 +79,7 @@ kept_spare b number kept idle = record { kind = kept.kind; sizes = kept.sizes; k
 
 -- room was made
 pub kept_made : (b : Books) (i j : ℕ) → IsKept b → IsKept (record b { blocks = record b.blocks { spare_blocks = i; spare_chunks = j } })
-kept_made b i j kept = record { kind = kept.kind; sizes = kept.sizes; keeper = record { block = kept.keeper.block; is = kept.keeper.is; size = kept.keeper.size }; bytes = kept.bytes; current = record { block = kept.current.block; is = kept.current.is; size = kept.current.size }; spare = spare_made b.spare kept.spare; alone = λ at chunk is own. (let a = kept.alone at chunk is own in record { block = a.block; is = a.is; live = a.live; room = a.room; not_keeper = a.not_keeper; not_current = a.not_current }) }
+kept_made b i j kept = record { kind = kept.kind; sizes = kept.sizes; keeper = record { block = kept.keeper.block; is = kept.keeper.is; size = kept.keeper.size }; bytes = kept.bytes; current = record { block = kept.current.block; is = kept.current.is; size = kept.current.size }; spare = spare_made b.spare kept.spare; alone = λ at chunk is own. (let a = kept.alone at chunk is own in record { block = a.block; is = a.is; live = a.live; room = a.room; whole = a.whole; not_keeper = a.not_keeper; not_current = a.not_current }) }
   where
     spare_made : (spare : Option ℕ) → IsSpare b.blocks b.current spare → IsSpare (record b.blocks { spare_blocks = i; spare_chunks = j }) b.current spare
     spare_made None idle = idle
@@ -103,5 +102,5 @@ kept_seated b number block kept is some = record {
   bytes = block.size;
   current = record { block = block; is = is; size = refl };
   spare = seated_spare b.blocks b.current number b.spare kept.spare;
-  alone = λ at chunk here own. (let a = kept.alone at chunk here own in record { block = a.block; is = a.is; live = a.live; room = a.room; not_keeper = a.not_keeper; not_current = apart_room b.blocks b.current at a number block is some });
+  alone = λ at chunk here own. (let a = kept.alone at chunk here own in record { block = a.block; is = a.is; live = a.live; room = a.room; whole = a.whole; not_keeper = a.not_keeper; not_current = apart_room b.blocks b.current at chunk a number block is some });
 }

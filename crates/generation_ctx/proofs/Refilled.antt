@@ -18,7 +18,7 @@ module _ (b : Books) (m : Layout) (number : ℕ) (old : Block) (is : block_at b.
   pub kept_refill : IsKept b → old.live ≡ 0 → is_spare b.spare number ≡ false → m.chunks ≡ b.blocks.chunks → IsKept (record b { blocks = m })
   kept_refill kept none free chunks =
       let sizes : (other : Block) → block_at b.blocks number ≡ Some other → old.size ≡ other.size = λ other there. (let equal : Some old ≡ Some other = sym is ∙ there in cc) in
-      kept_put b m number (refilled b.blocks number old.size) kept same puts sizes free (were_still b.blocks m b.current number chunks kept.alone (λ at a. apart_live b.blocks b.current at a number old is none))
+      kept_put b m number (refilled b.blocks number old.size) kept same puts sizes free (were_still b.blocks m b.current number chunks kept.alone (λ at x a. apart_live b.blocks b.current at x a number old is none))
 
   pub ledger_refill : ledger_of (record b { blocks = m }) ≡ put (ledger_of b) number (filled (ledger_of b) number)
   ledger_refill =

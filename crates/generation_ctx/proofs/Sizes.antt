@@ -1,5 +1,5 @@
 -- A chunk gets another size where it is.
-use Rattle.std.proofs.Common.{◌≡◌, ℕ, Bool, true, false, Option, Some, None, if◌then◌else◌, refl, ◌∙◌, sym, ap, subst}
+use Rattle.std.proofs.Common.{◌≡◌, ℕ, Bool, true, false, Option, Some, None, if◌then◌else◌, refl, ◌∙◌, sym, ap, subst, ◌+◌}
 use Rattle.addr_space.specs.declared.Addr.{Addr}
 use Rattle.addr_space.specs.Live.{same_addr}
 use Rattle.ctx_blocks.specs.Layout.{Layout, block_at, chunk_at}
@@ -10,7 +10,7 @@ use Rattle.generation_ctx.specs.Kept.{IsSpare, IsAlone, IsKept}
 use Rattle.generation_ctx.specs.declared.books.Books.{Books}
 use Rattle.generation_ctx.proofs.Addrs.{same_region}
 
-module _ (b : Books) (m : Layout) (at : Addr) (old new : Chunk) (kept : IsKept b) (same : SameContext b.blocks m) (blocks : m.blocks ≡ b.blocks.blocks) (there : chunk_at b.blocks at ≡ Some old) (puts : PutsChunk b.blocks m at (Some new)) (own : new.own ≡ old.own) where
+module _ (b : Books) (m : Layout) (at : Addr) (old new : Chunk) (kept : IsKept b) (same : SameContext b.blocks m) (blocks : m.blocks ≡ b.blocks.blocks) (there : chunk_at b.blocks at ≡ Some old) (puts : PutsChunk b.blocks m at (Some new)) (own : new.own ≡ old.own) (room : new.room ≡ old.room) where
   block_same : (number : ℕ) → block_at m number ≡ block_at b.blocks number
   block_same number = rw blocks refl
 
@@ -21,14 +21,15 @@ module _ (b : Books) (m : Layout) (at : Addr) (old new : Chunk) (kept : IsKept b
   spare_same None idle = idle
   spare_same (Some number) idle = record { block = idle.block; is = block_same number ∙ idle.is; live = idle.live; not_keeper = λ e. idle.not_keeper (e ∙ same.keeper); not_current = idle.not_current }
 
-  alone_as : (owner other : Addr) → owner.region ≡ other.region → IsAlone b.blocks b.current owner → IsAlone m b.current other
-  alone_as owner other it a = record { block = a.block; is = block_same other.region ∙ ap (block_at b.blocks) (sym it) ∙ a.is; live = a.live; room = a.room; not_keeper = λ e. a.not_keeper (it ∙ e ∙ same.keeper); not_current = λ e. a.not_current (it ∙ e) }
+  alone_as : (owner other : Addr) (was now : Chunk) → owner.region ≡ other.region → was.room ≡ now.room → IsAlone b.blocks b.current owner was → IsAlone m b.current other now
+  alone_as owner other was now it rooms a = record { block = a.block; is = block_same other.region ∙ ap (block_at b.blocks) (sym it) ∙ a.is; live = a.live; room = a.room; whole = a.whole ∙ ap (λ n. n + 48) rooms; not_keeper = λ e. a.not_keeper (it ∙ e ∙ same.keeper); not_current = λ e. a.not_current (it ∙ e) }
 
-  alone_by : (other : Addr) (x : Chunk) (t : Bool) → same_addr at other ≡ t → (if t then Some new else chunk_at b.blocks other) ≡ Some x → x.own ≡ true → IsAlone m b.current other
+  alone_by : (other : Addr) (x : Chunk) (t : Bool) → same_addr at other ≡ t → (if t then Some new else chunk_at b.blocks other) ≡ Some x → x.own ≡ true → IsAlone m b.current other x
   alone_by other x true is here mine =
       let old_own : old.own ≡ true = cc in
-      alone_as at other (same_region at other is) (kept.alone at old there old_own)
-  alone_by other x false is here mine = alone_as other other refl (kept.alone other x here mine)
+      let rooms : old.room ≡ x.room = cc in
+      alone_as at other old x (same_region at other is) rooms (kept.alone at old there old_own)
+  alone_by other x false is here mine = alone_as other other x x refl refl (kept.alone other x here mine)
 
   pub kept_sized : IsKept (record b { blocks = m })
   kept_sized = record {

@@ -1,5 +1,5 @@
 -- What holds of the insides of a Generation context.
-use Rattle.std.specs.Prelude.{◌≡◌, ◌≢◌, ℕ, true, Option, Some, None}
+use Rattle.std.specs.Prelude.{◌≡◌, ◌≢◌, ℕ, true, Option, Some, None, ◌+◌}
 use Rattle.addr_space.specs.declared.Addr.{Addr}
 use Rattle.chunk_header.specs.declared.Kind.TheVariants.{Generation}
 use Rattle.ctx_blocks.specs.Layout.{Layout, block_at, chunk_at, bare}
@@ -39,18 +39,20 @@ abbrev pub IsSpare : Layout → ℕ → Option ℕ → Type 0
 IsSpare l current None = Unit {0}
 IsSpare l current (Some number) = IsIdle l current number
 
--- the block of a chunk has no room and no other chunk, and is neither the keeper nor the current one
-pub record IsAlone (l : Layout) (current : ℕ) (at : Addr) : Type 0 where
+-- the block of a chunk has no room and no other chunk, begins and ends with it, and is neither the keeper nor the
+-- current one
+pub record IsAlone (l : Layout) (current : ℕ) (at : Addr) (chunk : Chunk) : Type 0 where
   pub block : Block
   pub is : block_at l at.region ≡ Some block
   pub live : block.live ≡ 1
   pub room : block.room ≡ 0
+  pub whole : block.size ≡ chunk.room + 48
   pub not_keeper : at.region ≢ l.keeper
   pub not_current : at.region ≢ current
 
 -- each chunk that has a block for itself is alone in it
 abbrev pub AllAlone : Layout → ℕ → Type 0
-AllAlone l current = (at : Addr) (chunk : Chunk) → chunk_at l at ≡ Some chunk → chunk.own ≡ true → IsAlone l current at
+AllAlone l current = (at : Addr) (chunk : Chunk) → chunk_at l at ≡ Some chunk → chunk.own ≡ true → IsAlone l current at chunk
 
 -- all that the code keeps
 pub record IsKept (b : Books) : Type 0 where

@@ -3,7 +3,7 @@ ghost use Rattle.std.specs.Prelude.{◌≡◌, ◌≢◌, ℕ, ◌+◌, ◌-◌,
 ghost use Rattle.addr_space.specs.declared.Addr.{Addr};
 ghost use Rattle.addr_space.specs.Space.{accounts, held, IsKnown};
 ghost use Rattle.addr_space.specs.Footprint.{Agrees, Moves, Keeps, nothing};
-ghost use Rattle.chunk_header.specs.Header.{AllHeaded};
+ghost use Rattle.chunk_header.specs.Header.{AllHeaded, TakesSpace};
 ghost use Rattle.ctx_blocks.specs.Layout.{footprint, block_at, chunk_at};
 ghost use Rattle.ctx_blocks.specs.Steps.{PutsChunk};
 ghost use Rattle.ctx_blocks.specs.declared.parts.Block.{Block};
@@ -567,7 +567,8 @@ impl Books {
     // Each live chunk has a header that leads to the context.
     pub fn headed(&self)
         requires { IsKept self.now }
-        ensures { AllHeaded (footprint self.now.blocks) }
+        ensures headed { AllHeaded (footprint self.now.blocks) }
+        ensures spaces { (at : Addr) (chunk : Chunk) → chunk_at self.now.blocks at ≡ Some chunk → TakesSpace (footprint self.now.blocks) at (chunk.room + 8) }
     {
         self.blocks.headed();
     }

@@ -38,7 +38,8 @@ impl Model for GenerationCtx {
 impl GenerationCtx {
     ghost use Rattle.addr_space.specs.Space.{accounts, held, IsKnown};
     ghost use Rattle.addr_space.specs.Footprint.{nothing, Agrees, Moves, Keeps, KeepsBut};
-    ghost use Rattle.chunk_header.specs.Header.{AllHeaded};
+    ghost use Rattle.chunk_header.specs.Header.{AllHeaded, TakesSpace};
+    ghost use Rattle.ctx_blocks.specs.declared.parts.Chunk.{Chunk};
     ghost use Rattle.generation_ctx.specs.State.{chunk_at, footprint};
     ghost use Rattle.generation_ctx.specs.Ledger.{created, freed, resized};
     ghost use Rattle.addr_space.specs.Live.{PutsLive, MovesLive, HasBytesOf};
@@ -82,17 +83,19 @@ impl GenerationCtx {
         self.books.stats()
     }
 
-    /// Each live chunk has a header that leads to its block, and so to the context. A caller cites the clause.
+    /// Each live chunk has a header that leads to its block, and so to the context, and says what the chunk takes. A
+    /// caller cites the clauses.
     pub fn headed(&self)
-        ensures { AllHeaded (footprint self.now) }
+        ensures headed { AllHeaded (footprint self.now) }
+        ensures spaces { (at : Addr) (chunk : Chunk) → chunk_at self.now at ≡ Some chunk → TakesSpace (footprint self.now) at (chunk.room + 8) }
     {
         self.books.headed();
     }
 
-    #[tactic(auto, using(ctx_blocks::proofs::Spared::agrees_bare, ctx_blocks::proofs::Spared::moves_bare))]
     /// Takes a chunk of `size` bytes, which may be 0, and answers its address. No byte of it is known.
     ///
     /// `TooBig`, `NoSpace` and `Memory` are tried in this order. A refused call changes nothing.
+    #[tactic(auto, using(ctx_blocks::proofs::Spared::agrees_bare, ctx_blocks::proofs::Spared::moves_bare))]
     pub fn alloc(&mut self, space: &mut Space, size: u64) -> Result<Addr, CtxError>
         requires { Agrees (footprint self.old) space.old }
 
@@ -116,9 +119,9 @@ impl GenerationCtx {
         self.books.alloc(space, size)
     }
 
-    #[tactic(auto, using(ctx_blocks::proofs::Spared::agrees_bare, ctx_blocks::proofs::Spared::moves_bare))]
     /// Frees a live chunk. It never refuses, and takes no memory. A block that the chunk had for itself goes back to
     /// the space. Of a shared block whose last live chunk it is, the room is whole again, or the block goes back.
+    #[tactic(auto, using(ctx_blocks::proofs::Spared::agrees_bare, ctx_blocks::proofs::Spared::moves_bare))]
     pub fn free(&mut self, space: &mut Space, at: Addr) -> Result<(), CtxError>
         requires agrees { Agrees (footprint self.old) space.old }
         requires live { IsSome ((footprint self.old).live at) }
@@ -132,7 +135,6 @@ impl GenerationCtx {
         Ok(())
     }
 
-    #[tactic(auto, using(ctx_blocks::proofs::Spared::agrees_bare, ctx_blocks::proofs::Spared::moves_bare))]
     /// Gives a live chunk a size of `size` bytes, which may be 0, and answers where it is now. `keep` is how many of
     /// its first bytes are known.
     ///
@@ -141,6 +143,7 @@ impl GenerationCtx {
     ///
     /// `TooBig`, where `size` is over 1,073,741,823, comes before `NoSpace`, and `Memory` may come in place of any
     /// other but `TooBig`. A refused call changes nothing.
+    #[tactic(auto, using(ctx_blocks::proofs::Spared::agrees_bare, ctx_blocks::proofs::Spared::moves_bare))]
     pub fn realloc(
         &mut self,
         space: &mut Space,
@@ -173,9 +176,9 @@ impl GenerationCtx {
         self.books.realloc(space, at, keep, size)
     }
 
-    #[tactic(auto, using(ctx_blocks::proofs::Spared::agrees_bare, ctx_blocks::proofs::Spared::moves_bare))]
     /// Frees all chunks and gives every block but the first back: the context is as it was created. It takes no
     /// memory.
+    #[tactic(auto, using(ctx_blocks::proofs::Spared::agrees_bare, ctx_blocks::proofs::Spared::moves_bare))]
     pub fn reset(&mut self, space: &mut Space)
         requires { Agrees (footprint self.old) space.old }
         ensures ledger { self.new.ledger ≡ created self.old.ledger.init self.old.ledger.max self.old.ledger.keeper }

@@ -6,7 +6,7 @@ use Rattle.std.proofs.lemmas.Bool.Decides.{nat_tests}
 use Rattle.addr_space.specs.declared.Addr.{Addr}
 use Rattle.addr_space.specs.Space.{Space}
 use Rattle.addr_space.specs.Footprint.{Footprint, IsSound, Agrees, Moves, nothing, counted}
-use Rattle.chunk_header.specs.Header.{AllHeaded}
+use Rattle.chunk_header.specs.Header.{IsHeaded, AllHeaded, TakesSpace}
 use Rattle.ctx_blocks.specs.Layout.{Layout, block_at, chunk_at, mark_of, footprint as footprint_of, bare}
 use Rattle.ctx_blocks.specs.declared.parts.Block.{Block}
 use Rattle.ctx_blocks.specs.declared.parts.Chunk.{Chunk}
@@ -163,18 +163,22 @@ Moves-gone size account context l sp sq moves =
     subst (λ f. Moves f (nothing account context) sp sq) (sym (full-bare size l)) more
 
 -- live chunks have headers, free ones count for nothing there
+abbrev IsHeaded-full : (size : ℕ) (l : Layout) (at : Addr) → IsHeaded (footprint_of l) at → IsHeaded (full size l) at
+IsHeaded-full size l at it = record {
+  header = it.header;
+  size = it.size;
+  packable = it.packable;
+  leading = it.leading;
+  behind = it.behind;
+  large = it.large;
+  word = it.word;
+  block = it.block;
+}
+
 pub AllHeaded-full : (size : ℕ) (l : Layout) → AllHeaded (footprint_of l) → AllHeaded (full size (bare l))
-AllHeaded-full size l headed =
-    let more : AllHeaded (full size l) = λ at n live.
-    let it = headed at n live in
-    record {
-      header = it.header;
-      size = it.size;
-      packable = it.packable;
-      leading = it.leading;
-      behind = it.behind;
-      large = it.large;
-      word = it.word;
-      block = it.block;
-    } in
-    subst AllHeaded (sym (full-bare size l)) more
+AllHeaded-full size l headed = subst AllHeaded (sym (full-bare size l)) (λ at n live. IsHeaded-full size l at (headed at n live))
+
+pub TakesSpace-full : (size : ℕ) (l : Layout) (at : Addr) (space : ℕ) → TakesSpace (footprint_of l) at space → TakesSpace (full size (bare l)) at space
+TakesSpace-full size l at space takes =
+    let more : TakesSpace (full size l) at space = record { headed = IsHeaded-full size l at takes.headed; small = takes.small; is = takes.is } in
+    subst (λ f. TakesSpace f at space) (sym (full-bare size l)) more

@@ -3,11 +3,11 @@ ghost use Rattle.std.specs.Prelude.{◌≡◌, ◌≢◌, ℕ, ◌+◌, ◌-◌,
 ghost use Rattle.addr_space.specs.declared.Addr.{Addr};
 ghost use Rattle.addr_space.specs.Space.{Space, accounts, held};
 ghost use Rattle.addr_space.specs.Footprint.{Agrees, Moves, Keeps, nothing};
-ghost use Rattle.chunk_header.specs.Header.{AllHeaded};
+ghost use Rattle.chunk_header.specs.Header.{AllHeaded, TakesSpace};
 ghost use Rattle.ctx_blocks.specs.declared.parts.Block.{Block};
 ghost use Rattle.ctx_blocks.specs.Layout.{Layout, block_at, chunk_at, footprint as blocks_footprint};
 ghost use Rattle.ctx_blocks.specs.Steps.{PutsChunk, SameContext};
-ghost use Rattle.slab_ctx.specs.Ledger.{per_block, created, fullest, is_empty, serve, take, freed, resized, stats};
+ghost use Rattle.slab_ctx.specs.Ledger.{stride, per_block, created, fullest, is_empty, serve, take, freed, resized, stats};
 ghost use Rattle.slab_ctx.specs.State.{footprint, lives_of, others, place_in, place_of};
 ghost use Rattle.slab_ctx.specs.Slots.{chunk_of};
 ghost use Rattle.slab_ctx.specs.Steps.{IsSeen, IsNext};
@@ -109,7 +109,8 @@ impl Books {
     // Live chunks lead to the context.
     pub fn headed(&self)
         requires { IsKept self.now }
-        ensures { AllHeaded (footprint (state_of self.now)) }
+        ensures headed { AllHeaded (footprint (state_of self.now)) }
+        ensures spaces { (at : Addr) (size : ℕ) → (footprint (state_of self.now)).live at ≡ Some size → TakesSpace (footprint (state_of self.now)) at (stride self.now.slots.size) }
     {
         self.slots.blocks.headed();
     }

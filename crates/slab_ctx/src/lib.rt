@@ -3,7 +3,7 @@
 
 ghost use Rattle.std.specs.Prelude.{◌≡◌, ℕ, ◌+◌, ◌-◌, ◌<◌, ◌≤◌, ◌↔◌, ◌⊎◌, Ok, Err, None, Some, IsSome, IfOk, IfErr, IfSome, OnOk, OnErr};
 ghost use Rattle.addr_space.specs.declared.Addr.{Addr};
-ghost use Rattle.slab_ctx.specs.Ledger.{stats, take, resized};
+ghost use Rattle.slab_ctx.specs.Ledger.{stride, stats, take, resized};
 
 mod books;
 mod slots;
@@ -36,7 +36,7 @@ impl Model for SlabCtx {
 impl SlabCtx {
     ghost use Rattle.addr_space.specs.Space.{accounts, held, IsKnown};
     ghost use Rattle.addr_space.specs.Footprint.{nothing, Agrees, Moves, Keeps};
-    ghost use Rattle.chunk_header.specs.Header.{AllHeaded};
+    ghost use Rattle.chunk_header.specs.Header.{AllHeaded, TakesSpace};
     ghost use Rattle.slab_ctx.specs.State.{footprint, place_of};
     ghost use Rattle.slab_ctx.specs.Ledger.{created, freed};
     ghost use Rattle.addr_space.specs.Live.{PutsLive};
@@ -77,9 +77,11 @@ impl SlabCtx {
         self.books.stats()
     }
 
-    /// Each live chunk has a header that leads to its block, and so to the context. A caller cites the clause.
+    /// Each live chunk has a header that leads to its block, and so to the context, and says what the chunk takes. A
+    /// caller cites the clauses.
     pub fn headed(&self)
-        ensures { AllHeaded (footprint self.now) }
+        ensures headed { AllHeaded (footprint self.now) }
+        ensures spaces { (at : Addr) (size : ℕ) → (footprint self.now).live at ≡ Some size → TakesSpace (footprint self.now) at (stride self.now.ledger.size) }
     {
         self.books.headed();
     }

@@ -1,6 +1,9 @@
 use Rattle.alloc_set.specs.Kept.{state_of}
-use Rattle.alloc_set.proofs.Leads.{AllHeaded-settled}
+use Rattle.alloc_set.proofs.Leads.{AllHeaded-settled, takes-settled}
 use Rattle.alloc_set.proofs.AllocSet.headed.Goals as goal
 
-pub returns : goal.returns
-returns c = rw (← c.self.view_is) (AllHeaded-settled (state_of c.self.inside.books) c.self.inside.books.active.region c.self.inside.books.active.size c.self.invariant.settled)
+pub returns-clause-headed : goal.returns-clause-headed
+returns-clause-headed c = rw (← c.self.view_is) (AllHeaded-settled (state_of c.self.inside.books) c.self.inside.books.active.region c.self.inside.books.active.size c.self.invariant.settled)
+
+pub returns-clause-spaces : goal.returns-clause-spaces
+returns-clause-spaces c = rw (← c.self.view_is) (takes-settled (state_of c.self.inside.books) c.self.inside.books.active.region c.self.inside.books.active.size c.self.invariant.settled)

@@ -1,10 +1,9 @@
-use Rattle.std.proofs.Common.{◌≡◌, ℕ, ◌≤◌, Option, Some, None, if◌then◌else◌, refl, ap, ◌∙◌, arith, inl, inr}
+use Rattle.std.proofs.Common.{◌≡◌, ℕ, Option, Some, None, if◌then◌else◌, refl, ap, ◌∙◌, arith, inl, inr}
 use Rattle.addr_space.specs.declared.Addr.{Addr}
-use Rattle.addr_space.specs.Space.{Space, IsInside}
-use Rattle.addr_space.specs.Footprint.{Footprint, Agrees}
 use Rattle.addr_space.specs.Live.{same_addr}
 use Rattle.alloc_set.specs.State.{footprint}
 use Rattle.addr_space.proofs.Addresses.{same_addr-cases}
+use Rattle.addr_space.proofs.Carried.{IsInside-live}
 use Rattle.alloc_set.proofs.tests.a_moved_chunk_keeps_its_bytes.Goals as goal
 
 -- the chunk is live where it is now
@@ -15,14 +14,7 @@ live_moved old new from to size moves =
       | inr apart ↦ absurd (apart.0 refl)
     ]
 
--- its bytes are in the space
-within : (f : Footprint) (s : Space) (at : Addr) (size n : ℕ) → Agrees f s → f.live at ≡ Some size → n ≤ size → IsInside s at n
-within f s at size n agrees live le =
-    let it = agrees.sound.live_inside at size live in
-    let has = agrees.regions at.region it.0 it.1 in
-    record { live = rw has.1 refl; end_in_region = rw has.1 (omega (arith, it.2, has.3, le)) }
-
 pub read-requires-clause-inside : goal.read-requires-clause-inside
 read-requires-clause-inside g c =
-    within (footprint c.realloc.new.self) c.realloc.new.space c.in_ok-to.to 9 8 c.in_ok-to.ensures.moves.agrees
+    IsInside-live (footprint c.realloc.new.self) c.realloc.new.space c.in_ok-to.to 9 8 c.in_ok-to.ensures.moves.agrees
     (live_moved _ (footprint c.realloc.new.self).live _ c.in_ok-to.to 9 c.in_ok-to.ensures.live) (omega arith)

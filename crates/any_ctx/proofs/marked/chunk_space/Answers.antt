@@ -1,8 +1,8 @@
 use Rattle.std.proofs.Common.{◌+◌, ◌-◌, if◌then◌else◌, sym, ap, ◌∙◌, subst, arith}
 use Rattle.chunk_header.specs.declared.Header.{Header}
-use Rattle.chunk_header.specs.Header.{IsLeading}
-use Rattle.any_ctx.specs.Marked.{space_of, shared_bytes}
+use Rattle.chunk_header.specs.Header.{IsLeading, space_of, shared_bytes}
 use Rattle.any_ctx.proofs.marked.chunk_space.Goals as goal
+use Rattle.chunk_header.proofs.Marks.{marked_by}
 
 pub block_size-requires : goal.block_size-requires
 block_size-requires c =
@@ -20,18 +20,26 @@ shared_bytes-requires-clause-leading c =
     let m = c.requires.1 in
     subst IsLeading (sym (c.header_at-header.ensures c.requires.0 m)) m.leading
 
-pub returns-then-header : goal.returns-then-header
+pub returns-then-header-clause-marked : goal.returns-then-header-clause-marked
 unfolding space_of
-returns-then-header c = λ context m below.
+returns-then-header-clause-marked c = λ context m below.
     let header = c.header_at-header.ensures context m in
     let own = sym (ap (λ (h : Header). h.own) header) ∙ c.if-header.true in
     let size = c.block_size.ensures context m header below in
     c.from.ensures ∙ c.saturating_sub.ensures ∙ ap (λ n. n - 40) size ∙ sym (ap (λ b. if b then m.size - 40 else shared_bytes m.header.kind m.header.value + 8) own)
 
-pub returns-else-header : goal.returns-else-header
+pub returns-else-header-clause-marked : goal.returns-else-header-clause-marked
 unfolding space_of
-returns-else-header c = λ context m below.
+returns-else-header-clause-marked c = λ context m below.
     let header = c.header_at-header.ensures context m in
     let own = sym (ap (λ (h : Header). h.own) header) ∙ c.if-header.false in
     c.from-else-header.ensures ∙ ap (λ n. n + 8) (c.shared_bytes.ensures.value ∙ ap (λ (h : Header). shared_bytes h.kind h.value) header)
     ∙ sym (ap (λ b. if b then m.size - 40 else shared_bytes m.header.kind m.header.value + 8) own)
+
+pub returns-then-header-clause-live : goal.returns-then-header-clause-live
+returns-then-header-clause-live c = λ f n agrees takes.
+    returns-then-header-clause-marked c f.context (marked_by f c.args.space.now c.args.at agrees takes.headed) takes.small ∙ takes.is
+
+pub returns-else-header-clause-live : goal.returns-else-header-clause-live
+returns-else-header-clause-live c = λ f n agrees takes.
+    returns-else-header-clause-marked c f.context (marked_by f c.args.space.now c.args.at agrees takes.headed) takes.small ∙ takes.is

@@ -23,7 +23,7 @@ returns-in-Ok-clause-ok c =
     let new : Block = record { size = size; room = size - 40; live = 0; freed = 0 } in
     let doubled : c.min-self.result ≡ min (2 * b.next) b.sizes.max = grind (arith, c.min-self.ensures) in
     let sizes : (old : Block) → block_at b.blocks number ≡ Some old → new.size ≡ old.size = λ old is. (let clash : Some old ≡ None = sym is ∙ e.fresh in absurd (cc)) in
-    let put : IsKept (record b { blocks = m }) = kept_put b m number new kept e.same e.block sizes (spare_none b.blocks b.current b.spare number e.fresh kept.spare) (were_still b.blocks m b.current number e.chunks kept.alone (λ at a. apart_none b.blocks b.current at a number e.fresh)) in
+    let put : IsKept (record b { blocks = m }) = kept_put b m number new kept e.same e.block sizes (spare_none b.blocks b.current b.spare number e.fresh kept.spare) (were_still b.blocks m b.current number e.chunks kept.alone (λ at x a. apart_none b.blocks b.current at x a number e.fresh)) in
     let sized : AreSizes b.sizes.init b.sizes.max c.min-self.result = rw doubled (AreSizes-next b.sizes.init b.sizes.max b.next kept.sizes) in
     let room : size - 0 - 40 ≡ size - 40 = omega arith in
     let it : block_size (ledger_of b) c.args.bytes ≡ size = sym c.grown-size.ensures.value in

@@ -76,7 +76,7 @@ returns-in-Some c =
     let same = e.same.keeper in
     let ledger : ledger_of (record b { blocks = m }) ≡ emptied_other (Some c.in-Some.field-0) (ledger_of b) number = cc in
     record {
-      kept = kept_drop b m number q.kept e.same e.block (λ z. keeper (sym z)) (λ z. current (sym z)) q.other (were_still b.blocks m b.current number e.chunks q.kept.alone (λ at a. apart_live b.blocks b.current at a number q.block.0 q.block.1 q.block.2));
+      kept = kept_drop b m number q.kept e.same e.block (λ z. keeper (sym z)) (λ z. current (sym z)) q.other (were_still b.blocks m b.current number e.chunks q.kept.alone (λ at x a. apart_live b.blocks b.current at x a number q.block.0 q.block.1 q.block.2));
       ledger_is = ledger ∙ sym empty;
       chunks = e.chunks;
       spare = e.spare_chunks;

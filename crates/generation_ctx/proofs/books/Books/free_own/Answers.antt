@@ -18,6 +18,12 @@ give-requires-clause-block c =
     let a = c.requires.kept.alone c.args.at chunk.0 chunk.1 chunk.2 in
     (less_one a.block, put_here b.blocks c.remove.new.self c.args.at.region (less_one a.block) (c.remove.ensures.block a.block a.is), omega (arith, a.live))
 
+pub give-requires-clause-not_keeper : goal.give-requires-clause-not_keeper
+give-requires-clause-not_keeper c =
+    let chunk = c.requires.chunk in
+    let a = c.requires.kept.alone c.args.at chunk.0 chunk.1 chunk.2 in
+    λ z. a.not_keeper (z ∙ c.remove.ensures.same.keeper)
+
 pub returns-clause-frees : goal.returns-clause-frees
 returns-clause-frees c =
     let b = c.args.self.now in
@@ -34,7 +40,7 @@ returns-clause-frees c =
     let kept = kept_less b m at a.block c.requires.kept a.is e.same e.chunk puts c.laid.ensures.some live in
     let here : block_at m at.region ≡ Rattle.std.proofs.Common.Some (less_one a.block) = put_here b.blocks m at.region (less_one a.block) puts in
     record {
-      kept = kept_drop (record b { blocks = m }) n at.region kept g.same g.block (λ z. a.not_keeper (z ∙ e.same.keeper)) a.not_current (spare_live b.blocks b.current b.spare at.region a.block a.is live c.requires.kept.spare) (were_still m n b.current at.region g.chunks kept.alone (λ other x. apart_live m b.current other x at.region (less_one a.block) here none));
+      kept = kept_drop (record b { blocks = m }) n at.region kept g.same g.block (λ z. a.not_keeper (z ∙ e.same.keeper)) a.not_current (spare_live b.blocks b.current b.spare at.region a.block a.is live c.requires.kept.spare) (were_still m n b.current at.region g.chunks kept.alone (λ other x y. apart_live m b.current other x y at.region (less_one a.block) here none));
       chunk = rw g.chunks e.chunk;
       moves = Moves-more (footprint b.blocks) (footprint m) (footprint n) c.args.space.now c.args.space.now c.give.new.space (e.moves c.args.space.now c.requires.agrees) g.moves;
       keeps = Keeps-then (footprint b.blocks) (footprint m) (footprint n) c.args.space.now c.args.space.now c.give.new.space (stays_live n m (sym g.chunks)) (λ other p r k l again below short. refl) g.keeps;

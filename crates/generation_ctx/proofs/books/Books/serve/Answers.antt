@@ -9,6 +9,18 @@ use Rattle.generation_ctx.proofs.Kept.{kept_made}
 use Rattle.generation_ctx.proofs.Steps.{allocates_made}
 use Rattle.generation_ctx.proofs.books.Books.serve.Goals as goal
 
+pub take-requires-clause-kept : goal.take-requires-clause-kept
+take-requires-clause-kept c =
+    let b = c.args.self.now in
+    let m = c.make_room.new.self in
+    subst (λ (l : Layout). IsKept (record b { blocks = l })) (sym c.make_room.ensures.same) (kept_made b m.spare_blocks m.spare_chunks c.requires.kept)
+
+pub returns-in-Err-clause-err_kept : goal.returns-in-Err-clause-err_kept
+returns-in-Err-clause-err_kept c =
+    let b = c.args.self.now in
+    let m = c.make_room.new.self in
+    subst (λ (l : Layout). IsKept (record b { blocks = l })) (sym c.make_room.ensures.same) (kept_made b m.spare_blocks m.spare_chunks c.requires.kept)
+
 pub take-requires-clause-agrees : goal.take-requires-clause-agrees
 take-requires-clause-agrees c = rw c.make_room.ensures.footprint c.requires.agrees
 

@@ -17,7 +17,7 @@ returns-clause-resizes c =
     let new : Chunk = record q.0 { size = c.args.size } in
     let puts = e.chunk q.0 q.1 in
     record {
-      kept = kept_sized b m at q.0 new c.requires.kept e.same e.blocks q.1 puts refl;
+      kept = kept_sized b m at q.0 new c.requires.kept e.same e.blocks q.1 puts refl refl;
       fresh = λ ne. absurd (ne refl);
       live = live_stays (footprint b.blocks) (footprint m) at c.args.size (live_put b.blocks m at (Some new) puts);
       bytes = λ k below. refl;

@@ -40,7 +40,7 @@ returns-in-Ok-clause-ok c =
     let whole : last ≡ own = ap (λ (r : ℕ). record { size = room + 48; room = r; live = 0 + 1; freed = 0 }) none ∙ ap (λ (k : ℕ). record { size = room + 48; room = 0; live = k; freed = 0 }) one in
     let sizes : (old : Block) → block_at b.blocks number ≡ Some old → first.size ≡ old.size = λ old is. (let clash : Some old ≡ None = sym is ∙ e.fresh in absurd (cc)) in
     let free = spare_none b.blocks b.current b.spare number e.fresh kept.spare in
-    let put_kept : IsKept (record b { blocks = m }) = kept_put b m number first kept e.same e.block sizes free (were_still b.blocks m b.current number e.chunks kept.alone (λ x a. apart_none b.blocks b.current x a number e.fresh)) in
+    let put_kept : IsKept (record b { blocks = m }) = kept_put b m number first kept e.same e.block sizes free (were_still b.blocks m b.current number e.chunks kept.alone (λ x y a. apart_none b.blocks b.current x y a number e.fresh)) in
     let not_current : number ≢ b.current = λ z. (let is : block_at b.blocks number ≡ Some kept.current.block = rw z kept.current.is in let clash : Some kept.current.block ≡ None = sym is ∙ e.fresh in absurd (cc)) in
     let not_keeper : number ≢ m.keeper = λ z. (let is : block_at b.blocks number ≡ Some kept.keeper.block = rw (z ∙ e.same.keeper) kept.keeper.is in let clash : Some kept.keeper.block ≡ None = sym is ∙ e.fresh in absurd (cc)) in
     let step = take_own-had (ledger_of b) left at.region (room + 48) e.fits in
@@ -48,7 +48,7 @@ returns-in-Ok-clause-ok c =
     let keeper = q.same.keeper ∙ e.same.keeper in
     let ledger : ledger_of (record b { blocks = n }) ≡ put (ledger_of b) at.region own = cc in
     rw (← c.granted-room.ensures.value) (record {
-      kept = kept_own (record b { blocks = m }) n number first last at (record { size = c.args.size; room = room; own = true }) put_kept here refl q.same again q.chunk q.region one none refl not_keeper not_current free;
+      kept = kept_own (record b { blocks = m }) n number first last at (record { size = c.args.size; room = room; own = true }) put_kept here refl q.same again q.chunk q.region one none refl refl not_keeper not_current free;
       ledger = step ∙ ap Ok (sym ledger);
       own = true;
       fresh = rw (← e.chunks) q.fresh;

@@ -1,0 +1,18 @@
+use Rattle.std.proofs.Common.{◌≡◌, Some, false, ap, ◌∙◌, arith}
+use Rattle.addr_space.proofs.Carried.{IsInside-live}
+use Rattle.ctx_blocks.specs.Layout.{Layout, block_at, chunk_at, gap_of, header_room, footprint}
+use Rattle.ctx_blocks.specs.declared.parts.Chunk.{Chunk}
+use Rattle.ctx_blocks.proofs.Laid.{live_is}
+use Rattle.ctx_blocks.proofs.tests.carried.Goals as goal
+
+pub cut-to-requires-clause-block : goal.cut-to-requires-clause-block
+cut-to-requires-clause-block c =
+    let same = c.in_ok-make_room.ensures.same in
+    let gap : header_room c.make_room.new.self ≡ 8 = ap gap_of (ap (λ (x : Layout). x.kind) same ∙ c.requires.kind) in
+    (record { size = 1024; room = 768; live = 1; freed = 0 }, ap (λ (x : Layout). block_at x c.args.from.region) same ∙ c.requires.block, omega (arith, gap))
+
+pub returns-clause-inside : goal.returns-clause-inside
+returns-clause-inside c =
+    let to : Chunk = record { size = 16; room = 16; own = false } in
+    let found : chunk_at c.cut-to.new.self c.cut-to.result ≡ Some to = grind (arith, c.cut-to.ensures.chunk c.cut-to.result) in
+    IsInside-live (footprint c.cut-to.new.self) c.carry.new.space c.cut-to.result 16 5 c.carry.ensures.moves.agrees (live_is c.cut-to.new.self c.cut-to.result to found) (omega arith)
