@@ -321,8 +321,8 @@ impl Blocks {
         self.books.freed()
     }
 
-    /// Each live chunk of a Slab or a Generation has a header that leads to its block, and so to the context. A
-    /// caller cites the clause.
+    /// Each live chunk of a Slab or a Generation has a header that leads to its block, and so to the context, and says
+    /// what the chunk takes. A caller cites the clauses.
     pub fn headed(&self)
         requires { (self.now.kind ≡ Slab) ⊎ (self.now.kind ≡ Generation) }
         ensures headed { AllHeaded (footprint self.now) }

@@ -10,13 +10,11 @@ use Rattle.chunk_header.specs.Growth.{granted}
 use Rattle.generation_ctx.specs.Ledger.{GenerationLedger, moved}
 use Rattle.generation_ctx.specs.Kept.{ledger_of}
 use Rattle.generation_ctx.proofs.Addrs.{stays, put_there}
+use Rattle.ctx_blocks.proofs.Laid.{live_is}
 use Rattle.ctx_blocks.proofs.Changed.{live_put, fresh_put}
 use Rattle.generation_ctx.proofs.Resizes.{resized-moves, live_moves}
 use Rattle.generation_ctx.proofs.books.Books.relocate.Goals as goal
 use Rattle.generation_ctx.proofs.books.Books.relocate.Goals.{In-Ok}
-
-live_of : (o : Option Chunk) (x : Chunk) → o ≡ Some x → option_map (λ c. c.size) o ≡ Some x.size
-live_of o x is = ap (λ (o : Option Chunk). option_map (λ (c : Chunk). c.size) o) is
 
 -- the new chunk is another one
 apart : (c : In-Ok) → c.in-Ok.to ≢ c.args.at
@@ -34,7 +32,7 @@ kept_bytes : (c : In-Ok) (k : ℕ) → k < c.args.keep → byte_at c.serve.new.s
 kept_bytes c k below =
     let chunk = c.requires.chunk.0 in
     let short : k < chunk.size = omega (arith, below, c.requires.chunk.2) in
-    c.in-Ok.ensures.ok.keeps c.args.at chunk.size chunk.size k (live_of _ chunk c.requires.chunk.1) (live_of _ chunk (still c)) short short
+    c.in-Ok.ensures.ok.keeps c.args.at chunk.size chunk.size k (live_is c.args.self.now.blocks c.args.at chunk c.requires.chunk.1) (live_is c.serve.new.self.blocks c.args.at chunk (still c)) short short
 
 pub carry-requires-clause-known : goal.carry-requires-clause-known
 carry-requires-clause-known c = λ k below. subst IsSome (sym (kept_bytes (goal.at.carry-requires-clause-known c).In-Ok k below)) (c.requires.known k below)
@@ -65,7 +63,7 @@ returns-in-Ok-clause-ok c =
       live = live_moves (footprint b) (footprint m) (footprint n) at to size (apart it) first second;
       bytes = λ k below.
           (let short : k < size = omega (arith, below, c.requires.keep) in
-          f.keeps to size size k (live_of (chunk_at m to) new in_m) (live_of (chunk_at n to) new in_n) short short ∙ c.carry.ensures.copied k below ∙ kept_bytes it k below);
+          f.keeps to size size k (live_is m to new in_m) (live_is n to new in_n) short short ∙ c.carry.ensures.copied k below ∙ kept_bytes it k below);
       moves = Moves-more (footprint b) (footprint m) (footprint n) s t u ok.moves (Moves-more (footprint m) (footprint m) (footprint n) t v u c.carry.ensures.moves f.moves);
       keeps = λ other p q k ne live again below short.
           (let ne_to : to ≢ other = λ e.
