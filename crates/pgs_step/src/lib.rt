@@ -2,6 +2,7 @@
 //! line of text of each event.
 #![tactic(auto)]
 
+mod chunk_bytes;
 mod emitter;
 mod errors;
 mod event_list;
@@ -11,6 +12,7 @@ mod lock_modes;
 mod names;
 mod texts;
 
+pub use chunk_bytes::ChunkBytes;
 pub use emitter::Emit;
 pub use errors::Error;
 pub use event_list::EventList;
