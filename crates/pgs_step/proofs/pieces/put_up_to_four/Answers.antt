@@ -1,6 +1,6 @@
 use Rattle.std.proofs.Common.{arith}
 use Rattle.pgs_step.proofs.DigitLemmas.{hundreds_told}
-use Rattle.pgs_step.proofs.texts.put_up_to_four.Goals as goal
+use Rattle.pgs_step.proofs.pieces.put_up_to_four.Goals as goal
 
 pub returns-else-n-lt100-clause-text : goal.returns-else-n-lt100-clause-text
 returns-else-n-lt100-clause-text g c =
