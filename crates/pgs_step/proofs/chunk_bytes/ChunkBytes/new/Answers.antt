@@ -1,4 +1,4 @@
-use Rattle.std.proofs.Common.{◌≤◌, length, arith, rules}
+use Rattle.std.proofs.Common.{◌≤◌, length, rules}
 use Rattle.pgs_step.proofs.KeptLemmas.{kept_front}
 use Rattle.pgs_step.proofs.chunk_bytes.ChunkBytes.new.Goals as goal
 
