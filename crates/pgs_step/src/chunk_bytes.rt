@@ -1,5 +1,5 @@
 //! Bytes of a chunk, as a script line writes them and an event shows them.
-ghost use Rattle.std.specs.Prelude.{◌≡◌, ◌↔◌, ◌≤◌, length, IsSome, IfSome};
+ghost use Rattle.std.specs.Prelude.{◌≡◌, ◌↔◌, ◌≤◌, length, IsSome, IfSome, IsTrue};
 
 use std::marker::Model;
 
@@ -67,7 +67,10 @@ impl PartialEq for ChunkBytes {
 
     ghost laws = { Prim.search (comparing, rules) };
 
-    fn eq(&self, other: &ChunkBytes) -> bool {
+    fn eq(&self, other: &ChunkBytes) -> bool
+        ensures value { result ≡ pointwise ◌==◌ self.now other.now }
+        ensures same { IsTrue result ↔ (self.now ≡ other.now) }
+    {
         self.as_slice() == other.as_slice()
     }
 }
