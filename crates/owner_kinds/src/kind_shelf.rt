@@ -111,7 +111,7 @@ impl KindShelf {
         ensures extension { IfSome result (IsExtension (table_of self.now)) }
         ensures named { IfSome result (λ kind. slice_get (table_of self.now).names (kind.0 - 16) ≡ Some name.now) }
     {
-        let place = self.names.iter().position(|own| own.is(name))?;
+        let place = self.names.iter().position(|own| *own == *name)?;
         Some(KindId(KindId::FIRST_EXTENSION + place as u8))
     }
 
