@@ -1,7 +1,6 @@
 ghost use Rattle.std.specs.Prelude.{◌≡◌, [], ◌∷◌, IsTrue, ◌↔◌, IsNone, OnOk, OnErr, IfErr, IfSome, IfNone};
 
 use crate::reset_hook::ResetHook;
-use smallvec::SmallVec;
 use std::alloc::Global;
 use std::marker::Model;
 
@@ -10,20 +9,17 @@ use std::marker::Model;
 /// Contracts see what the hooks stand for, newest first.
 #[derive(Drop)]
 pub struct Pending<H: ResetHook> {
-    // The newest is the last. A place of the inline array holds a hook only while it is in use.
-    hooks: SmallVec<Option<H>, 2>,
+    // The newest is the last.
+    hooks: Vec<H>,
 }
 
 impl<H: ResetHook> Model for Pending<H> {
-    ghost use Rattle.std.specs.Prelude.{List, map, reverse, All, IsSome};
-    ghost use Rattle.std.specs.List.{filter_map};
+    ghost use Rattle.std.specs.Prelude.{List, map, reverse};
     ghost use Rattle.reset_callbacks.specs.Hook.{Hook};
 
     ghost Value = { List Hook };
 
-    ghost view = { λ p. reverse (map H.hook_meaning (filter_map (λ place. place) p.hooks.items)) };
-
-    ghost invariant = { λ p. All IsSome p.hooks.items };
+    ghost view = { λ p. reverse (map H.hook_meaning p.hooks.items) };
 }
 
 impl<H: ResetHook> Pending<H> {
@@ -32,7 +28,7 @@ impl<H: ResetHook> Pending<H> {
         ensures { result ≡ [] }
     {
         Pending {
-            hooks: SmallVec::new(alloc),
+            hooks: Vec::new(alloc),
         }
     }
 
@@ -42,9 +38,9 @@ impl<H: ResetHook> Pending<H> {
         ensures err { OnErr result (self.new ≡ self.old) }
         ensures handed_back { IfErr result (λ back. back ≡ hook) }
     {
-        match self.hooks.push(Some(hook)) {
+        match self.hooks.push(hook) {
             Ok(()) => Ok(()),
-            Err(failed) => Err(failed.value.unwrap()),
+            Err(failed) => Err(failed.value),
         }
     }
 
@@ -54,7 +50,7 @@ impl<H: ResetHook> Pending<H> {
         ensures newest { IfSome result (λ hook. self.old ≡ H.hook_meaning hook ∷ self.new) }
         ensures unchanged { IfNone result (self.new ≡ self.old) }
     {
-        self.hooks.pop().flatten()
+        self.hooks.pop()
     }
 
     /// Whether no hook waits.
