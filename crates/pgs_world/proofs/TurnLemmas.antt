@@ -2,7 +2,7 @@
 use Rattle.std.proofs.Common.{◌≡◌, ℕ, Bool, true, false, List, [], ◌∷◌, ◌++◌, Option, Some, None, refl, sym, ◌∙◌, ap, subst}
 use Rattle.pgs_step.specs.declared.errors.Error.{Error}
 use Rattle.pgs_step.specs.declared.events.What.{What}
-use Rattle.pgs_world.specs.declared.command.Command.{Command}
+use Rattle.pgs_command.specs.declared.commands.Command.{Command}
 use Rattle.pgs_world.specs.Session.{World, Done, elements_of, does_all, recovered}
 use Rattle.pgs_world.specs.Answers.{Answers, Fits, is_want}
 use Rattle.pgs_world.specs.Transcript.{Turn, turn, turn_of, TurnIs}

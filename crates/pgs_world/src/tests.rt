@@ -1,7 +1,7 @@
 //! The program over a source and a sink in memory.
 ghost use Rattle.std.specs.Prelude.{◌≤◌};
 
-use crate::{Outcome, run, script_lines};
+use crate::{Outcome, run};
 use pgs_io::{MemSink, MemSource};
 use std::alloc::{AllocError, Global};
 use std::test::Fail;
@@ -98,7 +98,6 @@ fn four_scripts(rt: HostRuntime) -> Result<(), Fail> {
         );
         assert_eq!(rt; played.written.as_slice(), row.transcript);
     }
-    script_lines();
     Ok(())
 }
 
