@@ -55,7 +55,7 @@ pub data Element : Type 0 where
   Abort : Element
   Cleanup : Element
 
--- what a command does where no transaction is open
+-- What a command does where no transaction is open. A command that needs one is a bad line.
 abbrev pub idle_elements : Command → List Element
 idle_elements Nothing = []
 idle_elements Begin = MakeLevel ∷ MakeOwner ∷ Says what.Ok ∷ []
@@ -63,7 +63,7 @@ idle_elements Commit = Says NotInTransaction ∷ Says what.Ok ∷ []
 idle_elements Rollback = Says NotInTransaction ∷ Says what.Ok ∷ []
 idle_elements command = Refuse SyntaxError ∷ []
 
--- what a command does in a transaction that isn't aborted
+-- What a command does in a transaction that isn't aborted. No line asks for any other command than these.
 abbrev pub block_elements : Command → List Element
 block_elements Nothing = []
 block_elements Begin = Says AlreadyInTransaction ∷ Says what.Ok ∷ []
@@ -72,7 +72,7 @@ block_elements Rollback = Abort ∷ Cleanup ∷ Says what.Ok ∷ []
 block_elements (Pin buffer) = if nat_lt buffer 1024 then Enlarge ∷ TakePin buffer ∷ Says what.Ok ∷ [] else Refuse NoSuchBuffer ∷ []
 block_elements command = Refuse SyntaxError ∷ []
 
--- what a command does in an aborted transaction
+-- What a command does in an aborted transaction: each but the ends is refused.
 abbrev pub aborted_elements : Command → List Element
 aborted_elements Nothing = []
 aborted_elements Commit = Cleanup ∷ Says what.Ok ∷ []
