@@ -1,5 +1,5 @@
 -- Which elements a line has.
-use Rattle.std.proofs.Common.{◌≡◌, ℕ, ◌<◌, ◌≤◌, Bool, true, false, List, [], ◌∷◌, Option, Some, None, refl, sym, ◌∙◌, ap, arith}
+use Rattle.std.proofs.Common.{◌≡◌, ℕ, ◌<◌, ◌≤◌, Bool, true, false, [], ◌∷◌, Option, Some, None, refl, arith}
 use Rattle.std.specs.Prelude.{nat_lt, if◌then◌else◌}
 use Rattle.std.proofs.lemmas.Bool.Decides.{nat_tests}
 use Rattle.pgs_step.specs.declared.errors.Error.TheVariants.{SyntaxError, TransactionAborted, NoSuchBuffer}
@@ -7,7 +7,7 @@ use Rattle.pgs_step.specs.declared.events.What.TheVariants as what
 use Rattle.pgs_command.specs.declared.commands.Command.{Command}
 use Rattle.pgs_command.specs.declared.commands.Command.TheVariants.{Nothing, Begin, Commit, Rollback, Pin}
 use Rattle.pgs_world.specs.declared.session.Standing.TheVariants.{Idle, InBlock, Aborted}
-use Rattle.pgs_world.specs.Session.{Element, Refuse, Says, Enlarge, TakePin, LevelState, SessionState, idle_elements, block_elements, aborted_elements, command_elements, elements_of}
+use Rattle.pgs_world.specs.Session.{Refuse, Says, Enlarge, TakePin, LevelState, SessionState, idle_elements, block_elements, aborted_elements, command_elements, elements_of}
 use Rattle.pgs_world.specs.Parts.{standing_of}
 
 pub pin_elements : (buffer : ℕ) → buffer < 1024 → block_elements (Pin buffer) ≡ Enlarge ∷ TakePin buffer ∷ Says what.Ok ∷ []

@@ -1,5 +1,5 @@
 -- How many ERROR events a transcript has: at most one for each line.
-use Rattle.std.proofs.Common.{◌≡◌, ℕ, ◌+◌, ◌≤◌, Bool, true, false, List, [], ◌∷◌, ◌++◌, length, Option, Some, None, refl, sym, ◌∙◌, ap, subst, arith}
+use Rattle.std.proofs.Common.{◌≡◌, ℕ, ◌+◌, ◌≤◌, Bool, true, false, List, [], ◌∷◌, length, Option, Some, None, refl, ◌∙◌, ap, arith}
 use Rattle.std.specs.Prelude.{fold, nat_lt, if◌then◌else◌}
 use Rattle.std.specs.Option.{option_map_or}
 use Rattle.pgs_step.specs.declared.ids.Item.{Item}
@@ -13,8 +13,7 @@ use Rattle.pgs_command.specs.declared.commands.Command.TheVariants.{Nothing, Beg
 use Rattle.pgs_world.specs.Pins.{said, said-append}
 use Rattle.pgs_world.specs.Script.{command_of}
 use Rattle.pgs_world.specs.Session.{World, SessionState, LevelState, Ended, Done, Element, Refuse, Says, MakeLevel, MakeOwner, Enlarge, TakePin, CommitTop, Abort, Cleanup, does, does_all, then_done, fallible, is_call, level_made, owner_made, pinned_by, owner_of, release_events, gone_events, committed, aborted, cleaned_up, and_then, given_up, recovered, rolled_back, exited, idle_elements, block_elements, aborted_elements, command_elements, elements_of}
-use Rattle.pgs_world.specs.Answers.{is_want}
-use Rattle.pgs_world.specs.Transcript.{Course, Turn, turn, turn_of, after_line, after_turn, at_start, course_of, transcript, errors_in, is_error}
+use Rattle.pgs_world.specs.Transcript.{Course, turn, turn_of, after_line, after_turn, at_start, course_of, transcript, errors_in, is_error}
 use Rattle.pgs_world.specs.PrintingLaws.{errors_in-append}
 
 one_release : (commit : Bool) (owner : ℕ) (item : Item) → errors_in (said (release_of commit owner item)) ≡ 0

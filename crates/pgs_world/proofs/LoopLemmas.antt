@@ -1,9 +1,9 @@
 -- The reading loop: where it stands, and how it ends.
-use Rattle.std.proofs.Common.{◌≡◌, ℕ, ◌+◌, ◌*◌, ◌^◌, ◌<◌, ◌≤◌, Bool, true, false, List, [], ◌∷◌, ◌++◌, length, Option, Some, None, refl, sym, ◌∙◌, ap, subst, arith, length-append, append-nil}
+use Rattle.std.proofs.Common.{◌≡◌, ℕ, ◌+◌, ◌^◌, ◌<◌, ◌≤◌, Bool, true, false, List, [], ◌∷◌, ◌++◌, length, Option, Some, None, refl, sym, ◌∙◌, ap, arith, length-append, append-nil}
 use Rattle.std.specs.Prelude.{unwrap_or, IfSome}
 use Rattle.std.specs.Io.KnownBytes.{prepend_known}
-use Rattle.pgs_io.specs.Lines.{lines_of, text_of, newline}
-use Rattle.pgs_io.specs.Reading.{Reading, HasRead, GivesLine, GivesLast, MeetsEnd, MeetsFault, MeetsLimit}
+use Rattle.pgs_io.specs.Lines.{text_of, newline}
+use Rattle.pgs_io.specs.Reading.{Reading, GivesLine, GivesLast, MeetsEnd, MeetsFault, MeetsLimit}
 use Rattle.pgs_io.proofs.ReadingLemmas.{HasRead-start, HasRead-line, HasRead-now, HasRead-end, HasRead-last, HasRead-fault, HasRead-too_much}
 use Rattle.pgs_step.specs.declared.events.What.{What}
 use Rattle.pgs_world.specs.declared.performing.End.{End}
@@ -14,7 +14,7 @@ use Rattle.pgs_world.specs.Answers.{Fits}
 use Rattle.pgs_world.specs.Parts.{IsBetweenLines, HasRoom, Grows}
 use Rattle.pgs_world.specs.Transcript.{TurnIs, turn}
 use Rattle.pgs_world.specs.Outcome.{most_bytes}
-use Rattle.pgs_world.specs.Loop.{CoursesAre, IsBounded, Stands, Performs, EndIs, AreFront, IsLineEnd, is_wanted, is_wanted_in}
+use Rattle.pgs_world.specs.Loop.{IsBounded, Stands, Performs, EndIs, AreFront, IsLineEnd, is_wanted, is_wanted_in}
 use Rattle.pgs_world.proofs.CourseLemmas.{CoursesAre-start, CoursesAre-line, CoursesAre-weaker}
 
 pub Stands-start : (start : Option (List ℕ)) (reader : Reading) (emitted : List What → Type 0) → reader.pending ≡ [] → reader.room ≡ most_bytes → emitted [] → Stands start start reader opening emitted []

@@ -1,6 +1,6 @@
 -- Which lines are performed.
 use Rattle.std.proofs.Common.{◌≡◌, ℕ, Bool, true, false, List, [], ◌∷◌, take, Option, None, refl, sym, ◌∙◌, ap}
-use Rattle.std.specs.Prelude.{◌==◌, codes, if◌then◌else◌}
+use Rattle.std.specs.Prelude.{◌==◌, codes}
 use Rattle.std.specs.List.{starts_with}
 use Rattle.pgs_io.specs.Lines.{IsKept}
 use Rattle.pgs_command.specs.declared.commands.Command.{Command}
