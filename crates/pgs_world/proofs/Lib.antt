@@ -8,3 +8,4 @@ pub mod LoopLemmas
 pub mod OwnerLemmas
 pub mod TurnLemmas
 pub mod ScriptLemmas
+pub mod WorkedRows
