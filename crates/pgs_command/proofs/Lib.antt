@@ -2,3 +2,5 @@ pub mod ValueLemmas
 pub mod WordLemmas
 pub mod TableLemmas
 pub mod LineLemmas
+pub mod TableRows
+pub mod RangeLemmas

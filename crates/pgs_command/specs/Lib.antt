@@ -2,4 +2,5 @@ pub mod Kinds
 pub mod Words
 pub mod Values
 pub mod Table
+pub mod Ranges
 pub mod Lines

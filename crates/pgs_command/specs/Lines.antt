@@ -1,5 +1,5 @@
 -- What a line of a script says.
-use Rattle.std.specs.Prelude.{ℕ, ◌-◌, ◌==◌, ◌&&◌, nat_lt, nat_le, Bool, true, false, if◌then◌else◌, List, [], ◌∷◌, length, drop, Option, Some, None, unwrap_or, is_some, Result, Ok, Err}
+use Rattle.std.specs.Prelude.{ℕ, ◌-◌, ◌==◌, ◌&&◌, nat_lt, nat_le, Bool, true, if◌then◌else◌, List, [], ◌∷◌, length, drop, Option, Some, None, unwrap_or, is_some, Result, Ok, Err}
 use Rattle.pgs_command.specs.Words.{words_of}
 use Rattle.pgs_command.specs.Table.{command_of}
 use Rattle.pgs_command.specs.declared.commands.Command.{Command}

@@ -1,6 +1,6 @@
 -- The table of the lines that are commands.
 use Rattle.std.specs.Prelude.{ℕ, if◌then◌else◌, List, [], ◌∷◌, ◌++◌, codes, Option, Some, None}
-use Rattle.std.specs.Option.{option_map, option_and_then, option_or}
+use Rattle.std.specs.Option.{option_map, option_or}
 use Rattle.pgs_command.specs.Values.{name_of, number_of, bytes_of, length_of, count_of, turns_of, class_of, mode_of, kind_of}
 use Rattle.pgs_command.specs.Words.{is_text, alone, next, behind, only, pair}
 use Rattle.pgs_command.specs.declared.commands.Command.{Command}

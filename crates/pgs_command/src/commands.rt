@@ -44,13 +44,25 @@ pub enum Command {
     /// `deletechildren NAME`: deletes a context's children.
     DeleteChildren(Name),
     /// `reparent NAME PARENT`: gives a context another parent.
-    Reparent { name: Name, parent: Name },
+    Reparent {
+        name: Name,
+        parent: Name,
+    },
     /// `alloc CHUNK N`: allocates `size` bytes in the current context.
-    Alloc { chunk: Name, size: u32 },
+    Alloc {
+        chunk: Name,
+        size: u32,
+    },
     /// `alloc0 CHUNK N`: allocates `size` bytes that are 0.
-    AllocZeroed { chunk: Name, size: u32 },
+    AllocZeroed {
+        chunk: Name,
+        size: u32,
+    },
     /// `realloc CHUNK N`: makes a chunk `size` bytes long.
-    Realloc { chunk: Name, size: u32 },
+    Realloc {
+        chunk: Name,
+        size: u32,
+    },
     /// `free CHUNK`: frees a chunk.
     Free(Name),
     /// `put CHUNK N HEX`: writes 1 to 128 bytes into a chunk, from byte `at` on.
@@ -60,7 +72,11 @@ pub enum Command {
         bytes: ChunkBytes,
     },
     /// `show CHUNK N LEN`: shows `length` bytes of a chunk, 1 to 128, from byte `at` on.
-    Show { chunk: Name, at: u32, length: u8 },
+    Show {
+        chunk: Name,
+        at: u32,
+        length: u8,
+    },
     /// `pin N`: pins a shared buffer.
     Pin(u32),
     /// `unpin N`: gives back one pin of a shared buffer.
@@ -74,17 +90,35 @@ pub enum Command {
     /// `close N`: closes a file.
     Close(u32),
     /// `lock N MODE`: locks an object.
-    Lock { object: u32, mode: Mode },
+    Lock {
+        object: u32,
+        mode: Mode,
+    },
     /// `unlock N MODE`: gives back one lock of an object.
-    Unlock { object: u32, mode: Mode },
+    Unlock {
+        object: u32,
+        mode: Mode,
+    },
     /// `ref CLASS N`: takes a reference to a cache's entry.
-    Reference { class: ReferenceClass, key: u32 },
+    Reference {
+        class: ReferenceClass,
+        key: u32,
+    },
     /// `unref CLASS N`: gives back one reference to a cache's entry.
-    Unreference { class: ReferenceClass, key: u32 },
+    Unreference {
+        class: ReferenceClass,
+        key: u32,
+    },
     /// `acquire NAME N`: acquires a resource of the extension kind of this name.
-    Acquire { kind: Name, key: u32 },
+    Acquire {
+        kind: Name,
+        key: u32,
+    },
     /// `drop NAME N`: gives back one resource of the extension kind of this name.
-    Drop { kind: Name, key: u32 },
+    Drop {
+        kind: Name,
+        key: u32,
+    },
     /// `snapshot N`: registers a snapshot.
     Snapshot(u32),
     /// `unsnapshot N`: unregisters a snapshot.
@@ -110,7 +144,10 @@ pub enum Command {
         bad: Option<u32>,
     },
     /// `fetch NAME COUNT`: fetches up to `count` rows from a portal, 1 to 1,000,000.
-    Fetch { name: Name, count: u32 },
+    Fetch {
+        name: Name,
+        count: u32,
+    },
     /// `endportal NAME`: closes a portal.
     EndPortal(Name),
 }

@@ -1,8 +1,8 @@
 //! Whole lines.
-ghost use Rattle.std.specs.Prelude.{◌≡◌, ◌≤◌, ℕ, List, length, unwrap_or};
-ghost use Rattle.std.specs.Option.{option_map};
+ghost use Rattle.std.specs.Prelude.{◌≡◌, ℕ, List, IfOk, IfErr, IfSome};
 ghost use Rattle.pgs_io.specs.Lines.{IsKept};
-ghost use Rattle.pgs_command.specs.Lines.{prefix_of, session_of, text_of, is_comment, short_command, read_line};
+ghost use Rattle.pgs_command.specs.Lines.{prefix_of, session_of, is_comment, short_command, read_line};
+ghost use Rattle.pgs_command.specs.Ranges.{IsSession, IsInRange};
 
 use crate::commands::Command;
 use crate::rows::read_command;
@@ -26,7 +26,10 @@ pub struct BadLine {
 ///
 /// `kept` are the first 512 bytes of the line, and `long` says whether it has more, as a reader of lines tells them.
 pub fn parse_line(kept: &[u8], long: bool) -> Result<Line, BadLine>
-    ensures { (line : List ℕ) → IsKept line kept.now long → result ≡ read_line line }
+    ensures read { (line : List ℕ) → IsKept line kept.now long → result ≡ read_line line }
+    ensures session { IfOk result (λ line. IsSession line.session) }
+    ensures in_range { IfOk result (λ line. IsInRange line.command) }
+    ensures bad_session { IfErr result (λ bad. IsSession bad.session) }
 {
     let session = session_of(kept);
     if long {
@@ -40,7 +43,8 @@ pub fn parse_line(kept: &[u8], long: bool) -> Result<Line, BadLine>
 
 /// The session that a line names: 1 where it has no prefix.
 fn session_of(line: &[u8]) -> u8
-    ensures { result ≡ session_of line.now }
+    ensures value { result ≡ session_of line.now }
+    ensures session { IsSession result }
 {
     match prefix(line) {
         Some(session) => session,
@@ -50,7 +54,8 @@ fn session_of(line: &[u8]) -> u8
 
 /// The session of a prefix: `@`, a digit from 1 to 8 and a space.
 fn prefix(line: &[u8]) -> Option<u8>
-    ensures { result ≡ prefix_of line.now }
+    ensures value { result ≡ prefix_of line.now }
+    ensures session { IfSome result (λ n. IsSession n) }
 {
     match line {
         [b'@', digit, b' ', ..] if b'1' <= *digit && *digit <= b'8' => Some(*digit - b'0'),
@@ -60,7 +65,8 @@ fn prefix(line: &[u8]) -> Option<u8>
 
 /// The command of a line of at most 512 bytes.
 fn read_short(line: &[u8]) -> Option<Command>
-    ensures { result ≡ short_command line.now }
+    ensures value { result ≡ short_command line.now }
+    ensures in_range { IfSome result (λ command. IsInRange command) }
 {
     if is_comment(line) {
         return Some(Command::Nothing);

@@ -11,4 +11,5 @@ macro_rules! by_word {
         None
     }};
 }
+
 pub(crate) use by_word;

@@ -1,16 +1,17 @@
 //! The commands, by the first words of their lines.
-ghost use Rattle.std.specs.Prelude.{◌≡◌, ◌∷◌, None, Some, codes};
+ghost use Rattle.std.specs.Prelude.{◌≡◌, None, Some, codes, IfSome};
 ghost use Rattle.std.specs.Option.{option_or, option_map, option_copied};
 ghost use Rattle.pgs_command.specs.Words.{words_of, words_in, alone, only, behind};
 ghost use Rattle.pgs_command.specs.Table.{look_up, transaction_rows, context_rows, chunk_rows, shared_rows, query_rows, none, one, three, four, with_kind, portal, portal_with_bad, command_of};
+ghost use Rattle.pgs_command.specs.Ranges.{IsInRange};
 ghost use Rattle.pgs_command.specs.Values.{name_of, number_of, bytes_of, length_of, count_of, kind_of};
 ghost use Rattle.pgs_command.specs.declared.commands.Command.TheVariants.{Rollback, RollbackTo, Put, Show, Portal};
 
 use crate::commands::Command;
-use crate::picks::by_word;
-use crate::words::{Words, split_word};
-use crate::values::{read_bytes, read_plain_kind, read_number};
 use crate::kinds::ContextKind;
+use crate::picks::by_word;
+use crate::values::{read_bytes, read_number, read_plain_kind};
+use crate::words::{Words, split_word};
 
 /// The commands of transactions.
 fn read_transaction(word: &[u8], rest: Option<&[u8]>) -> Option<Command>
@@ -119,7 +120,11 @@ fn read_show(mut words: Words<'_>) -> Option<Command>
     let chunk = words.name()?;
     let at = words.number(0, u32::MAX)?;
     let length = words.number(1, 128)?;
-    words.end(Command::Show { chunk, at, length: length as u8 })
+    words.end(Command::Show {
+        chunk,
+        at,
+        length: length as u8,
+    })
 }
 
 /// The commands of buffers, files, locks, references and extension kinds.
@@ -171,7 +176,12 @@ fn read_portal(mut words: Words<'_>) -> Option<Command>
     let object = words.number(0, 1_000_000)?;
     let rows = words.number(0, 1_000_000)?;
     let bad = read_bad(words)?;
-    Some(Command::Portal { name, object, rows, bad })
+    Some(Command::Portal {
+        name,
+        object,
+        rows,
+        bad,
+    })
 }
 
 /// No word, or the number of the bad row.
@@ -189,7 +199,8 @@ fn read_bad(mut words: Words<'_>) -> Option<Option<u32>>
 
 /// The command of a text, where it is in the table.
 pub(crate) fn read_command(text: &[u8]) -> Option<Command>
-    ensures { result ≡ command_of (words_of text.now) }
+    ensures value { result ≡ command_of (words_of text.now) }
+    ensures in_range { IfSome result (λ command. IsInRange command) }
 {
     let (word, rest) = split_word(text);
     read_transaction(word, rest)

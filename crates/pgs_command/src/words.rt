@@ -4,7 +4,6 @@ ghost use Rattle.std.specs.Option.{option_copied, option_and_then};
 ghost use Rattle.pgs_command.specs.Words.{words_of, words_in, alone, only, pair};
 ghost use Rattle.pgs_command.specs.Values.{name_of, number_of, number_between, bytes_of, length_of, count_of, turns_of, class_of, mode_of, kind_of};
 
-
 use crate::kinds::ReferenceClass;
 use crate::values::{read_class, read_mode, read_name, read_number};
 use pgs_io::next_token;

@@ -1,8 +1,8 @@
 -- The course of a script, one line more.
-use Rattle.std.proofs.Common.{◌≡◌, ℕ, ◌+◌, ◌<◌, ◌≤◌, Bool, true, false, List, [], ◌∷◌, ◌++◌, length, Option, Some, None, refl, sym, ◌∙◌, ap, subst, arith, length-append}
+use Rattle.std.proofs.Common.{◌≡◌, ℕ, ◌+◌, ◌<◌, ◌≤◌, Bool, true, false, List, [], ◌∷◌, ◌++◌, length, Option, refl, sym, ◌∙◌, ap, subst, arith, length-append}
 use Rattle.std.specs.Prelude.{fold}
 use Rattle.pgs_step.specs.declared.events.What.{What}
-use Rattle.pgs_world.specs.Script.{read_line}
+use Rattle.pgs_world.specs.Script.{command_of}
 use Rattle.pgs_world.specs.Session.{World, opening}
 use Rattle.pgs_world.specs.Answers.{Fits, IsLater}
 use Rattle.pgs_world.specs.Transcript.{Course, Turn, TurnIs, turn, at_start, after_turn, after_line, course_of}
@@ -34,12 +34,12 @@ course_of-stopped w lines more h = fold-append (after_line w) at_start lines mor
 
 -- one line more
 pub CourseAt-line : (w : Option ℕ) (course : Course) (line : List ℕ) (old new : World) (before during after : List What → Type 0) (n : ℕ) (wanted : Bool)
-    → CourseAt course old before n false → TurnIs (turn w (read_line line) old) new during wanted
+    → CourseAt course old before n false → TurnIs (turn w (command_of line) old) new during wanted
     → ((xs ys : List What) → before xs → during ys → after (xs ++ ys))
     → CourseAt (after_line w course line) new after (n + 1) wanted
 CourseAt-line w course line old new before during after n wanted c t joins =
-    let next : Turn = turn w (read_line line) course.world in
-    let told : TurnIs next new during wanted = subst (λ (z : World). TurnIs (turn w (read_line line) z) new during wanted) (sym c.world_is) t in
+    let next : Turn = turn w (command_of line) course.world in
+    let told : TurnIs next new during wanted = subst (λ (z : World). TurnIs (turn w (command_of line) z) new during wanted) (sym c.world_is) t in
     let goes : after_line w course line ≡ after_turn course next = rw c.wanted_is refl in
     subst (λ (z : Course). CourseAt z new after (n + 1) wanted) (sym goes)
     (record {
@@ -55,7 +55,7 @@ CoursesAre-start emitted h w f = record { world_is = refl; events = h; performed
 
 pub CoursesAre-line : (lines : List (List ℕ)) (line : List ℕ) (old new : World) (before during after : List What → Type 0) (wanted : Bool)
     → CoursesAre false lines old before
-    → ((w : Option ℕ) → Fits wanted new.calls w → TurnIs (turn w (read_line line) old) new during wanted)
+    → ((w : Option ℕ) → Fits wanted new.calls w → TurnIs (turn w (command_of line) old) new during wanted)
     → old.calls ≤ new.calls → (wanted ≡ true → old.calls < new.calls)
     → ((xs ys : List What) → before xs → during ys → after (xs ++ ys))
     → CoursesAre wanted (lines ++ line ∷ []) new after

@@ -1,13 +1,13 @@
 -- Which elements a line has.
-use Rattle.std.proofs.Common.{◌≡◌, ℕ, ◌<◌, ◌≤◌, Bool, true, false, List, [], ◌∷◌, Option, Some, None, refl, sym, ◌∙◌, ap, arith}
+use Rattle.std.proofs.Common.{◌≡◌, ℕ, ◌<◌, ◌≤◌, Bool, true, false, [], ◌∷◌, Option, Some, None, refl, arith}
 use Rattle.std.specs.Prelude.{nat_lt, if◌then◌else◌}
 use Rattle.std.proofs.lemmas.Bool.Decides.{nat_tests}
-use Rattle.pgs_step.specs.declared.errors.Error.TheVariants.{SyntaxError, NoSuchBuffer}
+use Rattle.pgs_step.specs.declared.errors.Error.TheVariants.{SyntaxError, TransactionAborted, NoSuchBuffer}
 use Rattle.pgs_step.specs.declared.events.What.TheVariants as what
-use Rattle.pgs_world.specs.declared.command.Command.{Command}
-use Rattle.pgs_world.specs.declared.command.Command.TheVariants.{Pin}
+use Rattle.pgs_command.specs.declared.commands.Command.{Command}
+use Rattle.pgs_command.specs.declared.commands.Command.TheVariants.{Nothing, Begin, Commit, Rollback, Pin}
 use Rattle.pgs_world.specs.declared.session.Standing.TheVariants.{Idle, InBlock, Aborted}
-use Rattle.pgs_world.specs.Session.{Element, Refuse, Says, Enlarge, TakePin, LevelState, SessionState, idle_elements, block_elements, aborted_elements, command_elements, elements_of}
+use Rattle.pgs_world.specs.Session.{Refuse, Says, Enlarge, TakePin, LevelState, SessionState, idle_elements, block_elements, aborted_elements, command_elements, elements_of}
 use Rattle.pgs_world.specs.Parts.{standing_of}
 
 pub pin_elements : (buffer : ℕ) → buffer < 1024 → block_elements (Pin buffer) ≡ Enlarge ∷ TakePin buffer ∷ Says what.Ok ∷ []
@@ -15,6 +15,28 @@ pin_elements buffer h = let test : nat_lt buffer 1024 ≡ true = grind (arith, n
 
 pub no_buffer_elements : (buffer : ℕ) → 1024 ≤ buffer → block_elements (Pin buffer) ≡ Refuse NoSuchBuffer ∷ []
 no_buffer_elements buffer h = let test : nat_lt buffer 1024 ≡ false = grind (arith, nat_tests) in rw test refl
+
+-- what the commands refuse for which a state has no elements of their own
+pub idle_refuses : (command : Command) → (command ≡ Nothing → ⊥) → (command ≡ Begin → ⊥) → (command ≡ Commit → ⊥) → (command ≡ Rollback → ⊥) → idle_elements command ≡ Refuse SyntaxError ∷ []
+idle_refuses Nothing n b c r = absurd (n refl)
+idle_refuses Begin n b c r = absurd (b refl)
+idle_refuses Commit n b c r = absurd (c refl)
+idle_refuses Rollback n b c r = absurd (r refl)
+idle_refuses command n b c r = refl
+
+pub block_refuses : (command : Command) → (command ≡ Nothing → ⊥) → (command ≡ Begin → ⊥) → (command ≡ Commit → ⊥) → (command ≡ Rollback → ⊥) → ((buffer : ℕ) → command ≡ Pin buffer → ⊥) → block_elements command ≡ Refuse SyntaxError ∷ []
+block_refuses Nothing n b c r p = absurd (n refl)
+block_refuses Begin n b c r p = absurd (b refl)
+block_refuses Commit n b c r p = absurd (c refl)
+block_refuses Rollback n b c r p = absurd (r refl)
+block_refuses (Pin buffer) n b c r p = absurd (p buffer refl)
+block_refuses command n b c r p = refl
+
+pub aborted_refuses : (command : Command) → (command ≡ Nothing → ⊥) → (command ≡ Commit → ⊥) → (command ≡ Rollback → ⊥) → aborted_elements command ≡ Refuse TransactionAborted ∷ []
+aborted_refuses Nothing n c r = absurd (n refl)
+aborted_refuses Commit n c r = absurd (c refl)
+aborted_refuses Rollback n c r = absurd (r refl)
+aborted_refuses command n c r = refl
 
 pub bad_elements : (command : Option Command) (session : SessionState) → command ≡ None → elements_of command session ≡ Refuse SyntaxError ∷ []
 unfolding elements_of

@@ -1,9 +1,9 @@
 -- The outcome of a script, from how its reading ended and what was printed.
-use Rattle.std.proofs.Common.{◌≡◌, ◌≢◌, ℕ, ◌+◌, ◌-◌, ◌^◌, ◌<◌, ◌≤◌, Bool, true, false, List, [], ◌∷◌, ◌++◌, length, take, Option, Some, None, ◌⊎◌, inl, inr, refl, sym, ◌∙◌, ap, subst, arith, append-nil, length-append}
-use Rattle.std.specs.Prelude.{min, nat_lt, ◌==◌, if◌then◌else◌, ◌↔◌}
+use Rattle.std.proofs.Common.{◌≡◌, ℕ, ◌^◌, ◌<◌, Bool, true, false, List, [], ◌∷◌, ◌++◌, length, take, Option, Some, None, ◌⊎◌, inl, inr, refl, sym, ◌∙◌, ap, subst, arith, append-nil, length-append}
+use Rattle.std.specs.Prelude.{nat_lt, ◌==◌, if◌then◌else◌, ◌↔◌}
 use Rattle.std.proofs.lemmas.Bool.Decides.{nat_tests}
 use Rattle.std.proofs.Math.Seq.{take-append_seam}
-use Rattle.std.specs.Io.KnownBytes.{append_known, prepend_known, IsAtEnd}
+use Rattle.std.specs.Io.KnownBytes.{append_known}
 use Rattle.pgs_io.specs.Faults.{HasRisen}
 use Rattle.pgs_io.specs.Lines.{lines_of, ended_lines, onto_first, onto_ended, newline}
 use Rattle.pgs_step.specs.declared.events.What.{What}
@@ -14,11 +14,10 @@ use Rattle.pgs_world.specs.Answers.{Fits}
 use Rattle.pgs_world.specs.Transcript.{Course, course_of, transcript, errors_in, text_of_transcript, EndsAt}
 use Rattle.pgs_step.specs.Text.{texts_of}
 use Rattle.pgs_world.specs.Printing.{Gathering, Prints, Moves, GoesOn, FailsWithin}
-use Rattle.pgs_world.specs.Outcome.{most_bytes, HasGiven, refused_call, IsWhole, IsWanted, IsCutOff, IsTooLong, IsUnwritten}
+use Rattle.pgs_world.specs.Outcome.{HasGiven, refused_call, IsWhole, IsWanted, IsCutOff, IsTooLong, IsUnwritten}
 use Rattle.pgs_world.specs.Ending.{outcome_of, status_of}
-use Rattle.pgs_world.specs.Loop.{EndIs, AreFront, CoursesAre, CourseAt, is_wanted, OnUnwritten}
+use Rattle.pgs_world.specs.Loop.{EndIs, CourseAt, is_wanted, OnUnwritten}
 use Rattle.pgs_world.proofs.CourseLemmas.{course_of-stopped}
-use Rattle.pgs_world.proofs.ErrorLemmas.{few_errors}
 
 -- What a sink and the counts show once these events were printed and handed on.
 pub record Printed (written written' : Option (List ℕ)) (faults faults' errors : ℕ) (failed : Bool) (events : List What) : Type 0 where

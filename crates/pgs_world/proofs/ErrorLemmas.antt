@@ -1,5 +1,5 @@
 -- How many ERROR events a transcript has: at most one for each line.
-use Rattle.std.proofs.Common.{◌≡◌, ℕ, ◌+◌, ◌≤◌, Bool, true, false, List, [], ◌∷◌, ◌++◌, length, Option, Some, None, refl, sym, ◌∙◌, ap, subst, arith}
+use Rattle.std.proofs.Common.{◌≡◌, ℕ, ◌+◌, ◌≤◌, Bool, true, false, List, [], ◌∷◌, length, Option, Some, None, refl, ◌∙◌, ap, arith}
 use Rattle.std.specs.Prelude.{fold, nat_lt, if◌then◌else◌}
 use Rattle.std.specs.Option.{option_map_or}
 use Rattle.pgs_step.specs.declared.ids.Item.{Item}
@@ -8,13 +8,12 @@ use Rattle.pgs_step.specs.declared.events.What.{What}
 use Rattle.pgs_step.specs.declared.events.What.TheVariants as what
 use Rattle.owner_core.specs.Owners.{Owner, items_of}
 use Rattle.owner_core.specs.Steps.{release_of, releases_of}
-use Rattle.pgs_world.specs.declared.command.Command.{Command}
-use Rattle.pgs_world.specs.declared.command.Command.TheVariants.{Nothing, Begin, Commit, Rollback, Pin}
+use Rattle.pgs_command.specs.declared.commands.Command.{Command}
+use Rattle.pgs_command.specs.declared.commands.Command.TheVariants.{Nothing, Begin, Commit, Rollback, Pin}
 use Rattle.pgs_world.specs.Pins.{said, said-append}
-use Rattle.pgs_world.specs.Script.{read_line}
+use Rattle.pgs_world.specs.Script.{command_of}
 use Rattle.pgs_world.specs.Session.{World, SessionState, LevelState, Ended, Done, Element, Refuse, Says, MakeLevel, MakeOwner, Enlarge, TakePin, CommitTop, Abort, Cleanup, does, does_all, then_done, fallible, is_call, level_made, owner_made, pinned_by, owner_of, release_events, gone_events, committed, aborted, cleaned_up, and_then, given_up, recovered, rolled_back, exited, idle_elements, block_elements, aborted_elements, command_elements, elements_of}
-use Rattle.pgs_world.specs.Answers.{is_want}
-use Rattle.pgs_world.specs.Transcript.{Course, Turn, turn, turn_of, after_line, after_turn, at_start, course_of, transcript, errors_in, is_error}
+use Rattle.pgs_world.specs.Transcript.{Course, turn, turn_of, after_line, after_turn, at_start, course_of, transcript, errors_in, is_error}
 use Rattle.pgs_world.specs.PrintingLaws.{errors_in-append}
 
 one_release : (commit : Bool) (owner : ℕ) (item : Item) → errors_in (said (release_of commit owner item)) ≡ 0
@@ -107,7 +106,7 @@ idle_calm Nothing = tt
 idle_calm Begin = (tt, (tt, (refl, tt)))
 idle_calm Commit = (refl, (refl, tt))
 idle_calm Rollback = (refl, (refl, tt))
-idle_calm (Pin buffer) = (tt, tt)
+idle_calm command = (tt, tt)
 
 either_are_calm : (b : Bool) (xs ys : List Element) → AreCalm xs → AreCalm ys → AreCalm (if b then xs else ys)
 either_are_calm true xs ys h k = h
@@ -119,13 +118,13 @@ block_calm Begin = (refl, (refl, tt))
 block_calm Commit = (tt, (refl, tt))
 block_calm Rollback = (tt, (tt, (refl, tt)))
 block_calm (Pin buffer) = either_are_calm (nat_lt buffer 1024) _ _ (tt, (tt, (refl, tt))) (tt, tt)
+block_calm command = (tt, tt)
 
 aborted_block_calm : (command : Command) → AreCalm (aborted_elements command)
 aborted_block_calm Nothing = tt
-aborted_block_calm Begin = (tt, tt)
 aborted_block_calm Commit = (tt, (refl, tt))
 aborted_block_calm Rollback = (tt, (refl, tt))
-aborted_block_calm (Pin buffer) = (tt, tt)
+aborted_block_calm command = (tt, tt)
 
 command_calm : (level : Option LevelState) (command : Command) → AreCalm (command_elements level command)
 command_calm None command = idle_calm command
@@ -176,8 +175,8 @@ either_course false x y n h k = k
 
 line_errors : (w : Option ℕ) (course : Course) (line : List ℕ) (n : ℕ) → errors_in course.events ≤ n → errors_in (after_line w course line).events ≤ n + 1
 line_errors w course line n h =
-    either_course course.wanted course (after_turn course (turn w (read_line line) course.world)) (n + 1) (omega (arith, h))
-    (omega (arith, h, errors_in-append course.events (turn w (read_line line) course.world).events, turn_errors w (read_line line) course.world))
+    either_course course.wanted course (after_turn course (turn w (command_of line) course.world)) (n + 1) (omega (arith, h))
+    (omega (arith, h, errors_in-append course.events (turn w (command_of line) course.world).events, turn_errors w (command_of line) course.world))
 
 course_errors : (w : Option ℕ) (course : Course) (lines : List (List ℕ)) (n : ℕ) → errors_in course.events ≤ n → errors_in (fold (after_line w) course lines).events ≤ n + length lines
 course_errors w course [] n h = omega (arith, h)

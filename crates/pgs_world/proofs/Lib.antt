@@ -4,8 +4,8 @@ pub mod CourseLemmas
 pub mod ElementLemmas
 pub mod EndingLemmas
 pub mod ErrorLemmas
-pub mod LineLemmas
 pub mod LoopLemmas
 pub mod OwnerLemmas
-pub mod ScriptLemmas
 pub mod TurnLemmas
+pub mod ScriptLemmas
+pub mod WorkedRows

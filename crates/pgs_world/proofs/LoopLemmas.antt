@@ -1,20 +1,20 @@
 -- The reading loop: where it stands, and how it ends.
-use Rattle.std.proofs.Common.{◌≡◌, ℕ, ◌+◌, ◌*◌, ◌^◌, ◌<◌, ◌≤◌, Bool, true, false, List, [], ◌∷◌, ◌++◌, length, Option, Some, None, refl, sym, ◌∙◌, ap, subst, arith, length-append, append-nil}
+use Rattle.std.proofs.Common.{◌≡◌, ℕ, ◌+◌, ◌^◌, ◌<◌, ◌≤◌, Bool, true, false, List, [], ◌∷◌, ◌++◌, length, Option, Some, None, refl, sym, ◌∙◌, ap, arith, length-append, append-nil}
 use Rattle.std.specs.Prelude.{unwrap_or, IfSome}
 use Rattle.std.specs.Io.KnownBytes.{prepend_known}
-use Rattle.pgs_io.specs.Lines.{lines_of, text_of, newline}
-use Rattle.pgs_io.specs.Reading.{Reading, HasRead, GivesLine, GivesLast, MeetsEnd, MeetsFault, MeetsLimit}
+use Rattle.pgs_io.specs.Lines.{text_of, newline}
+use Rattle.pgs_io.specs.Reading.{Reading, GivesLine, GivesLast, MeetsEnd, MeetsFault, MeetsLimit}
 use Rattle.pgs_io.proofs.ReadingLemmas.{HasRead-start, HasRead-line, HasRead-now, HasRead-end, HasRead-last, HasRead-fault, HasRead-too_much}
 use Rattle.pgs_step.specs.declared.events.What.{What}
 use Rattle.pgs_world.specs.declared.performing.End.{End}
 use Rattle.pgs_world.specs.declared.performing.End.TheVariants as end
-use Rattle.pgs_world.specs.Script.{read_line}
+use Rattle.pgs_world.specs.Script.{command_of}
 use Rattle.pgs_world.specs.Session.{World, opening}
 use Rattle.pgs_world.specs.Answers.{Fits}
 use Rattle.pgs_world.specs.Parts.{IsBetweenLines, HasRoom, Grows}
 use Rattle.pgs_world.specs.Transcript.{TurnIs, turn}
 use Rattle.pgs_world.specs.Outcome.{most_bytes}
-use Rattle.pgs_world.specs.Loop.{CoursesAre, IsBounded, Stands, Performs, EndIs, AreFront, IsLineEnd, is_wanted, is_wanted_in}
+use Rattle.pgs_world.specs.Loop.{IsBounded, Stands, Performs, EndIs, AreFront, IsLineEnd, is_wanted, is_wanted_in}
 use Rattle.pgs_world.proofs.CourseLemmas.{CoursesAre-start, CoursesAre-line, CoursesAre-weaker}
 
 pub Stands-start : (start : Option (List ℕ)) (reader : Reading) (emitted : List What → Type 0) → reader.pending ≡ [] → reader.room ≡ most_bytes → emitted [] → Stands start start reader opening emitted []
@@ -35,7 +35,7 @@ bounded-more n lines line old new b g = record {
 -- one line more, and the script goes on
 pub Stands-line : (start before after : Option (List ℕ)) (reader reader' : Reading) (old new : World) (kept : List ℕ) (long : Bool) (emitted during emitted' : List What → Type 0) (lines : List (List ℕ))
     → Stands start before reader old emitted lines → (g : GivesLine before after reader reader' kept long)
-    → ((w : Option ℕ) → Fits false new.calls w → TurnIs (turn w (read_line g.line) old) new during false)
+    → ((w : Option ℕ) → Fits false new.calls w → TurnIs (turn w (command_of g.line) old) new during false)
     → old.calls ≤ new.calls → IsBetweenLines new.session.level → Grows 4 old new
     → ((xs ys : List What) → emitted xs → during ys → emitted' (xs ++ ys))
     → Stands start after reader' new emitted' (lines ++ g.line ∷ [])
@@ -121,7 +121,7 @@ module _ (start before after : Option (List ℕ)) (reader reader' : Reading) (ol
   more line = omega (arith, count, length-append lines (line ∷ []))
 
   pub ends-line : (g : GivesLine before after reader reader' kept long) (e : End) (failed : Bool) → IsLineEnd e failed
-      → ((w : Option ℕ) → Fits (is_wanted e) new.calls w → TurnIs (turn w (read_line g.line) old) new during (is_wanted e))
+      → ((w : Option ℕ) → Fits (is_wanted e) new.calls w → TurnIs (turn w (command_of g.line) old) new during (is_wanted e))
       → (is_wanted e ≡ true → old.calls < new.calls)
       → Performs (record { end = e; lines = n + 1 }) start after new emitted'
   ends-line g e failed h turns counted =
@@ -135,7 +135,7 @@ module _ (start before after : Option (List ℕ)) (reader reader' : Reading) (ol
       }
 
   pub ends-last : (g : GivesLast before after reader reader' kept long)
-      → ((w : Option ℕ) → Fits false new.calls w → TurnIs (turn w (read_line g.line) old) new during false)
+      → ((w : Option ℕ) → Fits false new.calls w → TurnIs (turn w (command_of g.line) old) new during false)
       → Performs (record { end = end.Whole; lines = n + 1 }) start after new emitted'
   ends-last g turns =
       let read = HasRead-last most_bytes start before after reader reader' kept long lines s.read g in record {
@@ -148,7 +148,7 @@ module _ (start before after : Option (List ℕ)) (reader reader' : Reading) (ol
       }
 
   pub ends-last_line : (g : GivesLast before after reader reader' kept long) (e : End) (failed : Bool) → IsLineEnd e failed
-      → ((w : Option ℕ) → Fits (is_wanted e) new.calls w → TurnIs (turn w (read_line g.line) old) new during (is_wanted e))
+      → ((w : Option ℕ) → Fits (is_wanted e) new.calls w → TurnIs (turn w (command_of g.line) old) new during (is_wanted e))
       → (is_wanted e ≡ true → old.calls < new.calls)
       → Performs (record { end = e; lines = n + 1 }) start after new emitted'
   ends-last_line g e failed h turns counted =
@@ -162,7 +162,7 @@ module _ (start before after : Option (List ℕ)) (reader reader' : Reading) (ol
       }
 
   pub ends-last_any : (g : GivesLast before after reader reader' kept long) (r : Option End) (failed : Bool) → IfSome r (λ e. IsLineEnd e failed)
-      → ((w : Option ℕ) → Fits (is_wanted_in r) new.calls w → TurnIs (turn w (read_line g.line) old) new during (is_wanted_in r))
+      → ((w : Option ℕ) → Fits (is_wanted_in r) new.calls w → TurnIs (turn w (command_of g.line) old) new during (is_wanted_in r))
       → (is_wanted_in r ≡ true → old.calls < new.calls)
       → Performs (record { end = unwrap_or r end.Whole; lines = n + 1 }) start after new emitted'
   ends-last_any g None failed h turns counted = ends-last g turns

@@ -1,12 +1,12 @@
 -- The one owner of a level.
-use Rattle.std.proofs.Common.{◌≡◌, ℕ, ◌+◌, ◌<◌, ◌≤◌, length, replicate, length-set, get_or, Bool, true, false, List, [], ◌∷◌, Option, Some, None, refl, sym, ◌∙◌, ap, subst, arith, IsTrue}
+use Rattle.std.proofs.Common.{◌≡◌, ℕ, ◌+◌, ◌<◌, ◌≤◌, length, replicate, length-set, get_or, Bool, true, false, List, [], ◌∷◌, Option, Some, None, refl, sym, ◌∙◌, ap, subst, arith}
 use Rattle.std.specs.Prelude.{◌==◌, ◌||◌, ◌&&◌, if◌then◌else◌, slice_set, slice_index}
 use Rattle.std.proofs.lemmas.Grind.{common_steps}
 use Rattle.std.proofs.lemmas.List.Sums.{count_by-le-length}
 use Rattle.std.proofs.lemmas.List.{length-replicate}
 use Rattle.std.proofs.lemmas.Bool.Decides.{nat_tests}
 use Rattle.pgs_step.specs.declared.ids.Item.{Item}
-use Rattle.owner_core.specs.Owners.{Owner, has_owner, items_of, without, released, remembered, uses}
+use Rattle.owner_core.specs.Owners.{Owner, has_owner, items_of, released, remembered, uses}
 use Rattle.pgs_step.specs.declared.ids.Phase.TheVariants.{BeforeLocks}
 use Rattle.pgs_world.specs.Session.{World, SessionState, LevelState, after_release, after_gone, owner_of, opening}
 use Rattle.pgs_world.specs.Pins.{pins_counted}

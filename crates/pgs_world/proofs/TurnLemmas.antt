@@ -1,11 +1,11 @@
 -- What a line does, from what its elements answer.
-use Rattle.std.proofs.Common.{◌≡◌, ℕ, Bool, true, false, List, [], ◌∷◌, ◌++◌, Option, Some, None, refl, sym, ◌∙◌, ap, subst}
+use Rattle.std.proofs.Common.{◌≡◌, ℕ, false, List, ◌++◌, Option, Some, None, refl, sym, ◌∙◌, ap, subst}
 use Rattle.pgs_step.specs.declared.errors.Error.{Error}
 use Rattle.pgs_step.specs.declared.events.What.{What}
-use Rattle.pgs_world.specs.declared.command.Command.{Command}
+use Rattle.pgs_command.specs.declared.commands.Command.{Command}
 use Rattle.pgs_world.specs.Session.{World, Done, elements_of, does_all, recovered}
 use Rattle.pgs_world.specs.Answers.{Answers, Fits, is_want}
-use Rattle.pgs_world.specs.Transcript.{Turn, turn, turn_of, TurnIs}
+use Rattle.pgs_world.specs.Transcript.{turn, turn_of, TurnIs}
 
 -- a line whose elements were all done
 pub turn-ok : (w : Option ℕ) (command : Option Command) (old new : World) (emitted : List What → Type 0)

@@ -3,7 +3,7 @@ use Rattle.std.specs.Prelude.{◌≡◌, ℕ, ◌<◌, ◌≤◌, Bool, true, fa
 use Rattle.pgs_step.specs.declared.errors.Error.{Error}
 use Rattle.pgs_step.specs.declared.errors.Error.TheVariants.{NoMemory}
 use Rattle.pgs_step.specs.declared.events.What.{What}
-use Rattle.pgs_world.specs.Session.{World, SessionState, Done, Ended}
+use Rattle.pgs_world.specs.Session.{World, Done}
 
 -- the call that is refused, if any, comes behind these calls
 abbrev pub IsLater : ℕ → Option ℕ → Type 0

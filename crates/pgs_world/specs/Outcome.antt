@@ -1,5 +1,5 @@
 -- What a run did, by its status.
-use Rattle.std.specs.Prelude.{◌≡◌, ℕ, ◌+◌, ◌^◌, ◌<◌, ◌≤◌, ◌↔◌, List, [], ◌∷◌, ◌++◌, length, take, codes, Option, Some, None, ◌==◌, if◌then◌else◌}
+use Rattle.std.specs.Prelude.{◌≡◌, ℕ, ◌^◌, ◌<◌, ◌≤◌, ◌↔◌, List, [], ◌∷◌, ◌++◌, length, take, codes, Option, Some, None, ◌==◌, if◌then◌else◌}
 use Rattle.std.specs.Io.KnownBytes.{prepend_known, append_known, IsAtEnd}
 use Rattle.pgs_io.specs.Lines.{lines_of, ended_lines}
 use Rattle.pgs_world.specs.declared.program.Outcome.{Outcome}

@@ -8,7 +8,7 @@ use Rattle.pgs_world.specs.declared.session.Level.{Level}
 use Rattle.pgs_world.specs.declared.session.Standing.{Standing}
 use Rattle.pgs_world.specs.declared.session.Standing.TheVariants.{Idle, InBlock, Aborted}
 use Rattle.pgs_world.specs.Pins.{pins_counted}
-use Rattle.pgs_world.specs.Session.{LevelState, SessionState, World}
+use Rattle.pgs_world.specs.Session.{LevelState, World}
 
 abbrev pub level_state : Level → LevelState
 level_state level = record { owner = option_map (λ id. id.number) level.owner; aborted = level.aborted }

@@ -4,8 +4,8 @@ use Rattle.std.specs.Io.KnownBytes.{append_known}
 use Rattle.pgs_io.specs.Faults.{HasRisen}
 use Rattle.pgs_step.specs.declared.events.What.{What}
 use Rattle.pgs_step.specs.Text.{texts_of, text_of}
-use Rattle.pgs_world.specs.Transcript.{errors_in, is_error}
-use Rattle.pgs_world.specs.Printing.{Gathering, HandsOn, FailsWithin, GoesOn, StaysSilent, Moves, Prints}
+use Rattle.pgs_world.specs.Transcript.{errors_in}
+use Rattle.pgs_world.specs.Printing.{Gathering, HandsOn, Moves, Prints}
 use Rattle.std.proofs.lemmas.Grind.{common_steps}
 
 pub append_known-nil : (a : Option (List ℕ)) → a ≡ append_known a []

@@ -1,5 +1,5 @@
 -- A session: its state, the elements of its commands, and what each of them does.
-use Rattle.std.specs.Prelude.{◌≡◌, ℕ, ◌+◌, ◌<◌, ◌==◌, nat_lt, Bool, true, false, if◌then◌else◌, List, [], ◌∷◌, ◌++◌, Option, Some, None}
+use Rattle.std.specs.Prelude.{ℕ, ◌+◌, ◌==◌, nat_lt, Bool, true, false, if◌then◌else◌, List, [], ◌∷◌, ◌++◌, Option, Some, None}
 use Rattle.std.specs.Option.{option_map_or}
 use Rattle.pgs_step.specs.declared.ids.Item.{Item}
 use Rattle.pgs_step.specs.declared.errors.Error.{Error}
@@ -12,8 +12,8 @@ use Rattle.owner_core.specs.Owners.{items_of, remembered, released, without}
 use Rattle.owner_core.specs.Steps.{releases_of}
 use Rattle.pgs_step.specs.declared.ids.Phase.TheVariants.{BeforeLocks}
 use Rattle.pgs_world.specs.Pins.{said}
-use Rattle.pgs_world.specs.declared.command.Command.{Command}
-use Rattle.pgs_world.specs.declared.command.Command.TheVariants.{Nothing, Begin, Commit, Rollback, Pin}
+use Rattle.pgs_command.specs.declared.commands.Command.{Command}
+use Rattle.pgs_command.specs.declared.commands.Command.TheVariants.{Nothing, Begin, Commit, Rollback, Pin}
 
 -- The level of a transaction. While it is being started it has no owner.
 pub record LevelState : Type 0 where
@@ -55,29 +55,29 @@ pub data Element : Type 0 where
   Abort : Element
   Cleanup : Element
 
--- what a command does where no transaction is open
+-- What a command does where no transaction is open. A command that needs one is a bad line.
 abbrev pub idle_elements : Command → List Element
 idle_elements Nothing = []
 idle_elements Begin = MakeLevel ∷ MakeOwner ∷ Says what.Ok ∷ []
 idle_elements Commit = Says NotInTransaction ∷ Says what.Ok ∷ []
 idle_elements Rollback = Says NotInTransaction ∷ Says what.Ok ∷ []
-idle_elements (Pin buffer) = Refuse SyntaxError ∷ []
+idle_elements command = Refuse SyntaxError ∷ []
 
--- what a command does in a transaction that isn't aborted
+-- What a command does in a transaction that isn't aborted. No line asks for any other command than these.
 abbrev pub block_elements : Command → List Element
 block_elements Nothing = []
 block_elements Begin = Says AlreadyInTransaction ∷ Says what.Ok ∷ []
 block_elements Commit = CommitTop ∷ Says what.Ok ∷ []
 block_elements Rollback = Abort ∷ Cleanup ∷ Says what.Ok ∷ []
 block_elements (Pin buffer) = if nat_lt buffer 1024 then Enlarge ∷ TakePin buffer ∷ Says what.Ok ∷ [] else Refuse NoSuchBuffer ∷ []
+block_elements command = Refuse SyntaxError ∷ []
 
--- what a command does in an aborted transaction
+-- What a command does in an aborted transaction: each but the ends is refused.
 abbrev pub aborted_elements : Command → List Element
 aborted_elements Nothing = []
-aborted_elements Begin = Refuse TransactionAborted ∷ []
 aborted_elements Commit = Cleanup ∷ Says what.Ok ∷ []
 aborted_elements Rollback = Cleanup ∷ Says what.Ok ∷ []
-aborted_elements (Pin buffer) = Refuse TransactionAborted ∷ []
+aborted_elements command = Refuse TransactionAborted ∷ []
 
 -- the elements of a command, in order
 abbrev pub command_elements : Option LevelState → Command → List Element

@@ -1,12 +1,12 @@
 -- The transcript of a script.
-use Rattle.std.specs.Prelude.{◌≡◌, ℕ, ◌+◌, Bool, true, false, if◌then◌else◌, List, [], ◌∷◌, ◌++◌, fold, count_by, Option, Some, None}
+use Rattle.std.specs.Prelude.{◌≡◌, ℕ, ◌+◌, Bool, true, false, if◌then◌else◌, List, [], ◌++◌, fold, count_by, Option, Some, None}
 use Rattle.pgs_step.specs.declared.errors.Error.{Error}
 use Rattle.pgs_step.specs.declared.events.What.{What}
 use Rattle.pgs_step.specs.declared.events.What.TheVariants as what
 use Rattle.pgs_step.specs.Text.{texts_of}
-use Rattle.pgs_world.specs.declared.command.Command.{Command}
-use Rattle.pgs_world.specs.Script.{read_line}
-use Rattle.pgs_world.specs.Session.{World, Done, Ended, opening, elements_of, does_all, recovered, exited}
+use Rattle.pgs_command.specs.declared.commands.Command.{Command}
+use Rattle.pgs_world.specs.Script.{command_of}
+use Rattle.pgs_world.specs.Session.{World, Done, opening, elements_of, does_all, recovered, exited}
 use Rattle.pgs_world.specs.Answers.{is_want}
 
 -- what a line did: the world after it, its events in order, and whether it met a want of memory, which ends the script
@@ -50,7 +50,7 @@ abbrev pub after_turn : Course → Turn → Course
 after_turn course turn = record { world = turn.world; events = course.events ++ turn.events; performed = course.performed + 1; wanted = turn.wanted }
 
 abbrev pub after_line : Option ℕ → Course → List ℕ → Course
-after_line w course line = if course.wanted then course else after_turn course (turn w (read_line line) course.world)
+after_line w course line = if course.wanted then course else after_turn course (turn w (command_of line) course.world)
 
 -- the course of a script, line by line
 unfoldable pub course_of : Option ℕ → List (List ℕ) → Course

@@ -1,8 +1,7 @@
 //! The program: it reads a script of one session and writes its transcript.
 #![tactic(auto)]
 
-mod command;
-mod parser;
+mod lines;
 mod perform;
 mod performing;
 mod pins;
@@ -10,8 +9,6 @@ mod printer;
 mod program;
 mod session;
 
-pub use command::Command;
-pub use parser::script_lines;
 pub use program::{Outcome, run};
 
 #[cfg(test)]

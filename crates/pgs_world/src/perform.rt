@@ -5,11 +5,11 @@ ghost use Rattle.pgs_world.specs.Session.{Says, MakeLevel, MakeOwner, Enlarge, T
 ghost use Rattle.pgs_world.specs.Answers.{Answers, Fits, refusal_of, is_want};
 ghost use Rattle.pgs_world.specs.Parts.{IsBetweenLines, IsOpen, IsInBlock, IsLevel, IsAborted, HasRoom, Grows};
 ghost use Rattle.pgs_world.specs.Transcript.{turn, TurnIs};
-ghost use Rattle.pgs_world.specs.declared.command.Command.TheVariants as commands;
+ghost use Rattle.pgs_command.specs.declared.commands.Command.TheVariants as commands;
 
-use crate::command::Command;
 use crate::pins::BUFFERS;
 use crate::session::{Session, Standing};
+use pgs_command::Command;
 use pgs_step::{Emit, Error, What};
 
 impl Session {
@@ -70,7 +70,7 @@ impl Session {
                 say(What::NotInTransaction, out);
                 Ok(())
             }
-            Command::Pin(_) => Err(Error::SyntaxError),
+            _ => Err(Error::SyntaxError),
         }
     }
 
@@ -97,6 +97,7 @@ impl Session {
                 Ok(())
             }
             Command::Pin(buffer) => self.pin_buffer(buffer, out),
+            _ => Err(Error::SyntaxError),
         }
     }
 
@@ -110,7 +111,6 @@ impl Session {
     {
         match command {
             Command::Nothing => Ok(()),
-            Command::Begin => Err(Error::TransactionAborted),
             Command::Commit => {
                 self.end_aborted(out);
                 Ok(())
@@ -119,7 +119,7 @@ impl Session {
                 self.end_aborted(out);
                 Ok(())
             }
-            Command::Pin(_) => Err(Error::TransactionAborted),
+            _ => Err(Error::TransactionAborted),
         }
     }
 

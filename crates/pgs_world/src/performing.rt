@@ -5,14 +5,14 @@ ghost use Rattle.pgs_io.specs.Lines.{IsKept};
 ghost use Rattle.pgs_io.specs.Reading.{GivesLine, GivesLast, MeetsEnd, MeetsFault, MeetsLimit};
 ghost use Rattle.pgs_io.specs.Answers.{IfLine, IfLast, OnEnd, OnFault, OnTooMuch, OnNoFault};
 ghost use Rattle.pgs_world.specs.Session.{opening};
-ghost use Rattle.pgs_world.specs.Script.{read_line};
+ghost use Rattle.pgs_world.specs.Script.{command_of};
 ghost use Rattle.pgs_world.specs.Answers.{Fits};
 ghost use Rattle.pgs_world.specs.Parts.{IsBetweenLines, HasRoom, Grows};
 ghost use Rattle.pgs_world.specs.PrinterView.{TakesEvents};
 ghost use Rattle.pgs_world.specs.Transcript.{turn, TurnIs};
 ghost use Rattle.pgs_world.specs.Loop.{Performs, is_wanted_in, IsLineEnd, OnSourceFault, OnNoSourceFault, OnUnwritten};
 
-use crate::parser::parse_line;
+use crate::lines::read_command;
 use crate::printer::Printer;
 use crate::session::Session;
 use pgs_io::{Buffered, LineBuf, LineReader, Next, Sink, Source};
@@ -145,14 +145,14 @@ fn perform_line<K: Sink>(
     requires between { IsBetweenLines session.old.session.level }
     requires room { HasRoom 4 session.old }
     ensures turn { (line : List ℕ) → IsKept line kept.now long → (w : Option ℕ) → Fits (is_wanted_in result) session.new.calls w
-        → TurnIs (turn w (read_line line) session.old) session.new (λ xs. TakesEvents K.written K.faults printer.old xs printer.new) (is_wanted_in result) }
+        → TurnIs (turn w (command_of line) session.old) session.new (λ xs. TakesEvents K.written K.faults printer.old xs printer.new) (is_wanted_in result) }
     ensures between { IsBetweenLines session.new.session.level }
     ensures grows { Grows 4 session.old session.new }
     ensures calls { session.old.calls ≤ session.new.calls }
     ensures counted { is_wanted_in result ≡ true → session.old.calls < session.new.calls }
     ensures end { IfSome result (λ end. IsLineEnd end printer.new.failed) }
 {
-    let wanted = session.take_turn(parse_line(kept, long), printer);
+    let wanted = session.take_turn(read_command(kept, long), printer);
     if wanted {
         return Some(End::Wanted);
     }

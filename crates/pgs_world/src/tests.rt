@@ -1,7 +1,7 @@
 //! The program over a source and a sink in memory.
 ghost use Rattle.std.specs.Prelude.{◌≤◌};
 
-use crate::{Outcome, run, script_lines};
+use crate::{Outcome, run};
 use pgs_io::{MemSink, MemSource};
 use std::alloc::{AllocError, Global};
 use std::test::Fail;
@@ -55,7 +55,7 @@ struct Row {
 }
 
 #[test]
-fn four_scripts(rt: HostRuntime) -> Result<(), Fail> {
+fn five_scripts(rt: HostRuntime) -> Result<(), Fail> {
     for row in [
         Row {
             script: b"",
@@ -85,6 +85,13 @@ fn four_scripts(rt: HostRuntime) -> Result<(), Fail> {
             errors: 2,
             lines: 3,
         },
+        Row {
+            script: b"begin\nlock 5 ShareLock\nreport\npin 1\n@1 rollback\nrollback\n",
+            transcript: b"1 begin level 1\n1 owner o1\n1 ok\n1 ERROR 42601 syntax error\n1 abort level 1\n1 ERROR 42601 syntax error\n1 ERROR 25P02 transaction is aborted\n1 ERROR 42601 syntax error\n1 cleanup level 1\n1 owner o1 gone\n1 ok\n1 exit\n",
+            status: 1,
+            errors: 4,
+            lines: 6,
+        },
     ] {
         let played = play(rt.alloc(), row.script, 5, 0, 0)?;
         assert_eq!(rt; played.outcome.status, row.status);
@@ -98,7 +105,6 @@ fn four_scripts(rt: HostRuntime) -> Result<(), Fail> {
         );
         assert_eq!(rt; played.written.as_slice(), row.transcript);
     }
-    script_lines();
     Ok(())
 }
 

@@ -1,8 +1,7 @@
-use Rattle.std.proofs.Common.{◌≡◌, rules, codes, subst, sym, ◌∙◌, ap}
-use Rattle.std.specs.Option.{option_or, option_copied}
+use Rattle.std.proofs.Common.{◌≡◌, rules, codes, subst, sym, ◌∙◌}
+use Rattle.std.specs.Option.{option_copied}
 use Rattle.pgs_command.specs.Words.{words_in}
-use Rattle.pgs_command.specs.Table.{look_up, transaction_rows, none}
-use Rattle.pgs_command.specs.declared.commands.Command.TheVariants.{Rollback}
+use Rattle.pgs_command.specs.Table.{look_up, transaction_rows}
 use Rattle.pgs_command.proofs.ValueLemmas.{is_text-means}
 use Rattle.pgs_command.proofs.TableLemmas.{or_none}
 use Rattle.pgs_command.proofs.rows.read_transaction.Goals as goal

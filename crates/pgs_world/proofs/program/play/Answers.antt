@@ -1,12 +1,10 @@
-use Rattle.std.proofs.Common.{◌≡◌, ℕ, ◌+◌, ◌^◌, ◌<◌, ◌≤◌, Bool, true, false, List, [], ◌++◌, length, Option, Some, None, refl, sym, ◌∙◌, ap, subst, arith, append-nil}
-use Rattle.pgs_step.specs.declared.events.What.{What}
+use Rattle.std.proofs.Common.{◌≡◌, ℕ, ◌^◌, ◌<◌, [], Option, Some, refl, sym, ◌∙◌, ap, subst, arith, append-nil}
 use Rattle.pgs_world.specs.Session.{World, exited}
 use Rattle.pgs_world.specs.Answers.{Fits}
-use Rattle.pgs_world.specs.Transcript.{course_of, transcript, errors_in, EndsAt}
-use Rattle.pgs_world.specs.Loop.{CourseAt, is_wanted}
+use Rattle.pgs_world.specs.Transcript.{course_of, transcript, errors_in}
+use Rattle.pgs_world.specs.Loop.{is_wanted}
 use Rattle.pgs_world.specs.PrinterView.{TakesEvents, seen}
 use Rattle.pgs_world.specs.PrinterLaws.{TakesEvents-more, TakesEvents-flush}
-use Rattle.pgs_world.specs.Ending.{status_of}
 use Rattle.pgs_world.proofs.ErrorLemmas.{few_errors}
 use Rattle.pgs_world.proofs.EndingLemmas.{Facts, Printed, printed_all, transcript_events, ends_at, a_fit, fits_wanted, stays_failed, unwritten_leads, whole, cut_off, too_long, wanted, called_of, unwritten, sink_fault, sink_grew}
 use Rattle.pgs_world.proofs.program.play.Goals as goal

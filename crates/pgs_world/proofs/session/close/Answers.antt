@@ -1,6 +1,4 @@
-use Rattle.std.proofs.Common.{subst, sym, ◌∙◌, ap}
-use Rattle.owner_core.specs.Owners.{owners_of, Owner}
-use Rattle.pgs_world.specs.Parts.{IsLive, held_by, number_in}
+use Rattle.pgs_world.specs.Parts.{number_in}
 use Rattle.pgs_world.proofs.OwnerLemmas.{IsLive-released, held_by-released}
 use Rattle.pgs_world.proofs.session.close.Goals as goal
 

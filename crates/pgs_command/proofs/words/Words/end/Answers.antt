@@ -1,5 +1,3 @@
-use Rattle.std.proofs.Common.{◌≡◌, None, sym, subst}
-use Rattle.pgs_command.specs.Words.{alone}
 use Rattle.pgs_command.proofs.WordLemmas.{alone-words_of}
 use Rattle.pgs_command.proofs.words.Words.end.Goals as goal
 

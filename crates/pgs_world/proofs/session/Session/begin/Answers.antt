@@ -1,5 +1,4 @@
-use Rattle.std.proofs.Common.{refl, List, [], ◌∷◌}
-use Rattle.pgs_step.specs.declared.events.What.{What}
+use Rattle.std.proofs.Common.{refl, [], ◌∷◌}
 use Rattle.pgs_step.specs.declared.events.What.TheVariants as what
 use Rattle.pgs_world.specs.Session.{MakeLevel, MakeOwner, Says, level_made}
 use Rattle.pgs_world.proofs.AnswerLemmas.{Answers-step}

@@ -1,4 +1,4 @@
-use Rattle.std.proofs.Common.{refl, List, [], ◌∷◌, subst, sym, None}
+use Rattle.std.proofs.Common.{refl, List, [], ◌∷◌, None}
 use Rattle.std.proofs.lemmas.Result.{err_from_is_err_and}
 use Rattle.pgs_step.specs.declared.events.What.{What}
 use Rattle.pgs_step.specs.declared.events.What.TheVariants as what

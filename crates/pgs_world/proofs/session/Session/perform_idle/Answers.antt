@@ -1,5 +1,6 @@
-use Rattle.std.proofs.Common.{refl}
+use Rattle.std.proofs.Common.{refl, arith}
 use Rattle.pgs_world.proofs.AnswerLemmas.{Answers-nil, Answers-warn, Answers-refuse}
+use Rattle.pgs_world.proofs.ElementLemmas.{idle_refuses}
 use Rattle.pgs_world.proofs.session.Session.perform_idle.Goals as goal
 
 pub returns-in-Nothing-clause-answers : goal.returns-in-Nothing-clause-answers
@@ -11,5 +12,9 @@ returns-in-Commit-clause-answers g c = rw c.in-Commit.is (Answers-warn _ _ _ c.s
 pub returns-in-Rollback-clause-answers : goal.returns-in-Rollback-clause-answers
 returns-in-Rollback-clause-answers g c = rw c.in-Rollback.is (Answers-warn _ _ _ c.say-in-Rollback.ensures)
 
-pub returns-in-Pin-clause-answers : goal.returns-in-Pin-clause-answers
-returns-in-Pin-clause-answers g c = rw c.in-Pin.is (Answers-refuse _ _ _ _ refl (g.met.E.Emit.emits_none _))
+pub returns-in_default : goal.returns-in_default
+returns-in_default g c = record {
+  answers = rw (idle_refuses c.args.command c.in_default.not-Nothing c.in_default.not-Begin c.in_default.not-Commit c.in_default.not-Rollback) (Answers-refuse _ _ _ _ refl (g.met.E.Emit.emits_none _));
+  between = tt;
+  grows = record { calls = omega arith; owners = omega arith; serials = omega arith };
+}

@@ -1,4 +1,4 @@
-use Rattle.std.proofs.Common.{arith, refl, sym, ◌∙◌, ap, subst}
+use Rattle.std.proofs.Common.{arith, refl, sym, ap, subst}
 use Rattle.pgs_world.specs.Parts.{IsOpen}
 use Rattle.pgs_world.proofs.OwnerLemmas.{sound_pinned, uses-le}
 use Rattle.pgs_world.specs.Session.{World}

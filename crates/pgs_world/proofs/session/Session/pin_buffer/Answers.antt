@@ -2,7 +2,7 @@ use Rattle.std.proofs.Common.{◌≡◌, ℕ, ◌+◌, refl, List, [], ◌∷◌
 use Rattle.std.proofs.lemmas.Result.{err_from_is_err_and}
 use Rattle.pgs_step.specs.declared.events.What.{What}
 use Rattle.pgs_step.specs.declared.events.What.TheVariants as what
-use Rattle.pgs_world.specs.Session.{SessionState, Ended, World, Enlarge, TakePin, Says, owner_of, pinned_by}
+use Rattle.pgs_world.specs.Session.{Ended, World, Enlarge, TakePin, Says, owner_of, pinned_by}
 use Rattle.pgs_world.proofs.AnswerLemmas.{Answers-elements, Answers-refuse, Answers-step, Answers-stop, Answers-ok}
 use Rattle.pgs_world.proofs.ElementLemmas.{pin_elements, no_buffer_elements}
 use Rattle.pgs_world.proofs.session.Session.pin_buffer.Goals as goal

@@ -1,5 +1,4 @@
-use Rattle.std.proofs.Common.{refl, List, [], ◌∷◌, None}
-use Rattle.pgs_step.specs.declared.events.What.{What}
+use Rattle.std.proofs.Common.{refl, [], ◌∷◌, None}
 use Rattle.pgs_step.specs.declared.events.What.TheVariants as what
 use Rattle.pgs_world.specs.Session.{Abort, Cleanup, Says, aborted}
 use Rattle.pgs_world.proofs.AnswerLemmas.{Answers-end}

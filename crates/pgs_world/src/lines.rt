@@ -1,0 +1,46 @@
+//! Which lines of a script are performed.
+ghost use Rattle.std.specs.Prelude.{◌≡◌, ◌==◌, ℕ, List, codes};
+ghost use Rattle.std.specs.List.{starts_with};
+ghost use Rattle.pgs_io.specs.Lines.{IsKept};
+ghost use Rattle.pgs_command.specs.Lines.{read_line};
+ghost use Rattle.pgs_world.specs.Script.{is_built, built, command_of};
+
+use pgs_command::{Command, parse_line};
+
+/// The command that a line asks for, or `None` where the line is bad.
+///
+/// `kept` are the first 512 bytes of the line, and `long` says whether it has more.
+pub(crate) fn read_command(kept: &[u8], long: bool) -> Option<Command>
+    ensures { (line : List ℕ) → IsKept line kept.now long → result ≡ command_of line }
+{
+    if kept.starts_with(b"@") {
+        return None;
+    }
+    read_built(kept, long)
+}
+
+/// The command of a line, where it is performed.
+fn read_built(kept: &[u8], long: bool) -> Option<Command>
+    ensures { (line : List ℕ) → IsKept line kept.now long → result ≡ built (read_line line) }
+{
+    match parse_line(kept, long) {
+        Ok(line) => {
+            if is_built(&line.command) {
+                Some(line.command)
+            } else {
+                None
+            }
+        }
+        Err(_) => None,
+    }
+}
+
+/// Whether the program performs the command.
+fn is_built(command: &Command) -> bool
+    ensures { result ≡ is_built command.now }
+{
+    matches!(
+        command,
+        Command::Nothing | Command::Begin | Command::Commit | Command::Rollback | Command::Pin(_)
+    )
+}
