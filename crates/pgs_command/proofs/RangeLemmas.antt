@@ -104,15 +104,11 @@ chained : {A B : Type 0} (Q : A → Type 0) (P : B → Type 0) (go_on : A → Op
 chained Q P go_on None q h = tt
 chained Q P go_on (Some a) q h = h a q
 
-read_first : {A : Type 0} (Q : A → Type 0) (read : List ℕ → Option A) → ((word : List ℕ) → IfSome (read word) Q) → (words : List (List ℕ)) → IfSome (option_and_then read (slice_get words 0)) Q
-read_first Q read q [] = tt
-read_first Q read q (word ∷ words) = q word
-
 next-keeps : {A B : Type 0} (Q : A → Type 0) (P : B → Type 0) (read : List ℕ → Option A) (go_on : A → List (List ℕ) → Option B)
     → ((word : List ℕ) → IfSome (read word) Q) → ((a : A) → Q a → (words : List (List ℕ)) → IfSome (go_on a words) P)
     → (words : List (List ℕ)) → IfSome (next read go_on words) P
-next-keeps Q P read go_on q h words =
-    chained Q P (λ a. go_on a (drop 1 words)) (option_and_then read (slice_get words 0)) (read_first Q read q words) (λ a p. h a p (drop 1 words))
+next-keeps Q P read go_on q h [] = tt
+next-keeps Q P read go_on q h (word ∷ words) = chained Q P (λ a. go_on a words) (read word) (q word) (λ a p. h a p words)
 
 none-keeps : (command : Command) → IsInRange command → Keeps (none command)
 none-keeps command h = alone-keeps IsInRange command h

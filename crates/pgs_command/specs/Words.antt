@@ -24,7 +24,8 @@ alone value (word ∷ words) = None
 
 -- the first word is read, and then the words behind it with what it stands for
 abbrev pub next : {A B : Type 0} → (List ℕ → Option A) → (A → List (List ℕ) → Option B) → List (List ℕ) → Option B
-next read go_on words = option_and_then (λ value. go_on value (drop 1 words)) (option_and_then read (slice_get words 0))
+next read go_on [] = None
+next read go_on (word ∷ words) = option_and_then (λ value. go_on value words) (read word)
 
 -- a fixed word, and then the words behind it
 abbrev pub behind : {A : Type 0} → List ℕ → (List (List ℕ) → Option A) → List (List ℕ) → Option A

@@ -17,19 +17,16 @@ fn command(line: &[u8]) -> Option<Command> {
 
 #[test]
 fn transactions_are_read(rt: HostRuntime) {
+    let s_1 = name(&rt, b"s_1");
+    let upper = name(&rt, b"S");
+    let s = name(&rt, b"s");
     for (line, want) in [
         (b"begin".as_slice(), Command::Begin),
         (b"commit".as_slice(), Command::Commit),
         (b"rollback".as_slice(), Command::Rollback),
-        (
-            b"savepoint s_1".as_slice(),
-            Command::Savepoint(name(&rt, b"s_1")),
-        ),
-        (b"release S".as_slice(), Command::Release(name(&rt, b"S"))),
-        (
-            b"rollback to s".as_slice(),
-            Command::RollbackTo(name(&rt, b"s")),
-        ),
+        (b"savepoint s_1".as_slice(), Command::Savepoint(s_1)),
+        (b"release S".as_slice(), Command::Release(upper)),
+        (b"rollback to s".as_slice(), Command::RollbackTo(s)),
         (b"raise".as_slice(), Command::Raise),
         (b"report".as_slice(), Command::Report),
         (b"stat".as_slice(), Command::Stat),
@@ -46,65 +43,59 @@ fn transactions_are_read(rt: HostRuntime) {
 
 #[test]
 fn contexts_are_read(rt: HostRuntime) {
+    let w = name(&rt, b"w");
+    let current = name(&rt, b"CurTransactionContext");
+    let p = name(&rt, b"p");
     for (line, want) in [
         (
             b"context w CurTransactionContext default".as_slice(),
             Command::Context {
-                name: name(&rt, b"w"),
-                parent: name(&rt, b"CurTransactionContext"),
+                name: w,
+                parent: current,
                 kind: ContextKind::Default,
             },
         ),
         (
             b"context w p small".as_slice(),
             Command::Context {
-                name: name(&rt, b"w"),
-                parent: name(&rt, b"p"),
+                name: w,
+                parent: p,
                 kind: ContextKind::Small,
             },
         ),
         (
             b"context w p slab 1024".as_slice(),
             Command::Context {
-                name: name(&rt, b"w"),
-                parent: name(&rt, b"p"),
+                name: w,
+                parent: p,
                 kind: ContextKind::Slab(1024),
             },
         ),
         (
             b"context w p generation".as_slice(),
             Command::Context {
-                name: name(&rt, b"w"),
-                parent: name(&rt, b"p"),
+                name: w,
+                parent: p,
                 kind: ContextKind::Generation,
             },
         ),
         (
             b"context w p bump".as_slice(),
             Command::Context {
-                name: name(&rt, b"w"),
-                parent: name(&rt, b"p"),
+                name: w,
+                parent: p,
                 kind: ContextKind::Bump,
             },
         ),
-        (b"switch w".as_slice(), Command::Switch(name(&rt, b"w"))),
-        (b"onreset w".as_slice(), Command::OnReset(name(&rt, b"w"))),
-        (b"reset w".as_slice(), Command::Reset(name(&rt, b"w"))),
-        (
-            b"resetonly w".as_slice(),
-            Command::ResetOnly(name(&rt, b"w")),
-        ),
-        (b"delete w".as_slice(), Command::Delete(name(&rt, b"w"))),
-        (
-            b"deletechildren w".as_slice(),
-            Command::DeleteChildren(name(&rt, b"w")),
-        ),
+        (b"switch w".as_slice(), Command::Switch(w)),
+        (b"onreset w".as_slice(), Command::OnReset(w)),
+        (b"reset w".as_slice(), Command::Reset(w)),
+        (b"resetonly w".as_slice(), Command::ResetOnly(w)),
+        (b"delete w".as_slice(), Command::Delete(w)),
+        (b"deletechildren w".as_slice(), Command::DeleteChildren(w)),
         (
             b"reparent w p".as_slice(),
-            Command::Reparent {
-                name: name(&rt, b"w"),
-                parent: name(&rt, b"p"),
-            },
+            Command::Reparent { name: w, parent: p },
         ),
     ] {
         assert_eq!(rt;
@@ -119,33 +110,31 @@ fn contexts_are_read(rt: HostRuntime) {
 
 #[test]
 fn chunks_are_read(rt: HostRuntime) {
+    let a = name(&rt, b"a");
     for (line, want) in [
         (
             b"alloc a 100".as_slice(),
             Command::Alloc {
-                chunk: name(&rt, b"a"),
+                chunk: a,
                 size: 100,
             },
         ),
         (
             b"alloc0 a 0".as_slice(),
-            Command::AllocZeroed {
-                chunk: name(&rt, b"a"),
-                size: 0,
-            },
+            Command::AllocZeroed { chunk: a, size: 0 },
         ),
         (
             b"realloc a 4294967295".as_slice(),
             Command::Realloc {
-                chunk: name(&rt, b"a"),
+                chunk: a,
                 size: 4294967295,
             },
         ),
-        (b"free a".as_slice(), Command::Free(name(&rt, b"a"))),
+        (b"free a".as_slice(), Command::Free(a)),
         (
             b"put a 10 0aFF".as_slice(),
             Command::Put {
-                chunk: name(&rt, b"a"),
+                chunk: a,
                 at: 10,
                 bytes: bytes(&rt, &[10, 255]),
             },
@@ -153,7 +142,7 @@ fn chunks_are_read(rt: HostRuntime) {
         (
             b"show a 0 128".as_slice(),
             Command::Show {
-                chunk: name(&rt, b"a"),
+                chunk: a,
                 at: 0,
                 length: 128,
             },
@@ -171,6 +160,7 @@ fn chunks_are_read(rt: HostRuntime) {
 
 #[test]
 fn resources_are_read(rt: HostRuntime) {
+    let conn = name(&rt, b"conn");
     for (line, want) in [
         (b"pin 7".as_slice(), Command::Pin(7)),
         (b"unpin 2000".as_slice(), Command::Unpin(2000)),
@@ -222,17 +212,11 @@ fn resources_are_read(rt: HostRuntime) {
         ),
         (
             b"acquire conn 4".as_slice(),
-            Command::Acquire {
-                kind: name(&rt, b"conn"),
-                key: 4,
-            },
+            Command::Acquire { kind: conn, key: 4 },
         ),
         (
             b"drop conn 4".as_slice(),
-            Command::Drop {
-                kind: name(&rt, b"conn"),
-                key: 4,
-            },
+            Command::Drop { kind: conn, key: 4 },
         ),
     ] {
         assert_eq!(rt;
@@ -247,6 +231,7 @@ fn resources_are_read(rt: HostRuntime) {
 
 #[test]
 fn snapshots_plans_and_portals_are_read(rt: HostRuntime) {
+    let p = name(&rt, b"p");
     for (line, want) in [
         (b"snapshot 4".as_slice(), Command::Snapshot(4)),
         (b"unsnapshot 4".as_slice(), Command::Unsnapshot(4)),
@@ -259,7 +244,7 @@ fn snapshots_plans_and_portals_are_read(rt: HostRuntime) {
         (
             b"portal p 1000000 25".as_slice(),
             Command::Portal {
-                name: name(&rt, b"p"),
+                name: p,
                 object: 1000000,
                 rows: 25,
                 bad: None,
@@ -268,7 +253,7 @@ fn snapshots_plans_and_portals_are_read(rt: HostRuntime) {
         (
             b"portal p 7 25 0".as_slice(),
             Command::Portal {
-                name: name(&rt, b"p"),
+                name: p,
                 object: 7,
                 rows: 25,
                 bad: Some(0),
@@ -277,14 +262,11 @@ fn snapshots_plans_and_portals_are_read(rt: HostRuntime) {
         (
             b"fetch p 1000000".as_slice(),
             Command::Fetch {
-                name: name(&rt, b"p"),
+                name: p,
                 count: 1000000,
             },
         ),
-        (
-            b"endportal p".as_slice(),
-            Command::EndPortal(name(&rt, b"p")),
-        ),
+        (b"endportal p".as_slice(), Command::EndPortal(p)),
     ] {
         assert_eq!(rt;
             parse_line(line, false),
