@@ -61,9 +61,9 @@ fn has_text(what: What, names: &[Name]) -> bool
     ensures { result ≡ is_some (what_text names.now what) }
 {
     match what {
-        What::Acquire { item, .. } => has_name(item.kind, names),
-        What::Release { item, .. } => has_name(item.kind, names),
-        What::NotClosed { item, .. } => has_name(item.kind, names),
+        What::Acquire { item, .. } | What::Release { item, .. } | What::NotClosed { item, .. } => {
+            has_name(item.kind, names)
+        }
         _ => true,
     }
 }
