@@ -56,7 +56,7 @@ fn a_counted_kind(rt: HostRuntime) -> Result<(), Fail> {
     let alloc = rt.alloc();
     let conn = Name::new(b"conn").ok_or("no name")?;
     let mut kind = CountedKind::new(alloc, conn, Phase::BeforeLocks, 350, 2);
-    assert!(rt; kind.name().is(&conn));
+    assert_eq!(rt; kind.name(), conn);
     assert_eq!(rt; (kind.phase(), kind.priority()), (Phase::BeforeLocks, 350));
     assert_eq!(rt; (kind.open(5), kind.open(5)), (Ok(()), Ok(())));
     assert_eq!(rt; kind.open(6), Err(KindError::Full));

@@ -12,7 +12,7 @@ use Rattle.hex.specs.declared.error.FromHexError.{FromHexError}
 use Rattle.hex.specs.declared.error.FromHexError.TheVariants.{OddLength}
 use Rattle.pgs_command.specs.Words.{is_text, alone, next, only, pair, behind}
 use Rattle.pgs_command.specs.Values.{name_of, number_of, number_between, bytes_of, length_of, count_of, turns_of, class_of, mode_of, kind_of, plain_kind}
-use Rattle.pgs_command.specs.Table.{Reading, Row, none, one, two, three, with_kind, portal, portal_with_bad, transaction_rows, context_rows, chunk_rows, shared_rows, query_rows, table, look_up, command_of}
+use Rattle.pgs_command.specs.Table.{Reading, Row, none, one, two, three, with_kind, portal, portal_with_bad, transaction_rows, context_rows, chunk_rows, resource_rows, query_rows, table, look_up, command_of}
 use Rattle.pgs_command.specs.Ranges.{IsBetween, IsKindInRange, IsInRange}
 use Rattle.pgs_command.specs.declared.kinds.ContextKind.{ContextKind}
 use Rattle.pgs_command.specs.declared.kinds.ContextKind.TheVariants.{Default, Small, Slab, Generation, Bump}
@@ -306,8 +306,8 @@ chunk_rows-keep = (
   ),
 )
 
-shared_rows-keep : AllKeep shared_rows
-shared_rows-keep = (
+resource_rows-keep : AllKeep resource_rows
+resource_rows-keep = (
   one-keeps number_of Pin (λ _. tt),
   (
     one-keeps number_of Unpin (λ _. tt),
@@ -386,12 +386,12 @@ query_rows-keep = (
 
 table-keeps : AllKeep table
 table-keeps =
-    AllKeep-append (transaction_rows ++ context_rows ++ chunk_rows ++ shared_rows) query_rows
-    (AllKeep-append (transaction_rows ++ context_rows ++ chunk_rows) shared_rows
+    AllKeep-append (transaction_rows ++ context_rows ++ chunk_rows ++ resource_rows) query_rows
+    (AllKeep-append (transaction_rows ++ context_rows ++ chunk_rows) resource_rows
     (AllKeep-append (transaction_rows ++ context_rows) chunk_rows
     (AllKeep-append transaction_rows context_rows transaction_rows-keep context_rows-keep)
     chunk_rows-keep)
-    shared_rows-keep)
+    resource_rows-keep)
     query_rows-keep
 
 pub command_of-in_range : (words : List (List ℕ)) → IfSome (command_of words) IsInRange

@@ -80,8 +80,8 @@ chunk_rows =
     ∷ row (codes "show") (three name_of number_of length_of Show)
     ∷ []
 
-abbrev pub shared_rows : List Row
-shared_rows =
+abbrev pub resource_rows : List Row
+resource_rows =
     row (codes "pin") (one number_of Pin)
     ∷ row (codes "unpin") (one number_of Unpin)
     ∷ row (codes "buffer") (one number_of Buffer)
@@ -119,7 +119,7 @@ look_up (r ∷ rows) word words = option_or (if is_text word r.word then r.reads
 
 -- the lines that are commands
 abbrev pub table : List Row
-table = transaction_rows ++ context_rows ++ chunk_rows ++ shared_rows ++ query_rows
+table = transaction_rows ++ context_rows ++ chunk_rows ++ resource_rows ++ query_rows
 
 -- the command of a line's words, where the line is in the table
 unfoldable pub command_of : List (List ℕ) → Option Command

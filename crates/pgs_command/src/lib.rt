@@ -12,3 +12,6 @@ mod words;
 pub use commands::Command;
 pub use kinds::{ContextKind, ReferenceClass};
 pub use lines::{BadLine, Line, parse_line};
+
+#[cfg(test)]
+mod tests;

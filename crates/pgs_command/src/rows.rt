@@ -2,7 +2,7 @@
 ghost use Rattle.std.specs.Prelude.{◌≡◌, None, Some, codes, IfSome};
 ghost use Rattle.std.specs.Option.{option_or, option_map, option_copied};
 ghost use Rattle.pgs_command.specs.Words.{words_of, words_in, alone, only, behind};
-ghost use Rattle.pgs_command.specs.Table.{look_up, transaction_rows, context_rows, chunk_rows, shared_rows, query_rows, none, one, three, four, with_kind, portal, portal_with_bad, command_of};
+ghost use Rattle.pgs_command.specs.Table.{look_up, transaction_rows, context_rows, chunk_rows, resource_rows, query_rows, none, one, three, four, with_kind, portal, portal_with_bad, command_of};
 ghost use Rattle.pgs_command.specs.Ranges.{IsInRange};
 ghost use Rattle.pgs_command.specs.Values.{name_of, number_of, bytes_of, length_of, count_of, kind_of};
 ghost use Rattle.pgs_command.specs.declared.commands.Command.TheVariants.{Rollback, RollbackTo, Put, Show, Portal};
@@ -128,8 +128,8 @@ fn read_show(mut words: Words<'_>) -> Option<Command>
 }
 
 /// The commands of buffers, files, locks, references and extension kinds.
-fn read_shared(word: &[u8], rest: Option<&[u8]>) -> Option<Command>
-    ensures { result ≡ look_up shared_rows word.now (words_in (option_copied rest.entry)) }
+fn read_resource(word: &[u8], rest: Option<&[u8]>) -> Option<Command>
+    ensures { result ≡ look_up resource_rows word.now (words_in (option_copied rest.entry)) }
 {
     let words = Words::new(rest);
     by_word! { word;
@@ -206,6 +206,6 @@ pub(crate) fn read_command(text: &[u8]) -> Option<Command>
     read_transaction(word, rest)
         .or(read_context(word, rest))
         .or(read_chunk(word, rest))
-        .or(read_shared(word, rest))
+        .or(read_resource(word, rest))
         .or(read_query(word, rest))
 }
