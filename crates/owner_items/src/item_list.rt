@@ -114,13 +114,12 @@ impl Items {
 fn newest_of(items: &[Item], kind: KindId, key: u32) -> Option<usize>
     ensures { FindsNewest (is_of kind key) items.now result }
 {
-    let mut newest = None;
-    for (place, item) in items.iter().enumerate() {
-        if is_item_of(item, kind, key) {
-            newest = Some(place);
+    for place in (0..items.len()).rev() {
+        if is_item_of(&items[place], kind, key) {
+            return Some(place);
         }
     }
-    newest
+    None
 }
 
 fn is_item_of(item: &Item, kind: KindId, key: u32) -> bool
