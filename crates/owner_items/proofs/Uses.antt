@@ -1,5 +1,5 @@
 -- How often a kind and key stand among the items, through the calls.
-use Rattle.std.proofs.Common.{◌≡◌, ℕ, ◌+◌, Bool, true, false, not, cond, List, [], ◌∷◌, filter, Some, refl, arith, find}
+use Rattle.std.proofs.Common.{ap, ◌≡◌, ℕ, ◌+◌, Bool, true, false, not, cond, List, [], ◌∷◌, filter, Some, refl, arith, find}
 use Rattle.std.specs.List.{count_by}
 use Rattle.std.proofs.lemmas.List.Sums.{sum_by-cons}
 use Rattle.pgs_step.specs.declared.ids.Item.{Item}
@@ -50,3 +50,19 @@ count-parts p test rank (x ∷ xs) =
     ]
     in
     cases (test x) refl
+
+-- the item that a phase takes, and those that stay
+pub count-taken :
+    (p test : Item → Bool) (rank : Item → ℕ) (old new : List Item) (item : Item) →
+    by_rank rank (filter test old) ≡ item ∷ by_rank rank (filter test new) →
+    filter (λ x. not (test x)) new ≡ filter (λ x. not (test x)) old →
+    count_by p old ≡ cond (p item) 1 0 + count_by p new
+count-taken p test rank old new item first left =
+    omega (
+      arith,
+      count-parts p test rank old,
+      count-parts p test rank new,
+      ap (count_by p) first,
+      ap (count_by p) left,
+      count-cons p item (by_rank rank (filter test new)),
+    )

@@ -101,6 +101,7 @@ impl Items {
         ensures order { release_order (table_of kinds.now) phase self.old.items ≡ option_to_list result ++ release_order (table_of kinds.now) phase self.new.items }
         ensures rest { IfSome result (λ item. self.new.items ≡ without_serial item.serial self.old.items) }
         ensures left { items_left (table_of kinds.now) phase self.new.items ≡ items_left (table_of kinds.now) phase self.old.items }
+        ensures done { IfNone result (items_left (table_of kinds.now) phase self.new.items ≡ self.new.items) }
         ensures unchanged { IfNone result (self.new ≡ self.old) }
         ensures kinds { All (λ item. IsKind (table_of kinds.now) item.kind) self.new.items }
         ensures falling { AreFalling self.new.items }
