@@ -58,9 +58,10 @@ impl Items {
         self.items.len()
     }
 
-    /// Makes room for one more item.
+    /// Makes room for one more item: `ResourceOwnerEnlarge`.
     pub fn enlarge(&mut self) -> Result<(), AllocError>
         ensures ok { OnOk result (1 ≤ self.new.spare) }
+        ensures spare { self.old.spare ≤ self.new.spare }
         ensures items { self.new.items ≡ self.old.items }
         ensures err { OnErr result (self.new ≡ self.old) }
         ensures falling { AreFalling self.new.items }
@@ -68,7 +69,7 @@ impl Items {
         self.items.reserve(1)
     }
 
-    /// Remembers an item, which is the newest then. It uses room that `enlarge` made.
+    /// Remembers an item, which is the newest then: `ResourceOwnerRemember`. It uses room that `enlarge` made.
     pub fn remember(&mut self, item: Item)
         requires spare { 1 ≤ self.old.spare }
         requires newest { All (λ other. other.serial < item.serial) self.old.items }
@@ -79,7 +80,9 @@ impl Items {
         self.items.push_reserved(item);
     }
 
-    /// Forgets the newest item of this kind and key.
+    /// Forgets the newest item of this kind and key: `ResourceOwnerForget`.
+    ///
+    /// It looks from the newest item on, so one that was remembered late is found soon.
     pub fn forget(&mut self, kind: KindId, key: u32) -> Option<Item>
         ensures newest { result ≡ find (is_of kind key) self.old.items }
         ensures rest { self.new.items ≡ without_newest (is_of kind key) self.old.items }
@@ -92,7 +95,7 @@ impl Items {
     }
 
     /// Takes the item that is released next in this phase, if any is left: of those with the lowest
-    /// priority number the newest.
+    /// priority number the newest. It looks through all items, and takes no memory.
     pub fn take_next<K: ExtKind>(&mut self, kinds: &KindShelf<K>, phase: Phase) -> Option<Item>
         requires { All (λ item. IsKind (table_of kinds.now) item.kind) self.old.items }
         ensures none { IsNone result ↔ (release_order (table_of kinds.now) phase self.old.items ≡ []) }
