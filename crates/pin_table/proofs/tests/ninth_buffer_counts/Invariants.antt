@@ -4,7 +4,7 @@ use Rattle.pin_table.specs.Pins.{sessions_of, AreShared}
 use Rattle.pin_table.proofs.tests.ninth_buffer_counts.Given as goal
 
 abbrev pub invariant-loop-buffer : goal.invariant-loop-buffer
-invariant-loop-buffer l = record {
+invariant-loop-buffer g l = record {
   shared : AreShared l.pins l.shared;
   few : total l.pins ≤ l.buffer;
   fresh : (q : ℕ) → l.buffer ≤ q → sessions_of l.shared q ≡ 0;
