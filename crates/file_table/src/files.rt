@@ -108,6 +108,7 @@ impl FileTable {
     /// It answers `NoFile` exactly where the file isn't open.
     pub fn touch<E: Emit>(&mut self, file: u32, out: &mut E) -> Result<(), FileError>
         ensures touched { OnOk result (self.new ≡ touched_file file self.old) }
+        ensures open { self.new.opened ≡ self.old.opened }
         ensures events { OnOk result (E.emits out.old (touch_events file self.old) out.new) }
         ensures no_file { (result ≡ Err FileError.NoFile) ↔ (is_among file self.old.opened ≡ false) }
         ensures no_other { (result ≢ Err FileError.Taken) × (result ≢ Err FileError.TooMany) }
