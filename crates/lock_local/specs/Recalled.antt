@@ -1,5 +1,5 @@
 -- What is remembered of the locks of each owner.
-use Rattle.std.specs.Prelude.{◌≡◌, ℕ, ◌<◌, ◌==◌, Bool, false, ◌||◌, IsTrue, List, [], ◌∷◌, All}
+use Rattle.std.specs.Prelude.{ℕ, ◌<◌, ◌==◌, Bool, false, ◌||◌, IsTrue, List, [], ◌∷◌, All}
 use Rattle.std.specs.Option.{option_map_or}
 use Rattle.std.specs.List.{list_any, find}
 use Rattle.pgs_step.specs.declared.lock_modes.Mode.{Mode}

@@ -1,4 +1,4 @@
-use Rattle.std.proofs.Common.{◌≡◌, Bool, true, false, ◌&&◌, sym, ap, ◌∙◌}
+use Rattle.std.proofs.Common.{◌≡◌, Bool, true, false, ◌&&◌, sym, ◌∙◌}
 use Rattle.lock_shared.specs.Holdings.{same_lock}
 use Rattle.lock_local.proofs.RecallLemmas.{placed, owner_at, but_one, may_written, may_none, more_written}
 use Rattle.std.proofs.lemmas.Bool.{false≢true}

@@ -1,7 +1,6 @@
 use Rattle.std.proofs.Common.{◌≡◌, subst, Bool, true, false, ◌||◌, sym, ap, ◌∙◌, List, get_or}
 use Rattle.std.specs.List.{list_any, position}
 use Rattle.std.proofs.lemmas.List.Quantifiers.{position-Some}
-use Rattle.pgs_step.specs.declared.lock_modes.Mode.{Mode}
 use Rattle.lock_local.specs.declared.recalled.LockTag.{LockTag}
 use Rattle.lock_local.specs.Recalled.{Recall, is_tag, recalls}
 use Rattle.lock_local.proofs.TagLemmas.{IsRising-remove, any-remove, other_tag, taken_out}
