@@ -9,3 +9,4 @@ pub mod Written
 pub mod Apart
 pub mod Steps
 pub mod Carried
+pub mod Contexts

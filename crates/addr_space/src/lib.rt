@@ -10,7 +10,7 @@ ghost use Rattle.addr_space.specs.Space.{Space as Regions, accounts, region_at, 
 mod laws;
 mod region;
 
-pub use laws::framing;
+pub use laws::{framing, listing};
 use region::Region;
 use slab::Slab;
 use std::alloc::{AllocError, Global};
