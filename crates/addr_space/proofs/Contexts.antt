@@ -214,3 +214,21 @@ IsHeldBy-unchanged fs k s t below moves holds other = omega (arith, moves.held o
 pub IsHeldBy-leaves : (fs : List Footprint) (k account context : ℕ) (s t : Space) → k < length fs → Moves (context_at fs k) (nothing account context) s t → IsHeldBy fs s → IsHeldBy (without fs k) t
 IsHeldBy-leaves fs k account context s t below moves holds other =
     omega (arith, counted_by-without fs k below other, moves.held other, holds other, counted-nothing account context other)
+
+-- what a context counts for its own account, and for another one
+pub counted-own : (f : Footprint) (account : ℕ) → f.account ≡ account → counted f account ≡ f.total
+unfolding counted
+counted-own f account same = grind (arith, nat_tests)
+
+pub counted-other : (f : Footprint) (account : ℕ) → f.account ≢ account → counted f account ≡ 0
+unfolding counted
+counted-other f account differs = grind (arith, nat_tests)
+
+-- what the contexts of a list count, one by one
+pub counted_by-cons : (f : Footprint) (fs : List Footprint) (account : ℕ) → counted_by (f ∷ fs) account ≡ counted f account + counted_by fs account
+unfolding counted_by
+counted_by-cons f fs account = sum_by-cons (λ x. counted x account) f fs
+
+pub counted_by-nil : (account : ℕ) → counted_by [] account ≡ 0
+unfolding counted_by
+counted_by-nil account = refl
