@@ -3,7 +3,7 @@ use Rattle.std.proofs.Common.{◌≡◌, ℕ, ◌+◌, ◌-◌, ◌<◌, ◌≤�
 use Rattle.std.proofs.lemmas.List.{length-append, length-take, length-drop, length-replicate, length-map, get_or-replicate, append_assoc, same_lists, get_or-map, get_or-take, get_or-drop, get_or_default, get_or_append_left, get_or-append-add, get_or-append_right, get_or_past, take_at, drop_at, drop-drop, take-take, take-append-drop, drop-take}
 use Rattle.std.proofs.lemmas.Bool.{cases_lt}
 use Rattle.std.specs.List.{copy_within}
-use Rattle.block_mem.specs.Block.{part, overwritten, resized, IsKnown}
+use Rattle.block_mem.specs.Block.{part, overwritten, resized}
 
 module _ {X : Type 0} (bytes new : List X) (offset : ℕ) (d : X) (inside : offset + length new ≤ length bytes) where
   -- the bytes keep their number where a part is overwritten

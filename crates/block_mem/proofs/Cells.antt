@@ -1,6 +1,6 @@
 -- Lemmas on how the bytes of a block lie in memory.
-use Rattle.std.proofs.Common.{◌≡◌, ℕ, ◌+◌, ◌-◌, ◌<◌, ◌≤◌, List, ◌++◌, length, map, get_or, take, drop, replicate, Option, Some, None, IsSome, refl, sym, ap, ◌∙◌, arith, inl, inr, ◌⊎◌}
-use Rattle.std.proofs.lemmas.List.{length-map, length-take, get_or-map, get_or-take, get_or_default, get_or-replicate, get_or_past}
+use Rattle.std.proofs.Common.{◌≡◌, ℕ, ◌+◌, ◌-◌, ◌<◌, ◌≤◌, List, length, map, get_or, take, Option, Some, None, IsSome, refl, sym, ap, ◌∙◌, arith, inl, inr, ◌⊎◌}
+use Rattle.std.proofs.lemmas.List.{length-map, length-take, get_or-map, get_or-take, get_or_past}
 use Rattle.std.proofs.lemmas.Bool.{cases_lt}
 use Rattle.block_mem.specs.Block.{part, overwritten, resized, IsKnown}
 use Rattle.block_mem.specs.Cells.{Holds}
@@ -20,6 +20,9 @@ around at n k = elim (cases_lt k at) [
 pub known_byte : (o : Option ℕ) → IsSome o → (byte : ℕ) × (o ≡ Some byte)
 known_byte (Some byte) some = (byte, refl)
 known_byte None some = absurd (cc)
+
+is_some : {o : Option ℕ} {a b : ℕ} → o ≡ Some a → b ≡ a → o ≡ Some b
+is_some told same = told ∙ ap Some (sym same)
 
 module _ (cells : List ℕ) (known : List (Option ℕ)) (holds : Holds cells known) where
   -- more cells hold as much
@@ -99,5 +102,5 @@ module _ (cells : List ℕ) (known : List (Option ℕ)) (holds : Holds cells kno
       let within : k < n = omega (arith, long) in
       let one = known_byte (get_or known (at + k) None) (all k within) in
       let cell : get_or (part cells at n) k 0 ≡ one.0 = get_or-part cells at n k 0 within ∙ (holds (at + k) one.0 one.1).1 in
-      one.1 ∙ ap Some (sym cell)) in
+      is_some one.1 cell) in
       (reached, whole ∙ ap (part known at) long)

@@ -1,5 +1,5 @@
 -- What a contract sees of a block: its bytes, where one that was never written is `None`.
-use Rattle.std.specs.Prelude.{◌≡◌, ℕ, ◌+◌, ◌-◌, ◌<◌, ◌++◌, List, length, Option, Some, None, IsSome, slice_index_or, take, drop, replicate}
+use Rattle.std.specs.Prelude.{ℕ, ◌+◌, ◌-◌, ◌<◌, ◌++◌, List, length, Option, None, IsSome, slice_index_or, take, drop, replicate}
 
 -- so many bytes from a place on
 abbrev pub part : {X : Type 0} → List X → ℕ → ℕ → List X

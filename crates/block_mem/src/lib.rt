@@ -1,7 +1,12 @@
 //! Blocks of memory that isn't filled first.
 //!
-//! A block stands for what one call of malloc gives to PostgreSQL's aset.c, generation.c, slab.c and bump.c: its
-//! bytes are unknown until they are written. It is given back when it is dropped.
+//! A block stands for what one call of malloc gives to PostgreSQL's aset.c, generation.c, slab.c and bump.c: its bytes
+//! are unknown until they are written, and it is given back when it is dropped. A block has 1 to 2^32 - 1 bytes, and
+//! places in it count from 0.
+//!
+//! What is known of the bytes stands in the clauses alone and takes no memory. The memory is reached as far as bytes were
+//! written: a write behind what was reached clears what lies between, so each byte is cleared at most once. No call but
+//! `new` and `resize` takes memory.
 #![tactic(auto)]
 
 ghost use Rattle.std.specs.Prelude.{◌≡◌, ◌+◌, ◌<◌, ◌≤◌, ◌^◌, length, map, Some, None, replicate, take, IfOk, OnOk, OnErr, vec_capacity};
@@ -39,6 +44,8 @@ fn store(cells: &mut Vec<u8>, at: usize, bytes: &[u8])
 }
 
 /// A block of bytes, each known once it was written.
+///
+/// A contract sees it as the list of its bytes, in which one that was never written is `None`.
 #[derive(Drop)]
 pub struct RawBlock {
     cells: Vec<u8>,
@@ -58,7 +65,7 @@ impl Model for RawBlock {
 }
 
 impl RawBlock {
-    /// A block of `len` bytes, of which none is known.
+    /// A block of `len` bytes, of which none is known. Its memory is not touched.
     pub fn new(alloc: Global, len: u32) -> Result<RawBlock, AllocError>
         requires { 1 ≤ len }
         ensures { IfOk result (λ b. b ≡ replicate len None) }
@@ -81,7 +88,8 @@ impl RawBlock {
     /// Writes bytes from a place on.
     pub fn write(&mut self, at: u32, bytes: &[u8])
         requires { at + length bytes.now ≤ length self.old }
-        ensures { self.new ≡ overwritten self.old at (map Some bytes.now) }
+        ensures bytes { self.new ≡ overwritten self.old at (map Some bytes.now) }
+        ensures len { length self.new ≡ length self.old }
     {
         let at = at as usize;
         reach(&mut self.cells, at + bytes.len());
@@ -106,7 +114,8 @@ impl RawBlock {
     pub fn copy_within(&mut self, from: u32, to: u32, n: u32)
         requires from { from + n ≤ length self.old }
         requires to { to + n ≤ length self.old }
-        ensures { self.new ≡ overwritten self.old to (part self.old from n) }
+        ensures bytes { self.new ≡ overwritten self.old to (part self.old from n) }
+        ensures len { length self.new ≡ length self.old }
     {
         let from = from as usize;
         let to = to as usize;

@@ -1,4 +1,4 @@
-use Rattle.std.proofs.Common.{◌≡◌, ◌+◌, ◌≤◌, List, length, None, ℕ, sym, ap, ◌∙◌, arith}
+use Rattle.std.proofs.Common.{◌≡◌, ◌+◌, ◌≤◌, length, None, ap, ◌∙◌, arith}
 use Rattle.block_mem.specs.Cells.{Holds}
 use Rattle.block_mem.specs.Block.{part, overwritten}
 use Rattle.block_mem.proofs.Bytes.{length-overwritten, length-part, copied-within}
@@ -27,3 +27,10 @@ invariant_of-self c =
       omega (arith, c.self.invariant.1, c.reach.ensures.room, c.copy_within.ensures.capacity),
       rw (told, items) holds,
     )
+
+pub returns-clause-len : goal.returns-clause-len
+returns-clause-len c =
+    let old = c.self.inside.known.bytes in
+    let len : length old ≡ length c.args.self.now = ap length c.self.view_is in
+    let long = length-part old c.args.from c.args.n (omega (arith, len, c.requires.from)) in
+    ap length c.carried.ensures ∙ length-overwritten old (part old c.args.from c.args.n) c.args.to None (omega (arith, len, c.requires.to, long)) ∙ len

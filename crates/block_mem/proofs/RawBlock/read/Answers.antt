@@ -1,4 +1,4 @@
-use Rattle.std.proofs.Common.{◌≡◌, ◌+◌, ◌-◌, ◌≤◌, ◌<◌, refl, length, map, Some, ℕ, sym, ap, ◌∙◌, arith}
+use Rattle.std.proofs.Common.{◌≡◌, ◌+◌, ◌-◌, ◌<◌, refl, length, map, Some, ap, ◌∙◌, arith}
 use Rattle.block_mem.specs.Block.{part, IsKnown}
 use Rattle.block_mem.proofs.Cells.{Holds-read}
 use Rattle.block_mem.proofs.RawBlock.read.Goals as goal

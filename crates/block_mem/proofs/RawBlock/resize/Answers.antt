@@ -1,4 +1,4 @@
-use Rattle.std.proofs.Common.{◌≡◌, ◌+◌, ◌≤◌, ◌<◌, List, length, get_or, take, ℕ, sym, ap, ◌∙◌, refl, arith, min}
+use Rattle.std.proofs.Common.{◌≡◌, length, take, ap, ◌∙◌, refl, arith}
 use Rattle.std.proofs.lemmas.List.{length-take, get_or-take}
 use Rattle.block_mem.specs.Block.{resized}
 use Rattle.block_mem.specs.Cells.{Holds}

@@ -1,4 +1,4 @@
-use Rattle.std.proofs.Common.{◌≡◌, ◌+◌, ◌≤◌, List, length, map, Some, None, ℕ, sym, ap, ◌∙◌, arith}
+use Rattle.std.proofs.Common.{◌≡◌, ◌+◌, ◌≤◌, length, map, Some, None, ap, ◌∙◌, arith}
 use Rattle.std.proofs.lemmas.List.{length-map}
 use Rattle.block_mem.specs.Cells.{Holds}
 use Rattle.block_mem.specs.Block.{overwritten}
@@ -22,3 +22,10 @@ invariant_of-self c =
       omega (arith, c.self.invariant.1, c.reach.ensures.room, c.store.ensures.room),
       rw (told, c.store.ensures.items) holds,
     )
+
+pub returns-clause-len : goal.returns-clause-len
+returns-clause-len c =
+    let old = c.self.inside.known.bytes in
+    let len : length old ≡ length c.args.self.now = ap length c.self.view_is in
+    ap length c.written.ensures
+    ∙ length-overwritten old (map Some c.args.bytes.now) c.args.at None (omega (arith, len, c.requires, length-map c.args.bytes.now Some)) ∙ len
