@@ -1,17 +1,17 @@
 -- The laws of a list of contexts that share a space.
-use Rattle.std.proofs.Common.{◌≡◌, ◌≢◌, ℕ, zero, suc, ◌+◌, ◌-◌, ◌^◌, ◌<◌, ◌≤◌, ◌==◌, ◌++◌, nat_lt, if◌then◌else◌, List, [], ◌∷◌, length, get_or, set, take, drop, sum_by, Some, None, IsSome, refl, sym, ap, ◌∙◌, inl, inr, arith}
-use Rattle.std.proofs.lemmas.Bool.{cases_eq, cases_lt}
+use Rattle.std.proofs.Common.{◌≡◌, ◌≢◌, ℕ, ◌+◌, ◌-◌, ◌^◌, ◌<◌, ◌≤◌, ◌==◌, ◌++◌, nat_lt, if◌then◌else◌, List, [], ◌∷◌, length, get_or, set, take, drop, sum_by, Some, refl, sym, ap, ◌∙◌, inl, inr, arith}
+use Rattle.std.proofs.lemmas.Bool.{cases_lt}
 use Rattle.std.proofs.lemmas.Bool.Decides.{nat_tests}
-use Rattle.std.proofs.lemmas.List.{length-append, length-take, length-drop, get_or-set_same, get_or-set_other, set-get_or, set_at, get_or_append_left, get_or-append_right, get_or-take, get_or-drop, drop_more}
+use Rattle.std.proofs.lemmas.List.{length-append, length-take, length-drop, get_or-set_same, get_or-set_other, set-get_or, get_or_append_left, get_or-append_right, get_or-take, get_or-drop, drop_more}
 use Rattle.std.proofs.lemmas.List.Sums.{sum_by-cons, sum_by-append, sum_by-set, sum_by-take-drop}
 use Rattle.addr_space.specs.declared.Addr.{Addr}
-use Rattle.addr_space.specs.Space.{Region, Space, region_at, bytes_of, held, share, taken, risen, raised, accounts, Asks, IsInside}
+use Rattle.addr_space.specs.Space.{Region, Space, region_at, bytes_of, held, share, taken, risen, accounts, Asks, IsInside}
 use Rattle.addr_space.specs.Footprint.{Footprint, Agrees, Moves, Keeps, AreDisjoint, AllAgree, context_at, nothing, counted}
 use Rattle.addr_space.specs.Contexts.{AreAmong, IsHeldBy, without, counted_by}
 use Rattle.addr_space.proofs.Options.{option_cases, one_value}
 use Rattle.addr_space.proofs.Asked.{raised-set}
 use Rattle.addr_space.proofs.Apart.{Agrees-other, Keeps-other, AreDisjoint-other, AreDisjoint-sym, AllAgree-set}
-use Rattle.addr_space.proofs.Steps.{Agrees-nothing, none_counted}
+use Rattle.addr_space.proofs.Steps.{none_counted}
 
 -- a context that has nothing is apart from each one
 pub AreDisjoint-nothing : (account context : ℕ) (f : Footprint) → AreDisjoint (nothing account context) f

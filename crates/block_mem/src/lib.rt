@@ -19,7 +19,7 @@ use std::alloc::{AllocError, Global};
 use std::marker::Model;
 
 // How many more bytes are reached at a time.
-const STEP: usize = 1024;
+const STEP: usize = 256;
 
 // Reaches the first `end` bytes of the room.
 fn reach(cells: &mut Vec<u8>, end: usize)
