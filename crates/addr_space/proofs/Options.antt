@@ -37,3 +37,8 @@ on_ok (Err e) all holds = holds
 pub on_err : {A E : Type 0} {P Q : Type 0} (r : Result A E) → (P → Q) → OnErr r P → OnErr r Q
 on_err (Ok a) all holds = holds
 on_err (Err e) all holds = all holds
+
+-- what holds whether the call was answered or refused
+pub either_way : {A E P : Type 0} (r : Result A E) → OnOk r P → OnErr r P → P
+either_way (Ok a) answered refused = answered
+either_way (Err e) answered refused = refused

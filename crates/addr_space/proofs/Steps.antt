@@ -2,7 +2,7 @@
 use Rattle.std.proofs.Common.{◌≡◌, ◌≢◌, ℕ, ◌+◌, ◌==◌, if◌then◌else◌, List, length, get_or, Option, Some, None, refl, sym, ap, ◌∙◌, inl, inr, arith, ◌<◌, Bool, true, false}
 use Rattle.std.proofs.lemmas.Bool.{cases_eq}
 use Rattle.addr_space.specs.declared.Addr.{Addr}
-use Rattle.addr_space.specs.Space.{Region, Space, region_at, bytes_of, Changes, HasBytes, held, accounts}
+use Rattle.addr_space.specs.Space.{Region, Space, region_at, bytes_of, byte_at, Changes, HasBytes, held, accounts}
 use Rattle.addr_space.specs.Footprint.{Footprint, IsSound, Agrees, Moves, Keeps, counted, nothing}
 use Rattle.addr_space.specs.Live.{SameLive, StaysLive}
 
@@ -16,6 +16,9 @@ Agrees-nothing account context s below = record {
     live_apart = λ a b m n live other differ. absurd (cc);
     free_apart = λ a b m n live free. absurd (cc);
     mark_apart = λ a b m bytes live marked. absurd (cc);
+    live_behind = λ at n live. absurd (cc);
+    free_behind = λ at n free. absurd (cc);
+    small = λ number len owned. absurd (cc);
   };
   account = below;
   regions = λ number len owned. absurd (cc);
@@ -37,6 +40,13 @@ Moves-none f s agrees = record {
   limit = refl;
   held = λ account. refl;
 }
+
+-- a refused call leaves the context and the space as they were
+pub Moves-same : (f g : Footprint) (s t : Space) → Agrees f s → g ≡ f → t ≡ s → Moves f g s t
+Moves-same f g s t agrees same still = rw (same, still) (Moves-none f s agrees)
+
+pub Keeps-same : (f g : Footprint) (s t : Space) → g ≡ f → t ≡ s → Keeps f g s t
+Keeps-same f g s t same still at m n k live again below short = ap (λ space. byte_at space at.region (at.offset + k)) still
 
 -- one step after another
 pub Moves-more : (f g h : Footprint) (s t u : Space) → Moves f g s t → Moves g h t u → Moves f h s u

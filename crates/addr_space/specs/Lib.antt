@@ -1,5 +1,7 @@
--- What contracts cite: the space's value, the footprint of a context in it, its live chunks, and marked addresses.
+-- What contracts cite: the space's value, the footprint of a context in it, its live chunks, marked addresses, and lists
+-- of contexts.
 pub mod Space
 pub mod Sound
 pub mod Footprint
 pub mod Live
+pub mod Contexts

@@ -1,22 +1,25 @@
 //! An address space: numbered regions of bytes, each held by an account.
 //!
-//! It stands for the memory that a backend gets from the operating system, with a limit on what each account may hold.
+//! It stands for the memory that a backend gets from malloc, with a limit on what each account may hold. A region is what
+//! PostgreSQL's aset.c, generation.c, slab.c and bump.c call a block, such as aset.c's `AllocBlock`: `take` stands for
+//! their malloc, `resize` for the realloc of a block that has one chunk, and `give` for their free. All lengths and
+//! offsets are bytes, and a region has 1 to 2^31 of them.
 #![tactic(auto)]
 
 ghost use Rattle.std.specs.Prelude.{◌≡◌, ◌≢◌, ℕ, ◌+◌, ◌-◌, ◌^◌, ◌<◌, ◌≤◌, ◌==◌, ◌↔◌, [], length, map, Ok, Err, Some, None, IsTrue, IsOk, IfOk, OnOk, OnErr, if◌then◌else◌, replicate, min, slice_index_or, IfSome, IfNone};
 ghost use Rattle.std.specs.Option.{SomeIff};
-ghost use Rattle.addr_space.specs.Space.{Space as Regions, accounts, region_at, bytes_of, held, taken, Fits, IsInside, IsRegion, IsKnown, IsApart, part, unwritten, overwritten, resized, raised, raised_by, share, IsOverLimit, Changes};
+ghost use Rattle.addr_space.specs.Space.{Space as Regions, accounts, region_at, bytes_of, held, taken, Fits, IsInside, IsRegion, IsKnown, IsApart, part, unwritten, overwritten, resized, raised, raised_by, risen, share, IsOverLimit, Changes};
 
 mod laws;
 mod region;
 
-pub use laws::framing;
+pub use laws::{framing, listing};
 use region::Region;
 use slab::Slab;
 use std::alloc::{AllocError, Global};
 use std::marker::Model;
 
-/// A place in the space: a region, and how many bytes from its start.
+/// A place in the space: a region, and how many bytes from its start. It stands for a pointer.
 #[derive(Clone, Copy, PartialEq, Eq, Hash, Debug)]
 pub struct Addr {
     /// The number of the region.
@@ -28,7 +31,7 @@ pub struct Addr {
 /// Why a region could not be had.
 #[derive(Clone, Copy, PartialEq, Eq, Debug)]
 pub enum SpaceError {
-    /// The account would hold more than the limit.
+    /// The account would hold more than the limit. It comes before `Memory`.
     NoSpace,
     /// There is no memory.
     Memory,
@@ -45,7 +48,7 @@ impl Account {
     // The account once it holds so many bytes, where it took `more`.
     fn moved(self, held: u64, more: u64) -> Account
         ensures held { result.held ≡ held }
-        ensures taken { result.taken ≡ min (self.taken + more) (2 ^ 64 - 1) }
+        ensures taken { result.taken ≡ risen self.taken more }
     {
         Account {
             held,
@@ -83,7 +86,8 @@ fn admit(regions: &mut Slab<Region>, region: Region) -> Option<u32>
 
 /// A set of regions with their bytes, and what each account holds of them.
 ///
-/// Regions never overlap. The number of a region may be used again once the region was given back.
+/// Regions never overlap. The number of a region may be used again once the region was given back. An account stands
+/// for a session: what it holds is the sum of `mem_allocated` of its memory contexts.
 #[derive(Drop)]
 pub struct Space {
     alloc: Global,
@@ -170,7 +174,7 @@ impl Space {
         self.entry(account).taken
     }
 
-    /// Takes a region of `n` bytes for an account, and answers its start. No byte of it is known.
+    /// Takes a region of `n` bytes, 1 to 2^31, for an account, and answers its start. No byte of it is known.
     ///
     /// `NoSpace` comes before `Memory`. A refused call changes nothing.
     pub fn take(&mut self, account: u8, n: u32) -> Result<Addr, SpaceError>
@@ -217,8 +221,8 @@ impl Space {
         entry.held -= region.len() as u64;
     }
 
-    /// Makes a region `n` bytes long, at the same address. It keeps the bytes that both lengths have, and new
-    /// ones are unknown.
+    /// Makes a region `n` bytes long, 1 to 2^31, at the same address. It keeps the bytes that both lengths have, and
+    /// new ones are unknown.
     ///
     /// `NoSpace` comes before `Memory`. A refused call changes nothing.
     pub fn resize(&mut self, at: Addr, n: u32) -> Result<(), SpaceError>
@@ -246,7 +250,7 @@ impl Space {
         Ok(())
     }
 
-    /// Writes bytes.
+    /// Writes bytes from a place on, inside one region.
     pub fn write(&mut self, at: Addr, bytes: &[u8])
         requires { IsInside self.old at (length bytes.now) }
         ensures changes { Changes self.old self.new at.region (overwritten (region_at self.old at.region) at.offset (map Some bytes.now)) }
@@ -255,7 +259,7 @@ impl Space {
         self.write_at(at.region, at.offset as usize, bytes);
     }
 
-    /// Reads known bytes.
+    /// Reads known bytes from a place on, inside one region.
     pub fn read(&self, at: Addr, out: &mut [u8])
         requires inside { IsInside self.now at (length out.old) }
         requires known { IsKnown self.now at (length out.old) }

@@ -1,7 +1,9 @@
 //! One region of a space.
-ghost use Rattle.std.specs.Prelude.{◌≡◌, ◌+◌, ◌-◌, ◌<◌, ◌≤◌, ◌++◌, length, map, Some, None, take, drop, replicate, IfOk, OnOk, OnErr, slice_index_or, slice_set, IsSome, ℕ};
+ghost use Rattle.std.specs.Prelude.{◌≡◌, ◌+◌, ◌-◌, ◌<◌, ◌≤◌, length, map, Some, None, replicate, IfOk, OnOk, OnErr, slice_index_or, IsSome, ℕ};
 ghost use Rattle.addr_space.specs.Space.{Region as Bytes, part};
+ghost use Rattle.block_mem.specs.Block.{overwritten, resized};
 
+use block_mem::RawBlock;
 use std::alloc::{AllocError, Global};
 use std::marker::Model;
 
@@ -9,7 +11,7 @@ use std::marker::Model;
 #[derive(Drop)]
 pub struct Region {
     account: u8,
-    bytes: Vec<Option<u8>>,
+    block: RawBlock,
 }
 
 impl Model for Region {
@@ -17,18 +19,18 @@ impl Model for Region {
 
     ghost Value = { Bytes };
 
-    ghost view = { λ r. record { account = r.account; bytes = r.bytes.items } };
+    ghost view = { λ r. record { account = r.account; bytes = r.block } };
 }
 
 impl Region {
     /// A region of `n` bytes, none of which is known.
     pub fn unwritten(alloc: Global, account: u8, n: u32) -> Result<Region, AllocError>
+        requires { 1 ≤ n }
         ensures account { IfOk result (λ r. r.account ≡ account) }
         ensures bytes { IfOk result (λ r. r.bytes ≡ replicate n None) }
     {
-        let mut bytes = Vec::new(alloc);
-        bytes.resize(n as usize, None)?;
-        Ok(Region { account, bytes })
+        let block = RawBlock::new(alloc, n)?;
+        Ok(Region { account, block })
     }
 
     /// The account that the region counts for.
@@ -42,33 +44,16 @@ impl Region {
     pub fn len(&self) -> usize
         ensures { result ≡ length self.now.bytes }
     {
-        self.bytes.len()
-    }
-
-    /// The byte at a place, if it is known.
-    pub fn byte(&self, at: usize) -> Option<u8>
-        requires { at < length self.now.bytes }
-        ensures { result ≡ slice_index_or self.now.bytes at None }
-    {
-        self.bytes[at]
-    }
-
-    /// Puts one byte or nothing at a place.
-    pub fn put(&mut self, at: usize, byte: Option<u8>)
-        requires { at < length self.old.bytes }
-        ensures { self.new ≡ record self.old { bytes = slice_set self.old.bytes at byte } }
-    {
-        self.bytes[at] = byte;
+        self.block.len() as usize
     }
 
     /// Writes bytes from a place on.
     pub fn write(&mut self, at: usize, bytes: &[u8])
         requires { at + length bytes.now ≤ length self.old.bytes }
-        ensures { self.new ≡ record self.old { bytes = take at self.old.bytes ++ map Some bytes.now ++ drop (at + length bytes.now) self.old.bytes } }
+        ensures { self.new ≡ record self.old { bytes = overwritten self.old.bytes at (map Some bytes.now) } }
     {
-        for (i, byte) in bytes.iter().enumerate() {
-            self.bytes[at + i] = Some(*byte);
-        }
+        prove!(at <= self.block.len() as usize);
+        self.block.write(at as u32, bytes);
     }
 
     /// Reads known bytes from a place on.
@@ -77,18 +62,16 @@ impl Region {
         requires known { (k : ℕ) → k < length out.old → IsSome (slice_index_or self.now.bytes (at + k) None) }
         ensures { map Some out.new ≡ part self.now.bytes at (length out.old) }
     {
-        for i in 0..out.len() {
-            if let Some(byte) = self.bytes[at + i] {
-                out[i] = byte;
-            }
-        }
+        prove!(at <= self.block.len() as usize);
+        self.block.read(at as u32, out);
     }
 
-    /// Cuts the region off at `n` bytes, or fills it up with unknown ones.
+    /// Cuts the region off at `n` bytes, or makes it longer by unknown ones.
     pub fn resize(&mut self, n: u32) -> Result<(), AllocError>
-        ensures ok { OnOk result (self.new ≡ record self.old { bytes = take n self.old.bytes ++ replicate (n - length self.old.bytes) None }) }
+        requires { 1 ≤ n }
+        ensures ok { OnOk result (self.new ≡ record self.old { bytes = resized self.old.bytes n }) }
         ensures err { OnErr result (self.new ≡ self.old) }
     {
-        self.bytes.resize(n as usize, None)
+        self.block.resize(n)
     }
 }

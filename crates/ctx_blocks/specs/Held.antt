@@ -15,11 +15,12 @@ pub record IsWritten (l : Layout) (s : Space) (at : Addr) (chunk : Chunk) : Type
   pub sized : IsSized (header_room l) chunk
   pub inside : header_room l ≡ 8 → IsInside s (header_place at) 8
 
--- an address has place for a chunk in a block that becomes another one: that has the same bytes, as much room
--- at most, and one live chunk more
+-- an address has place for a chunk in a block that becomes another one: that has the same number and bytes, as
+-- much room at most, and one live chunk more
 pub record Holds (l : Layout) (at : Addr) (chunk : Chunk) (block : Block) : Type 0 where
   pub old : Block
   pub owned : block_at l at.region ≡ Some old
+  pub number : block.number ≡ old.number
   pub size : block.size ≡ old.size
   pub live : block.live ≡ old.live + 1
   pub less : block.room ≤ old.room

@@ -14,6 +14,8 @@ layout_of b = record {
   account = b.account;
   context = b.context;
   keeper = b.keeper;
+  first_number = b.first_number;
+  last_number = b.last_number;
   blocks = b.blocks.entries;
   chunks = b.chunks.entries;
   spare_blocks = spare b.blocks;
@@ -58,10 +60,15 @@ pub record IsLaid (l : Layout) : Type 0 where
   pub placed : (at : Addr) (chunk : Chunk) → chunk_at l at ≡ Some chunk → IsPlaced l at chunk
   pub apart : (a b : Addr) (first second : Chunk) → chunk_at l a ≡ Some first → chunk_at l b ≡ Some second → a.region ≡ b.region → a.offset < b.offset → a.offset + first.room + header_room l ≤ b.offset
 
--- the keeper is the first block
-abbrev pub IsFirst : ℕ → List (ℕ × Block) → Type 0
-IsFirst keeper [] = ⊥
-IsFirst keeper (e ∷ es) = e.0 ≡ keeper
+-- the keeper is the first block, and has this number
+abbrev pub IsFirst : ℕ → ℕ → List (ℕ × Block) → Type 0
+IsFirst keeper number [] = ⊥
+IsFirst keeper number (e ∷ es) = (e.0 ≡ keeper) × (e.1.number ≡ number)
+
+-- the numbers of blocks rise in the order in which they were taken, from one number on and up to another one
+abbrev pub AreRising : ℕ → ℕ → List (ℕ × Block) → Type 0
+AreRising least most [] = Unit {0}
+AreRising least most (e ∷ es) = (least ≤ e.1.number) × (e.1.number ≤ most) × AreRising (e.1.number + 1) most es
 
 -- each block counts its live chunks
 abbrev pub IsCounted : Layout → Type 0
@@ -71,6 +78,7 @@ IsCounted l = (number : ℕ) (block : Block) → block_at l number ≡ Some bloc
 pub record IsKept (b : Books) : Type 0 where
   pub laid : IsLaid (layout_of b)
   pub counted : IsCounted (layout_of b)
-  pub first : IsFirst b.keeper b.blocks.entries
+  pub first : IsFirst b.keeper b.first_number b.blocks.entries
+  pub numbered : AreRising b.first_number b.last_number b.blocks.entries
   pub total : b.total ≡ total (layout_of b)
   pub most : b.total ≤ 2 ^ 62

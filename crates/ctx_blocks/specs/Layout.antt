@@ -1,5 +1,5 @@
 -- What contracts see of the blocks of a context: where they are, and the live chunks in them.
-use Rattle.std.specs.Prelude.{ℕ, ◌+◌, ◌-◌, ◌==◌, List, [], ◌∷◌, Option, Some, None, if◌then◌else◌, nat_le, sum_by, option_map, option_and_then}
+use Rattle.std.specs.Prelude.{ℕ, ◌+◌, ◌-◌, ◌==◌, List, [], ◌∷◌, Option, Some, None, if◌then◌else◌, nat_le, min, sum_by, option_map, option_and_then}
 use Rattle.std.specs.Map.{lookup, values_of}
 use Rattle.addr_space.specs.declared.Addr.{Addr}
 use Rattle.addr_space.specs.Footprint.{Footprint}
@@ -11,14 +11,16 @@ use Rattle.ctx_blocks.specs.declared.parts.Block.{Block}
 use Rattle.ctx_blocks.specs.declared.parts.Chunk.{Chunk}
 use Rattle.addr_space.specs.Live.{same_addr}
 
--- the kind of the context; the account and the number that it was created with; the region of the keeper; each
--- block by the number of its region, in the order in which they were taken; each live chunk by its address; and
--- for how many more blocks and chunks room was made
+-- the kind of the context; the account and the number that it was created with; the region of the keeper; the
+-- numbers of the keeper and of the block that was taken last; each block by its region, in the order in which they
+-- were taken; each live chunk by its address; and for how many more blocks and chunks room was made
 pub record Layout : Type 0 where
   pub kind : Kind
   pub account : ℕ
   pub context : ℕ
   pub keeper : ℕ
+  pub first_number : ℕ
+  pub last_number : ℕ
   pub blocks : List (ℕ × Block)
   pub chunks : List (Addr × Chunk)
   pub spare_blocks : ℕ
@@ -72,13 +74,13 @@ whole_room start size = size - start - 40
 abbrev pub whole_of : Layout → ℕ → ℕ → ℕ
 whole_of l number size = whole_room (start_of l number) size
 
--- a block of so many bytes with its whole room
-abbrev pub whole_block : ℕ → ℕ → Block
-whole_block start size = record { size = size; room = whole_room start size; live = 0; freed = 0 }
+-- a block of a number and of so many bytes with its whole room
+abbrev pub whole_block : ℕ → ℕ → ℕ → Block
+whole_block number start size = record { number = number; size = size; room = whole_room start size; live = 0; freed = 0 }
 
--- the keeper of a number and of so many bytes alone
-abbrev pub keeper_alone : ℕ → ℕ → List (ℕ × Block)
-keeper_alone keeper size = (keeper, whole_block 200 size) ∷ []
+-- the keeper in a region, of a number and of so many bytes, alone
+abbrev pub keeper_alone : ℕ → ℕ → ℕ → List (ℕ × Block)
+keeper_alone keeper number size = (keeper, whole_block number 200 size) ∷ []
 
 -- the header of a chunk, so far from the header of its block
 abbrev pub header_of : Kind → Chunk → ℕ → Header
@@ -100,6 +102,11 @@ mark_of l at =
     if at.offset == start_of l at.region then option_and_then (block_word l.context (start_of l at.region)) (block_at l at.region)
     else option_and_then (λ chunk. chunk_word l.kind chunk (at.offset - start_of l at.region)) (chunk_at l (record { region = at.region; offset = at.offset + 8 }))
 
+-- how many first bytes of a region no chunk has: those before the block's header, and that
+abbrev pub front_of : ℕ → Option Block → ℕ
+front_of start None = 0
+front_of start (Some block) = min (start + 40) block.size
+
 -- what the context has in a space
 abbrev pub footprint : Layout → Footprint
 footprint l = record {
@@ -107,6 +114,7 @@ footprint l = record {
   context = l.context;
   total = total l;
   region = λ number. option_map (λ b. b.size) (block_at l number);
+  front = λ number. front_of (start_of l number) (block_at l number);
   mark = mark_of l;
   live = λ at. option_map (λ c. c.size) (chunk_at l at);
   free = λ at. None;

@@ -37,6 +37,7 @@ pub record SameContext (l m : Layout) : Type 0 where
   pub account : m.account ≡ l.account
   pub context : m.context ≡ l.context
   pub keeper : m.keeper ≡ l.keeper
+  pub first_number : m.first_number ≡ l.first_number
 
 -- the context's books go from one layout to another, while the space stays
 abbrev pub MovesStill : Layout → Layout → Type 0

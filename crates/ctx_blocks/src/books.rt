@@ -3,7 +3,7 @@ ghost use Rattle.std.specs.Prelude.{◌≡◌, ◌≢◌, ℕ, ◌+◌, ◌-◌,
 ghost use Rattle.std.specs.Map.{lookup};
 ghost use Rattle.indexmap.specs.IndexMap.{spare};
 ghost use Rattle.addr_space.specs.declared.Addr.{Addr};
-ghost use Rattle.addr_space.specs.Space.{Space, accounts, held, region_at, overwritten, IsKnown, Changes};
+ghost use Rattle.addr_space.specs.Space.{Space, Asks, accounts, held, region_at, overwritten, IsKnown, Changes};
 ghost use Rattle.addr_space.specs.Footprint.{Agrees, Moves, Keeps, KeepsBut, nothing};
 ghost use Rattle.chunk_header.specs.Header.{header_bytes};
 ghost use Rattle.ctx_blocks.specs.declared.parts.Block.{Block};
@@ -13,7 +13,7 @@ ghost use Rattle.ctx_blocks.specs.Layout.{Layout, block_at, chunk_at, total, roo
 ghost use Rattle.ctx_blocks.specs.Steps.{with_block, without_block, PutsBlock, DropsBlock, PutsChunk, SameContext, MovesStill};
 
 use crate::parts::{Block, Chunk};
-use addr_space::{Addr, Space, SpaceError};
+use addr_space::{Addr, Space};
 use chunk_header::{CtxError, Header, Kind, block_header};
 use indexmap::IndexMap;
 use std::alloc::Global;
@@ -26,6 +26,9 @@ pub struct Books {
     pub context: u32,
     // The region of the first block.
     pub keeper: u32,
+    // The numbers of the first block, and of the one that was taken last.
+    pub first_number: u64,
+    pub last_number: u64,
     // The blocks in the order in which they were taken.
     pub blocks: IndexMap<u32, Block>,
     // The live chunks.
@@ -63,7 +66,7 @@ fn note(blocks: &mut IndexMap<u32, Block>, number: u32, block: Block)
 }
 
 impl Books {
-    ghost use Rattle.ctx_blocks.specs.Kept.{layout_of, IsFilled, IsSized, IsClear, IsLaid, IsCounted, IsFirst, IsKept};
+    ghost use Rattle.ctx_blocks.specs.Kept.{layout_of, IsFilled, IsSized, IsClear, IsLaid, IsCounted, IsFirst, AreRising, IsKept};
     ghost use Rattle.ctx_blocks.specs.Held.{Holds, IsWritten};
 
     // The books of a new context, whose first region was taken.
@@ -73,6 +76,7 @@ impl Books {
         kind: Kind,
         account: u8,
         context: u32,
+        first: u64,
         size: u32,
     ) -> Result<Books, CtxError>
         requires account { account < accounts space.old }
@@ -84,9 +88,12 @@ impl Books {
         ensures kind { IfOk result (λ b. b.kind ≡ kind) }
         ensures account { IfOk result (λ b. b.account ≡ account) }
         ensures context { IfOk result (λ b. b.context ≡ context) }
-        ensures blocks { IfOk result (λ b. (layout_of b).blocks ≡ keeper_alone b.keeper size) }
+        ensures first { IfOk result (λ b. b.first_number ≡ first) }
+        ensures last { IfOk result (λ b. b.last_number ≡ first) }
+        ensures blocks { IfOk result (λ b. (layout_of b).blocks ≡ keeper_alone b.keeper first size) }
         ensures chunks { IfOk result (λ b. (layout_of b).chunks ≡ []) }
         ensures moves { IfOk result (λ b. Moves (nothing account context) (footprint (layout_of b)) space.old space.new) }
+        ensures asked { OnOk result (Asks account size space.old space.new) }
         ensures no_space { (result ≡ Err CtxError.NoSpace) ↔ (space.old.limit < held space.old account + size) }
         ensures no_other { IfErr result (λ e. (e ≡ CtxError.NoSpace) ⊎ (e ≡ CtxError.Memory)) }
         ensures err { OnErr result (space.new ≡ space.old) }
@@ -98,11 +105,8 @@ impl Books {
             Ok(blocks) => blocks,
             Err(_) => return Err(CtxError::Memory),
         };
-        let keeper = match space.take(account, size) {
-            Ok(at) => at.region,
-            Err(SpaceError::NoSpace) => return Err(CtxError::NoSpace),
-            Err(SpaceError::Memory) => return Err(CtxError::Memory),
-        };
+        let at = space.take(account, size)?;
+        let keeper = at.region;
         if size >= 240 {
             let place = Addr {
                 region: keeper,
@@ -111,6 +115,7 @@ impl Books {
             space.write(place, &block_header(context, size));
         }
         let block = Block {
+            number: first,
             size,
             room: size.saturating_sub(240),
             live: 0,
@@ -122,6 +127,8 @@ impl Books {
             account,
             context,
             keeper,
+            first_number: first,
+            last_number: first,
             blocks,
             chunks: IndexMap::new(alloc),
             total: u64::from(size),
@@ -215,33 +222,33 @@ impl Books {
         ensures kept { OnOk result (IsKept self.new) }
         ensures same { OnOk result (SameContext (layout_of self.old) (layout_of self.new)) }
         ensures fresh { IfOk result (λ number. block_at (layout_of self.old) number ≡ None) }
-        ensures block { IfOk result (λ number. PutsBlock (layout_of self.old) (layout_of self.new) number (record { size = size; room = size - 40; live = 0; freed = 0 })) }
+        ensures block { IfOk result (λ number. PutsBlock (layout_of self.old) (layout_of self.new) number (record { number = self.old.last_number + 1; size = size; room = size - 40; live = 0; freed = 0 })) }
         ensures chunks { OnOk result (self.new.chunks ≡ self.old.chunks) }
+        ensures last { OnOk result (self.new.last_number ≡ self.old.last_number + 1) }
         ensures total { OnOk result (total (layout_of self.new) ≡ total (layout_of self.old) + size) }
-        ensures moves { OnOk result (Moves (footprint (layout_of self.old)) (footprint (layout_of self.new)) space.old space.new) }
-        ensures keeps { OnOk result (Keeps (footprint (layout_of self.old)) (footprint (layout_of self.new)) space.old space.new) }
+        ensures moves { Moves (footprint (layout_of self.old)) (footprint (layout_of self.new)) space.old space.new }
+        ensures keeps { Keeps (footprint (layout_of self.old)) (footprint (layout_of self.new)) space.old space.new }
+        ensures asked { OnOk result (Asks self.old.account size space.old space.new) }
         ensures fits { OnOk result (size ≤ space.old.limit - held space.old self.old.account) }
         ensures no_space { (result ≡ Err CtxError.NoSpace) → space.old.limit - held space.old self.old.account < size }
         ensures no_other { IfErr result (λ e. (e ≡ CtxError.NoSpace) ⊎ (e ≡ CtxError.Memory)) }
         ensures err { OnErr result (self.new ≡ self.old) }
         ensures err_space { OnErr result (space.new ≡ space.old) }
     {
-        if self.total > MOST {
+        if self.total > MOST || self.last_number == u64::MAX {
             return Err(CtxError::Memory);
         }
-        let at = match space.take(self.account, size) {
-            Ok(at) => at,
-            Err(SpaceError::NoSpace) => return Err(CtxError::NoSpace),
-            Err(SpaceError::Memory) => return Err(CtxError::Memory),
-        };
+        let at = space.take(self.account, size)?;
         space.write(at, &block_header(self.context, size));
         let block = Block {
+            number: self.last_number + 1,
             size,
             room: size - 40,
             live: 0,
             freed: 0,
         };
         note(&mut self.blocks, at.region, block);
+        self.last_number += 1;
         self.total += u64::from(size);
         Ok(at.region)
     }
@@ -250,6 +257,7 @@ impl Books {
     fn head(&self, space: &mut Space, at: Addr, chunk: Chunk)
         requires { IsWritten (layout_of self.now) space.old at chunk }
         ensures none { header_room (layout_of self.now) ≡ 0 → space.new ≡ space.old }
+        ensures asked { space.new.taken ≡ space.old.taken }
         ensures some { header_room (layout_of self.now) ≡ 8 → Changes space.old space.new at.region (overwritten (region_at space.old at.region) (at.offset - 8) (map Some (header_bytes (header_of self.now.kind chunk (at.offset - 8 - start_of (layout_of self.now) at.region))))) }
     {
         if self.gap() == 0 {
@@ -277,12 +285,14 @@ impl Books {
         requires spare { 1 ≤ spare self.old.chunks }
         ensures kept { IsKept self.new }
         ensures same { SameContext (layout_of self.old) (layout_of self.new) }
+        ensures last { self.new.last_number ≡ self.old.last_number }
         ensures fresh { chunk_at (layout_of self.old) at ≡ None }
         ensures chunk { PutsChunk (layout_of self.old) (layout_of self.new) at (Some chunk) }
         ensures block { PutsBlock (layout_of self.old) (layout_of self.new) at.region block }
         ensures spare { spare self.old.chunks ≤ spare self.new.chunks + 1 }
         ensures moves { Moves (footprint (layout_of self.old)) (footprint (layout_of self.new)) space.old space.new }
         ensures keeps { Keeps (footprint (layout_of self.old)) (footprint (layout_of self.new)) space.old space.new }
+        ensures asked { space.new.taken ≡ space.old.taken }
     {
         self.head(space, at, chunk);
         put(&mut self.chunks, at, chunk);
@@ -301,6 +311,7 @@ impl Books {
         requires spare { 1 ≤ spare self.old.chunks }
         ensures kept { IsKept self.new }
         ensures same { SameContext (layout_of self.old) (layout_of self.new) }
+        ensures last { self.new.last_number ≡ self.old.last_number }
         ensures region { result.region ≡ number }
         ensures offset { (b : Block) → block_at (layout_of self.old) number ≡ Some b → result.offset ≡ b.size - b.room + header_room (layout_of self.old) }
         ensures fresh { chunk_at (layout_of self.old) result ≡ None }
@@ -309,6 +320,7 @@ impl Books {
         ensures spare { spare self.old.chunks ≤ spare self.new.chunks + 1 }
         ensures moves { Moves (footprint (layout_of self.old)) (footprint (layout_of self.new)) space.old space.new }
         ensures keeps { Keeps (footprint (layout_of self.old)) (footprint (layout_of self.new)) space.old space.new }
+        ensures asked { space.new.taken ≡ space.old.taken }
     {
         let block = self.owned(number);
         let gap = self.gap();
@@ -317,6 +329,7 @@ impl Books {
             offset: block.size - block.room + gap,
         };
         let less = Block {
+            number: block.number,
             size: block.size,
             room: block.room - (gap + room),
             live: block.live + 1,
@@ -340,15 +353,18 @@ impl Books {
         requires spare { 1 ≤ spare self.old.chunks }
         ensures kept { IsKept self.new }
         ensures same { SameContext (layout_of self.old) (layout_of self.new) }
+        ensures last { self.new.last_number ≡ self.old.last_number }
         ensures fresh { chunk_at (layout_of self.old) at ≡ None }
         ensures chunk { PutsChunk (layout_of self.old) (layout_of self.new) at (Some (record { size = size; room = room; own = false })) }
         ensures block { (b : Block) → block_at (layout_of self.old) at.region ≡ Some b → PutsBlock (layout_of self.old) (layout_of self.new) at.region (record b { live = b.live + 1; freed = b.freed - 1 }) }
         ensures spare { spare self.old.chunks ≤ spare self.new.chunks + 1 }
         ensures moves { Moves (footprint (layout_of self.old)) (footprint (layout_of self.new)) space.old space.new }
         ensures keeps { Keeps (footprint (layout_of self.old)) (footprint (layout_of self.new)) space.old space.new }
+        ensures asked { space.new.taken ≡ space.old.taken }
     {
         let block = self.owned(at.region);
         let taken = Block {
+            number: block.number,
             size: block.size,
             room: block.room,
             live: block.live + 1,
@@ -368,6 +384,7 @@ impl Books {
         requires chunk { (c : Chunk) × (chunk_at (layout_of self.old) at ≡ Some c) × (size ≤ c.room) }
         ensures kept { IsKept self.new }
         ensures same { SameContext (layout_of self.old) (layout_of self.new) }
+        ensures last { self.new.last_number ≡ self.old.last_number }
         ensures chunk { (c : Chunk) → chunk_at (layout_of self.old) at ≡ Some c → PutsChunk (layout_of self.old) (layout_of self.new) at (Some (record c { size = size })) }
         ensures blocks { self.new.blocks ≡ self.old.blocks }
         ensures moves { MovesStill (layout_of self.old) (layout_of self.new) }
@@ -387,6 +404,7 @@ impl Books {
         requires chunk { (c : Chunk) × (chunk_at (layout_of self.old) at ≡ Some c) }
         ensures kept { IsKept self.new }
         ensures same { SameContext (layout_of self.old) (layout_of self.new) }
+        ensures last { self.new.last_number ≡ self.old.last_number }
         ensures was { chunk_at (layout_of self.old) at ≡ Some result }
         ensures chunk { PutsChunk (layout_of self.old) (layout_of self.new) at None }
         ensures block { (b : Block) → block_at (layout_of self.old) at.region ≡ Some b → PutsBlock (layout_of self.old) (layout_of self.new) at.region (record b { live = b.live - 1; freed = b.freed + 1 }) }
@@ -396,6 +414,7 @@ impl Books {
         let chunk = self.held(at);
         let block = self.owned(at.region);
         let less = Block {
+            number: block.number,
             size: block.size,
             room: block.room,
             live: block.live - 1,
@@ -412,14 +431,16 @@ impl Books {
         requires block { (b : Block) × (block_at (layout_of self.old) number ≡ Some b) × (b.live ≡ 0) }
         ensures kept { IsKept self.new }
         ensures same { SameContext (layout_of self.old) (layout_of self.new) }
+        ensures last { self.new.last_number ≡ self.old.last_number }
         ensures chunks { self.new.chunks ≡ self.old.chunks }
-        ensures block { (b : Block) → block_at (layout_of self.old) number ≡ Some b → PutsBlock (layout_of self.old) (layout_of self.new) number (whole_block (start_of (layout_of self.old) number) b.size) }
+        ensures block { (b : Block) → block_at (layout_of self.old) number ≡ Some b → PutsBlock (layout_of self.old) (layout_of self.new) number (whole_block b.number (start_of (layout_of self.old) number) b.size) }
         ensures moves { MovesStill (layout_of self.old) (layout_of self.new) }
     {
-        let size = self.owned(number).size;
+        let old = self.owned(number);
         let block = Block {
-            size,
-            room: self.whole(number, size),
+            number: old.number,
+            size: old.size,
+            room: self.whole(number, old.size),
             live: 0,
             freed: 0,
         };
@@ -434,12 +455,14 @@ impl Books {
         requires not_keeper { number ≢ self.old.keeper }
         ensures kept { IsKept self.new }
         ensures same { SameContext (layout_of self.old) (layout_of self.new) }
+        ensures last { self.new.last_number ≡ self.old.last_number }
         ensures chunks { self.new.chunks ≡ self.old.chunks }
         ensures block { DropsBlock (layout_of self.old) (layout_of self.new) number }
         ensures total { (b : Block) → block_at (layout_of self.old) number ≡ Some b → total (layout_of self.new) + b.size ≡ total (layout_of self.old) }
         ensures spare { spare self.old.blocks ≤ spare self.new.blocks }
         ensures moves { Moves (footprint (layout_of self.old)) (footprint (layout_of self.new)) space.old space.new }
         ensures keeps { Keeps (footprint (layout_of self.old)) (footprint (layout_of self.new)) space.old space.new }
+        ensures asked { space.new.taken ≡ space.old.taken }
     {
         let size = self.owned(number).size;
         let _ = self.blocks.shift_remove(&number);
@@ -464,6 +487,7 @@ impl Books {
         ensures blocks { self.new.blocks.entries ≡ take (length self.old.blocks.entries - 1) self.old.blocks.entries }
         ensures len { length self.new.blocks.entries + 1 ≡ length self.old.blocks.entries }
         ensures moves { Moves (footprint (layout_of self.old)) (footprint (layout_of self.new)) space.old space.new }
+        ensures asked { space.new.taken ≡ space.old.taken }
     {
         let Some((number, block)) = self.blocks.pop() else {
             return;
@@ -487,6 +511,7 @@ impl Books {
         ensures blocks { self.new.blocks.entries ≡ take first self.old.blocks.entries }
         ensures chunks { self.new.chunks.entries ≡ [] }
         ensures moves { Moves (footprint (layout_of self.old)) (footprint (layout_of self.new)) space.old space.new }
+        ensures asked { space.new.taken ≡ space.old.taken }
     {
         self.chunks.clear();
         while self.blocks.len() > first {
@@ -500,27 +525,32 @@ impl Books {
         requires agrees { Agrees (footprint (layout_of self.old)) space.old }
         ensures kept { IsKept self.new }
         ensures same { SameContext (layout_of self.old) (layout_of self.new) }
+        ensures last { self.new.last_number ≡ self.old.first_number }
         ensures chunks { (layout_of self.new).chunks ≡ [] }
-        ensures blocks { (b : Block) → block_at (layout_of self.old) self.old.keeper ≡ Some b → (layout_of self.new).blocks ≡ keeper_alone self.old.keeper b.size }
+        ensures blocks { (b : Block) → block_at (layout_of self.old) self.old.keeper ≡ Some b → (layout_of self.new).blocks ≡ keeper_alone self.old.keeper self.old.first_number b.size }
         ensures moves { Moves (footprint (layout_of self.old)) (footprint (layout_of self.new)) space.old space.new }
+        ensures asked { space.new.taken ≡ space.old.taken }
     {
         self.shrink(space, 1);
         let keeper = self.keeper;
         let size = self.owned(keeper).size;
         let block = Block {
+            number: self.first_number,
             size,
             room: self.whole(keeper, size),
             live: 0,
             freed: 0,
         };
         note(&mut self.blocks, keeper, block);
+        self.last_number = self.first_number;
     }
 
     // Gives all blocks back.
     pub fn discard(self, space: &mut Space)
         requires kept { IsKept self }
         requires agrees { Agrees (footprint (layout_of self)) space.old }
-        ensures { Moves (footprint (layout_of self)) (nothing self.account self.context) space.old space.new }
+        ensures moves { Moves (footprint (layout_of self)) (nothing self.account self.context) space.old space.new }
+        ensures asked { space.new.taken ≡ space.old.taken }
     {
         let mut books = self;
         books.shrink(space, 0);
@@ -537,6 +567,7 @@ impl Books {
         ensures moves { Moves (footprint (layout_of self.now)) (footprint (layout_of self.now)) space.old space.new }
         ensures keeps { KeepsBut to (footprint (layout_of self.now)) (footprint (layout_of self.now)) space.old space.new }
         ensures copied { HasBytesOf space.old space.new from to n }
+        ensures asked { space.new.taken ≡ space.old.taken }
     {
         space.copy(from, to, n);
     }

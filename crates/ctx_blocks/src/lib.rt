@@ -40,19 +40,20 @@ impl Model for Blocks {
 }
 
 impl Blocks {
-    ghost use Rattle.addr_space.specs.Space.{accounts, held, IsKnown};
+    ghost use Rattle.addr_space.specs.Space.{accounts, held, Asks, IsKnown};
     ghost use Rattle.addr_space.specs.Footprint.{nothing, Agrees, Moves, Keeps, KeepsBut};
     ghost use Rattle.addr_space.specs.Live.{HasBytesOf};
     ghost use Rattle.chunk_header.specs.declared.Kind.TheVariants.{Slab, Generation};
-    ghost use Rattle.chunk_header.specs.Header.{AllHeaded, TakesSpace};
+    ghost use Rattle.chunk_header.specs.Header.{AllHeaded, AllOfKind, TakesSpace};
     ghost use Rattle.ctx_blocks.specs.declared.parts.Block.{Block};
     ghost use Rattle.ctx_blocks.specs.declared.parts.Chunk.{Chunk};
     ghost use Rattle.ctx_blocks.specs.Layout.{block_at, chunk_at, total, rooms, all_freed, start_of, header_room, whole_block, whole_of, keeper_alone, footprint};
-    ghost use Rattle.ctx_blocks.specs.Kept.{IsFilled, IsPlaced, IsClear, IsFirst};
+    ghost use Rattle.ctx_blocks.specs.Kept.{IsFilled, IsPlaced, IsClear, IsFirst, AreRising};
     ghost use Rattle.ctx_blocks.specs.Steps.{PutsBlock, DropsBlock, PutsChunk, SameContext, MovesStill};
 
     /// The blocks of a context that is new: a first region of `size` bytes, for an account of the space. `context`
-    /// is the number that the blocks' headers keep. A region of 200 bytes has no room for a block's header.
+    /// is the number that the blocks' headers keep, and `first` that from which the blocks are counted. A region of
+    /// 200 bytes has no room for a block's header.
     ///
     /// `NoSpace` comes where the region doesn't fit, and before `Memory`. A refused call changes nothing.
     pub fn create(
@@ -61,6 +62,7 @@ impl Blocks {
         kind: Kind,
         account: u8,
         context: u32,
+        first: u64,
         size: u32,
     ) -> Result<Blocks, CtxError>
         requires account { account < accounts space.old }
@@ -71,17 +73,17 @@ impl Blocks {
         ensures kind { IfOk result (λ b. b.kind ≡ kind) }
         ensures account { IfOk result (λ b. b.account ≡ account) }
         ensures context { IfOk result (λ b. b.context ≡ context) }
-        ensures blocks { IfOk result (λ b. b.blocks ≡ keeper_alone b.keeper size) }
+        ensures numbers { IfOk result (λ b. (b.first_number ≡ first) × (b.last_number ≡ first)) }
+        ensures blocks { IfOk result (λ b. b.blocks ≡ keeper_alone b.keeper first size) }
         ensures chunks { IfOk result (λ b. b.chunks ≡ []) }
         ensures moves { IfOk result (λ b. Moves (nothing account context) (footprint b) space.old space.new) }
+        ensures asked { OnOk result (Asks account size space.old space.new) }
         ensures no_space { (result ≡ Err CtxError.NoSpace) ↔ (space.old.limit < held space.old account + size) }
         ensures no_other { IfErr result (λ e. (e ≡ CtxError.NoSpace) ⊎ (e ≡ CtxError.Memory)) }
         ensures err { OnErr result (space.new ≡ space.old) }
     {
-        match Books::create(alloc, space, kind, account, context, size) {
-            Ok(books) => Ok(Blocks { books }),
-            Err(error) => Err(error),
-        }
+        let books = Books::create(alloc, space, kind, account, context, first, size)?;
+        Ok(Blocks { books })
     }
 
     /// Makes room to note one chunk and one block. A refused call makes room for one of them at most, and changes
@@ -96,7 +98,8 @@ impl Blocks {
         self.books.make_room()
     }
 
-    /// Takes a block of `size` bytes, the last one from now on, writes its header and answers the number of its region.
+    /// Takes a block of `size` bytes, the last one from now on, which has the next number; writes its header and answers
+    /// its region.
     ///
     /// `NoSpace` comes where the account has less left. A refused call changes nothing.
     pub fn add(&mut self, space: &mut Space, size: u32) -> Result<u32, CtxError>
@@ -107,12 +110,14 @@ impl Blocks {
         requires spare { 1 ≤ self.old.spare_blocks }
         ensures same { OnOk result (SameContext self.old self.new) }
         ensures fresh { IfOk result (λ number. block_at self.old number ≡ None) }
-        ensures block { IfOk result (λ number. PutsBlock self.old self.new number (record { size = size; room = size - 40; live = 0; freed = 0 })) }
+        ensures block { IfOk result (λ number. PutsBlock self.old self.new number (record { number = self.old.last_number + 1; size = size; room = size - 40; live = 0; freed = 0 })) }
         ensures chunks { OnOk result (self.new.chunks ≡ self.old.chunks) }
         ensures spare { OnOk result (self.new.spare_chunks ≡ self.old.spare_chunks) }
+        ensures last { OnOk result (self.new.last_number ≡ self.old.last_number + 1) }
         ensures total { OnOk result (total self.new ≡ total self.old + size) }
-        ensures moves { OnOk result (Moves (footprint self.old) (footprint self.new) space.old space.new) }
-        ensures keeps { OnOk result (Keeps (footprint self.old) (footprint self.new) space.old space.new) }
+        ensures moves { Moves (footprint self.old) (footprint self.new) space.old space.new }
+        ensures keeps { Keeps (footprint self.old) (footprint self.new) space.old space.new }
+        ensures asked { OnOk result (Asks self.old.account size space.old space.new) }
         ensures fits { OnOk result (size ≤ space.old.limit - held space.old self.old.account) }
         ensures no_space { (result ≡ Err CtxError.NoSpace) → space.old.limit - held space.old self.old.account < size }
         ensures no_other { IfErr result (λ e. (e ≡ CtxError.NoSpace) ⊎ (e ≡ CtxError.Memory)) }
@@ -133,6 +138,7 @@ impl Blocks {
         requires value { (own ≡ true) ⊎ (room < 2 ^ 30) }
         requires spare { 1 ≤ self.old.spare_chunks }
         ensures same { SameContext self.old self.new }
+        ensures last { self.new.last_number ≡ self.old.last_number }
         ensures region { result.region ≡ number }
         ensures offset { (b : Block) → block_at self.old number ≡ Some b → result.offset ≡ b.size - b.room + header_room self.old }
         ensures fresh { chunk_at self.old result ≡ None }
@@ -141,6 +147,7 @@ impl Blocks {
         ensures spare { self.old.spare_chunks ≤ self.new.spare_chunks + 1 }
         ensures moves { Moves (footprint self.old) (footprint self.new) space.old space.new }
         ensures keeps { Keeps (footprint self.old) (footprint self.new) space.old space.new }
+        ensures asked { space.new.taken ≡ space.old.taken }
     {
         self.books.cut(space, number, size, room, own)
     }
@@ -158,12 +165,14 @@ impl Blocks {
         requires clear { (other : Addr) (c : Chunk) → chunk_at self.old other ≡ Some c → IsClear (header_room self.old) other c at (record { size = size; room = room; own = false }) }
         requires spare { 1 ≤ self.old.spare_chunks }
         ensures same { SameContext self.old self.new }
+        ensures last { self.new.last_number ≡ self.old.last_number }
         ensures fresh { chunk_at self.old at ≡ None }
         ensures chunk { PutsChunk self.old self.new at (Some (record { size = size; room = room; own = false })) }
         ensures block { (b : Block) → block_at self.old at.region ≡ Some b → PutsBlock self.old self.new at.region (record b { live = b.live + 1; freed = b.freed - 1 }) }
         ensures spare { self.old.spare_chunks ≤ self.new.spare_chunks + 1 }
         ensures moves { Moves (footprint self.old) (footprint self.new) space.old space.new }
         ensures keeps { Keeps (footprint self.old) (footprint self.new) space.old space.new }
+        ensures asked { space.new.taken ≡ space.old.taken }
     {
         self.books.place(space, at, size, room);
     }
@@ -172,6 +181,7 @@ impl Blocks {
     pub fn set_size(&mut self, at: Addr, size: u32)
         requires { (c : Chunk) × (chunk_at self.old at ≡ Some c) × (size ≤ c.room) }
         ensures same { SameContext self.old self.new }
+        ensures last { self.new.last_number ≡ self.old.last_number }
         ensures chunk { (c : Chunk) → chunk_at self.old at ≡ Some c → PutsChunk self.old self.new at (Some (record c { size = size })) }
         ensures blocks { self.new.blocks ≡ self.old.blocks }
         ensures moves { MovesStill self.old self.new }
@@ -183,6 +193,7 @@ impl Blocks {
     pub fn remove(&mut self, at: Addr) -> Chunk
         requires { (c : Chunk) × (chunk_at self.old at ≡ Some c) }
         ensures same { SameContext self.old self.new }
+        ensures last { self.new.last_number ≡ self.old.last_number }
         ensures was { chunk_at self.old at ≡ Some result }
         ensures chunk { PutsChunk self.old self.new at None }
         ensures block { (b : Block) → block_at self.old at.region ≡ Some b → PutsBlock self.old self.new at.region (record b { live = b.live - 1; freed = b.freed + 1 }) }
@@ -196,9 +207,10 @@ impl Blocks {
     pub fn refill(&mut self, number: u32)
         requires { (b : Block) × (block_at self.old number ≡ Some b) × (b.live ≡ 0) }
         ensures same { SameContext self.old self.new }
+        ensures last { self.new.last_number ≡ self.old.last_number }
         ensures chunks { self.new.chunks ≡ self.old.chunks }
         ensures spare { self.new.spare_chunks ≡ self.old.spare_chunks }
-        ensures block { (b : Block) → block_at self.old number ≡ Some b → PutsBlock self.old self.new number (whole_block (start_of self.old number) b.size) }
+        ensures block { (b : Block) → block_at self.old number ≡ Some b → PutsBlock self.old self.new number (whole_block b.number (start_of self.old number) b.size) }
         ensures moves { MovesStill self.old self.new }
     {
         self.books.refill(number);
@@ -210,6 +222,7 @@ impl Blocks {
         requires block { (b : Block) × (block_at self.old number ≡ Some b) × (b.live ≡ 0) }
         requires not_keeper { number ≢ self.old.keeper }
         ensures same { SameContext self.old self.new }
+        ensures last { self.new.last_number ≡ self.old.last_number }
         ensures chunks { self.new.chunks ≡ self.old.chunks }
         ensures spare_chunks { self.new.spare_chunks ≡ self.old.spare_chunks }
         ensures spare_blocks { self.old.spare_blocks ≤ self.new.spare_blocks }
@@ -217,17 +230,21 @@ impl Blocks {
         ensures total { (b : Block) → block_at self.old number ≡ Some b → total self.new + b.size ≡ total self.old }
         ensures moves { Moves (footprint self.old) (footprint self.new) space.old space.new }
         ensures keeps { Keeps (footprint self.old) (footprint self.new) space.old space.new }
+        ensures asked { space.new.taken ≡ space.old.taken }
     {
         self.books.give(space, number);
     }
 
-    /// Forgets all chunks, gives every block but the keeper back, and gives the keeper its whole room.
+    /// Forgets all chunks, gives every block but the keeper back, and gives the keeper its whole room. Blocks are
+    /// counted anew.
     pub fn reset(&mut self, space: &mut Space)
         requires { Agrees (footprint self.old) space.old }
         ensures same { SameContext self.old self.new }
+        ensures last { self.new.last_number ≡ self.old.first_number }
         ensures chunks { self.new.chunks ≡ [] }
-        ensures blocks { (b : Block) → block_at self.old self.old.keeper ≡ Some b → self.new.blocks ≡ keeper_alone self.old.keeper b.size }
+        ensures blocks { (b : Block) → block_at self.old self.old.keeper ≡ Some b → self.new.blocks ≡ keeper_alone self.old.keeper self.old.first_number b.size }
         ensures moves { Moves (footprint self.old) (footprint self.new) space.old space.new }
+        ensures asked { space.new.taken ≡ space.old.taken }
     {
         self.books.reset(space);
     }
@@ -235,7 +252,8 @@ impl Blocks {
     /// Gives all blocks back.
     pub fn discard(self, space: &mut Space)
         requires { Agrees (footprint self) space.old }
-        ensures { Moves (footprint self) (nothing self.account self.context) space.old space.new }
+        ensures moves { Moves (footprint self) (nothing self.account self.context) space.old space.new }
+        ensures asked { space.new.taken ≡ space.old.taken }
     {
         let Blocks { books } = self;
         books.discard(space);
@@ -251,6 +269,7 @@ impl Blocks {
         ensures moves { Moves (footprint self.now) (footprint self.now) space.old space.new }
         ensures keeps { KeepsBut to (footprint self.now) (footprint self.now) space.old space.new }
         ensures copied { HasBytesOf space.old space.new from to n }
+        ensures asked { space.new.taken ≡ space.old.taken }
     {
         self.books.carry(space, from, to, n);
     }
@@ -326,6 +345,7 @@ impl Blocks {
     pub fn headed(&self)
         requires { (self.now.kind ≡ Slab) ⊎ (self.now.kind ≡ Generation) }
         ensures headed { AllHeaded (footprint self.now) }
+        ensures kind { AllOfKind self.now.kind (footprint self.now) }
 
         // What a chunk takes: one with its block for itself takes all of that but its header.
         ensures shared { (at : Addr) (chunk : Chunk) → chunk_at self.now at ≡ Some chunk → chunk.own ≡ false → TakesSpace (footprint self.now) at (chunk.room + 8) }
@@ -336,7 +356,12 @@ impl Blocks {
 
     /// Where blocks and chunks are. A caller cites the clauses.
     pub fn laid(&self)
-        ensures first { IsFirst self.now.keeper self.now.blocks }
+        ensures first { IsFirst self.now.keeper self.now.first_number self.now.blocks }
+
+        // Blocks are numbered as they were taken, and no two have one number.
+        ensures rising { AreRising self.now.first_number self.now.last_number self.now.blocks }
+        ensures numbers { (a b : ℕ) (first second : Block) → block_at self.now a ≡ Some first → block_at self.now b ≡ Some second → first.number ≡ second.number → a ≡ b }
+
         ensures filled { (number : ℕ) (block : Block) → block_at self.now number ≡ Some block → IsFilled (whole_of self.now number block.size) block }
         ensures placed { (at : Addr) (chunk : Chunk) → chunk_at self.now at ≡ Some chunk → IsPlaced self.now at chunk }
         ensures apart { (a b : Addr) (first second : Chunk) → chunk_at self.now a ≡ Some first → chunk_at self.now b ≡ Some second → a ≢ b → IsClear (header_room self.now) a first b second }

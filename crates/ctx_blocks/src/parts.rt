@@ -14,6 +14,8 @@ pub struct Chunk {
 /// A block: a region of the context.
 #[derive(Clone, Copy, PartialEq, Eq, Debug)]
 pub struct Block {
+    /// Its number: blocks are counted as they are taken.
+    pub number: u64,
     /// The bytes of its region, at most 2^31.
     pub size: u32,
     /// The bytes at its end off which chunks are cut.

@@ -11,7 +11,7 @@ use std::test::Fail;
 #[test]
 fn a_chunk_is_cut(rt: HostRuntime) -> Result<(), Fail> {
     let mut space = Space::new(rt.alloc(), 1, 100_000)?;
-    let mut blocks = Blocks::create(rt.alloc(), &mut space, Kind::Generation, 0, 7, 1024)?;
+    let mut blocks = Blocks::create(rt.alloc(), &mut space, Kind::Generation, 0, 7, 1, 1024)?;
     blocks.make_room()?;
     let number = blocks.add(&mut space, 2048)?;
     let at = blocks.cut(&mut space, number, 20, 24, false);
@@ -21,6 +21,7 @@ fn a_chunk_is_cut(rt: HostRuntime) -> Result<(), Fail> {
         own: false,
     };
     let block = Block {
+        number: 2,
         size: 2048,
         room: 1976,
         live: 1,
@@ -40,7 +41,7 @@ fn a_chunk_is_cut(rt: HostRuntime) -> Result<(), Fail> {
 #[test]
 fn a_chunk_goes(rt: HostRuntime) -> Result<(), Fail> {
     let mut space = Space::new(rt.alloc(), 1, 100_000)?;
-    let mut blocks = Blocks::create(rt.alloc(), &mut space, Kind::Bump, 0, 7, 1024)?;
+    let mut blocks = Blocks::create(rt.alloc(), &mut space, Kind::Bump, 0, 7, 1, 1024)?;
     blocks.make_room()?;
     let number = blocks.add(&mut space, 2048)?;
     let at = blocks.cut(&mut space, number, 20, 24, false);
@@ -65,7 +66,7 @@ fn a_chunk_goes(rt: HostRuntime) -> Result<(), Fail> {
 #[test]
 fn blocks_go(rt: HostRuntime) -> Result<(), Fail> {
     let mut space = Space::new(rt.alloc(), 1, 100_000)?;
-    let mut blocks = Blocks::create(rt.alloc(), &mut space, Kind::Slab, 0, 7, 200)?;
+    let mut blocks = Blocks::create(rt.alloc(), &mut space, Kind::Slab, 0, 7, 0, 200)?;
     blocks.make_room()?;
     let number = blocks.add(&mut space, 8192)?;
     let (last, block) = blocks.at(1);
@@ -85,7 +86,7 @@ fn blocks_go(rt: HostRuntime) -> Result<(), Fail> {
 #[test]
 fn a_chunk_is_placed(rt: HostRuntime) -> Result<(), Fail> {
     let mut space = Space::new(rt.alloc(), 1, 100_000)?;
-    let mut blocks = Blocks::create(rt.alloc(), &mut space, Kind::Slab, 0, 7, 1024)?;
+    let mut blocks = Blocks::create(rt.alloc(), &mut space, Kind::Slab, 0, 7, 0, 1024)?;
     blocks.make_room()?;
     let number = blocks.keeper();
     let at = blocks.cut(&mut space, number, 20, 24, false);
@@ -103,6 +104,7 @@ fn a_chunk_is_placed(rt: HostRuntime) -> Result<(), Fail> {
     assert_eq!(rt; free.freed, 1);
     blocks.place(&mut space, there, 16, 24);
     let block = Block {
+        number: 0,
         size: 1024,
         room: 752,
         live: 1,
@@ -117,11 +119,11 @@ fn written(alloc: Global, space: &mut Space, bytes: &[u8; 5]) -> Result<(Blocks,
     requires { 0 < accounts space.old }
     ensures kind { IfOk result (λ made. made.0.kind ≡ Generation) }
     ensures agrees { IfOk result (λ made. Agrees (footprint made.0) space.new) }
-    ensures block { IfOk result (λ made. block_at made.0 made.1.region ≡ Some (record { size = 1024; room = 768; live = 1; freed = 0 })) }
+    ensures block { IfOk result (λ made. block_at made.0 made.1.region ≡ Some (record { number = 1; size = 1024; room = 768; live = 1; freed = 0 })) }
     ensures chunk { IfOk result (λ made. chunk_at made.0 made.1 ≡ Some (record { size = 5; room = 8; own = false })) }
     ensures known { IfOk result (λ made. IsKnown space.new made.1 5) }
 {
-    let mut blocks = Blocks::create(alloc, space, Kind::Generation, 0, 7, 1024)?;
+    let mut blocks = Blocks::create(alloc, space, Kind::Generation, 0, 7, 1, 1024)?;
     blocks.make_room()?;
     let number = blocks.keeper();
     let at = blocks.cut(space, number, 5, 8, false);
@@ -133,7 +135,7 @@ fn written(alloc: Global, space: &mut Space, bytes: &[u8; 5]) -> Result<(Blocks,
 fn carried(space: &mut Space, blocks: &mut Blocks, from: Addr) -> Result<Addr, CtxError>
     requires kind { blocks.old.kind ≡ Generation }
     requires agrees { Agrees (footprint blocks.old) space.old }
-    requires block { block_at blocks.old from.region ≡ Some (record { size = 1024; room = 768; live = 1; freed = 0 }) }
+    requires block { block_at blocks.old from.region ≡ Some (record { number = 1; size = 1024; room = 768; live = 1; freed = 0 }) }
     requires chunk { chunk_at blocks.old from ≡ Some (record { size = 5; room = 8; own = false }) }
     requires known { IsKnown space.old from 5 }
     ensures inside { IfOk result (λ to. IsInside space.new to 5) }

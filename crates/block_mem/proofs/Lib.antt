@@ -1,0 +1,4 @@
+-- Lemmas for this crate, and for its callers.
+pub mod Bytes
+pub mod Cells
+pub mod Kept
