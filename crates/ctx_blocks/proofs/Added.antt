@@ -27,13 +27,13 @@ unowned l sp number agrees free =
       | inr owned ↦ let clash = sym free ∙ (agrees.regions number owned.0.size (region_is l number owned.0 owned.1)).1 in absurd (cc)
     ]
 
--- the block of so many bytes without chunks
-abbrev pub empty_block : ℕ → Block
-empty_block size = record { size = size; room = size - 40; live = 0; freed = 0 }
+-- the block of a number and of so many bytes without chunks
+abbrev pub empty_block : ℕ → ℕ → Block
+empty_block k size = record { number = k; size = size; room = size - 40; live = 0; freed = 0 }
 
-module _ (l m : Layout) (number size : ℕ) (laid : IsLaid l) (same : SameContext l m) (chunks : m.chunks ≡ l.chunks) (fresh : block_at l number ≡ None)
-    (blocks : (other : ℕ) → block_at m other ≡ (if number == other then Some (empty_block size) else block_at l other))
-    (first : IsFirst l.keeper l.blocks) (least : 48 ≤ size) (most : size ≤ 2 ^ 31) (whole : size % 8 ≡ 0) where
+module _ (l m : Layout) (number k size : ℕ) (laid : IsLaid l) (same : SameContext l m) (chunks : m.chunks ≡ l.chunks) (fresh : block_at l number ≡ None)
+    (blocks : (other : ℕ) → block_at m other ≡ (if number == other then Some (empty_block k size) else block_at l other))
+    (first : IsFirst l.keeper l.first_number l.blocks) (least : 48 ≤ size) (most : size ≤ 2 ^ 31) (whole : size % 8 ≡ 0) where
   chunk_same : (at : Addr) → chunk_at m at ≡ chunk_at l at
   chunk_same at = rw chunks refl
 
@@ -48,16 +48,16 @@ module _ (l m : Layout) (number size : ℕ) (laid : IsLaid l) (same : SameContex
       let test : (l.keeper == number) ≡ false = grind (arith, nat_tests) in
       ap (λ b. if b then 200 else 0) test
 
-  now_is : block_at m number ≡ Some (empty_block size)
+  now_is : block_at m number ≡ Some (empty_block k size)
   now_is =
-      elim (block_cases l m number (Some (empty_block size)) blocks number) [
+      elim (block_cases l m number (Some (empty_block k size)) blocks number) [
         | inl here ↦ here.1
         | inr there ↦ absurd (there.0 refl)
       ]
 
   others_now : (other : ℕ) → other ≢ number → block_at m other ≡ block_at l other
   others_now other differs =
-      elim (block_cases l m number (Some (empty_block size)) blocks other) [
+      elim (block_cases l m number (Some (empty_block k size)) blocks other) [
         | inl here ↦ absurd (differs here.0)
         | inr there ↦ there.1
       ]
@@ -68,11 +68,11 @@ module _ (l m : Layout) (number size : ℕ) (laid : IsLaid l) (same : SameContex
       record {
         filled = λ other b owned.
             let start = start_same l m same other in
-            elim (block_cases l m number (Some (empty_block size)) blocks other) [
+            elim (block_cases l m number (Some (empty_block k size)) blocks other) [
               | inl here ↦
-                  let it : empty_block size ≡ b = one_value (block_at m other) (empty_block size) b here.1 owned in
+                  let it : empty_block k size ≡ b = one_value (block_at m other) (empty_block k size) b here.1 owned in
                   let zero : start_of m other ≡ 0 = start ∙ ap (start_of l) here.0 ∙ number_start in
-                  let new : IsFilled (whole_of m other (empty_block size).size) (empty_block size) = record { small = most; even = omega (arith, whole, least); within = omega (arith, zero, least) } in
+                  let new : IsFilled (whole_of m other (empty_block k size).size) (empty_block k size) = record { small = most; even = omega (arith, whole, least); within = omega (arith, zero, least) } in
                   subst (λ (x : Block). IsFilled (whole_of m other x.size) x) it new
               | inr there ↦
                   let was = laid.filled other b (sym there.1 ∙ owned) in
@@ -94,9 +94,9 @@ module _ (l m : Layout) (number size : ℕ) (laid : IsLaid l) (same : SameContex
   pub IsCounted-added : IsCounted l → IsCounted m
   IsCounted-added counted other b owned =
       let counts : count_in m other ≡ count_in l other = rw chunks refl in
-      elim (block_cases l m number (Some (empty_block size)) blocks other) [
+      elim (block_cases l m number (Some (empty_block k size)) blocks other) [
         | inl here ↦
-            let it : empty_block size ≡ b = one_value (block_at m other) (empty_block size) b here.1 owned in
+            let it : empty_block k size ≡ b = one_value (block_at m other) (empty_block k size) b here.1 owned in
             let none : count_in l number ≡ 0 = none_placed l laid number fresh in
             sym (ap (λ (x : Block). x.live) it) ∙ sym (counts ∙ ap (count_in l) here.0 ∙ none)
         | inr there ↦ counted other b (sym there.1 ∙ owned) ∙ sym counts
@@ -110,9 +110,9 @@ module _ (l m : Layout) (number size : ℕ) (laid : IsLaid l) (same : SameContex
       elim (mark_cases m b bytes marked) [
         | inl it ↦
             let bytes_are : block_bytes l.context it.0.size ≡ bytes = ap (λ x. block_bytes x it.0.size) (sym same.context) ∙ it.4 in
-            elim (block_cases l m number (Some (empty_block size)) blocks b.region) [
+            elim (block_cases l m number (Some (empty_block k size)) blocks b.region) [
               | inl here ↦
-                  let one : empty_block size ≡ it.0 = one_value (block_at m b.region) (empty_block size) it.0 here.1 it.2 in
+                  let one : empty_block k size ≡ it.0 = one_value (block_at m b.region) (empty_block k size) it.0 here.1 it.2 in
                   inl (here.0, it.1 ∙ start ∙ ap (start_of l) here.0 ∙ number_start, ap (λ (x : Block). block_bytes l.context x.size) one ∙ bytes_are)
               | inr there ↦ inr (there.0, mark_from_block l b it.0 (it.1 ∙ start) (sym there.1 ∙ it.2) (omega (arith, it.3, start)) ∙ ap Some bytes_are)
             ]
@@ -151,7 +151,7 @@ module _ (l m : Layout) (number size : ℕ) (laid : IsLaid l) (same : SameContex
         let both = Changes-more sp mp tp number (Some (unwritten l.account size)) (overwritten (region_at mp number) 0 (map Some (block_bytes l.context size))) took wrote in
         Moves-one (footprint l) (footprint m) sp tp number size there.0 agrees (IsSound-laid m IsLaid-added) same.account same.context
         (record { changed = there.1; others = both.others; limit = both.limit; accounts = both.accounts })
-        there.2 there.3 (λ none. free) (region_is m number (empty_block size) now_is) (λ other differs. rw (others_now other differs) refl)
+        there.2 there.3 (λ none. free) (region_is m number (empty_block k size) now_is) (λ other differs. rw (others_now other differs) refl)
         (λ b bytes marked region k below. elim (marks_added b bytes marked) [
           | inl new ↦
               let has = HasBytes-written mp tp place word (unwritten l.account size) took.changed fits wrote in

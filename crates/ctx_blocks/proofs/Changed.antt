@@ -72,5 +72,5 @@ pub puts_same : (l m n : Layout) (at : Addr) (chunk : Option Chunk) → m.chunks
 puts_same l m n at chunk same puts = rw (← same) puts
 
 -- the keeper alone, by another name and another name of its size
-pub alone_as : (blocks : List (ℕ × Block)) (keeper other size bytes : ℕ) → blocks ≡ keeper_alone keeper size → other ≡ keeper → size ≡ bytes → blocks ≡ keeper_alone other bytes
-alone_as blocks keeper other size bytes only same now = rw (same, ← now) only
+pub alone_as : (blocks : List (ℕ × Block)) (keeper other number size bytes : ℕ) → blocks ≡ keeper_alone keeper number size → other ≡ keeper → size ≡ bytes → blocks ≡ keeper_alone other number bytes
+alone_as blocks keeper other number size bytes only same now = rw (same, ← now) only

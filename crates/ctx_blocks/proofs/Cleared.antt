@@ -26,9 +26,9 @@ Lessens-cleared l m laid same blocks chunks =
     }
 
 -- the first block is there
-pub first-length : (keeper : ℕ) (blocks : List (ℕ × Block)) → IsFirst keeper blocks → 1 ≤ length blocks
-first-length keeper [] first = absurd first
-first-length keeper (e ∷ es) first = omega arith
+pub first-length : (keeper number : ℕ) (blocks : List (ℕ × Block)) → IsFirst keeper number blocks → 1 ≤ length blocks
+first-length keeper number [] first = absurd first
+first-length keeper number (e ∷ es) first = omega arith
 
 -- one entry less of the first ones
 pub take-less : {X : Type 0} (all now new : List X) → now ≡ take (length now) all → new ≡ take (length now - 1) now → length new + 1 ≡ length now → new ≡ take (length new) all
@@ -37,11 +37,11 @@ take-less all now new is less len =
     less ∙ ap (λ n. take n now) short ∙ ap (take (length new)) is ∙ take-take (length new) (length now) all (omega (arith, len))
 
 -- the keeper alone
-pub first_only : (keeper : ℕ) (blocks : List (ℕ × Block)) → IsFirst keeper blocks → (b : Block) × (take 1 blocks ≡ (keeper, b) ∷ []) × (lookup (λ n. keeper == n) blocks ≡ Some b)
-first_only keeper [] first = absurd first
-first_only keeper (e ∷ es) first =
-    let test : (keeper == e.0) ≡ true = grind (arith, nat_tests) in
-    (e.1, ap (λ k. (k, e.1) ∷ []) first, ap (λ b. if b then Some e.1 else lookup (λ n. keeper == n) es) test)
+pub first_only : (keeper number : ℕ) (blocks : List (ℕ × Block)) → IsFirst keeper number blocks → (b : Block) × (take 1 blocks ≡ (keeper, b) ∷ []) × (lookup (λ n. keeper == n) blocks ≡ Some b)
+first_only keeper number [] first = absurd first
+first_only keeper number (e ∷ es) first =
+    let test : (keeper == e.0) ≡ true = grind (arith, nat_tests, first.0) in
+    (e.1, ap (λ k. (k, e.1) ∷ []) first.0, ap (λ b. if b then Some e.1 else lookup (λ n. keeper == n) es) test)
 
 pub put_only : (keeper : ℕ) (old new : Block) → with_block ((keeper, old) ∷ []) keeper new ≡ (keeper, new) ∷ []
 put_only keeper old new =

@@ -6,7 +6,7 @@ use Rattle.std.proofs.lemmas.Bool.Decides.{nat_tests}
 use Rattle.addr_space.specs.declared.Addr.{Addr}
 use Rattle.chunk_header.specs.declared.Kind.{Kind}
 use Rattle.chunk_header.specs.declared.Kind.TheVariants.{AllocSet, Slab, Generation, Bump, Aligned}
-use Rattle.chunk_header.specs.Header.{IsPackable, IsLeading, IsHeaded, AllHeaded, space_of, TakesSpace}
+use Rattle.chunk_header.specs.Header.{IsPackable, IsLeading, IsHeaded, AllHeaded, AllOfKind, space_of, TakesSpace}
 use Rattle.addr_space.specs.Live.{same_addr}
 use Rattle.ctx_blocks.specs.Layout.{Layout, start_of, gap_of, header_room, header_of, footprint, chunk_at, block_at}
 use Rattle.ctx_blocks.specs.Kept.{IsLaid, IsSized}
@@ -97,3 +97,7 @@ module _ (l : Layout) (laid : IsLaid l) (is : (l.kind ≡ Slab) ⊎ (l.kind ≡ 
 
 pub AllHeaded-laid : (l : Layout) → IsLaid l → (l.kind ≡ Slab) ⊎ (l.kind ≡ Generation) → AllHeaded (footprint l)
 AllHeaded-laid l laid is at n live = let had = from_live l at n live in headed_by l laid is at had.0 had.1
+
+-- by a header of its kind
+pub AllOfKind-laid : (l : Layout) → IsLaid l → (l.kind ≡ Slab) ⊎ (l.kind ≡ Generation) → AllOfKind l.kind (footprint l)
+AllOfKind-laid l laid is at n live = let had = from_live l at n live in (headed_by l laid is at had.0 had.1, refl)

@@ -7,7 +7,7 @@ use Rattle.addr_space.specs.Footprint.{IsSound}
 use Rattle.chunk_header.specs.declared.Kind.{Kind}
 use Rattle.chunk_header.specs.declared.Kind.TheVariants.{AllocSet, Slab, Generation, Bump, Aligned}
 use Rattle.chunk_header.specs.Header.{header_bytes, block_bytes}
-use Rattle.ctx_blocks.specs.Layout.{Layout, block_at, chunk_at, start_of, gap_of, header_room, header_of, chunk_word, block_word, mark_of, footprint}
+use Rattle.ctx_blocks.specs.Layout.{Layout, block_at, chunk_at, start_of, gap_of, header_room, header_of, chunk_word, block_word, mark_of, front_of, footprint}
 use Rattle.ctx_blocks.specs.Kept.{IsLaid, IsClear}
 use Rattle.ctx_blocks.specs.Steps.{PutsChunk}
 use Rattle.ctx_blocks.specs.declared.parts.Block.{Block}
@@ -22,6 +22,11 @@ region_is l number block owned = ap (option_map (λ (b : Block). b.size)) owned
 
 pub from_region : (l : Layout) (number len : ℕ) → (footprint l).region number ≡ Some len → (block : Block) × (block_at l number ≡ Some block) × (block.size ≡ len)
 from_region l number len owned = from_map (λ (b : Block). b.size) (block_at l number) len owned
+
+-- no chunk has the bytes before the header of its block, nor those of that
+pub front_of-le : (start : ℕ) (block : Option Block) → front_of start block ≤ start + 40
+front_of-le start None = omega arith
+front_of-le start (Some block) = omega arith
 
 -- the size of a live chunk
 pub live_is : (l : Layout) (at : Addr) (chunk : Chunk) → chunk_at l at ≡ Some chunk → (footprint l).live at ≡ Some chunk.size
@@ -195,4 +200,11 @@ module _ (l : Layout) (laid : IsLaid l) where
           | inl below ↦ inl (omega (arith, first.2))
           | inr above ↦ inr (omega arith)
         ];
+    live_behind = λ at n live.
+        let it = from_live l at n live in
+        omega (arith, (laid.placed at it.0 it.1).first, front_of-le (start_of l at.region) (block_at l at.region));
+    free_behind = λ at n free. absurd (cc);
+    small = λ number len owned.
+        let it = from_region l number len owned in
+        omega (arith, (laid.filled number it.0 it.1).small, it.2);
   }

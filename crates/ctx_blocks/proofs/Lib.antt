@@ -6,6 +6,7 @@ pub mod Headed
 pub mod New
 pub mod Lessened
 pub mod Totals
+pub mod Numbers
 pub mod Refilled
 pub mod Spared
 pub mod Held

@@ -25,8 +25,8 @@ region-put l m number old block owned size blocks other =
     ]
 
 -- the whole room of a block without chunks
-pub IsFilled-whole : (l : Layout) (number room : ℕ) (old : Block) → IsFilled (whole_of l number old.size) old → room ≡ whole_of l number old.size → IsFilled (whole_of l number old.size) (record { size = old.size; room = room; live = 0; freed = 0 })
-IsFilled-whole l number room old filled is = record {
+pub IsFilled-whole : (l : Layout) (number k room : ℕ) (old : Block) → IsFilled (whole_of l number old.size) old → room ≡ whole_of l number old.size → IsFilled (whole_of l number old.size) (record { number = k; size = old.size; room = room; live = 0; freed = 0 })
+IsFilled-whole l number k room old filled is = record {
   small = filled.small;
   even =
       let start = start_whole l number in
@@ -37,11 +37,11 @@ IsFilled-whole l number room old filled is = record {
   within = omega (arith, is);
 }
 
-module _ (l m : Layout) (laid : IsLaid l) (same : SameContext l m) (chunks : m.chunks ≡ l.chunks) (number room : ℕ) (old : Block) (owned : block_at l number ≡ Some old) (is : room ≡ whole_of l number old.size)
+module _ (l m : Layout) (laid : IsLaid l) (same : SameContext l m) (chunks : m.chunks ≡ l.chunks) (number k room : ℕ) (old : Block) (owned : block_at l number ≡ Some old) (is : room ≡ whole_of l number old.size)
     (empty : (at : Addr) → at.region ≡ number → chunk_at l at ≡ None)
-    (blocks : (other : ℕ) → block_at m other ≡ (if number == other then Some (record { size = old.size; room = room; live = 0; freed = 0 }) else block_at l other)) where
+    (blocks : (other : ℕ) → block_at m other ≡ (if number == other then Some (record { number = k; size = old.size; room = room; live = 0; freed = 0 }) else block_at l other)) where
   block : Block
-  block = record { size = old.size; room = room; live = 0; freed = 0 }
+  block = record { number = k; size = old.size; room = room; live = 0; freed = 0 }
 
   chunk_same : (at : Addr) → chunk_at m at ≡ chunk_at l at
   chunk_same at = rw chunks refl
@@ -57,7 +57,7 @@ module _ (l m : Layout) (laid : IsLaid l) (same : SameContext l m) (chunks : m.c
         elim (block_cases l m number (Some block) blocks other) [
           | inl here ↦
               let it : block ≡ b = one_value (block_at m other) block b here.1 has in
-              let filled = IsFilled-whole l number room old (laid.filled number old owned) is in
+              let filled = IsFilled-whole l number k room old (laid.filled number old owned) is in
               (old, ap (block_at l) here.0 ∙ owned, ap (λ (x : Block). x.size) it, subst (λ (x : Block). IsFilled (whole_of l other x.size) x) it (subst (λ n. IsFilled (whole_of l n old.size) block) (sym here.0) filled))
           | inr there ↦ let was = sym there.1 ∙ has in (b, was, refl, laid.filled other b was)
         ];
@@ -81,7 +81,7 @@ module _ (l m : Layout) (laid : IsLaid l) (same : SameContext l m) (chunks : m.c
       ]
 
   pub regions-refilled : (other : ℕ) → (footprint m).region other ≡ (footprint l).region other
-  regions-refilled = region-put l m number old (record { size = old.size; room = room; live = 0; freed = 0 }) owned refl blocks
+  regions-refilled = region-put l m number old (record { number = k; size = old.size; room = room; live = 0; freed = 0 }) owned refl blocks
 
 -- the size of a chunk becomes another one
 module _ (l m : Layout) (laid : IsLaid l) (same : SameContext l m) (blocks : m.blocks ≡ l.blocks) (at : Addr) (old new : Chunk) (was : chunk_at l at ≡ Some old) (room : old.room ≡ new.room) (own : old.own ≡ new.own) (fits : new.size ≤ new.room) (chunks : PutsChunk l m at (Some new)) where
@@ -113,9 +113,9 @@ module _ (l m : Layout) (laid : IsLaid l) (same : SameContext l m) (blocks : m.b
 
 -- a chunk goes
 module _ (l m : Layout) (laid : IsLaid l) (same : SameContext l m) (at : Addr) (old : Block) (owned : block_at l at.region ≡ Some old) (some : 1 ≤ old.live) (chunks : PutsChunk l m at None)
-    (blocks : (other : ℕ) → block_at m other ≡ (if at.region == other then Some (record { size = old.size; room = old.room; live = old.live - 1; freed = old.freed + 1 }) else block_at l other)) where
+    (blocks : (other : ℕ) → block_at m other ≡ (if at.region == other then Some (record { number = old.number; size = old.size; room = old.room; live = old.live - 1; freed = old.freed + 1 }) else block_at l other)) where
   left : Block
-  left = record { size = old.size; room = old.room; live = old.live - 1; freed = old.freed + 1 }
+  left = record { number = old.number; size = old.size; room = old.room; live = old.live - 1; freed = old.freed + 1 }
 
   found_there : (other : Addr) (c : Chunk) → chunk_at m other ≡ Some c → chunk_at l other ≡ Some c
   found_there other c found =
@@ -163,4 +163,4 @@ module _ (l m : Layout) (laid : IsLaid l) (same : SameContext l m) (at : Addr) (
       ]
 
   pub regions-removed : (other : ℕ) → (footprint m).region other ≡ (footprint l).region other
-  regions-removed = region-put l m at.region old (record { size = old.size; room = old.room; live = old.live - 1; freed = old.freed + 1 }) owned refl blocks
+  regions-removed = region-put l m at.region old (record { number = old.number; size = old.size; room = old.room; live = old.live - 1; freed = old.freed + 1 }) owned refl blocks

@@ -4,7 +4,7 @@ use Rattle.indexmap.specs.IndexMap.{spare}
 use Rattle.addr_space.specs.Space.{Space}
 use Rattle.addr_space.specs.Footprint.{Footprint, Agrees, Moves}
 use Rattle.ctx_blocks.specs.Layout.{Layout, total, mark_of, footprint, bare}
-use Rattle.ctx_blocks.specs.Kept.{layout_of, IsLaid, IsCounted, IsFirst, IsKept}
+use Rattle.ctx_blocks.specs.Kept.{layout_of, IsLaid, IsCounted, IsFirst, AreRising, IsKept}
 use Rattle.ctx_blocks.specs.declared.books.Books.{Books}
 
 -- a layout with other entries for which room was made
@@ -33,7 +33,8 @@ IsKept-spare b n rest blocks chunks kept =
     record {
       laid = subst IsLaid (sym same) (IsLaid-spare (layout_of b) (spare n.blocks) (spare n.chunks) kept.laid);
       counted = subst IsCounted (sym same) kept.counted;
-      first = subst (λ (l : Layout). IsFirst l.keeper l.blocks) (sym same) kept.first;
+      first = subst (λ (l : Layout). IsFirst l.keeper l.first_number l.blocks) (sym same) kept.first;
+      numbered = subst (λ (l : Layout). AreRising l.first_number l.last_number l.blocks) (sym same) kept.numbered;
       total = total_same ∙ kept.total ∙ sym (ap total same);
       most = omega (arith, total_same, kept.most);
     }

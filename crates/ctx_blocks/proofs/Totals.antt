@@ -82,27 +82,27 @@ total-last l m number old blocks =
     let before : total l ≡ sum_by f (values_of m.blocks ++ old ∷ []) = ap (λ es. sum_by f (values_of es)) blocks ∙ ap (sum_by f) (values-last m.blocks (number, old)) in
     omega (arith, before, sum_by-append f (values_of m.blocks) (old ∷ []), sum_by-cons f old [])
 
--- the keeper stays the first block
-pub IsFirst-put : (keeper : ℕ) (blocks : List (ℕ × Block)) (number : ℕ) (block : Block) → IsFirst keeper blocks → IsFirst keeper (with_block blocks number block)
-IsFirst-put keeper [] number block first = absurd first
-IsFirst-put keeper (e ∷ es) number block first = by (number == e.0)
+-- the keeper stays the first block, with its number
+pub IsFirst-put : (keeper first : ℕ) (blocks : List (ℕ × Block)) (number : ℕ) (block : Block) → ((old : Block) → lookup (λ n. number == n) blocks ≡ Some old → block.number ≡ old.number) → IsFirst keeper first blocks → IsFirst keeper first (with_block blocks number block)
+IsFirst-put keeper first [] number block same is = absurd is
+IsFirst-put keeper first (e ∷ es) number block same is = by (number == e.0) same
   where
-    by : (b : Bool) → IsFirst keeper (if b then (e.0, block) ∷ es else e ∷ with_block es number block)
-    by true = first
-    by false = first
+    by : (b : Bool) → ((old : Block) → (if b then Some e.1 else lookup (λ n. number == n) es) ≡ Some old → block.number ≡ old.number) → IsFirst keeper first (if b then (e.0, block) ∷ es else e ∷ with_block es number block)
+    by true kept = (is.0, kept e.1 refl ∙ is.1)
+    by false kept = is
 
-pub IsFirst-dropped : (keeper : ℕ) (blocks : List (ℕ × Block)) (number : ℕ) → (number ≡ keeper → ⊥) → IsFirst keeper blocks → IsFirst keeper (without_block blocks number)
-IsFirst-dropped keeper [] number differs first = absurd first
-IsFirst-dropped keeper (e ∷ es) number differs first =
-    let test : (number == e.0) ≡ false = grind (arith, nat_tests) in
-    rw test first
+pub IsFirst-dropped : (keeper first : ℕ) (blocks : List (ℕ × Block)) (number : ℕ) → (number ≡ keeper → ⊥) → IsFirst keeper first blocks → IsFirst keeper first (without_block blocks number)
+IsFirst-dropped keeper first [] number differs is = absurd is
+IsFirst-dropped keeper first (e ∷ es) number differs is =
+    let test : (number == e.0) ≡ false = grind (arith, nat_tests, is.0) in
+    rw test is
 
 -- it is a block of the context
-pub keeper_owned : (l : Layout) → IsFirst l.keeper l.blocks → (b : Block) × (block_at l l.keeper ≡ Some b)
+pub keeper_owned : (l : Layout) → IsFirst l.keeper l.first_number l.blocks → (b : Block) × (block_at l l.keeper ≡ Some b) × (b.number ≡ l.first_number)
 keeper_owned l first = by l.blocks first
   where
-    by : (es : List (ℕ × Block)) → IsFirst l.keeper es → (b : Block) × (lookup (λ n. l.keeper == n) es ≡ Some b)
+    by : (es : List (ℕ × Block)) → IsFirst l.keeper l.first_number es → (b : Block) × (lookup (λ n. l.keeper == n) es ≡ Some b) × (b.number ≡ l.first_number)
     by [] none = absurd none
     by (e ∷ es) is =
-        let test : (l.keeper == e.0) ≡ true = grind (arith, nat_tests) in
-        (e.1, ap (λ b. if b then Some e.1 else lookup (λ n. l.keeper == n) es) test)
+        let test : (l.keeper == e.0) ≡ true = grind (arith, nat_tests, is.0) in
+        (e.1, ap (λ b. if b then Some e.1 else lookup (λ n. l.keeper == n) es) test, is.1)

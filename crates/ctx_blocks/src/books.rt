@@ -105,7 +105,8 @@ impl Books {
             Ok(blocks) => blocks,
             Err(_) => return Err(CtxError::Memory),
         };
-        let keeper = space.take(account, size)?.region;
+        let at = space.take(account, size)?;
+        let keeper = at.region;
         if size >= 240 {
             let place = Addr {
                 region: keeper,

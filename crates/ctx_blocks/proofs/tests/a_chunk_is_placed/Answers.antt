@@ -13,7 +13,7 @@ use Rattle.ctx_blocks.proofs.tests.a_chunk_is_placed.Goals.{After-keeper-number}
 
 -- the keeper, before a chunk is cut
 first : Block
-first = record { size = 1024; room = 784; live = 0; freed = 0 }
+first = record { number = 0; size = 1024; room = 784; live = 0; freed = 0 }
 
 owned : (g : Over) (c : After-keeper-number g) → block_at c.make_room.new.self c.keeper-number.result ≡ Some first
 unfolding first

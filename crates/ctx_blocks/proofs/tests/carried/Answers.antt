@@ -9,7 +9,7 @@ pub cut-to-requires-clause-block : goal.cut-to-requires-clause-block
 cut-to-requires-clause-block c =
     let same = c.in_ok-make_room.ensures.same in
     let gap : header_room c.make_room.new.self ≡ 8 = ap gap_of (ap (λ (x : Layout). x.kind) same ∙ c.requires.kind) in
-    (record { size = 1024; room = 768; live = 1; freed = 0 }, ap (λ (x : Layout). block_at x c.args.from.region) same ∙ c.requires.block, omega (arith, gap))
+    (record { number = 1; size = 1024; room = 768; live = 1; freed = 0 }, ap (λ (x : Layout). block_at x c.args.from.region) same ∙ c.requires.block, omega (arith, gap))
 
 pub returns-clause-inside : goal.returns-clause-inside
 returns-clause-inside c =

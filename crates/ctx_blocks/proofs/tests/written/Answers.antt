@@ -16,7 +16,7 @@ use Rattle.ctx_blocks.proofs.tests.written.Goals.{After-keeper-number, After-wri
 
 -- the keeper, before the chunk is cut
 first : Block
-first = record { size = 1024; room = 784; live = 0; freed = 0 }
+first = record { number = 1; size = 1024; room = 784; live = 0; freed = 0 }
 
 -- the chunk that is cut
 cut : Chunk
@@ -68,7 +68,7 @@ pub returns-clause-block : goal.returns-clause-block
 unfolding first
 returns-clause-block c =
     let now = (goal.at.returns-clause-block c).After-keeper-number in
-    let less : ℕ → Block = λ n. record { size = 1024; room = 784 - (n + 8); live = 1; freed = 0 } in
+    let less : ℕ → Block = λ n. record { number = 1; size = 1024; room = 784 - (n + 8); live = 1; freed = 0 } in
     let l : Layout = c.make_room.new.self in
     let put : PutsBlock l c.cut-at.new.self c.keeper-number.result (less (header_room l)) = c.cut-at.ensures.block first (owned now) in
     ap (block_at c.cut-at.new.self) c.cut-at.ensures.region ∙ put_here l c.cut-at.new.self c.keeper-number.result (less (header_room l)) put ∙ ap (λ n. Some (less n)) (gap now)

@@ -17,18 +17,20 @@ books c = record {
   kind = c.args.kind;
   account = c.args.account;
   context = c.args.context;
-  keeper = c.in-Ok-take.at.region;
+  keeper = c.in_ok-at.at.region;
+  first_number = c.args.first;
+  last_number = c.args.first;
   blocks = c.note.new.blocks;
   chunks = c.new.result;
   total = c.from.result;
 }
 
 block : After-from → Block
-block c = record { size = c.args.size; room = c.saturating_sub.result; live = 0; freed = 0 }
+block c = record { number = c.args.first; size = c.args.size; room = c.saturating_sub.result; live = 0; freed = 0 }
 
 one : (c : After-from) → (layout_of (books c)).blocks ≡ ((books c).keeper, block c) ∷ []
 unfolding books block
-one c = c.note.ensures.blocks ∙ ap (λ es. with_block es c.in-Ok-take.at.region (record { size = c.args.size; room = c.saturating_sub.result; live = 0; freed = 0 })) c.in-Ok.ensures.empty
+one c = c.note.ensures.blocks ∙ ap (λ es. with_block es c.in_ok-at.at.region (record { number = c.args.first; size = c.args.size; room = c.saturating_sub.result; live = 0; freed = 0 })) c.in-Ok.ensures.empty
 
 filled : (c : After-from) → IsFilled ((block c).size - 200 - 40) (block c)
 unfolding block
@@ -45,7 +47,8 @@ returns-clause-kept c =
     record {
       laid = IsLaid-new l (block c) (one c) c.new.ensures.empty (filled c);
       counted = IsCounted-new l (block c) (one c) c.new.ensures.empty refl;
-      first = rw (one c) refl;
+      first = rw (one c) (refl, refl);
+      numbered = rw (one c) (omega arith, omega arith, tt);
       total = c.from.ensures ∙ sym (total_one l (block c) (one c) c.new.ensures.empty);
       most = omega (arith, c.from.ensures, c.requires.most);
     }
@@ -54,14 +57,14 @@ pub returns-clause-moves : goal.returns-clause-moves
 unfolding books block
 returns-clause-moves c =
     let l : Layout = layout_of (books c) in
-    let number = c.in-Ok-take.at.region in
+    let number = c.in_ok-at.at.region in
     elim c.if-size-ge240.branch [
       | then-size-ge240 w ↦
           let wrote : Changes c.take.new.self w.write.new.self number (overwritten (region_at c.take.new.self number) 200 (map Some (block_bytes c.args.context c.args.size))) =
           subst (λ b. Changes c.take.new.self w.write.new.self number (overwritten (region_at c.take.new.self number) 200 (map Some b))) w.block_header.ensures w.write.ensures.changes in
           subst (λ s. Moves (nothing c.args.account c.args.context) (footprint l) c.args.space.now s) (sym w.space-is)
-          (Moves-new l (block c) (one c) c.new.ensures.empty (filled c) c.args.space.now c.take.new.self c.requires.account c.in-Ok-take.ensures.fresh c.in-Ok-take.ensures.changes c.in-Ok-take.ensures.held w.write.new.self w.if-size-ge240.true wrote)
+          (Moves-new l (block c) (one c) c.new.ensures.empty (filled c) c.args.space.now c.take.new.self c.requires.account c.in_ok-at.ensures.fresh c.in_ok-at.ensures.changes c.in_ok-at.ensures.held w.write.new.self w.if-size-ge240.true wrote)
       | else-size-ge240 w ↦
           subst (λ s. Moves (nothing c.args.account c.args.context) (footprint l) c.args.space.now s) (sym w.space-is)
-          (Moves-bare l (block c) (one c) c.new.ensures.empty (filled c) c.args.space.now c.take.new.self c.requires.account c.in-Ok-take.ensures.fresh c.in-Ok-take.ensures.changes c.in-Ok-take.ensures.held w.if-size-ge240.false)
+          (Moves-bare l (block c) (one c) c.new.ensures.empty (filled c) c.args.space.now c.take.new.self c.requires.account c.in_ok-at.ensures.fresh c.in_ok-at.ensures.changes c.in_ok-at.ensures.held w.if-size-ge240.false)
     ]

@@ -7,8 +7,8 @@ use Rattle.ctx_blocks.specs.declared.books.Books.{Books}
 use Rattle.ctx_blocks.proofs.Cleared.{Moves-nothing}
 use Rattle.ctx_blocks.proofs.books.Books.discard.Goals as goal
 
-pub returns : goal.returns
-returns c =
+pub returns-clause-moves : goal.returns-clause-moves
+returns-clause-moves c =
     let b : Books = c.args.self in
     let n : Books = c.shrink.new.self in
     Moves-more (footprint (layout_of b)) (footprint (layout_of n)) (nothing b.account b.context) c.args.space.now c.shrink.new.space c.shrink.new.space c.shrink.ensures.moves

@@ -27,7 +27,7 @@ now c = record c.args.self.now { blocks = c.pop.new.self; total = c.args.self.no
 
 same : (c : After-give) → SameContext (layout_of c.args.self.now) (layout_of (now c))
 unfolding now
-same c = record { kind = refl; account = refl; context = refl; keeper = refl }
+same c = record { kind = refl; account = refl; context = refl; keeper = refl; first_number = refl }
 
 -- no chunk is in the block
 empty : (c : After-give) (at : Addr) → at.region ≡ c.in-Some.number → chunk_at (layout_of c.args.self.now) at ≡ None

@@ -1,7 +1,7 @@
 use Rattle.std.proofs.Common.{◌≡◌, ◌+◌, ◌-◌, None, ap, sym, subst, ◌∙◌, refl, arith}
 use Rattle.addr_space.specs.declared.Addr.{Addr}
 use Rattle.ctx_blocks.specs.Layout.{block_at, chunk_at, total}
-use Rattle.ctx_blocks.specs.Kept.{layout_of, IsFirst}
+use Rattle.ctx_blocks.specs.Kept.{layout_of, IsFirst, AreRising}
 use Rattle.ctx_blocks.specs.Steps.{SameContext}
 use Rattle.ctx_blocks.specs.declared.parts.Block.{Block}
 use Rattle.ctx_blocks.specs.declared.books.Books.{Books}
@@ -10,6 +10,7 @@ use Rattle.ctx_blocks.proofs.Counts.{none_in}
 use Rattle.ctx_blocks.proofs.Totals.{sum-dropped, total-dropped, IsFirst-dropped}
 use Rattle.ctx_blocks.proofs.Lessened.{IsLaid-lessened}
 use Rattle.ctx_blocks.proofs.Dropped.{IsRegion-owned, Lessens-dropped, IsCounted-dropped, Moves-dropped, Keeps-dropped}
+use Rattle.ctx_blocks.proofs.Numbers.{AreRising-dropped}
 use Rattle.ctx_blocks.proofs.books.Books.give.Goals as goal
 use Rattle.ctx_blocks.proofs.books.Books.give.Goals.{After-give}
 
@@ -24,7 +25,7 @@ now c = record c.args.self.now { blocks = c.shift_remove.new.self; total = c.arg
 
 same : (c : After-give) → SameContext (layout_of c.args.self.now) (layout_of (now c))
 unfolding now
-same c = record { kind = refl; account = refl; context = refl; keeper = refl }
+same c = record { kind = refl; account = refl; context = refl; keeper = refl; first_number = refl }
 
 -- no chunk is in the block
 empty : (c : After-give) (at : Addr) → at.region ≡ c.args.number → chunk_at (layout_of c.args.self.now) at ≡ None
@@ -45,7 +46,8 @@ returns-clause-kept c =
     record {
       laid = IsLaid-lessened l (layout_of (now c)) kept.laid (Lessens-dropped l (layout_of (now c)) kept.laid (same c) refl c.args.number c.owned-size.result c.owned-size.ensures (empty c) c.shift_remove.ensures.updates.0);
       counted = IsCounted-dropped l (layout_of (now c)) kept.laid (same c) refl c.args.number c.owned-size.result c.owned-size.ensures (empty c) c.shift_remove.ensures.updates.0 kept.counted;
-      first = subst (IsFirst b.keeper) (sym c.shift_remove.ensures.entries) (IsFirst-dropped b.keeper b.blocks.entries c.args.number c.requires.not_keeper kept.first);
+      first = subst (IsFirst b.keeper b.first_number) (sym c.shift_remove.ensures.entries) (IsFirst-dropped b.keeper b.first_number b.blocks.entries c.args.number c.requires.not_keeper kept.first);
+      numbered = subst (AreRising b.first_number b.last_number) (sym c.shift_remove.ensures.entries) (AreRising-dropped b.first_number b.last_number b.blocks.entries c.args.number kept.numbered);
       total = omega (arith, kept.total, totals c, c.from.ensures);
       most = omega (arith, kept.most);
     }

@@ -1,7 +1,7 @@
-use Rattle.std.proofs.Common.{◌≡◌, ℕ, ◌+◌, ap, sym, subst, ◌∙◌, refl, arith, inl, inr, is_some, if◌then◌else◌}
+use Rattle.std.proofs.Common.{◌≡◌, Some, ℕ, ◌+◌, ap, sym, subst, ◌∙◌, refl, arith, inl, inr, is_some, if◌then◌else◌}
 use Rattle.addr_space.specs.Space.{Space}
 use Rattle.addr_space.specs.Footprint.{Moves, Keeps}
-use Rattle.ctx_blocks.specs.Layout.{count_in, total, footprint}
+use Rattle.ctx_blocks.specs.Layout.{block_at, count_in, total, footprint}
 use Rattle.ctx_blocks.specs.Kept.{layout_of}
 use Rattle.ctx_blocks.specs.Steps.{SameContext}
 use Rattle.ctx_blocks.specs.declared.books.Books.{Books}
@@ -9,6 +9,9 @@ use Rattle.ctx_blocks.proofs.Laid.{gap_cases}
 use Rattle.ctx_blocks.proofs.Counts.{one_in}
 use Rattle.ctx_blocks.proofs.Held.{place_free, IsWritten-held, IsLaid-held, IsCounted-held, Moves-held, Moves-bare, Keeps-held}
 use Rattle.ctx_blocks.proofs.Totals.{total-put, IsFirst-put}
+use Rattle.ctx_blocks.proofs.Numbers.{AreRising-put}
+use Rattle.addr_space.proofs.Options.{one_value}
+use Rattle.ctx_blocks.specs.declared.parts.Block.{Block}
 use Rattle.ctx_blocks.proofs.books.Books.hold.Goals as goal
 use Rattle.ctx_blocks.proofs.books.Books.hold.Goals.{After-note}
 
@@ -20,7 +23,7 @@ now c = record c.args.self.now { blocks = c.note.new.blocks; chunks = c.put.new.
 
 same : (c : After-note) → SameContext (layout_of c.args.self.now) (layout_of (now c))
 unfolding now
-same c = record { kind = refl; account = refl; context = refl; keeper = refl }
+same c = record { kind = refl; account = refl; context = refl; keeper = refl; first_number = refl }
 
 totals : (c : After-note) → total (layout_of (now c)) ≡ total (layout_of c.args.self.now)
 unfolding now
@@ -32,6 +35,10 @@ counts c number =
     let none = place_free (layout_of c.args.self.now) c.args.at c.args.chunk c.args.block c.requires.kept.laid c.requires.holds in
     omega (arith, c.put.ensures.count number, ap (λ o. if is_some o then one_in number c.args.at.region else 0) none)
 
+-- the block has its number
+same_number : (c : After-note) (old : Block) → block_at (layout_of c.args.self.now) c.args.at.region ≡ Some old → c.args.block.number ≡ old.number
+same_number c old owned = c.requires.holds.number ∙ ap (λ (x : Block). x.number) (one_value (block_at (layout_of c.args.self.now) c.args.at.region) c.requires.holds.old old c.requires.holds.owned owned)
+
 pub returns-clause-kept : goal.returns-clause-kept
 unfolding now
 returns-clause-kept c =
@@ -41,7 +48,8 @@ returns-clause-kept c =
     record {
       laid = IsLaid-held l (layout_of (now c)) c.args.at c.args.chunk c.args.block kept.laid c.requires.holds (same c) c.put.ensures.at c.note.ensures.at;
       counted = IsCounted-held l (layout_of (now c)) c.args.at c.args.chunk c.args.block kept.laid c.requires.holds (same c) c.put.ensures.at c.note.ensures.at kept.counted (counts c);
-      first = rw c.note.ensures.blocks (IsFirst-put b.keeper b.blocks.entries c.args.at.region _ kept.first);
+      first = rw c.note.ensures.blocks (IsFirst-put b.keeper b.first_number b.blocks.entries c.args.at.region _ (same_number c) kept.first);
+      numbered = rw c.note.ensures.blocks (AreRising-put b.first_number b.last_number b.blocks.entries c.args.at.region c.requires.holds.old c.args.block c.requires.holds.owned c.requires.holds.number kept.numbered);
       total = kept.total ∙ sym (totals c);
       most = kept.most;
     }

@@ -1,11 +1,14 @@
-use Rattle.std.proofs.Common.{◌≡◌, ℕ, ◌+◌, ◌≤◌, ap, sym, ◌∙◌, refl, arith, sum_by}
-use Rattle.ctx_blocks.specs.Layout.{count_in, is_in, total}
+use Rattle.std.proofs.Common.{◌≡◌, Some, ℕ, ◌+◌, ◌≤◌, ap, sym, ◌∙◌, refl, arith, sum_by}
+use Rattle.ctx_blocks.specs.Layout.{block_at, count_in, is_in, total}
 use Rattle.ctx_blocks.specs.Kept.{layout_of}
 use Rattle.ctx_blocks.specs.declared.books.Books.{Books}
 use Rattle.ctx_blocks.proofs.Counts.{some_in, one_in, count-removed}
 use Rattle.ctx_blocks.proofs.Lessened.{IsLaid-lessened, MovesStill-lessened, Lessens}
 use Rattle.ctx_blocks.proofs.Refilled.{Lessens-removed, IsCounted-removed, regions-removed}
 use Rattle.ctx_blocks.proofs.Totals.{total-put, IsFirst-put}
+use Rattle.ctx_blocks.proofs.Numbers.{AreRising-put}
+use Rattle.addr_space.proofs.Options.{one_value}
+use Rattle.ctx_blocks.specs.declared.parts.Block.{Block}
 use Rattle.ctx_blocks.proofs.books.Books.remove.Goals as goal
 use Rattle.ctx_blocks.proofs.books.Books.remove.Goals.{After-note}
 
@@ -29,7 +32,7 @@ some c = some_in (layout_of c.args.self.now) c.requires.kept.counted c.args.at c
 less : (c : After-note) → Lessens (layout_of c.args.self.now) (layout_of (now c))
 unfolding now
 less c =
-    Lessens-removed (layout_of c.args.self.now) (layout_of (now c)) c.requires.kept.laid (record { kind = refl; account = refl; context = refl; keeper = refl }) c.args.at c.owned-block.result c.owned-block.ensures (some c)
+    Lessens-removed (layout_of c.args.self.now) (layout_of (now c)) c.requires.kept.laid (record { kind = refl; account = refl; context = refl; keeper = refl; first_number = refl }) c.args.at c.owned-block.result c.owned-block.ensures (some c)
     c.swap_remove.ensures.updates.0 c.note.ensures.at
 
 totals : (c : After-note) → total (layout_of (now c)) ≡ total (layout_of c.args.self.now)
@@ -42,6 +45,10 @@ counts c number =
     let removed = count-removed number c.args.at c.held-chunk.result c.args.self.now.chunks.entries c.held-chunk.ensures in
     omega (arith, removed, ap (sum_by (is_in number)) c.swap_remove.ensures.entries)
 
+-- the block has its number
+same_number : (c : After-note) (old : Block) → block_at (layout_of c.args.self.now) c.args.at.region ≡ Some old → c.owned-block.result.number ≡ old.number
+same_number c old owned = ap (λ (x : Block). x.number) (one_value (block_at (layout_of c.args.self.now) c.args.at.region) c.owned-block.result old c.owned-block.ensures owned)
+
 pub returns-clause-kept : goal.returns-clause-kept
 unfolding now
 returns-clause-kept c =
@@ -50,9 +57,10 @@ returns-clause-kept c =
     let kept = c.requires.kept in
     record {
       laid = IsLaid-lessened l (layout_of (now c)) kept.laid (less c);
-      counted = IsCounted-removed l (layout_of (now c)) kept.laid (record { kind = refl; account = refl; context = refl; keeper = refl }) c.args.at c.owned-block.result c.owned-block.ensures (some c)
+      counted = IsCounted-removed l (layout_of (now c)) kept.laid (record { kind = refl; account = refl; context = refl; keeper = refl; first_number = refl }) c.args.at c.owned-block.result c.owned-block.ensures (some c)
           c.swap_remove.ensures.updates.0 c.note.ensures.at kept.counted (counts c);
-      first = rw c.note.ensures.blocks (IsFirst-put b.keeper b.blocks.entries c.args.at.region _ kept.first);
+      first = rw c.note.ensures.blocks (IsFirst-put b.keeper b.first_number b.blocks.entries c.args.at.region _ (same_number c) kept.first);
+      numbered = rw c.note.ensures.blocks (AreRising-put b.first_number b.last_number b.blocks.entries c.args.at.region c.owned-block.result _ c.owned-block.ensures refl kept.numbered);
       total = kept.total ∙ sym (totals c);
       most = kept.most;
     }
@@ -62,6 +70,6 @@ unfolding now
 returns-clause-moves c =
     let l = layout_of c.args.self.now in
     MovesStill-lessened l (layout_of (now c)) c.requires.kept.laid (less c)
-    (regions-removed l (layout_of (now c)) c.requires.kept.laid (record { kind = refl; account = refl; context = refl; keeper = refl }) c.args.at c.owned-block.result c.owned-block.ensures (some c)
+    (regions-removed l (layout_of (now c)) c.requires.kept.laid (record { kind = refl; account = refl; context = refl; keeper = refl; first_number = refl }) c.args.at c.owned-block.result c.owned-block.ensures (some c)
     c.swap_remove.ensures.updates.0 c.note.ensures.at)
     (totals c)

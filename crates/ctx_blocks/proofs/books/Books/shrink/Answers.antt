@@ -12,14 +12,15 @@ pub loop-self-init : goal.loop-self-init
 loop-self-init c =
     let b : Books = c.args.self.now in
     let n : Books = record b { chunks = c.clear.new.self } in
-    let less : Lessens (layout_of b) (layout_of n) = Lessens-cleared (layout_of b) (layout_of n) c.requires.kept.laid (record { kind = refl; account = refl; context = refl; keeper = refl }) refl c.clear.ensures.empty in
+    let less : Lessens (layout_of b) (layout_of n) = Lessens-cleared (layout_of b) (layout_of n) c.requires.kept.laid (record { kind = refl; account = refl; context = refl; keeper = refl; first_number = refl }) refl c.clear.ensures.empty in
     record {
       laid = IsLaid-lessened (layout_of b) (layout_of n) c.requires.kept.laid less;
       total = c.requires.kept.total;
       rest = refl;
       chunks = c.clear.ensures.empty;
+      asked = refl;
       blocks = sym (take_all (length b.blocks.entries) b.blocks.entries (omega arith));
-      enough = omega (arith, c.requires.few, first-length b.keeper b.blocks.entries c.requires.kept.first);
+      enough = omega (arith, c.requires.few, first-length b.keeper b.first_number b.blocks.entries c.requires.kept.first);
       moves = MovesStill-lessened (layout_of b) (layout_of n) c.requires.kept.laid less (λ number. refl) refl c.args.space.now c.requires.agrees;
     }
 
@@ -36,5 +37,6 @@ loop-self-preserved c =
       chunks = ap (λ (x : Books). x.chunks.entries) c.drop_last.ensures.rest ∙ was.chunks;
       blocks = take-less b.blocks.entries m.blocks.entries n.blocks.entries was.blocks c.drop_last.ensures.blocks c.drop_last.ensures.len;
       enough = omega (arith, c.loop-self-test.true, c.len.ensures.len, c.drop_last.ensures.len);
+      asked = c.drop_last.ensures.asked ∙ was.asked;
       moves = Moves-more (footprint (layout_of b)) (footprint (layout_of m)) (footprint (layout_of n)) c.args.space.now c.loop-self.space c.drop_last.new.space was.moves c.drop_last.ensures.moves;
     }

@@ -12,6 +12,7 @@ invariant-loop-self l = record {
   chunks : l.self.chunks.entries ≡ [];
   blocks : l.self.blocks.entries ≡ take (length l.self.blocks.entries) l.fn.self.blocks.entries;
   enough : l.first ≤ length l.self.blocks.entries;
+  asked : l.space.taken ≡ l.fn.space.taken;
   moves : Moves (footprint (layout_of l.fn.self)) (footprint (layout_of l.self)) l.fn.space l.space;
 }
 
