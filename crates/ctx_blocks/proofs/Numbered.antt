@@ -217,3 +217,12 @@ put_away a number (x ∷ xs) same = (elim (x.number == a.number) as (λ t. (x.nu
   | true ↦ λ e. (let here : (a.number == number) ≡ true = grind (arith, same) in let there : (x.number == number) ≡ true = rw (← same) e in rw e (rw (here, there) (put_away a number xs same)))
   | false ↦ λ e. (let there : (x.number == number) ≡ false = rw (← same) e in rw e (rw there (ap (λ (ys : List Block). x ∷ ys) (put_away a number xs same))))
 ]) refl
+
+-- the last of a list is another one
+pub put_behind : (least most : ℕ) (es : Entries) (first last : Block) → most < last.number → last.number ≡ first.number → AreRising least most es → map (put_at last) (values_of es ++ (first ∷ [])) ≡ values_of es ++ (last ∷ [])
+put_behind least most [] first last above same h =
+    let it : (first.number == last.number) ≡ true = grind (arith, same) in
+    rw it refl
+put_behind least most (e ∷ es) first last above same h =
+    let it : (e.1.number == last.number) ≡ false = above_not e.1.number last.number (omega (arith, above, h.1)) in
+    rw it (ap (λ (xs : List Block). e.1 ∷ xs) (put_behind (e.1.number + 1) most es first last above same h.2))

@@ -47,6 +47,6 @@ spare_live l current (Some other) number block is some idle = is_not_spare other
 -- a region that isn't the spare's differs from it
 pub apart_spare : (spare : Option ℕ) (number : ℕ) → is_spare spare number ≡ false → (other : ℕ) → spare ≡ Some other → number ≢ other
 apart_spare None number free other is = absurd (cc)
-apart_spare (Some region) number free other is e =
+apart_spare (Some region) number free other is = λ e.
     let it : region ≡ other = cc in
     not_spare region number free (it ∙ sym e)

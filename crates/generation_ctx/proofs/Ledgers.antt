@@ -2,7 +2,7 @@
 use Rattle.std.proofs.Common.{◌≡◌, ◌≢◌, ℕ, ◌+◌, ◌-◌, ◌<◌, ◌≤◌, Some, None, Ok, Err, true, false, refl, arith}
 use Rattle.chunk_header.specs.declared.CtxError.TheVariants.{NoSpace}
 use Rattle.chunk_header.specs.Growth.{granted}
-use Rattle.generation_ctx.specs.Ledger.{GenerationLedger, GenerationPlace, block_in, turned, with_new, block_size, chosen, cut, owned, take_new, take_from, take_cut, take_own, take, set_aside, stopped, moved, resize}
+use Rattle.generation_ctx.specs.Ledger.{GenerationLedger, GenerationPlace, block_in, turned, with_new, block_size, chosen, cut, owned, take_new, take_from, take_cut, take_own, take, set_aside, stopped, moved, resize, give, given, freed_shared}
 
 module _ (l : GenerationLedger) where
   pub stopped-keeper : (number : ℕ) → number ≡ 1 → stopped l number ≡ l
@@ -62,3 +62,12 @@ module _ (l : GenerationLedger) (held limit size : ℕ) (place : GenerationPlace
   pub resize-moves : size ≤ 1073741823 → place.room < size → resize l held limit place size ≡ moved (take l (limit - held) size) place
   unfolding resize
   resize-moves most little = grind (arith, most, little)
+
+module _ (l : GenerationLedger) (place : GenerationPlace) where
+  pub give-shared : place.own ≡ false → give l place ≡ freed_shared l place.block
+  unfolding give
+  give-shared own = rw own refl
+
+  pub give-own : place.own ≡ true → give l place ≡ given l place.block
+  unfolding give
+  give-own own = rw own refl

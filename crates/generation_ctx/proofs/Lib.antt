@@ -11,3 +11,4 @@ pub mod Addrs
 pub mod Owned
 pub mod Sizes
 pub mod Resizes
+pub mod Fitting

@@ -1,16 +1,21 @@
 -- The numbers of blocks, and the ledger by them, once a block was put, added or given back.
-use Rattle.std.proofs.Common.{◌≡◌, ◌≢◌, ℕ, ◌+◌, ◌≤◌, ◌==◌, ◌∷◌, [], ◌++◌, List, map, filter, Option, Some, None, unwrap_or, option_map, refl, ap, sym, ◌∙◌, arith, inl, inr}
+use Rattle.std.proofs.Common.{◌≡◌, ◌≢◌, ℕ, ◌+◌, ◌-◌, ◌≤◌, ◌==◌, Bool, true, false, if◌then◌else◌, ◌∷◌, [], ◌++◌, List, map, filter, Option, Some, None, unwrap_or, option_map, refl, ap, sym, ◌∙◌, arith, inl, inr}
+use Rattle.std.specs.List.{find}
 use Rattle.std.specs.Map.{values_of}
+use Rattle.addr_space.specs.declared.Addr.{Addr}
+use Rattle.addr_space.proofs.Options.{one_value}
 use Rattle.std.proofs.lemmas.Bool.{cases_eq}
-use Rattle.ctx_blocks.specs.Layout.{Layout, block_at}
+use Rattle.ctx_blocks.specs.Layout.{Layout, block_at, chunk_at, whole_block}
+use Rattle.ctx_blocks.specs.declared.parts.Chunk.{Chunk}
 use Rattle.ctx_blocks.specs.Numbered.{put_at, is_other}
 use Rattle.ctx_blocks.specs.Kept.{AreRising}
 use Rattle.ctx_blocks.specs.Steps.{PutsBlock, DropsBlock, SameContext, with_block, without_block}
 use Rattle.ctx_blocks.specs.declared.parts.Block.{Block}
 use Rattle.ctx_blocks.proofs.Changed.{put_here, put_other, drop_other}
-use Rattle.ctx_blocks.proofs.Numbered.{found_by_number, put_by_number, add_by_number, drop_by_number, rising_put, rising_add, rising_drop, region_by_number}
-use Rattle.generation_ctx.specs.Ledger.{GenerationLedger, no_block, block_in, put, added, given}
-use Rattle.generation_ctx.specs.Kept.{number_of, ledger_of, AreNumbered}
+use Rattle.ctx_blocks.proofs.Numbered.{found_by_number, put_by_number, add_by_number, drop_by_number, put_behind, rising_put, rising_add, rising_drop, region_by_number}
+use Rattle.generation_ctx.specs.Ledger.{GenerationLedger, no_block, block_in, put, added, given, whole, is_spare}
+use Rattle.generation_ctx.specs.State.{number_of}
+use Rattle.generation_ctx.specs.Kept.{ledger_of, AreNumbered, IsSpare}
 use Rattle.generation_ctx.specs.declared.books.Books.{Books}
 
 -- the number of a block that is there
@@ -119,3 +124,38 @@ same_test l a b first second numbered is there = elim (cases_eq a b) [
 
 pub keeper_test : (l : Layout) (region : ℕ) (keeper block : Block) → AreNumbered l → block_at l l.keeper ≡ Some keeper → block_at l region ≡ Some block → (number_of l region == 1) ≡ (region == l.keeper)
 keeper_test l region keeper block numbered is there = ap (λ (n : ℕ). number_of l region == n) (sym numbered.keeper) ∙ same_test l region l.keeper block keeper numbered there is
+
+-- the numbers of the spare stay where a block is the last one
+pub spare_added : (l m : Layout) (region : ℕ) (new : Block) → block_at l region ≡ None → PutsBlock l m region new → new.number ≡ l.last_number + 1 → m.last_number ≡ l.last_number + 1 → (current : ℕ) (spare : Option ℕ) → IsSpare l current spare → option_map (number_of m) spare ≡ option_map (number_of l) spare
+spare_added l m region new fresh puts next last current None idle = refl
+spare_added l m region new fresh puts next last current (Some r) idle = ap Some (number_add l m region new fresh puts next last r idle.block idle.is)
+
+-- a new block that isn't the keeper
+pub whole_new : (last size : ℕ) → 1 ≤ last → whole (last + 1) size ≡ record { number = last + 1; size = size; room = size - 40; live = 0; freed = 0 }
+whole_new last size some =
+    let other : (last + 1 == 1) ≡ false = grind (arith, some) in
+    let room : size - 0 - 40 ≡ size - 40 = omega arith in
+    ap (λ (t : Bool). whole_block (last + 1) (if t then 200 else 0) size) other ∙ ap (λ (r : ℕ). record { number = last + 1; size = size; room = r; live = 0; freed = 0 }) room
+
+-- another block is current, which isn't the spare any more
+pub seated : (l : Layout) (current number : ℕ) (spare : Option ℕ) (block : Block) → AreNumbered l → block_at l number ≡ Some block → IsSpare l current spare
+    → option_map (number_of l) (if is_spare spare number then None else spare) ≡ (if is_spare (option_map (number_of l) spare) (number_of l number) then None else option_map (number_of l) spare)
+seated l current number None block numbered is idle = refl
+seated l current number (Some r) block numbered is idle =
+    part (r == number) ∙ ap (λ (t : Bool). if t then None else Some (number_of l r)) (sym (same_test l r number idle.block block numbered idle.is is))
+  where
+    part : (t : Bool) → option_map (number_of l) (if t then None else Some r) ≡ (if t then None else Some (number_of l r))
+    part true = refl
+    part false = refl
+
+-- the last block is another one of its number
+pub put_last : (l : Layout) (first last : Block) → AreNumbered l → first.number ≡ l.last_number + 1 → last.number ≡ first.number → map (put_at last) (values_of l.blocks ++ (first ∷ [])) ≡ values_of l.blocks ++ (last ∷ [])
+put_last l first last numbered next same = put_behind 1 l.last_number l.blocks first last (omega (arith, next, same)) same numbered.rising
+
+-- the ledger has the block of a region
+pub found_number : (b : Books) (region : ℕ) (block : Block) → AreNumbered b.blocks → block_at b.blocks region ≡ Some block → find (λ x. x.number == block.number) (ledger_of b).blocks ≡ Some block
+found_number b region block numbered is = found_by_number 1 b.blocks.last_number region b.blocks.blocks block numbered.rising is
+
+-- whether the chunk at an address has its block for itself
+pub own_of : (l : Layout) (at : Addr) (chunk other : Chunk) {own : Bool} → chunk_at l at ≡ Some chunk → chunk_at l at ≡ Some other → other.own ≡ own → chunk.own ≡ own
+own_of l at chunk other is there own = ap (λ (x : Chunk). x.own) (one_value (chunk_at l at) chunk other is there) ∙ own

@@ -6,7 +6,8 @@ use Rattle.ctx_blocks.specs.Steps.{PutsBlock, SameContext}
 use Rattle.ctx_blocks.specs.declared.parts.Block.{Block}
 use Rattle.ctx_blocks.proofs.Numbered.{put_twice, put_away, put_found}
 use Rattle.generation_ctx.specs.Ledger.{GenerationLedger, block_in, no_block, is_spare, put, given, start_of, whole, filled, emptied, emptied_other, lessened, freed_shared}
-use Rattle.generation_ctx.specs.Kept.{number_of, ledger_of, IsKept}
+use Rattle.generation_ctx.specs.State.{number_of}
+use Rattle.generation_ctx.specs.Kept.{ledger_of, IsKept}
 use Rattle.generation_ctx.specs.declared.books.Books.{Books}
 use Rattle.generation_ctx.proofs.Alone.{apart_live}
 use Rattle.generation_ctx.proofs.Numbers.{number_is, block_is, numbered_put, ledger_put, keeper_test}

@@ -8,7 +8,8 @@ use Rattle.ctx_blocks.specs.declared.parts.Chunk.{Chunk}
 use Rattle.ctx_blocks.specs.Kept.{HasSize}
 use Rattle.ctx_blocks.specs.declared.parts.Block.{Block}
 use Rattle.generation_ctx.specs.Ledger.{no_block}
-use Rattle.generation_ctx.specs.Kept.{number_of, ledger_of, AreNumbered, IsSpare, IsAlone, IsKept}
+use Rattle.generation_ctx.specs.State.{number_of}
+use Rattle.generation_ctx.specs.Kept.{ledger_of, AreNumbered, IsSpare, IsAlone, IsKept}
 use Rattle.generation_ctx.specs.declared.books.Books.{Books}
 use Rattle.generation_ctx.proofs.Addrs.{same_region}
 

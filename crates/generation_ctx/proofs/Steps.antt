@@ -11,7 +11,9 @@ use Rattle.generation_ctx.specs.Kept.{ledger_of, IsKept}
 use Rattle.generation_ctx.specs.Steps.{Rearranges, Allocates, Serves, Frees}
 use Rattle.generation_ctx.specs.declared.books.Books.{Books}
 use Rattle.ctx_blocks.proofs.Spared.{footprint-spare}
+use Rattle.ctx_blocks.specs.Numbered.{AreAmong, KeepsNumbers}
 use Rattle.ctx_blocks.proofs.Changed.{stays_live}
+use Rattle.ctx_blocks.proofs.Among.{among_more}
 
 -- nothing happens
 pub rearranges_none : (b : Books) (s : Space) (ledger : GenerationLedger) → IsKept b → Agrees (footprint b.blocks) s → ledger_of b ≡ ledger → Rearranges b b s s ledger
@@ -20,17 +22,20 @@ rearranges_none b s ledger kept agrees is = record {
   ledger_is = is;
   chunks = refl;
   spare = refl;
+  account = refl;
   moves = Moves-none (footprint b.blocks) s agrees;
   keeps = λ at p q k live again below short. refl;
 }
 
 -- a chunk is cut, which asks nothing, after a step that left the chunks and asked so much
-pub allocates_more : (b m n : Books) (s t u : Space) (size : ℕ) (at : Addr) (ledger : GenerationLedger) (rest : GenerationTaken) (asked : ℕ) → Rearranges b m s t ledger → Allocates m n t u size at rest → Asks b.blocks.account asked s t → u.taken ≡ t.taken → Allocates b n s u size at (record rest { asked = asked })
-allocates_more b m n s t u size at ledger rest asked first does asks still = record {
+pub allocates_more : (b m n : Books) (s t u : Space) (size : ℕ) (at : Addr) (ledger : GenerationLedger) (rest : GenerationTaken) (asked : ℕ) → Rearranges b m s t ledger → Allocates m n t u size at rest → Asks b.blocks.account asked s t → u.taken ≡ t.taken → KeepsNumbers b.blocks n.blocks → Allocates b n s u size at (record rest { asked = asked })
+allocates_more b m n s t u size at ledger rest asked first does asks still numbers = record {
   kept = does.kept;
   ledger = does.ledger;
   fresh = rw (← first.chunks) does.fresh;
   chunk = rw (← first.chunks) does.chunk;
+  number = does.number;
+  numbers = numbers;
   asked = still ∙ asks;
   moves = Moves-more (footprint b.blocks) (footprint m.blocks) (footprint n.blocks) s t u first.moves does.moves;
   keeps = Keeps-more (footprint b.blocks) (footprint m.blocks) (footprint n.blocks) s t u (stays_live b.blocks m.blocks first.chunks) first.keeps does.keeps;
@@ -42,6 +47,7 @@ rearranges_more b m n s t u first second one two = record {
   ledger_is = two.ledger_is;
   chunks = two.chunks ∙ one.chunks;
   spare = two.spare ∙ one.spare;
+  account = two.account ∙ one.account;
   moves = Moves-more (footprint b.blocks) (footprint m.blocks) (footprint n.blocks) s t u one.moves two.moves;
   keeps = Keeps-more (footprint b.blocks) (footprint m.blocks) (footprint n.blocks) s t u (stays_live b.blocks m.blocks one.chunks) one.keeps two.keeps;
 }
@@ -56,6 +62,8 @@ serves_made b i j n s t size at step rest = record {
     ledger = rest.does.ledger;
     fresh = rest.does.fresh;
     chunk = rest.does.chunk;
+    number = rest.does.number;
+    numbers = rest.does.numbers;
     asked = rest.does.asked;
     moves = rw (← footprint-spare b.blocks i j) rest.does.moves;
     keeps = rest.does.keeps;
@@ -63,10 +71,11 @@ serves_made b i j n s t size at step rest = record {
 }
 
 -- blocks are rearranged after a chunk was freed
-pub frees_more : (b m n : Books) (s t u : Space) (at : Addr) (ledger : GenerationLedger) → Frees b m s t at → Rearranges m n t u ledger → Frees b n s u at
-frees_more b m n s t u at ledger frees rest = record {
+pub frees_more : (b m n : Books) (s t u : Space) (at : Addr) (ledger : GenerationLedger) → Frees b m s t at → Rearranges m n t u ledger → AreAmong n.blocks m.blocks → Frees b n s u at
+frees_more b m n s t u at ledger frees rest among = record {
   kept = rest.kept;
   chunk = rw rest.chunks frees.chunk;
+  among = among_more n.blocks m.blocks b.blocks among frees.among;
   moves = Moves-more (footprint b.blocks) (footprint m.blocks) (footprint n.blocks) s t u frees.moves rest.moves;
   keeps = Keeps-then (footprint b.blocks) (footprint m.blocks) (footprint n.blocks) s t u (stays_live n.blocks m.blocks (sym rest.chunks)) frees.keeps rest.keeps;
 }

@@ -21,9 +21,9 @@ abbrev pub resize_in : GenerationState → Space → GenerationPlace → ℕ →
 resize_in a s place size = resize a.ledger (held s a.layout.account) s.limit place size
 
 -- the same for a chunk at a place that gets another size, and stays at its address exactly where the answer says so
-pub record Resizes (a b : GenerationState) (place : GenerationPlace) (size : ℕ) (from to : Addr) (s t : Space) : Type 0 where
+pub record Resizes (a b : GenerationState) (was : GenerationPlace) (size : ℕ) (from to : Addr) (s t : Space) : Type 0 where
   pub answer : GenerationResized
-  pub is : resize_in a s place size ≡ Ok answer
+  pub is : resize_in a s was size ≡ Ok answer
   pub ledger : b.ledger ≡ answer.ledger
   pub place : MovesAt (place_at a) (place_at b) from to answer.place
   pub asked : Asks a.layout.account answer.asked s t

@@ -1,20 +1,16 @@
 -- What holds of the insides of a Generation context.
-use Rattle.std.specs.Prelude.{◌≡◌, ◌≢◌, ℕ, true, Option, Some, None, ◌+◌, option_map, unwrap_or}
+use Rattle.std.specs.Prelude.{◌≡◌, ◌≢◌, ◌≤◌, ℕ, true, Option, Some, None, ◌+◌, option_map}
 use Rattle.std.specs.Map.{values_of}
 use Rattle.addr_space.specs.declared.Addr.{Addr}
 use Rattle.chunk_header.specs.declared.Kind.TheVariants.{Generation}
 use Rattle.ctx_blocks.specs.Layout.{Layout, block_at, chunk_at, bare}
 use Rattle.ctx_blocks.specs.declared.parts.Block.{Block}
 use Rattle.ctx_blocks.specs.declared.parts.Chunk.{Chunk}
-use Rattle.generation_ctx.specs.Ledger.{GenerationLedger, no_block}
-use Rattle.generation_ctx.specs.State.{GenerationState}
+use Rattle.generation_ctx.specs.Ledger.{GenerationLedger}
+use Rattle.generation_ctx.specs.State.{GenerationState, number_of}
 use Rattle.generation_ctx.specs.declared.books.Books.{Books}
 use Rattle.chunk_header.specs.Growth.{AreSizes}
 use Rattle.ctx_blocks.specs.Kept.{HasSize, AreRising}
-
--- the number of the block in a region
-abbrev pub number_of : Layout → ℕ → ℕ
-number_of l region = (unwrap_or (block_at l region) no_block).number
 
 -- the ledger: its blocks are those that there are, by their numbers
 abbrev pub ledger_of : Books → GenerationLedger

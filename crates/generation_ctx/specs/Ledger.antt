@@ -74,12 +74,12 @@ created init max = record {
 }
 
 -- an empty block that isn't used any more becomes the spare where there is none, else it goes back
+abbrev pub aside : Option ℕ → GenerationLedger → ℕ → GenerationLedger
+aside None l number = record l { spare = Some number }
+aside (Some other) l number = given l number
+
 abbrev pub set_aside : GenerationLedger → ℕ → GenerationLedger
-set_aside l number = set_aside_by l.spare l number
-  where
-    set_aside_by : Option ℕ → GenerationLedger → ℕ → GenerationLedger
-    set_aside_by None l number = record l { spare = Some number }
-    set_aside_by (Some other) l number = given l number
+set_aside l number = aside l.spare l number
 
 -- a block stops being current
 unfoldable pub stopped : GenerationLedger → ℕ → GenerationLedger

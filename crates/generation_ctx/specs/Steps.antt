@@ -9,7 +9,8 @@ use Rattle.ctx_blocks.specs.Steps.{PutsChunk}
 use Rattle.ctx_blocks.specs.declared.parts.Block.{Block}
 use Rattle.ctx_blocks.specs.declared.parts.Chunk.{Chunk}
 use Rattle.generation_ctx.specs.Ledger.{GenerationLedger, GenerationTaken, GenerationResized, resize}
-use Rattle.generation_ctx.specs.State.{place_of}
+use Rattle.ctx_blocks.specs.Numbered.{AreAmong, KeepsNumbers}
+use Rattle.generation_ctx.specs.State.{number_of, place_in}
 use Rattle.generation_ctx.specs.Kept.{ledger_of, IsKept}
 use Rattle.addr_space.specs.Live.{MovesAt, HasBytesOf}
 use Rattle.generation_ctx.specs.declared.books.Books.{Books}
@@ -20,6 +21,7 @@ pub record Rearranges (b n : Books) (s t : Space) (ledger : GenerationLedger) : 
   pub ledger_is : ledger_of n ≡ ledger
   pub chunks : n.blocks.chunks ≡ b.blocks.chunks
   pub spare : n.blocks.spare_chunks ≡ b.blocks.spare_chunks
+  pub account : n.blocks.account ≡ b.blocks.account
   pub moves : Moves (footprint b.blocks) (footprint n.blocks) s t
   pub keeps : Keeps (footprint b.blocks) (footprint n.blocks) s t
 
@@ -28,7 +30,9 @@ pub record Allocates (b n : Books) (s t : Space) (size : ℕ) (at : Addr) (answe
   pub kept : IsKept n
   pub ledger : ledger_of n ≡ answer.ledger
   pub fresh : chunk_at b.blocks at ≡ None
-  pub chunk : PutsChunk b.blocks n.blocks at (Some (record { size = size; room = answer.place.room; own = answer.place.own; block = answer.place.block }))
+  pub chunk : PutsChunk b.blocks n.blocks at (Some (record { size = size; room = answer.place.room; own = answer.place.own }))
+  pub number : number_of n.blocks at.region ≡ answer.place.block
+  pub numbers : KeepsNumbers b.blocks n.blocks
   pub asked : Asks b.blocks.account answer.asked s t
   pub moves : Moves (footprint b.blocks) (footprint n.blocks) s t
   pub keeps : Keeps (footprint b.blocks) (footprint n.blocks) s t
@@ -43,6 +47,7 @@ pub record Serves (b n : Books) (s t : Space) (size : ℕ) (at : Addr) (step : R
 pub record Frees (b n : Books) (s t : Space) (at : Addr) : Type 0 where
   pub kept : IsKept n
   pub chunk : PutsChunk b.blocks n.blocks at None
+  pub among : AreAmong n.blocks b.blocks
   pub moves : Moves (footprint b.blocks) (footprint n.blocks) s t
   pub keeps : Keeps (footprint b.blocks) (footprint n.blocks) s t
 
@@ -59,10 +64,12 @@ pub record Resizes (b n : Books) (s t : Space) (from to : Addr) (keep size : ℕ
   pub old : Chunk
   pub was : chunk_at b.blocks from ≡ Some old
   pub answer : GenerationResized
-  pub step : resize (ledger_of b) (held s b.blocks.account) s.limit (place_of old) size ≡ Ok answer
+  pub step : resize (ledger_of b) (held s b.blocks.account) s.limit (place_in b.blocks from.region old) size ≡ Ok answer
   pub ledger : ledger_of n ≡ answer.ledger
   pub fresh : to ≢ from → chunk_at b.blocks to ≡ None
-  pub chunk : MovesAt (chunk_at b.blocks) (chunk_at n.blocks) from to (record { size = size; room = answer.place.room; own = answer.place.own; block = answer.place.block })
+  pub chunk : MovesAt (chunk_at b.blocks) (chunk_at n.blocks) from to (record { size = size; room = answer.place.room; own = answer.place.own })
+  pub number : number_of n.blocks to.region ≡ answer.place.block
+  pub numbers : KeepsNumbers b.blocks n.blocks
   pub asked : Asks b.blocks.account answer.asked s t
   pub stays : (to ≡ from) ↔ IsTrue answer.stays
   pub bytes : HasBytesOf s t from to keep

@@ -10,8 +10,9 @@ ghost use Rattle.ctx_blocks.specs.Steps.{PutsChunk};
 ghost use Rattle.ctx_blocks.specs.declared.parts.Block.{Block};
 ghost use Rattle.ctx_blocks.specs.declared.parts.Chunk.{Chunk};
 ghost use Rattle.chunk_header.specs.Growth.{granted};
-ghost use Rattle.generation_ctx.specs.Ledger.{created, is_spare, set_aside, stopped, turned, with_new, cut, chosen, block_size, take_own, take_cut, take, emptied, lessened, give, resize, reset, stats};
-ghost use Rattle.generation_ctx.specs.State.{place_of};
+ghost use Rattle.generation_ctx.specs.Ledger.{created, is_spare, set_aside, stopped, turned, with_new, cut, from_spare, from_keeper, chosen, block_size, take_own, take_cut, take, emptied, lessened, give, resize, reset, stats};
+ghost use Rattle.ctx_blocks.specs.Numbered.{AreAmong};
+ghost use Rattle.generation_ctx.specs.State.{number_of, place_in};
 
 use addr_space::{Addr, Space};
 use chunk_header::{CtxError, Kind, LARGEST, Sizes, Stats, granted, grown};
@@ -36,7 +37,7 @@ const LIMIT: u32 = 524_288;
 
 impl Books {
     ghost use Rattle.ctx_blocks.specs.Kept.{HasSize};
-    ghost use Rattle.generation_ctx.specs.Kept.{number_of, ledger_of, state_of, IsIdle, IsKept};
+    ghost use Rattle.generation_ctx.specs.Kept.{ledger_of, state_of, IsIdle, IsKept};
     ghost use Rattle.generation_ctx.specs.Steps.{Rearranges, Allocates, Serves, Frees, Resizes, Lessens};
 
     // The books of a new context.
@@ -120,6 +121,7 @@ impl Books {
         requires idle { IsIdle self.old.blocks self.old.current number }
         requires other { is_spare self.old.spare number ≡ false }
         ensures rearranges { Rearranges self.old self.new space.old space.new (set_aside (ledger_of self.old) (number_of self.old.blocks number)) }
+        ensures among { AreAmong self.new.blocks self.old.blocks }
         ensures asked { space.new.taken ≡ space.old.taken }
         ensures current { self.new.current ≡ self.old.current }
         ensures others { (other : ℕ) → number ≢ other → block_at self.new.blocks other ≡ block_at self.old.blocks other }
@@ -138,6 +140,7 @@ impl Books {
         requires stopped { number ≢ self.old.current }
         requires other { is_spare self.old.spare number ≡ false }
         ensures rearranges { Rearranges self.old self.new space.old space.new (stopped (ledger_of self.old) (number_of self.old.blocks number)) }
+        ensures among { AreAmong self.new.blocks self.old.blocks }
         ensures asked { space.new.taken ≡ space.old.taken }
         ensures current { self.new.current ≡ self.old.current }
         ensures others { (other : ℕ) → number ≢ other → block_at self.new.blocks other ≡ block_at self.old.blocks other }
@@ -168,6 +171,7 @@ impl Books {
         requires block { (block : Block) × (block_at self.old.blocks number ≡ Some block) × (0 < block.room) }
         requires other { number ≢ self.old.current }
         ensures rearranges { Rearranges self.old self.new space.old space.new (turned (ledger_of self.old) (number_of self.old.blocks number)) }
+        ensures among { AreAmong self.new.blocks self.old.blocks }
         ensures asked { space.new.taken ≡ space.old.taken }
         ensures current { self.new.current ≡ number }
         ensures block { block_at self.new.blocks number ≡ block_at self.old.blocks number }
@@ -185,30 +189,60 @@ impl Books {
         requires room { (block : Block) × (block_at self.old.blocks self.old.current ≡ Some block) × (granted size + 8 ≤ block.room) }
         requires spare { 1 ≤ self.old.blocks.spare_chunks }
         ensures allocates { Allocates self.old self.new space.old space.new size result (cut (ledger_of self.old) (granted size) 0) }
+        ensures among { AreAmong self.new.blocks self.old.blocks }
+        ensures asked { space.new.taken ≡ space.old.taken }
     {
         self.blocks
             .cut(space, self.current, size, granted(size), false)
     }
 
+    // The spare block, where it has so many bytes.
+    fn fitting_spare(&self, bytes: u32) -> Option<u32>
+        requires { IsKept self.now }
+        ensures value { from_spare (ledger_of self.now).spare (ledger_of self.now) bytes ≡ option_map (number_of self.now.blocks) result }
+        ensures block { IfSome result (λ number. (block : Block) × (block_at self.now.blocks number ≡ Some block) × (bytes ≤ block.room)) }
+        ensures other { IfSome result (λ number. number ≢ self.now.current) }
+    {
+        let number = self.spare?;
+        if self.block(number).room < bytes {
+            return None;
+        }
+        Some(number)
+    }
+
+    // The keeper, where it isn't current, has no live chunk and has so many bytes.
+    fn fitting_keeper(&self, bytes: u32) -> Option<u32>
+        requires { IsKept self.now }
+        ensures value { from_keeper (ledger_of self.now) bytes ≡ option_map (number_of self.now.blocks) result }
+        ensures block { IfSome result (λ number. (block : Block) × (block_at self.now.blocks number ≡ Some block) × (bytes ≤ block.room)) }
+        ensures other { IfSome result (λ number. number ≢ self.now.current) }
+    {
+        let keeper = self.blocks.keeper();
+        if self.current == keeper {
+            return None;
+        }
+        let block = self.block(keeper);
+        if block.live > 0 {
+            return None;
+        }
+        if block.room < bytes {
+            return None;
+        }
+        Some(keeper)
+    }
+
     // Which block becomes current for so many bytes, where no new one is taken.
+    #[tactic(auto, unfolding(crate::specs::Ledger::chosen))]
     fn choose(&self, bytes: u32) -> Option<u32>
-        requires kept { IsKept self.now }
-        requires some { 0 < bytes }
+        requires { IsKept self.now }
         ensures value { chosen (ledger_of self.now) bytes ≡ option_map (number_of self.now.blocks) result }
         ensures block { IfSome result (λ number. (block : Block) × (block_at self.now.blocks number ≡ Some block) × (bytes ≤ block.room)) }
         ensures other { IfSome result (λ number. number ≢ self.now.current) }
     {
-        if let Some(number) = self.spare {
-            if self.block(number).room >= bytes {
-                return Some(number);
-            }
+        if let Some(number) = self.fitting_spare(bytes) {
+            return Some(number);
         }
-        let keeper = self.blocks.keeper();
-        let block = self.block(keeper);
-        if keeper != self.current && block.live == 0 && block.room >= bytes {
-            return Some(keeper);
-        }
-        None
+        self.fitting_keeper(bytes)
     }
 
     // Takes a new block for so many bytes.
@@ -221,6 +255,7 @@ impl Books {
         requires spare { 1 ≤ self.old.blocks.spare_blocks }
         ensures ok { OnOk result (Rearranges self.old self.new space.old space.new (with_new (ledger_of self.old) (block_size (ledger_of self.old) bytes))) }
         ensures number { IfOk result (λ number. number_of self.new.blocks number ≡ (ledger_of self.old).count + 1) }
+        ensures among { OnOk result (AreAmong self.old.blocks self.new.blocks) }
         ensures asked { OnOk result (Asks self.old.blocks.account (block_size (ledger_of self.old) bytes) space.old space.new) }
         ensures other { IfOk result (λ number. number ≢ self.old.current) }
         ensures current { OnOk result (self.new.current ≡ self.old.current) }
@@ -358,6 +393,7 @@ impl Books {
         requires block { (block : Block) × (block_at self.old.blocks number ≡ Some block) × (block.live ≡ 0) }
         requires other { is_spare self.old.spare number ≡ false }
         ensures rearranges { Rearranges self.old self.new space.old space.new (emptied (ledger_of self.old) (number_of self.old.blocks number)) }
+        ensures among { AreAmong self.new.blocks self.old.blocks }
         ensures asked { space.new.taken ≡ space.old.taken }
     {
         if self.blocks.keeper() == number {
@@ -398,7 +434,7 @@ impl Books {
         requires agrees { Agrees (footprint self.old.blocks) space.old }
         requires chunk { (c : Chunk) × (chunk_at self.old.blocks at ≡ Some c) × (c.own ≡ false) }
         ensures frees { Frees self.old self.new space.old space.new at }
-        ensures ledger { (c : Chunk) → chunk_at self.old.blocks at ≡ Some c → ledger_of self.new ≡ give (ledger_of self.old) (place_of c) }
+        ensures ledger { (c : Chunk) → chunk_at self.old.blocks at ≡ Some c → ledger_of self.new ≡ give (ledger_of self.old) (place_in self.old.blocks at.region c) }
         ensures asked { space.new.taken ≡ space.old.taken }
     {
         self.forget(space, at);
@@ -413,7 +449,7 @@ impl Books {
         requires agrees { Agrees (footprint self.old.blocks) space.old }
         requires chunk { (c : Chunk) × (chunk_at self.old.blocks at ≡ Some c) × (c.own ≡ true) }
         ensures frees { Frees self.old self.new space.old space.new at }
-        ensures ledger { (c : Chunk) → chunk_at self.old.blocks at ≡ Some c → ledger_of self.new ≡ give (ledger_of self.old) (place_of c) }
+        ensures ledger { (c : Chunk) → chunk_at self.old.blocks at ≡ Some c → ledger_of self.new ≡ give (ledger_of self.old) (place_in self.old.blocks at.region c) }
         ensures asked { space.new.taken ≡ space.old.taken }
     {
         let _ = self.blocks.remove(at);
@@ -427,7 +463,7 @@ impl Books {
         requires agrees { Agrees (footprint self.old.blocks) space.old }
         requires chunk { (c : Chunk) × (chunk_at self.old.blocks at ≡ Some c) }
         ensures frees { Frees self.old self.new space.old space.new at }
-        ensures ledger { (c : Chunk) → chunk_at self.old.blocks at ≡ Some c → ledger_of self.new ≡ give (ledger_of self.old) (place_of c) }
+        ensures ledger { (c : Chunk) → chunk_at self.old.blocks at ≡ Some c → ledger_of self.new ≡ give (ledger_of self.old) (place_in self.old.blocks at.region c) }
         ensures asked { space.new.taken ≡ space.old.taken }
     {
         match self.blocks.chunk(at) {
@@ -457,7 +493,7 @@ impl Books {
         requires keep { keep ≤ size }
         requires known { IsKnown space.old at keep }
         ensures ok { IfOk result (λ to. Resizes self.old self.new space.old space.new at to keep size) }
-        ensures no_space { result ≡ Err CtxError.NoSpace → (c : Chunk) → chunk_at self.old.blocks at ≡ Some c → resize (ledger_of self.old) (held space.old self.old.blocks.account) space.old.limit (place_of c) size ≡ Err CtxError.NoSpace }
+        ensures no_space { result ≡ Err CtxError.NoSpace → (c : Chunk) → chunk_at self.old.blocks at ≡ Some c → resize (ledger_of self.old) (held space.old self.old.blocks.account) space.old.limit (place_in self.old.blocks at.region c) size ≡ Err CtxError.NoSpace }
         ensures no_other { IfErr result (λ e. (e ≡ CtxError.NoSpace) ⊎ (e ≡ CtxError.Memory)) }
         ensures err { OnErr result (state_of self.new ≡ state_of self.old) }
         ensures err_kept { OnErr result (IsKept self.new) }
@@ -506,7 +542,7 @@ impl Books {
         requires known { IsKnown space.old at keep }
         ensures ok { IfOk result (λ to. Resizes self.old self.new space.old space.new at to (min keep size) size) }
         ensures too_big { (result ≡ Err CtxError.TooBig) ↔ (1073741823 < size) }
-        ensures no_space { result ≡ Err CtxError.NoSpace → (c : Chunk) → chunk_at self.old.blocks at ≡ Some c → resize (ledger_of self.old) (held space.old self.old.blocks.account) space.old.limit (place_of c) size ≡ Err CtxError.NoSpace }
+        ensures no_space { result ≡ Err CtxError.NoSpace → (c : Chunk) → chunk_at self.old.blocks at ≡ Some c → resize (ledger_of self.old) (held space.old self.old.blocks.account) space.old.limit (place_in self.old.blocks at.region c) size ≡ Err CtxError.NoSpace }
         ensures no_other { IfErr result (λ e. (e ≡ CtxError.TooBig) ⊎ ((e ≡ CtxError.NoSpace) ⊎ (e ≡ CtxError.Memory))) }
         ensures err { OnErr result (state_of self.new ≡ state_of self.old) }
         ensures err_kept { OnErr result (IsKept self.new) }
