@@ -12,3 +12,4 @@ pub mod Owned
 pub mod Sizes
 pub mod Resizes
 pub mod Fitting
+pub mod Places

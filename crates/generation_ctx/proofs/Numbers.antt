@@ -5,9 +5,12 @@ use Rattle.std.specs.Map.{values_of}
 use Rattle.addr_space.specs.declared.Addr.{Addr}
 use Rattle.addr_space.proofs.Options.{one_value}
 use Rattle.std.proofs.lemmas.Bool.{cases_eq}
-use Rattle.ctx_blocks.specs.Layout.{Layout, block_at, chunk_at, whole_block}
+use Rattle.addr_space.specs.Space.{Space}
+use Rattle.addr_space.specs.Footprint.{Agrees, Moves}
+use Rattle.ctx_blocks.specs.Layout.{Layout, block_at, chunk_at, whole_block, footprint}
+use Rattle.ctx_blocks.proofs.Laid.{live_is}
 use Rattle.ctx_blocks.specs.declared.parts.Chunk.{Chunk}
-use Rattle.ctx_blocks.specs.Numbered.{put_at, is_other}
+use Rattle.ctx_blocks.specs.Numbered.{put_at, is_other, KeepsNumbers}
 use Rattle.ctx_blocks.specs.Kept.{AreRising}
 use Rattle.ctx_blocks.specs.Steps.{PutsBlock, DropsBlock, SameContext, with_block, without_block}
 use Rattle.ctx_blocks.specs.declared.parts.Block.{Block}
@@ -159,3 +162,21 @@ found_number b region block numbered is = found_by_number 1 b.blocks.last_number
 -- whether the chunk at an address has its block for itself
 pub own_of : (l : Layout) (at : Addr) (chunk other : Chunk) {own : Bool} → chunk_at l at ≡ Some chunk → chunk_at l at ≡ Some other → other.own ≡ own → chunk.own ≡ own
 own_of l at chunk other is there own = ap (λ (x : Chunk). x.own) (one_value (chunk_at l at) chunk other is there) ∙ own
+
+-- the block of a live chunk is there
+module _ (l : Layout) (s : Space) (at : Addr) (chunk : Chunk) (is : chunk_at l at ≡ Some chunk) (agrees : Agrees (footprint l) s) where
+  region_has : (o : Option Block) (len : ℕ) → option_map (λ (b : Block). b.size) o ≡ Some len → (block : Block) × (o ≡ Some block)
+  region_has None len has = absurd (cc)
+  region_has (Some block) len has = (block, refl)
+
+  pub block_in_space : (block : Block) × (block_at l at.region ≡ Some block)
+  block_in_space =
+      let within = agrees.sound.live_inside at chunk.size (live_is l at chunk is) in
+      region_has (block_at l at.region) within.0 within.1
+
+-- a chunk that stays live keeps the number of its block
+pub number_in : (l m : Layout) (s t : Space) (at : Addr) (chunk : Chunk) → chunk_at l at ≡ Some chunk → chunk_at m at ≡ Some chunk → Agrees (footprint l) s → Moves (footprint l) (footprint m) s t → KeepsNumbers l m → number_of m at.region ≡ number_of l at.region
+number_in l m s t at chunk is there agrees moves keeps =
+    let old = block_in_space l s at chunk is agrees in
+    let new = block_in_space m t at chunk there moves.agrees in
+    number_is m at.region new.0 new.1 ∙ keeps at.region old.0 new.0 old.1 new.1 ∙ sym (number_is l at.region old.0 old.1)

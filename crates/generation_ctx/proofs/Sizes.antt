@@ -42,6 +42,9 @@ module _ (b : Books) (m : Layout) (at : Addr) (old new : Chunk) (kept : IsKept b
     keeper = ap (λ (o : Option Block). (unwrap_or o no_block).number) (block_same m.keeper ∙ ap (block_at b.blocks) same.keeper) ∙ kept.numbered.keeper;
   }
 
+  pub number_sized : (region : ℕ) → number_of m region ≡ number_of b.blocks region
+  number_sized region = ap (λ (o : Option Block). (unwrap_or o no_block).number) (block_same region)
+
   pub ledger_sized : ledger_of (record b { blocks = m }) ≡ ledger_of b
   ledger_sized =
       let current : number_of m b.current ≡ number_of b.blocks b.current = ap (λ (o : Option Block). (unwrap_or o no_block).number) (block_same b.current) in
