@@ -13,3 +13,4 @@ pub mod Sizes
 pub mod Resizes
 pub mod Fitting
 pub mod Places
+pub mod Rows
