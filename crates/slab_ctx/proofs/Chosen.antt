@@ -4,7 +4,7 @@ use Rattle.std.specs.Prelude.{slice_get}
 use Rattle.std.proofs.lemmas.List.{take_all}
 use Rattle.ctx_blocks.specs.Layout.{Layout, block_at}
 use Rattle.ctx_blocks.specs.declared.parts.Block.{Block}
-use Rattle.slab_ctx.specs.Ledger.{fullest}
+use Rattle.slab_ctx.specs.Lives.{fullest}
 use Rattle.slab_ctx.specs.State.{others, live_of, lives_of}
 use Rattle.slab_ctx.specs.Counts.{first_with, IsBest, IsBestOf}
 use Rattle.slab_ctx.specs.Kept.{IsListed}

@@ -12,3 +12,4 @@ pub mod Chosen
 pub mod Freed
 pub mod Served
 pub mod Held
+pub mod Numbered

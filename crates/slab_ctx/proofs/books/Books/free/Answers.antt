@@ -5,9 +5,9 @@ use Rattle.std.specs.Map.{lookup}
 use Rattle.ctx_blocks.specs.declared.parts.Block.{Block}
 use Rattle.addr_space.specs.Live.{same_addr}
 use Rattle.ctx_blocks.specs.Layout.{Layout, block_at, footprint as footprint_of}
-use Rattle.slab_ctx.specs.Ledger.{is_empty}
+use Rattle.slab_ctx.specs.Lives.{is_empty}
 use Rattle.slab_ctx.specs.State.{lives_of, place_in, others}
-use Rattle.slab_ctx.specs.Kept.{ledger_of}
+use Rattle.slab_ctx.specs.Kept.{inner_of}
 use Rattle.slab_ctx.specs.declared.books.Books.{Books}
 use Rattle.slab_ctx.proofs.Bounds.{free-small}
 use Rattle.slab_ctx.proofs.Full.{Agrees-plain, Moves-full}
@@ -69,7 +69,7 @@ returns-clause-ledger c =
     let after = c.settle.ensures.lives counts.block (found_now l m number counts.block counts.puts.at) in
     let empty : b.empty ≡ _ = omega (arith, c.requires.kept.empty) in
     ap (λ z. record { size = z; lives = lives_of c.settle.new.self.slots.blocks }) (c.settle.ensures.size ∙ c.remove.ensures.size)
-    ∙ freed-is (ledger_of b) (place_in (others l.blocks) number) (place_in (others m.blocks) number) block.live counts.block.live b.empty (lives_of m) (lives_of c.settle.new.self.slots.blocks) at.1 had.2 counts.count mid place empty after
+    ∙ freed-is (inner_of b) (place_in (others l.blocks) number) (place_in (others m.blocks) number) block.live counts.block.live b.empty (lives_of m) (lives_of c.settle.new.self.slots.blocks) at.1 had.2 counts.count mid place empty after
 
 pub returns-clause-moves : goal.returns-clause-moves
 returns-clause-moves c =

@@ -3,7 +3,7 @@ use Rattle.chunk_header.specs.Header.{TakesSpace}
 use Rattle.ctx_blocks.specs.Layout.{footprint as footprint_of}
 use Rattle.ctx_blocks.specs.declared.parts.Chunk.{Chunk}
 use Rattle.ctx_blocks.proofs.Laid.{from_live}
-use Rattle.slab_ctx.specs.Ledger.{stride}
+use Rattle.slab_ctx.specs.Lives.{stride}
 use Rattle.slab_ctx.proofs.Numbers.{stride-least}
 use Rattle.slab_ctx.proofs.Full.{AllHeaded-full, TakesSpace-full}
 use Rattle.slab_ctx.proofs.books.Books.headed.Goals as goal

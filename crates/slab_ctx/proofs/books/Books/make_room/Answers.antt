@@ -2,7 +2,7 @@ use Rattle.std.proofs.Common.{◌≡◌, ◌*◌, ◌+◌, sym, ap, ◌∙◌, l
 use Rattle.ctx_blocks.specs.Layout.{Layout, total}
 use Rattle.ctx_blocks.specs.Steps.{SameContext}
 use Rattle.slab_ctx.specs.State.{lives_of}
-use Rattle.slab_ctx.specs.Ledger.{empties, free_chunks}
+use Rattle.slab_ctx.specs.Lives.{empties, free_chunks}
 use Rattle.slab_ctx.proofs.Slotted.{IsSlotted-same}
 use Rattle.slab_ctx.proofs.Listed.{IsListed-same}
 use Rattle.slab_ctx.proofs.books.Books.make_room.Goals as goal

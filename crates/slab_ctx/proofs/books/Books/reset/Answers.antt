@@ -1,5 +1,5 @@
 use Rattle.std.proofs.Common.{refl, ap, ◌∙◌}
-use Rattle.slab_ctx.specs.Ledger.{created}
+use Rattle.slab_ctx.specs.Lives.{created}
 use Rattle.slab_ctx.specs.State.{lives_of}
 use Rattle.slab_ctx.proofs.Full.{Agrees-plain, Moves-full}
 use Rattle.slab_ctx.proofs.KeptSteps.{kept-none}

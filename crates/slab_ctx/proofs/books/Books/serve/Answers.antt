@@ -7,10 +7,10 @@ use Rattle.chunk_header.specs.declared.CtxError.TheVariants.{NoSpace}
 use Rattle.addr_space.specs.Live.{same_addr}
 use Rattle.ctx_blocks.specs.Layout.{chunk_at, footprint as footprint_of}
 use Rattle.ctx_blocks.specs.declared.parts.Block.{Block}
-use Rattle.slab_ctx.specs.Ledger.{per_block, fullest}
+use Rattle.slab_ctx.specs.Lives.{per_block, fullest}
 use Rattle.slab_ctx.specs.State.{lives_of, place_in, others}
 use Rattle.slab_ctx.specs.Slots.{chunk_of}
-use Rattle.slab_ctx.specs.Kept.{ledger_of}
+use Rattle.slab_ctx.specs.Kept.{inner_of}
 use Rattle.slab_ctx.proofs.Numbers.{per_block-some}
 use Rattle.slab_ctx.proofs.Full.{Agrees-plain, Moves-full}
 use Rattle.slab_ctx.proofs.Lives.{lives-raised}
@@ -35,7 +35,7 @@ returns-in-Some-clause-ok c =
     let lives = c.take.ensures.lives chosen.block chosen.found ∙ lives-raised number chosen.block chosen.block.live (others l.blocks) refl chosen.first (find-other l c.requires.kept.listed number chosen.not_keeper ∙ chosen.found) in
     record {
       kept = c.take.ensures.kept;
-      ledger = serve-some (ledger_of b) left chosen.block.live (fullest (per_block b.slots.size) (lives_of l)) (lives_of m) chosen.greatest lives ∙ ap (λ z. Ok (record { size = z; lives = lives_of m })) (sym c.take.ensures.size);
+      ledger = serve-some (inner_of b) left chosen.block.live (fullest (per_block b.slots.size) (lives_of l)) (lives_of m) chosen.greatest lives ∙ ap (λ z. Ok (record { size = z; lives = lives_of m })) (sym c.take.ensures.size);
       fresh = ap size_of c.take.ensures.fresh;
       live = live_put l m at (Some (chunk_of b.slots.size)) c.take.ensures.chunk;
       moves = Moves-full b.slots.size n.slots.size l m n.slots.stacks.entries c.args.space.now c.take.new.space c.take.ensures.size c.take.ensures.kept.slots c.take.ensures.moves;
@@ -67,7 +67,7 @@ returns-in-Ok-clause-ok c =
     let moves = Moves-more (footprint_of l) (footprint_of k) (footprint_of m) c.args.space.now c.add.new.space c.take-in-Ok.new.space c.in-Ok.ensures.moves c.take-in-Ok.ensures.moves in
     record {
       kept = c.take-in-Ok.ensures.kept;
-      ledger = serve-none (ledger_of b) left (fullest (per_block size) (lives_of l)) (lives_of m) c.in_default.ensures.none c.in-Ok.ensures.fits lives ∙ ap (λ z. Ok (record { size = z; lives = lives_of m })) (sym sizes);
+      ledger = serve-none (inner_of b) left (fullest (per_block size) (lives_of l)) (lives_of m) c.in_default.ensures.none c.in-Ok.ensures.fits lives ∙ ap (λ z. Ok (record { size = z; lives = lives_of m })) (sym sizes);
       fresh = ap size_of (sym (stay at) ∙ c.take-in-Ok.ensures.fresh);
       live = λ other. live_put k m at (Some (chunk_of d.slots.size)) c.take-in-Ok.ensures.chunk other
           ∙ ap (λ z. if same_addr at other then Some z else size_of (chunk_at k other)) c.add.ensures.size
@@ -80,4 +80,4 @@ pub returns-in-Err-clause-no_space : goal.returns-in-Err-clause-no_space
 returns-in-Err-clause-no_space c = λ e.
     let b = c.args.self.now in
     let is : c.in-Err.error ≡ NoSpace = cc in
-    serve-full (ledger_of b) (c.args.space.now.limit - held c.args.space.now b.slots.blocks.account) (fullest (per_block b.slots.size) (lives_of b.slots.blocks)) c.in_default.ensures.none (c.in-Err.ensures.no_space (ap Err is))
+    serve-full (inner_of b) (c.args.space.now.limit - held c.args.space.now b.slots.blocks.account) (fullest (per_block b.slots.size) (lives_of b.slots.blocks)) c.in_default.ensures.none (c.in-Err.ensures.no_space (ap Err is))

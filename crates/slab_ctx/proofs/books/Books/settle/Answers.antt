@@ -3,7 +3,7 @@ use Rattle.std.specs.Prelude.{remove}
 use Rattle.std.proofs.lemmas.Bool.Decides.{nat_tests}
 use Rattle.ctx_blocks.specs.declared.parts.Block.{Block}
 use Rattle.ctx_blocks.specs.Layout.{block_at}
-use Rattle.slab_ctx.specs.Ledger.{per_block, is_empty}
+use Rattle.slab_ctx.specs.Lives.{per_block, is_empty}
 use Rattle.slab_ctx.specs.State.{lives_of, place_in, others}
 use Rattle.slab_ctx.specs.declared.books.Books.{Books}
 use Rattle.addr_space.proofs.Options.{one_value}

@@ -1,7 +1,7 @@
 use Rattle.std.proofs.Common.{◌<◌, ◌+◌, ◌-◌, sym, subst, arith}
 use Rattle.ctx_blocks.specs.declared.parts.Block.{Block}
 use Rattle.ctx_blocks.specs.Layout.{block_at}
-use Rattle.slab_ctx.specs.Ledger.{per_block}
+use Rattle.slab_ctx.specs.Lives.{per_block}
 use Rattle.slab_ctx.specs.declared.books.Books.{Books}
 use Rattle.addr_space.proofs.Options.{one_value}
 use Rattle.slab_ctx.proofs.Freed.{is_empty-some}

@@ -1,5 +1,5 @@
 use Rattle.std.proofs.Common.{◌≡◌, length, sym, ◌∙◌}
-use Rattle.slab_ctx.specs.Ledger.{per_block}
+use Rattle.slab_ctx.specs.Lives.{per_block}
 use Rattle.slab_ctx.proofs.Slotted.{IsSlotted-added}
 use Rattle.slab_ctx.proofs.slots.Slots.add.Goals as goal
 
