@@ -1,17 +1,18 @@
 -- Lemmas on a chunk that is freed.
-use Rattle.std.proofs.Common.{◌≡◌, ℕ, ◌-◌, ◌≤◌, ◌==◌, ◌&&◌, nat_le, if◌then◌else◌, Bool, true, false, List, [], ◌∷◌, refl, sym, ap, ◌∙◌, inl, inr, arith}
+use Rattle.std.proofs.Common.{◌≡◌, ℕ, ◌-◌, ◌≤◌, ◌==◌, ◌&&◌, nat_le, if◌then◌else◌, Bool, true, false, not, List, [], ◌∷◌, refl, sym, ap, ◌∙◌, inl, inr, arith}
 use Rattle.std.proofs.lemmas.Bool.{cases_eq}
 use Rattle.std.proofs.lemmas.Bool.Decides.{nat_tests}
 use Rattle.slab_ctx.specs.Ledger.{SlabLedger, SlabBlock, is_empty, empties, set_live, with_live, without_number, live_in, lowered, give}
 
 -- which block is left out doesn't depend on live chunks
-left_out : (number live : ℕ) (b : SlabBlock) (xs : List SlabBlock) (t : Bool) → (b.number == number) ≡ t → without_number (with_live xs number live) number ≡ without_number xs number → without_number (with_live (b ∷ xs) number live) number ≡ without_number (b ∷ xs) number
-left_out number live b xs true is rest = rw (is) rest
-left_out number live b xs false is rest = rw (is) (ap (λ (ys : List SlabBlock). b ∷ ys) rest)
+left_out : (number live : ℕ) (b : SlabBlock) (ys zs : List SlabBlock) (t : Bool) → (b.number == number) ≡ t → ys ≡ zs
+    → (let c : SlabBlock = if t then record b { live = live } else b in if not (c.number == number) then c ∷ ys else ys) ≡ (if not t then b ∷ zs else zs)
+left_out number live b ys zs true is same = ap (λ u. if not u then record b { live = live } ∷ ys else ys) is ∙ same
+left_out number live b ys zs false is same = ap (λ u. if not u then b ∷ ys else ys) is ∙ ap (λ (xs : List SlabBlock). b ∷ xs) same
 
 pub without-set : (number live : ℕ) (xs : List SlabBlock) → without_number (with_live xs number live) number ≡ without_number xs number
 without-set number live [] = refl
-without-set number live (b ∷ xs) = left_out number live b xs (b.number == number) refl (without-set number live xs)
+without-set number live (b ∷ xs) = left_out number live b (without_number (with_live xs number live) number) (without_number xs number) (b.number == number) refl (without-set number live xs)
 
 pub is_empty-some : (live : ℕ) → 1 ≤ live → is_empty live ≡ 0
 is_empty-some live some =

@@ -7,11 +7,11 @@ use Rattle.ctx_blocks.specs.Layout.{block_at, total}
 use Rattle.ctx_blocks.specs.Steps.{PutsBlock, DropsBlock, SameContext}
 use Rattle.ctx_blocks.specs.declared.parts.Block.{Block}
 use Rattle.slab_ctx.specs.Lives.{is_empty, empties, free_in, free_chunks, per_block}
-use Rattle.slab_ctx.specs.Ledger.{with_live}
+use Rattle.slab_ctx.specs.Ledger.{SlabBlock, with_live}
 use Rattle.slab_ctx.specs.State.{others, lives_of, blocks_of, place_in}
 use Rattle.slab_ctx.specs.Slots.{HasSlots, first_region}
 use Rattle.slab_ctx.specs.Counts.{Counts}
-use Rattle.slab_ctx.specs.Kept.{inner_of, IsKeptBut, IsKept}
+use Rattle.slab_ctx.specs.Kept.{inner_of, ledger_of, IsKeptBut, IsKept}
 use Rattle.slab_ctx.specs.declared.books.Books.{Books}
 use Rattle.slab_ctx.proofs.Bounds.{free-is}
 use Rattle.slab_ctx.proofs.Listed.{IsListed-none, total-none, lives-none, IsListed-put, lives-added, lives-changed, total-changed, rising-added, rising-changed, blocks-changed, IsListed-drop, lives-dropped, place-live, sum-set, sum-remove}
@@ -138,3 +138,10 @@ module _ (b : Books) (few number : ℕ) (kept : IsKeptBut b few) (differs : numb
       let per = per_block b.slots.size in
       let at = place-live l kept.listed number differs block found in
       omega (arith, free-is b few kept, sum-remove (free_in per) (lives_of l) (place_in (others l.blocks) number) at.0, ap (free_in per) at.1)
+
+-- the ledger, by its parts
+pub ledger-parts : (n : Books) (size count : ℕ) (blocks : List SlabBlock) → n.slots.size ≡ size → n.slots.blocks.last_number ≡ count → blocks_of n.slots.blocks ≡ blocks → ledger_of n ≡ record { size = size; count = count; blocks = blocks }
+ledger-parts n size count blocks same last all =
+    ap (λ z. record { size = z; count = n.slots.blocks.last_number; blocks = blocks_of n.slots.blocks }) same
+    ∙ ap (λ k. record { size = size; count = k; blocks = blocks_of n.slots.blocks }) last
+    ∙ ap (λ xs. record { size = size; count = count; blocks = xs }) all

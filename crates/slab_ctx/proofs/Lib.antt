@@ -11,5 +11,6 @@ pub mod KeptSteps
 pub mod Chosen
 pub mod Freed
 pub mod Served
+pub mod Resized
 pub mod Held
 pub mod Numbered

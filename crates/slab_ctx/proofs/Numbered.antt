@@ -1,14 +1,15 @@
 -- The blocks of a Slab by their numbers: what is done to one by its region is done to it by its number.
-use Rattle.std.proofs.Common.{◌≡◌, ◌≢◌, ℕ, ◌+◌, ◌<◌, ◌≤◌, ◌==◌, ◌++◌, if◌then◌else◌, Bool, true, false, List, [], ◌∷◌, map, max, nat_lt, Option, Some, None, refl, sym, ap, ◌∙◌, arith}
+use Rattle.std.proofs.Common.{◌≡◌, ◌≢◌, ℕ, suc, ◌+◌, ◌-◌, ◌<◌, ◌≤◌, ◌==◌, ◌++◌, if◌then◌else◌, Bool, true, false, List, [], ◌∷◌, length, map, sum_by, max, nat_lt, Option, Some, None, refl, sym, ap, ◌∙◌, arith}
 use Rattle.std.specs.List.{find as first_of}
 use Rattle.std.specs.Option.{option_map_or}
 use Rattle.std.proofs.lemmas.Bool.Decides.{nat_tests}
+use Rattle.std.proofs.lemmas.List.Sums.{sum_by-cons}
 use Rattle.ctx_blocks.specs.Kept.{AreRising}
 use Rattle.ctx_blocks.specs.Steps.{with_block, without_block}
 use Rattle.ctx_blocks.specs.declared.parts.Block.{Block}
 use Rattle.ctx_blocks.proofs.Numbered.{rising_above}
 use Rattle.slab_ctx.specs.Ledger.{SlabBlock, set_live, with_live, without_number, live_in, fuller, serving, is_empty, empties}
-use Rattle.slab_ctx.specs.Lives.{fullest, greater, empties as empties_of}
+use Rattle.slab_ctx.specs.Lives.{fullest, greater, free_in, empties as empties_of}
 use Rattle.slab_ctx.specs.Counts.{first_with}
 use Rattle.slab_ctx.specs.State.{live_of, numbered_of}
 use Rattle.slab_ctx.proofs.Lives.{find}
@@ -198,4 +199,13 @@ serving_is per region es block free greatest is found = serving-first per block.
 -- how many of them are empty
 pub empties_is : (es : Entries) → empties (map numbered_of es) ≡ empties_of (map live_of es)
 empties_is [] = refl
-empties_is (e ∷ es) = ap (λ n. is_empty e.1.live + n) (empties_is es)
+empties_is (e ∷ es) = omega (arith, sum_by-cons (λ (b : SlabBlock). is_empty b.live) (numbered_of e) (map numbered_of es), sum_by-cons is_empty e.1.live (map live_of es), empties_is es)
+
+-- and how many free chunks they have
+pub free_is : (per : ℕ) (es : Entries) → sum_by (λ (b : SlabBlock). per - b.live) (map numbered_of es) ≡ sum_by (free_in per) (map live_of es)
+free_is per [] = refl
+free_is per (e ∷ es) = omega (arith, sum_by-cons (λ (b : SlabBlock). per - b.live) (numbered_of e) (map numbered_of es), sum_by-cons (free_in per) e.1.live (map live_of es), free_is per es)
+
+pub count_is : (es : Entries) → length (map numbered_of es) ≡ length (map live_of es)
+count_is [] = refl
+count_is (e ∷ es) = ap suc (count_is es)

@@ -11,7 +11,7 @@ use Rattle.ctx_blocks.specs.declared.parts.Block.{Block}
 use Rattle.slab_ctx.specs.Ledger.{SlabTaken}
 use Rattle.slab_ctx.specs.Lives.{fullest}
 use Rattle.slab_ctx.specs.Slots.{chunk_of}
-use Rattle.slab_ctx.specs.State.{others, lives_of, footprint}
+use Rattle.slab_ctx.specs.State.{SlabState, others, lives_of, footprint}
 use Rattle.slab_ctx.specs.Counts.{first_with, IsBest}
 use Rattle.slab_ctx.specs.Kept.{ledger_of, state_of, IsKept}
 use Rattle.slab_ctx.specs.declared.books.Books.{Books}
@@ -48,20 +48,20 @@ pub record IsChosen (l : Layout) (per number : ℕ) : Type 0 where
   pub first : first_with block.live (others l.blocks) ≡ Some number
   pub free : block.live < per
 
--- a live chunk of this size is there now, at the place that the ledger answers
-pub record Allocates (b n : Books) (sp sq : Space) (at : Addr) (answer : SlabTaken) : Type 0 where
+-- a live chunk of the context's size is there now, at the place that the ledger answers
+pub record Allocates (a : SlabState) (n : Books) (sp sq : Space) (at : Addr) (answer : SlabTaken) : Type 0 where
   pub kept : IsKept n
   pub ledger : ledger_of n ≡ answer.ledger
-  pub fresh : chunk_at b.slots.blocks at ≡ None
-  pub chunk : PutsChunk b.slots.blocks n.slots.blocks at (Some (chunk_of b.slots.size))
+  pub fresh : chunk_at a.layout at ≡ None
+  pub chunk : PutsChunk a.layout n.slots.blocks at (Some (chunk_of a.ledger.size))
   pub number : number_of n.slots.blocks at.region ≡ answer.place
-  pub numbers : KeepsNumbers b.slots.blocks n.slots.blocks
-  pub asked : Asks b.slots.blocks.account answer.asked sp sq
-  pub moves : Moves (footprint (state_of b)) (footprint (state_of n)) sp sq
-  pub keeps : Keeps (footprint (state_of b)) (footprint (state_of n)) sp sq
+  pub numbers : KeepsNumbers a.layout n.slots.blocks
+  pub asked : Asks a.layout.account answer.asked sp sq
+  pub moves : Moves (footprint a) (footprint (state_of n)) sp sq
+  pub keeps : Keeps (footprint a) (footprint (state_of n)) sp sq
 
 -- a request is served as a step of the ledger answers
-pub record Serves (b n : Books) (sp sq : Space) (at : Addr) (step : Result SlabTaken CtxError) : Type 0 where
+pub record Serves (a : SlabState) (n : Books) (sp sq : Space) (at : Addr) (step : Result SlabTaken CtxError) : Type 0 where
   pub answer : SlabTaken
   pub is : step ≡ Ok answer
-  pub does : Allocates b n sp sq at answer
+  pub does : Allocates a n sp sq at answer

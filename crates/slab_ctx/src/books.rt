@@ -208,7 +208,7 @@ impl Books {
         requires agrees { Agrees (footprint (state_of self.old)) space.old }
         requires spare_blocks { 1 ≤ self.old.slots.blocks.spare_blocks }
         requires spare_chunks { 1 ≤ self.old.slots.blocks.spare_chunks }
-        ensures ok { IfOk result (λ at. Serves self.old self.new space.old space.new at (serve (ledger_of self.old) (space.old.limit - held space.old self.old.slots.blocks.account) (serving (per_block self.old.slots.size) (blocks_of self.old.slots.blocks)))) }
+        ensures ok { IfOk result (λ at. Serves (state_of self.old) self.new space.old space.new at (serve (ledger_of self.old) (space.old.limit - held space.old self.old.slots.blocks.account) (serving (per_block self.old.slots.size) (blocks_of self.old.slots.blocks)))) }
         ensures no_space { result ≡ Err CtxError.NoSpace → serve (ledger_of self.old) (space.old.limit - held space.old self.old.slots.blocks.account) (serving (per_block self.old.slots.size) (blocks_of self.old.slots.blocks)) ≡ Err CtxError.NoSpace }
         ensures no_other { IfErr result (λ e. (e ≡ CtxError.NoSpace) ⊎ (e ≡ CtxError.Memory)) }
         ensures err_state { OnErr result (state_of self.new ≡ state_of self.old) }
@@ -226,7 +226,7 @@ impl Books {
     pub fn alloc(&mut self, space: &mut Space, size: u64) -> Result<Addr, CtxError>
         requires kept { IsKept self.old }
         requires agrees { Agrees (footprint (state_of self.old)) space.old }
-        ensures ok { IfOk result (λ at. Serves self.old self.new space.old space.new at (take (ledger_of self.old) (space.old.limit - held space.old self.old.slots.blocks.account) size)) }
+        ensures ok { IfOk result (λ at. Serves (state_of self.old) self.new space.old space.new at (take (ledger_of self.old) (space.old.limit - held space.old self.old.slots.blocks.account) size)) }
         ensures size { OnOk result (size ≡ self.old.slots.size) }
         ensures too_big { (result ≡ Err CtxError.TooBig) ↔ (1073741823 < size) }
         ensures wrong_size { (result ≡ Err CtxError.WrongSize) ↔ (take (ledger_of self.old) (space.old.limit - held space.old self.old.slots.blocks.account) size ≡ Err CtxError.WrongSize) }
