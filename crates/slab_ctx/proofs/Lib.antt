@@ -13,3 +13,4 @@ pub mod Freed
 pub mod Served
 pub mod Held
 pub mod Numbered
+pub mod Public
