@@ -14,3 +14,4 @@ pub mod Served
 pub mod Resized
 pub mod Held
 pub mod Numbered
+pub mod Public
