@@ -15,3 +15,7 @@ pub mod Added
 pub mod Dropped
 pub mod Cleared
 pub mod Summed
+pub mod Numbered
+pub mod Among
+pub mod Refused
+pub mod Places
