@@ -4,10 +4,11 @@ use Rattle.std.proofs.lemmas.List.Sums.{sum_by-cons, sum_by-set}
 use Rattle.std.proofs.lemmas.List.{length-set, get_or-set_same, get_or-set_other, length-replicate, get_or-map, map-set, get_or_past, set-get_or}
 use Rattle.std.proofs.lemmas.Bool.{cases_eq}
 use Rattle.std.proofs.lemmas.Bool.Decides.{nat_tests}
-use Rattle.std.proofs.Common.{inl, inr, min, ◌^◌, ◌-◌}
-use Rattle.addr_space.specs.Space.{Region, Space, share, held, region_at, Changes, unwritten, raised}
+use Rattle.std.proofs.Common.{inl, inr}
+use Rattle.addr_space.specs.Space.{Region, Space, share, held, region_at, Changes, unwritten, raised, risen}
 use Rattle.addr_space.specs.Sound.{IsSound, account_at, no_account}
 use Rattle.addr_space.specs.declared.Account.{Account}
+use Rattle.addr_space.proofs.Asked.{raised-set}
 
 module _ {X : Type 0} (f : Option X → ℕ) (nothing : f None ≡ 0) where
   -- lists that agree everywhere have one sum
@@ -109,9 +110,9 @@ module _ (xs ys : List (Option Region)) (n : ℕ) (others : (k : ℕ) → k ≢ 
   }
 
 -- the counts of what was taken, where one account took more
-pub map-taken : (accounts : List Account) (account more : ℕ) (entry : Account) → entry.taken ≡ min (get_or (map (λ (a : Account). a.taken) accounts) account 0 + more) (2 ^ 64 - 1) → map (λ (a : Account). a.taken) (set accounts account entry) ≡ raised (map (λ (a : Account). a.taken) accounts) account more
+pub map-taken : (accounts : List Account) (account more : ℕ) (entry : Account) → entry.taken ≡ risen (get_or (map (λ (a : Account). a.taken) accounts) account 0) more → map (λ (a : Account). a.taken) (set accounts account entry) ≡ raised (map (λ (a : Account). a.taken) accounts) account more
 map-taken accounts account more entry count =
-    map-set (λ (a : Account). a.taken) accounts account entry ∙ ap (set (map (λ (a : Account). a.taken) accounts) account) count
+    map-set (λ (a : Account). a.taken) accounts account entry ∙ ap (set (map (λ (a : Account). a.taken) accounts) account) count ∙ raised-set (map (λ (a : Account). a.taken) accounts) account more
 
 -- the insides stay sound where a region is taken
 pub IsSound-taken : (xs ys : List (Option Region)) (number : ℕ) (accounts : List Account) (a n : ℕ) (entry : Account) (region : Region) → IsSound xs accounts → a < length accounts → get_or xs number None ≡ None → get_or ys number None ≡ Some region → ((k : ℕ) → k ≢ number → get_or ys k None ≡ get_or xs k None) → region.account ≡ a → region.bytes ≡ replicate n None → entry.held ≡ sum_by (share a) xs + n → IsSound ys (set accounts a entry)

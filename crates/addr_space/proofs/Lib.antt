@@ -3,6 +3,7 @@ pub mod Options
 pub mod Addresses
 pub mod Bytes
 pub mod Copied
+pub mod Asked
 pub mod Held
 pub mod Written
 pub mod Apart

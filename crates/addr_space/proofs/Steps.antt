@@ -16,6 +16,9 @@ Agrees-nothing account context s below = record {
     live_apart = λ a b m n live other differ. absurd (cc);
     free_apart = λ a b m n live free. absurd (cc);
     mark_apart = λ a b m bytes live marked. absurd (cc);
+    live_behind = λ at n live. absurd (cc);
+    free_behind = λ at n free. absurd (cc);
+    small = λ number len owned. absurd (cc);
   };
   account = below;
   regions = λ number len owned. absurd (cc);

@@ -1,17 +1,19 @@
 -- What a memory context of any kind has in a space. The allocators, the context that is one of them, and
 -- the tree of contexts cite these words.
-use Rattle.std.specs.Prelude.{◌≡◌, ◌≢◌, ◌↔◌, ℕ, ◌+◌, ◌<◌, ◌≤◌, ◌==◌, List, length, Option, Some, None, if◌then◌else◌, slice_index_or, map}
+use Rattle.std.specs.Prelude.{◌≡◌, ◌≢◌, ◌↔◌, ℕ, ◌+◌, ◌^◌, ◌<◌, ◌≤◌, ◌==◌, List, length, Option, Some, None, if◌then◌else◌, slice_index_or, map}
 use Rattle.addr_space.specs.declared.Addr.{Addr}
 use Rattle.addr_space.specs.Space.{Region, Space, accounts, region_at, byte_at, held, HasBytes, IsApart, Changes, overwritten}
 
 -- the account and the number that the context was created with; the length of each region that it owns, and
--- of all together; the bytes that must stay as it wrote them, by their first address; and the size of each
--- live chunk and of each free one, by its address
+-- of all together; how many first bytes of each region are the context's own, which no chunk has; the bytes
+-- that must stay as it wrote them, by their first address; and the size of each live chunk and of each free one,
+-- by its address
 pub record Footprint : Type 0 where
   pub account : ℕ
   pub context : ℕ
   pub total : ℕ
   pub region : ℕ → Option ℕ
+  pub front : ℕ → ℕ
   pub mark : Addr → Option (List ℕ)
   pub live : Addr → Option ℕ
   pub free : Addr → Option ℕ
@@ -23,6 +25,7 @@ nothing account context = record {
   context = context;
   total = 0;
   region = λ _. None;
+  front = λ _. 0;
   mark = λ _. None;
   live = λ _. None;
   free = λ _. None;
@@ -32,8 +35,9 @@ nothing account context = record {
 abbrev pub IsWithin : Footprint → Addr → ℕ → Type 0
 IsWithin f at n = (len : ℕ) × (f.region at.region ≡ Some len) × (at.offset + n ≤ len)
 
--- chunks and marks lie inside the regions, and a live chunk has no byte in common with another, with a free
--- chunk or with a mark
+-- chunks and marks lie inside the regions, chunks behind what is the context's own; a live chunk has no byte in
+-- common with another, with a free chunk or with a mark; and no region is longer than 2 ^ 31 bytes, so that an
+-- offset inside a chunk fits 32 bits
 pub record IsSound (f : Footprint) : Type 0 where
   pub live_inside : (at : Addr) (size : ℕ) → f.live at ≡ Some size → IsWithin f at size
   pub free_inside : (at : Addr) (size : ℕ) → f.free at ≡ Some size → IsWithin f at size
@@ -41,6 +45,9 @@ pub record IsSound (f : Footprint) : Type 0 where
   pub live_apart : (a b : Addr) (m n : ℕ) → f.live a ≡ Some m → f.live b ≡ Some n → a ≢ b → IsApart a m b n
   pub free_apart : (a b : Addr) (m n : ℕ) → f.live a ≡ Some m → f.free b ≡ Some n → IsApart a m b n
   pub mark_apart : (a b : Addr) (m : ℕ) (bytes : List ℕ) → f.live a ≡ Some m → f.mark b ≡ Some bytes → IsApart a m b (length bytes)
+  pub live_behind : (at : Addr) (size : ℕ) → f.live at ≡ Some size → f.front at.region ≤ at.offset
+  pub free_behind : (at : Addr) (size : ℕ) → f.free at ≡ Some size → f.front at.region ≤ at.offset
+  pub small : (number len : ℕ) → f.region number ≡ Some len → len ≤ 2 ^ 31
 
 -- a live region of this number counts for this account and has this length
 abbrev pub HasRegion : Space → ℕ → ℕ → ℕ → Type 0

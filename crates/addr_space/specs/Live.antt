@@ -16,15 +16,21 @@ SameLive f g = (at : Addr) → g.live at ≡ f.live at
 abbrev pub StaysLive : Footprint → Footprint → Type 0
 StaysLive f g = (at : Addr) (size : ℕ) → f.live at ≡ Some size → g.live at ≡ Some size
 
--- one address has a live chunk of this size or none, and every other one has what it had
-abbrev pub PutsLive : Footprint → Footprint → Addr → Option ℕ → Type 0
-PutsLive f g at size = (other : Addr) → g.live other ≡ (if same_addr at other then size else f.live other)
+-- one address has this or nothing, and every other one has what it had
+abbrev pub PutsAt : {A : Type 0} → (Addr → Option A) → (Addr → Option A) → Addr → Option A → Type 0
+PutsAt f g at a = (other : Addr) → g other ≡ (if same_addr at other then a else f other)
 
--- one address has a live chunk of this size, another one has none unless it is that one, and every other one
--- has what it had
+-- one address has this, another one has nothing unless it is that one, and every other one has what it had
+abbrev pub MovesAt : {A : Type 0} → (Addr → Option A) → (Addr → Option A) → Addr → Addr → A → Type 0
+MovesAt f g from to a =
+    (other : Addr) → g other ≡ (if same_addr to other then Some a else (if same_addr from other then None else f other))
+
+-- the same of live chunks and their sizes
+abbrev pub PutsLive : Footprint → Footprint → Addr → Option ℕ → Type 0
+PutsLive f g at size = PutsAt f.live g.live at size
+
 abbrev pub MovesLive : Footprint → Footprint → Addr → Addr → ℕ → Type 0
-MovesLive f g from to size =
-    (other : Addr) → g.live other ≡ (if same_addr to other then Some size else (if same_addr from other then None else f.live other))
+MovesLive f g from to size = MovesAt f.live g.live from to size
 
 -- so many bytes at one address are those that stood at another one
 abbrev pub HasBytesOf : Space → Space → Addr → Addr → ℕ → Type 0

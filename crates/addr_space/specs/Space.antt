@@ -90,9 +90,18 @@ resized None n = None
 resized (Some region) n =
     Some (record region { bytes = take n region.bytes ++ replicate (n - length region.bytes) None })
 
+-- a count once so much was added: it stays at the last value of its type
+abbrev pub risen : ℕ → ℕ → ℕ
+risen count more = if more == 0 then count else min (count + more) (2 ^ 64 - 1)
+
 -- the counts of what was taken, where one account took n more; a count stays at the last value of its type
 abbrev pub raised : List ℕ → ℕ → ℕ → List ℕ
-raised counts account n = slice_set counts account (min (slice_index counts account + n) (2 ^ 64 - 1))
+raised counts account n =
+    if n == 0 then counts else slice_set counts account (min (slice_index counts account + n) (2 ^ 64 - 1))
+
+-- the account took so many bytes more, and no other account any
+abbrev pub Asks : ℕ → ℕ → Space → Space → Type 0
+Asks account n s t = t.taken ≡ raised s.taken account n
 
 -- the same, where the region is resized to n bytes: its account took what it grew
 abbrev pub raised_by : List ℕ → Option Region → ℕ → List ℕ

@@ -5,7 +5,7 @@
 
 ghost use Rattle.std.specs.Prelude.{◌≡◌, ◌≢◌, ℕ, ◌+◌, ◌-◌, ◌^◌, ◌<◌, ◌≤◌, ◌==◌, ◌↔◌, [], length, map, Ok, Err, Some, None, IsTrue, IsOk, IfOk, OnOk, OnErr, if◌then◌else◌, replicate, min, slice_index_or, IfSome, IfNone};
 ghost use Rattle.std.specs.Option.{SomeIff};
-ghost use Rattle.addr_space.specs.Space.{Space as Regions, accounts, region_at, bytes_of, held, taken, Fits, IsInside, IsRegion, IsKnown, IsApart, part, unwritten, overwritten, resized, raised, raised_by, share, IsOverLimit, Changes};
+ghost use Rattle.addr_space.specs.Space.{Space as Regions, accounts, region_at, bytes_of, held, taken, Fits, IsInside, IsRegion, IsKnown, IsApart, part, unwritten, overwritten, resized, raised, raised_by, risen, share, IsOverLimit, Changes};
 
 mod laws;
 mod region;
@@ -45,7 +45,7 @@ impl Account {
     // The account once it holds so many bytes, where it took `more`.
     fn moved(self, held: u64, more: u64) -> Account
         ensures held { result.held ≡ held }
-        ensures taken { result.taken ≡ min (self.taken + more) (2 ^ 64 - 1) }
+        ensures taken { result.taken ≡ risen self.taken more }
     {
         Account {
             held,

@@ -1,6 +1,6 @@
-use Rattle.std.proofs.Common.{◌≡◌, ℕ, ◌+◌, ◌-◌, ◌^◌, min, map, List, ap, ◌∙◌, sym, subst, length, arith, rules, Some, None, set, get_or, sum_by}
+use Rattle.std.proofs.Common.{◌≡◌, ℕ, ◌+◌, ◌-◌, map, List, ap, ◌∙◌, sym, subst, length, arith, rules, Some, None, set, get_or, sum_by}
 use Rattle.std.proofs.lemmas.List.{get_or-set_other, get_or-set_same, length-append, length-take, length-replicate}
-use Rattle.addr_space.specs.Space.{Region, share, held, resized, raised, raised_by}
+use Rattle.addr_space.specs.Space.{Region, share, held, resized, raised, raised_by, risen}
 use Rattle.addr_space.specs.Sound.{IsSound}
 use Rattle.addr_space.specs.declared.Account.{Account}
 use Rattle.addr_space.proofs.Held.{IsSound-set, IsSound-same, length-le-held, share-own, held-put, place-within, map-taken}
@@ -52,7 +52,7 @@ returns-clause-taken c =
     let gave : c.len-gave.result ≡ length region.bytes = c.len-gave.ensures ∙ ap (λ (x : Region). length x.bytes) once in
     let more : c.saturating_sub.result ≡ c.args.n - length region.bytes = omega (arith, c.saturating_sub.ensures, c.from-2.ensures, gave) in
     let was = rw (← c.self.view_is) at c.entry-entry.ensures.taken in
-    let count = c.moved.ensures.taken ∙ ap (λ x. min (x + c.saturating_sub.result) (2 ^ 64 - 1)) was ∙ ap (λ x. min (get_or counts c.account-account.result 0 + x) (2 ^ 64 - 1)) more in
+    let count = c.moved.ensures.taken ∙ ap (λ x. risen x c.saturating_sub.result) was ∙ ap (risen (get_or counts c.account-account.result 0)) more in
     rw (← c.self.view_is) (map-taken c.self.inside.accounts.items c.account-account.result (c.args.n - length region.bytes) c.moved.result count
     ∙ ap (λ a. raised counts a (c.args.n - length region.bytes)) account ∙ sym (ap (λ r. raised_by counts r c.args.n) c.index_mut.ensures.value))
 

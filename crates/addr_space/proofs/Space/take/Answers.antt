@@ -1,6 +1,6 @@
-use Rattle.std.proofs.Common.{◌≡◌, ℕ, ◌<◌, ◌+◌, ap, ◌∙◌, length, arith, Some, get_or, sum_by, min, map, ◌^◌, ◌-◌}
+use Rattle.std.proofs.Common.{◌≡◌, ℕ, ◌<◌, ◌+◌, ap, ◌∙◌, length, arith, Some, get_or, sum_by, map}
 use Rattle.std.proofs.lemmas.List.{length-map}
-use Rattle.addr_space.specs.Space.{Space, held, share, unwritten}
+use Rattle.addr_space.specs.Space.{Space, held, share, unwritten, risen}
 use Rattle.addr_space.specs.declared.Account.{Account}
 use Rattle.addr_space.proofs.Held.{IsSound-taken, held-taken, map-taken}
 use Rattle.addr_space.proofs.Space.take.Goals as goal
@@ -17,7 +17,7 @@ invariant_of-self-2 c =
 pub returns-clause-taken : goal.returns-clause-taken
 returns-clause-taken c =
     let was = rw (← c.self.view_is) at c.entry-entry.ensures.taken in
-    rw (← c.self.view_is) (map-taken c.self.inside.accounts.items c.args.account c.args.n c.moved.result (c.moved.ensures.taken ∙ ap (λ x. min (x + c.from-2.result) (2 ^ 64 - 1)) was ∙ ap (λ x. min (get_or (map (λ (a : Account). a.taken) c.self.inside.accounts.items) c.args.account 0 + x) (2 ^ 64 - 1)) c.from-2.ensures))
+    rw (← c.self.view_is) (map-taken c.self.inside.accounts.items c.args.account c.args.n c.moved.result (c.moved.ensures.taken ∙ ap (λ x. risen x c.from-2.result) was ∙ ap (risen (get_or (map (λ (a : Account). a.taken) c.self.inside.accounts.items) c.args.account 0)) c.from-2.ensures))
 
 pub returns-clause-held : goal.returns-clause-held
 returns-clause-held c = λ other.
