@@ -88,6 +88,13 @@ module _ (s : SetState) (active size : ℕ) (settled : IsSettled s active size) 
             (there.len, there.owned, omega (arith, there.last))
       ]
 
+  -- a chunk is behind what is the context's own
+  front_before : (at : Addr) (chunk : Chunk) → chunk_at s at ≡ Some chunk → front_of s at.region ≤ at.offset
+  front_before at chunk found =
+      let placed = settled.placed at chunk found in
+      let is : front_of s at.region ≡ start_of s at.region + 40 = ap (λ o. if is_some o then start_of s at.region + 40 else 0) placed.owned in
+      omega (arith, is, placed.first)
+
   -- the footprint is sound
   pub IsSound-settled : IsSound (footprint s)
   IsSound-settled = record {
@@ -129,4 +136,11 @@ module _ (s : SetState) (active size : ℕ) (settled : IsSettled s active size) 
           | inl below ↦ inl (omega arith)
           | inr above ↦ inr (omega arith)
         ];
+    live_behind = λ at n live.
+        let it = from_then live_size (chunk_at s at) n live in
+        front_before at it.0 it.1;
+    free_behind = λ at n free.
+        let it = from_then free_size (chunk_at s at) n free in
+        front_before at it.0 it.1;
+    small = λ number len owned. (settled.small number len owned).0;
   }

@@ -1,5 +1,5 @@
 -- What contracts see of an AllocSet: its ledger, and where its blocks and chunks are.
-use Rattle.std.specs.Prelude.{ℕ, ◌+◌, ◌-◌, ◌==◌, true, false, List, [], Option, Some, None, option_map, if◌then◌else◌, option_and_then}
+use Rattle.std.specs.Prelude.{ℕ, ◌+◌, ◌-◌, ◌==◌, true, false, List, [], Option, Some, None, is_some, option_map, if◌then◌else◌, option_and_then}
 use Rattle.std.specs.Map.{lookup}
 use Rattle.addr_space.specs.declared.Addr.{Addr}
 use Rattle.addr_space.specs.Footprint.{Footprint}
@@ -32,6 +32,10 @@ region_of s number = if s.keeper == number then Some s.ledger.init else lookup (
 -- how many bytes of a region stand before the header of its block
 abbrev pub start_of : SetState → ℕ → ℕ
 start_of s number = if s.keeper == number then 200 else 0
+
+-- how many first bytes of a region are the context's own: the header of its block ends there
+abbrev pub front_of : SetState → ℕ → ℕ
+front_of s number = if is_some (region_of s number) then start_of s number + 40 else 0
 
 -- the bytes that a chunk may have
 abbrev pub capacity_of : Chunk → ℕ
@@ -83,6 +87,7 @@ footprint s = record {
   context = s.context;
   total = s.ledger.total;
   region = region_of s;
+  front = front_of s;
   mark = mark_of s;
   live = λ at. option_and_then live_size (chunk_at s at);
   free = λ at. option_and_then free_size (chunk_at s at);
