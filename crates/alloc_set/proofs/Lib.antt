@@ -18,6 +18,7 @@ pub mod Unlisted
 pub mod Given
 pub mod Cleared
 pub mod Stays
+pub mod Places
 pub mod Resized
 pub mod Stretched
 pub mod KeptResized

@@ -9,7 +9,7 @@ use Rattle.alloc_set.specs.Calls.{Serves}
 use Rattle.alloc_set.specs.Ledger.{SetLedger, SetPlace, block_size, renewed, class_bytes}
 use Rattle.indexmap.specs.IndexMap.{spare}
 use Rattle.addr_space.specs.declared.Addr.{Addr}
-use Rattle.alloc_set.specs.State.{chunk_at, footprint}
+use Rattle.alloc_set.specs.State.{SetState, chunk_at, footprint}
 use Rattle.alloc_set.specs.Kept.{state_of, IsKept, own_bytes}
 use Rattle.addr_space.specs.Live.{PutsLive, SameLive}
 use Rattle.alloc_set.specs.Live.{LeavesLive}
@@ -48,11 +48,11 @@ pub record Renews (b n : Books) (s t : Space) (class : ℕ) : Type 0 where
   pub asked : Asks b.account size s t
 
 -- a live chunk of this size is there now, where the ledger's step answers so
-pub record Allocates (b n : Books) (s t : Space) (size : ℕ) (at : Addr) (step : Result (Taken SetLedger SetPlace) CtxError) : Type 0 where
+pub record Allocates (a : SetState) (n : Books) (s t : Space) (size : ℕ) (at : Addr) (step : Result (Taken SetLedger SetPlace) CtxError) : Type 0 where
   pub kept : IsKept n
-  pub serves : Serves step (state_of b) (state_of n) at s t
-  pub fresh : (footprint (state_of b)).live at ≡ None
-  pub live : PutsLive (footprint (state_of b)) (footprint (state_of n)) at (Some size)
-  pub stays : LeavesLive (state_of b) (state_of n)
-  pub moves : Moves (footprint (state_of b)) (footprint (state_of n)) s t
-  pub keeps : Keeps (footprint (state_of b)) (footprint (state_of n)) s t
+  pub serves : Serves step a (state_of n) at s t
+  pub fresh : (footprint a).live at ≡ None
+  pub live : PutsLive (footprint a) (footprint (state_of n)) at (Some size)
+  pub stays : LeavesLive a (state_of n)
+  pub moves : Moves (footprint a) (footprint (state_of n)) s t
+  pub keeps : Keeps (footprint a) (footprint (state_of n)) s t

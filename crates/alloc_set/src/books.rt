@@ -5,11 +5,11 @@ ghost use Rattle.indexmap.specs.IndexMap.{spare};
 ghost use Rattle.addr_space.specs.declared.Addr.{Addr};
 ghost use Rattle.alloc_set.specs.declared.chunk.Chunk.{Chunk};
 ghost use Rattle.addr_space.specs.Footprint.{Agrees, Moves, Keeps, nothing};
-ghost use Rattle.alloc_set.specs.Ledger.{class_bytes, class_size, cut_off, with_free, stats, with_own, cut_rest, cut_up, halved, block_size, reused, created, take_class, class_of, take_own, own_size, take};
+ghost use Rattle.alloc_set.specs.Ledger.{Class, Own as OwnPlace, class_bytes, class_size, cut_off, with_free, stats, with_own, cut_rest, cut_up, halved, block_size, reused, created, take_class, class_of, take_own, own_size, take};
 ghost use Rattle.chunk_header.specs.Growth.{grown};
-ghost use Rattle.addr_space.specs.Live.{same_addr};
-ghost use Rattle.alloc_set.specs.State.{start_of, chunk_at, region_of, mark_of, footprint};
-ghost use Rattle.addr_space.specs.Space.{Space, held, accounts};
+ghost use Rattle.addr_space.specs.Live.{same_addr, PutsAt};
+ghost use Rattle.alloc_set.specs.State.{start_of, chunk_at, place_at, region_of, mark_of, footprint};
+ghost use Rattle.addr_space.specs.Space.{Space, held, accounts, Asks};
 
 use crate::chunk::{Chunk, Shelf};
 use crate::classes::{chunk_limit, class_of, class_size};
@@ -113,6 +113,8 @@ impl Books {
         ensures context { IfOk result (λ b. b.context ≡ context) }
         ensures live { IfOk result (λ b. (at : Addr) → (footprint (state_of b)).live at ≡ None) }
         ensures moves { IfOk result (λ b. Moves (nothing account context) (footprint (state_of b)) space.old space.new) }
+        ensures place { IfOk result (λ b. (at : Addr) → place_at (state_of b) at ≡ None) }
+        ensures asked { OnOk result (Asks account sizes.init space.old space.new) }
         ensures no_space { (result ≡ Err CtxError.NoSpace) ↔ (space.old.limit < held space.old account + sizes.init) }
         ensures no_other { IfErr result (λ e. (e ≡ CtxError.NoSpace) ⊎ (e ≡ CtxError.Memory)) }
         ensures err { OnErr result (space.new ≡ space.old) }
@@ -176,6 +178,7 @@ impl Books {
         ensures spare { spare self.old.chunks ≤ spare self.new.chunks + 1 }
         ensures moves { Moves (footprint (state_of self.old)) (footprint (state_of self.new)) space.old space.new }
         ensures keeps { Keeps (footprint (state_of self.old)) (footprint (state_of self.new)) space.old space.new }
+        ensures asked { space.new.taken ≡ space.old.taken }
     {
         let region = self.active.region;
         let offset = self.active.size - self.active.room;
@@ -211,6 +214,8 @@ impl Books {
         ensures stays { LeavesLive (state_of self.old) (state_of self.new) }
         ensures moves { Moves (footprint (state_of self.old)) (footprint (state_of self.new)) space.old space.new }
         ensures keeps { Keeps (footprint (state_of self.old)) (footprint (state_of self.new)) space.old space.new }
+        ensures place { place_at (state_of self.new) result ≡ Some (Class class) }
+        ensures asked { space.new.taken ≡ space.old.taken }
     {
         self.carve(space, class, Chunk::Live { class, size })
     }
@@ -235,6 +240,7 @@ impl Books {
         ensures stays { LeavesLive (state_of self.old) (state_of self.new) }
         ensures moves { Moves (footprint (state_of self.old)) (footprint (state_of self.new)) space.old space.new }
         ensures keeps { Keeps (footprint (state_of self.old)) (footprint (state_of self.new)) space.old space.new }
+        ensures asked { space.new.taken ≡ space.old.taken }
     {
         let shelf = self.shelves[class as usize];
         let next = shelf.first;
@@ -299,6 +305,7 @@ impl Books {
         ensures others { IfOk result (λ number. (other : ℕ) → other ≢ number → region_of (state_of self.new) other ≡ region_of (state_of self.old) other) }
         ensures moves { OnOk result (Moves (footprint (state_of self.old)) (footprint (state_of self.new)) space.old space.new) }
         ensures keeps { OnOk result (Keeps (footprint (state_of self.old)) (footprint (state_of self.new)) space.old space.new) }
+        ensures asked { OnOk result (Asks self.old.account size space.old space.new) }
         ensures fits { OnOk result (size ≤ space.old.limit - held space.old self.old.account) }
         ensures no_space { (result ≡ Err CtxError.NoSpace) → space.old.limit - held space.old self.old.account < size }
         ensures no_other { IfErr result (λ e. (e ≡ CtxError.NoSpace) ⊎ (e ≡ CtxError.Memory)) }
@@ -332,6 +339,7 @@ impl Books {
         ensures free { (state_of self.new).ledger.free ≡ cut_up 11 self.old.active.room (state_of self.old).ledger.free }
         ensures moves { Moves (footprint (state_of self.old)) (footprint (state_of self.new)) space.old space.new }
         ensures keeps { Keeps (footprint (state_of self.old)) (footprint (state_of self.new)) space.old space.new }
+        ensures asked { space.new.taken ≡ space.old.taken }
     {
         let mut class = 11u8;
         while class > 0 {
@@ -390,7 +398,7 @@ impl Books {
         requires spare_blocks { 0 < spare self.old.blocks }
         requires spare_chunks { 12 ≤ spare self.old.chunks }
         requires few { length self.old.chunks.entries ≤ 2 ^ 39 }
-        ensures renewed { OnOk result (Renews self.old self.new space.old class) }
+        ensures renewed { OnOk result (Renews self.old self.new space.old space.new class) }
         ensures moves { OnOk result (Moves (footprint (state_of self.old)) (footprint (state_of self.new)) space.old space.new) }
         ensures keeps { OnOk result (Keeps (footprint (state_of self.old)) (footprint (state_of self.new)) space.old space.new) }
         ensures no_space { result ≡ Err CtxError.NoSpace → block_size (state_of self.old).ledger (space.old.limit - held space.old self.old.account) class ≡ None }
@@ -431,6 +439,7 @@ impl Books {
         ensures ledger { OnSome result ((state_of self.new).ledger ≡ reused (state_of self.old).ledger class) }
         ensures fresh { IfSome result (λ at. (footprint (state_of self.old)).live at ≡ None) }
         ensures live { IfSome result (λ at. PutsLive (footprint (state_of self.old)) (footprint (state_of self.new)) at (Some size)) }
+        ensures place { IfSome result (λ at. place_at (state_of self.new) at ≡ Some (Class class)) }
         ensures stays { LeavesLive (state_of self.old) (state_of self.new) }
         ensures moves { OnSome result ((sp : Space) → Agrees (footprint (state_of self.old)) sp → Moves (footprint (state_of self.old)) (footprint (state_of self.new)) sp sp) }
         ensures rest { self.new ≡ record self.old { chunks = self.new.chunks; shelves = self.new.shelves } }
@@ -457,6 +466,7 @@ impl Books {
         ensures ledger { (state_of self.new).ledger ≡ record (state_of self.old).ledger { free = with_free (state_of self.old).ledger.free class 1 } }
         ensures live { PutsLive (footprint (state_of self.old)) (footprint (state_of self.new)) at None }
         ensures moves { (sp : Space) → Agrees (footprint (state_of self.old)) sp → Moves (footprint (state_of self.old)) (footprint (state_of self.new)) sp sp }
+        ensures place { PutsAt (place_at (state_of self.old)) (place_at (state_of self.new)) at None }
         ensures rest { self.new ≡ record self.old { chunks = self.new.chunks; shelves = self.new.shelves } }
     {
         let shelf = self.shelves[class as usize];
@@ -473,7 +483,7 @@ impl Books {
         requires kept { IsKept self.old }
         requires agrees { Agrees (footprint (state_of self.old)) space.old }
         requires size { size ≤ 8192 }
-        ensures ok { IfOk result (λ at. Allocates self.old self.new space.old space.new size at (take_class (state_of self.old).ledger (space.old.limit - held space.old self.old.account) (class_of size))) }
+        ensures ok { IfOk result (λ at. Allocates (state_of self.old) self.new space.old space.new size at (take_class (state_of self.old).ledger (space.old.limit - held space.old self.old.account) (class_of size))) }
         ensures no_space { result ≡ Err CtxError.NoSpace → take_class (state_of self.old).ledger (space.old.limit - held space.old self.old.account) (class_of size) ≡ Err CtxError.NoSpace }
         ensures no_other { IfErr result (λ e. (e ≡ CtxError.NoSpace) ⊎ (e ≡ CtxError.Memory)) }
         ensures err_state { OnErr result (state_of self.new ≡ state_of self.old) }
@@ -517,6 +527,8 @@ impl Books {
         ensures stays { LeavesLive (state_of self.old) (state_of self.new) }
         ensures moves { Moves (footprint (state_of self.old)) (footprint (state_of self.new)) space.old space.new }
         ensures keeps { Keeps (footprint (state_of self.old)) (footprint (state_of self.new)) space.old space.new }
+        ensures place { place_at (state_of self.new) result ≡ Some (OwnPlace (room + 48)) }
+        ensures asked { space.new.taken ≡ space.old.taken }
     {
         let header = Header {
             kind: Kind::AllocSet,
@@ -535,7 +547,7 @@ impl Books {
         requires kept { IsKept self.old }
         requires agrees { Agrees (footprint (state_of self.old)) space.old }
         requires size { size ≤ 1073741823 }
-        ensures ok { IfOk result (λ at. Allocates self.old self.new space.old space.new size at (take_own (state_of self.old).ledger (space.old.limit - held space.old self.old.account) (own_size size))) }
+        ensures ok { IfOk result (λ at. Allocates (state_of self.old) self.new space.old space.new size at (take_own (state_of self.old).ledger (space.old.limit - held space.old self.old.account) (own_size size))) }
         ensures no_space { result ≡ Err CtxError.NoSpace → take_own (state_of self.old).ledger (space.old.limit - held space.old self.old.account) (own_size size) ≡ Err CtxError.NoSpace }
         ensures no_other { IfErr result (λ e. (e ≡ CtxError.NoSpace) ⊎ (e ≡ CtxError.Memory)) }
         ensures err_state { OnErr result (state_of self.new ≡ state_of self.old) }
@@ -558,7 +570,7 @@ impl Books {
     pub fn alloc(&mut self, space: &mut Space, size: u64) -> Result<Addr, CtxError>
         requires kept { IsKept self.old }
         requires agrees { Agrees (footprint (state_of self.old)) space.old }
-        ensures ok { IfOk result (λ at. Allocates self.old self.new space.old space.new size at (take (state_of self.old).ledger (space.old.limit - held space.old self.old.account) size)) }
+        ensures ok { IfOk result (λ at. Allocates (state_of self.old) self.new space.old space.new size at (take (state_of self.old).ledger (space.old.limit - held space.old self.old.account) size)) }
         ensures too_big { (result ≡ Err CtxError.TooBig) ↔ (1073741823 < size) }
         ensures no_space { result ≡ Err CtxError.NoSpace → take (state_of self.old).ledger (space.old.limit - held space.old self.old.account) size ≡ Err CtxError.NoSpace }
         ensures no_other { IfErr result (λ e. (e ≡ CtxError.TooBig) ⊎ ((e ≡ CtxError.NoSpace) ⊎ (e ≡ CtxError.Memory))) }

@@ -101,6 +101,7 @@ returns-clause-renewed c =
       stays = LeavesLive-more (state_of b) (state_of m) (state_of t)
           (LeavesLive-same (state_of b) (state_of m) (ap (λ x. x.entries) first))
           (LeavesLive-more (state_of m) (state_of n) (state_of t) c.cut_up.ensures.cut.stays (LeavesLive-same (state_of n) (state_of t) (ap (λ x. x.entries) chunks)));
+      asked = c.cut_up.ensures.asked ∙ c.in-Ok.ensures.asked;
     }
 
 pub returns-clause-moves : goal.returns-clause-moves

@@ -1,17 +1,16 @@
 use Rattle.std.proofs.Common.{◌≡◌, ◌-◌, Err, ap, ◌∙◌, subst}
 use Rattle.addr_space.specs.Space.{held}
 use Rattle.chunk_header.specs.declared.CtxError.TheVariants.{NoSpace}
-use Rattle.alloc_set.specs.Ledger.{take}
+use Rattle.alloc_set.specs.Ledger.{take, then_shelved}
 use Rattle.alloc_set.specs.Kept.{state_of}
 use Rattle.alloc_set.specs.Cut.{Allocates}
-use Rattle.alloc_set.specs.Resize.{then_shelved}
 use Rattle.alloc_set.proofs.Refits.{resize_class-moves}
-use Rattle.alloc_set.proofs.Replaced.{IsKnown-kept, Resizes-replaced}
+use Rattle.alloc_set.proofs.Replaced.{IsKnown-kept, Reallocates-replaced}
 use Rattle.alloc_set.proofs.books.Books.replace.Goals as goal
 use Rattle.alloc_set.proofs.books.Books.replace.Goals.{In-Ok}
 
-took : (c : In-Ok) → Allocates c.args.self.now c.alloc.new.self c.args.space.now c.alloc.new.space c.args.size c.in-Ok.to (take (state_of c.args.self.now).ledger (c.args.space.now.limit - held c.args.space.now c.args.self.now.account) c.args.size)
-took c = subst (λ n. Allocates c.args.self.now c.alloc.new.self c.args.space.now c.alloc.new.space n c.in-Ok.to (take (state_of c.args.self.now).ledger (c.args.space.now.limit - held c.args.space.now c.args.self.now.account) n)) c.from.ensures c.in-Ok.ensures.ok
+took : (c : In-Ok) → Allocates (state_of c.args.self.now) c.alloc.new.self c.args.space.now c.alloc.new.space c.args.size c.in-Ok.to (take (state_of c.args.self.now).ledger (c.args.space.now.limit - held c.args.space.now c.args.self.now.account) c.args.size)
+took c = subst (λ n. Allocates (state_of c.args.self.now) c.alloc.new.self c.args.space.now c.alloc.new.space n c.in-Ok.to (take (state_of c.args.self.now).ledger (c.args.space.now.limit - held c.args.space.now c.args.self.now.account) n)) c.from.ensures c.in-Ok.ensures.ok
 
 pub returns-in-Err-clause-no_space : goal.returns-in-Err-clause-no_space
 returns-in-Err-clause-no_space c = λ e.
@@ -23,11 +22,11 @@ returns-in-Err-clause-no_space c = λ e.
 
 pub copy-requires-clause-known : goal.copy-requires-clause-known
 copy-requires-clause-known c =
-    IsKnown-kept c.args.self.now c.alloc.new.self c.args.space.now c.alloc.new.space c.args.at c.in-Ok.to c.args.class c.requires.live.0 c.args.keep c.args.size c.requires.live.1 c.requires.live.2
+    IsKnown-kept (state_of c.args.self.now) c.alloc.new.self c.args.space.now c.alloc.new.space c.args.at c.in-Ok.to c.args.class c.requires.live.0 c.args.keep c.args.size c.requires.live.1 c.requires.live.2
     (took (goal.at.copy-requires-clause-known c).In-Ok) c.requires.known
 
 pub returns-clause-ok : goal.returns-clause-ok
 returns-clause-ok c =
-    Resizes-replaced c.args.self.now c.alloc.new.self c.args.space.now c.alloc.new.space c.args.at c.in-Ok.to c.args.class c.requires.live.0 c.args.keep c.args.size c.requires.live.1 c.requires.live.2
-    (took (goal.at.returns-clause-ok c).In-Ok) c.shelve.new.self c.copy.new.self c.requires.over c.requires.keep c.requires.known c.copy.ensures.changes
-    c.shelve.ensures.kept c.shelve.ensures.ledger c.shelve.ensures.live c.shelve.ensures.moves
+    Reallocates-replaced (state_of c.args.self.now) c.alloc.new.self c.args.space.now c.alloc.new.space c.args.at c.in-Ok.to c.args.class c.requires.live.0 c.args.keep c.args.size c.requires.live.1 c.requires.live.2
+    (took (goal.at.returns-clause-ok c).In-Ok) c.shelve.new.self c.copy.new.self c.requires.over c.requires.keep c.requires.known c.copy.ensures.changes c.copy.ensures.taken
+    c.shelve.ensures.kept c.shelve.ensures.ledger c.shelve.ensures.place c.shelve.ensures.live c.shelve.ensures.moves

@@ -1,4 +1,5 @@
 use Rattle.std.proofs.Common.{◌≡◌, ℕ, suc, ◌-◌, ◌<◌, ap, ◌∙◌, sym, refl, arith, Some, List, length, map, set, get_or, option_and_then}
+use Rattle.alloc_set.proofs.Places.{place-put}
 use Rattle.std.proofs.lemmas.List.{map-set, get_or-map}
 use Rattle.alloc_set.specs.Ledger.{reused}
 use Rattle.alloc_set.specs.State.{chunk_at, live_size}
@@ -99,3 +100,10 @@ returns-clause-stays c =
     let next = c.next_free-next.result in
     let n : Books = record b { chunks = c.put.new.chunks; shelves = set b.shelves class (record { first = next; count = (shelf_at b.shelves class).count - 1 }) } in
     LeavesLive-put (state_of b) (state_of n) c.in-Some.at (Some (Live class c.args.size)) c.put.ensures.at (ap (λ o. option_and_then live_size o) c.next_free-next.ensures)
+
+pub returns-clause-place : goal.returns-clause-place
+returns-clause-place c =
+    let b = c.args.self.now in
+    let class : ℕ = c.args.class in
+    let n : Books = record b { chunks = c.put.new.chunks; shelves = set b.shelves class (record { first = c.next_free-next.result; count = (shelf_at b.shelves class).count - 1 }) } in
+    place-put (state_of b) (state_of n) c.in-Some.at (Some (Live class c.args.size)) c.put.ensures.at

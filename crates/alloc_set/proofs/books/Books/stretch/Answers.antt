@@ -1,9 +1,10 @@
-use Rattle.std.proofs.Common.{◌≡◌, ℕ, ◌+◌, ◌-◌, ◌≤◌, ◌==◌, if◌then◌else◌, Some, Err, false, refl, ap, ◌∙◌, arith, inl, inr}
+use Rattle.std.proofs.Common.{◌≡◌, ℕ, ◌+◌, ◌-◌, ◌≤◌, ◌==◌, if◌then◌else◌, Some, Err, false, refl, ap, ◌∙◌, arith, inl, inr, length}
+use Rattle.alloc_set.proofs.Places.{PutsPlace-chunk}
 use Rattle.std.specs.Map.{lookup}
 use Rattle.std.proofs.lemmas.Bool.{cases_lt}
 use Rattle.std.proofs.lemmas.Bool.Decides.{nat_tests}
 use Rattle.addr_space.specs.declared.Addr.{Addr}
-use Rattle.addr_space.specs.Space.{Space, held, region_at}
+use Rattle.addr_space.specs.Space.{Space, held, region_at, raised, raised_by}
 use Rattle.addr_space.specs.Footprint.{HasRegion, Agrees}
 use Rattle.chunk_header.specs.declared.CtxError.TheVariants.{NoSpace}
 use Rattle.alloc_set.specs.State.{chunk_at, footprint}
@@ -108,3 +109,17 @@ returns-clause-within c =
           absurd (cc)
       | inr fits ↦ fits
     ]
+
+pub returns-clause-place : goal.returns-clause-place
+returns-clause-place c =
+    let b = c.args.self.now in
+    let m : Books = record b { blocks = c.note_again.new.blocks; chunks = c.put.new.chunks; total = b.total - c.from.result + c.from-2.result } in
+    PutsPlace-chunk (state_of b) (state_of m) c.args.at (Some (Own c.args.size c.args.room)) c.put.ensures.at
+
+pub returns-clause-asked : goal.returns-clause-asked
+returns-clause-asked c =
+    let b = c.args.self.now in
+    let s = c.args.space.now in
+    let it = target b s c.args.at c.requires.live.0 c.args.old c.requires.kept c.requires.agrees c.requires.live.1 in
+    let more : c.args.room + 48 - length it.0.bytes ≡ c.args.room - c.args.old = omega (arith, it.3) in
+    c.in-Ok.ensures.taken ∙ ap (λ o. raised_by s.taken o (c.args.room + 48)) it.1 ∙ ap (λ a. raised s.taken a (c.args.room + 48 - length it.0.bytes)) it.2 ∙ ap (raised s.taken b.account) more

@@ -1,11 +1,12 @@
 use Rattle.std.proofs.Common.{◌≡◌, ℕ, ◌+◌, ◌-◌, ◌<◌, ◌≤◌, ap, ◌∙◌, sym, subst, arith, Some, None, Ok, Err, inl, inr, sum_by}
+use Rattle.alloc_set.proofs.Places.{Serves-put}
+use Rattle.alloc_set.specs.Cut.{Allocates}
 use Rattle.std.specs.Map.{values_of}
 use Rattle.addr_space.specs.Space.{held}
-use Rattle.addr_space.specs.Footprint.{Moves, Keeps}
 use Rattle.addr_space.proofs.Steps.{Moves-more, Keeps-more, same_stays}
 use Rattle.addr_space.proofs.Options.{option_cases}
 use Rattle.chunk_header.specs.declared.CtxError.TheVariants.{NoSpace}
-use Rattle.alloc_set.specs.Ledger.{SetLedger, take_own, with_own, own_size}
+use Rattle.alloc_set.specs.Ledger.{SetLedger, take_own, with_own, own_size, of_own}
 use Rattle.alloc_set.specs.State.{SetState, chunk_at, region_of, footprint}
 use Rattle.alloc_set.specs.Kept.{state_of, own_bytes}
 use Rattle.addr_space.specs.Live.{PutsLive, SameLive}
@@ -64,28 +65,32 @@ settle-requires-clause-empty c = λ other region.
 
 pub returns-clause-ok : goal.returns-clause-ok
 returns-clause-ok c =
+    let s = c.args.space.now in
+    let u = c.add_block.new.space in
+    let t = c.settle.new.space in
     let b = c.args.self.now in
     let m = c.make_room.new.self in
     let a = c.add_block.new.self in
     let n = c.settle.new.self in
+    let at = c.settle.result in
+    let size : ℕ = c.up8-room.result + 48 in
     let same : state_of m ≡ state_of b = made (goal.at.returns-clause-ok c).In-Ok in
-    let account : m.account ≡ b.account = ap (λ (s : SetState). s.account) same in
-    let left : ℕ = c.args.space.now.limit - held c.args.space.now b.account in
-    let room : c.up8-room.result + 48 ≡ own_size c.args.size = omega (arith, c.up8-room.ensures.value) in
-    let fits = subst (λ x. c.up8-room.result + 48 ≤ c.args.space.now.limit - held c.args.space.now x) account c.in-Ok-add_block.ensures.fits in
-    let step : take_own (state_of b).ledger left (own_size c.args.size) ≡ Ok (with_own (state_of b).ledger (own_size c.args.size)) = take_own-had (state_of b).ledger left (own_size c.args.size) (omega (arith, fits, room)) in
-    let ledger : (state_of n).ledger ≡ with_own (state_of b).ledger (own_size c.args.size) =
-    c.settle.ensures.ledger ∙ c.in-Ok-add_block.ensures.ledger ∙ ap (λ (s : SetState). with_own s.ledger (c.up8-room.result + 48)) same ∙ ap (with_own (state_of b).ledger) room in
-    let live : SameLive (footprint (state_of m)) (footprint (state_of a)) = λ at. ap (λ (x : Books). (footprint (state_of x)).live at) c.in-Ok-add_block.ensures.rest in
-    let puts : PutsLive (footprint (state_of m)) (footprint (state_of n)) c.settle.result (Some c.args.size) = PutsLive-after (state_of m) (state_of a) (state_of n) c.settle.result (Some c.args.size) live c.settle.ensures.live in
-    let moves : Moves (footprint (state_of m)) (footprint (state_of n)) c.args.space.now c.settle.new.space = Moves-more (footprint (state_of m)) (footprint (state_of a)) (footprint (state_of n)) c.args.space.now c.add_block.new.space c.settle.new.space c.in-Ok-add_block.ensures.moves c.settle.ensures.moves in
-    let keeps : Keeps (footprint (state_of m)) (footprint (state_of n)) c.args.space.now c.settle.new.space = Keeps-more (footprint (state_of m)) (footprint (state_of a)) (footprint (state_of n)) c.args.space.now c.add_block.new.space c.settle.new.space (same_stays (footprint (state_of m)) (footprint (state_of a)) live) c.in-Ok-add_block.ensures.keeps c.settle.ensures.keeps in
-    record {
+    let account : m.account ≡ b.account = ap (λ (x : SetState). x.account) same in
+    let left : ℕ = s.limit - held s b.account in
+    let is : size ≡ own_size c.args.size = omega (arith, c.up8-room.ensures.value) in
+    let fits : size ≤ left = subst (λ x. size ≤ s.limit - held s x) account c.in-Ok-add_block.ensures.fits in
+    let live : SameLive (footprint (state_of m)) (footprint (state_of a)) = λ other. ap (λ (x : Books). (footprint (state_of x)).live other) c.in-Ok-add_block.ensures.rest in
+    let puts : PutsLive (footprint (state_of m)) (footprint (state_of n)) at (Some c.args.size) = PutsLive-after (state_of m) (state_of a) (state_of n) at (Some c.args.size) live c.settle.ensures.live in
+    let stays : LeavesLive (state_of m) (state_of n) = LeavesLive-more (state_of m) (state_of a) (state_of n) (LeavesLive-same (state_of m) (state_of a) (ap (λ (x : Books). x.chunks.entries) c.in-Ok-add_block.ensures.rest)) c.settle.ensures.stays in
+    let had : Allocates (state_of m) n s t c.args.size at (take_own (state_of m).ledger left size) = record {
       kept = c.settle.ensures.kept;
-      ledger = step ∙ ap Ok (sym ledger);
-      fresh = ap (λ (s : SetState). (footprint s).live c.settle.result) (sym same) ∙ sym (live c.settle.result) ∙ c.settle.ensures.fresh;
-      live = subst (λ (s : SetState). PutsLive (footprint s) (footprint (state_of n)) c.settle.result (Some c.args.size)) same puts;
-      stays = subst (λ (s : SetState). LeavesLive s (state_of n)) same (LeavesLive-more (state_of m) (state_of a) (state_of n) (LeavesLive-same (state_of m) (state_of a) (ap (λ (x : Books). x.chunks.entries) c.in-Ok-add_block.ensures.rest)) c.settle.ensures.stays);
-      moves = subst (λ (s : SetState). Moves (footprint s) (footprint (state_of n)) c.args.space.now c.settle.new.space) same moves;
-      keeps = subst (λ (s : SetState). Keeps (footprint s) (footprint (state_of n)) c.args.space.now c.settle.new.space) same keeps;
-    }
+      serves = Serves-put (take_own (state_of m).ledger left size) (state_of m) (state_of n) at s t c.args.size (of_own (state_of m).ledger size)
+          (take_own-had (state_of m).ledger left size fits) (c.settle.ensures.ledger ∙ c.in-Ok-add_block.ensures.ledger) puts stays c.settle.ensures.place (c.settle.ensures.asked ∙ c.in-Ok-add_block.ensures.asked);
+      fresh = sym (live at) ∙ c.settle.ensures.fresh;
+      live = puts;
+      stays = stays;
+      moves = Moves-more (footprint (state_of m)) (footprint (state_of a)) (footprint (state_of n)) s u t c.in-Ok-add_block.ensures.moves c.settle.ensures.moves;
+      keeps = Keeps-more (footprint (state_of m)) (footprint (state_of a)) (footprint (state_of n)) s u t (same_stays (footprint (state_of m)) (footprint (state_of a)) live) c.in-Ok-add_block.ensures.keeps c.settle.ensures.keeps;
+    } in
+    subst (λ k. Allocates (state_of b) n s t c.args.size at (take_own (state_of b).ledger left k)) is
+    (subst (λ (x : SetState). Allocates x n s t c.args.size at (take_own x.ledger left size)) same had)
