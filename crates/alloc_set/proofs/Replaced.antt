@@ -26,7 +26,7 @@ module _ (a : SetState) (m : Books) (s u : Space) (at to : Addr) (class old keep
   pub stands : chunk_at (state_of m) at ≡ Some (Live class old)
   stands = took.stays at old live_was ∙ was
 
-  live_now : (footprint (state_of m)).live at ≡ Some old
+  pub live_now : (footprint (state_of m)).live at ≡ Some old
   live_now = ap (λ o. option_and_then live_size o) stands
 
   pub differs : to ≢ at

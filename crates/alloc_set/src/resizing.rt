@@ -5,7 +5,7 @@ ghost use Rattle.addr_space.specs.Space.{Space, held, share, region_at, resized 
 ghost use Rattle.addr_space.specs.Footprint.{Agrees, Moves, Keeps};
 ghost use Rattle.chunk_header.specs.Header.{block_bytes};
 ghost use Rattle.alloc_set.specs.declared.chunk.Chunk.{Chunk};
-ghost use Rattle.alloc_set.specs.Ledger.{Class, Own as OwnPlace, class_size, with_block, resize_class, resize_block, kept_size};
+ghost use Rattle.alloc_set.specs.Ledger.{SetPlace, Class, Own as OwnPlace, class_size, with_block, resize_class, resize_block, kept_size};
 ghost use Rattle.alloc_set.specs.State.{chunk_at, place_at, footprint};
 
 use crate::books::{Books, MOST, put};
@@ -230,7 +230,7 @@ impl Books {
         requires live { IsSome ((footprint (state_of self.old)).live at) }
         requires keep { IfSome ((footprint (state_of self.old)).live at) (λ n. keep ≤ n) }
         requires known { IsKnown space.old at keep }
-        ensures ok { IfOk result (λ to. IfSome (place_at (state_of self.old) at) (λ place. Reallocates (state_of self.old) self.new space.old space.new at to (min keep size) size (resize_in (state_of self.old) space.old place size))) }
+        ensures ok { IfOk result (λ to. (place : SetPlace) × (place_at (state_of self.old) at ≡ Some place) × Reallocates (state_of self.old) self.new space.old space.new at to (min keep size) size (resize_in (state_of self.old) space.old place size)) }
         ensures too_big { (result ≡ Err CtxError.TooBig) ↔ (1073741823 < size) }
         ensures no_space { result ≡ Err CtxError.NoSpace → IfSome (place_at (state_of self.old) at) (λ place. resize_in (state_of self.old) space.old place size ≡ Err CtxError.NoSpace) }
         ensures no_other { IfErr result (λ e. (e ≡ CtxError.TooBig) ⊎ ((e ≡ CtxError.NoSpace) ⊎ (e ≡ CtxError.Memory))) }

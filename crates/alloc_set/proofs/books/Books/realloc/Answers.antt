@@ -28,9 +28,8 @@ module _ (a : SetState) (n : Books) (s t : Space) (at : Addr) (keep size : ℕ) 
   step = resize-small a.ledger (held s a.account) s.limit place size small
 
   ok : (r : Result Addr CtxError) → IfOk r (λ to. Reallocates a n s t at to keep size (resize_at a.ledger (held s a.account) s.limit place size))
-      → IfOk r (λ to. IfSome (place_at a at) (λ place. Reallocates a n s t at to keep size (resize_in a s place size)))
-  ok (Ok to) had = some_if (λ place. Reallocates a n s t at to keep size (resize_in a s place size)) (place_at a at) place there
-      (subst (λ (r : Result (Resized SetLedger SetPlace) CtxError). Reallocates a n s t at to keep size r) (sym step) had)
+      → IfOk r (λ to. (place : SetPlace) × (place_at a at ≡ Some place) × Reallocates a n s t at to keep size (resize_in a s place size))
+  ok (Ok to) had = (place, there, subst (λ (r : Result (Resized SetLedger SetPlace) CtxError). Reallocates a n s t at to keep size r) (sym step) had)
   ok (Err e) had = had
 
   none : resize_at a.ledger (held s a.account) s.limit place size ≡ Err NoSpace → IfSome (place_at a at) (λ place. resize_in a s place size ≡ Err NoSpace)

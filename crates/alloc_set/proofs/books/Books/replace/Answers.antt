@@ -5,7 +5,9 @@ use Rattle.alloc_set.specs.Ledger.{take, then_shelved}
 use Rattle.alloc_set.specs.Kept.{state_of}
 use Rattle.alloc_set.specs.Cut.{Allocates}
 use Rattle.alloc_set.proofs.Refits.{resize_class-moves}
-use Rattle.alloc_set.proofs.Replaced.{IsKnown-kept, Reallocates-replaced}
+use Rattle.addr_space.proofs.Carried.{IsInside-live}
+use Rattle.alloc_set.specs.State.{footprint}
+use Rattle.alloc_set.proofs.Replaced.{live_now, IsKnown-kept, Reallocates-replaced}
 use Rattle.alloc_set.proofs.books.Books.replace.Goals as goal
 use Rattle.alloc_set.proofs.books.Books.replace.Goals.{In-Ok}
 
@@ -19,6 +21,12 @@ returns-in-Err-clause-no_space c = λ e.
     let is : c.in-Err.error ≡ NoSpace = cc in
     let none : take (state_of b).ledger (s.limit - held s b.account) c.args.size ≡ Err NoSpace = subst (λ n. take (state_of b).ledger (s.limit - held s b.account) n ≡ Err NoSpace) c.from.ensures (c.in-Err.ensures.no_space (ap Err is)) in
     resize_class-moves (state_of b).ledger (held s b.account) s.limit c.args.class c.args.size c.requires.over ∙ ap (λ r. then_shelved r c.args.class) none
+
+pub copy-requires-clause-from : goal.copy-requires-clause-from
+copy-requires-clause-from c =
+    let had = took (goal.at.copy-requires-clause-from c).In-Ok in
+    let live = live_now (state_of c.args.self.now) c.alloc.new.self c.args.space.now c.alloc.new.space c.args.at c.in-Ok.to c.args.class c.requires.live.0 c.args.keep c.args.size c.requires.live.1 c.requires.live.2 had in
+    IsInside-live (footprint (state_of c.alloc.new.self)) c.alloc.new.space c.args.at c.requires.live.0 c.args.keep had.moves.agrees live c.requires.live.2
 
 pub copy-requires-clause-known : goal.copy-requires-clause-known
 copy-requires-clause-known c =
