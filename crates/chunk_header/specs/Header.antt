@@ -84,6 +84,10 @@ pub record IsHeaded (f : Footprint) (at : Addr) : Type 0 where
 abbrev pub AllHeaded : Footprint → Type 0
 AllHeaded f = (at : Addr) (size : ℕ) → f.live at ≡ Some size → IsHeaded f at
 
+-- and its header names this kind
+abbrev pub AllOfKind : Kind → Footprint → Type 0
+AllOfKind kind f = (at : Addr) (size : ℕ) → f.live at ≡ Some size → (headed : IsHeaded f at) × (headed.header.kind ≡ kind)
+
 -- the bytes of a chunk that shares its block: an AllocSet's header has the class, the others' the bytes
 abbrev pub shared_bytes : Kind → ℕ → ℕ
 shared_bytes AllocSet value = 8 * 2 ^ value

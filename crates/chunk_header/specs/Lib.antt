@@ -1,3 +1,4 @@
--- What contracts cite: header words, block headers, and the sizes of chunks and blocks.
+-- What contracts cite: header words, block headers, the sizes of chunks and blocks, and what a request is answered.
 pub mod Header
 pub mod Growth
+pub mod Answers

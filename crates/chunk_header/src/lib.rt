@@ -1,4 +1,5 @@
-//! The headers of chunks and blocks, and what the calls of all memory contexts answer.
+//! The headers of chunks and blocks, the sizes of blocks, and what the calls of all memory contexts answer: their
+//! errors, what they hold, and how a ledger that counts it goes from one call to the next.
 #![tactic(auto)]
 
 ghost use Rattle.std.specs.Prelude.{◌≡◌, ℕ, ◌+◌, ◌-◌, ◌*◌, ◌/◌, ◌%◌, ◌^◌, ◌<◌, ◌≤◌, ◌↔◌, ◌⊎◌, Ok, IsErr, IfOk, IfErr, IfSome, IfNone};
@@ -7,8 +8,12 @@ ghost use Rattle.addr_space.specs.Space.{Space};
 ghost use Rattle.addr_space.specs.Footprint.{Footprint, Agrees};
 ghost use Rattle.chunk_header.specs.Header.{kind_code, word_of, IsPackable, header_bytes, block_bytes, IsMarked, IsHeaded};
 ghost use Rattle.chunk_header.specs.Growth.{up8, granted, grown};
+ghost use Rattle.chunk_header.specs.Answers.{refusal_of};
 
-/// The kinds of memory context, as a chunk's header names them.
+use addr_space::SpaceError;
+
+/// The kinds of memory context, as a chunk's header names them: PostgreSQL's `MemoryContextMethodID`
+/// (memutils_internal.h).
 #[derive(Clone, Copy, PartialEq, Eq, Debug)]
 pub enum Kind {
     /// Chunks of a power of two, kept by class when they are freed.
@@ -71,6 +76,9 @@ pub struct Header {
 pub struct BadKind(pub u8);
 
 /// Why a context refuses a request.
+///
+/// Each kind of context asks in this order: whether the size is too big, whether the kind serves such a request at
+/// all, whether the account may hold more, and whether there is memory.
 #[derive(Clone, Copy, PartialEq, Eq, Debug)]
 pub enum CtxError {
     /// The size is over 1,073,741,823.
@@ -85,7 +93,7 @@ pub enum CtxError {
     Memory,
 }
 
-/// What a context holds.
+/// What a context holds: PostgreSQL's `MemoryContextCounters` (memnodes.h).
 #[derive(Clone, Copy, PartialEq, Eq, Debug)]
 pub struct Stats {
     /// The bytes of all its blocks.
@@ -98,8 +106,18 @@ pub struct Stats {
     pub chunks: u64,
 }
 
-/// The greatest size of a request, in bytes.
+/// The greatest size of a request, in bytes: PostgreSQL's `MaxAllocSize` (memutils.h).
 pub const LARGEST: u64 = 1_073_741_823;
+
+/// The bytes of a context of its own, at the start of its first region: what PostgreSQL's struct of a context takes
+/// there, in each kind as much.
+pub const CONTEXT_BYTES: u32 = 200;
+
+/// The bytes of a block's header.
+pub const BLOCK_HEADER: u32 = 40;
+
+/// The bytes of a chunk's header: PostgreSQL's `MemoryChunk` (memutils_memorychunk.h).
+pub const CHUNK_HEADER: u32 = 8;
 
 /// The sizes of a context's blocks, in bytes: both multiples of 8.
 #[derive(Clone, Copy, PartialEq, Eq, Debug)]
@@ -108,6 +126,17 @@ pub struct Sizes {
     pub init: u32,
     /// What the size of a block doubles up to, at least the first one's and at most 8,388,608.
     pub max: u32,
+}
+
+impl From<SpaceError> for CtxError {
+    ghost from_gives = { λ from to. to ≡ refusal_of from };
+
+    fn from(error: SpaceError) -> CtxError {
+        match error {
+            SpaceError::NoSpace => CtxError::NoSpace,
+            SpaceError::Memory => CtxError::Memory,
+        }
+    }
 }
 
 impl Header {
