@@ -6,7 +6,7 @@ use Rattle.addr_space.specs.Space.{Space}
 use Rattle.addr_space.specs.Footprint.{Moves, Keeps}
 use Rattle.addr_space.specs.Live.{PutsLive}
 use Rattle.addr_space.proofs.Addresses.{same_addr-cases}
-use Rattle.alloc_set.specs.Answers.{Resized}
+use Rattle.chunk_header.specs.Answers.{Resized}
 use Rattle.alloc_set.specs.Ledger.{SetLedger, SetPlace}
 use Rattle.alloc_set.specs.State.{SetState, footprint}
 use Rattle.alloc_set.specs.Kept.{state_of, IsKept}

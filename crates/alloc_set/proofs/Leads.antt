@@ -3,7 +3,8 @@ use Rattle.std.proofs.Common.{◌≡◌, ℕ, ◌+◌, ◌-◌, ◌%◌, ◌^◌
 use Rattle.std.proofs.lemmas.Bool.{cases_eq}
 use Rattle.std.proofs.lemmas.Bool.Decides.{nat_tests}
 use Rattle.addr_space.specs.declared.Addr.{Addr}
-use Rattle.chunk_header.specs.Header.{IsPackable, IsLeading, IsHeaded, AllHeaded, space_of, TakesSpace}
+use Rattle.chunk_header.specs.declared.Kind.TheVariants.{AllocSet}
+use Rattle.chunk_header.specs.Header.{IsPackable, IsLeading, IsHeaded, AllHeaded, AllOfKind, space_of, TakesSpace}
 use Rattle.std.specs.Map.{lookup}
 use Rattle.addr_space.specs.Live.{same_addr}
 use Rattle.alloc_set.specs.Ledger.{SetPlace, Class, Own as OwnPlace, chunk_bytes}
@@ -81,6 +82,16 @@ module _ (s : SetState) (active size : ℕ) (settled : IsSettled s active size) 
 
 pub AllHeaded-settled : (s : SetState) (active size : ℕ) → IsSettled s active size → AllHeaded (footprint s)
 AllHeaded-settled s active size settled at n live = let had = from_then live_size _ n live in headed_by s active size settled at had.0 had.1
+
+kind_of : (chunk : Chunk) (dist : ℕ) → (header_of chunk dist).kind ≡ AllocSet
+kind_of (Live class size) dist = refl
+kind_of (Free class next) dist = refl
+kind_of (Own size room) dist = refl
+
+pub AllOfKind-settled : (s : SetState) (active size : ℕ) → IsSettled s active size → AllOfKind AllocSet (footprint s)
+AllOfKind-settled s active size settled at n live =
+    let had = from_then live_size _ n live in
+    (headed_by s active size settled at had.0 had.1, kind_of had.0 (at.offset - 8 - start_of s at.region))
 
 pub takes-settled : (s : SetState) (active size : ℕ) → IsSettled s active size → (at : Addr) (place : SetPlace) → place_at s at ≡ Some place → TakesSpace (footprint s) at (chunk_bytes s.ledger place)
 takes-settled s active size settled at place is = let had = from_then live_place _ place is in takes_by s active size settled at had.0 had.1 place had.2

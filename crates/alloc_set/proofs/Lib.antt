@@ -26,3 +26,4 @@ pub mod KeptResized
 pub mod Refits
 pub mod Replaced
 pub mod InPlace
+mod Rows

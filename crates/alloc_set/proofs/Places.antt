@@ -6,7 +6,7 @@ use Rattle.addr_space.specs.Live.{same_addr, PutsAt, MovesAt, PutsLive}
 use Rattle.addr_space.proofs.Addresses.{same_addr-cases}
 use Rattle.addr_space.proofs.Options.{option_cases, from_then}
 use Rattle.chunk_header.specs.declared.CtxError.{CtxError}
-use Rattle.alloc_set.specs.Answers.{Taken, Resized}
+use Rattle.chunk_header.specs.Answers.{Taken, Resized}
 use Rattle.alloc_set.specs.Ledger.{SetLedger, SetPlace}
 use Rattle.alloc_set.specs.State.{SetState, chunk_at, place_at, live_size, live_place, footprint}
 use Rattle.alloc_set.specs.Steps.{PutsChunk}

@@ -4,7 +4,7 @@ use Rattle.std.proofs.lemmas.Bool.Decides.{nat_tests}
 use Rattle.chunk_header.specs.declared.CtxError.{CtxError}
 use Rattle.chunk_header.specs.declared.CtxError.TheVariants.{TooBig, NoSpace}
 use Rattle.chunk_header.specs.Growth.{up8}
-use Rattle.alloc_set.specs.Answers.{Resized}
+use Rattle.chunk_header.specs.Answers.{Resized}
 use Rattle.alloc_set.specs.Ledger.{SetLedger, SetPlace, Class, Own, class_size, chunk_limit, take, in_place, then_shelved, resize_class, resize_block, with_block, kept_size, resize_at, resize}
 
 module _ (l : SetLedger) (held limit old new : ℕ) where

@@ -4,7 +4,7 @@ use Rattle.addr_space.specs.declared.Addr.{Addr}
 use Rattle.addr_space.specs.Space.{Space, held, byte_at, region_at, bytes_of, part, overwritten, Changes, IsKnown}
 use Rattle.addr_space.specs.Footprint.{Agrees, Moves, KeepsBut}
 use Rattle.addr_space.proofs.Steps.{Moves-more}
-use Rattle.alloc_set.specs.Answers.{Taken}
+use Rattle.chunk_header.specs.Answers.{Taken}
 use Rattle.alloc_set.specs.Ledger.{SetLedger, SetPlace, class_size, shelved, take, then_shelved, resize_class}
 use Rattle.addr_space.specs.Live.{PutsAt, PutsLive, HasBytesOf}
 use Rattle.alloc_set.specs.State.{SetState, chunk_at, place_at, live_size, footprint}

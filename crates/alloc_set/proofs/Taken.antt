@@ -43,11 +43,6 @@ module _ (l : SetLedger) (left class : ℕ) where
     unfolding from_new
     take_class-none little none_had = take_class-new little ∙ ap (from_new l class) none_had
 
--- maps with the same entries make the same state
-pub state_same : (b m : Books) → m ≡ record b { blocks = m.blocks; chunks = m.chunks } → m.blocks.entries ≡ b.blocks.entries → m.chunks.entries ≡ b.chunks.entries → state_of m ≡ state_of b
-state_same b m rest blocks chunks =
-    ap state_of rest ∙ ap (λ e. record (state_of b) { blocks = e; chunks = m.chunks.entries }) blocks ∙ ap (λ e. record (state_of b) { chunks = e }) chunks
-
 -- what serves a request, where the state before and the class go by other names
 pub Allocates-at : (a b : SetState) (n : Books) (s t : Space) (size : ℕ) (at : Addr) (left class named : ℕ) → a ≡ b → class ≡ named
     → Allocates a n s t size at (take_class a.ledger left class) → Allocates b n s t size at (take_class b.ledger left named)

@@ -4,7 +4,7 @@ use Rattle.addr_space.specs.declared.Addr.{Addr}
 use Rattle.addr_space.specs.Space.{Space, Asks, held}
 use Rattle.addr_space.specs.Live.{PutsAt, MovesAt}
 use Rattle.chunk_header.specs.declared.CtxError.{CtxError}
-use Rattle.alloc_set.specs.Answers.{Taken, Resized}
+use Rattle.chunk_header.specs.Answers.{Taken, Resized}
 use Rattle.alloc_set.specs.Ledger.{SetLedger, SetPlace, take, resize}
 use Rattle.alloc_set.specs.State.{SetState, place_at}
 

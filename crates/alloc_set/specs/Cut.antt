@@ -4,7 +4,7 @@ use Rattle.std.specs.Map.{values_of}
 use Rattle.addr_space.specs.Footprint.{Moves, Keeps}
 use Rattle.chunk_header.specs.declared.CtxError.{CtxError}
 use Rattle.addr_space.specs.Space.{Space, Asks, held}
-use Rattle.alloc_set.specs.Answers.{Taken}
+use Rattle.chunk_header.specs.Answers.{Taken}
 use Rattle.alloc_set.specs.Calls.{Serves}
 use Rattle.alloc_set.specs.Ledger.{SetLedger, SetPlace, block_size, renewed, class_bytes}
 use Rattle.indexmap.specs.IndexMap.{spare}

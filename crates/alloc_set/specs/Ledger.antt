@@ -4,7 +4,7 @@ use Rattle.chunk_header.specs.declared.CtxError.{CtxError}
 use Rattle.chunk_header.specs.declared.CtxError.TheVariants.{TooBig, NoSpace}
 use Rattle.chunk_header.specs.declared.Stats.{Stats}
 use Rattle.chunk_header.specs.Growth.{up8, grown}
-use Rattle.alloc_set.specs.Answers.{Taken, Resized}
+use Rattle.chunk_header.specs.Answers.{Taken, Resized}
 
 -- the sizes that it was created with; the size of the next block; the bytes of all blocks and how many they
 -- are; the room of the active block, off which chunks are cut, and the rooms of all others; and how many free

@@ -1,5 +1,4 @@
 -- What contracts cite: the ledger, the state of a context, and what the code keeps.
-pub mod Answers
 pub mod Ledger
 pub mod State
 pub mod Calls

@@ -5,7 +5,7 @@ use Rattle.addr_space.specs.declared.Addr.{Addr}
 use Rattle.addr_space.specs.Space.{Space}
 use Rattle.addr_space.specs.Footprint.{Moves, KeepsBut}
 use Rattle.addr_space.specs.Live.{MovesLive, HasBytesOf}
-use Rattle.alloc_set.specs.Answers.{Resized}
+use Rattle.chunk_header.specs.Answers.{Resized}
 use Rattle.alloc_set.specs.Calls.{Refits}
 use Rattle.alloc_set.specs.Ledger.{SetLedger, SetPlace}
 use Rattle.alloc_set.specs.State.{SetState, footprint}

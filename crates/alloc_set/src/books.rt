@@ -13,7 +13,7 @@ ghost use Rattle.addr_space.specs.Space.{Space, held, accounts, Asks};
 
 use crate::chunk::{Chunk, Shelf};
 use crate::classes::{chunk_limit, class_of, class_size};
-use addr_space::{Addr, Space, SpaceError};
+use addr_space::{Addr, Space};
 use chunk_header::{CtxError, Header, Kind, LARGEST, Sizes, Stats, block_header, grown, up8};
 use indexmap::IndexMap;
 use std::alloc::Global;
@@ -119,11 +119,7 @@ impl Books {
         ensures no_other { IfErr result (λ e. (e ≡ CtxError.NoSpace) ⊎ (e ≡ CtxError.Memory)) }
         ensures err { OnErr result (space.new ≡ space.old) }
     {
-        let at = match space.take(account, sizes.init) {
-            Ok(at) => at,
-            Err(SpaceError::NoSpace) => return Err(CtxError::NoSpace),
-            Err(SpaceError::Memory) => return Err(CtxError::Memory),
-        };
+        let at = space.take(account, sizes.init)?;
         space.write(
             Addr {
                 region: at.region,
@@ -273,9 +269,10 @@ impl Books {
 
     // Makes room in the maps, for what one request may need.
     fn make_room(&mut self) -> Result<(), CtxError>
-        ensures same { self.new ≡ record self.old { blocks = self.new.blocks; chunks = self.new.chunks } }
-        ensures blocks { self.new.blocks.entries ≡ self.old.blocks.entries }
-        ensures chunks { self.new.chunks.entries ≡ self.old.chunks.entries }
+        requires { IsKept self.old }
+        ensures kept { IsKept self.new }
+        ensures state { state_of self.new ≡ state_of self.old }
+        ensures limit { self.new.limit ≡ self.old.limit }
         ensures spare_blocks { OnOk result (1 ≤ spare self.new.blocks) }
         ensures spare_chunks { OnOk result (12 ≤ spare self.new.chunks) }
         ensures few { OnOk result (length self.new.chunks.entries ≤ 2 ^ 39) }
@@ -315,11 +312,7 @@ impl Books {
         if self.total > MOST {
             return Err(CtxError::Memory);
         }
-        let at = match space.take(self.account, size) {
-            Ok(at) => at,
-            Err(SpaceError::NoSpace) => return Err(CtxError::NoSpace),
-            Err(SpaceError::Memory) => return Err(CtxError::Memory),
-        };
+        let at = space.take(self.account, size)?;
         space.write(at, &block_header(self.context, size));
         note(&mut self.blocks, at.region, size);
         self.total += u64::from(size);
@@ -407,10 +400,7 @@ impl Books {
         ensures err_space { OnErr result (space.new ≡ space.old) }
     {
         let size = self.fitted(space, class_size(class) + 48);
-        let region = match self.add_block(space, size) {
-            Ok(region) => region,
-            Err(error) => return Err(error),
-        };
+        let region = self.add_block(space, size)?;
         self.cut_up(space);
         self.activate(region, size);
         Ok(())
@@ -491,20 +481,14 @@ impl Books {
         ensures err_space { OnErr result (space.new ≡ space.old) }
     {
         let class = class_of(size);
-        match self.make_room() {
-            Ok(()) => {}
-            Err(error) => return Err(error),
-        }
+        self.make_room()?;
         if let Some(at) = self.reuse(class, size) {
             return Ok(at);
         }
         if self.active.room >= class_size(class) + 8 {
             return Ok(self.cut(space, class, size));
         }
-        match self.renew(space, class) {
-            Ok(()) => {}
-            Err(error) => return Err(error),
-        }
+        self.renew(space, class)?;
         Ok(self.cut(space, class, size))
     }
 
@@ -554,15 +538,9 @@ impl Books {
         ensures err_kept { OnErr result (IsKept self.new) }
         ensures err_space { OnErr result (space.new ≡ space.old) }
     {
-        match self.make_room() {
-            Ok(()) => {}
-            Err(error) => return Err(error),
-        }
+        self.make_room()?;
         let room = up8(size);
-        let region = match self.add_block(space, room + 48) {
-            Ok(region) => region,
-            Err(error) => return Err(error),
-        };
+        let region = self.add_block(space, room + 48)?;
         Ok(self.settle(space, region, size, room))
     }
 

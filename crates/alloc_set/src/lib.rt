@@ -13,7 +13,7 @@ mod resizing;
 
 use addr_space::{Addr, Space};
 use books::Books;
-use chunk_header::{CtxError, Sizes, Stats};
+use chunk_header::{CtxError, Kind, Sizes, Stats};
 use std::alloc::Global;
 use std::marker::Model;
 
@@ -39,7 +39,7 @@ impl AllocSet {
     ghost use Rattle.addr_space.specs.Space.{accounts, held, IsKnown, Asks};
     ghost use Rattle.addr_space.specs.Footprint.{nothing, Agrees, Moves, Keeps, KeepsBut};
     ghost use Rattle.addr_space.specs.Live.{PutsAt, PutsLive, MovesLive, HasBytesOf};
-    ghost use Rattle.chunk_header.specs.Header.{AllHeaded, TakesSpace};
+    ghost use Rattle.chunk_header.specs.Header.{AllHeaded, AllOfKind, TakesSpace};
     ghost use Rattle.alloc_set.specs.State.{place_at, footprint};
     ghost use Rattle.alloc_set.specs.Ledger.{SetPlace, created, take, give, reset, chunk_bytes};
     ghost use Rattle.alloc_set.specs.Calls.{Takes, Resizes, resize_in};
@@ -88,6 +88,7 @@ impl AllocSet {
     /// the laws that `GetMemoryChunkContext` and `GetMemoryChunkSpace` stand on. A caller cites the clauses.
     pub fn headed(&self)
         ensures headed { AllHeaded (footprint self.now) }
+        ensures kinds { AllOfKind Kind.AllocSet (footprint self.now) }
         ensures spaces { (at : Addr) (place : SetPlace) → place_at self.now at ≡ Some place → TakesSpace (footprint self.now) at (chunk_bytes self.now.ledger place) }
     {
         let _ = &self.books;

@@ -11,7 +11,7 @@ ghost use Rattle.alloc_set.specs.State.{chunk_at, place_at, footprint};
 use crate::books::{Books, MOST, put};
 use crate::chunk::Chunk;
 use crate::classes::class_size;
-use addr_space::{Addr, Space, SpaceError};
+use addr_space::{Addr, Space};
 use chunk_header::{CtxError, LARGEST, block_header, up8};
 use indexmap::IndexMap;
 
@@ -40,11 +40,7 @@ fn resize_block(space: &mut Space, context: u32, region: u32, size: u32) -> Resu
     ensures err { OnErr result (space.new ≡ space.old) }
 {
     let start = Addr { region, offset: 0 };
-    match space.resize(start, size) {
-        Ok(()) => {}
-        Err(SpaceError::NoSpace) => return Err(CtxError::NoSpace),
-        Err(SpaceError::Memory) => return Err(CtxError::Memory),
-    }
+    space.resize(start, size)?;
     space.write(start, &block_header(context, size));
     Ok(())
 }
@@ -94,10 +90,7 @@ impl Books {
         ensures err_kept { OnErr result (IsKept self.new) }
         ensures err_space { OnErr result (space.new ≡ space.old) }
     {
-        let to = match self.alloc(space, u64::from(size)) {
-            Ok(to) => to,
-            Err(error) => return Err(error),
-        };
+        let to = self.alloc(space, u64::from(size))?;
         space.copy(at, to, keep);
         self.shelve(class, at);
         Ok(to)
@@ -163,10 +156,7 @@ impl Books {
         if self.total > MOST {
             return Err(CtxError::Memory);
         }
-        match resize_block(space, self.context, at.region, room + 48) {
-            Ok(()) => {}
-            Err(error) => return Err(error),
-        }
+        resize_block(space, self.context, at.region, room + 48)?;
         note_again(&mut self.blocks, at.region, room + 48);
         put(&mut self.chunks, at, Chunk::Own { size, room });
         self.total = self.total - u64::from(old) + u64::from(room);
@@ -246,10 +236,8 @@ impl Books {
                 self.resize_class(space, class, at, keep.min(size) as u32, size as u32)
             }
             Some(Chunk::Own { size: _, room }) => {
-                match self.resize_own(space, at, room, size as u32) {
-                    Ok(()) => Ok(at),
-                    Err(error) => Err(error),
-                }
+                self.resize_own(space, at, room, size as u32)?;
+                Ok(at)
             }
             _ => unreachable!(),
         }

@@ -1,9 +1,10 @@
 use Rattle.std.proofs.Common.{◌≡◌, ℕ, ◌+◌, ◌≤◌, min, Some, Err, Result, Ok, IfOk, IfSome, Option, refl, sym, ap, ◌∙◌, subst, arith, option_and_then}
+use Rattle.std.proofs.lemmas.Result.{err_from_is_err_and}
 use Rattle.addr_space.specs.declared.Addr.{Addr}
 use Rattle.addr_space.specs.Space.{Space, held}
 use Rattle.chunk_header.specs.declared.CtxError.{CtxError}
 use Rattle.chunk_header.specs.declared.CtxError.TheVariants.{NoSpace}
-use Rattle.alloc_set.specs.Answers.{Resized}
+use Rattle.chunk_header.specs.Answers.{Resized}
 use Rattle.alloc_set.specs.Ledger.{SetLedger, SetPlace, Class, Own as OwnPlace, resize_at, resize_class}
 use Rattle.alloc_set.specs.State.{SetState, chunk_at, place_at, live_size, live_place, footprint}
 use Rattle.alloc_set.specs.Kept.{state_of}
@@ -59,8 +60,8 @@ returns-in-Some-Live-clause-no_space c = λ refused.
     none a c.resize_class.new.self s c.resize_class.new.space c.args.at (min c.args.keep c.args.size) c.args.size (Class class) (omega (arith, c.if-size-gt-LARGEST.false)) (ap (λ o. option_and_then live_place o) found)
     (c.resize_class.ensures.no_space refused)
 
-pub returns-in-Ok-clause-ok : goal.returns-in-Ok-clause-ok
-returns-in-Ok-clause-ok c =
+pub returns-in_ok-resize_own-in-Some-Own-clause-ok : goal.returns-in_ok-resize_own-in-Some-Own-clause-ok
+returns-in_ok-resize_own-in-Some-Own-clause-ok c =
     let a = state_of c.args.self.now in
     let s = c.args.space.now in
     let n = c.resize_own.new.self in
@@ -73,16 +74,16 @@ returns-in-Ok-clause-ok c =
     let few : c.args.keep ≤ old = if_some (λ n. c.args.keep ≤ n) ((footprint a).live c.args.at) old live c.requires.keep in
     let had : Reallocates a n s t c.args.at c.args.at keep c.args.size (resize_at a.ledger (held s a.account) s.limit (OwnPlace (room + 48)) c.args.size) =
     Reallocates-in_place a n s t c.args.at old keep c.args.size (resize_at a.ledger (held s a.account) s.limit (OwnPlace (room + 48)) c.args.size)
-    c.in-Ok.ensures.kept c.in-Ok.ensures.refits live (omega (arith, few)) (omega arith) c.in-Ok.ensures.live c.in-Ok.ensures.moves c.in-Ok.ensures.keeps in
+    c.in_ok-resize_own-in-Some-Own.ensures.kept c.in_ok-resize_own-in-Some-Own.ensures.refits live (omega (arith, few)) (omega arith) c.in_ok-resize_own-in-Some-Own.ensures.live c.in_ok-resize_own-in-Some-Own.ensures.moves c.in_ok-resize_own-in-Some-Own.ensures.keeps in
     ok a n s t c.args.at keep c.args.size (OwnPlace (room + 48)) (omega (arith, c.if-size-gt-LARGEST.false)) (ap (λ o. option_and_then live_place o) found) (Ok c.args.at) had
 
-pub returns-in-Err-clause-no_space : goal.returns-in-Err-clause-no_space
-returns-in-Err-clause-no_space c = λ refused.
+pub returns-in_err-resize_own-in-Some-Own-clause-no_space : goal.returns-in_err-resize_own-in-Some-Own-clause-no_space
+returns-in_err-resize_own-in-Some-Own-clause-no_space c = λ refused.
     let a = state_of c.args.self.now in
     let s = c.args.space.now in
     let old : ℕ = c.in-Some-Own.field-0-0 in
     let room : ℕ = c.in-Some-Own.room in
     let found : chunk_at a c.args.at ≡ Some (Own old room) = cc in
-    let is : c.in-Err.error ≡ NoSpace = cc in
+    let is : c.in_err-resize_own-in-Some-Own.field-0.0 ≡ NoSpace = let p = err_from_is_err_and c.from_residual.result c.from_residual.ensures.1 in cc in
     none a c.resize_own.new.self s c.resize_own.new.space c.args.at (min c.args.keep c.args.size) c.args.size (OwnPlace (room + 48)) (omega (arith, c.if-size-gt-LARGEST.false)) (ap (λ o. option_and_then live_place o) found)
-    (c.in-Err.ensures.no_space (ap Err is))
+    (c.in_err-resize_own-in-Some-Own.ensures.no_space (ap Err is))

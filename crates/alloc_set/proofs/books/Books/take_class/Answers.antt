@@ -1,4 +1,5 @@
 use Rattle.std.proofs.Common.{◌≡◌, ℕ, ◌-◌, ◌<◌, ◌≤◌, ap, ◌∙◌, sym, refl, subst, arith, Some, None, Ok, Err, slice_index}
+use Rattle.std.proofs.lemmas.Result.{err_from_is_err_and}
 use Rattle.addr_space.specs.Space.{held}
 use Rattle.addr_space.specs.Footprint.{Agrees}
 use Rattle.addr_space.proofs.Steps.{Moves-more, Keeps-more, same_stays}
@@ -10,15 +11,15 @@ use Rattle.addr_space.specs.Live.{PutsLive}
 use Rattle.alloc_set.specs.Live.{LeavesLive}
 use Rattle.alloc_set.specs.Cut.{Renews}
 use Rattle.alloc_set.specs.declared.books.Books.{Books}
-use Rattle.alloc_set.proofs.Taken.{take_class-reused, take_class-cut, take_class-had, take_class-none, state_same, PutsLive-after, Allocates-at}
+use Rattle.alloc_set.proofs.Taken.{take_class-reused, take_class-cut, take_class-had, take_class-none, PutsLive-after, Allocates-at}
 use Rattle.alloc_set.proofs.Places.{Serves-put}
 use Rattle.alloc_set.proofs.Stays.{LeavesLive-more}
 use Rattle.alloc_set.proofs.books.Books.take_class.Goals as goal
-use Rattle.alloc_set.proofs.books.Books.take_class.Goals.{In-Ok, In_default}
+use Rattle.alloc_set.proofs.books.Books.take_class.Goals.{In_ok-make_room, In_default}
 
 -- making room leaves the state
-made : (c : In-Ok) → state_of c.make_room.new.self ≡ state_of c.args.self.now
-made c = state_same c.args.self.now c.make_room.new.self c.make_room.ensures.same c.make_room.ensures.blocks c.make_room.ensures.chunks
+made : (c : In_ok-make_room) → state_of c.make_room.new.self ≡ state_of c.args.self.now
+made c = c.make_room.ensures.state
 
 -- and so does a shelf without a chunk
 passed : (c : In_default) (m : state_of c.make_room.new.self ≡ state_of c.args.self.now) → state_of c.reuse.new.self ≡ state_of c.args.self.now
@@ -32,7 +33,7 @@ returns-in-Some-clause-ok c =
     let n = c.reuse.new.self in
     let left : ℕ = s.limit - held s b.account in
     let class : ℕ = c.class_of-class.result in
-    let same : state_of m ≡ state_of b = made (goal.at.returns-in-Some-clause-ok c).In-Ok in
+    let same : state_of m ≡ state_of b = made (goal.at.returns-in-Some-clause-ok c).In_ok-make_room in
     Allocates-at (state_of m) (state_of b) n s s c.args.size c.in-Some.at left class (class_of c.args.size) same c.class_of-class.ensures.value (record {
       kept = c.in-Some.ensures.kept;
       serves = Serves-put (take_class (state_of m).ledger left class) (state_of m) (state_of n) c.in-Some.at s s c.args.size (of_class (reused (state_of m).ledger class) class 0)
@@ -53,7 +54,7 @@ returns-then-self-class_size-clause-ok c =
     let n = c.cut.new.self in
     let left : ℕ = s.limit - held s b.account in
     let class : ℕ = c.class_of-class.result in
-    let m = made (goal.at.returns-then-self-class_size-clause-ok c).In-Ok in
+    let m = made (goal.at.returns-then-self-class_size-clause-ok c).In_ok-make_room in
     let same : state_of r ≡ state_of b = ap state_of c.in_default.ensures.none ∙ m in
     let none : slice_index (state_of r).ledger.free class ≡ 0 = ap (λ (x : Books). slice_index (state_of x).ledger.free class) c.in_default.ensures.none ∙ c.in_default.ensures.empty in
     let fits : class_bytes class ≤ r.active.room = omega (arith, c.class_size.ensures.value, c.if-self-class_size.true) in
@@ -68,19 +69,19 @@ returns-then-self-class_size-clause-ok c =
       keeps = c.cut.ensures.keeps;
     })
 
-pub returns-in-Err-renew-clause-no_space : goal.returns-in-Err-renew-clause-no_space
-returns-in-Err-renew-clause-no_space c = λ e.
+pub returns-in_err-renew-clause-no_space : goal.returns-in_err-renew-clause-no_space
+returns-in_err-renew-clause-no_space c = λ e.
     let b = c.args.self.now in
     let r = c.reuse.new.self in
     let left : ℕ = c.args.space.now.limit - held c.args.space.now b.account in
     let class : ℕ = c.class_of-class.result in
-    let m = made (goal.at.returns-in-Err-renew-clause-no_space c).In-Ok in
+    let m = made (goal.at.returns-in_err-renew-clause-no_space c).In_ok-make_room in
     let same : state_of r ≡ state_of b = ap state_of c.in_default.ensures.none ∙ m in
     let none : slice_index (state_of r).ledger.free class ≡ 0 = ap (λ (x : Books). slice_index (state_of x).ledger.free class) c.in_default.ensures.none ∙ c.in_default.ensures.empty in
     let little : r.active.room < class_bytes class = omega (arith, c.class_size.ensures.value, c.if-self-class_size.false) in
     let account : r.account ≡ b.account = ap (λ (s : SetState). s.account) same in
-    let it : c.in-Err-renew.error ≡ NoSpace = cc in
-    let none_had : block_size (state_of r).ledger left class ≡ None = subst (λ a. block_size (state_of r).ledger (c.args.space.now.limit - held c.args.space.now a) class ≡ None) account (c.in-Err-renew.ensures.no_space (ap Err it)) in
+    let it : c.in_err-renew.field-0.0 ≡ NoSpace = let p = err_from_is_err_and c.from_residual-in_err-renew.result c.from_residual-in_err-renew.ensures.1 in cc in
+    let none_had : block_size (state_of r).ledger left class ≡ None = subst (λ a. block_size (state_of r).ledger (c.args.space.now.limit - held c.args.space.now a) class ≡ None) account (c.in_err-renew.ensures.no_space (ap Err it)) in
     let step : take_class (state_of r).ledger left class ≡ Err NoSpace = take_class-none (state_of r).ledger left class none little none_had in
     ap (take_class (state_of b).ledger left) (sym c.class_of-class.ensures.value) ∙ ap (λ (s : SetState). take_class s.ledger left class) (sym same) ∙ step
 
@@ -95,12 +96,12 @@ returns-clause-ok c =
     let n = c.cut-2.new.self in
     let left : ℕ = s.limit - held s b.account in
     let class : ℕ = c.class_of-class.result in
-    let m = made (goal.at.returns-clause-ok c).In-Ok in
+    let m = made (goal.at.returns-clause-ok c).In_ok-make_room in
     let same : state_of r ≡ state_of b = ap state_of c.in_default.ensures.none ∙ m in
     let none : slice_index (state_of r).ledger.free class ≡ 0 = ap (λ (x : Books). slice_index (state_of x).ledger.free class) c.in_default.ensures.none ∙ c.in_default.ensures.empty in
     let little : r.active.room < class_bytes class = omega (arith, c.class_size.ensures.value, c.if-self-class_size.false) in
     let account : r.account ≡ b.account = ap (λ (x : SetState). x.account) same in
-    let new : Renews r w s u class = c.in-Ok-renew.ensures.renewed in
+    let new : Renews r w s u class = c.in_ok-renew.ensures.renewed in
     let had : block_size (state_of r).ledger left class ≡ Some new.size = subst (λ a. block_size (state_of r).ledger (s.limit - held s a) class ≡ Some new.size) account new.had in
     let puts : PutsLive (footprint (state_of r)) (footprint (state_of n)) c.cut-2.result (Some c.args.size) = PutsLive-after (state_of r) (state_of w) (state_of n) c.cut-2.result (Some c.args.size) new.live c.cut-2.ensures.live in
     let stays : LeavesLive (state_of r) (state_of n) = LeavesLive-more (state_of r) (state_of w) (state_of n) new.stays c.cut-2.ensures.stays in
@@ -111,6 +112,6 @@ returns-clause-ok c =
       fresh = sym (new.live c.cut-2.result) ∙ c.cut-2.ensures.fresh;
       live = puts;
       stays = stays;
-      moves = Moves-more (footprint (state_of r)) (footprint (state_of w)) (footprint (state_of n)) s u t c.in-Ok-renew.ensures.moves c.cut-2.ensures.moves;
-      keeps = Keeps-more (footprint (state_of r)) (footprint (state_of w)) (footprint (state_of n)) s u t (same_stays (footprint (state_of r)) (footprint (state_of w)) new.live) c.in-Ok-renew.ensures.keeps c.cut-2.ensures.keeps;
+      moves = Moves-more (footprint (state_of r)) (footprint (state_of w)) (footprint (state_of n)) s u t c.in_ok-renew.ensures.moves c.cut-2.ensures.moves;
+      keeps = Keeps-more (footprint (state_of r)) (footprint (state_of w)) (footprint (state_of n)) s u t (same_stays (footprint (state_of r)) (footprint (state_of w)) new.live) c.in_ok-renew.ensures.keeps c.cut-2.ensures.keeps;
     })
