@@ -24,13 +24,17 @@ either f false x y = refl
 pub PutsPlace-chunk : (s t : SetState) (at : Addr) (slot : Option Chunk) → PutsChunk s t at slot → PutsAt (place_at s) (place_at t) at (option_and_then live_place slot)
 PutsPlace-chunk s t at slot puts other = ap (λ o. option_and_then live_place o) (puts other) ∙ either live_place (same_addr at other) slot (chunk_at s other)
 
--- its place, at its own address
-pub place-put : (s t : SetState) (at : Addr) (slot : Option Chunk) → PutsChunk s t at slot → place_at t at ≡ option_and_then live_place slot
-place-put s t at slot puts =
+-- something is put, and stands there
+pub put-here : {A : Type 0} (f g : Addr → Option A) (at : Addr) (a : Option A) → PutsAt f g at a → g at ≡ a
+put-here f g at a puts =
     elim (same_addr-cases at at) [
-      | inl same ↦ PutsPlace-chunk s t at slot puts at ∙ ap (λ b. if b then option_and_then live_place slot else place_at s at) same.1
+      | inl same ↦ puts at ∙ ap (λ b. if b then a else f at) same.1
       | inr apart ↦ absurd (apart.0 refl)
     ]
+
+-- its place, at its own address
+pub place-put : (s t : SetState) (at : Addr) (slot : Option Chunk) → PutsChunk s t at slot → place_at t at ≡ option_and_then live_place slot
+place-put s t at slot puts = put-here (place_at s) (place_at t) at (option_and_then live_place slot) (PutsPlace-chunk s t at slot puts)
 
 -- what is not live has no place, and what is has one
 no_place : (o : Option Chunk) → option_and_then live_size o ≡ None → option_and_then live_place o ≡ None

@@ -1,9 +1,11 @@
 -- Lemmas on the ledger's step for a request.
-use Rattle.std.proofs.Common.{◌≡◌, ℕ, ◌<◌, ◌≤◌, nat_lt, nat_le, if◌then◌else◌, Option, Some, None, Ok, Err, slice_index, true, false, ap, ◌∙◌, subst, arith}
+use Rattle.std.proofs.Common.{◌≡◌, ℕ, ◌<◌, ◌≤◌, nat_lt, nat_le, if◌then◌else◌, Option, Some, None, Ok, Err, slice_index, true, false, ap, ◌∙◌, subst, sym, inl, inr, arith}
+use Rattle.std.proofs.lemmas.Bool.{cases_lt}
 use Rattle.std.proofs.lemmas.Bool.Decides.{nat_tests}
+use Rattle.chunk_header.specs.Answers.{Taken}
 use Rattle.chunk_header.specs.declared.CtxError.TheVariants.{TooBig, NoSpace}
 use Rattle.addr_space.specs.declared.Addr.{Addr}
-use Rattle.alloc_set.specs.Ledger.{SetLedger, class_bytes, class_of, chunk_limit, own_size, take, take_class, take_own, from_new, reused, cut_off, renewed, of_class, of_own, block_size}
+use Rattle.alloc_set.specs.Ledger.{SetLedger, SetPlace, class_bytes, class_of, chunk_limit, own_size, take, take_class, take_own, from_new, reused, cut_off, renewed, of_class, of_own, block_size}
 use Rattle.addr_space.specs.Live.{same_addr, PutsLive, SameLive}
 use Rattle.alloc_set.specs.State.{SetState, footprint}
 use Rattle.alloc_set.specs.Kept.{state_of}
@@ -65,6 +67,14 @@ module _ (l : SetLedger) (left size : ℕ) where
   take_own-none over =
       let test : nat_le size left ≡ false = grind (arith, nat_tests) in
       ap (λ b. if b then Ok (of_own l size) else Err NoSpace) test
+
+-- what an own block answers
+pub take_own-is : (l : SetLedger) (left size : ℕ) (answer : Taken SetLedger SetPlace) → take_own l left size ≡ Ok answer → answer ≡ of_own l size
+take_own-is l left size answer is =
+    elim (cases_lt left size) [
+      | inl over ↦ let clash = sym (take_own-none l left size over) ∙ is in absurd (cc)
+      | inr fits ↦ let one = sym (take_own-had l left size fits) ∙ is in cc
+    ]
 
 -- which step serves a request
 pub take-own : (l : SetLedger) (left size : ℕ) → size ≤ 1073741823 → chunk_limit l.max < size → take l left size ≡ take_own l left (own_size size)
