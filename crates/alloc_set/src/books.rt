@@ -8,6 +8,7 @@ ghost use Rattle.addr_space.specs.Footprint.{Agrees, Moves, Keeps, nothing};
 ghost use Rattle.alloc_set.specs.Ledger.{Class, Own as OwnPlace, class_bytes, class_size, cut_off, with_free, stats, with_own, cut_rest, cut_up, halved, block_size, reused, created, take_class, class_of, take_own, own_size, take};
 ghost use Rattle.chunk_header.specs.Growth.{grown};
 ghost use Rattle.addr_space.specs.Live.{same_addr, PutsAt};
+ghost use Rattle.alloc_set.specs.Kept.{next_of};
 ghost use Rattle.alloc_set.specs.State.{start_of, chunk_at, place_at, region_of, mark_of, footprint};
 ghost use Rattle.addr_space.specs.Space.{Space, held, accounts, Asks};
 
@@ -50,17 +51,28 @@ pub struct Books {
     pub idle: u64,
 }
 
-// Notes what stands at an address where room was made, or where a chunk stands already.
-pub fn put(chunks: &mut IndexMap<Addr, Chunk>, at: Addr, chunk: Chunk)
+// Notes what stands at an address where room was made, or where a chunk stands already. Answers what stood there.
+pub fn put(chunks: &mut IndexMap<Addr, Chunk>, at: Addr, chunk: Chunk) -> Option<Chunk>
     requires { (lookup (same_addr at) chunks.old.entries ≡ None) → 0 < spare chunks.old }
     ensures at { (other : Addr) → lookup (same_addr other) chunks.new.entries ≡ (if same_addr at other then Some chunk else lookup (same_addr other) chunks.old.entries) }
     ensures sums { (f : Chunk → ℕ) → sum_by f (values_of chunks.new.entries) + unwrap_or (option_map f (lookup (same_addr at) chunks.old.entries)) 0 ≡ sum_by f (values_of chunks.old.entries) + f chunk }
     ensures len { length chunks.new.entries ≡ length chunks.old.entries + (if is_some (lookup (same_addr at) chunks.old.entries) then 0 else 1) }
     ensures spare { spare chunks.old ≤ spare chunks.new + 1 }
+    ensures was { result ≡ lookup (same_addr at) chunks.old.entries }
 {
     match chunks.insert(at, chunk) {
-        Ok(_) => {}
+        Ok(was) => was,
         Err(_) => unreachable!(),
+    }
+}
+
+// The free chunk that a free chunk names.
+fn next_of(slot: Option<Chunk>) -> Option<Addr>
+    ensures { result ≡ next_of slot }
+{
+    match slot {
+        Some(Chunk::Free { class: _, next }) => next,
+        _ => None,
     }
 }
 
@@ -406,17 +418,6 @@ impl Books {
         Ok(())
     }
 
-    // The free chunk that a free chunk of a class names.
-    fn next_free(&self, class: u8, at: Addr) -> Option<Addr>
-        requires { (next : Option Addr) × (chunk_at (state_of self.now) at ≡ Some (Chunk.Free class next)) }
-        ensures { chunk_at (state_of self.now) at ≡ Some (Chunk.Free class result) }
-    {
-        match self.chunks.get(&at) {
-            Some(Chunk::Free { class: _, next }) => *next,
-            _ => None,
-        }
-    }
-
     // Takes the first free chunk of a class.
     fn reuse(&mut self, class: u8, size: u32) -> Option<Addr>
         requires kept { IsKept self.old }
@@ -438,8 +439,7 @@ impl Books {
         let Some(at) = shelf.first else {
             return None;
         };
-        let next = self.next_free(class, at);
-        put(&mut self.chunks, at, Chunk::Live { class, size });
+        let next = next_of(put(&mut self.chunks, at, Chunk::Live { class, size }));
         self.shelves[class as usize] = Shelf {
             first: next,
             count: shelf.count - 1,
@@ -481,10 +481,10 @@ impl Books {
         ensures err_space { OnErr result (space.new ≡ space.old) }
     {
         let class = class_of(size);
-        self.make_room()?;
         if let Some(at) = self.reuse(class, size) {
             return Ok(at);
         }
+        self.make_room()?;
         if self.active.room >= class_size(class) + 8 {
             return Ok(self.cut(space, class, size));
         }

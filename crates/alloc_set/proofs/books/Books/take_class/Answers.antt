@@ -15,33 +15,27 @@ use Rattle.alloc_set.proofs.Taken.{take_class-reused, take_class-cut, take_class
 use Rattle.alloc_set.proofs.Places.{Serves-put}
 use Rattle.alloc_set.proofs.Stays.{LeavesLive-more}
 use Rattle.alloc_set.proofs.books.Books.take_class.Goals as goal
-use Rattle.alloc_set.proofs.books.Books.take_class.Goals.{In_ok-make_room, In_default}
+use Rattle.alloc_set.proofs.books.Books.take_class.Goals.{In_ok-make_room}
 
--- making room leaves the state
+-- a shelf without a chunk and the making of room leave the state
 made : (c : In_ok-make_room) → state_of c.make_room.new.self ≡ state_of c.args.self.now
-made c = c.make_room.ensures.state
-
--- and so does a shelf without a chunk
-passed : (c : In_default) (m : state_of c.make_room.new.self ≡ state_of c.args.self.now) → state_of c.reuse.new.self ≡ state_of c.args.self.now
-passed c m = ap state_of c.in_default.ensures.none ∙ m
+made c = c.make_room.ensures.state ∙ ap state_of c.in_default.ensures.none
 
 pub returns-in-Some-clause-ok : goal.returns-in-Some-clause-ok
 returns-in-Some-clause-ok c =
     let s = c.args.space.now in
-    let b = c.args.self.now in
-    let m = c.make_room.new.self in
+    let a = state_of c.args.self.now in
     let n = c.reuse.new.self in
-    let left : ℕ = s.limit - held s b.account in
+    let left : ℕ = s.limit - held s a.account in
     let class : ℕ = c.class_of-class.result in
-    let same : state_of m ≡ state_of b = made (goal.at.returns-in-Some-clause-ok c).In_ok-make_room in
-    Allocates-at (state_of m) (state_of b) n s s c.args.size c.in-Some.at left class (class_of c.args.size) same c.class_of-class.ensures.value (record {
+    Allocates-at a a n s s c.args.size c.in-Some.at left class (class_of c.args.size) refl c.class_of-class.ensures.value (record {
       kept = c.in-Some.ensures.kept;
-      serves = Serves-put (take_class (state_of m).ledger left class) (state_of m) (state_of n) c.in-Some.at s s c.args.size (of_class (reused (state_of m).ledger class) class 0)
-          (take_class-reused (state_of m).ledger left class c.in-Some.ensures.some) c.in-Some.ensures.ledger c.in-Some.ensures.live c.reuse.ensures.stays c.in-Some.ensures.place refl;
+      serves = Serves-put (take_class a.ledger left class) a (state_of n) c.in-Some.at s s c.args.size (of_class (reused a.ledger class) class 0)
+          (take_class-reused a.ledger left class c.in-Some.ensures.some) c.in-Some.ensures.ledger c.in-Some.ensures.live c.reuse.ensures.stays c.in-Some.ensures.place refl;
       fresh = c.in-Some.ensures.fresh;
       live = c.in-Some.ensures.live;
       stays = c.reuse.ensures.stays;
-      moves = c.in-Some.ensures.moves s (subst (λ (x : SetState). Agrees (footprint x) s) (sym same) c.requires.agrees);
+      moves = c.in-Some.ensures.moves s c.requires.agrees;
       keeps = λ at p q k live again below short. refl;
     })
 
@@ -50,13 +44,12 @@ returns-then-self-class_size-clause-ok c =
     let s = c.args.space.now in
     let t = c.cut.new.space in
     let b = c.args.self.now in
-    let r = c.reuse.new.self in
+    let r = c.make_room.new.self in
     let n = c.cut.new.self in
     let left : ℕ = s.limit - held s b.account in
     let class : ℕ = c.class_of-class.result in
-    let m = made (goal.at.returns-then-self-class_size-clause-ok c).In_ok-make_room in
-    let same : state_of r ≡ state_of b = ap state_of c.in_default.ensures.none ∙ m in
-    let none : slice_index (state_of r).ledger.free class ≡ 0 = ap (λ (x : Books). slice_index (state_of x).ledger.free class) c.in_default.ensures.none ∙ c.in_default.ensures.empty in
+    let same : state_of r ≡ state_of b = made (goal.at.returns-then-self-class_size-clause-ok c).In_ok-make_room in
+    let none : slice_index (state_of r).ledger.free class ≡ 0 = ap (λ (x : SetState). slice_index x.ledger.free class) same ∙ c.in_default.ensures.empty in
     let fits : class_bytes class ≤ r.active.room = omega (arith, c.class_size.ensures.value, c.if-self-class_size.true) in
     Allocates-at (state_of r) (state_of b) n s t c.args.size c.cut.result left class (class_of c.args.size) same c.class_of-class.ensures.value (record {
       kept = c.cut.ensures.kept;
@@ -72,12 +65,11 @@ returns-then-self-class_size-clause-ok c =
 pub returns-in_err-renew-clause-no_space : goal.returns-in_err-renew-clause-no_space
 returns-in_err-renew-clause-no_space c = λ e.
     let b = c.args.self.now in
-    let r = c.reuse.new.self in
+    let r = c.make_room.new.self in
     let left : ℕ = c.args.space.now.limit - held c.args.space.now b.account in
     let class : ℕ = c.class_of-class.result in
-    let m = made (goal.at.returns-in_err-renew-clause-no_space c).In_ok-make_room in
-    let same : state_of r ≡ state_of b = ap state_of c.in_default.ensures.none ∙ m in
-    let none : slice_index (state_of r).ledger.free class ≡ 0 = ap (λ (x : Books). slice_index (state_of x).ledger.free class) c.in_default.ensures.none ∙ c.in_default.ensures.empty in
+    let same : state_of r ≡ state_of b = made (goal.at.returns-in_err-renew-clause-no_space c).In_ok-make_room in
+    let none : slice_index (state_of r).ledger.free class ≡ 0 = ap (λ (x : SetState). slice_index x.ledger.free class) same ∙ c.in_default.ensures.empty in
     let little : r.active.room < class_bytes class = omega (arith, c.class_size.ensures.value, c.if-self-class_size.false) in
     let account : r.account ≡ b.account = ap (λ (s : SetState). s.account) same in
     let it : c.in_err-renew.field-0.0 ≡ NoSpace = let p = err_from_is_err_and c.from_residual-in_err-renew.result c.from_residual-in_err-renew.ensures.1 in cc in
@@ -91,14 +83,13 @@ returns-clause-ok c =
     let u = c.renew.new.space in
     let t = c.cut-2.new.space in
     let b = c.args.self.now in
-    let r = c.reuse.new.self in
+    let r = c.make_room.new.self in
     let w = c.renew.new.self in
     let n = c.cut-2.new.self in
     let left : ℕ = s.limit - held s b.account in
     let class : ℕ = c.class_of-class.result in
-    let m = made (goal.at.returns-clause-ok c).In_ok-make_room in
-    let same : state_of r ≡ state_of b = ap state_of c.in_default.ensures.none ∙ m in
-    let none : slice_index (state_of r).ledger.free class ≡ 0 = ap (λ (x : Books). slice_index (state_of x).ledger.free class) c.in_default.ensures.none ∙ c.in_default.ensures.empty in
+    let same : state_of r ≡ state_of b = made (goal.at.returns-clause-ok c).In_ok-make_room in
+    let none : slice_index (state_of r).ledger.free class ≡ 0 = ap (λ (x : SetState). slice_index x.ledger.free class) same ∙ c.in_default.ensures.empty in
     let little : r.active.room < class_bytes class = omega (arith, c.class_size.ensures.value, c.if-self-class_size.false) in
     let account : r.account ≡ b.account = ap (λ (x : SetState). x.account) same in
     let new : Renews r w s u class = c.in_ok-renew.ensures.renewed in
