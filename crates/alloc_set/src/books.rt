@@ -15,7 +15,10 @@ ghost use Rattle.addr_space.specs.Space.{Space, held, accounts, Asks};
 use crate::chunk::{Chunk, Shelf};
 use crate::classes::{chunk_limit, class_of, class_size};
 use addr_space::{Addr, Space};
-use chunk_header::{CtxError, Header, Kind, LARGEST, Sizes, Stats, block_header, grown, up8};
+use chunk_header::{
+    BLOCK_HEADER, CHUNK_HEADER, CONTEXT_BYTES, CtxError, Header, Kind, LARGEST, Sizes, Stats,
+    block_header, grown, up8,
+};
 use indexmap::IndexMap;
 use std::alloc::Global;
 
@@ -89,6 +92,12 @@ fn note(blocks: &mut IndexMap<u32, u32>, number: u32, size: u32)
     }
 }
 
+// What stands before the chunks of the keeper's block.
+pub const KEEPER_HEADERS: u32 = CONTEXT_BYTES + BLOCK_HEADER;
+
+// What stands before a chunk that has its block for itself.
+pub const OWN_HEADERS: u32 = BLOCK_HEADER + CHUNK_HEADER;
+
 // The greatest total with which a context takes one more block, in bytes.
 pub const MOST: u64 = 1 << 61;
 
@@ -135,7 +144,7 @@ impl Books {
         space.write(
             Addr {
                 region: at.region,
-                offset: 200,
+                offset: CONTEXT_BYTES,
             },
             &block_header(context, sizes.init),
         );
@@ -149,7 +158,7 @@ impl Books {
             active: Block {
                 region: at.region,
                 size: sizes.init,
-                room: sizes.init - 240,
+                room: sizes.init - KEEPER_HEADERS,
             },
             blocks: IndexMap::new(alloc),
             chunks: IndexMap::new(alloc),
@@ -167,7 +176,11 @@ impl Books {
     fn start(&self, region: u32) -> u32
         ensures { result ≡ start_of (state_of self.now) region }
     {
-        if self.keeper == region { 200 } else { 0 }
+        if self.keeper == region {
+            CONTEXT_BYTES
+        } else {
+            0
+        }
     }
 
     // Cuts a chunk of a class off the active block.
@@ -199,10 +212,10 @@ impl Books {
         space.write(Addr { region, offset }, &header.bytes());
         let at = Addr {
             region,
-            offset: offset + 8,
+            offset: offset + CHUNK_HEADER,
         };
         put(&mut self.chunks, at, chunk);
-        self.active.room -= class_size(class) + 8;
+        self.active.room -= class_size(class) + CHUNK_HEADER;
         at
     }
 
@@ -349,7 +362,7 @@ impl Books {
         let mut class = 11u8;
         while class > 0 {
             class -= 1;
-            if self.active.room >= class_size(class) + 8 {
+            if self.active.room >= class_size(class) + CHUNK_HEADER {
                 self.cut_free(space, class);
             }
         }
@@ -371,7 +384,7 @@ impl Books {
         self.active = Block {
             region,
             size,
-            room: size - 40,
+            room: size - BLOCK_HEADER,
         };
         self.next = (self.next * 2).min(self.sizes.max);
     }
@@ -411,7 +424,7 @@ impl Books {
         ensures err { OnErr result (self.new ≡ self.old) }
         ensures err_space { OnErr result (space.new ≡ space.old) }
     {
-        let size = self.fitted(space, class_size(class) + 48);
+        let size = self.fitted(space, class_size(class) + OWN_HEADERS);
         let region = self.add_block(space, size)?;
         self.cut_up(space);
         self.activate(region, size);
@@ -485,7 +498,7 @@ impl Books {
             return Ok(at);
         }
         self.make_room()?;
-        if self.active.room >= class_size(class) + 8 {
+        if self.active.room >= class_size(class) + CHUNK_HEADER {
             return Ok(self.cut(space, class, size));
         }
         self.renew(space, class)?;
@@ -518,10 +531,17 @@ impl Books {
             kind: Kind::AllocSet,
             own: true,
             value: 0,
-            dist: 40,
+            dist: BLOCK_HEADER,
         };
-        space.write(Addr { region, offset: 40 }, &header.bytes());
-        let at = Addr { region, offset: 48 };
+        let before = Addr {
+            region,
+            offset: BLOCK_HEADER,
+        };
+        space.write(before, &header.bytes());
+        let at = Addr {
+            region,
+            offset: OWN_HEADERS,
+        };
         put(&mut self.chunks, at, Chunk::Own { size, room });
         at
     }
@@ -540,7 +560,7 @@ impl Books {
     {
         self.make_room()?;
         let room = up8(size);
-        let region = self.add_block(space, room + 48)?;
+        let region = self.add_block(space, room + OWN_HEADERS)?;
         Ok(self.settle(space, region, size, room))
     }
 

@@ -9,7 +9,7 @@ ghost use Rattle.addr_space.specs.Live.{same_addr, PutsAt};
 ghost use Rattle.alloc_set.specs.State.{chunk_at, place_at, region_of, emptied, footprint};
 ghost use Rattle.addr_space.specs.Space.{Space};
 
-use crate::books::{Block, Books};
+use crate::books::{Block, Books, KEEPER_HEADERS, OWN_HEADERS};
 use crate::chunk::{Chunk, Shelf};
 use addr_space::{Addr, Space};
 use indexmap::IndexMap;
@@ -99,7 +99,7 @@ impl Books {
         ensures asked { space.new.taken ≡ space.old.taken }
     {
         self.unlist(at, room);
-        self.give_block(space, at.region, room + 48);
+        self.give_block(space, at.region, room + OWN_HEADERS);
     }
 
     // Frees a live chunk.
@@ -134,7 +134,7 @@ impl Books {
         self.active = Block {
             region: self.keeper,
             size: self.sizes.init,
-            room: self.sizes.init - 240,
+            room: self.sizes.init - KEEPER_HEADERS,
         };
         self.chunks.clear();
         self.shelves = [Shelf {

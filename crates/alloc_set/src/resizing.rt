@@ -8,7 +8,7 @@ ghost use Rattle.alloc_set.specs.declared.chunk.Chunk.{Chunk};
 ghost use Rattle.alloc_set.specs.Ledger.{SetPlace, Class, Own as OwnPlace, class_size, with_block, resize_class, resize_block, kept_size};
 ghost use Rattle.alloc_set.specs.State.{chunk_at, place_at, footprint};
 
-use crate::books::{Books, MOST, put};
+use crate::books::{Books, MOST, OWN_HEADERS, put};
 use crate::chunk::Chunk;
 use crate::classes::class_size;
 use addr_space::{Addr, Space};
@@ -156,8 +156,8 @@ impl Books {
         if self.total > MOST {
             return Err(CtxError::Memory);
         }
-        resize_block(space, self.context, at.region, room + 48)?;
-        note_again(&mut self.blocks, at.region, room + 48);
+        resize_block(space, self.context, at.region, room + OWN_HEADERS)?;
+        note_again(&mut self.blocks, at.region, room + OWN_HEADERS);
         put(&mut self.chunks, at, Chunk::Own { size, room });
         self.total = self.total - u64::from(old) + u64::from(room);
         Ok(())
