@@ -19,6 +19,7 @@ pub mod Given
 pub mod Cleared
 pub mod Stays
 pub mod Places
+pub mod KeptShelved
 pub mod Refused
 pub mod Resized
 pub mod Stretched

@@ -24,6 +24,10 @@ either f false x y = refl
 pub PutsPlace-chunk : (s t : SetState) (at : Addr) (slot : Option Chunk) → PutsChunk s t at slot → PutsAt (place_at s) (place_at t) at (option_and_then live_place slot)
 PutsPlace-chunk s t at slot puts other = ap (λ o. option_and_then live_place o) (puts other) ∙ either live_place (same_addr at other) slot (chunk_at s other)
 
+-- and so it is live or not
+pub PutsLive-chunk : (s t : SetState) (at : Addr) (slot : Option Chunk) → PutsChunk s t at slot → PutsLive (footprint s) (footprint t) at (option_and_then live_size slot)
+PutsLive-chunk s t at slot puts other = ap (λ o. option_and_then live_size o) (puts other) ∙ either live_size (same_addr at other) slot (chunk_at s other)
+
 -- something is put, and stands there
 pub put-here : {A : Type 0} (f g : Addr → Option A) (at : Addr) (a : Option A) → PutsAt f g at a → g at ≡ a
 put-here f g at a puts =

@@ -87,6 +87,13 @@ is_free class (Own size room) = 0
 abbrev pub shelf_at : List Shelf → ℕ → Shelf
 shelf_at shelves class = slice_index_or shelves class no_shelf
 
+-- what stands in place of a chunk that is freed: one of a class is the first of its shelf
+abbrev pub freed_in : List Shelf → Option Chunk → Option Chunk
+freed_in shelves (Some (Live class size)) = Some (Free class (shelf_at shelves class).first)
+freed_in shelves (Some (Free class next)) = Some (Free class next)
+freed_in shelves (Some (Own size room)) = Some (Own size room)
+freed_in shelves None = None
+
 pub record IsShelved (s : SetState) (shelves : List Shelf) : Type 0 where
   pub eleven : length shelves ≡ 11
   pub chain : (class : ℕ) → class < 11 → IsChain (chunk_at s) class (shelf_at shelves class).count (shelf_at shelves class).first

@@ -1,5 +1,5 @@
 //! The books of an AllocSet: its blocks, chunks and numbers.
-ghost use Rattle.std.specs.Prelude.{◌≡◌, ◌≢◌, ℕ, ◌+◌, ◌-◌, ◌*◌, ◌%◌, ◌^◌, ◌<◌, ◌≤◌, ◌↔◌, Ok, Err, Some, None, IfOk, IfErr, OnOk, OnErr, cond, option_map, unwrap_or, sum_by, if◌then◌else◌, length, is_some, sum, ◌==◌, ◌⊎◌, min, IfSome, IfNone, OnSome, slice_index, Option};
+ghost use Rattle.std.specs.Prelude.{◌≡◌, ◌≢◌, ℕ, ◌+◌, ◌-◌, ◌*◌, ◌%◌, ◌^◌, ◌<◌, ◌≤◌, ◌↔◌, Ok, Err, Some, None, IfOk, IfErr, OnOk, OnErr, cond, option_map, unwrap_or, sum_by, if◌then◌else◌, length, is_some, sum, ◌==◌, ◌⊎◌, min, IfSome, IsSome, IfNone, OnSome, slice_index, Option};
 ghost use Rattle.std.specs.Map.{values_of, lookup};
 ghost use Rattle.indexmap.specs.IndexMap.{spare};
 ghost use Rattle.addr_space.specs.declared.Addr.{Addr};
@@ -8,7 +8,8 @@ ghost use Rattle.addr_space.specs.Footprint.{Agrees, Moves, Keeps, nothing};
 ghost use Rattle.alloc_set.specs.Ledger.{Class, Own as OwnPlace, class_bytes, class_size, cut_off, with_free, stats, with_own, cut_rest, cut_up, halved, block_size, reused, created, take_class, class_of, take_own, own_size, take};
 ghost use Rattle.chunk_header.specs.Growth.{grown};
 ghost use Rattle.addr_space.specs.Live.{same_addr, PutsAt};
-ghost use Rattle.alloc_set.specs.Kept.{next_of};
+ghost use Rattle.alloc_set.specs.Kept.{next_of, freed_in};
+ghost use Rattle.alloc_set.specs.Steps.{Shelves};
 ghost use Rattle.alloc_set.specs.State.{start_of, chunk_at, place_at, region_of, mark_of, footprint};
 ghost use Rattle.addr_space.specs.Space.{Space, held, accounts, Asks};
 
@@ -67,6 +68,24 @@ pub fn put(chunks: &mut IndexMap<Addr, Chunk>, at: Addr, chunk: Chunk) -> Option
         Ok(was) => was,
         Err(_) => unreachable!(),
     }
+}
+
+// Makes a live chunk of a class a free one, before the first of its shelf. Answers what stood there.
+fn free_in(chunks: &mut IndexMap<Addr, Chunk>, shelves: &[Shelf; 11], at: Addr) -> Option<Chunk>
+    requires { (class size : ℕ) → lookup (same_addr at) chunks.old.entries ≡ Some (Chunk.Live class size) → class ≤ 10 }
+    ensures was { result ≡ lookup (same_addr at) chunks.old.entries }
+    ensures at { (other : Addr) → lookup (same_addr other) chunks.new.entries ≡ (if same_addr at other then freed_in shelves.now result else lookup (same_addr other) chunks.old.entries) }
+    ensures sums { (f : Chunk → ℕ) → sum_by f (values_of chunks.new.entries) + unwrap_or (option_map f result) 0 ≡ sum_by f (values_of chunks.old.entries) + unwrap_or (option_map f (freed_in shelves.now result)) 0 }
+    ensures len { length chunks.new.entries ≡ length chunks.old.entries }
+    ensures same { freed_in shelves.now result ≡ result → chunks.new.entries ≡ chunks.old.entries }
+{
+    let slot = chunks.get_mut(&at)?;
+    let was = *slot;
+    if let Chunk::Live { class, size: _ } = was {
+        let next = shelves[class as usize].first;
+        *slot = Chunk::Free { class, next };
+    }
+    Some(was)
 }
 
 // The free chunk that a free chunk names.
@@ -479,6 +498,30 @@ impl Books {
             first: Some(at),
             count: shelf.count + 1,
         };
+    }
+
+    // Frees a live chunk of a class: it is the first of its shelf. One that has its block for itself stays, and the
+    // answer is its room.
+    pub fn free_class(&mut self, at: Addr) -> Option<u32>
+        requires kept { IsKept self.old }
+        requires live { IsSome ((footprint (state_of self.old)).live at) }
+        ensures kept { IsKept self.new }
+        ensures own { IfSome result (λ room. (size : ℕ) × (chunk_at (state_of self.new) at ≡ Some (Chunk.Own size room))) }
+        ensures same { OnSome result (state_of self.new ≡ state_of self.old) }
+        ensures shelved { IfNone result ((class : ℕ) × Shelves (state_of self.old) (state_of self.new) class at) }
+    {
+        match free_in(&mut self.chunks, &self.shelves, at) {
+            Some(Chunk::Live { class, size: _ }) => {
+                let count = self.shelves[class as usize].count + 1;
+                self.shelves[class as usize] = Shelf {
+                    first: Some(at),
+                    count,
+                };
+                None
+            }
+            Some(Chunk::Own { size: _, room }) => Some(room),
+            _ => unreachable!(),
+        }
     }
 
     // Serves a request by a chunk of a class.

@@ -115,10 +115,9 @@ impl Books {
         ensures keeps { Keeps (footprint (state_of self.old)) (footprint (state_of self.new)) space.old space.new }
         ensures asked { space.new.taken ≡ space.old.taken }
     {
-        match self.chunk(at) {
-            Some(Chunk::Live { class, size: _ }) => self.shelve(class, at),
-            Some(Chunk::Own { size: _, room }) => self.give_own(space, at, room),
-            _ => unreachable!(),
+        match self.free_class(at) {
+            None => {}
+            Some(room) => self.give_own(space, at, room),
         }
     }
 
