@@ -1,10 +1,10 @@
 -- What the code keeps, after a live chunk of a class was freed.
-use Rattle.std.proofs.Common.{◌≡◌, ℕ, ◌+◌, ◌<◌, ◌≤◌, Option, Some, None, List, length, map, set, get_or, sum_by, refl, sym, ap, ◌∙◌, subst, arith, option_and_then}
+use Rattle.std.proofs.Common.{◌≡◌, ℕ, ◌+◌, ◌<◌, ◌≤◌, Some, List, length, map, set, get_or, sum_by, refl, sym, ap, ◌∙◌, subst, arith, option_and_then}
 use Rattle.std.specs.Map.{values_of}
 use Rattle.std.proofs.lemmas.List.{map-set, get_or-map}
 use Rattle.addr_space.specs.declared.Addr.{Addr}
 use Rattle.alloc_set.specs.Ledger.{class_size, shelved, with_free}
-use Rattle.alloc_set.specs.State.{SetState, chunk_at, live_size, live_place}
+use Rattle.alloc_set.specs.State.{chunk_at, live_place}
 use Rattle.alloc_set.specs.Kept.{state_of, shelf_at, no_shelf, is_free, own_bytes, IsKept, IsCounted, IsSettled, IsShelved}
 use Rattle.alloc_set.specs.Steps.{SameBlocks, PutsChunk, Shelves}
 use Rattle.alloc_set.proofs.Flipped.{IsSettled-flipped, Moves-flipped}

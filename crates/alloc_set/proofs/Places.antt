@@ -4,7 +4,7 @@ use Rattle.addr_space.specs.declared.Addr.{Addr}
 use Rattle.addr_space.specs.Space.{Space, Asks}
 use Rattle.addr_space.specs.Live.{same_addr, PutsAt, MovesAt, PutsLive}
 use Rattle.addr_space.proofs.Addresses.{same_addr-cases}
-use Rattle.addr_space.proofs.Options.{option_cases, from_then}
+use Rattle.addr_space.proofs.Options.{option_cases}
 use Rattle.chunk_header.specs.declared.CtxError.{CtxError}
 use Rattle.chunk_header.specs.Answers.{Taken, Resized}
 use Rattle.alloc_set.specs.Ledger.{SetLedger, SetPlace}

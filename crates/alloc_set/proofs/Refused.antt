@@ -1,5 +1,5 @@
 -- Lemmas on calls that may be refused: a refused one changes nothing.
-use Rattle.std.proofs.Common.{◌≡◌, ◌+◌, Result, Ok, Err, OnOk, OnErr, refl, sym, ap, subst}
+use Rattle.std.proofs.Common.{◌≡◌, ◌+◌, Result, Ok, Err, OnOk, OnErr, sym, ap, subst}
 use Rattle.addr_space.specs.declared.Addr.{Addr}
 use Rattle.addr_space.specs.Space.{Space, byte_at}
 use Rattle.addr_space.specs.Footprint.{Agrees, Moves, Keeps, KeepsBut}

@@ -8,7 +8,6 @@ use Rattle.addr_space.specs.declared.Addr.{Addr}
 use Rattle.alloc_set.specs.Ledger.{SetLedger, SetPlace, class_bytes, class_of, chunk_limit, own_size, take, take_class, take_own, from_new, reused, cut_off, renewed, of_class, of_own, block_size}
 use Rattle.addr_space.specs.Live.{same_addr, PutsLive, SameLive}
 use Rattle.alloc_set.specs.State.{SetState, footprint}
-use Rattle.alloc_set.specs.Kept.{state_of}
 use Rattle.addr_space.specs.Space.{Space}
 use Rattle.alloc_set.specs.Cut.{Allocates}
 use Rattle.alloc_set.specs.declared.books.Books.{Books}

@@ -1,4 +1,4 @@
-use Rattle.std.proofs.Common.{◌≡◌, sym, ap, ◌∙◌}
+use Rattle.std.proofs.Common.{sym, ap, ◌∙◌}
 use Rattle.chunk_header.specs.declared.Stats.{Stats}
 use Rattle.alloc_set.specs.State.{SetState}
 use Rattle.alloc_set.specs.Ledger.{stats}

@@ -1,10 +1,9 @@
-use Rattle.std.proofs.Common.{◌≡◌, ◌+◌, Some, None, IfSome, refl, sym, ap, ◌∙◌, subst, option_and_then}
+use Rattle.std.proofs.Common.{◌≡◌, ◌+◌, Some, None, IfSome, sym, ap, subst, option_and_then}
 use Rattle.addr_space.specs.Footprint.{Agrees, Moves, Keeps}
 use Rattle.addr_space.specs.Live.{PutsAt, PutsLive}
-use Rattle.alloc_set.specs.Ledger.{SetPlace, Class, Own as OwnPlace, give}
-use Rattle.alloc_set.specs.State.{SetState, chunk_at, place_at, live_place, footprint}
+use Rattle.alloc_set.specs.Ledger.{Own as OwnPlace, give}
+use Rattle.alloc_set.specs.State.{SetState, place_at, live_place, footprint}
 use Rattle.alloc_set.specs.Kept.{state_of}
-use Rattle.alloc_set.specs.declared.chunk.Chunk.TheVariants.{Own}
 use Rattle.alloc_set.proofs.books.Books.free.Goals as goal
 
 pub returns-in-None-clause-ledger : goal.returns-in-None-clause-ledger

@@ -1,4 +1,4 @@
-use Rattle.std.proofs.Common.{◌≡◌, ◌+◌, Some, set, length, sym, refl, arith}
+use Rattle.std.proofs.Common.{◌≡◌, ◌+◌, Some, set, length, refl, arith}
 use Rattle.alloc_set.specs.State.{chunk_at}
 use Rattle.alloc_set.specs.Kept.{state_of, shelf_at}
 use Rattle.alloc_set.specs.Steps.{Shelves}

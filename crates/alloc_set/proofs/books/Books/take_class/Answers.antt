@@ -1,7 +1,6 @@
-use Rattle.std.proofs.Common.{◌≡◌, ℕ, ◌-◌, ◌<◌, ◌≤◌, ap, ◌∙◌, sym, refl, subst, arith, Some, None, Ok, Err, slice_index}
+use Rattle.std.proofs.Common.{◌≡◌, ℕ, ◌-◌, ◌<◌, ◌≤◌, ap, ◌∙◌, sym, refl, subst, arith, Some, None, Err, slice_index}
 use Rattle.std.proofs.lemmas.Result.{err_from_is_err_and}
 use Rattle.addr_space.specs.Space.{held}
-use Rattle.addr_space.specs.Footprint.{Agrees}
 use Rattle.addr_space.proofs.Steps.{Moves-more, Keeps-more, same_stays}
 use Rattle.chunk_header.specs.declared.CtxError.TheVariants.{NoSpace}
 use Rattle.alloc_set.specs.Ledger.{SetLedger, class_bytes, class_of, take_class, of_class, reused, cut_off, renewed, block_size}
@@ -10,7 +9,6 @@ use Rattle.alloc_set.specs.Kept.{state_of}
 use Rattle.addr_space.specs.Live.{PutsLive}
 use Rattle.alloc_set.specs.Live.{LeavesLive}
 use Rattle.alloc_set.specs.Cut.{Renews}
-use Rattle.alloc_set.specs.declared.books.Books.{Books}
 use Rattle.alloc_set.proofs.Taken.{take_class-reused, take_class-cut, take_class-had, take_class-none, PutsLive-after, Allocates-at}
 use Rattle.alloc_set.proofs.Places.{Serves-put}
 use Rattle.alloc_set.proofs.Stays.{LeavesLive-more}
