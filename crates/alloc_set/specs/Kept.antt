@@ -64,6 +64,13 @@ pub record IsSettled (s : SetState) (active size : ℕ) : Type 0 where
   pub placed : (at : Addr) (chunk : Chunk) → chunk_at s at ≡ Some chunk → IsPlaced s active size at chunk
   pub apart : (a b : Addr) (first second : Chunk) → chunk_at s a ≡ Some first → chunk_at s b ≡ Some second → a.region ≡ b.region → a.offset < b.offset → a.offset + capacity_of first + 8 ≤ b.offset
 
+-- the next free chunk, which a free one names
+abbrev pub next_of : Option Chunk → Option Addr
+next_of (Some (Live class size)) = None
+next_of (Some (Free class next)) = next
+next_of (Some (Own size room)) = None
+next_of None = None
+
 -- so many free chunks of a class, each of which names the next one
 abbrev pub IsChain : (Addr → Option Chunk) → ℕ → ℕ → Option Addr → Type 0
 IsChain chunks class zero first = first ≡ None
@@ -79,6 +86,13 @@ is_free class (Own size room) = 0
 -- the first free chunk of a class and their number
 abbrev pub shelf_at : List Shelf → ℕ → Shelf
 shelf_at shelves class = slice_index_or shelves class no_shelf
+
+-- what stands in place of a chunk that is freed: one of a class is the first of its shelf
+abbrev pub freed_in : List Shelf → Option Chunk → Option Chunk
+freed_in shelves (Some (Live class size)) = Some (Free class (shelf_at shelves class).first)
+freed_in shelves (Some (Free class next)) = Some (Free class next)
+freed_in shelves (Some (Own size room)) = Some (Own size room)
+freed_in shelves None = None
 
 pub record IsShelved (s : SetState) (shelves : List Shelf) : Type 0 where
   pub eleven : length shelves ≡ 11

@@ -1,20 +1,25 @@
 //! The books of an AllocSet: its blocks, chunks and numbers.
-ghost use Rattle.std.specs.Prelude.{◌≡◌, ◌≢◌, ℕ, ◌+◌, ◌-◌, ◌*◌, ◌%◌, ◌^◌, ◌<◌, ◌≤◌, ◌↔◌, Ok, Err, Some, None, IfOk, IfErr, OnOk, OnErr, cond, option_map, unwrap_or, sum_by, if◌then◌else◌, length, is_some, sum, ◌==◌, ◌⊎◌, min, IfSome, IfNone, OnSome, slice_index, Option};
+ghost use Rattle.std.specs.Prelude.{◌≡◌, ◌≢◌, ℕ, ◌+◌, ◌-◌, ◌*◌, ◌%◌, ◌^◌, ◌<◌, ◌≤◌, ◌↔◌, Ok, Err, Some, None, IfOk, IfErr, OnOk, OnErr, cond, option_map, unwrap_or, sum_by, if◌then◌else◌, length, is_some, sum, ◌==◌, ◌⊎◌, min, IfSome, IsSome, IfNone, OnSome, slice_index, Option};
 ghost use Rattle.std.specs.Map.{values_of, lookup};
 ghost use Rattle.indexmap.specs.IndexMap.{spare};
 ghost use Rattle.addr_space.specs.declared.Addr.{Addr};
 ghost use Rattle.alloc_set.specs.declared.chunk.Chunk.{Chunk};
 ghost use Rattle.addr_space.specs.Footprint.{Agrees, Moves, Keeps, nothing};
-ghost use Rattle.alloc_set.specs.Ledger.{class_bytes, class_size, cut_off, with_free, stats, with_own, cut_rest, cut_up, halved, block_size, reused, created, take_class, class_of, take_own, own_size, take};
+ghost use Rattle.alloc_set.specs.Ledger.{Class, Own as OwnPlace, class_bytes, class_size, cut_off, with_free, stats, with_own, cut_rest, cut_up, halved, block_size, reused, created, take_class, class_of, take_own, own_size, take};
 ghost use Rattle.chunk_header.specs.Growth.{grown};
-ghost use Rattle.addr_space.specs.Live.{same_addr};
-ghost use Rattle.alloc_set.specs.State.{start_of, chunk_at, region_of, mark_of, footprint};
-ghost use Rattle.addr_space.specs.Space.{Space, held, accounts};
+ghost use Rattle.addr_space.specs.Live.{same_addr, PutsAt};
+ghost use Rattle.alloc_set.specs.Kept.{next_of, freed_in};
+ghost use Rattle.alloc_set.specs.Steps.{Shelves};
+ghost use Rattle.alloc_set.specs.State.{start_of, chunk_at, place_at, region_of, mark_of, footprint};
+ghost use Rattle.addr_space.specs.Space.{Space, held, accounts, Asks};
 
 use crate::chunk::{Chunk, Shelf};
 use crate::classes::{chunk_limit, class_of, class_size};
-use addr_space::{Addr, Space, SpaceError};
-use chunk_header::{CtxError, Header, Kind, LARGEST, Sizes, Stats, block_header, grown, up8};
+use addr_space::{Addr, Space};
+use chunk_header::{
+    BLOCK_HEADER, CHUNK_HEADER, CONTEXT_BYTES, CtxError, Header, Kind, LARGEST, Sizes, Stats,
+    block_header, grown, up8,
+};
 use indexmap::IndexMap;
 use std::alloc::Global;
 
@@ -50,17 +55,46 @@ pub struct Books {
     pub idle: u64,
 }
 
-// Notes what stands at an address where room was made, or where a chunk stands already.
-pub fn put(chunks: &mut IndexMap<Addr, Chunk>, at: Addr, chunk: Chunk)
+// Notes what stands at an address where room was made, or where a chunk stands already. Answers what stood there.
+pub fn put(chunks: &mut IndexMap<Addr, Chunk>, at: Addr, chunk: Chunk) -> Option<Chunk>
     requires { (lookup (same_addr at) chunks.old.entries ≡ None) → 0 < spare chunks.old }
     ensures at { (other : Addr) → lookup (same_addr other) chunks.new.entries ≡ (if same_addr at other then Some chunk else lookup (same_addr other) chunks.old.entries) }
     ensures sums { (f : Chunk → ℕ) → sum_by f (values_of chunks.new.entries) + unwrap_or (option_map f (lookup (same_addr at) chunks.old.entries)) 0 ≡ sum_by f (values_of chunks.old.entries) + f chunk }
     ensures len { length chunks.new.entries ≡ length chunks.old.entries + (if is_some (lookup (same_addr at) chunks.old.entries) then 0 else 1) }
     ensures spare { spare chunks.old ≤ spare chunks.new + 1 }
+    ensures was { result ≡ lookup (same_addr at) chunks.old.entries }
 {
     match chunks.insert(at, chunk) {
-        Ok(_) => {}
+        Ok(was) => was,
         Err(_) => unreachable!(),
+    }
+}
+
+// Makes a live chunk of a class a free one, before the first of its shelf. Answers what stood there.
+fn free_in(chunks: &mut IndexMap<Addr, Chunk>, shelves: &[Shelf; 11], at: Addr) -> Option<Chunk>
+    requires { (class size : ℕ) → lookup (same_addr at) chunks.old.entries ≡ Some (Chunk.Live class size) → class ≤ 10 }
+    ensures was { result ≡ lookup (same_addr at) chunks.old.entries }
+    ensures at { (other : Addr) → lookup (same_addr other) chunks.new.entries ≡ (if same_addr at other then freed_in shelves.now result else lookup (same_addr other) chunks.old.entries) }
+    ensures sums { (f : Chunk → ℕ) → sum_by f (values_of chunks.new.entries) + unwrap_or (option_map f result) 0 ≡ sum_by f (values_of chunks.old.entries) + unwrap_or (option_map f (freed_in shelves.now result)) 0 }
+    ensures len { length chunks.new.entries ≡ length chunks.old.entries }
+    ensures same { freed_in shelves.now result ≡ result → chunks.new.entries ≡ chunks.old.entries }
+{
+    let slot = chunks.get_mut(&at)?;
+    let was = *slot;
+    if let Chunk::Live { class, size: _ } = was {
+        let next = shelves[class as usize].first;
+        *slot = Chunk::Free { class, next };
+    }
+    Some(was)
+}
+
+// The free chunk that a free chunk names.
+fn next_of(slot: Option<Chunk>) -> Option<Addr>
+    ensures { result ≡ next_of slot }
+{
+    match slot {
+        Some(Chunk::Free { class: _, next }) => next,
+        _ => None,
     }
 }
 
@@ -76,6 +110,12 @@ fn note(blocks: &mut IndexMap<u32, u32>, number: u32, size: u32)
         Err(_) => unreachable!(),
     }
 }
+
+// What stands before the chunks of the keeper's block.
+pub const KEEPER_HEADERS: u32 = CONTEXT_BYTES + BLOCK_HEADER;
+
+// What stands before a chunk that has its block for itself.
+pub const OWN_HEADERS: u32 = BLOCK_HEADER + CHUNK_HEADER;
 
 // The greatest total with which a context takes one more block, in bytes.
 pub const MOST: u64 = 1 << 61;
@@ -113,19 +153,17 @@ impl Books {
         ensures context { IfOk result (λ b. b.context ≡ context) }
         ensures live { IfOk result (λ b. (at : Addr) → (footprint (state_of b)).live at ≡ None) }
         ensures moves { IfOk result (λ b. Moves (nothing account context) (footprint (state_of b)) space.old space.new) }
+        ensures place { IfOk result (λ b. (at : Addr) → place_at (state_of b) at ≡ None) }
+        ensures asked { OnOk result (Asks account sizes.init space.old space.new) }
         ensures no_space { (result ≡ Err CtxError.NoSpace) ↔ (space.old.limit < held space.old account + sizes.init) }
         ensures no_other { IfErr result (λ e. (e ≡ CtxError.NoSpace) ⊎ (e ≡ CtxError.Memory)) }
         ensures err { OnErr result (space.new ≡ space.old) }
     {
-        let at = match space.take(account, sizes.init) {
-            Ok(at) => at,
-            Err(SpaceError::NoSpace) => return Err(CtxError::NoSpace),
-            Err(SpaceError::Memory) => return Err(CtxError::Memory),
-        };
+        let at = space.take(account, sizes.init)?;
         space.write(
             Addr {
                 region: at.region,
-                offset: 200,
+                offset: CONTEXT_BYTES,
             },
             &block_header(context, sizes.init),
         );
@@ -139,7 +177,7 @@ impl Books {
             active: Block {
                 region: at.region,
                 size: sizes.init,
-                room: sizes.init - 240,
+                room: sizes.init - KEEPER_HEADERS,
             },
             blocks: IndexMap::new(alloc),
             chunks: IndexMap::new(alloc),
@@ -157,7 +195,11 @@ impl Books {
     fn start(&self, region: u32) -> u32
         ensures { result ≡ start_of (state_of self.now) region }
     {
-        if self.keeper == region { 200 } else { 0 }
+        if self.keeper == region {
+            CONTEXT_BYTES
+        } else {
+            0
+        }
     }
 
     // Cuts a chunk of a class off the active block.
@@ -176,6 +218,7 @@ impl Books {
         ensures spare { spare self.old.chunks ≤ spare self.new.chunks + 1 }
         ensures moves { Moves (footprint (state_of self.old)) (footprint (state_of self.new)) space.old space.new }
         ensures keeps { Keeps (footprint (state_of self.old)) (footprint (state_of self.new)) space.old space.new }
+        ensures asked { space.new.taken ≡ space.old.taken }
     {
         let region = self.active.region;
         let offset = self.active.size - self.active.room;
@@ -188,10 +231,10 @@ impl Books {
         space.write(Addr { region, offset }, &header.bytes());
         let at = Addr {
             region,
-            offset: offset + 8,
+            offset: offset + CHUNK_HEADER,
         };
         put(&mut self.chunks, at, chunk);
-        self.active.room -= class_size(class) + 8;
+        self.active.room -= class_size(class) + CHUNK_HEADER;
         at
     }
 
@@ -211,6 +254,8 @@ impl Books {
         ensures stays { LeavesLive (state_of self.old) (state_of self.new) }
         ensures moves { Moves (footprint (state_of self.old)) (footprint (state_of self.new)) space.old space.new }
         ensures keeps { Keeps (footprint (state_of self.old)) (footprint (state_of self.new)) space.old space.new }
+        ensures place { place_at (state_of self.new) result ≡ Some (Class class) }
+        ensures asked { space.new.taken ≡ space.old.taken }
     {
         self.carve(space, class, Chunk::Live { class, size })
     }
@@ -235,6 +280,7 @@ impl Books {
         ensures stays { LeavesLive (state_of self.old) (state_of self.new) }
         ensures moves { Moves (footprint (state_of self.old)) (footprint (state_of self.new)) space.old space.new }
         ensures keeps { Keeps (footprint (state_of self.old)) (footprint (state_of self.new)) space.old space.new }
+        ensures asked { space.new.taken ≡ space.old.taken }
     {
         let shelf = self.shelves[class as usize];
         let next = shelf.first;
@@ -267,9 +313,10 @@ impl Books {
 
     // Makes room in the maps, for what one request may need.
     fn make_room(&mut self) -> Result<(), CtxError>
-        ensures same { self.new ≡ record self.old { blocks = self.new.blocks; chunks = self.new.chunks } }
-        ensures blocks { self.new.blocks.entries ≡ self.old.blocks.entries }
-        ensures chunks { self.new.chunks.entries ≡ self.old.chunks.entries }
+        requires { IsKept self.old }
+        ensures kept { IsKept self.new }
+        ensures state { state_of self.new ≡ state_of self.old }
+        ensures limit { self.new.limit ≡ self.old.limit }
         ensures spare_blocks { OnOk result (1 ≤ spare self.new.blocks) }
         ensures spare_chunks { OnOk result (12 ≤ spare self.new.chunks) }
         ensures few { OnOk result (length self.new.chunks.entries ≤ 2 ^ 39) }
@@ -299,6 +346,7 @@ impl Books {
         ensures others { IfOk result (λ number. (other : ℕ) → other ≢ number → region_of (state_of self.new) other ≡ region_of (state_of self.old) other) }
         ensures moves { OnOk result (Moves (footprint (state_of self.old)) (footprint (state_of self.new)) space.old space.new) }
         ensures keeps { OnOk result (Keeps (footprint (state_of self.old)) (footprint (state_of self.new)) space.old space.new) }
+        ensures asked { OnOk result (Asks self.old.account size space.old space.new) }
         ensures fits { OnOk result (size ≤ space.old.limit - held space.old self.old.account) }
         ensures no_space { (result ≡ Err CtxError.NoSpace) → space.old.limit - held space.old self.old.account < size }
         ensures no_other { IfErr result (λ e. (e ≡ CtxError.NoSpace) ⊎ (e ≡ CtxError.Memory)) }
@@ -308,11 +356,7 @@ impl Books {
         if self.total > MOST {
             return Err(CtxError::Memory);
         }
-        let at = match space.take(self.account, size) {
-            Ok(at) => at,
-            Err(SpaceError::NoSpace) => return Err(CtxError::NoSpace),
-            Err(SpaceError::Memory) => return Err(CtxError::Memory),
-        };
+        let at = space.take(self.account, size)?;
         space.write(at, &block_header(self.context, size));
         note(&mut self.blocks, at.region, size);
         self.total += u64::from(size);
@@ -332,11 +376,12 @@ impl Books {
         ensures free { (state_of self.new).ledger.free ≡ cut_up 11 self.old.active.room (state_of self.old).ledger.free }
         ensures moves { Moves (footprint (state_of self.old)) (footprint (state_of self.new)) space.old space.new }
         ensures keeps { Keeps (footprint (state_of self.old)) (footprint (state_of self.new)) space.old space.new }
+        ensures asked { space.new.taken ≡ space.old.taken }
     {
         let mut class = 11u8;
         while class > 0 {
             class -= 1;
-            if self.active.room >= class_size(class) + 8 {
+            if self.active.room >= class_size(class) + CHUNK_HEADER {
                 self.cut_free(space, class);
             }
         }
@@ -358,7 +403,7 @@ impl Books {
         self.active = Block {
             region,
             size,
-            room: size - 40,
+            room: size - BLOCK_HEADER,
         };
         self.next = (self.next * 2).min(self.sizes.max);
     }
@@ -390,7 +435,7 @@ impl Books {
         requires spare_blocks { 0 < spare self.old.blocks }
         requires spare_chunks { 12 ≤ spare self.old.chunks }
         requires few { length self.old.chunks.entries ≤ 2 ^ 39 }
-        ensures renewed { OnOk result (Renews self.old self.new space.old class) }
+        ensures renewed { OnOk result (Renews self.old self.new space.old space.new class) }
         ensures moves { OnOk result (Moves (footprint (state_of self.old)) (footprint (state_of self.new)) space.old space.new) }
         ensures keeps { OnOk result (Keeps (footprint (state_of self.old)) (footprint (state_of self.new)) space.old space.new) }
         ensures no_space { result ≡ Err CtxError.NoSpace → block_size (state_of self.old).ledger (space.old.limit - held space.old self.old.account) class ≡ None }
@@ -398,25 +443,11 @@ impl Books {
         ensures err { OnErr result (self.new ≡ self.old) }
         ensures err_space { OnErr result (space.new ≡ space.old) }
     {
-        let size = self.fitted(space, class_size(class) + 48);
-        let region = match self.add_block(space, size) {
-            Ok(region) => region,
-            Err(error) => return Err(error),
-        };
+        let size = self.fitted(space, class_size(class) + OWN_HEADERS);
+        let region = self.add_block(space, size)?;
         self.cut_up(space);
         self.activate(region, size);
         Ok(())
-    }
-
-    // The free chunk that a free chunk of a class names.
-    fn next_free(&self, class: u8, at: Addr) -> Option<Addr>
-        requires { (next : Option Addr) × (chunk_at (state_of self.now) at ≡ Some (Chunk.Free class next)) }
-        ensures { chunk_at (state_of self.now) at ≡ Some (Chunk.Free class result) }
-    {
-        match self.chunks.get(&at) {
-            Some(Chunk::Free { class: _, next }) => *next,
-            _ => None,
-        }
     }
 
     // Takes the first free chunk of a class.
@@ -431,6 +462,7 @@ impl Books {
         ensures ledger { OnSome result ((state_of self.new).ledger ≡ reused (state_of self.old).ledger class) }
         ensures fresh { IfSome result (λ at. (footprint (state_of self.old)).live at ≡ None) }
         ensures live { IfSome result (λ at. PutsLive (footprint (state_of self.old)) (footprint (state_of self.new)) at (Some size)) }
+        ensures place { IfSome result (λ at. place_at (state_of self.new) at ≡ Some (Class class)) }
         ensures stays { LeavesLive (state_of self.old) (state_of self.new) }
         ensures moves { OnSome result ((sp : Space) → Agrees (footprint (state_of self.old)) sp → Moves (footprint (state_of self.old)) (footprint (state_of self.new)) sp sp) }
         ensures rest { self.new ≡ record self.old { chunks = self.new.chunks; shelves = self.new.shelves } }
@@ -439,8 +471,7 @@ impl Books {
         let Some(at) = shelf.first else {
             return None;
         };
-        let next = self.next_free(class, at);
-        put(&mut self.chunks, at, Chunk::Live { class, size });
+        let next = next_of(put(&mut self.chunks, at, Chunk::Live { class, size }));
         self.shelves[class as usize] = Shelf {
             first: next,
             count: shelf.count - 1,
@@ -457,6 +488,7 @@ impl Books {
         ensures ledger { (state_of self.new).ledger ≡ record (state_of self.old).ledger { free = with_free (state_of self.old).ledger.free class 1 } }
         ensures live { PutsLive (footprint (state_of self.old)) (footprint (state_of self.new)) at None }
         ensures moves { (sp : Space) → Agrees (footprint (state_of self.old)) sp → Moves (footprint (state_of self.old)) (footprint (state_of self.new)) sp sp }
+        ensures place { PutsAt (place_at (state_of self.old)) (place_at (state_of self.new)) at None }
         ensures rest { self.new ≡ record self.old { chunks = self.new.chunks; shelves = self.new.shelves } }
     {
         let shelf = self.shelves[class as usize];
@@ -468,12 +500,36 @@ impl Books {
         };
     }
 
+    // Frees a live chunk of a class: it is the first of its shelf. One that has its block for itself stays, and the
+    // answer is its room.
+    pub fn free_class(&mut self, at: Addr) -> Option<u32>
+        requires kept { IsKept self.old }
+        requires live { IsSome ((footprint (state_of self.old)).live at) }
+        ensures kept { IsKept self.new }
+        ensures own { IfSome result (λ room. (size : ℕ) × (chunk_at (state_of self.new) at ≡ Some (Chunk.Own size room))) }
+        ensures same { OnSome result (state_of self.new ≡ state_of self.old) }
+        ensures shelved { IfNone result ((class : ℕ) × Shelves (state_of self.old) (state_of self.new) class at) }
+    {
+        match free_in(&mut self.chunks, &self.shelves, at) {
+            Some(Chunk::Live { class, size: _ }) => {
+                let count = self.shelves[class as usize].count + 1;
+                self.shelves[class as usize] = Shelf {
+                    first: Some(at),
+                    count,
+                };
+                None
+            }
+            Some(Chunk::Own { size: _, room }) => Some(room),
+            _ => unreachable!(),
+        }
+    }
+
     // Serves a request by a chunk of a class.
     fn take_class(&mut self, space: &mut Space, size: u32) -> Result<Addr, CtxError>
         requires kept { IsKept self.old }
         requires agrees { Agrees (footprint (state_of self.old)) space.old }
         requires size { size ≤ 8192 }
-        ensures ok { IfOk result (λ at. Allocates self.old self.new space.old space.new size at (take_class (state_of self.old).ledger (space.old.limit - held space.old self.old.account) (class_of size))) }
+        ensures ok { IfOk result (λ at. Allocates (state_of self.old) self.new space.old space.new size at (take_class (state_of self.old).ledger (space.old.limit - held space.old self.old.account) (class_of size))) }
         ensures no_space { result ≡ Err CtxError.NoSpace → take_class (state_of self.old).ledger (space.old.limit - held space.old self.old.account) (class_of size) ≡ Err CtxError.NoSpace }
         ensures no_other { IfErr result (λ e. (e ≡ CtxError.NoSpace) ⊎ (e ≡ CtxError.Memory)) }
         ensures err_state { OnErr result (state_of self.new ≡ state_of self.old) }
@@ -481,20 +537,14 @@ impl Books {
         ensures err_space { OnErr result (space.new ≡ space.old) }
     {
         let class = class_of(size);
-        match self.make_room() {
-            Ok(()) => {}
-            Err(error) => return Err(error),
-        }
         if let Some(at) = self.reuse(class, size) {
             return Ok(at);
         }
-        if self.active.room >= class_size(class) + 8 {
+        self.make_room()?;
+        if self.active.room >= class_size(class) + CHUNK_HEADER {
             return Ok(self.cut(space, class, size));
         }
-        match self.renew(space, class) {
-            Ok(()) => {}
-            Err(error) => return Err(error),
-        }
+        self.renew(space, class)?;
         Ok(self.cut(space, class, size))
     }
 
@@ -517,15 +567,24 @@ impl Books {
         ensures stays { LeavesLive (state_of self.old) (state_of self.new) }
         ensures moves { Moves (footprint (state_of self.old)) (footprint (state_of self.new)) space.old space.new }
         ensures keeps { Keeps (footprint (state_of self.old)) (footprint (state_of self.new)) space.old space.new }
+        ensures place { place_at (state_of self.new) result ≡ Some (OwnPlace (room + 48)) }
+        ensures asked { space.new.taken ≡ space.old.taken }
     {
         let header = Header {
             kind: Kind::AllocSet,
             own: true,
             value: 0,
-            dist: 40,
+            dist: BLOCK_HEADER,
         };
-        space.write(Addr { region, offset: 40 }, &header.bytes());
-        let at = Addr { region, offset: 48 };
+        let before = Addr {
+            region,
+            offset: BLOCK_HEADER,
+        };
+        space.write(before, &header.bytes());
+        let at = Addr {
+            region,
+            offset: OWN_HEADERS,
+        };
         put(&mut self.chunks, at, Chunk::Own { size, room });
         at
     }
@@ -535,22 +594,16 @@ impl Books {
         requires kept { IsKept self.old }
         requires agrees { Agrees (footprint (state_of self.old)) space.old }
         requires size { size ≤ 1073741823 }
-        ensures ok { IfOk result (λ at. Allocates self.old self.new space.old space.new size at (take_own (state_of self.old).ledger (space.old.limit - held space.old self.old.account) (own_size size))) }
+        ensures ok { IfOk result (λ at. Allocates (state_of self.old) self.new space.old space.new size at (take_own (state_of self.old).ledger (space.old.limit - held space.old self.old.account) (own_size size))) }
         ensures no_space { result ≡ Err CtxError.NoSpace → take_own (state_of self.old).ledger (space.old.limit - held space.old self.old.account) (own_size size) ≡ Err CtxError.NoSpace }
         ensures no_other { IfErr result (λ e. (e ≡ CtxError.NoSpace) ⊎ (e ≡ CtxError.Memory)) }
         ensures err_state { OnErr result (state_of self.new ≡ state_of self.old) }
         ensures err_kept { OnErr result (IsKept self.new) }
         ensures err_space { OnErr result (space.new ≡ space.old) }
     {
-        match self.make_room() {
-            Ok(()) => {}
-            Err(error) => return Err(error),
-        }
+        self.make_room()?;
         let room = up8(size);
-        let region = match self.add_block(space, room + 48) {
-            Ok(region) => region,
-            Err(error) => return Err(error),
-        };
+        let region = self.add_block(space, room + OWN_HEADERS)?;
         Ok(self.settle(space, region, size, room))
     }
 
@@ -558,7 +611,7 @@ impl Books {
     pub fn alloc(&mut self, space: &mut Space, size: u64) -> Result<Addr, CtxError>
         requires kept { IsKept self.old }
         requires agrees { Agrees (footprint (state_of self.old)) space.old }
-        ensures ok { IfOk result (λ at. Allocates self.old self.new space.old space.new size at (take (state_of self.old).ledger (space.old.limit - held space.old self.old.account) size)) }
+        ensures ok { IfOk result (λ at. Allocates (state_of self.old) self.new space.old space.new size at (take (state_of self.old).ledger (space.old.limit - held space.old self.old.account) size)) }
         ensures too_big { (result ≡ Err CtxError.TooBig) ↔ (1073741823 < size) }
         ensures no_space { result ≡ Err CtxError.NoSpace → take (state_of self.old).ledger (space.old.limit - held space.old self.old.account) size ≡ Err CtxError.NoSpace }
         ensures no_other { IfErr result (λ e. (e ≡ CtxError.TooBig) ⊎ ((e ≡ CtxError.NoSpace) ⊎ (e ≡ CtxError.Memory))) }
