@@ -13,6 +13,6 @@ cut-to-requires-clause-block c =
 
 pub returns-clause-inside : goal.returns-clause-inside
 returns-clause-inside c =
-    let to : Chunk = record { size = 16; room = 16; own = false } in
+    let to : Chunk = record { block = 1; size = 16; room = 16; own = false } in
     let found : chunk_at c.cut-to.new.self c.cut-to.result ≡ Some to = grind (arith, c.cut-to.ensures.chunk c.cut-to.result) in
     IsInside-live (footprint c.cut-to.new.self) c.carry.new.space c.cut-to.result 16 5 c.carry.ensures.moves.agrees (live_is c.cut-to.new.self c.cut-to.result to found) (omega arith)

@@ -20,7 +20,7 @@ first = record { number = 1; size = 1024; room = 784; live = 0; freed = 0 }
 
 -- the chunk that is cut
 cut : Chunk
-cut = record { size = 5; room = 8; own = false }
+cut = record { block = 1; size = 5; room = 8; own = false }
 
 owned : (c : After-keeper-number) → block_at c.make_room.new.self c.keeper-number.result ≡ Some first
 unfolding first
