@@ -1,6 +1,7 @@
 use Rattle.std.proofs.Common.{◌≡◌, Some, false, ap, ◌∙◌, arith}
 use Rattle.addr_space.proofs.Carried.{IsInside-live}
 use Rattle.ctx_blocks.specs.Layout.{Layout, block_at, chunk_at, gap_of, header_room, footprint}
+use Rattle.ctx_blocks.specs.declared.parts.Block.{Block}
 use Rattle.ctx_blocks.specs.declared.parts.Chunk.{Chunk}
 use Rattle.ctx_blocks.proofs.Laid.{live_is}
 use Rattle.ctx_blocks.proofs.tests.carried.Goals as goal
@@ -13,6 +14,8 @@ cut-to-requires-clause-block c =
 
 pub returns-clause-inside : goal.returns-clause-inside
 returns-clause-inside c =
+    let block : Block = record { number = 1; size = 1024; room = 768; live = 1; freed = 0 } in
+    let there : block_at c.make_room.new.self c.args.from.region ≡ Some block = ap (λ (x : Layout). block_at x c.args.from.region) c.in_ok-make_room.ensures.same ∙ c.requires.block in
     let to : Chunk = record { block = 1; size = 16; room = 16; own = false } in
-    let found : chunk_at c.cut-to.new.self c.cut-to.result ≡ Some to = grind (arith, c.cut-to.ensures.chunk c.cut-to.result) in
+    let found : chunk_at c.cut-to.new.self c.cut-to.result ≡ Some to = grind (arith, c.cut-to.ensures.chunk block there c.cut-to.result) in
     IsInside-live (footprint c.cut-to.new.self) c.carry.new.space c.cut-to.result 16 5 c.carry.ensures.moves.agrees (live_is c.cut-to.new.self c.cut-to.result to found) (omega arith)
