@@ -1,5 +1,5 @@
 -- Requests that are served in steps.
-use Rattle.std.proofs.Common.{◌≡◌, ℕ, Some, None, Result, Ok, true, false, Bool, Option, option_map, if◌then◌else◌, refl, sym, ap, ◌∙◌}
+use Rattle.std.proofs.Common.{◌≡◌, ℕ, Some, None, Result, Ok, true, false, Bool, Option, option_map, if◌then◌else◌, refl, sym, ap, subst, ◌∙◌}
 use Rattle.addr_space.specs.declared.Addr.{Addr}
 use Rattle.addr_space.specs.Space.{Space, Asks, raised}
 use Rattle.addr_space.specs.Footprint.{Moves, Keeps}
@@ -36,7 +36,7 @@ allocates_more b m n s t u size at l asked same account moves keeps asks rest =
       answer = served l asked;
       is = refl;
       ledger = rest.ledger ∙ ap (λ (a : BumpTaken). a.ledger) (sym it);
-      place = rw (← same, it) rest.place;
+      place = subst (λ (a : BumpTaken). PutsAt (place_in b.blocks) (place_in n.blocks) at (Some a.place)) (sym it) (rw (← same) rest.place);
       asked = none ∙ asks;
       fresh = rw (← same) rest.fresh;
       live = rw (← same) rest.live;

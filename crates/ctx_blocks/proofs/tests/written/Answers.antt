@@ -84,3 +84,9 @@ returns-clause-known c = λ k below.
     let has = c.cut-at.ensures.moves.agrees.regions at.region within.0 within.1 in
     let bytes = HasBytes-written c.cut-at.new.space c.write.new.self at c.args.bytes.now has.0 has.1 (omega (arith, within.2, has.3)) c.write.ensures.changes in
     subst IsSome (sym (bytes k (omega arith))) refl
+
+pub returns-clause-chunk : goal.returns-clause-chunk
+unfolding first cut
+returns-clause-chunk c =
+    let puts = c.cut-at.ensures.chunk first (owned (goal.at.returns-clause-chunk c).After-keeper-number) in
+    grind (arith, puts c.cut-at.result)
