@@ -1,5 +1,5 @@
 -- Requests that are served in steps.
-use Rattle.std.proofs.Common.{◌≡◌, ℕ, Some, None, Result, Ok, true, false, Bool, Option, option_map, if◌then◌else◌, refl, sym, ap, subst, ◌∙◌}
+use Rattle.std.proofs.Common.{◌≡◌, ℕ, Some, Result, Ok, true, false, Bool, Option, option_map, if◌then◌else◌, refl, sym, ap, subst, ◌∙◌}
 use Rattle.addr_space.specs.declared.Addr.{Addr}
 use Rattle.addr_space.specs.Space.{Space, Asks, raised}
 use Rattle.addr_space.specs.Footprint.{Moves, Keeps}
@@ -9,7 +9,7 @@ use Rattle.chunk_header.specs.declared.CtxError.{CtxError}
 use Rattle.ctx_blocks.specs.Layout.{Layout, chunk_at, footprint}
 use Rattle.ctx_blocks.specs.Steps.{PutsChunk}
 use Rattle.ctx_blocks.specs.declared.parts.Chunk.{Chunk}
-use Rattle.bump_ctx.specs.Ledger.{BumpLedger, BumpPlace, BumpTaken, Anywhere, served}
+use Rattle.bump_ctx.specs.Ledger.{BumpLedger, BumpTaken, Anywhere, served}
 use Rattle.bump_ctx.specs.State.{place_in}
 use Rattle.bump_ctx.specs.Steps.{Allocates}
 use Rattle.bump_ctx.specs.declared.books.Books.{Books}

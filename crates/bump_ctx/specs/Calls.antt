@@ -1,5 +1,5 @@
 -- What a call that serves a request does to a context, by the step of the ledger.
-use Rattle.std.specs.Prelude.{◌≡◌, ℕ, Some, Result, Ok}
+use Rattle.std.specs.Prelude.{◌≡◌, ℕ, Some, Ok}
 use Rattle.addr_space.specs.declared.Addr.{Addr}
 use Rattle.addr_space.specs.Space.{Space, Asks}
 use Rattle.addr_space.specs.Live.{PutsAt}

@@ -1,8 +1,8 @@
-use Rattle.std.proofs.Common.{◌≡◌, ap}
+use Rattle.std.proofs.Common.{ap}
 use Rattle.addr_space.specs.Footprint.{Footprint}
 use Rattle.addr_space.proofs.Options.{on_ok, on_err}
 use Rattle.ctx_blocks.proofs.Spared.{moves_bare}
-use Rattle.bump_ctx.specs.State.{BumpState, footprint}
+use Rattle.bump_ctx.specs.State.{footprint}
 use Rattle.bump_ctx.specs.Kept.{state_of}
 use Rattle.bump_ctx.proofs.Refused.{either, both_err, Moves-same, Keeps-same}
 use Rattle.bump_ctx.proofs.BumpCtx.alloc.Goals as goal
