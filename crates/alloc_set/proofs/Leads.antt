@@ -3,10 +3,12 @@ use Rattle.std.proofs.Common.{◌≡◌, ℕ, ◌+◌, ◌-◌, ◌%◌, ◌^◌
 use Rattle.std.proofs.lemmas.Bool.{cases_eq}
 use Rattle.std.proofs.lemmas.Bool.Decides.{nat_tests}
 use Rattle.addr_space.specs.declared.Addr.{Addr}
-use Rattle.chunk_header.specs.Header.{IsPackable, IsLeading, IsHeaded, AllHeaded, space_of, TakesSpace}
+use Rattle.chunk_header.specs.declared.Kind.TheVariants.{AllocSet}
+use Rattle.chunk_header.specs.Header.{IsPackable, IsLeading, IsHeaded, AllHeaded, AllOfKind, space_of, TakesSpace}
 use Rattle.std.specs.Map.{lookup}
 use Rattle.addr_space.specs.Live.{same_addr}
-use Rattle.alloc_set.specs.State.{SetState, start_of, live_size, header_of, footprint, chunk_at, region_of, live_space, space_at}
+use Rattle.alloc_set.specs.Ledger.{SetPlace, Class, Own as OwnPlace, chunk_bytes}
+use Rattle.alloc_set.specs.State.{SetState, start_of, live_size, live_place, header_of, footprint, chunk_at, place_at, region_of}
 use Rattle.alloc_set.specs.Kept.{IsSettled, IsSized, IsAlone}
 use Rattle.addr_space.proofs.Options.{from_then, one_value}
 use Rattle.alloc_set.proofs.Carved.{mark_from_block, mark_from_chunk}
@@ -32,14 +34,16 @@ start_whole s number =
     ]
 
 -- what a header says that its chunk takes, where an own block has the room that its chunk may have
-takes : (s : SetState) (active dist len space : ℕ) (at : Addr) (chunk : Chunk) → IsAlone s active at chunk → region_of s at.region ≡ Some len → live_space chunk ≡ Some space → space_of (header_of chunk dist) len ≡ space
+takes : (s : SetState) (active dist len : ℕ) (at : Addr) (chunk : Chunk) (place : SetPlace) → IsAlone s active at chunk → region_of s at.region ≡ Some len → live_place chunk ≡ Some place → space_of (header_of chunk dist) len ≡ chunk_bytes s.ledger place
 unfolding space_of
-takes s active dist len space at (Live class size) alone owned is = cc
-takes s active dist len space at (Free class next) alone owned is = absurd (cc)
-takes s active dist len space at (Own size room) alone owned is =
+takes s active dist len at (Live class size) place alone owned is =
+    let it : Class class ≡ place = cc in
+    ap (chunk_bytes s.ledger) it
+takes s active dist len at (Free class next) place alone owned is = absurd (cc)
+takes s active dist len at (Own size room) place alone owned is =
     let whole : len ≡ room + 48 = one_value (region_of s at.region) len (room + 48) owned alone.3 in
-    let it : room + 8 ≡ space = cc in
-    omega (arith, whole, it)
+    let it : OwnPlace (room + 48) ≡ place = cc in
+    omega (arith, whole) ∙ ap (chunk_bytes s.ledger) it
 
 module _ (s : SetState) (active size : ℕ) (settled : IsSettled s active size) (at : Addr) (chunk : Chunk) (there : chunk_at s at ≡ Some chunk) where
   -- a chunk's header leads to its block
@@ -67,17 +71,27 @@ module _ (s : SetState) (active size : ℕ) (settled : IsSettled s active size) 
       }
 
   -- and says what it takes
-  pub takes_by : (space : ℕ) → live_space chunk ≡ Some space → TakesSpace (footprint s) at space
-  takes_by space is =
+  pub takes_by : (place : SetPlace) → live_place chunk ≡ Some place → TakesSpace (footprint s) at (chunk_bytes s.ledger place)
+  takes_by place is =
       let placed = settled.placed at chunk there in
       record {
         headed = headed_by;
         small = omega (arith, (settled.small at.region placed.len placed.owned).0);
-        is = takes s active (at.offset - 8 - start_of s at.region) placed.len space at chunk placed.alone placed.owned is;
+        is = takes s active (at.offset - 8 - start_of s at.region) placed.len at chunk place placed.alone placed.owned is;
       }
 
 pub AllHeaded-settled : (s : SetState) (active size : ℕ) → IsSettled s active size → AllHeaded (footprint s)
 AllHeaded-settled s active size settled at n live = let had = from_then live_size _ n live in headed_by s active size settled at had.0 had.1
 
-pub takes-settled : (s : SetState) (active size : ℕ) → IsSettled s active size → (at : Addr) (space : ℕ) → space_at s at ≡ Some space → TakesSpace (footprint s) at space
-takes-settled s active size settled at space is = let had = from_then live_space _ space is in takes_by s active size settled at had.0 had.1 space had.2
+kind_of : (chunk : Chunk) (dist : ℕ) → (header_of chunk dist).kind ≡ AllocSet
+kind_of (Live class size) dist = refl
+kind_of (Free class next) dist = refl
+kind_of (Own size room) dist = refl
+
+pub AllOfKind-settled : (s : SetState) (active size : ℕ) → IsSettled s active size → AllOfKind AllocSet (footprint s)
+AllOfKind-settled s active size settled at n live =
+    let had = from_then live_size _ n live in
+    (headed_by s active size settled at had.0 had.1, kind_of had.0 (at.offset - 8 - start_of s at.region))
+
+pub takes-settled : (s : SetState) (active size : ℕ) → IsSettled s active size → (at : Addr) (place : SetPlace) → place_at s at ≡ Some place → TakesSpace (footprint s) at (chunk_bytes s.ledger place)
+takes-settled s active size settled at place is = let had = from_then live_place _ place is in takes_by s active size settled at had.0 had.1 place had.2

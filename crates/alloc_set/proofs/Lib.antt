@@ -18,9 +18,12 @@ pub mod Unlisted
 pub mod Given
 pub mod Cleared
 pub mod Stays
+pub mod Places
+pub mod Refused
 pub mod Resized
 pub mod Stretched
 pub mod KeptResized
 pub mod Refits
 pub mod Replaced
 pub mod InPlace
+mod Rows

@@ -4,57 +4,56 @@ use Rattle.std.proofs.lemmas.Bool.Decides.{nat_tests}
 use Rattle.chunk_header.specs.declared.CtxError.{CtxError}
 use Rattle.chunk_header.specs.declared.CtxError.TheVariants.{TooBig, NoSpace}
 use Rattle.chunk_header.specs.Growth.{up8}
-use Rattle.alloc_set.specs.Ledger.{SetLedger, class_size, chunk_limit, take}
-use Rattle.alloc_set.specs.Resize.{then_shelved, resize_class, resize_block, with_block, kept_size, resized_chunk, resized}
-use Rattle.alloc_set.specs.declared.chunk.Chunk.{Chunk}
+use Rattle.chunk_header.specs.Answers.{Resized}
+use Rattle.alloc_set.specs.Ledger.{SetLedger, SetPlace, Class, Own, class_size, chunk_limit, take, in_place, then_shelved, resize_class, resize_block, with_block, kept_size, resize_at, resize}
 
 module _ (l : SetLedger) (held limit old new : ℕ) where
-  other : Result SetLedger CtxError
-  other = if nat_le (held - old + new) limit then Ok (with_block l old new) else Err NoSpace
+  other : Result (Resized SetLedger SetPlace) CtxError
+  other = if nat_le (held - old + new) limit then Ok (in_place (with_block l old new) (Own new) (new - old)) else Err NoSpace
 
-  pub resize_block-same : old ≡ new → resize_block l held limit old new ≡ Ok l
+  pub resize_block-same : old ≡ new → resize_block l held limit old new ≡ Ok (in_place l (Own old) 0)
   unfolding resize_block other
   resize_block-same same =
       let test : (old == new) ≡ true = grind (arith, nat_tests) in
-      ap (λ b. if b then Ok l else other) test
+      ap (λ b. if b then Ok (in_place l (Own old) 0) else other) test
 
   resize_block-other : old ≢ new → resize_block l held limit old new ≡ other
   unfolding resize_block other
   resize_block-other differs =
       let test : (old == new) ≡ false = grind (arith, nat_tests) in
-      ap (λ b. if b then Ok l else other) test
+      ap (λ b. if b then Ok (in_place l (Own old) 0) else other) test
 
-  pub resize_block-within : old ≢ new → held - old + new ≤ limit → resize_block l held limit old new ≡ Ok (with_block l old new)
+  pub resize_block-within : old ≢ new → held - old + new ≤ limit → resize_block l held limit old new ≡ Ok (in_place (with_block l old new) (Own new) (new - old))
   unfolding other
   resize_block-within differs fits =
       let test : nat_le (held - old + new) limit ≡ true = grind (arith, nat_tests) in
-      resize_block-other differs ∙ ap (λ b. if b then Ok (with_block l old new) else Err NoSpace) test
+      resize_block-other differs ∙ ap (λ b. if b then Ok (in_place (with_block l old new) (Own new) (new - old)) else Err NoSpace) test
 
   pub resize_block-over : old ≢ new → limit < held - old + new → resize_block l held limit old new ≡ Err NoSpace
   unfolding other
   resize_block-over differs over =
       let test : nat_le (held - old + new) limit ≡ false = grind (arith, nat_tests) in
-      resize_block-other differs ∙ ap (λ b. if b then Ok (with_block l old new) else Err NoSpace) test
+      resize_block-other differs ∙ ap (λ b. if b then Ok (in_place (with_block l old new) (Own new) (new - old)) else Err NoSpace) test
 
 module _ (l : SetLedger) (held limit class size : ℕ) where
-  pub resize_class-stays : size ≤ class_size class → resize_class l held limit class size ≡ Ok l
+  pub resize_class-stays : size ≤ class_size class → resize_class l held limit class size ≡ Ok (in_place l (Class class) 0)
   unfolding resize_class
   resize_class-stays fits =
       let test : nat_le size (class_size class) ≡ true = grind (arith, nat_tests) in
-      ap (λ b. if b then Ok l else then_shelved (take l (limit - held) size) class) test
+      ap (λ b. if b then Ok (in_place l (Class class) 0) else then_shelved (take l (limit - held) size) class) test
 
   pub resize_class-moves : class_size class < size → resize_class l held limit class size ≡ then_shelved (take l (limit - held) size) class
   unfolding resize_class
   resize_class-moves over =
       let test : nat_le size (class_size class) ≡ false = grind (arith, nat_tests) in
-      ap (λ b. if b then Ok l else then_shelved (take l (limit - held) size) class) test
+      ap (λ b. if b then Ok (in_place l (Class class) 0) else then_shelved (take l (limit - held) size) class) test
 
 -- the step for a size that is not too big
-pub resized-small : (l : SetLedger) (held limit : ℕ) (chunk : Option Chunk) (size : ℕ) → size ≤ 1073741823 → resized l held limit chunk size ≡ resized_chunk l held limit chunk size
-unfolding resized
-resized-small l held limit chunk size small =
+pub resize-small : (l : SetLedger) (held limit : ℕ) (place : SetPlace) (size : ℕ) → size ≤ 1073741823 → resize l held limit place size ≡ resize_at l held limit place size
+unfolding resize
+resize-small l held limit place size small =
     let test : nat_lt 1073741823 size ≡ false = grind (arith, nat_tests) in
-    ap (λ b. if b then Err TooBig else resized_chunk l held limit chunk size) test
+    ap (λ b. if b then Err TooBig else resize_at l held limit place size) test
 
 -- the room of an own block for another size
 pub kept_size-is : (l : SetLedger) (size limit most room : ℕ) → limit ≡ chunk_limit l.max → most ≡ max size (limit + 1) → room ≡ up8 most → room + 48 ≡ kept_size l size

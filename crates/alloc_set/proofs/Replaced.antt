@@ -1,50 +1,36 @@
 -- Lemmas on a chunk that another one takes the place of.
-use Rattle.std.proofs.Common.{◌≡◌, ◌≢◌, ℕ, ◌+◌, ◌-◌, ◌<◌, ◌≤◌, if◌then◌else◌, length, Some, None, Ok, IsSome, refl, sym, ap, ◌∙◌, subst, arith, inl, inr, option_and_then}
+use Rattle.std.proofs.Common.{◌≡◌, ◌≢◌, ℕ, ◌+◌, ◌-◌, ◌<◌, ◌≤◌, if◌then◌else◌, length, Some, None, IsSome, false, refl, sym, ap, ◌∙◌, subst, arith, inl, inr, option_and_then}
 use Rattle.addr_space.specs.declared.Addr.{Addr}
 use Rattle.addr_space.specs.Space.{Space, held, byte_at, region_at, bytes_of, part, overwritten, Changes, IsKnown}
 use Rattle.addr_space.specs.Footprint.{Agrees, Moves, KeepsBut}
 use Rattle.addr_space.proofs.Steps.{Moves-more}
-use Rattle.alloc_set.specs.Ledger.{class_size, shelved, take}
-use Rattle.addr_space.specs.Live.{same_addr, PutsLive, MovesLive, HasBytesOf}
-use Rattle.alloc_set.specs.State.{SetState, chunk_at, live_size, footprint}
+use Rattle.chunk_header.specs.Answers.{Taken}
+use Rattle.alloc_set.specs.Ledger.{SetLedger, SetPlace, class_size, shelved, take, then_shelved, resize_class}
+use Rattle.addr_space.specs.Live.{PutsAt, PutsLive, HasBytesOf}
+use Rattle.alloc_set.specs.State.{SetState, chunk_at, place_at, live_size, footprint}
 use Rattle.alloc_set.specs.Kept.{state_of, IsKept}
 use Rattle.alloc_set.specs.Cut.{Allocates}
-use Rattle.alloc_set.specs.Resize.{then_shelved, resize_class, StaysFor, Resizes}
+use Rattle.alloc_set.specs.Resize.{Reallocates}
+use Rattle.alloc_set.proofs.Places.{MovesAt-from}
 use Rattle.alloc_set.specs.declared.books.Books.{Books}
 use Rattle.alloc_set.specs.declared.chunk.Chunk.TheVariants.{Live}
 use Rattle.addr_space.proofs.Addresses.{same_addr-cases}
 use Rattle.alloc_set.proofs.Refits.{resize_class-moves}
 use Rattle.addr_space.proofs.Carried.{Moves-carried, KeepsBut-carried, HasBytesOf-carried}
 
--- one chunk is live, and then another one isn't
-pub MovesLive-from : (s m t : SetState) (from to : Addr) (size : ℕ) → to ≢ from → PutsLive (footprint s) (footprint m) to (Some size) → PutsLive (footprint m) (footprint t) from None → MovesLive (footprint s) (footprint t) from to size
-MovesLive-from s m t from to size differs first second other =
-    elim (same_addr-cases from other) [
-      | inl old ↦
-          elim (same_addr-cases to other) [
-            | inl new ↦ absurd (differs (new.0 ∙ sym old.0))
-            | inr apart ↦
-                second other ∙ ap (λ b. if b then None else (footprint m).live other) old.1
-                ∙ sym (ap (λ b. if b then Some size else (if same_addr from other then None else (footprint s).live other)) apart.1 ∙ ap (λ b. if b then None else (footprint s).live other) old.1)
-          ]
-      | inr kept ↦
-          second other ∙ ap (λ b. if b then None else (footprint m).live other) kept.1 ∙ first other
-          ∙ ap (λ x. if same_addr to other then Some size else x) (sym (ap (λ b. if b then None else (footprint s).live other) kept.1))
-    ]
-
-module _ (b m : Books) (s u : Space) (at to : Addr) (class old keep size : ℕ) (was : chunk_at (state_of b) at ≡ Some (Live class old)) (few : keep ≤ old)
-    (took : Allocates b m s u size to (take (state_of b).ledger (s.limit - held s b.account) size)) where
-  live_was : (footprint (state_of b)).live at ≡ Some old
+module _ (a : SetState) (m : Books) (s u : Space) (at to : Addr) (class old keep size : ℕ) (was : chunk_at a at ≡ Some (Live class old)) (few : keep ≤ old)
+    (took : Allocates a m s u size to (take a.ledger (s.limit - held s a.account) size)) where
+  live_was : (footprint a).live at ≡ Some old
   live_was = ap (λ o. option_and_then live_size o) was
 
   pub stands : chunk_at (state_of m) at ≡ Some (Live class old)
   stands = took.stays at old live_was ∙ was
 
-  live_now : (footprint (state_of m)).live at ≡ Some old
+  pub live_now : (footprint (state_of m)).live at ≡ Some old
   live_now = ap (λ o. option_and_then live_size o) stands
 
   pub differs : to ≢ at
-  differs same = let clash = sym took.fresh ∙ ap (λ a. (footprint (state_of b)).live a) same ∙ live_was in absurd (cc)
+  differs same = let clash = sym took.fresh ∙ ap (footprint a).live same ∙ live_was in absurd (cc)
 
   byte_kept : (k : ℕ) → k < keep → byte_at u at.region (at.offset + k) ≡ byte_at s at.region (at.offset + k)
   byte_kept k below = took.keeps at old old k live_was live_now (omega (arith, below, few)) (omega (arith, below, few))
@@ -53,14 +39,15 @@ module _ (b m : Books) (s u : Space) (at to : Addr) (class old keep size : ℕ) 
   pub IsKnown-kept : IsKnown s at keep → IsKnown u at keep
   IsKnown-kept known k below = subst IsSome (sym (byte_kept k below)) (known k below)
 
-  pub Resizes-replaced : (n : Books) (v : Space) → class_size class < size → keep ≤ size → IsKnown s at keep
+  pub Reallocates-replaced : (n : Books) (v : Space) → class_size class < size → keep ≤ size → IsKnown s at keep
       → Changes u v to.region (overwritten (region_at u to.region) to.offset (part (bytes_of (region_at u at.region)) at.offset keep))
-      → IsKept n → (state_of n).ledger ≡ shelved (state_of m).ledger class → PutsLive (footprint (state_of m)) (footprint (state_of n)) at None
+      → v.taken ≡ u.taken → IsKept n → (state_of n).ledger ≡ shelved (state_of m).ledger class → PutsAt (place_at (state_of m)) (place_at (state_of n)) at None → PutsLive (footprint (state_of m)) (footprint (state_of n)) at None
       → ((sp : Space) → Agrees (footprint (state_of m)) sp → Moves (footprint (state_of m)) (footprint (state_of n)) sp sp)
-      → Resizes b n s v at to keep size (resize_class (state_of b).ledger (held s b.account) s.limit class size)
-  Resizes-replaced n v over short known copied kept ledger gone moves =
+      → Reallocates a n s v at to keep size (resize_class a.ledger (held s a.account) s.limit class size)
+  Reallocates-replaced n v over short known copied untaken kept ledger unplaced gone moves =
+      let answer : Taken SetLedger SetPlace = took.serves.answer in
       let live_to : (footprint (state_of m)).live to ≡ Some size = elim (same_addr-cases to to) [
-        | inl same ↦ took.live to ∙ ap (λ x. if x then Some size else (footprint (state_of b)).live to) same.1
+        | inl same ↦ took.live to ∙ ap (λ x. if x then Some size else (footprint a).live to) same.1
         | inr apart ↦ absurd (apart.0 refl)
       ] in
       let agrees : Agrees (footprint (state_of m)) u = took.moves.agrees in
@@ -70,17 +57,23 @@ module _ (b m : Books) (s u : Space) (at to : Addr) (class old keep size : ℕ) 
       let carried : Moves (footprint (state_of m)) (footprint (state_of m)) u v = Moves-carried (footprint (state_of m)) u v at to keep size agrees live_to short (IsKnown-kept known) inside copied in
       let but : KeepsBut to (footprint (state_of m)) (footprint (state_of m)) u v = KeepsBut-carried (footprint (state_of m)) u v at to keep size agrees live_to short (IsKnown-kept known) inside copied in
       let bytes : HasBytesOf u v at to keep = HasBytesOf-carried (footprint (state_of m)) u v at to keep size agrees live_to short (IsKnown-kept known) inside copied in
-      let both : Moves (footprint (state_of b)) (footprint (state_of m)) s v = Moves-more (footprint (state_of b)) (footprint (state_of m)) (footprint (state_of m)) s u v took.moves carried in
+      let both : Moves (footprint a) (footprint (state_of m)) s v = Moves-more (footprint a) (footprint (state_of m)) (footprint (state_of m)) s u v took.moves carried in
       record {
         kept = kept;
-        ledger = resize_class-moves (state_of b).ledger (held s b.account) s.limit class size over ∙ ap (λ r. then_shelved r class) took.ledger ∙ ap Ok (sym ledger);
-        place = (λ same. absurd (differs same), λ stays. let fits : size ≤ class_size class = subst (λ o. StaysFor o size) was stays in absurd (omega (arith, fits, over)));
+        refits = record {
+          answer = record { ledger = shelved answer.ledger class; place = answer.place; asked = answer.asked; stays = false };
+          is = resize_class-moves a.ledger (held s a.account) s.limit class size over ∙ ap (λ r. then_shelved r class) took.serves.is;
+          ledger = ledger ∙ ap (λ l. shelved l class) took.serves.ledger;
+          place = MovesAt-from (place_at a) (place_at (state_of m)) (place_at (state_of n)) at to answer.place differs took.serves.place unplaced;
+          asked = untaken ∙ took.serves.asked;
+          stays = (λ same. absurd (differs same), λ it. absurd (cc));
+        };
         fresh = λ apart. took.fresh;
-        live = MovesLive-from (state_of b) (state_of m) (state_of n) at to size differs took.live gone;
+        live = MovesAt-from (footprint a).live (footprint (state_of m)).live (footprint (state_of n)).live at to size differs took.live gone;
         bytes = λ k below. bytes k below ∙ byte_kept k below;
-        moves = Moves-more (footprint (state_of b)) (footprint (state_of m)) (footprint (state_of n)) s v v both (moves v carried.agrees);
+        moves = Moves-more (footprint a) (footprint (state_of m)) (footprint (state_of n)) s v v both (moves v carried.agrees);
         keeps = λ other p q k apart live again below low.
             let middle : (footprint (state_of m)).live other ≡ Some p = ap (λ o. option_and_then live_size o) (took.stays other p live) ∙ live in
-            let not_to : other ≢ to = λ same. let clash = sym took.fresh ∙ ap (λ a. (footprint (state_of b)).live a) (sym same) ∙ live in absurd (cc) in
+            let not_to : other ≢ to = λ same. let clash = sym took.fresh ∙ ap (footprint a).live (sym same) ∙ live in absurd (cc) in
             but other p p k not_to middle middle below below ∙ took.keeps other p p k live middle below below;
       }

@@ -1,11 +1,11 @@
 -- Lemmas on where the blocks and chunks of an AllocSet are.
-use Rattle.std.proofs.Common.{◌≡◌, ◌≢◌, ℕ, ◌+◌, ◌-◌, ◌≤◌, ◌⊎◌, List, length, Some, option_map, sym, ap, ◌∙◌, arith, inl, inr}
+use Rattle.std.proofs.Common.{◌≡◌, ◌≢◌, ℕ, ◌+◌, ◌-◌, ◌≤◌, ◌⊎◌, List, length, Some, option_map, sym, ap, ◌∙◌, arith, inl, inr, is_some, if◌then◌else◌}
 use Rattle.std.proofs.lemmas.Bool.{cases_eq, cases_lt}
 use Rattle.std.proofs.lemmas.Bool.Decides.{nat_tests}
 use Rattle.addr_space.specs.declared.Addr.{Addr}
 use Rattle.addr_space.specs.Footprint.{IsSound, IsWithin}
 use Rattle.chunk_header.specs.Header.{header_bytes, block_bytes}
-use Rattle.alloc_set.specs.State.{SetState, chunk_at, region_of, start_of, capacity_of, live_size, free_size, header_of, mark_of, footprint}
+use Rattle.alloc_set.specs.State.{SetState, chunk_at, region_of, start_of, capacity_of, live_size, free_size, header_of, mark_of, footprint, front_of}
 use Rattle.alloc_set.specs.Kept.{IsSettled, IsSized}
 use Rattle.alloc_set.specs.declared.chunk.Chunk.{Chunk}
 use Rattle.alloc_set.specs.declared.chunk.Chunk.TheVariants.{Live, Free, Own}
@@ -88,6 +88,13 @@ module _ (s : SetState) (active size : ℕ) (settled : IsSettled s active size) 
             (there.len, there.owned, omega (arith, there.last))
       ]
 
+  -- a chunk is behind what is the context's own
+  front_before : (at : Addr) (chunk : Chunk) → chunk_at s at ≡ Some chunk → front_of s at.region ≤ at.offset
+  front_before at chunk found =
+      let placed = settled.placed at chunk found in
+      let is : front_of s at.region ≡ start_of s at.region + 40 = ap (λ o. if is_some o then start_of s at.region + 40 else 0) placed.owned in
+      omega (arith, is, placed.first)
+
   -- the footprint is sound
   pub IsSound-settled : IsSound (footprint s)
   IsSound-settled = record {
@@ -129,4 +136,11 @@ module _ (s : SetState) (active size : ℕ) (settled : IsSettled s active size) 
           | inl below ↦ inl (omega arith)
           | inr above ↦ inr (omega arith)
         ];
+    live_behind = λ at n live.
+        let it = from_then live_size (chunk_at s at) n live in
+        front_before at it.0 it.1;
+    free_behind = λ at n free.
+        let it = from_then free_size (chunk_at s at) n free in
+        front_before at it.0 it.1;
+    small = λ number len owned. (settled.small number len owned).0;
   }

@@ -1,13 +1,15 @@
 -- What is left once the rest of a block was cut up.
-use Rattle.std.specs.Prelude.{◌≡◌, ◌≢◌, ℕ, ◌+◌, ◌-◌, ◌<◌, ◌≤◌, ◌^◌, length, Some, None, Result, Ok, sum_by}
+use Rattle.std.specs.Prelude.{◌≡◌, ◌≢◌, ℕ, ◌+◌, ◌-◌, ◌<◌, ◌≤◌, ◌^◌, length, Some, None, Result, sum_by}
 use Rattle.std.specs.Map.{values_of}
 use Rattle.addr_space.specs.Footprint.{Moves, Keeps}
 use Rattle.chunk_header.specs.declared.CtxError.{CtxError}
-use Rattle.addr_space.specs.Space.{Space, held}
-use Rattle.alloc_set.specs.Ledger.{SetLedger, block_size, renewed, class_bytes}
+use Rattle.addr_space.specs.Space.{Space, Asks, held}
+use Rattle.chunk_header.specs.Answers.{Taken}
+use Rattle.alloc_set.specs.Calls.{Serves}
+use Rattle.alloc_set.specs.Ledger.{SetLedger, SetPlace, block_size, renewed, class_bytes}
 use Rattle.indexmap.specs.IndexMap.{spare}
 use Rattle.addr_space.specs.declared.Addr.{Addr}
-use Rattle.alloc_set.specs.State.{chunk_at, footprint}
+use Rattle.alloc_set.specs.State.{SetState, chunk_at, footprint}
 use Rattle.alloc_set.specs.Kept.{state_of, IsKept, own_bytes}
 use Rattle.addr_space.specs.Live.{PutsLive, SameLive}
 use Rattle.alloc_set.specs.Live.{LeavesLive}
@@ -32,7 +34,7 @@ pub record CutsUp (b n : Books) (room classes : ℕ) : Type 0 where
   pub stays : LeavesLive (state_of b) (state_of n)
 
 -- a new block is active, with room for a chunk of a class
-pub record Renews (b n : Books) (s : Space) (class : ℕ) : Type 0 where
+pub record Renews (b n : Books) (s t : Space) (class : ℕ) : Type 0 where
   pub size : ℕ
   pub had : block_size (state_of b).ledger (s.limit - held s b.account) class ≡ Some size
   pub kept : IsKept n
@@ -43,13 +45,14 @@ pub record Renews (b n : Books) (s : Space) (class : ℕ) : Type 0 where
   pub len : length n.chunks.entries < 2 ^ 40
   pub live : SameLive (footprint (state_of b)) (footprint (state_of n))
   pub stays : LeavesLive (state_of b) (state_of n)
+  pub asked : Asks b.account size s t
 
 -- a live chunk of this size is there now, where the ledger's step answers so
-pub record Allocates (b n : Books) (s t : Space) (size : ℕ) (at : Addr) (step : Result SetLedger CtxError) : Type 0 where
+pub record Allocates (a : SetState) (n : Books) (s t : Space) (size : ℕ) (at : Addr) (step : Result (Taken SetLedger SetPlace) CtxError) : Type 0 where
   pub kept : IsKept n
-  pub ledger : step ≡ Ok (state_of n).ledger
-  pub fresh : (footprint (state_of b)).live at ≡ None
-  pub live : PutsLive (footprint (state_of b)) (footprint (state_of n)) at (Some size)
-  pub stays : LeavesLive (state_of b) (state_of n)
-  pub moves : Moves (footprint (state_of b)) (footprint (state_of n)) s t
-  pub keeps : Keeps (footprint (state_of b)) (footprint (state_of n)) s t
+  pub serves : Serves step a (state_of n) at s t
+  pub fresh : (footprint a).live at ≡ None
+  pub live : PutsLive (footprint a) (footprint (state_of n)) at (Some size)
+  pub stays : LeavesLive a (state_of n)
+  pub moves : Moves (footprint a) (footprint (state_of n)) s t
+  pub keeps : Keeps (footprint a) (footprint (state_of n)) s t

@@ -64,6 +64,13 @@ pub record IsSettled (s : SetState) (active size : ℕ) : Type 0 where
   pub placed : (at : Addr) (chunk : Chunk) → chunk_at s at ≡ Some chunk → IsPlaced s active size at chunk
   pub apart : (a b : Addr) (first second : Chunk) → chunk_at s a ≡ Some first → chunk_at s b ≡ Some second → a.region ≡ b.region → a.offset < b.offset → a.offset + capacity_of first + 8 ≤ b.offset
 
+-- the next free chunk, which a free one names
+abbrev pub next_of : Option Chunk → Option Addr
+next_of (Some (Live class size)) = None
+next_of (Some (Free class next)) = next
+next_of (Some (Own size room)) = None
+next_of None = None
+
 -- so many free chunks of a class, each of which names the next one
 abbrev pub IsChain : (Addr → Option Chunk) → ℕ → ℕ → Option Addr → Type 0
 IsChain chunks class zero first = first ≡ None

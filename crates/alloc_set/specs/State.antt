@@ -1,12 +1,12 @@
 -- What contracts see of an AllocSet: its ledger, and where its blocks and chunks are.
-use Rattle.std.specs.Prelude.{ℕ, ◌+◌, ◌-◌, ◌==◌, true, false, List, [], Option, Some, None, option_map, if◌then◌else◌, option_and_then}
+use Rattle.std.specs.Prelude.{ℕ, ◌+◌, ◌-◌, ◌==◌, true, false, List, [], Option, Some, None, is_some, option_map, if◌then◌else◌, option_and_then}
 use Rattle.std.specs.Map.{lookup}
 use Rattle.addr_space.specs.declared.Addr.{Addr}
 use Rattle.addr_space.specs.Footprint.{Footprint}
 use Rattle.chunk_header.specs.declared.Header.{Header}
 use Rattle.chunk_header.specs.declared.Kind.TheVariants.{AllocSet as SetKind}
 use Rattle.chunk_header.specs.Header.{header_bytes, block_bytes}
-use Rattle.alloc_set.specs.Ledger.{SetLedger, created, class_size, shelved, without_own, class_bytes}
+use Rattle.alloc_set.specs.Ledger.{SetLedger, SetPlace, Class, Own as OwnPlace, reset, class_size}
 use Rattle.alloc_set.specs.declared.chunk.Chunk.{Chunk}
 use Rattle.alloc_set.specs.declared.chunk.Chunk.TheVariants.{Live, Free, Own}
 use Rattle.addr_space.specs.Live.{same_addr}
@@ -33,6 +33,10 @@ region_of s number = if s.keeper == number then Some s.ledger.init else lookup (
 abbrev pub start_of : SetState → ℕ → ℕ
 start_of s number = if s.keeper == number then 200 else 0
 
+-- how many first bytes of a region are the context's own: the header of its block ends there
+abbrev pub front_of : SetState → ℕ → ℕ
+front_of s number = if is_some (region_of s number) then start_of s number + 40 else 0
+
 -- the bytes that a chunk may have
 abbrev pub capacity_of : Chunk → ℕ
 capacity_of (Live class size) = class_size class
@@ -50,14 +54,14 @@ free_size (Live class size) = None
 free_size (Free class next) = Some (class_size class)
 free_size (Own size room) = None
 
--- what a live chunk takes in its block, with its header
-abbrev pub live_space : Chunk → Option ℕ
-live_space (Live class size) = Some (class_bytes class)
-live_space (Free class next) = None
-live_space (Own size room) = Some (room + 8)
+-- the place of a live chunk: an own block has 48 bytes before the chunk
+abbrev pub live_place : Chunk → Option SetPlace
+live_place (Live class size) = Some (Class class)
+live_place (Free class next) = None
+live_place (Own size room) = Some (OwnPlace (room + 48))
 
-abbrev pub space_at : SetState → Addr → Option ℕ
-space_at s at = option_and_then live_space (chunk_at s at)
+abbrev pub place_at : SetState → Addr → Option SetPlace
+place_at s at = option_and_then live_place (chunk_at s at)
 
 -- the header of a chunk, so far from the header of its block
 abbrev pub header_of : Chunk → ℕ → Header
@@ -67,13 +71,7 @@ header_of (Own size room) dist = record { kind = SetKind; own = true; value = 0;
 
 -- a context of which all but the keeper went back
 abbrev pub emptied : SetState → SetState
-emptied s = record s { ledger = created s.ledger.init s.ledger.max; blocks = []; chunks = [] }
-
--- a chunk is freed: one of a class is one more free chunk of it, and an own block goes back
-unfoldable pub freed : SetLedger → Chunk → SetLedger
-freed l (Live class size) = shelved l class
-freed l (Free class next) = l
-freed l (Own size room) = without_own l (room + 48)
+emptied s = record s { ledger = reset s.ledger; blocks = []; chunks = [] }
 
 -- the marks: a block's header begins with the context's number and the block's size, and a chunk's header
 -- stands before it
@@ -89,6 +87,7 @@ footprint s = record {
   context = s.context;
   total = s.ledger.total;
   region = region_of s;
+  front = front_of s;
   mark = mark_of s;
   live = λ at. option_and_then live_size (chunk_at s at);
   free = λ at. option_and_then free_size (chunk_at s at);

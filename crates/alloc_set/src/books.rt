@@ -5,15 +5,16 @@ ghost use Rattle.indexmap.specs.IndexMap.{spare};
 ghost use Rattle.addr_space.specs.declared.Addr.{Addr};
 ghost use Rattle.alloc_set.specs.declared.chunk.Chunk.{Chunk};
 ghost use Rattle.addr_space.specs.Footprint.{Agrees, Moves, Keeps, nothing};
-ghost use Rattle.alloc_set.specs.Ledger.{class_bytes, class_size, cut_off, with_free, stats, with_own, cut_rest, cut_up, halved, block_size, reused, created, take_class, class_of, take_own, own_size, take};
+ghost use Rattle.alloc_set.specs.Ledger.{Class, Own as OwnPlace, class_bytes, class_size, cut_off, with_free, stats, with_own, cut_rest, cut_up, halved, block_size, reused, created, take_class, class_of, take_own, own_size, take};
 ghost use Rattle.chunk_header.specs.Growth.{grown};
-ghost use Rattle.addr_space.specs.Live.{same_addr};
-ghost use Rattle.alloc_set.specs.State.{start_of, chunk_at, region_of, mark_of, footprint};
-ghost use Rattle.addr_space.specs.Space.{Space, held, accounts};
+ghost use Rattle.addr_space.specs.Live.{same_addr, PutsAt};
+ghost use Rattle.alloc_set.specs.Kept.{next_of};
+ghost use Rattle.alloc_set.specs.State.{start_of, chunk_at, place_at, region_of, mark_of, footprint};
+ghost use Rattle.addr_space.specs.Space.{Space, held, accounts, Asks};
 
 use crate::chunk::{Chunk, Shelf};
 use crate::classes::{chunk_limit, class_of, class_size};
-use addr_space::{Addr, Space, SpaceError};
+use addr_space::{Addr, Space};
 use chunk_header::{CtxError, Header, Kind, LARGEST, Sizes, Stats, block_header, grown, up8};
 use indexmap::IndexMap;
 use std::alloc::Global;
@@ -50,17 +51,28 @@ pub struct Books {
     pub idle: u64,
 }
 
-// Notes what stands at an address where room was made, or where a chunk stands already.
-pub fn put(chunks: &mut IndexMap<Addr, Chunk>, at: Addr, chunk: Chunk)
+// Notes what stands at an address where room was made, or where a chunk stands already. Answers what stood there.
+pub fn put(chunks: &mut IndexMap<Addr, Chunk>, at: Addr, chunk: Chunk) -> Option<Chunk>
     requires { (lookup (same_addr at) chunks.old.entries ≡ None) → 0 < spare chunks.old }
     ensures at { (other : Addr) → lookup (same_addr other) chunks.new.entries ≡ (if same_addr at other then Some chunk else lookup (same_addr other) chunks.old.entries) }
     ensures sums { (f : Chunk → ℕ) → sum_by f (values_of chunks.new.entries) + unwrap_or (option_map f (lookup (same_addr at) chunks.old.entries)) 0 ≡ sum_by f (values_of chunks.old.entries) + f chunk }
     ensures len { length chunks.new.entries ≡ length chunks.old.entries + (if is_some (lookup (same_addr at) chunks.old.entries) then 0 else 1) }
     ensures spare { spare chunks.old ≤ spare chunks.new + 1 }
+    ensures was { result ≡ lookup (same_addr at) chunks.old.entries }
 {
     match chunks.insert(at, chunk) {
-        Ok(_) => {}
+        Ok(was) => was,
         Err(_) => unreachable!(),
+    }
+}
+
+// The free chunk that a free chunk names.
+fn next_of(slot: Option<Chunk>) -> Option<Addr>
+    ensures { result ≡ next_of slot }
+{
+    match slot {
+        Some(Chunk::Free { class: _, next }) => next,
+        _ => None,
     }
 }
 
@@ -113,15 +125,13 @@ impl Books {
         ensures context { IfOk result (λ b. b.context ≡ context) }
         ensures live { IfOk result (λ b. (at : Addr) → (footprint (state_of b)).live at ≡ None) }
         ensures moves { IfOk result (λ b. Moves (nothing account context) (footprint (state_of b)) space.old space.new) }
+        ensures place { IfOk result (λ b. (at : Addr) → place_at (state_of b) at ≡ None) }
+        ensures asked { OnOk result (Asks account sizes.init space.old space.new) }
         ensures no_space { (result ≡ Err CtxError.NoSpace) ↔ (space.old.limit < held space.old account + sizes.init) }
         ensures no_other { IfErr result (λ e. (e ≡ CtxError.NoSpace) ⊎ (e ≡ CtxError.Memory)) }
         ensures err { OnErr result (space.new ≡ space.old) }
     {
-        let at = match space.take(account, sizes.init) {
-            Ok(at) => at,
-            Err(SpaceError::NoSpace) => return Err(CtxError::NoSpace),
-            Err(SpaceError::Memory) => return Err(CtxError::Memory),
-        };
+        let at = space.take(account, sizes.init)?;
         space.write(
             Addr {
                 region: at.region,
@@ -176,6 +186,7 @@ impl Books {
         ensures spare { spare self.old.chunks ≤ spare self.new.chunks + 1 }
         ensures moves { Moves (footprint (state_of self.old)) (footprint (state_of self.new)) space.old space.new }
         ensures keeps { Keeps (footprint (state_of self.old)) (footprint (state_of self.new)) space.old space.new }
+        ensures asked { space.new.taken ≡ space.old.taken }
     {
         let region = self.active.region;
         let offset = self.active.size - self.active.room;
@@ -211,6 +222,8 @@ impl Books {
         ensures stays { LeavesLive (state_of self.old) (state_of self.new) }
         ensures moves { Moves (footprint (state_of self.old)) (footprint (state_of self.new)) space.old space.new }
         ensures keeps { Keeps (footprint (state_of self.old)) (footprint (state_of self.new)) space.old space.new }
+        ensures place { place_at (state_of self.new) result ≡ Some (Class class) }
+        ensures asked { space.new.taken ≡ space.old.taken }
     {
         self.carve(space, class, Chunk::Live { class, size })
     }
@@ -235,6 +248,7 @@ impl Books {
         ensures stays { LeavesLive (state_of self.old) (state_of self.new) }
         ensures moves { Moves (footprint (state_of self.old)) (footprint (state_of self.new)) space.old space.new }
         ensures keeps { Keeps (footprint (state_of self.old)) (footprint (state_of self.new)) space.old space.new }
+        ensures asked { space.new.taken ≡ space.old.taken }
     {
         let shelf = self.shelves[class as usize];
         let next = shelf.first;
@@ -267,9 +281,10 @@ impl Books {
 
     // Makes room in the maps, for what one request may need.
     fn make_room(&mut self) -> Result<(), CtxError>
-        ensures same { self.new ≡ record self.old { blocks = self.new.blocks; chunks = self.new.chunks } }
-        ensures blocks { self.new.blocks.entries ≡ self.old.blocks.entries }
-        ensures chunks { self.new.chunks.entries ≡ self.old.chunks.entries }
+        requires { IsKept self.old }
+        ensures kept { IsKept self.new }
+        ensures state { state_of self.new ≡ state_of self.old }
+        ensures limit { self.new.limit ≡ self.old.limit }
         ensures spare_blocks { OnOk result (1 ≤ spare self.new.blocks) }
         ensures spare_chunks { OnOk result (12 ≤ spare self.new.chunks) }
         ensures few { OnOk result (length self.new.chunks.entries ≤ 2 ^ 39) }
@@ -299,6 +314,7 @@ impl Books {
         ensures others { IfOk result (λ number. (other : ℕ) → other ≢ number → region_of (state_of self.new) other ≡ region_of (state_of self.old) other) }
         ensures moves { OnOk result (Moves (footprint (state_of self.old)) (footprint (state_of self.new)) space.old space.new) }
         ensures keeps { OnOk result (Keeps (footprint (state_of self.old)) (footprint (state_of self.new)) space.old space.new) }
+        ensures asked { OnOk result (Asks self.old.account size space.old space.new) }
         ensures fits { OnOk result (size ≤ space.old.limit - held space.old self.old.account) }
         ensures no_space { (result ≡ Err CtxError.NoSpace) → space.old.limit - held space.old self.old.account < size }
         ensures no_other { IfErr result (λ e. (e ≡ CtxError.NoSpace) ⊎ (e ≡ CtxError.Memory)) }
@@ -308,11 +324,7 @@ impl Books {
         if self.total > MOST {
             return Err(CtxError::Memory);
         }
-        let at = match space.take(self.account, size) {
-            Ok(at) => at,
-            Err(SpaceError::NoSpace) => return Err(CtxError::NoSpace),
-            Err(SpaceError::Memory) => return Err(CtxError::Memory),
-        };
+        let at = space.take(self.account, size)?;
         space.write(at, &block_header(self.context, size));
         note(&mut self.blocks, at.region, size);
         self.total += u64::from(size);
@@ -332,6 +344,7 @@ impl Books {
         ensures free { (state_of self.new).ledger.free ≡ cut_up 11 self.old.active.room (state_of self.old).ledger.free }
         ensures moves { Moves (footprint (state_of self.old)) (footprint (state_of self.new)) space.old space.new }
         ensures keeps { Keeps (footprint (state_of self.old)) (footprint (state_of self.new)) space.old space.new }
+        ensures asked { space.new.taken ≡ space.old.taken }
     {
         let mut class = 11u8;
         while class > 0 {
@@ -390,7 +403,7 @@ impl Books {
         requires spare_blocks { 0 < spare self.old.blocks }
         requires spare_chunks { 12 ≤ spare self.old.chunks }
         requires few { length self.old.chunks.entries ≤ 2 ^ 39 }
-        ensures renewed { OnOk result (Renews self.old self.new space.old class) }
+        ensures renewed { OnOk result (Renews self.old self.new space.old space.new class) }
         ensures moves { OnOk result (Moves (footprint (state_of self.old)) (footprint (state_of self.new)) space.old space.new) }
         ensures keeps { OnOk result (Keeps (footprint (state_of self.old)) (footprint (state_of self.new)) space.old space.new) }
         ensures no_space { result ≡ Err CtxError.NoSpace → block_size (state_of self.old).ledger (space.old.limit - held space.old self.old.account) class ≡ None }
@@ -399,24 +412,10 @@ impl Books {
         ensures err_space { OnErr result (space.new ≡ space.old) }
     {
         let size = self.fitted(space, class_size(class) + 48);
-        let region = match self.add_block(space, size) {
-            Ok(region) => region,
-            Err(error) => return Err(error),
-        };
+        let region = self.add_block(space, size)?;
         self.cut_up(space);
         self.activate(region, size);
         Ok(())
-    }
-
-    // The free chunk that a free chunk of a class names.
-    fn next_free(&self, class: u8, at: Addr) -> Option<Addr>
-        requires { (next : Option Addr) × (chunk_at (state_of self.now) at ≡ Some (Chunk.Free class next)) }
-        ensures { chunk_at (state_of self.now) at ≡ Some (Chunk.Free class result) }
-    {
-        match self.chunks.get(&at) {
-            Some(Chunk::Free { class: _, next }) => *next,
-            _ => None,
-        }
     }
 
     // Takes the first free chunk of a class.
@@ -431,6 +430,7 @@ impl Books {
         ensures ledger { OnSome result ((state_of self.new).ledger ≡ reused (state_of self.old).ledger class) }
         ensures fresh { IfSome result (λ at. (footprint (state_of self.old)).live at ≡ None) }
         ensures live { IfSome result (λ at. PutsLive (footprint (state_of self.old)) (footprint (state_of self.new)) at (Some size)) }
+        ensures place { IfSome result (λ at. place_at (state_of self.new) at ≡ Some (Class class)) }
         ensures stays { LeavesLive (state_of self.old) (state_of self.new) }
         ensures moves { OnSome result ((sp : Space) → Agrees (footprint (state_of self.old)) sp → Moves (footprint (state_of self.old)) (footprint (state_of self.new)) sp sp) }
         ensures rest { self.new ≡ record self.old { chunks = self.new.chunks; shelves = self.new.shelves } }
@@ -439,8 +439,7 @@ impl Books {
         let Some(at) = shelf.first else {
             return None;
         };
-        let next = self.next_free(class, at);
-        put(&mut self.chunks, at, Chunk::Live { class, size });
+        let next = next_of(put(&mut self.chunks, at, Chunk::Live { class, size }));
         self.shelves[class as usize] = Shelf {
             first: next,
             count: shelf.count - 1,
@@ -457,6 +456,7 @@ impl Books {
         ensures ledger { (state_of self.new).ledger ≡ record (state_of self.old).ledger { free = with_free (state_of self.old).ledger.free class 1 } }
         ensures live { PutsLive (footprint (state_of self.old)) (footprint (state_of self.new)) at None }
         ensures moves { (sp : Space) → Agrees (footprint (state_of self.old)) sp → Moves (footprint (state_of self.old)) (footprint (state_of self.new)) sp sp }
+        ensures place { PutsAt (place_at (state_of self.old)) (place_at (state_of self.new)) at None }
         ensures rest { self.new ≡ record self.old { chunks = self.new.chunks; shelves = self.new.shelves } }
     {
         let shelf = self.shelves[class as usize];
@@ -473,7 +473,7 @@ impl Books {
         requires kept { IsKept self.old }
         requires agrees { Agrees (footprint (state_of self.old)) space.old }
         requires size { size ≤ 8192 }
-        ensures ok { IfOk result (λ at. Allocates self.old self.new space.old space.new size at (take_class (state_of self.old).ledger (space.old.limit - held space.old self.old.account) (class_of size))) }
+        ensures ok { IfOk result (λ at. Allocates (state_of self.old) self.new space.old space.new size at (take_class (state_of self.old).ledger (space.old.limit - held space.old self.old.account) (class_of size))) }
         ensures no_space { result ≡ Err CtxError.NoSpace → take_class (state_of self.old).ledger (space.old.limit - held space.old self.old.account) (class_of size) ≡ Err CtxError.NoSpace }
         ensures no_other { IfErr result (λ e. (e ≡ CtxError.NoSpace) ⊎ (e ≡ CtxError.Memory)) }
         ensures err_state { OnErr result (state_of self.new ≡ state_of self.old) }
@@ -481,20 +481,14 @@ impl Books {
         ensures err_space { OnErr result (space.new ≡ space.old) }
     {
         let class = class_of(size);
-        match self.make_room() {
-            Ok(()) => {}
-            Err(error) => return Err(error),
-        }
         if let Some(at) = self.reuse(class, size) {
             return Ok(at);
         }
+        self.make_room()?;
         if self.active.room >= class_size(class) + 8 {
             return Ok(self.cut(space, class, size));
         }
-        match self.renew(space, class) {
-            Ok(()) => {}
-            Err(error) => return Err(error),
-        }
+        self.renew(space, class)?;
         Ok(self.cut(space, class, size))
     }
 
@@ -517,6 +511,8 @@ impl Books {
         ensures stays { LeavesLive (state_of self.old) (state_of self.new) }
         ensures moves { Moves (footprint (state_of self.old)) (footprint (state_of self.new)) space.old space.new }
         ensures keeps { Keeps (footprint (state_of self.old)) (footprint (state_of self.new)) space.old space.new }
+        ensures place { place_at (state_of self.new) result ≡ Some (OwnPlace (room + 48)) }
+        ensures asked { space.new.taken ≡ space.old.taken }
     {
         let header = Header {
             kind: Kind::AllocSet,
@@ -535,22 +531,16 @@ impl Books {
         requires kept { IsKept self.old }
         requires agrees { Agrees (footprint (state_of self.old)) space.old }
         requires size { size ≤ 1073741823 }
-        ensures ok { IfOk result (λ at. Allocates self.old self.new space.old space.new size at (take_own (state_of self.old).ledger (space.old.limit - held space.old self.old.account) (own_size size))) }
+        ensures ok { IfOk result (λ at. Allocates (state_of self.old) self.new space.old space.new size at (take_own (state_of self.old).ledger (space.old.limit - held space.old self.old.account) (own_size size))) }
         ensures no_space { result ≡ Err CtxError.NoSpace → take_own (state_of self.old).ledger (space.old.limit - held space.old self.old.account) (own_size size) ≡ Err CtxError.NoSpace }
         ensures no_other { IfErr result (λ e. (e ≡ CtxError.NoSpace) ⊎ (e ≡ CtxError.Memory)) }
         ensures err_state { OnErr result (state_of self.new ≡ state_of self.old) }
         ensures err_kept { OnErr result (IsKept self.new) }
         ensures err_space { OnErr result (space.new ≡ space.old) }
     {
-        match self.make_room() {
-            Ok(()) => {}
-            Err(error) => return Err(error),
-        }
+        self.make_room()?;
         let room = up8(size);
-        let region = match self.add_block(space, room + 48) {
-            Ok(region) => region,
-            Err(error) => return Err(error),
-        };
+        let region = self.add_block(space, room + 48)?;
         Ok(self.settle(space, region, size, room))
     }
 
@@ -558,7 +548,7 @@ impl Books {
     pub fn alloc(&mut self, space: &mut Space, size: u64) -> Result<Addr, CtxError>
         requires kept { IsKept self.old }
         requires agrees { Agrees (footprint (state_of self.old)) space.old }
-        ensures ok { IfOk result (λ at. Allocates self.old self.new space.old space.new size at (take (state_of self.old).ledger (space.old.limit - held space.old self.old.account) size)) }
+        ensures ok { IfOk result (λ at. Allocates (state_of self.old) self.new space.old space.new size at (take (state_of self.old).ledger (space.old.limit - held space.old self.old.account) size)) }
         ensures too_big { (result ≡ Err CtxError.TooBig) ↔ (1073741823 < size) }
         ensures no_space { result ≡ Err CtxError.NoSpace → take (state_of self.old).ledger (space.old.limit - held space.old self.old.account) size ≡ Err CtxError.NoSpace }
         ensures no_other { IfErr result (λ e. (e ≡ CtxError.TooBig) ⊎ ((e ≡ CtxError.NoSpace) ⊎ (e ≡ CtxError.Memory))) }

@@ -4,9 +4,9 @@ ghost use Rattle.std.specs.Map.{values_of, lookup};
 ghost use Rattle.addr_space.specs.declared.Addr.{Addr};
 ghost use Rattle.alloc_set.specs.declared.chunk.Chunk.{Chunk};
 ghost use Rattle.addr_space.specs.Footprint.{Agrees, Moves, Keeps, nothing};
-ghost use Rattle.alloc_set.specs.Ledger.{without_own};
-ghost use Rattle.addr_space.specs.Live.{same_addr};
-ghost use Rattle.alloc_set.specs.State.{chunk_at, region_of, freed, emptied, footprint};
+ghost use Rattle.alloc_set.specs.Ledger.{without_own, give};
+ghost use Rattle.addr_space.specs.Live.{same_addr, PutsAt};
+ghost use Rattle.alloc_set.specs.State.{chunk_at, place_at, region_of, emptied, footprint};
 ghost use Rattle.addr_space.specs.Space.{Space};
 
 use crate::books::{Block, Books};
@@ -53,6 +53,7 @@ impl Books {
         ensures empty { (other : Addr) → other.region ≡ at.region → chunk_at (state_of self.new) other ≡ None }
         ensures counted { self.new.active.room + self.new.idle + sum_by own_bytes (values_of self.new.chunks.entries) + (room + 48) ≤ self.new.total }
         ensures live { PutsLive (footprint (state_of self.old)) (footprint (state_of self.new)) at None }
+        ensures place { PutsAt (place_at (state_of self.old)) (place_at (state_of self.new)) at None }
         ensures moves { (sp : Space) → Agrees (footprint (state_of self.old)) sp → Moves (footprint (state_of self.old)) (footprint (state_of self.new)) sp sp }
     {
         forget(&mut self.chunks, at);
@@ -73,6 +74,7 @@ impl Books {
         ensures len { length self.new.blocks.entries < length self.old.blocks.entries }
         ensures moves { Moves (footprint (state_of self.old)) (footprint (state_of self.new)) space.old space.new }
         ensures keeps { Keeps (footprint (state_of self.old)) (footprint (state_of self.new)) space.old space.new }
+        ensures asked { space.new.taken ≡ space.old.taken }
     {
         strike(&mut self.blocks, number);
         self.total -= u64::from(size);
@@ -93,6 +95,8 @@ impl Books {
         ensures live { PutsLive (footprint (state_of self.old)) (footprint (state_of self.new)) at None }
         ensures moves { Moves (footprint (state_of self.old)) (footprint (state_of self.new)) space.old space.new }
         ensures keeps { Keeps (footprint (state_of self.old)) (footprint (state_of self.new)) space.old space.new }
+        ensures place { PutsAt (place_at (state_of self.old)) (place_at (state_of self.new)) at None }
+        ensures asked { space.new.taken ≡ space.old.taken }
     {
         self.unlist(at, room);
         self.give_block(space, at.region, room + 48);
@@ -104,17 +108,20 @@ impl Books {
         requires agrees { Agrees (footprint (state_of self.old)) space.old }
         requires live { IsSome ((footprint (state_of self.old)).live at) }
         ensures kept { IsKept self.new }
-        ensures ledger { IfSome (chunk_at (state_of self.old) at) (λ chunk. (state_of self.new).ledger ≡ freed (state_of self.old).ledger chunk) }
+        ensures ledger { IfSome (place_at (state_of self.old) at) (λ place. (state_of self.new).ledger ≡ give (state_of self.old).ledger place) }
+        ensures place { PutsAt (place_at (state_of self.old)) (place_at (state_of self.new)) at None }
         ensures live { PutsLive (footprint (state_of self.old)) (footprint (state_of self.new)) at None }
         ensures moves { Moves (footprint (state_of self.old)) (footprint (state_of self.new)) space.old space.new }
         ensures keeps { Keeps (footprint (state_of self.old)) (footprint (state_of self.new)) space.old space.new }
+        ensures asked { space.new.taken ≡ space.old.taken }
     {
         match self.chunk(at) {
             Some(Chunk::Live { class, size: _ }) => self.shelve(class, at),
             Some(Chunk::Own { size: _, room }) => self.give_own(space, at, room),
-            _ => {}
+            _ => unreachable!(),
         }
     }
+
     // Takes all chunks off the books, and makes the keeper, with its whole room, the active block.
     fn clear(&mut self)
         requires kept { IsKept self.old }
@@ -157,6 +164,7 @@ impl Books {
         ensures blocks { self.new.blocks.entries ≡ [] }
         ensures rest { self.new ≡ record self.old { blocks = self.new.blocks; total = self.new.total; count = self.new.count } }
         ensures moves { Moves (footprint (state_of self.old)) (footprint (state_of self.new)) space.old space.new }
+        ensures asked { space.new.taken ≡ space.old.taken }
     {
         while let Some((number, size)) = self.last_block() {
             self.give_block(space, number, size);
@@ -170,6 +178,7 @@ impl Books {
         ensures kept { IsKept self.new }
         ensures state { state_of self.new ≡ emptied (state_of self.old) }
         ensures moves { Moves (footprint (state_of self.old)) (footprint (state_of self.new)) space.old space.new }
+        ensures asked { space.new.taken ≡ space.old.taken }
     {
         self.clear();
         self.give_blocks(space);
@@ -180,6 +189,7 @@ impl Books {
         requires kept { IsKept self }
         requires agrees { Agrees (footprint (state_of self)) space.old }
         ensures moves { Moves (footprint (state_of self)) (nothing self.account self.context) space.old space.new }
+        ensures asked { space.new.taken ≡ space.old.taken }
     {
         self.reset(space);
         space.give(Addr {

@@ -1,4 +1,4 @@
-//! An AllocSet: a memory context that keeps its freed chunks by class.
+//! An AllocSet: a memory context that keeps its freed chunks by class, as PostgreSQL's aset.c has it.
 #![tactic(auto)]
 
 ghost use Rattle.std.specs.Prelude.{◌≡◌, ◌≢◌, ℕ, ◌+◌, ◌-◌, ◌%◌, ◌^◌, ◌<◌, ◌≤◌, ◌↔◌, ◌⊎◌, Ok, Err, None, Some, IfOk, IfErr, OnOk, OnErr, IsSome, IfSome, min, ◌==◌, if◌then◌else◌};
@@ -13,7 +13,7 @@ mod resizing;
 
 use addr_space::{Addr, Space};
 use books::Books;
-use chunk_header::{CtxError, Sizes, Stats};
+use chunk_header::{CtxError, Kind, Sizes, Stats};
 use std::alloc::Global;
 use std::marker::Model;
 
@@ -36,15 +36,16 @@ impl Model for AllocSet {
 }
 
 impl AllocSet {
-    ghost use Rattle.addr_space.specs.Space.{accounts, held, IsKnown};
+    ghost use Rattle.addr_space.specs.Space.{accounts, held, IsKnown, Asks};
     ghost use Rattle.addr_space.specs.Footprint.{nothing, Agrees, Moves, Keeps, KeepsBut};
-    ghost use Rattle.chunk_header.specs.Header.{AllHeaded, TakesSpace};
-    ghost use Rattle.alloc_set.specs.State.{chunk_at, region_of, space_at, freed, footprint};
-    ghost use Rattle.alloc_set.specs.Ledger.{created, take};
-    ghost use Rattle.addr_space.specs.Live.{PutsLive, MovesLive, HasBytesOf};
-    ghost use Rattle.alloc_set.specs.Resize.{resized, StaysFor};
+    ghost use Rattle.addr_space.specs.Live.{PutsAt, PutsLive, MovesLive, HasBytesOf};
+    ghost use Rattle.chunk_header.specs.Header.{AllHeaded, AllOfKind, TakesSpace};
+    ghost use Rattle.alloc_set.specs.State.{place_at, footprint};
+    ghost use Rattle.alloc_set.specs.Ledger.{SetPlace, created, take, give, reset, chunk_bytes};
+    ghost use Rattle.alloc_set.specs.Calls.{Takes, Resizes, resize_in};
 
-    /// A context with one block, for an account of the space. `context` is the number that its blocks keep.
+    /// A context with one block, for an account of the space: `AllocSetContextCreate` of PostgreSQL's aset.c.
+    /// `context` is the number that its blocks keep.
     ///
     /// `NoSpace` comes where the first block doesn't fit, and before `Memory`. A refused call changes nothing.
     pub fn create(
@@ -63,48 +64,53 @@ impl AllocSet {
         ensures ledger { IfOk result (λ a. a.ledger ≡ created sizes.init sizes.max) }
         ensures account { IfOk result (λ a. a.account ≡ account) }
         ensures context { IfOk result (λ a. a.context ≡ context) }
+        ensures place { IfOk result (λ a. (at : Addr) → place_at a at ≡ None) }
         ensures live { IfOk result (λ a. (at : Addr) → (footprint a).live at ≡ None) }
         ensures moves { IfOk result (λ a. Moves (nothing account context) (footprint a) space.old space.new) }
+        ensures asked { OnOk result (Asks account sizes.init space.old space.new) }
         ensures no_space { (result ≡ Err CtxError.NoSpace) ↔ (space.old.limit < held space.old account + sizes.init) }
         ensures no_other { IfErr result (λ e. (e ≡ CtxError.NoSpace) ⊎ (e ≡ CtxError.Memory)) }
-        ensures err { OnErr result (space.new ≡ space.old) }
+        ensures err_space { OnErr result (space.new ≡ space.old) }
     {
-        match Books::create(alloc, space, account, context, sizes) {
-            Ok(books) => Ok(AllocSet { books }),
-            Err(error) => Err(error),
-        }
+        let books = Books::create(alloc, space, account, context, sizes)?;
+        Ok(AllocSet { books })
     }
 
-    /// What the context holds.
+    /// What the context holds: `AllocSetStats`.
     pub fn stats(&self) -> Stats
-        ensures { result ≡ stats self.now.ledger }
+        ensures stats { result ≡ stats self.now.ledger }
+        ensures total { (footprint self.now).total ≡ result.total }
     {
         self.books.stats()
     }
 
-    /// Each live chunk has a header that leads to its block, and so to the context, and says what the chunk takes. A
-    /// caller cites the clauses.
+    /// Each live chunk has a header that leads to its block, and so to the context, and says what the chunk takes:
+    /// the laws that `GetMemoryChunkContext` and `GetMemoryChunkSpace` stand on. A caller cites the clauses.
     pub fn headed(&self)
         ensures headed { AllHeaded (footprint self.now) }
-        ensures spaces { (at : Addr) (space : ℕ) → space_at self.now at ≡ Some space → TakesSpace (footprint self.now) at space }
+        ensures kinds { AllOfKind Kind.AllocSet (footprint self.now) }
+        ensures spaces { (at : Addr) (place : SetPlace) → place_at self.now at ≡ Some place → TakesSpace (footprint self.now) at (chunk_bytes self.now.ledger place) }
     {
         let _ = &self.books;
     }
 
-    /// Takes a chunk of `size` bytes, which may be 0, and answers its address. No byte of it is known.
+    /// Takes a chunk of `size` bytes, which may be 0, and answers its address: `AllocSetAlloc`. A chunk that was
+    /// freed before has the bytes that stood there.
     ///
-    /// `TooBig`, `NoSpace` and `Memory` are tried in this order. A refused call changes nothing.
+    /// `TooBig`, where `size` is over 1,073,741,823, `NoSpace` and `Memory` are tried in this order. A refused call
+    /// changes nothing.
     pub fn alloc(&mut self, space: &mut Space, size: u64) -> Result<Addr, CtxError>
         requires { Agrees (footprint self.old) space.old }
 
-        // The ledger makes its step for the request, with what is left of the account.
-        ensures ledger { OnOk result (take self.old.ledger (space.old.limit - held space.old self.old.account) size ≡ Ok self.new.ledger) }
+        // The ledger makes its step for the request, with what is left of the account, and answers the chunk's place
+        // and the bytes asked. Every other chunk keeps its place.
+        ensures taken { IfOk result (λ at. Takes self.old self.new (space.old.limit - held space.old self.old.account) size at space.old space.new) }
 
-        // The chunk was not live, and every other chunk stays.
+        // The chunk was not live, and every other chunk keeps its size.
         ensures fresh { IfOk result (λ at. (footprint self.old).live at ≡ None) }
         ensures live { IfOk result (λ at. PutsLive (footprint self.old) (footprint self.new) at (Some size)) }
-        ensures moves { OnOk result (Moves (footprint self.old) (footprint self.new) space.old space.new) }
-        ensures keeps { OnOk result (Keeps (footprint self.old) (footprint self.new) space.old space.new) }
+        ensures moves { Moves (footprint self.old) (footprint self.new) space.old space.new }
+        ensures keeps { Keeps (footprint self.old) (footprint self.new) space.old space.new }
 
         ensures too_big { (result ≡ Err CtxError.TooBig) ↔ (1073741823 < size) }
         ensures no_space { result ≡ Err CtxError.NoSpace → take self.old.ledger (space.old.limit - held space.old self.old.account) size ≡ Err CtxError.NoSpace }
@@ -115,7 +121,7 @@ impl AllocSet {
         self.books.alloc(space, size)
     }
 
-    /// Frees a live chunk. The call never refuses, and takes no memory.
+    /// Frees a live chunk: `AllocSetFree`. The call never refuses, and takes no memory.
     ///
     /// A chunk of a class is kept for a later request of that class. A block that the chunk had for itself
     /// goes back to the space.
@@ -123,17 +129,19 @@ impl AllocSet {
         requires agrees { Agrees (footprint self.old) space.old }
         requires live { IsSome ((footprint self.old).live at) }
         ensures ok { result ≡ Ok tt }
-        ensures ledger { IfSome (chunk_at self.old at) (λ chunk. self.new.ledger ≡ freed self.old.ledger chunk) }
+        ensures ledger { IfSome (place_at self.old at) (λ place. self.new.ledger ≡ give self.old.ledger place) }
+        ensures place { PutsAt (place_at self.old) (place_at self.new) at None }
         ensures live { PutsLive (footprint self.old) (footprint self.new) at None }
         ensures moves { Moves (footprint self.old) (footprint self.new) space.old space.new }
         ensures keeps { Keeps (footprint self.old) (footprint self.new) space.old space.new }
+        ensures asked { Asks self.old.account 0 space.old space.new }
     {
         self.books.free(space, at);
         Ok(())
     }
 
-    /// Gives a live chunk a size of `size` bytes, which may be 0, and answers where it is now. `keep` is how many
-    /// of its first bytes are known.
+    /// Gives a live chunk a size of `size` bytes, which may be 0, and answers where it is now: `AllocSetRealloc`.
+    /// `keep` is how many of its first bytes are known.
     ///
     /// The chunk stays where its class has the size, or where it has a block for itself, which then gets another
     /// length. Else a new chunk is taken, the known bytes that have room there are copied, and the old chunk is
@@ -153,20 +161,20 @@ impl AllocSet {
         requires keep { IfSome ((footprint self.old).live at) (λ n. keep ≤ n) }
         requires known { IsKnown space.old at keep }
 
-        // The ledger makes its step for the chunk, with what the account holds and may hold.
-        ensures ledger { OnOk result (resized self.old.ledger (held space.old self.old.account) space.old.limit (chunk_at self.old at) size ≡ Ok self.new.ledger) }
+        // The ledger makes its step for the chunk's place, with what the account holds and may hold, and answers the
+        // chunk's new place, the bytes asked, and whether it stays at its address. Every other chunk keeps its place.
+        ensures resized { IfOk result (λ to. IfSome (place_at self.old at) (λ place. Resizes self.old self.new place size at to space.old space.new)) }
 
-        // Where the chunk is at another address, none was live there, and the old address has none. Others stay.
-        ensures place { IfOk result (λ to. (to ≡ at) ↔ StaysFor (chunk_at self.old at) size) }
+        // Where the chunk is at another address, none was live there, and the old address has none.
         ensures fresh { IfOk result (λ to. to ≢ at → (footprint self.old).live to ≡ None) }
         ensures live { IfOk result (λ to. MovesLive (footprint self.old) (footprint self.new) at to size) }
         ensures bytes { IfOk result (λ to. HasBytesOf space.old space.new at to (min keep size)) }
         ensures known { IfOk result (λ to. IsKnown space.new to (min keep size)) }
-        ensures moves { OnOk result (Moves (footprint self.old) (footprint self.new) space.old space.new) }
-        ensures keeps { OnOk result (KeepsBut at (footprint self.old) (footprint self.new) space.old space.new) }
+        ensures moves { Moves (footprint self.old) (footprint self.new) space.old space.new }
+        ensures keeps { KeepsBut at (footprint self.old) (footprint self.new) space.old space.new }
 
         ensures too_big { (result ≡ Err CtxError.TooBig) ↔ (1073741823 < size) }
-        ensures no_space { result ≡ Err CtxError.NoSpace → resized self.old.ledger (held space.old self.old.account) space.old.limit (chunk_at self.old at) size ≡ Err CtxError.NoSpace }
+        ensures no_space { result ≡ Err CtxError.NoSpace → IfSome (place_at self.old at) (λ place. resize_in self.old space.old place size ≡ Err CtxError.NoSpace) }
         ensures no_other { IfErr result (λ e. (e ≡ CtxError.TooBig) ⊎ ((e ≡ CtxError.NoSpace) ⊎ (e ≡ CtxError.Memory))) }
         ensures err { OnErr result (self.new ≡ self.old) }
         ensures err_space { OnErr result (space.new ≡ space.old) }
@@ -174,25 +182,25 @@ impl AllocSet {
         self.books.realloc(space, at, keep, size)
     }
 
-    /// Frees all chunks. All blocks but the first go back to the space, and the context is as it was created.
-    /// It takes no memory.
+    /// Frees all chunks: `AllocSetReset`. All blocks but the first go back to the space, and the ledger is that of
+    /// a new context. It takes no memory.
     pub fn reset(&mut self, space: &mut Space)
         requires agrees { Agrees (footprint self.old) space.old }
-        ensures ledger { self.new.ledger ≡ created self.old.ledger.init self.old.ledger.max }
-        ensures account { self.new.account ≡ self.old.account }
-        ensures context { self.new.context ≡ self.old.context }
-        ensures keeper { self.new.keeper ≡ self.old.keeper }
-        ensures regions { (number : ℕ) → region_of self.new number ≡ (if self.old.keeper == number then Some self.old.ledger.init else None) }
+        ensures ledger { self.new.ledger ≡ reset self.old.ledger }
+        ensures place { (at : Addr) → place_at self.new at ≡ None }
         ensures live { (at : Addr) → (footprint self.new).live at ≡ None }
         ensures moves { Moves (footprint self.old) (footprint self.new) space.old space.new }
+        ensures asked { Asks self.old.account 0 space.old space.new }
     {
         self.books.reset(space);
     }
 
-    /// Frees all chunks, and gives all blocks, the first too, back to the space. It takes no memory.
+    /// Frees all chunks, and gives all blocks, the first too, back to the space: `AllocSetDelete`. It takes no
+    /// memory.
     pub fn discard(self, space: &mut Space)
         requires agrees { Agrees (footprint self) space.old }
         ensures moves { Moves (footprint self) (nothing self.account self.context) space.old space.new }
+        ensures asked { Asks self.account 0 space.old space.new }
     {
         self.books.discard(space);
     }

@@ -1,17 +1,17 @@
 //! What an AllocSet does when a chunk gets another size.
 ghost use Rattle.std.specs.Prelude.{◌≡◌, ℕ, ◌+◌, ◌-◌, ◌^◌, ◌<◌, ◌≤◌, ◌↔◌, ◌⊎◌, ◌==◌, Ok, Err, Some, IfOk, IfErr, OnOk, OnErr, IsSome, IfSome, map, min, sum_by, unwrap_or, option_map, if◌then◌else◌};
 ghost use Rattle.std.specs.Map.{values_of, lookup};
-ghost use Rattle.addr_space.specs.Space.{Space, held, share, region_at, resized as with_length, overwritten, Changes, IsOverLimit, IsKnown};
+ghost use Rattle.addr_space.specs.Space.{Space, held, share, region_at, resized as with_length, overwritten, raised_by, Changes, IsOverLimit, IsKnown, Asks};
 ghost use Rattle.addr_space.specs.Footprint.{Agrees, Moves, Keeps};
 ghost use Rattle.chunk_header.specs.Header.{block_bytes};
 ghost use Rattle.alloc_set.specs.declared.chunk.Chunk.{Chunk};
-ghost use Rattle.alloc_set.specs.Ledger.{class_size};
-ghost use Rattle.alloc_set.specs.State.{chunk_at, footprint};
+ghost use Rattle.alloc_set.specs.Ledger.{SetPlace, Class, Own as OwnPlace, class_size, with_block, resize_class, resize_block, kept_size};
+ghost use Rattle.alloc_set.specs.State.{chunk_at, place_at, footprint};
 
 use crate::books::{Books, MOST, put};
 use crate::chunk::Chunk;
 use crate::classes::class_size;
-use addr_space::{Addr, Space, SpaceError};
+use addr_space::{Addr, Space};
 use chunk_header::{CtxError, LARGEST, block_header, up8};
 use indexmap::IndexMap;
 
@@ -34,24 +34,22 @@ fn resize_block(space: &mut Space, context: u32, region: u32, size: u32) -> Resu
     requires most { size ≤ 2 ^ 31 }
     ensures changes { OnOk result (Changes space.old space.new region (overwritten (with_length (region_at space.old region) size) 0 (map Some (block_bytes context size)))) }
     ensures held { OnOk result ((account : ℕ) → held space.new account + share account (region_at space.old region) ≡ held space.old account + share account (with_length (region_at space.old region) size)) }
+    ensures taken { OnOk result (space.new.taken ≡ raised_by space.old.taken (region_at space.old region) size) }
     ensures no_space { (result ≡ Err CtxError.NoSpace) ↔ IsOverLimit space.old (region_at space.old region) size }
     ensures no_other { IfErr result (λ e. (e ≡ CtxError.NoSpace) ⊎ (e ≡ CtxError.Memory)) }
     ensures err { OnErr result (space.new ≡ space.old) }
 {
     let start = Addr { region, offset: 0 };
-    match space.resize(start, size) {
-        Ok(()) => {}
-        Err(SpaceError::NoSpace) => return Err(CtxError::NoSpace),
-        Err(SpaceError::Memory) => return Err(CtxError::Memory),
-    }
+    space.resize(start, size)?;
     space.write(start, &block_header(context, size));
     Ok(())
 }
 
 impl Books {
     ghost use Rattle.alloc_set.specs.Kept.{state_of, IsKept};
-    ghost use Rattle.addr_space.specs.Live.{PutsLive};
-    ghost use Rattle.alloc_set.specs.Resize.{with_block, resize_class, resize_block, kept_size, resized, Resizes};
+    ghost use Rattle.addr_space.specs.Live.{PutsAt, PutsLive};
+    ghost use Rattle.alloc_set.specs.Calls.{Refits, resize_in};
+    ghost use Rattle.alloc_set.specs.Resize.{Reallocates};
 
     // Gives a chunk of a class another size in place.
     fn refit(&mut self, class: u8, at: Addr, size: u32)
@@ -61,6 +59,7 @@ impl Books {
         requires live { (old : ℕ) × (chunk_at (state_of self.old) at ≡ Some (Chunk.Live class old)) }
         ensures kept { IsKept self.new }
         ensures ledger { (state_of self.new).ledger ≡ (state_of self.old).ledger }
+        ensures place { PutsAt (place_at (state_of self.old)) (place_at (state_of self.new)) at (Some (Class class)) }
         ensures live { PutsLive (footprint (state_of self.old)) (footprint (state_of self.new)) at (Some size) }
         ensures moves { (sp : Space) → Agrees (footprint (state_of self.old)) sp → Moves (footprint (state_of self.old)) (footprint (state_of self.new)) sp sp }
     {
@@ -84,17 +83,14 @@ impl Books {
         requires keep { keep ≤ size }
         requires live { (old : ℕ) × (chunk_at (state_of self.old) at ≡ Some (Chunk.Live class old)) × (keep ≤ old) }
         requires known { IsKnown space.old at keep }
-        ensures ok { IfOk result (λ to. Resizes self.old self.new space.old space.new at to keep size (resize_class (state_of self.old).ledger (held space.old self.old.account) space.old.limit class size)) }
+        ensures ok { IfOk result (λ to. Reallocates (state_of self.old) self.new space.old space.new at to keep size (resize_class (state_of self.old).ledger (held space.old self.old.account) space.old.limit class size)) }
         ensures no_space { result ≡ Err CtxError.NoSpace → resize_class (state_of self.old).ledger (held space.old self.old.account) space.old.limit class size ≡ Err CtxError.NoSpace }
         ensures no_other { IfErr result (λ e. (e ≡ CtxError.NoSpace) ⊎ (e ≡ CtxError.Memory)) }
         ensures err_state { OnErr result (state_of self.new ≡ state_of self.old) }
         ensures err_kept { OnErr result (IsKept self.new) }
         ensures err_space { OnErr result (space.new ≡ space.old) }
     {
-        let to = match self.alloc(space, u64::from(size)) {
-            Ok(to) => to,
-            Err(error) => return Err(error),
-        };
+        let to = self.alloc(space, u64::from(size))?;
         space.copy(at, to, keep);
         self.shelve(class, at);
         Ok(to)
@@ -116,7 +112,7 @@ impl Books {
         requires keep { keep ≤ size }
         requires live { (old : ℕ) × (chunk_at (state_of self.old) at ≡ Some (Chunk.Live class old)) × (keep ≤ old) }
         requires known { IsKnown space.old at keep }
-        ensures ok { IfOk result (λ to. Resizes self.old self.new space.old space.new at to keep size (resize_class (state_of self.old).ledger (held space.old self.old.account) space.old.limit class size)) }
+        ensures ok { IfOk result (λ to. Reallocates (state_of self.old) self.new space.old space.new at to keep size (resize_class (state_of self.old).ledger (held space.old self.old.account) space.old.limit class size)) }
         ensures no_space { result ≡ Err CtxError.NoSpace → resize_class (state_of self.old).ledger (held space.old self.old.account) space.old.limit class size ≡ Err CtxError.NoSpace }
         ensures no_other { IfErr result (λ e. (e ≡ CtxError.NoSpace) ⊎ (e ≡ CtxError.Memory)) }
         ensures err_state { OnErr result (state_of self.new ≡ state_of self.old) }
@@ -146,6 +142,8 @@ impl Books {
         requires most { room + 48 ≤ 2 ^ 31 }
         ensures kept { OnOk result (IsKept self.new) }
         ensures ledger { OnOk result ((state_of self.new).ledger ≡ with_block (state_of self.old).ledger (old + 48) (room + 48)) }
+        ensures place { OnOk result (PutsAt (place_at (state_of self.old)) (place_at (state_of self.new)) at (Some (OwnPlace (room + 48)))) }
+        ensures asked { OnOk result (Asks self.old.account (room - old) space.old space.new) }
         ensures live { OnOk result (PutsLive (footprint (state_of self.old)) (footprint (state_of self.new)) at (Some size)) }
         ensures moves { OnOk result (Moves (footprint (state_of self.old)) (footprint (state_of self.new)) space.old space.new) }
         ensures keeps { OnOk result (Keeps (footprint (state_of self.old)) (footprint (state_of self.new)) space.old space.new) }
@@ -158,10 +156,7 @@ impl Books {
         if self.total > MOST {
             return Err(CtxError::Memory);
         }
-        match resize_block(space, self.context, at.region, room + 48) {
-            Ok(()) => {}
-            Err(error) => return Err(error),
-        }
+        resize_block(space, self.context, at.region, room + 48)?;
         note_again(&mut self.blocks, at.region, room + 48);
         put(&mut self.chunks, at, Chunk::Own { size, room });
         self.total = self.total - u64::from(old) + u64::from(room);
@@ -175,6 +170,7 @@ impl Books {
         requires fits { size ≤ room }
         ensures kept { IsKept self.new }
         ensures ledger { (state_of self.new).ledger ≡ (state_of self.old).ledger }
+        ensures place { PutsAt (place_at (state_of self.old)) (place_at (state_of self.new)) at (Some (OwnPlace (room + 48))) }
         ensures live { PutsLive (footprint (state_of self.old)) (footprint (state_of self.new)) at (Some size) }
         ensures moves { (sp : Space) → Agrees (footprint (state_of self.old)) sp → Moves (footprint (state_of self.old)) (footprint (state_of self.new)) sp sp }
     {
@@ -194,7 +190,7 @@ impl Books {
         requires size { size ≤ 1073741823 }
         requires live { (n : ℕ) × (chunk_at (state_of self.old) at ≡ Some (Chunk.Own n old)) }
         ensures kept { OnOk result (IsKept self.new) }
-        ensures ledger { OnOk result (resize_block (state_of self.old).ledger (held space.old self.old.account) space.old.limit (old + 48) (kept_size (state_of self.old).ledger size) ≡ Ok (state_of self.new).ledger) }
+        ensures refits { OnOk result (Refits (resize_block (state_of self.old).ledger (held space.old self.old.account) space.old.limit (old + 48) (kept_size (state_of self.old).ledger size)) (state_of self.old) (state_of self.new) at at space.old space.new) }
         ensures live { OnOk result (PutsLive (footprint (state_of self.old)) (footprint (state_of self.new)) at (Some size)) }
         ensures moves { OnOk result (Moves (footprint (state_of self.old)) (footprint (state_of self.new)) space.old space.new) }
         ensures keeps { OnOk result (Keeps (footprint (state_of self.old)) (footprint (state_of self.new)) space.old space.new) }
@@ -224,9 +220,9 @@ impl Books {
         requires live { IsSome ((footprint (state_of self.old)).live at) }
         requires keep { IfSome ((footprint (state_of self.old)).live at) (λ n. keep ≤ n) }
         requires known { IsKnown space.old at keep }
-        ensures ok { IfOk result (λ to. Resizes self.old self.new space.old space.new at to (min keep size) size (resized (state_of self.old).ledger (held space.old self.old.account) space.old.limit (chunk_at (state_of self.old) at) size)) }
+        ensures ok { IfOk result (λ to. (place : SetPlace) × (place_at (state_of self.old) at ≡ Some place) × Reallocates (state_of self.old) self.new space.old space.new at to (min keep size) size (resize_in (state_of self.old) space.old place size)) }
         ensures too_big { (result ≡ Err CtxError.TooBig) ↔ (1073741823 < size) }
-        ensures no_space { result ≡ Err CtxError.NoSpace → resized (state_of self.old).ledger (held space.old self.old.account) space.old.limit (chunk_at (state_of self.old) at) size ≡ Err CtxError.NoSpace }
+        ensures no_space { result ≡ Err CtxError.NoSpace → IfSome (place_at (state_of self.old) at) (λ place. resize_in (state_of self.old) space.old place size ≡ Err CtxError.NoSpace) }
         ensures no_other { IfErr result (λ e. (e ≡ CtxError.TooBig) ⊎ ((e ≡ CtxError.NoSpace) ⊎ (e ≡ CtxError.Memory))) }
         ensures err_state { OnErr result (state_of self.new ≡ state_of self.old) }
         ensures err_kept { OnErr result (IsKept self.new) }
@@ -240,10 +236,8 @@ impl Books {
                 self.resize_class(space, class, at, keep.min(size) as u32, size as u32)
             }
             Some(Chunk::Own { size: _, room }) => {
-                match self.resize_own(space, at, room, size as u32) {
-                    Ok(()) => Ok(at),
-                    Err(error) => Err(error),
-                }
+                self.resize_own(space, at, room, size as u32)?;
+                Ok(at)
             }
             _ => unreachable!(),
         }

@@ -1,8 +1,9 @@
 ghost use Rattle.std.specs.Prelude.{◌≡◌, ◌≤◌, ◌<◌, ◌%◌, Some, OnOk, IfOk};
 ghost use Rattle.addr_space.specs.declared.Addr.{Addr};
-ghost use Rattle.addr_space.specs.Space.{IsKnown, accounts};
+ghost use Rattle.addr_space.specs.Space.{IsKnown, Asks, accounts};
 ghost use Rattle.addr_space.specs.Footprint.{Agrees, AreDisjoint};
 ghost use Rattle.alloc_set.specs.State.{footprint};
+ghost use Rattle.alloc_set.specs.Ledger.{created};
 
 use super::*;
 use std::test::Fail;
@@ -199,6 +200,30 @@ fn bytes_stay_through_other_calls(rt: HostRuntime) -> Result<(), Fail> {
     Ok(())
 }
 
+// What a small context says of a chunk of 2,048 bytes, and once it is freed: the chunk has a block for itself.
+fn own_block(space: &mut Space, set: &mut AllocSet) -> Result<(Stats, Stats), CtxError>
+    requires agrees { Agrees (footprint set.old) space.old }
+    requires new { set.old.ledger ≡ created 1024 8192 }
+    ensures taken { IfOk result (λ said. said.0 ≡ record { total = 3120; blocks = 2; free = 784; chunks = 0 }) }
+    ensures freed { IfOk result (λ said. said.1 ≡ record { total = 1024; blocks = 1; free = 784; chunks = 0 }) }
+    ensures asked { OnOk result (Asks set.old.account 2096 space.old space.new) }
+{
+    let at = set.alloc(space, 2048)?;
+    let taken = set.stats();
+    set.free(space, at)?;
+    Ok((taken, set.stats()))
+}
+
+#[test]
+fn an_own_block_goes_back(rt: HostRuntime) -> Result<(), Fail> {
+    let mut space = Space::new(rt.alloc(), 1, 100_000)?;
+    let mut set = AllocSet::create(rt.alloc(), &mut space, 0, 7, SMALL)?;
+    let said = own_block(&mut space, &mut set)?;
+    assert_eq!(rt; said, (stats([3120, 2, 784, 0]), stats([1024, 1, 784, 0])));
+    assert_eq!(rt; space.taken(0), 3120);
+    Ok(())
+}
+
 #[test]
 fn an_own_block_is_resized(rt: HostRuntime) -> Result<(), Fail> {
     let mut space = Space::new(rt.alloc(), 1, 100_000)?;
@@ -206,6 +231,7 @@ fn an_own_block_is_resized(rt: HostRuntime) -> Result<(), Fail> {
     let at = set.alloc(&mut space, 9000)?;
     set.realloc(&mut space, at, 0, 20_000)?;
     assert_eq!(rt; set.stats(), stats([28240, 2, 7952, 0]));
+    assert_eq!(rt; space.taken(0), 28240);
     Ok(())
 }
 

@@ -17,9 +17,9 @@ returns-clause-held c = λ account.
     let place : Addr = record { region = number; offset = 0 } in
     let it = some_region (region_at s number) c.requires.region in
     let cut : Region = record it.0 { bytes = take size it.0.bytes ++ replicate (size - length it.0.bytes) None } in
-    let found : region_at m number ≡ Some cut = c.in-Ok.ensures.changes.changed ∙ ap (λ r. resized r size) it.1 in
+    let found : region_at m number ≡ Some cut = c.in_ok-resize.ensures.changes.changed ∙ ap (λ r. resized r size) it.1 in
     let wrote : Changes m c.write.new.self number (overwritten (region_at m number) 0 (map Some (block_bytes c.args.context size))) =
     subst (λ b. Changes m c.write.new.self number (overwritten (region_at m number) 0 (map Some b))) c.block_header.ensures c.write.ensures.changes in
     let inside : 0 + length (block_bytes c.args.context size) ≤ length cut.bytes = omega (arith, length-resized it.0.bytes size, length-block_bytes c.args.context size, c.requires.least) in
     let same = held-written m c.write.new.self place (block_bytes c.args.context size) cut found inside wrote account in
-    omega (arith, same, c.in-Ok.ensures.held account)
+    omega (arith, same, c.in_ok-resize.ensures.held account)

@@ -16,5 +16,5 @@ live_moved old new from to size moves =
 
 pub read-requires-clause-inside : goal.read-requires-clause-inside
 read-requires-clause-inside g c =
-    IsInside-live (footprint c.realloc.new.self) c.realloc.new.space c.in_ok-to.to 9 8 c.in_ok-to.ensures.moves.agrees
+    IsInside-live (footprint c.realloc.new.self) c.realloc.new.space c.in_ok-to.to 9 8 c.realloc.ensures.moves.agrees
     (live_moved _ (footprint c.realloc.new.self).live _ c.in_ok-to.to 9 c.in_ok-to.ensures.live) (omega arith)

@@ -66,8 +66,8 @@ after_free c =
     let live_b = stays a b c.in_ok-alloc.field-0 c.args.at (Some (c.args.size + 1)) two.live second_differs ∙ live_a in
     let live_d = stays b d c.in_ok-first.first c.args.at None c.free.ensures.live first_differs ∙ live_b in
     let start : Stands (footprint s) g c.args.space.now c.args.at = record { agrees = c.requires.agrees; others = c.requires.others; disjoint = c.requires.disjoint; live = c.requires.live; known = c.requires.known } in
-    let at_a = own (footprint s) (footprint a) g c.args.space.now c.alloc.new.space c.args.at start one.moves one.keeps live_a in
-    let at_b = own (footprint a) (footprint b) g c.alloc.new.space c.alloc-2.new.space c.args.at at_a two.moves two.keeps live_b in
+    let at_a = own (footprint s) (footprint a) g c.args.space.now c.alloc.new.space c.args.at start c.alloc.ensures.moves c.alloc.ensures.keeps live_a in
+    let at_b = own (footprint a) (footprint b) g c.alloc.new.space c.alloc-2.new.space c.args.at at_a c.alloc-2.ensures.moves c.alloc-2.ensures.keeps live_b in
     own (footprint b) (footprint d) g c.alloc-2.new.space c.free.new.space c.args.at at_b c.free.ensures.moves c.free.ensures.keeps live_d
 
 pub alloc-requires-3 : goal.alloc-requires-3
@@ -78,7 +78,7 @@ after_reset c begun =
     let f = footprint c.free.new.self in
     let g = footprint c.args.other.now in
     let h = footprint c.alloc-3.new.self in
-    let more = other f g h c.free.new.space c.alloc-3.new.space c.args.at begun c.in_ok-alloc-2.ensures.moves in
+    let more = other f g h c.free.new.space c.alloc-3.new.space c.args.at begun c.alloc-3.ensures.moves in
     other f h (footprint c.reset.new.self) c.alloc-3.new.space c.reset.new.space c.args.at more c.reset.ensures.moves
 
 pub returns-clause-agrees : goal.returns-clause-agrees

@@ -3,6 +3,7 @@ use Rattle.addr_space.specs.Space.{Space}
 use Rattle.addr_space.specs.Footprint.{Footprint, Agrees, Moves, AreDisjoint, WritesInside, nothing}
 use Rattle.addr_space.proofs.Apart.{Agrees-other, AreDisjoint-other, Moves-inside}
 use Rattle.addr_space.proofs.Written.{HasBytes-written}
+use Rattle.addr_space.proofs.Carried.{IsInside-live}
 use Rattle.alloc_set.specs.State.{SetState, footprint}
 use Rattle.addr_space.specs.Live.{PutsLive}
 use Rattle.addr_space.proofs.Addresses.{same_addr-cases}
@@ -40,7 +41,7 @@ before c =
     let f = footprint c.in_ok-set.set in
     let none : AreDisjoint (nothing 0 7) g = λ number len owned. absurd (cc) in
     let made = move (nothing 0 7) f g c.create.new.space c.create-2.new.space none c.in_ok-other.ensures.moves.agrees c.in_ok-set.ensures.moves in
-    move f (footprint c.alloc.new.self) g c.create-2.new.space c.alloc.new.space made.disjoint made.others c.in_ok-at.ensures.moves
+    move f (footprint c.alloc.new.self) g c.create-2.new.space c.alloc.new.space made.disjoint made.others c.alloc.ensures.moves
 
 writes : (c : After-write) → WritesInside (footprint c.alloc.new.self) c.alloc.new.space c.write.new.self c.in_ok-at.at c.in_ok-at.at 8 c.args.bytes.now
 writes c = record {
@@ -57,6 +58,11 @@ after c =
     let was = before c in
     let moves = Moves-inside f c.alloc.new.space c.write.new.self c.in_ok-at.at c.in_ok-at.at 8 c.args.bytes.now was.agrees (writes c) in
     move f f (footprint c.in_ok-other.other) c.alloc.new.space c.write.new.self was.disjoint was.others moves
+
+pub write-requires : goal.write-requires
+write-requires c =
+    IsInside-live (footprint c.alloc.new.self) c.alloc.new.space c.in_ok-at.at 8 (length c.args.bytes.now) c.alloc.ensures.moves.agrees
+    (put_live c.in_ok-set.set c.alloc.new.self c.in_ok-at.at (Some 8) c.in_ok-at.ensures.live) (omega arith)
 
 pub returns-clause-agrees : goal.returns-clause-agrees
 returns-clause-agrees c = (after c).agrees

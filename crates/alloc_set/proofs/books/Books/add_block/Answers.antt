@@ -10,16 +10,16 @@ use Rattle.alloc_set.proofs.KeptAdded.{keeper_owned, unowned, not_noted, owned_n
 use Rattle.alloc_set.proofs.books.Books.add_block.Goals as goal
 
 pub note-requires-clause-new : goal.note-requires-clause-new
-note-requires-clause-new c = not_noted (state_of c.args.self.now) c.in-Ok.at.region (unowned (state_of c.args.self.now) c.args.space.now c.in-Ok.at.region c.requires.agrees c.in-Ok.ensures.fresh)
+note-requires-clause-new c = not_noted (state_of c.args.self.now) c.in_ok-at.at.region (unowned (state_of c.args.self.now) c.args.space.now c.in_ok-at.at.region c.requires.agrees c.in_ok-at.ensures.fresh)
 
 -- no region of the context had the number
-none : (c : goal.After-self-2-1) → region_of (state_of c.args.self.now) c.in-Ok.at.region ≡ None
-none c = unowned (state_of c.args.self.now) c.args.space.now c.in-Ok.at.region c.requires.agrees c.in-Ok.ensures.fresh
+none : (c : goal.After-self-2-1) → region_of (state_of c.args.self.now) c.in_ok-at.at.region ≡ None
+none c = unowned (state_of c.args.self.now) c.args.space.now c.in_ok-at.at.region c.requires.agrees c.in_ok-at.ensures.fresh
 
 now : goal.After-self-2-1 → Books
 now c = record c.args.self.now { blocks = c.note.new.blocks; total = c.args.self.now.total + c.from.result; count = c.args.self.now.count + 1 }
 
-adds : (c : goal.After-self-2-1) → Adds (state_of c.args.self.now) (state_of (now c)) c.in-Ok.at.region c.args.size
+adds : (c : goal.After-self-2-1) → Adds (state_of c.args.self.now) (state_of (now c)) c.in_ok-at.at.region c.args.size
 unfolding now
 adds c = record {
   account = refl;
@@ -29,8 +29,8 @@ adds c = record {
   room = refl;
   total = ap (λ n. c.args.self.now.total + n) c.from.ensures;
   fresh = none c;
-  owned = owned_now (state_of c.args.self.now) (state_of (now c)) c.in-Ok.at.region c.args.size (none c) refl refl c.note.ensures.at;
-  others = others_now (state_of c.args.self.now) (state_of (now c)) c.in-Ok.at.region c.args.size (none c) refl refl c.note.ensures.at;
+  owned = owned_now (state_of c.args.self.now) (state_of (now c)) c.in_ok-at.at.region c.args.size (none c) refl refl c.note.ensures.at;
+  others = others_now (state_of c.args.self.now) (state_of (now c)) c.in_ok-at.at.region c.args.size (none c) refl refl c.note.ensures.at;
 }
 
 pub overflow_add-self-2 : goal.overflow_add-self-2
@@ -39,7 +39,7 @@ overflow_add-self-2 c = omega (arith, count-le c.args.self.now c.requires.kept.c
 pub returns-clause-kept : goal.returns-clause-kept
 unfolding now
 returns-clause-kept c =
-    IsKept-added c.args.self.now (now c) c.in-Ok.at.region c.args.size c.requires.kept (adds c) c.requires.least c.requires.most
+    IsKept-added c.args.self.now (now c) c.in_ok-at.at.region c.args.size c.requires.kept (adds c) c.requires.least c.requires.most
     refl refl refl refl refl refl refl c.note.ensures.sums (omega (arith, c.if-self-gt-MOST.false)) c.note.ensures.at
 
 pub returns-clause-ledger : goal.returns-clause-ledger
@@ -53,12 +53,12 @@ returns-clause-owned c = (adds c).owned
 pub returns-clause-moves : goal.returns-clause-moves
 unfolding now
 returns-clause-moves c =
-    let number = c.in-Ok.at.region in
-    let start : c.in-Ok.at.offset ≡ 0 = c.in-Ok.ensures.start in
+    let number = c.in_ok-at.at.region in
+    let start : c.in_ok-at.at.offset ≡ 0 = c.in_ok-at.ensures.start in
     let old = region_at c.take.new.self number in
     let wrote : Changes c.take.new.self c.write.new.self number (overwritten old 0 (map Some (block_bytes c.args.self.now.context c.args.size))) =
     subst (λ o. Changes c.take.new.self c.write.new.self number (overwritten old o (map Some (block_bytes c.args.self.now.context c.args.size)))) start
-    (subst (λ b. Changes c.take.new.self c.write.new.self number (overwritten old c.in-Ok.at.offset (map Some b))) c.block_header.ensures c.write.ensures.changes) in
+    (subst (λ b. Changes c.take.new.self c.write.new.self number (overwritten old c.in_ok-at.at.offset (map Some b))) c.block_header.ensures c.write.ensures.changes) in
     let kept = c.requires.kept in
     Moves-added (state_of c.args.self.now) (state_of (now c)) c.args.self.now.active.region c.args.self.now.active.size number c.args.size kept.settled (adds c)
-    (c.args.self.now.sizes.init, keeper_owned (state_of c.args.self.now)) c.requires.least c.requires.most c.args.space.now c.take.new.self c.write.new.self c.requires.agrees c.in-Ok.ensures.fresh c.in-Ok.ensures.changes c.in-Ok.ensures.held wrote
+    (c.args.self.now.sizes.init, keeper_owned (state_of c.args.self.now)) c.requires.least c.requires.most c.args.space.now c.take.new.self c.write.new.self c.requires.agrees c.in_ok-at.ensures.fresh c.in_ok-at.ensures.changes c.in_ok-at.ensures.held wrote

@@ -1,4 +1,5 @@
 use Rattle.std.proofs.Common.{◌≡◌, ◌-◌, ap, ◌∙◌, refl, arith, Some}
+use Rattle.alloc_set.proofs.Places.{place-put}
 use Rattle.alloc_set.specs.Ledger.{cut_off, class_bytes}
 use Rattle.alloc_set.specs.Kept.{state_of}
 use Rattle.alloc_set.proofs.KeptCut.{IsKept-live, live-without}
@@ -43,3 +44,6 @@ returns-clause-stays c =
     (live-without b n c.args.class c.carve.result (Live c.args.class c.args.size) c.requires.kept c.carve.ensures.carves c.carve.ensures.active
     (ap (λ (x : Books). x.sizes) rest) (ap (λ (x : Books). x.next) rest) (ap (λ (x : Books). x.limit) rest) (ap (λ (x : Books). x.count) rest) (ap (λ (x : Books). x.idle) rest)
     c.carve.ensures.len c.requires.few)
+
+pub returns-clause-place : goal.returns-clause-place
+returns-clause-place c = place-put (state_of c.args.self.now) (state_of c.carve.new.self) c.carve.result (Some (Live c.args.class c.args.size)) c.carve.ensures.carves.chunks

@@ -47,6 +47,7 @@ loop-class-preserved-then-self-class_size c =
       free = ap (λ r. cut_up class r (state_of n).ledger.free) room ∙ ap (cut_up class (m.active.room - class_bytes class)) free ∙ sym (cut_up-in class m.active.room (state_of m).ledger.free fits little) ∙ ap (λ k. cut_up k m.active.room (state_of m).ledger.free) up ∙ kept.free;
       moves = Moves-more (footprint (state_of b)) (footprint (state_of m)) (footprint (state_of n)) c.args.space.now c.loop-class.space c.cut_free.new.space kept.moves c.cut_free.ensures.moves;
       keeps = Keeps-more (footprint (state_of b)) (footprint (state_of m)) (footprint (state_of n)) c.args.space.now c.loop-class.space c.cut_free.new.space (same_stays (footprint (state_of b)) (footprint (state_of m)) kept.cut.live) kept.keeps c.cut_free.ensures.keeps;
+      asked = c.cut_free.ensures.asked ∙ kept.asked;
     }
 
 pub loop-class-preserved : goal.loop-class-preserved
@@ -65,6 +66,7 @@ loop-class-preserved c =
       free = sym (cut_up-out class m.active.room (state_of m).ledger.free little) ∙ ap (λ k. cut_up k m.active.room (state_of m).ledger.free) up ∙ kept.free;
       moves = kept.moves;
       keeps = kept.keeps;
+      asked = kept.asked;
     }
 
 pub returns-clause-room : goal.returns-clause-room

@@ -15,6 +15,7 @@ invariant-loop-class l = record {
   free : cut_up l.class l.self.active.room (state_of l.self).ledger.free ≡ cut_up 11 l.initial.self.active.room (state_of l.initial.self).ledger.free;
   moves : Moves (footprint (state_of l.initial.self)) (footprint (state_of l.self)) l.initial.space l.space;
   keeps : Keeps (footprint (state_of l.initial.self)) (footprint (state_of l.self)) l.initial.space l.space;
+  asked : l.space.taken ≡ l.initial.space.taken;
 }
 
 abbrev pub decreases-loop-class : goal.decreases-loop-class

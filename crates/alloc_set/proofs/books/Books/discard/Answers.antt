@@ -28,4 +28,7 @@ returns c =
     let last = Moves-last (state_of m) c.reset.new.space c.give.new.self c.reset.ensures.moves.agrees blocks (total ∙ sym init) c.give.ensures.changes c.give.ensures.held in
     let same = subst (λ (n : ℕ). Moves (footprint (state_of m)) (nothing b.account n) c.reset.new.space c.give.new.self) context
     (subst (λ (a : ℕ). Moves (footprint (state_of m)) (nothing a m.context) c.reset.new.space c.give.new.self) account last) in
-    record { moves = Moves-more (footprint (state_of b)) (footprint (state_of m)) (nothing b.account b.context) c.args.space.now c.reset.new.space c.give.new.self c.reset.ensures.moves same }
+    record {
+      moves = Moves-more (footprint (state_of b)) (footprint (state_of m)) (nothing b.account b.context) c.args.space.now c.reset.new.space c.give.new.self c.reset.ensures.moves same;
+      asked = c.give.ensures.taken ∙ c.reset.ensures.asked;
+    }

@@ -28,4 +28,5 @@ loop-number-preserved c =
       cleared = IsCleared-kept m n c.give_block.ensures.rest kept.cleared;
       rest = c.give_block.ensures.rest ∙ ap (λ (x : Books). record x { blocks = n.blocks; total = n.total; count = n.count }) kept.rest;
       moves = Moves-more (footprint (state_of b)) (footprint (state_of m)) (footprint (state_of n)) c.args.space.now c.loop-number.space c.give_block.new.space kept.moves c.give_block.ensures.moves;
+      asked = c.give_block.ensures.asked ∙ kept.asked;
     }

@@ -10,6 +10,7 @@ invariant-loop-number l = record {
   cleared : IsCleared l.self;
   rest : l.self ≡ record l.initial.self { blocks = l.self.blocks; total = l.self.total; count = l.self.count };
   moves : Moves (footprint (state_of l.initial.self)) (footprint (state_of l.self)) l.initial.space l.space;
+  asked : l.space.taken ≡ l.initial.space.taken;
 }
 
 abbrev pub decreases-loop-number : goal.decreases-loop-number

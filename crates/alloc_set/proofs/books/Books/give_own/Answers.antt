@@ -1,6 +1,6 @@
 use Rattle.std.proofs.Common.{◌+◌, ap, ◌∙◌, arith, refl}
 use Rattle.addr_space.proofs.Steps.{Moves-more, Keeps-then, same_was}
-use Rattle.alloc_set.specs.State.{region_of, footprint}
+use Rattle.alloc_set.specs.State.{region_of, footprint, place_at}
 use Rattle.alloc_set.specs.Kept.{state_of}
 use Rattle.addr_space.specs.Live.{SameLive}
 use Rattle.alloc_set.specs.declared.books.Books.{Books}
@@ -42,3 +42,6 @@ returns-clause-keeps c =
     let n = c.give_block.new.self in
     let same : SameLive (footprint (state_of m)) (footprint (state_of n)) = λ at. ap (λ (x : Books). (footprint (state_of x)).live at) c.give_block.ensures.rest in
     Keeps-then (footprint (state_of b)) (footprint (state_of m)) (footprint (state_of n)) c.args.space.now c.args.space.now c.give_block.new.space (same_was (footprint (state_of m)) (footprint (state_of n)) same) (λ at x y k live again below short. refl) c.give_block.ensures.keeps
+
+pub returns-clause-place : goal.returns-clause-place
+returns-clause-place c = λ other. ap (λ (x : Books). place_at (state_of x) other) c.give_block.ensures.rest ∙ c.unlist.ensures.place other

@@ -1,27 +1,40 @@
-use Rattle.std.proofs.Common.{◌≡◌, ℕ, ◌≤◌, min, Some, Err, Result, IfOk, IfSome, Option, sym, ap, ◌∙◌, subst, arith, option_and_then}
+use Rattle.std.proofs.Common.{◌≡◌, ℕ, ◌+◌, ◌≤◌, min, Some, Err, Result, Ok, IfOk, IfSome, Option, refl, sym, ap, ◌∙◌, subst, arith, option_and_then}
+use Rattle.std.proofs.lemmas.Result.{err_from_is_err_and}
+use Rattle.addr_space.specs.declared.Addr.{Addr}
 use Rattle.addr_space.specs.Space.{Space, held}
 use Rattle.chunk_header.specs.declared.CtxError.{CtxError}
 use Rattle.chunk_header.specs.declared.CtxError.TheVariants.{NoSpace}
-use Rattle.alloc_set.specs.Ledger.{SetLedger}
-use Rattle.alloc_set.specs.State.{chunk_at, live_size, footprint}
+use Rattle.chunk_header.specs.Answers.{Resized}
+use Rattle.alloc_set.specs.Ledger.{SetLedger, SetPlace, Class, Own as OwnPlace, resize_at, resize_class}
+use Rattle.alloc_set.specs.State.{SetState, chunk_at, place_at, live_size, live_place, footprint}
 use Rattle.alloc_set.specs.Kept.{state_of}
-use Rattle.alloc_set.specs.Resize.{resize_class, resized_chunk, resized, StaysFor, Resizes}
-use Rattle.alloc_set.proofs.Refits.{resized-small}
-use Rattle.alloc_set.proofs.InPlace.{Resizes-in_place}
+use Rattle.alloc_set.specs.Calls.{resize_in}
+use Rattle.alloc_set.specs.Resize.{Reallocates}
+use Rattle.alloc_set.proofs.Refits.{resize-small}
+use Rattle.alloc_set.proofs.InPlace.{Reallocates-in_place}
 use Rattle.alloc_set.specs.declared.books.Books.{Books}
-use Rattle.alloc_set.specs.declared.chunk.Chunk.{Chunk}
 use Rattle.alloc_set.specs.declared.chunk.Chunk.TheVariants.{Live, Own}
 use Rattle.alloc_set.proofs.books.Books.realloc.Goals as goal
 
--- the step, where it is known what stands at the address
-step : (b : Books) (s : Space) (chunk : Chunk) (slot : Option Chunk) (size : ℕ) → size ≤ 1073741823 → slot ≡ Some chunk
-    → resized (state_of b).ledger (held s b.account) s.limit slot size ≡ resized_chunk (state_of b).ledger (held s b.account) s.limit (Some chunk) size
-step b s chunk slot size small found =
-    resized-small (state_of b).ledger (held s b.account) s.limit slot size small ∙ ap (λ o. resized_chunk (state_of b).ledger (held s b.account) s.limit o size) found
-
--- the size that is known
+-- what is said of an option's value
 if_some : {X : Type 0} (P : X → Type 0) (o : Option X) (x : X) → o ≡ Some x → IfSome o P → P x
 if_some P o x is holds = let it : IfSome (Some x) P = subst (λ y. IfSome y P) is holds in it
+
+some_if : {X : Type 0} (P : X → Type 0) (o : Option X) (x : X) → o ≡ Some x → P x → IfSome o P
+some_if P o x is holds = subst (λ y. IfSome y P) (sym is) holds
+
+module _ (a : SetState) (n : Books) (s t : Space) (at : Addr) (keep size : ℕ) (place : SetPlace) (small : size ≤ 1073741823) (there : place_at a at ≡ Some place) where
+  -- the step, where it is known which place the chunk has
+  step : resize_in a s place size ≡ resize_at a.ledger (held s a.account) s.limit place size
+  step = resize-small a.ledger (held s a.account) s.limit place size small
+
+  ok : (r : Result Addr CtxError) → IfOk r (λ to. Reallocates a n s t at to keep size (resize_at a.ledger (held s a.account) s.limit place size))
+      → IfOk r (λ to. (place : SetPlace) × (place_at a at ≡ Some place) × Reallocates a n s t at to keep size (resize_in a s place size))
+  ok (Ok to) had = (place, there, subst (λ (r : Result (Resized SetLedger SetPlace) CtxError). Reallocates a n s t at to keep size r) (sym step) had)
+  ok (Err e) had = had
+
+  none : resize_at a.ledger (held s a.account) s.limit place size ≡ Err NoSpace → IfSome (place_at a at) (λ place. resize_in a s place size ≡ Err NoSpace)
+  none is = some_if (λ place. resize_in a s place size ≡ Err NoSpace) (place_at a at) place there (step ∙ is)
 
 pub resize_class-requires-clause-class : goal.resize_class-requires-clause-class
 resize_class-requires-clause-class c =
@@ -30,41 +43,47 @@ resize_class-requires-clause-class c =
 
 pub returns-in-Some-Live-clause-ok : goal.returns-in-Some-Live-clause-ok
 returns-in-Some-Live-clause-ok c =
-    let b = c.args.self.now in
+    let a = state_of c.args.self.now in
     let s = c.args.space.now in
     let class : ℕ = c.in-Some-Live.class in
-    let found : chunk_at (state_of b) c.args.at ≡ Some (Live class c.in-Some-Live.field-0-1) = cc in
-    let same = step b s (Live class c.in-Some-Live.field-0-1) (chunk_at (state_of b) c.args.at) c.args.size (omega (arith, c.if-size-gt-LARGEST.false)) found in
+    let found : chunk_at a c.args.at ≡ Some (Live class c.in-Some-Live.field-0-1) = cc in
     let keep : c.min.result ≡ min c.args.keep c.args.size = c.min.ensures in
-    subst (λ (r : Result SetLedger CtxError). IfOk c.resize_class.result (λ to. Resizes b c.resize_class.new.self s c.resize_class.new.space c.args.at to (min c.args.keep c.args.size) c.args.size r)) (sym same)
-    (subst (λ k. IfOk c.resize_class.result (λ to. Resizes b c.resize_class.new.self s c.resize_class.new.space c.args.at to k c.args.size (resize_class (state_of b).ledger (held s b.account) s.limit class c.args.size))) keep c.resize_class.ensures.ok)
+    ok a c.resize_class.new.self s c.resize_class.new.space c.args.at (min c.args.keep c.args.size) c.args.size (Class class) (omega (arith, c.if-size-gt-LARGEST.false)) (ap (λ o. option_and_then live_place o) found) c.resize_class.result
+    (subst (λ k. IfOk c.resize_class.result (λ to. Reallocates a c.resize_class.new.self s c.resize_class.new.space c.args.at to k c.args.size (resize_class a.ledger (held s a.account) s.limit class c.args.size))) keep c.resize_class.ensures.ok)
 
 pub returns-in-Some-Live-clause-no_space : goal.returns-in-Some-Live-clause-no_space
-returns-in-Some-Live-clause-no_space c = λ none.
-    let b = c.args.self.now in
+returns-in-Some-Live-clause-no_space c = λ refused.
+    let a = state_of c.args.self.now in
     let s = c.args.space.now in
-    let found : chunk_at (state_of b) c.args.at ≡ Some (Live c.in-Some-Live.class c.in-Some-Live.field-0-1) = cc in
-    step b s (Live c.in-Some-Live.class c.in-Some-Live.field-0-1) (chunk_at (state_of b) c.args.at) c.args.size (omega (arith, c.if-size-gt-LARGEST.false)) found ∙ c.resize_class.ensures.no_space none
+    let class : ℕ = c.in-Some-Live.class in
+    let found : chunk_at a c.args.at ≡ Some (Live class c.in-Some-Live.field-0-1) = cc in
+    none a c.resize_class.new.self s c.resize_class.new.space c.args.at (min c.args.keep c.args.size) c.args.size (Class class) (omega (arith, c.if-size-gt-LARGEST.false)) (ap (λ o. option_and_then live_place o) found)
+    (c.resize_class.ensures.no_space refused)
 
-pub returns-in-Ok-clause-ok : goal.returns-in-Ok-clause-ok
-returns-in-Ok-clause-ok c =
-    let b = c.args.self.now in
+pub returns-in_ok-resize_own-in-Some-Own-clause-ok : goal.returns-in_ok-resize_own-in-Some-Own-clause-ok
+returns-in_ok-resize_own-in-Some-Own-clause-ok c =
+    let a = state_of c.args.self.now in
+    let s = c.args.space.now in
+    let n = c.resize_own.new.self in
+    let t = c.resize_own.new.space in
+    let old : ℕ = c.in-Some-Own.field-0-0 in
+    let room : ℕ = c.in-Some-Own.room in
+    let keep : ℕ = min c.args.keep c.args.size in
+    let found : chunk_at a c.args.at ≡ Some (Own old room) = cc in
+    let live : (footprint a).live c.args.at ≡ Some old = ap (λ o. option_and_then live_size o) found in
+    let few : c.args.keep ≤ old = if_some (λ n. c.args.keep ≤ n) ((footprint a).live c.args.at) old live c.requires.keep in
+    let had : Reallocates a n s t c.args.at c.args.at keep c.args.size (resize_at a.ledger (held s a.account) s.limit (OwnPlace (room + 48)) c.args.size) =
+    Reallocates-in_place a n s t c.args.at old keep c.args.size (resize_at a.ledger (held s a.account) s.limit (OwnPlace (room + 48)) c.args.size)
+    c.in_ok-resize_own-in-Some-Own.ensures.kept c.in_ok-resize_own-in-Some-Own.ensures.refits live (omega (arith, few)) (omega arith) c.in_ok-resize_own-in-Some-Own.ensures.live c.in_ok-resize_own-in-Some-Own.ensures.moves c.in_ok-resize_own-in-Some-Own.ensures.keeps in
+    ok a n s t c.args.at keep c.args.size (OwnPlace (room + 48)) (omega (arith, c.if-size-gt-LARGEST.false)) (ap (λ o. option_and_then live_place o) found) (Ok c.args.at) had
+
+pub returns-in_err-resize_own-in-Some-Own-clause-no_space : goal.returns-in_err-resize_own-in-Some-Own-clause-no_space
+returns-in_err-resize_own-in-Some-Own-clause-no_space c = λ refused.
+    let a = state_of c.args.self.now in
     let s = c.args.space.now in
     let old : ℕ = c.in-Some-Own.field-0-0 in
     let room : ℕ = c.in-Some-Own.room in
-    let found : chunk_at (state_of b) c.args.at ≡ Some (Own old room) = cc in
-    let live : (footprint (state_of b)).live c.args.at ≡ Some old = ap (λ o. option_and_then live_size o) found in
-    let same = step b s (Own old room) (chunk_at (state_of b) c.args.at) c.args.size (omega (arith, c.if-size-gt-LARGEST.false)) found in
-    let few : c.args.keep ≤ old = if_some (λ n. c.args.keep ≤ n) ((footprint (state_of b)).live c.args.at) old live c.requires.keep in
-    Resizes-in_place b c.resize_own.new.self s c.resize_own.new.space c.args.at old (min c.args.keep c.args.size) c.args.size (resized (state_of b).ledger (held s b.account) s.limit (chunk_at (state_of b) c.args.at) c.args.size)
-    c.in-Ok.ensures.kept (same ∙ c.in-Ok.ensures.ledger) live (subst (λ o. StaysFor o c.args.size) (sym found) tt) (omega (arith, few)) (omega arith) c.in-Ok.ensures.live c.in-Ok.ensures.moves c.in-Ok.ensures.keeps
-
-pub returns-in-Err-clause-no_space : goal.returns-in-Err-clause-no_space
-returns-in-Err-clause-no_space c = λ e.
-    let b = c.args.self.now in
-    let s = c.args.space.now in
-    let old : ℕ = c.in-Some-Own.field-0-0 in
-    let room : ℕ = c.in-Some-Own.room in
-    let found : chunk_at (state_of b) c.args.at ≡ Some (Own old room) = cc in
-    let is : c.in-Err.error ≡ NoSpace = cc in
-    step b s (Own old room) (chunk_at (state_of b) c.args.at) c.args.size (omega (arith, c.if-size-gt-LARGEST.false)) found ∙ c.in-Err.ensures.no_space (ap Err is)
+    let found : chunk_at a c.args.at ≡ Some (Own old room) = cc in
+    let is : c.in_err-resize_own-in-Some-Own.field-0.0 ≡ NoSpace = let p = err_from_is_err_and c.from_residual.result c.from_residual.ensures.1 in cc in
+    none a c.resize_own.new.self s c.resize_own.new.space c.args.at (min c.args.keep c.args.size) c.args.size (OwnPlace (room + 48)) (omega (arith, c.if-size-gt-LARGEST.false)) (ap (λ o. option_and_then live_place o) found)
+    (c.in_err-resize_own-in-Some-Own.ensures.no_space (ap Err is))

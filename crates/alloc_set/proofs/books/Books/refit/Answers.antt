@@ -1,4 +1,5 @@
 use Rattle.std.proofs.Common.{◌≡◌, Some, refl, arith}
+use Rattle.alloc_set.proofs.Places.{PutsPlace-chunk}
 use Rattle.alloc_set.specs.State.{chunk_at}
 use Rattle.alloc_set.specs.Kept.{state_of}
 use Rattle.alloc_set.specs.Steps.{SameBlocks}
@@ -24,3 +25,9 @@ returns-clause-moves c = λ sp agrees.
     let sized = (c.requires.kept.settled.placed c.args.at (Live c.args.class old) was).sized in
     let same : SameBlocks (state_of b) (state_of n) = record { account = refl; context = refl; keeper = refl; blocks = refl; init = refl; total = refl } in
     Moves-flipped (state_of b) (state_of n) b.active.region b.active.size c.args.class c.args.at (Live c.args.class old) (Live c.args.class c.args.size) c.requires.kept.settled same refl was (refl, sized.0, sized.1) (refl, sized.0, c.requires.size) c.put.ensures.at sp agrees
+
+pub returns-clause-place : goal.returns-clause-place
+returns-clause-place c =
+    let b = c.args.self.now in
+    let n : Books = record b { chunks = c.put.new.chunks } in
+    PutsPlace-chunk (state_of b) (state_of n) c.args.at (Some (Live c.args.class c.args.size)) c.put.ensures.at

@@ -1,4 +1,5 @@
 use Rattle.std.proofs.Common.{◌≡◌, ◌≢◌, ℕ, ◌+◌, ◌-◌, ◌*◌, ap, ◌∙◌, sym, subst, arith, Some, None, List, length, min, inl, inr, sum_by}
+use Rattle.std.proofs.lemmas.Result.{err_from_is_err_and}
 use Rattle.std.specs.Map.{values_of}
 use Rattle.indexmap.specs.IndexMap.{spare}
 use Rattle.addr_space.specs.Space.{held}
@@ -16,13 +17,13 @@ use Rattle.alloc_set.proofs.Stays.{LeavesLive-same, LeavesLive-more}
 use Rattle.alloc_set.proofs.books.Books.renew.Goals as goal
 use Rattle.alloc_set.proofs.books.Books.renew.Goals.{After-cut_up}
 
-pub returns-in-Err-clause-no_space : goal.returns-in-Err-clause-no_space
+pub returns-in_err-region-clause-no_space : goal.returns-in_err-region-clause-no_space
 unfolding block_size
-returns-in-Err-clause-no_space c = λ e.
+returns-in_err-region-clause-no_space c = λ e.
     let b = c.args.self.now in
     let left : ℕ = c.args.space.now.limit - held c.args.space.now b.account in
     let need : c.class_size.result + 48 ≡ class_size c.args.class + 48 = omega (arith, c.class_size.ensures.value) in
-    subst (λ n. halved left n (grown b.next n) ≡ None) need (c.fitted-size.ensures.none (let it : c.in-Err.error ≡ NoSpace = cc in c.in-Err.ensures.no_space (ap Err it)))
+    subst (λ n. halved left n (grown b.next n) ≡ None) need (c.fitted-size.ensures.none (let it : c.in_err-region.field-0.0 ≡ NoSpace = let p = err_from_is_err_and c.from_residual.result c.from_residual.ensures.1 in cc in c.in_err-region.ensures.no_space (ap Err it)))
 
 -- the ledger once the block is noted and the rest of the old one cut up
 ledger_cut : (c : After-cut_up) → (state_of c.cut_up.new.self).ledger ≡ record (state_of c.args.self.now).ledger {
@@ -37,8 +38,8 @@ ledger_cut c =
     let m = c.add_block.new.self in
     let n = c.cut_up.new.self in
     let f : List ℕ = (state_of n).ledger.free in
-    let own : (state_of m).ledger ≡ record (state_of b).ledger { total = b.total + c.fitted-size.result; blocks = b.count + 1 } = c.in-Ok.ensures.ledger in
-    let active : m.active.room ≡ b.active.room = ap (λ (x : Books). x.active.room) c.in-Ok.ensures.rest in
+    let own : (state_of m).ledger ≡ record (state_of b).ledger { total = b.total + c.fitted-size.result; blocks = b.count + 1 } = c.in_ok-region.ensures.ledger in
+    let active : m.active.room ≡ b.active.room = ap (λ (x : Books). x.active.room) c.in_ok-region.ensures.rest in
     let free : (state_of m).ledger.free ≡ (state_of b).ledger.free = ap (λ (l : SetLedger). l.free) own in
     let room_now : n.active.room ≡ cut_rest 11 b.active.room = c.cut_up.ensures.room ∙ ap (cut_rest 11) active in
     let free_now : f ≡ cut_up 11 b.active.room (state_of b).ledger.free = c.cut_up.ensures.free ∙ ap (λ r. cut_up 11 r (state_of m).ledger.free) active ∙ ap (cut_up 11 b.active.room) free in
@@ -50,13 +51,13 @@ pub activate-requires-clause-empty : goal.activate-requires-clause-empty
 activate-requires-clause-empty c = λ at region.
     let b = c.args.self.now in
     let m = c.add_block.new.self in
-    let none : region_of (state_of b) c.in-Ok.region ≡ None = c.in-Ok.ensures.new in
+    let none : region_of (state_of b) c.in_ok-region.region ≡ None = c.in_ok-region.ensures.new in
     let settled = c.requires.kept.settled in
-    let same_active : m.active.region ≡ b.active.region = ap (λ (x : Books). x.active.region) c.in-Ok.ensures.rest in
+    let same_active : m.active.region ≡ b.active.region = ap (λ (x : Books). x.active.region) c.in_ok-region.ensures.rest in
     let differs : at.region ≢ m.active.region = λ e.
     let clash = sym none ∙ ap (region_of (state_of b)) (sym region ∙ e ∙ same_active) ∙ settled.active_owned in
     absurd (cc) in
-    let old : chunk_at (state_of m) at ≡ chunk_at (state_of b) at = ap (λ (x : Books). chunk_at (state_of x) at) c.in-Ok.ensures.rest in
+    let old : chunk_at (state_of m) at ≡ chunk_at (state_of b) at = ap (λ (x : Books). chunk_at (state_of x) at) c.in_ok-region.ensures.rest in
     let empty : chunk_at (state_of b) at ≡ None = elim (option_cases (chunk_at (state_of b) at)) [
       | inl without ↦ without
       | inr some ↦
@@ -70,8 +71,8 @@ pub activate-requires-clause-counted : goal.activate-requires-clause-counted
 activate-requires-clause-counted c =
     let ledger = ledger_cut (goal.at.activate-requires-clause-counted c).After-cut_up in
     let m = c.add_block.new.self in
-    let active : m.active.room ≡ c.args.self.now.active.room = ap (λ (x : Books). x.active.room) c.in-Ok.ensures.rest in
-    omega (arith, ap (λ (l : SetLedger). l.total) ledger, ap (λ (l : SetLedger). l.idle) ledger, c.cut_up.ensures.cut.less, active, c.requires.kept.counted.rooms, c.cut_up.ensures.cut.owned, ap (λ (x : Books). sum_by own_bytes (values_of x.chunks.entries)) c.in-Ok.ensures.rest)
+    let active : m.active.room ≡ c.args.self.now.active.room = ap (λ (x : Books). x.active.room) c.in_ok-region.ensures.rest in
+    omega (arith, ap (λ (l : SetLedger). l.total) ledger, ap (λ (l : SetLedger). l.idle) ledger, c.cut_up.ensures.cut.less, active, c.requires.kept.counted.rooms, c.cut_up.ensures.cut.owned, ap (λ (x : Books). sum_by own_bytes (values_of x.chunks.entries)) c.in_ok-region.ensures.rest)
 
 pub returns-clause-renewed : goal.returns-clause-renewed
 unfolding block_size renewed
@@ -87,20 +88,21 @@ returns-clause-renewed c =
     let now : (state_of t).ledger ≡ record (state_of n).ledger { next = min (2 * n.next) n.sizes.max; idle = n.idle + n.active.room; room = size - 40 } = ap (λ (s : SetState). s.ledger) c.activate.ensures.state in
     let room : t.active.room ≡ size - 40 = ap (λ (l : SetLedger). l.room) now in
     let chunks : t.chunks ≡ n.chunks = ap (λ (x : Books). x.chunks) c.activate.ensures.rest in
-    let first : m.chunks ≡ b.chunks = ap (λ (x : Books). x.chunks) c.in-Ok.ensures.rest in
+    let first : m.chunks ≡ b.chunks = ap (λ (x : Books). x.chunks) c.in_ok-region.ensures.rest in
     record {
       size = size;
-      had = subst (λ x. halved left x (grown b.next x) ≡ Some size) need (c.fitted-size.ensures.some c.in-Ok.ensures.fits);
+      had = subst (λ x. halved left x (grown b.next x) ≡ Some size) need (c.fitted-size.ensures.some c.in_ok-region.ensures.fits);
       kept = c.activate.ensures.kept;
       ledger = now ∙ ap (λ (l : SetLedger). record l { next = min (2 * l.next) l.max; idle = l.idle + l.room; room = size - 40 }) cut;
       room = omega (arith, room, c.fitted-size.ensures.enough, c.class_size.ensures.value);
-      limit = ap (λ (x : Books). x.limit) c.activate.ensures.rest ∙ c.cut_up.ensures.cut.limit ∙ ap (λ (x : Books). x.limit) c.in-Ok.ensures.rest;
+      limit = ap (λ (x : Books). x.limit) c.activate.ensures.rest ∙ c.cut_up.ensures.cut.limit ∙ ap (λ (x : Books). x.limit) c.in_ok-region.ensures.rest;
       spare = omega (arith, ap spare chunks, c.cut_up.ensures.cut.spare, ap spare first, c.requires.spare_chunks);
       len = omega (arith, ap (λ e. length e.entries) chunks, c.cut_up.ensures.cut.len, ap (λ e. length e.entries) first, c.requires.few);
-      live = λ at. ap (λ (x : Books). (footprint (state_of x)).live at) c.activate.ensures.rest ∙ c.cut_up.ensures.cut.live at ∙ ap (λ (x : Books). (footprint (state_of x)).live at) c.in-Ok.ensures.rest;
+      live = λ at. ap (λ (x : Books). (footprint (state_of x)).live at) c.activate.ensures.rest ∙ c.cut_up.ensures.cut.live at ∙ ap (λ (x : Books). (footprint (state_of x)).live at) c.in_ok-region.ensures.rest;
       stays = LeavesLive-more (state_of b) (state_of m) (state_of t)
           (LeavesLive-same (state_of b) (state_of m) (ap (λ x. x.entries) first))
           (LeavesLive-more (state_of m) (state_of n) (state_of t) c.cut_up.ensures.cut.stays (LeavesLive-same (state_of n) (state_of t) (ap (λ x. x.entries) chunks)));
+      asked = c.cut_up.ensures.asked ∙ c.in_ok-region.ensures.asked;
     }
 
 pub returns-clause-moves : goal.returns-clause-moves
@@ -109,7 +111,7 @@ returns-clause-moves c =
     let m = c.add_block.new.self in
     let n = c.cut_up.new.self in
     subst (λ (f : Footprint). Moves (footprint (state_of b)) f c.args.space.now c.cut_up.new.space) (sym c.activate.ensures.footprint)
-    (Moves-more (footprint (state_of b)) (footprint (state_of m)) (footprint (state_of n)) c.args.space.now c.add_block.new.space c.cut_up.new.space c.in-Ok.ensures.moves c.cut_up.ensures.moves)
+    (Moves-more (footprint (state_of b)) (footprint (state_of m)) (footprint (state_of n)) c.args.space.now c.add_block.new.space c.cut_up.new.space c.in_ok-region.ensures.moves c.cut_up.ensures.moves)
 
 pub returns-clause-keeps : goal.returns-clause-keeps
 returns-clause-keeps c =
@@ -117,4 +119,4 @@ returns-clause-keeps c =
     let m = c.add_block.new.self in
     let n = c.cut_up.new.self in
     subst (λ (f : Footprint). Keeps (footprint (state_of b)) f c.args.space.now c.cut_up.new.space) (sym c.activate.ensures.footprint)
-    (Keeps-more (footprint (state_of b)) (footprint (state_of m)) (footprint (state_of n)) c.args.space.now c.add_block.new.space c.cut_up.new.space (same_stays (footprint (state_of b)) (footprint (state_of m)) (λ at. ap (λ (x : Books). (footprint (state_of x)).live at) c.in-Ok.ensures.rest)) c.in-Ok.ensures.keeps c.cut_up.ensures.keeps)
+    (Keeps-more (footprint (state_of b)) (footprint (state_of m)) (footprint (state_of n)) c.args.space.now c.add_block.new.space c.cut_up.new.space (same_stays (footprint (state_of b)) (footprint (state_of m)) (λ at. ap (λ (x : Books). (footprint (state_of x)).live at) c.in_ok-region.ensures.rest)) c.in_ok-region.ensures.keeps c.cut_up.ensures.keeps)

@@ -1,4 +1,5 @@
 use Rattle.std.proofs.Common.{◌≡◌, ◌^◌, ◌≤◌, ◌+◌, Some, refl, arith}
+use Rattle.alloc_set.proofs.Places.{PutsPlace-chunk}
 use Rattle.alloc_set.specs.State.{chunk_at}
 use Rattle.alloc_set.specs.Kept.{state_of}
 use Rattle.alloc_set.proofs.Stretched.{Stretches, Moves-resettled}
@@ -39,3 +40,7 @@ pub returns-clause-moves : goal.returns-clause-moves
 unfolding now
 returns-clause-moves c = λ sp agrees.
     Moves-resettled (state_of c.args.self.now) (state_of (now c)) c.args.self.now.active.region c.args.self.now.active.size c.requires.live.0 c.args.room c.args.size c.args.room c.args.at c.requires.kept.settled (was c) (stretches c) c.requires.fits (most c) refl sp agrees
+
+pub returns-clause-place : goal.returns-clause-place
+unfolding now
+returns-clause-place c = PutsPlace-chunk (state_of c.args.self.now) (state_of (now c)) c.args.at (Some (Own c.args.size c.args.room)) c.put.ensures.at

@@ -1,4 +1,5 @@
 use Rattle.std.proofs.Common.{◌≡◌, map, Some, None, ap, subst, refl, arith, option_and_then}
+use Rattle.alloc_set.proofs.Places.{place-put}
 use Rattle.addr_space.specs.declared.Addr.{Addr}
 use Rattle.addr_space.specs.Space.{Changes, region_at, overwritten}
 use Rattle.chunk_header.specs.Header.{header_bytes}
@@ -63,3 +64,9 @@ returns-clause-stays c =
     let n : Books = record b { chunks = c.put.new.chunks } in
     let at : Addr = record { region = c.args.region; offset = 48 } in
     LeavesLive-put (state_of b) (state_of n) at (Some (Own c.args.size c.args.room)) c.put.ensures.at (ap (λ o. option_and_then live_size o) (c.requires.empty at refl))
+
+pub returns-clause-place : goal.returns-clause-place
+returns-clause-place c =
+    let b = c.args.self.now in
+    let n : Books = record b { chunks = c.put.new.chunks } in
+    place-put (state_of b) (state_of n) (record { region = c.args.region; offset = 48 }) (Some (Own c.args.size c.args.room)) c.put.ensures.at

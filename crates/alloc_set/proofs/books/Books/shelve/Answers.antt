@@ -1,4 +1,5 @@
 use Rattle.std.proofs.Common.{◌≡◌, ℕ, ◌+◌, ◌<◌, ap, ◌∙◌, sym, refl, arith, Some, List, length, map, set, get_or}
+use Rattle.alloc_set.proofs.Places.{PutsPlace-chunk}
 use Rattle.std.proofs.lemmas.List.{map-set, get_or-map}
 use Rattle.addr_space.specs.declared.Addr.{Addr}
 use Rattle.alloc_set.specs.Ledger.{with_free}
@@ -83,3 +84,11 @@ returns-clause-moves c = λ sp agrees.
     let was = c.requires.live.1 in
     let fits = (c.requires.kept.settled.placed c.args.at (Live class c.requires.live.0) was).sized in
     Moves-flipped (state_of b) (state_of n) b.active.region b.active.size class c.args.at (Live class c.requires.live.0) (Free class shelf.first) c.requires.kept.settled (same b n refl refl refl refl refl refl) refl was (refl, fits.0, fits.1) (refl, c.requires.class) c.put.ensures.at sp agrees
+
+pub returns-clause-place : goal.returns-clause-place
+returns-clause-place c =
+    let b = c.args.self.now in
+    let class : ℕ = c.args.class in
+    let shelf = shelf_at b.shelves class in
+    let n : Books = record b { chunks = c.put.new.chunks; shelves = set b.shelves class (record { first = Some c.args.at; count = shelf.count + 1 }) } in
+    PutsPlace-chunk (state_of b) (state_of n) c.args.at (Some (Free class shelf.first)) c.put.ensures.at

@@ -1,9 +1,11 @@
-use Rattle.std.proofs.Common.{◌≡◌, ℕ, ◌+◌, ◌-◌, ◌≤◌, ◌==◌, if◌then◌else◌, Some, Err, false, refl, ap, ◌∙◌, arith, inl, inr}
+use Rattle.std.proofs.Common.{◌≡◌, ℕ, ◌+◌, ◌-◌, ◌≤◌, ◌==◌, if◌then◌else◌, Some, Err, false, refl, ap, ◌∙◌, arith, inl, inr, length}
+use Rattle.std.proofs.lemmas.Result.{err_from_is_err_and}
+use Rattle.alloc_set.proofs.Places.{PutsPlace-chunk}
 use Rattle.std.specs.Map.{lookup}
 use Rattle.std.proofs.lemmas.Bool.{cases_lt}
 use Rattle.std.proofs.lemmas.Bool.Decides.{nat_tests}
 use Rattle.addr_space.specs.declared.Addr.{Addr}
-use Rattle.addr_space.specs.Space.{Space, held, region_at}
+use Rattle.addr_space.specs.Space.{Space, held, region_at, raised, raised_by}
 use Rattle.addr_space.specs.Footprint.{HasRegion, Agrees}
 use Rattle.chunk_header.specs.declared.CtxError.TheVariants.{NoSpace}
 use Rattle.alloc_set.specs.State.{chunk_at, footprint}
@@ -33,11 +35,11 @@ resize_block-requires-clause-region c =
     let it = target c.args.self.now c.args.space.now c.args.at c.requires.live.0 c.args.old c.requires.kept c.requires.agrees c.requires.live.1 in
     rw it.1 refl
 
-pub returns-in-Err-clause-no_space : goal.returns-in-Err-clause-no_space
-returns-in-Err-clause-no_space c = λ e.
+pub returns-in_err-resize_block-clause-no_space : goal.returns-in_err-resize_block-clause-no_space
+returns-in_err-resize_block-clause-no_space c = λ e.
     let it = target c.args.self.now c.args.space.now c.args.at c.requires.live.0 c.args.old c.requires.kept c.requires.agrees c.requires.live.1 in
-    let is : c.in-Err.error ≡ NoSpace = cc in
-    over_limit c.args.space.now (region_at c.args.space.now c.args.at.region) it.0 c.args.self.now.account (c.args.old + 48) (c.args.room + 48) it.1 it.2 it.3 (c.in-Err.ensures.no_space.0 (ap Err is))
+    let is : c.in_err-resize_block.field-0.0 ≡ NoSpace = let p = err_from_is_err_and c.from_residual.result c.from_residual.ensures.1 in cc in
+    over_limit c.args.space.now (region_at c.args.space.now c.args.at.region) it.0 c.args.self.now.account (c.args.old + 48) (c.args.room + 48) it.1 it.2 it.3 (c.in_err-resize_block.ensures.no_space.0 (ap Err is))
 
 pub note_again-requires : goal.note_again-requires
 note_again-requires c =
@@ -80,7 +82,7 @@ returns-clause-moves c =
     let was : chunk_at (state_of b) c.args.at ≡ Some (Own n c.args.old) = c.requires.live.1 in
     Moves-stretched (state_of b) (state_of m) b.active.region b.active.size n c.args.old c.args.size c.args.room c.args.at c.requires.kept.settled was
     (stretches b m c.args.at n c.args.old c.args.size c.args.room c.from.result c.from-2.result c.requires.kept refl was c.from.ensures c.from-2.ensures refl c.note_again.ensures.at c.put.ensures.at)
-    c.requires.fits c.requires.most c.args.space.now c.resize_block.new.space c.requires.agrees c.in-Ok.ensures.changes c.in-Ok.ensures.held
+    c.requires.fits c.requires.most c.args.space.now c.resize_block.new.space c.requires.agrees c.in_ok-resize_block.ensures.changes c.in_ok-resize_block.ensures.held
 
 pub returns-clause-keeps : goal.returns-clause-keeps
 returns-clause-keeps c =
@@ -90,7 +92,7 @@ returns-clause-keeps c =
     let was : chunk_at (state_of b) c.args.at ≡ Some (Own n c.args.old) = c.requires.live.1 in
     Keeps-stretched (state_of b) (state_of m) b.active.region b.active.size n c.args.old c.args.size c.args.room c.args.at c.requires.kept.settled was
     (stretches b m c.args.at n c.args.old c.args.size c.args.room c.from.result c.from-2.result c.requires.kept refl was c.from.ensures c.from-2.ensures refl c.note_again.ensures.at c.put.ensures.at)
-    c.requires.fits c.requires.most c.args.space.now c.resize_block.new.space c.requires.agrees c.in-Ok.ensures.changes c.in-Ok.ensures.held
+    c.requires.fits c.requires.most c.args.space.now c.resize_block.new.space c.requires.agrees c.in_ok-resize_block.ensures.changes c.in_ok-resize_block.ensures.held
 
 pub returns-clause-ledger : goal.returns-clause-ledger
 returns-clause-ledger c =
@@ -104,7 +106,21 @@ returns-clause-within c =
     let it = target b c.args.space.now c.args.at c.requires.live.0 c.args.old c.requires.kept c.requires.agrees c.requires.live.1 in
     elim (cases_lt c.args.space.now.limit (held c.args.space.now b.account - (c.args.old + 48) + (c.args.room + 48))) [
       | inl over ↦
-          let clash = c.in-Ok.ensures.no_space.1 (not_over c.args.space.now (region_at c.args.space.now c.args.at.region) it.0 b.account (c.args.old + 48) (c.args.room + 48) it.1 it.2 it.3 over) in
+          let clash = c.in_ok-resize_block.ensures.no_space.1 (not_over c.args.space.now (region_at c.args.space.now c.args.at.region) it.0 b.account (c.args.old + 48) (c.args.room + 48) it.1 it.2 it.3 over) in
           absurd (cc)
       | inr fits ↦ fits
     ]
+
+pub returns-clause-place : goal.returns-clause-place
+returns-clause-place c =
+    let b = c.args.self.now in
+    let m : Books = record b { blocks = c.note_again.new.blocks; chunks = c.put.new.chunks; total = b.total - c.from.result + c.from-2.result } in
+    PutsPlace-chunk (state_of b) (state_of m) c.args.at (Some (Own c.args.size c.args.room)) c.put.ensures.at
+
+pub returns-clause-asked : goal.returns-clause-asked
+returns-clause-asked c =
+    let b = c.args.self.now in
+    let s = c.args.space.now in
+    let it = target b s c.args.at c.requires.live.0 c.args.old c.requires.kept c.requires.agrees c.requires.live.1 in
+    let more : c.args.room + 48 - length it.0.bytes ≡ c.args.room - c.args.old = omega (arith, it.3) in
+    c.in_ok-resize_block.ensures.taken ∙ ap (λ o. raised_by s.taken o (c.args.room + 48)) it.1 ∙ ap (λ a. raised s.taken a (c.args.room + 48 - length it.0.bytes)) it.2 ∙ ap (raised s.taken b.account) more

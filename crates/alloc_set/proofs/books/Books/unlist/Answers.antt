@@ -1,4 +1,5 @@
 use Rattle.std.proofs.Common.{◌≡◌, refl, sym, ◌∙◌, arith, Some, None}
+use Rattle.alloc_set.proofs.Places.{PutsPlace-chunk}
 use Rattle.alloc_set.specs.State.{chunk_at}
 use Rattle.alloc_set.specs.Kept.{state_of, own_bytes, is_free}
 use Rattle.alloc_set.specs.Steps.{SameBlocks}
@@ -53,3 +54,7 @@ unfolding now
 returns-clause-moves c = λ sp agrees.
     let b = c.args.self.now in
     Moves-unlisted (state_of b) (state_of (now c)) b.active.region b.active.size c.args.at c.requires.kept.settled (same c) refl c.forget.ensures.at sp agrees
+
+pub returns-clause-place : goal.returns-clause-place
+unfolding now
+returns-clause-place c = PutsPlace-chunk (state_of c.args.self.now) (state_of (now c)) c.args.at None c.forget.ensures.at
