@@ -15,3 +15,6 @@ pub mod Added
 pub mod Dropped
 pub mod Cleared
 pub mod Summed
+pub mod Numbered
+pub mod Among
+pub mod Refused

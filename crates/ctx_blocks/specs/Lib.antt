@@ -3,3 +3,4 @@ pub mod Layout
 pub mod Kept
 pub mod Steps
 pub mod Held
+pub mod Numbered

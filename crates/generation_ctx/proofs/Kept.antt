@@ -9,7 +9,7 @@ use Rattle.ctx_blocks.specs.declared.parts.Chunk.{Chunk}
 use Rattle.generation_ctx.specs.Ledger.{is_spare}
 use Rattle.chunk_header.specs.Growth.{AreSizes}
 use Rattle.ctx_blocks.specs.Kept.{HasSize}
-use Rattle.generation_ctx.specs.Kept.{IsSpare, IsIdle, IsAlone, IsKept}
+use Rattle.generation_ctx.specs.Kept.{AreNumbered, IsSpare, IsIdle, IsAlone, IsKept}
 use Rattle.generation_ctx.specs.declared.books.Books.{Books}
 use Rattle.generation_ctx.proofs.Alone.{apart_room}
 use Rattle.ctx_blocks.proofs.Changed.{put_other, size_put, drop_other, size_drop}
@@ -25,9 +25,10 @@ abbrev pub AllWere : Layout → Layout → ℕ → Type 0
 AllWere l m number = (at : Addr) (chunk : Chunk) → chunk_at m at ≡ Some chunk → chunk.own ≡ true → Was l number at chunk
 
 -- a block is put
-pub kept_put : (b : Books) (m : Layout) (number : ℕ) (block : Block) → IsKept b → SameContext b.blocks m → PutsBlock b.blocks m number block → ((old : Block) → block_at b.blocks number ≡ Some old → block.size ≡ old.size) → is_spare b.spare number ≡ false → AllWere b.blocks m number → IsKept (record b { blocks = m })
-kept_put b m number block kept same puts sizes free were = record {
+pub kept_put : (b : Books) (m : Layout) (number : ℕ) (block : Block) → IsKept b → SameContext b.blocks m → PutsBlock b.blocks m number block → ((old : Block) → block_at b.blocks number ≡ Some old → block.size ≡ old.size) → AreNumbered m → is_spare b.spare number ≡ false → AllWere b.blocks m number → IsKept (record b { blocks = m })
+kept_put b m number block kept same puts sizes numbered free were = record {
   kind = same.kind ∙ kept.kind;
+  numbered = numbered;
   sizes = kept.sizes;
   keeper = subst (λ k. HasSize m k b.sizes.init) (sym same.keeper) (size_put b.blocks m number block puts sizes b.blocks.keeper b.sizes.init kept.keeper);
   bytes = kept.bytes;
@@ -40,9 +41,10 @@ kept_put b m number block kept same puts sizes free were = record {
 }
 
 -- a block is given back
-pub kept_drop : (b : Books) (m : Layout) (number : ℕ) → IsKept b → SameContext b.blocks m → DropsBlock b.blocks m number → number ≢ b.blocks.keeper → number ≢ b.current → is_spare b.spare number ≡ false → AllWere b.blocks m number → IsKept (record b { blocks = m })
-kept_drop b m number kept same drops not_keeper not_current free were = record {
+pub kept_drop : (b : Books) (m : Layout) (number : ℕ) → IsKept b → SameContext b.blocks m → DropsBlock b.blocks m number → number ≢ b.blocks.keeper → number ≢ b.current → AreNumbered m → is_spare b.spare number ≡ false → AllWere b.blocks m number → IsKept (record b { blocks = m })
+kept_drop b m number kept same drops not_keeper not_current numbered free were = record {
   kind = same.kind ∙ kept.kind;
+  numbered = numbered;
   sizes = kept.sizes;
   keeper = subst (λ k. HasSize m k b.sizes.init) (sym same.keeper) (size_drop b.blocks m number drops b.blocks.keeper b.sizes.init not_keeper kept.keeper);
   bytes = kept.bytes;
@@ -72,14 +74,14 @@ were_put l m number to new puts shared apart at chunk is own =
 
 -- the next block has another size
 pub kept_next : (b : Books) (next : ℕ) → IsKept b → AreSizes b.sizes.init b.sizes.max next → IsKept (record b { next = next })
-kept_next b next kept sized = record { kind = kept.kind; sizes = sized; keeper = kept.keeper; bytes = kept.bytes; current = kept.current; spare = kept.spare; alone = kept.alone }
+kept_next b next kept sized = record { kind = kept.kind; numbered = kept.numbered; sizes = sized; keeper = kept.keeper; bytes = kept.bytes; current = kept.current; spare = kept.spare; alone = kept.alone }
 
 pub kept_spare : (b : Books) (number : ℕ) → IsKept b → IsIdle b.blocks b.current number → IsKept (record b { spare = Some number })
-kept_spare b number kept idle = record { kind = kept.kind; sizes = kept.sizes; keeper = kept.keeper; bytes = kept.bytes; current = kept.current; spare = idle; alone = kept.alone }
+kept_spare b number kept idle = record { kind = kept.kind; numbered = kept.numbered; sizes = kept.sizes; keeper = kept.keeper; bytes = kept.bytes; current = kept.current; spare = idle; alone = kept.alone }
 
 -- room was made
 pub kept_made : (b : Books) (i j : ℕ) → IsKept b → IsKept (record b { blocks = record b.blocks { spare_blocks = i; spare_chunks = j } })
-kept_made b i j kept = record { kind = kept.kind; sizes = kept.sizes; keeper = record { block = kept.keeper.block; is = kept.keeper.is; size = kept.keeper.size }; bytes = kept.bytes; current = record { block = kept.current.block; is = kept.current.is; size = kept.current.size }; spare = spare_made b.spare kept.spare; alone = λ at chunk is own. (let a = kept.alone at chunk is own in record { block = a.block; is = a.is; live = a.live; room = a.room; whole = a.whole; not_keeper = a.not_keeper; not_current = a.not_current }) }
+kept_made b i j kept = record { kind = kept.kind; numbered = record { first = kept.numbered.first; rising = kept.numbered.rising; some = kept.numbered.some; keeper = kept.numbered.keeper }; sizes = kept.sizes; keeper = record { block = kept.keeper.block; is = kept.keeper.is; size = kept.keeper.size }; bytes = kept.bytes; current = record { block = kept.current.block; is = kept.current.is; size = kept.current.size }; spare = spare_made b.spare kept.spare; alone = λ at chunk is own. (let a = kept.alone at chunk is own in record { block = a.block; is = a.is; live = a.live; room = a.room; whole = a.whole; not_keeper = a.not_keeper; not_current = a.not_current }) }
   where
     spare_made : (spare : Option ℕ) → IsSpare b.blocks b.current spare → IsSpare (record b.blocks { spare_blocks = i; spare_chunks = j }) b.current spare
     spare_made None idle = idle
@@ -97,6 +99,7 @@ seated_spare l current number (Some other) idle = seated l current number other 
 pub kept_seated : (b : Books) (number : ℕ) (block : Block) → IsKept b → block_at b.blocks number ≡ Some block → 0 < block.room → IsKept (record b { current = number; spare = if is_spare b.spare number then None else b.spare })
 kept_seated b number block kept is some = record {
   kind = kept.kind;
+  numbered = kept.numbered;
   sizes = kept.sizes;
   keeper = kept.keeper;
   bytes = block.size;

@@ -43,3 +43,10 @@ spare_none l current (Some other) number none idle = is_not_spare other number (
 pub spare_live : (l : Layout) (current : ℕ) (spare : Option ℕ) (number : ℕ) (block : Block) → block_at l number ≡ Some block → 0 < block.live → IsSpare l current spare → is_spare spare number ≡ false
 spare_live l current None number block is some idle = refl
 spare_live l current (Some other) number block is some idle = is_not_spare other number (λ e. (let it : block_at l number ≡ Some idle.block = rw (← e) idle.is in let same : Some block ≡ Some idle.block = sym is ∙ it in let live : block.live ≡ idle.block.live = ap (λ (o : Option Block). (unwrap_or o block).live) same in omega (arith, live, some, idle.live)))
+
+-- a region that isn't the spare's differs from it
+pub apart_spare : (spare : Option ℕ) (number : ℕ) → is_spare spare number ≡ false → (other : ℕ) → spare ≡ Some other → number ≢ other
+apart_spare None number free other is = absurd (cc)
+apart_spare (Some region) number free other is = λ e.
+    let it : region ≡ other = cc in
+    not_spare region number free (it ∙ sym e)

@@ -1,9 +1,8 @@
-pub mod Lists
+pub mod Numbers
 pub mod Kepts
 pub mod Alone
 pub mod Steps
 pub mod Ledgers
-pub mod Found
 pub mod Kept
 pub mod Resets
 pub mod Refilled
@@ -12,3 +11,6 @@ pub mod Addrs
 pub mod Owned
 pub mod Sizes
 pub mod Resizes
+pub mod Fitting
+pub mod Places
+pub mod Rows

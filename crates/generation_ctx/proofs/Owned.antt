@@ -8,14 +8,14 @@ use Rattle.ctx_blocks.specs.declared.parts.Block.{Block}
 use Rattle.ctx_blocks.specs.declared.parts.Chunk.{Chunk}
 use Rattle.generation_ctx.specs.Ledger.{is_spare}
 use Rattle.ctx_blocks.specs.Kept.{HasSize}
-use Rattle.generation_ctx.specs.Kept.{IsAlone, IsKept}
+use Rattle.generation_ctx.specs.Kept.{AreNumbered, IsAlone, IsKept}
 use Rattle.generation_ctx.specs.declared.books.Books.{Books}
 use Rattle.generation_ctx.proofs.Addrs.{same_region}
 use Rattle.generation_ctx.proofs.Alone.{apart_live}
 use Rattle.ctx_blocks.proofs.Changed.{put_here, put_other, size_put}
 use Rattle.generation_ctx.proofs.Kepts.{spare_put}
 
-module _ (b : Books) (m : Layout) (number : ℕ) (first last : Block) (at : Addr) (new : Chunk) (kept : IsKept b) (here : block_at b.blocks number ≡ Some first) (empty : first.live ≡ 0) (same : SameContext b.blocks m) (puts : PutsBlock b.blocks m number last) (chunk : PutsChunk b.blocks m at (Some new)) (region : at.region ≡ number) (live : last.live ≡ 1) (room : last.room ≡ 0) (size : last.size ≡ first.size) (whole : last.size ≡ new.room + 48) (not_keeper : number ≢ b.blocks.keeper) (not_current : number ≢ b.current) (free : is_spare b.spare number ≡ false) where
+module _ (b : Books) (m : Layout) (number : ℕ) (first last : Block) (at : Addr) (new : Chunk) (kept : IsKept b) (here : block_at b.blocks number ≡ Some first) (empty : first.live ≡ 0) (same : SameContext b.blocks m) (puts : PutsBlock b.blocks m number last) (chunk : PutsChunk b.blocks m at (Some new)) (region : at.region ≡ number) (live : last.live ≡ 1) (room : last.room ≡ 0) (size : last.size ≡ first.size) (whole : last.size ≡ new.room + 48) (numbered : AreNumbered m) (not_keeper : number ≢ b.blocks.keeper) (not_current : number ≢ b.current) (free : is_spare b.spare number ≡ false) where
   alone_by : (other : Addr) (x : Chunk) (t : Bool) → same_addr at other ≡ t → (if t then Some new else chunk_at b.blocks other) ≡ Some x → x.own ≡ true → IsAlone m b.current other x
   alone_by other x true is there own =
       let it : other.region ≡ number = sym (same_region at other is) ∙ region in
@@ -32,6 +32,7 @@ module _ (b : Books) (m : Layout) (number : ℕ) (first last : Block) (at : Addr
       let sizes : (other : Block) → block_at b.blocks number ≡ Some other → last.size ≡ other.size = λ other there. (let equal : Some first ≡ Some other = sym here ∙ there in cc) in
       record {
         kind = same.kind ∙ kept.kind;
+        numbered = numbered;
         sizes = kept.sizes;
         keeper = subst (λ k. HasSize m k b.sizes.init) (sym same.keeper) (size_put b.blocks m number last puts sizes b.blocks.keeper b.sizes.init kept.keeper);
         bytes = kept.bytes;

@@ -1,30 +1,38 @@
 -- The books of a context with the keeper alone.
-use Rattle.std.proofs.Common.{◌≡◌, [], Some, None, refl, arith, ◌∙◌, sym}
+use Rattle.std.proofs.Common.{◌≡◌, [], ◌∷◌, Some, None, option_map, refl, arith, ap, ◌∙◌, sym}
 use Rattle.chunk_header.specs.declared.Kind.TheVariants.{Generation}
 use Rattle.ctx_blocks.specs.Layout.{block_at, chunk_at, whole_block, keeper_alone}
-use Rattle.generation_ctx.specs.Ledger.{created}
+use Rattle.std.specs.Map.{values_of}
+use Rattle.generation_ctx.specs.Ledger.{created, whole}
+use Rattle.generation_ctx.specs.State.{number_of}
+use Rattle.generation_ctx.proofs.Numbers.{number_is}
 use Rattle.chunk_header.specs.Growth.{AreSizes}
 use Rattle.generation_ctx.specs.Kept.{ledger_of, IsKept}
 use Rattle.generation_ctx.specs.declared.books.Books.{Books}
 
-module _ (n : Books) (kind : n.blocks.kind ≡ Generation) (sized : AreSizes n.sizes.init n.sizes.max n.next) (only : n.blocks.blocks ≡ keeper_alone n.blocks.keeper n.sizes.init) (first : n.current ≡ n.blocks.keeper) (spare : n.spare ≡ None) where
-  there : block_at n.blocks n.blocks.keeper ≡ Some (whole_block 200 n.sizes.init)
+module _ (n : Books) (kind : n.blocks.kind ≡ Generation) (one : n.blocks.first_number ≡ 1) (last : n.blocks.last_number ≡ 1) (sized : AreSizes n.sizes.init n.sizes.max n.next) (only : n.blocks.blocks ≡ keeper_alone n.blocks.keeper 1 n.sizes.init) (first : n.current ≡ n.blocks.keeper) (spare : n.spare ≡ None) where
+  there : block_at n.blocks n.blocks.keeper ≡ Some (whole_block 1 200 n.sizes.init)
   there = rw only (grind arith)
 
-  at_current : block_at n.blocks n.current ≡ Some (whole_block 200 n.sizes.init)
+  at_current : block_at n.blocks n.current ≡ Some (whole_block 1 200 n.sizes.init)
   at_current = rw first there
 
   pub kept_alone : n.blocks.chunks ≡ [] → IsKept n
   kept_alone none = record {
     kind = kind;
+    numbered = record { first = one; rising = rw (only, last) (omega arith, omega arith, tt); some = omega (arith, last); keeper = number_is n.blocks n.blocks.keeper (whole_block 1 200 n.sizes.init) there };
     sizes = sized;
-    keeper = record { block = whole_block 200 n.sizes.init; is = there; size = refl };
+    keeper = record { block = whole_block 1 200 n.sizes.init; is = there; size = refl };
     bytes = n.sizes.init;
-    current = record { block = whole_block 200 n.sizes.init; is = at_current; size = refl };
+    current = record { block = whole_block 1 200 n.sizes.init; is = at_current; size = refl };
     spare = rw spare tt;
     alone = λ at chunk is own. (let gone : chunk_at n.blocks at ≡ None = rw none refl in let clash : Some chunk ≡ None = sym is ∙ gone in absurd (cc));
   }
 
-  pub ledger_alone : n.next ≡ n.sizes.init → ledger_of n ≡ created n.sizes.init n.sizes.max n.blocks.keeper
+  pub ledger_alone : n.next ≡ n.sizes.init → ledger_of n ≡ created n.sizes.init n.sizes.max
   unfolding created
-  ledger_alone next = cc
+  ledger_alone next =
+      let current : number_of n.blocks n.current ≡ 1 = number_is n.blocks n.current (whole_block 1 200 n.sizes.init) at_current in
+      let none : option_map (number_of n.blocks) n.spare ≡ None = ap (option_map (number_of n.blocks)) spare in
+      let values : values_of n.blocks.blocks ≡ whole 1 n.sizes.init ∷ [] = ap values_of only in
+      cc

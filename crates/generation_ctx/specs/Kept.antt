@@ -1,26 +1,27 @@
 -- What holds of the insides of a Generation context.
-use Rattle.std.specs.Prelude.{◌≡◌, ◌≢◌, ℕ, true, Option, Some, None, ◌+◌}
+use Rattle.std.specs.Prelude.{◌≡◌, ◌≢◌, ◌≤◌, ℕ, true, Option, Some, None, ◌+◌, option_map}
+use Rattle.std.specs.Map.{values_of}
 use Rattle.addr_space.specs.declared.Addr.{Addr}
 use Rattle.chunk_header.specs.declared.Kind.TheVariants.{Generation}
 use Rattle.ctx_blocks.specs.Layout.{Layout, block_at, chunk_at, bare}
 use Rattle.ctx_blocks.specs.declared.parts.Block.{Block}
 use Rattle.ctx_blocks.specs.declared.parts.Chunk.{Chunk}
 use Rattle.generation_ctx.specs.Ledger.{GenerationLedger}
-use Rattle.generation_ctx.specs.State.{GenerationState}
+use Rattle.generation_ctx.specs.State.{GenerationState, number_of}
 use Rattle.generation_ctx.specs.declared.books.Books.{Books}
 use Rattle.chunk_header.specs.Growth.{AreSizes}
-use Rattle.ctx_blocks.specs.Kept.{HasSize}
+use Rattle.ctx_blocks.specs.Kept.{HasSize, AreRising}
 
--- the ledger: its blocks are those that there are
+-- the ledger: its blocks are those that there are, by their numbers
 abbrev pub ledger_of : Books → GenerationLedger
 ledger_of b = record {
   init = b.sizes.init;
   max = b.sizes.max;
   next = b.next;
-  keeper = b.blocks.keeper;
-  current = b.current;
-  spare = b.spare;
-  blocks = b.blocks.blocks;
+  count = b.blocks.last_number;
+  current = number_of b.blocks b.current;
+  spare = option_map (number_of b.blocks) b.spare;
+  blocks = values_of b.blocks.blocks;
 }
 
 -- the value that contracts see
@@ -54,9 +55,17 @@ pub record IsAlone (l : Layout) (current : ℕ) (at : Addr) (chunk : Chunk) : Ty
 abbrev pub AllAlone : Layout → ℕ → Type 0
 AllAlone l current = (at : Addr) (chunk : Chunk) → chunk_at l at ≡ Some chunk → chunk.own ≡ true → IsAlone l current at chunk
 
+-- blocks are numbered as they were taken, and the keeper is 1
+pub record AreNumbered (l : Layout) : Type 0 where
+  pub first : l.first_number ≡ 1
+  pub rising : AreRising 1 l.last_number l.blocks
+  pub some : 1 ≤ l.last_number
+  pub keeper : number_of l l.keeper ≡ 1
+
 -- all that the code keeps
 pub record IsKept (b : Books) : Type 0 where
   pub kind : b.blocks.kind ≡ Generation
+  pub numbered : AreNumbered b.blocks
   pub sizes : AreSizes b.sizes.init b.sizes.max b.next
   pub keeper : HasSize b.blocks b.blocks.keeper b.sizes.init
   pub bytes : ℕ

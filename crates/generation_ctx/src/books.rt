@@ -1,15 +1,18 @@
 //! The books of a Generation context: its blocks and numbers.
-ghost use Rattle.std.specs.Prelude.{◌≡◌, ◌≢◌, ℕ, ◌+◌, ◌-◌, ◌%◌, ◌^◌, ◌<◌, ◌≤◌, ◌↔◌, ◌⊎◌, IsTrue, Ok, Err, Some, None, IfOk, IfErr, OnOk, OnErr, IfSome, IfNone, true, false, min, if◌then◌else◌};
+ghost use Rattle.std.specs.Prelude.{◌≡◌, ◌≢◌, ℕ, ◌+◌, ◌-◌, ◌%◌, ◌^◌, ◌<◌, ◌≤◌, ◌↔◌, ◌⊎◌, IsTrue, Ok, Err, Some, None, IfOk, IfErr, OnOk, OnErr, IfSome, IfNone, true, false, min, if◌then◌else◌, option_map, []};
 ghost use Rattle.addr_space.specs.declared.Addr.{Addr};
-ghost use Rattle.addr_space.specs.Space.{accounts, held, IsKnown};
+ghost use Rattle.addr_space.specs.Space.{accounts, held, Asks, IsKnown};
 ghost use Rattle.addr_space.specs.Footprint.{Agrees, Moves, Keeps, nothing};
-ghost use Rattle.chunk_header.specs.Header.{AllHeaded, TakesSpace};
+ghost use Rattle.chunk_header.specs.Header.{AllHeaded, AllOfKind, TakesSpace};
+ghost use Rattle.chunk_header.specs.declared.Kind.TheVariants.{Generation};
 ghost use Rattle.ctx_blocks.specs.Layout.{footprint, block_at, chunk_at};
 ghost use Rattle.ctx_blocks.specs.Steps.{PutsChunk};
 ghost use Rattle.ctx_blocks.specs.declared.parts.Block.{Block};
 ghost use Rattle.ctx_blocks.specs.declared.parts.Chunk.{Chunk};
 ghost use Rattle.chunk_header.specs.Growth.{granted};
-ghost use Rattle.generation_ctx.specs.Ledger.{block_in, created, is_spare, set_aside, stopped, turned, with_new, cut_off, chosen, block_size, take_own, take_cut, take, emptied, lessened, freed, given, resized, stats};
+ghost use Rattle.generation_ctx.specs.Ledger.{created, is_spare, set_aside, stopped, turned, with_new, cut, from_spare, from_keeper, chosen, block_size, take_own, take_cut, take, emptied, lessened, give, resize, reset, stats};
+ghost use Rattle.ctx_blocks.specs.Numbered.{AreAmong};
+ghost use Rattle.generation_ctx.specs.State.{number_of, place_in};
 
 use addr_space::{Addr, Space};
 use chunk_header::{CtxError, Kind, LARGEST, Sizes, Stats, granted, grown};
@@ -35,7 +38,7 @@ const LIMIT: u32 = 524_288;
 impl Books {
     ghost use Rattle.ctx_blocks.specs.Kept.{HasSize};
     ghost use Rattle.generation_ctx.specs.Kept.{ledger_of, state_of, IsIdle, IsKept};
-    ghost use Rattle.generation_ctx.specs.Steps.{Rearranges, Allocates, Frees, Resizes};
+    ghost use Rattle.generation_ctx.specs.Steps.{Rearranges, Allocates, Serves, Frees, Resizes, Lessens};
 
     // The books of a new context.
     pub fn create(
@@ -52,26 +55,25 @@ impl Books {
         requires whole_init { sizes.init % 8 ≡ 0 }
         requires whole_max { sizes.max % 8 ≡ 0 }
         ensures kept { IfOk result IsKept }
-        ensures ledger { IfOk result (λ b. ledger_of b ≡ created sizes.init sizes.max b.blocks.keeper) }
+        ensures ledger { IfOk result (λ b. ledger_of b ≡ created sizes.init sizes.max) }
         ensures account { IfOk result (λ b. b.blocks.account ≡ account) }
         ensures context { IfOk result (λ b. b.blocks.context ≡ context) }
-        ensures live { IfOk result (λ b. (at : Addr) → (footprint b.blocks).live at ≡ None) }
+        ensures chunks { IfOk result (λ b. b.blocks.chunks ≡ []) }
+        ensures asked { OnOk result (Asks account sizes.init space.old space.new) }
         ensures moves { IfOk result (λ b. Moves (nothing account context) (footprint b.blocks) space.old space.new) }
         ensures no_space { (result ≡ Err CtxError.NoSpace) ↔ (space.old.limit < held space.old account + sizes.init) }
         ensures no_other { IfErr result (λ e. (e ≡ CtxError.NoSpace) ⊎ (e ≡ CtxError.Memory)) }
         ensures err { OnErr result (space.new ≡ space.old) }
     {
-        let blocks = match Blocks::create(
+        let blocks = Blocks::create(
             alloc,
             space,
             Kind::Generation,
             account,
             context,
+            1,
             sizes.init,
-        ) {
-            Ok(blocks) => blocks,
-            Err(error) => return Err(error),
-        };
+        )?;
         let current = blocks.keeper();
         Ok(Books {
             sizes,
@@ -95,13 +97,15 @@ impl Books {
         }
     }
 
-    // The block of a number, or one of no bytes.
-    fn block(&self, number: u32) -> Block
-        ensures { result ≡ block_in (ledger_of self.now) number }
+    // The block in a region.
+    fn block(&self, region: u32) -> Block
+        requires { (block : Block) × (block_at self.now.blocks region ≡ Some block) }
+        ensures { block_at self.now.blocks region ≡ Some result }
     {
-        match self.blocks.block(number) {
+        match self.blocks.block(region) {
             Some(block) => block,
             None => Block {
+                number: 0,
                 size: 0,
                 room: 0,
                 live: 0,
@@ -116,7 +120,9 @@ impl Books {
         requires agrees { Agrees (footprint self.old.blocks) space.old }
         requires idle { IsIdle self.old.blocks self.old.current number }
         requires other { is_spare self.old.spare number ≡ false }
-        ensures rearranges { Rearranges self.old self.new space.old space.new (set_aside (ledger_of self.old) number) }
+        ensures rearranges { Rearranges self.old self.new space.old space.new (set_aside (ledger_of self.old) (number_of self.old.blocks number)) }
+        ensures among { AreAmong self.new.blocks self.old.blocks }
+        ensures asked { space.new.taken ≡ space.old.taken }
         ensures current { self.new.current ≡ self.old.current }
         ensures others { (other : ℕ) → number ≢ other → block_at self.new.blocks other ≡ block_at self.old.blocks other }
     {
@@ -133,7 +139,9 @@ impl Books {
         requires block { (bytes : ℕ) × HasSize self.old.blocks number bytes }
         requires stopped { number ≢ self.old.current }
         requires other { is_spare self.old.spare number ≡ false }
-        ensures rearranges { Rearranges self.old self.new space.old space.new (stopped (ledger_of self.old) number) }
+        ensures rearranges { Rearranges self.old self.new space.old space.new (stopped (ledger_of self.old) (number_of self.old.blocks number)) }
+        ensures among { AreAmong self.new.blocks self.old.blocks }
+        ensures asked { space.new.taken ≡ space.old.taken }
         ensures current { self.new.current ≡ self.old.current }
         ensures others { (other : ℕ) → number ≢ other → block_at self.new.blocks other ≡ block_at self.old.blocks other }
     {
@@ -162,7 +170,9 @@ impl Books {
         requires agrees { Agrees (footprint self.old.blocks) space.old }
         requires block { (block : Block) × (block_at self.old.blocks number ≡ Some block) × (0 < block.room) }
         requires other { number ≢ self.old.current }
-        ensures rearranges { Rearranges self.old self.new space.old space.new (turned (ledger_of self.old) number) }
+        ensures rearranges { Rearranges self.old self.new space.old space.new (turned (ledger_of self.old) (number_of self.old.blocks number)) }
+        ensures among { AreAmong self.new.blocks self.old.blocks }
+        ensures asked { space.new.taken ≡ space.old.taken }
         ensures current { self.new.current ≡ number }
         ensures block { block_at self.new.blocks number ≡ block_at self.old.blocks number }
     {
@@ -176,35 +186,63 @@ impl Books {
         requires kept { IsKept self.old }
         requires agrees { Agrees (footprint self.old.blocks) space.old }
         requires size { size ≤ 524288 }
-        requires room { granted size + 8 ≤ (block_in (ledger_of self.old) self.old.current).room }
+        requires room { (block : Block) × (block_at self.old.blocks self.old.current ≡ Some block) × (granted size + 8 ≤ block.room) }
         requires spare { 1 ≤ self.old.blocks.spare_chunks }
-        ensures at { result.region ≡ self.old.current }
-        ensures allocates { Allocates self.old self.new space.old space.new size result (Ok (cut_off (ledger_of self.old) (granted size + 8))) }
+        ensures allocates { Allocates self.old self.new space.old space.new size result (cut (ledger_of self.old) (granted size) 0) }
+        ensures among { AreAmong self.new.blocks self.old.blocks }
+        ensures asked { space.new.taken ≡ space.old.taken }
     {
         self.blocks
             .cut(space, self.current, size, granted(size), false)
     }
 
-    // Which block becomes current for so many bytes, where no new one is taken.
-    #[tactic(auto, using(crate::proofs::Found::found), unfolding(crate::specs::Ledger::chosen))]
-    fn choose(&self, bytes: u32) -> Option<u32>
-        requires kept { IsKept self.now }
-        requires some { 0 < bytes }
-        ensures value { result ≡ chosen (ledger_of self.now) bytes }
+    // The spare block, where it has so many bytes.
+    fn fitting_spare(&self, bytes: u32) -> Option<u32>
+        requires { IsKept self.now }
+        ensures value { from_spare (ledger_of self.now).spare (ledger_of self.now) bytes ≡ option_map (number_of self.now.blocks) result }
         ensures block { IfSome result (λ number. (block : Block) × (block_at self.now.blocks number ≡ Some block) × (bytes ≤ block.room)) }
         ensures other { IfSome result (λ number. number ≢ self.now.current) }
     {
-        if let Some(number) = self.spare {
-            if self.block(number).room >= bytes {
-                return Some(number);
-            }
+        let number = self.spare?;
+        if self.block(number).room < bytes {
+            return None;
         }
+        Some(number)
+    }
+
+    // The keeper, where it isn't current, has no live chunk and has so many bytes.
+    fn fitting_keeper(&self, bytes: u32) -> Option<u32>
+        requires { IsKept self.now }
+        ensures value { from_keeper (ledger_of self.now) bytes ≡ option_map (number_of self.now.blocks) result }
+        ensures block { IfSome result (λ number. (block : Block) × (block_at self.now.blocks number ≡ Some block) × (bytes ≤ block.room)) }
+        ensures other { IfSome result (λ number. number ≢ self.now.current) }
+    {
         let keeper = self.blocks.keeper();
-        let block = self.block(keeper);
-        if keeper != self.current && block.live == 0 && block.room >= bytes {
-            return Some(keeper);
+        if self.current == keeper {
+            return None;
         }
-        None
+        let block = self.block(keeper);
+        if block.live > 0 {
+            return None;
+        }
+        if block.room < bytes {
+            return None;
+        }
+        Some(keeper)
+    }
+
+    // Which block becomes current for so many bytes, where no new one is taken.
+    #[tactic(auto, unfolding(crate::specs::Ledger::chosen))]
+    fn choose(&self, bytes: u32) -> Option<u32>
+        requires { IsKept self.now }
+        ensures value { chosen (ledger_of self.now) bytes ≡ option_map (number_of self.now.blocks) result }
+        ensures block { IfSome result (λ number. (block : Block) × (block_at self.now.blocks number ≡ Some block) × (bytes ≤ block.room)) }
+        ensures other { IfSome result (λ number. number ≢ self.now.current) }
+    {
+        if let Some(number) = self.fitting_spare(bytes) {
+            return Some(number);
+        }
+        self.fitting_keeper(bytes)
     }
 
     // Takes a new block for so many bytes.
@@ -215,7 +253,10 @@ impl Books {
         requires some { 8 ≤ bytes }
         requires most { bytes ≤ 2 ^ 20 }
         requires spare { 1 ≤ self.old.blocks.spare_blocks }
-        ensures ok { IfOk result (λ number. Rearranges self.old self.new space.old space.new (with_new (ledger_of self.old) number (block_size (ledger_of self.old) bytes))) }
+        ensures ok { OnOk result (Rearranges self.old self.new space.old space.new (with_new (ledger_of self.old) (block_size (ledger_of self.old) bytes))) }
+        ensures number { IfOk result (λ number. number_of self.new.blocks number ≡ (ledger_of self.old).count + 1) }
+        ensures among { OnOk result (AreAmong self.old.blocks self.new.blocks) }
+        ensures asked { OnOk result (Asks self.old.blocks.account (block_size (ledger_of self.old) bytes) space.old space.new) }
         ensures other { IfOk result (λ number. number ≢ self.old.current) }
         ensures current { OnOk result (self.new.current ≡ self.old.current) }
         ensures block { IfOk result (λ number. (block : Block) × (block_at self.new.blocks number ≡ Some block) × (bytes ≤ block.room)) }
@@ -226,13 +267,9 @@ impl Books {
         ensures err_space { OnErr result (space.new ≡ space.old) }
     {
         let size = grown(self.next, bytes + 40);
-        match self.blocks.add(space, size) {
-            Ok(number) => {
-                self.next = (self.next * 2).min(self.sizes.max);
-                Ok(number)
-            }
-            Err(error) => Err(error),
-        }
+        let number = self.blocks.add(space, size)?;
+        self.next = (self.next * 2).min(self.sizes.max);
+        Ok(number)
     }
 
     // Cuts a chunk off another block than the current one.
@@ -240,11 +277,11 @@ impl Books {
         requires kept { IsKept self.old }
         requires agrees { Agrees (footprint self.old.blocks) space.old }
         requires size { size ≤ 524288 }
-        requires little { (block_in (ledger_of self.old) self.old.current).room < granted size + 8 }
+        requires little { (block : Block) × (block_at self.old.blocks self.old.current ≡ Some block) × (block.room < granted size + 8) }
         requires spare_blocks { 1 ≤ self.old.blocks.spare_blocks }
         requires spare_chunks { 1 ≤ self.old.blocks.spare_chunks }
-        ensures ok { IfOk result (λ at. Allocates self.old self.new space.old space.new size at (take_cut (ledger_of self.old) (space.old.limit - held space.old self.old.blocks.account) at.region (granted size + 8))) }
-        ensures no_space { result ≡ Err CtxError.NoSpace → (number : ℕ) → take_cut (ledger_of self.old) (space.old.limit - held space.old self.old.blocks.account) number (granted size + 8) ≡ Err CtxError.NoSpace }
+        ensures ok { IfOk result (λ at. Serves self.old self.new space.old space.new size at (take_cut (ledger_of self.old) (space.old.limit - held space.old self.old.blocks.account) (granted size))) }
+        ensures no_space { result ≡ Err CtxError.NoSpace → take_cut (ledger_of self.old) (space.old.limit - held space.old self.old.blocks.account) (granted size) ≡ Err CtxError.NoSpace }
         ensures no_other { IfErr result (λ e. (e ≡ CtxError.NoSpace) ⊎ (e ≡ CtxError.Memory)) }
         ensures err { OnErr result (self.new ≡ self.old) }
         ensures err_space { OnErr result (space.new ≡ space.old) }
@@ -254,13 +291,9 @@ impl Books {
             self.turn_to(space, number);
             return Ok(self.cut(space, size));
         }
-        match self.add(space, bytes) {
-            Ok(number) => {
-                self.turn_to(space, number);
-                Ok(self.cut(space, size))
-            }
-            Err(error) => Err(error),
-        }
+        let number = self.add(space, bytes)?;
+        self.turn_to(space, number);
+        Ok(self.cut(space, size))
     }
 
     // Cuts a chunk off the current block, or off another one.
@@ -270,8 +303,8 @@ impl Books {
         requires size { size ≤ 524288 }
         requires spare_blocks { 1 ≤ self.old.blocks.spare_blocks }
         requires spare_chunks { 1 ≤ self.old.blocks.spare_chunks }
-        ensures ok { IfOk result (λ at. Allocates self.old self.new space.old space.new size at (take_cut (ledger_of self.old) (space.old.limit - held space.old self.old.blocks.account) at.region (granted size + 8))) }
-        ensures no_space { result ≡ Err CtxError.NoSpace → (number : ℕ) → take_cut (ledger_of self.old) (space.old.limit - held space.old self.old.blocks.account) number (granted size + 8) ≡ Err CtxError.NoSpace }
+        ensures ok { IfOk result (λ at. Serves self.old self.new space.old space.new size at (take_cut (ledger_of self.old) (space.old.limit - held space.old self.old.blocks.account) (granted size))) }
+        ensures no_space { result ≡ Err CtxError.NoSpace → take_cut (ledger_of self.old) (space.old.limit - held space.old self.old.blocks.account) (granted size) ≡ Err CtxError.NoSpace }
         ensures no_other { IfErr result (λ e. (e ≡ CtxError.NoSpace) ⊎ (e ≡ CtxError.Memory)) }
         ensures err { OnErr result (self.new ≡ self.old) }
         ensures err_space { OnErr result (space.new ≡ space.old) }
@@ -289,17 +322,15 @@ impl Books {
         requires size { size < 2 ^ 30 }
         requires spare_blocks { 1 ≤ self.old.blocks.spare_blocks }
         requires spare_chunks { 1 ≤ self.old.blocks.spare_chunks }
-        ensures ok { IfOk result (λ at. Allocates self.old self.new space.old space.new size at (take_own (ledger_of self.old) (space.old.limit - held space.old self.old.blocks.account) at.region (granted size + 48))) }
-        ensures no_space { result ≡ Err CtxError.NoSpace → (number : ℕ) → take_own (ledger_of self.old) (space.old.limit - held space.old self.old.blocks.account) number (granted size + 48) ≡ Err CtxError.NoSpace }
+        ensures ok { IfOk result (λ at. Serves self.old self.new space.old space.new size at (take_own (ledger_of self.old) (space.old.limit - held space.old self.old.blocks.account) (granted size))) }
+        ensures no_space { result ≡ Err CtxError.NoSpace → take_own (ledger_of self.old) (space.old.limit - held space.old self.old.blocks.account) (granted size) ≡ Err CtxError.NoSpace }
         ensures no_other { IfErr result (λ e. (e ≡ CtxError.NoSpace) ⊎ (e ≡ CtxError.Memory)) }
         ensures err { OnErr result (self.new ≡ self.old) }
         ensures err_space { OnErr result (space.new ≡ space.old) }
     {
         let room = granted(size);
-        match self.blocks.add(space, room + 48) {
-            Ok(number) => Ok(self.blocks.cut(space, number, size, room, true)),
-            Err(error) => Err(error),
-        }
+        let number = self.blocks.add(space, room + 48)?;
+        Ok(self.blocks.cut(space, number, size, room, true))
     }
 
     // Serves a request for which room was made.
@@ -309,8 +340,8 @@ impl Books {
         requires size { size ≤ 1073741823 }
         requires spare_blocks { 1 ≤ self.old.blocks.spare_blocks }
         requires spare_chunks { 1 ≤ self.old.blocks.spare_chunks }
-        ensures ok { IfOk result (λ at. Allocates self.old self.new space.old space.new size at (take (ledger_of self.old) (space.old.limit - held space.old self.old.blocks.account) at.region size)) }
-        ensures no_space { result ≡ Err CtxError.NoSpace → (number : ℕ) → take (ledger_of self.old) (space.old.limit - held space.old self.old.blocks.account) number size ≡ Err CtxError.NoSpace }
+        ensures ok { IfOk result (λ at. Serves self.old self.new space.old space.new size at (take (ledger_of self.old) (space.old.limit - held space.old self.old.blocks.account) size)) }
+        ensures no_space { result ≡ Err CtxError.NoSpace → take (ledger_of self.old) (space.old.limit - held space.old self.old.blocks.account) size ≡ Err CtxError.NoSpace }
         ensures no_other { IfErr result (λ e. (e ≡ CtxError.NoSpace) ⊎ (e ≡ CtxError.Memory)) }
         ensures err { OnErr result (self.new ≡ self.old) }
         ensures err_space { OnErr result (space.new ≡ space.old) }
@@ -326,26 +357,24 @@ impl Books {
         requires kept { IsKept self.old }
         requires agrees { Agrees (footprint self.old.blocks) space.old }
         requires size { size ≤ 1073741823 }
-        ensures ok { IfOk result (λ at. Allocates self.old self.new space.old space.new size at (take (ledger_of self.old) (space.old.limit - held space.old self.old.blocks.account) at.region size)) }
-        ensures no_space { result ≡ Err CtxError.NoSpace → (number : ℕ) → take (ledger_of self.old) (space.old.limit - held space.old self.old.blocks.account) number size ≡ Err CtxError.NoSpace }
+        ensures ok { IfOk result (λ at. Serves self.old self.new space.old space.new size at (take (ledger_of self.old) (space.old.limit - held space.old self.old.blocks.account) size)) }
+        ensures no_space { result ≡ Err CtxError.NoSpace → take (ledger_of self.old) (space.old.limit - held space.old self.old.blocks.account) size ≡ Err CtxError.NoSpace }
         ensures no_other { IfErr result (λ e. (e ≡ CtxError.NoSpace) ⊎ (e ≡ CtxError.Memory)) }
         ensures err { OnErr result (state_of self.new ≡ state_of self.old) }
         ensures err_kept { OnErr result (IsKept self.new) }
         ensures err_space { OnErr result (space.new ≡ space.old) }
     {
-        match self.blocks.make_room() {
-            Ok(()) => self.take(space, size),
-            Err(error) => Err(error),
-        }
+        self.blocks.make_room()?;
+        self.take(space, size)
     }
 
     // Serves a request.
     pub fn alloc(&mut self, space: &mut Space, size: u64) -> Result<Addr, CtxError>
         requires kept { IsKept self.old }
         requires agrees { Agrees (footprint self.old.blocks) space.old }
-        ensures ok { IfOk result (λ at. Allocates self.old self.new space.old space.new size at (take (ledger_of self.old) (space.old.limit - held space.old self.old.blocks.account) at.region size)) }
+        ensures ok { IfOk result (λ at. Serves self.old self.new space.old space.new size at (take (ledger_of self.old) (space.old.limit - held space.old self.old.blocks.account) size)) }
         ensures too_big { (result ≡ Err CtxError.TooBig) ↔ (1073741823 < size) }
-        ensures no_space { result ≡ Err CtxError.NoSpace → (number : ℕ) → take (ledger_of self.old) (space.old.limit - held space.old self.old.blocks.account) number size ≡ Err CtxError.NoSpace }
+        ensures no_space { result ≡ Err CtxError.NoSpace → take (ledger_of self.old) (space.old.limit - held space.old self.old.blocks.account) size ≡ Err CtxError.NoSpace }
         ensures no_other { IfErr result (λ e. (e ≡ CtxError.TooBig) ⊎ ((e ≡ CtxError.NoSpace) ⊎ (e ≡ CtxError.Memory))) }
         ensures err { OnErr result (state_of self.new ≡ state_of self.old) }
         ensures err_kept { OnErr result (IsKept self.new) }
@@ -363,7 +392,9 @@ impl Books {
         requires agrees { Agrees (footprint self.old.blocks) space.old }
         requires block { (block : Block) × (block_at self.old.blocks number ≡ Some block) × (block.live ≡ 0) }
         requires other { is_spare self.old.spare number ≡ false }
-        ensures { Rearranges self.old self.new space.old space.new (emptied (ledger_of self.old) number) }
+        ensures rearranges { Rearranges self.old self.new space.old space.new (emptied (ledger_of self.old) (number_of self.old.blocks number)) }
+        ensures among { AreAmong self.new.blocks self.old.blocks }
+        ensures asked { space.new.taken ≡ space.old.taken }
     {
         if self.blocks.keeper() == number {
             self.blocks.refill(number);
@@ -388,10 +419,9 @@ impl Books {
         requires agrees { Agrees (footprint self.old.blocks) space.now }
         requires chunk { (c : Chunk) × (chunk_at self.old.blocks at ≡ Some c) × (c.own ≡ false) }
         ensures frees { Frees self.old self.new space.now space.now at }
-        ensures ledger { ledger_of self.new ≡ lessened (ledger_of self.old) at.region }
+        ensures ledger { ledger_of self.new ≡ lessened (ledger_of self.old) (number_of self.old.blocks at.region) }
         ensures other { is_spare self.new.spare at.region ≡ false }
-        ensures some { 1 ≤ (block_in (ledger_of self.old) at.region).live }
-        ensures block { (block : Block) × (block_at self.new.blocks at.region ≡ Some block) }
+        ensures less { Lessens self.old self.new at.region }
     {
         self.blocks.laid();
         let _ = self.blocks.remove(at);
@@ -404,7 +434,8 @@ impl Books {
         requires agrees { Agrees (footprint self.old.blocks) space.old }
         requires chunk { (c : Chunk) × (chunk_at self.old.blocks at ≡ Some c) × (c.own ≡ false) }
         ensures frees { Frees self.old self.new space.old space.new at }
-        ensures ledger { ledger_of self.new ≡ freed (ledger_of self.old) at.region false }
+        ensures ledger { (c : Chunk) → chunk_at self.old.blocks at ≡ Some c → ledger_of self.new ≡ give (ledger_of self.old) (place_in self.old.blocks at.region c) }
+        ensures asked { space.new.taken ≡ space.old.taken }
     {
         self.forget(space, at);
         if self.block(at.region).live == 0 {
@@ -418,7 +449,8 @@ impl Books {
         requires agrees { Agrees (footprint self.old.blocks) space.old }
         requires chunk { (c : Chunk) × (chunk_at self.old.blocks at ≡ Some c) × (c.own ≡ true) }
         ensures frees { Frees self.old self.new space.old space.new at }
-        ensures ledger { ledger_of self.new ≡ freed (ledger_of self.old) at.region true }
+        ensures ledger { (c : Chunk) → chunk_at self.old.blocks at ≡ Some c → ledger_of self.new ≡ give (ledger_of self.old) (place_in self.old.blocks at.region c) }
+        ensures asked { space.new.taken ≡ space.old.taken }
     {
         let _ = self.blocks.remove(at);
         self.blocks.laid();
@@ -431,7 +463,8 @@ impl Books {
         requires agrees { Agrees (footprint self.old.blocks) space.old }
         requires chunk { (c : Chunk) × (chunk_at self.old.blocks at ≡ Some c) }
         ensures frees { Frees self.old self.new space.old space.new at }
-        ensures ledger { (c : Chunk) → chunk_at self.old.blocks at ≡ Some c → ledger_of self.new ≡ freed (ledger_of self.old) at.region c.own }
+        ensures ledger { (c : Chunk) → chunk_at self.old.blocks at ≡ Some c → ledger_of self.new ≡ give (ledger_of self.old) (place_in self.old.blocks at.region c) }
+        ensures asked { space.new.taken ≡ space.old.taken }
     {
         match self.blocks.chunk(at) {
             Some(chunk) => {
@@ -460,21 +493,16 @@ impl Books {
         requires keep { keep ≤ size }
         requires known { IsKnown space.old at keep }
         ensures ok { IfOk result (λ to. Resizes self.old self.new space.old space.new at to keep size) }
-        ensures ledger { IfOk result (λ to. (c : Chunk) → chunk_at self.old.blocks at ≡ Some c → resized (ledger_of self.old) (space.old.limit - held space.old self.old.blocks.account) to.region size at.region c.room c.own ≡ Ok (ledger_of self.new)) }
-        ensures no_space { result ≡ Err CtxError.NoSpace → (number : ℕ) (c : Chunk) → chunk_at self.old.blocks at ≡ Some c → resized (ledger_of self.old) (space.old.limit - held space.old self.old.blocks.account) number size at.region c.room c.own ≡ Err CtxError.NoSpace }
+        ensures no_space { result ≡ Err CtxError.NoSpace → (c : Chunk) → chunk_at self.old.blocks at ≡ Some c → resize (ledger_of self.old) (held space.old self.old.blocks.account) space.old.limit (place_in self.old.blocks at.region c) size ≡ Err CtxError.NoSpace }
         ensures no_other { IfErr result (λ e. (e ≡ CtxError.NoSpace) ⊎ (e ≡ CtxError.Memory)) }
         ensures err { OnErr result (state_of self.new ≡ state_of self.old) }
         ensures err_kept { OnErr result (IsKept self.new) }
         ensures err_space { OnErr result (space.new ≡ space.old) }
     {
-        match self.serve(space, size) {
-            Ok(to) => {
-                self.blocks.carry(space, at, to, keep);
-                self.free(space, at);
-                Ok(to)
-            }
-            Err(error) => Err(error),
-        }
+        let to = self.serve(space, size)?;
+        self.blocks.carry(space, at, to, keep);
+        self.free(space, at);
+        Ok(to)
     }
 
     // The bytes that the live chunk at an address may have.
@@ -494,8 +522,7 @@ impl Books {
         requires agrees { Agrees (footprint self.old.blocks) space.now }
         requires size { size ≤ 1073741823 }
         requires chunk { (c : Chunk) × (chunk_at self.old.blocks at ≡ Some c) × (size ≤ c.room) }
-        ensures resizes { Resizes self.old self.new space.now space.now at at keep size }
-        ensures ledger { (c : Chunk) (left number : ℕ) → chunk_at self.old.blocks at ≡ Some c → resized (ledger_of self.old) left number size at.region c.room c.own ≡ Ok (ledger_of self.new) }
+        ensures { Resizes self.old self.new space.now space.now at at keep size }
     {
         let _ = (space.accounts(), keep);
         self.blocks.set_size(at, size);
@@ -514,9 +541,8 @@ impl Books {
         requires chunk { (c : Chunk) × (chunk_at self.old.blocks at ≡ Some c) × (keep ≤ c.size) }
         requires known { IsKnown space.old at keep }
         ensures ok { IfOk result (λ to. Resizes self.old self.new space.old space.new at to (min keep size) size) }
-        ensures ledger { IfOk result (λ to. (c : Chunk) → chunk_at self.old.blocks at ≡ Some c → resized (ledger_of self.old) (space.old.limit - held space.old self.old.blocks.account) to.region size at.region c.room c.own ≡ Ok (ledger_of self.new)) }
         ensures too_big { (result ≡ Err CtxError.TooBig) ↔ (1073741823 < size) }
-        ensures no_space { result ≡ Err CtxError.NoSpace → (number : ℕ) (c : Chunk) → chunk_at self.old.blocks at ≡ Some c → resized (ledger_of self.old) (space.old.limit - held space.old self.old.blocks.account) number size at.region c.room c.own ≡ Err CtxError.NoSpace }
+        ensures no_space { result ≡ Err CtxError.NoSpace → (c : Chunk) → chunk_at self.old.blocks at ≡ Some c → resize (ledger_of self.old) (held space.old self.old.blocks.account) space.old.limit (place_in self.old.blocks at.region c) size ≡ Err CtxError.NoSpace }
         ensures no_other { IfErr result (λ e. (e ≡ CtxError.TooBig) ⊎ ((e ≡ CtxError.NoSpace) ⊎ (e ≡ CtxError.Memory))) }
         ensures err { OnErr result (state_of self.new ≡ state_of self.old) }
         ensures err_kept { OnErr result (IsKept self.new) }
@@ -539,8 +565,9 @@ impl Books {
         requires kept { IsKept self.old }
         requires agrees { Agrees (footprint self.old.blocks) space.old }
         ensures kept { IsKept self.new }
-        ensures ledger { ledger_of self.new ≡ created self.old.sizes.init self.old.sizes.max self.old.blocks.keeper }
-        ensures live { (at : Addr) → (footprint self.new.blocks).live at ≡ None }
+        ensures ledger { ledger_of self.new ≡ reset (ledger_of self.old) }
+        ensures chunks { self.new.blocks.chunks ≡ [] }
+        ensures asked { space.new.taken ≡ space.old.taken }
         ensures moves { Moves (footprint self.old.blocks) (footprint self.new.blocks) space.old space.new }
     {
         self.blocks.reset(space);
@@ -552,7 +579,8 @@ impl Books {
     // Gives everything back.
     pub fn discard(self, space: &mut Space)
         requires { Agrees (footprint self.blocks) space.old }
-        ensures { Moves (footprint self.blocks) (nothing self.blocks.account self.blocks.context) space.old space.new }
+        ensures moves { Moves (footprint self.blocks) (nothing self.blocks.account self.blocks.context) space.old space.new }
+        ensures asked { space.new.taken ≡ space.old.taken }
     {
         let Books {
             sizes: _,
@@ -568,6 +596,7 @@ impl Books {
     pub fn headed(&self)
         requires { IsKept self.now }
         ensures headed { AllHeaded (footprint self.now.blocks) }
+        ensures kinds { AllOfKind Generation (footprint self.now.blocks) }
         ensures spaces { (at : Addr) (chunk : Chunk) → chunk_at self.now.blocks at ≡ Some chunk → TakesSpace (footprint self.now.blocks) at (chunk.room + 8) }
     {
         self.blocks.headed();

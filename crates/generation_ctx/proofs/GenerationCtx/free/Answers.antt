@@ -1,5 +1,15 @@
-use Rattle.ctx_blocks.proofs.Spared.{moves_bare}
+use Rattle.std.proofs.Common.{None, refl}
+use Rattle.ctx_blocks.proofs.Spared.{agrees_bare, moves_bare}
+use Rattle.generation_ctx.proofs.Places.{places_put, numbers_among}
 use Rattle.generation_ctx.proofs.GenerationCtx.free.Goals as goal
+
+pub returns-clause-place : goal.returns-clause-place
+returns-clause-place c =
+    let l = c.self.inside.books.blocks in
+    let m = c.free.new.self.blocks in
+    let f = c.free.ensures.frees in
+    let agrees = agrees_bare l c.args.space.now (rw (← c.self.view_is) at c.requires.agrees) in
+    rw (← c.self.view_is) (places_put l m c.args.space.now c.free.new.space agrees f.moves (numbers_among l m f.among) c.args.at None None f.chunk refl)
 
 pub returns-clause-moves : goal.returns-clause-moves
 returns-clause-moves c = rw (← c.self.view_is) (moves_bare c.self.inside.books.blocks c.free.new.self.blocks _ _ c.free.ensures.frees.moves)

@@ -1,4 +1,4 @@
-use Rattle.std.proofs.Common.{None, refl}
+use Rattle.std.proofs.Common.{◌≡◌, None, refl, ap, ◌∙◌}
 use Rattle.chunk_header.specs.Growth.{AreSizes}
 use Rattle.generation_ctx.specs.declared.books.Books.{Books}
 use Rattle.generation_ctx.proofs.Resets.{kept_alone, ledger_alone}
@@ -6,12 +6,14 @@ use Rattle.generation_ctx.proofs.books.Books.create.Goals as goal
 
 pub returns-clause-kept : goal.returns-clause-kept
 returns-clause-kept c =
-    let n : Books = record { sizes = c.args.sizes; next = c.args.sizes.init; current = c.keeper-current.result; spare = None; blocks = c.in-Ok.blocks } in
+    let e = c.in_ok-blocks.ensures in
+    let n : Books = record { sizes = c.args.sizes; next = c.args.sizes.init; current = c.keeper-current.result; spare = None; blocks = c.in_ok-blocks.blocks } in
     let sized : AreSizes c.args.sizes.init c.args.sizes.max c.args.sizes.init = record { least = c.requires.least; order = c.requires.order; most = c.requires.most; whole_init = c.requires.whole_init; whole_max = c.requires.whole_max; next_least = c.requires.least; next_most = c.requires.order; next_whole = c.requires.whole_init } in
-    kept_alone n c.in-Ok.ensures.kind sized c.in-Ok.ensures.blocks c.keeper-current.ensures refl c.in-Ok.ensures.chunks
+    kept_alone n e.kind e.numbers.0 e.numbers.1 sized e.blocks c.keeper-current.ensures refl e.chunks
 
 pub returns-clause-ledger : goal.returns-clause-ledger
 returns-clause-ledger c =
-    let n : Books = record { sizes = c.args.sizes; next = c.args.sizes.init; current = c.keeper-current.result; spare = None; blocks = c.in-Ok.blocks } in
+    let e = c.in_ok-blocks.ensures in
+    let n : Books = record { sizes = c.args.sizes; next = c.args.sizes.init; current = c.keeper-current.result; spare = None; blocks = c.in_ok-blocks.blocks } in
     let sized : AreSizes c.args.sizes.init c.args.sizes.max c.args.sizes.init = record { least = c.requires.least; order = c.requires.order; most = c.requires.most; whole_init = c.requires.whole_init; whole_max = c.requires.whole_max; next_least = c.requires.least; next_most = c.requires.order; next_whole = c.requires.whole_init } in
-    ledger_alone n c.in-Ok.ensures.kind sized c.in-Ok.ensures.blocks c.keeper-current.ensures refl refl
+    ledger_alone n e.kind e.numbers.0 e.numbers.1 sized e.blocks c.keeper-current.ensures refl refl

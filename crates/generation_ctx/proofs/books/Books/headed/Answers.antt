@@ -1,6 +1,6 @@
 use Rattle.std.proofs.Common.{◌≡◌, ℕ, ◌+◌, ◌-◌, Bool, true, false, Some, refl, subst, arith}
 use Rattle.addr_space.specs.declared.Addr.{Addr}
-use Rattle.chunk_header.specs.Header.{TakesSpace}
+use Rattle.chunk_header.specs.Header.{TakesSpace, AllOfKind}
 use Rattle.ctx_blocks.specs.Layout.{Layout, block_at, chunk_at, footprint}
 use Rattle.ctx_blocks.specs.declared.parts.Block.{Block}
 use Rattle.ctx_blocks.specs.declared.parts.Chunk.{Chunk}
@@ -20,3 +20,6 @@ takes l current at chunk false own alone there shared owned = shared at chunk th
 pub returns-clause-spaces : goal.returns-clause-spaces
 returns-clause-spaces c = λ at chunk there.
     takes c.args.self.now.blocks c.args.self.now.current at chunk chunk.own refl c.requires.alone there c.headed.ensures.shared c.headed.ensures.own
+
+pub returns-clause-kinds : goal.returns-clause-kinds
+returns-clause-kinds c = subst (λ k. AllOfKind k (footprint c.args.self.now.blocks)) c.requires.kind c.headed.ensures.kind

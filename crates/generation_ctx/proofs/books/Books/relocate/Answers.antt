@@ -1,45 +1,51 @@
-use Rattle.std.proofs.Common.{◌≡◌, ◌≢◌, ℕ, ◌+◌, ◌-◌, ◌<◌, Option, Some, None, IsSome, Ok, Err, Result, ap, sym, ◌∙◌, arith, subst, option_map}
+use Rattle.std.proofs.Common.{◌≡◌, ◌≢◌, ◌↔◌, ℕ, ◌+◌, ◌-◌, ◌<◌, Bool, false, Option, Some, None, IsSome, IsTrue, Ok, Err, Result, ap, sym, ◌∙◌, arith, subst, option_map}
+use Rattle.std.proofs.lemmas.Result.{err_from_is_err_and}
 use Rattle.addr_space.specs.declared.Addr.{Addr}
 use Rattle.addr_space.specs.Space.{held, byte_at}
+use Rattle.addr_space.proofs.Options.{one_value}
 use Rattle.addr_space.proofs.Steps.{Moves-more}
 use Rattle.chunk_header.specs.declared.CtxError.{CtxError}
 use Rattle.chunk_header.specs.declared.CtxError.TheVariants.{NoSpace}
-use Rattle.ctx_blocks.specs.Layout.{chunk_at, footprint}
+use Rattle.ctx_blocks.specs.Layout.{block_at, chunk_at, footprint}
+use Rattle.ctx_blocks.specs.declared.parts.Block.{Block}
 use Rattle.ctx_blocks.specs.declared.parts.Chunk.{Chunk}
-use Rattle.chunk_header.specs.Growth.{granted}
-use Rattle.generation_ctx.specs.Ledger.{GenerationLedger, moved}
+use Rattle.ctx_blocks.proofs.Laid.{live_is}
+use Rattle.ctx_blocks.proofs.Changed.{fresh_put}
+use Rattle.ctx_blocks.proofs.Among.{numbers_left}
+use Rattle.generation_ctx.specs.Ledger.{GenerationPlace, GenerationTaken, give, moved, resize}
+use Rattle.generation_ctx.specs.State.{number_of, place_in}
 use Rattle.generation_ctx.specs.Kept.{ledger_of}
 use Rattle.generation_ctx.proofs.Addrs.{stays, put_there}
-use Rattle.ctx_blocks.proofs.Laid.{live_is}
-use Rattle.ctx_blocks.proofs.Changed.{live_put, fresh_put}
-use Rattle.generation_ctx.proofs.Resizes.{resized-moves, live_moves}
+use Rattle.generation_ctx.proofs.Numbers.{number_in}
+use Rattle.generation_ctx.proofs.Ledgers.{resize-moves}
+use Rattle.generation_ctx.proofs.Resizes.{puts_move}
 use Rattle.generation_ctx.proofs.books.Books.relocate.Goals as goal
-use Rattle.generation_ctx.proofs.books.Books.relocate.Goals.{In-Ok}
+use Rattle.generation_ctx.proofs.books.Books.relocate.Goals.{In_ok-to}
 
 -- the new chunk is another one
-apart : (c : In-Ok) → c.in-Ok.to ≢ c.args.at
+apart : (c : In_ok-to) → c.in_ok-to.to ≢ c.args.at
 apart c = λ e.
-    (let is : chunk_at c.args.self.now.blocks c.in-Ok.to ≡ Some c.requires.chunk.0 = rw e c.requires.chunk.1 in
-    let clash : Some c.requires.chunk.0 ≡ None = sym is ∙ c.in-Ok.ensures.ok.fresh in
+    (let is : chunk_at c.args.self.now.blocks c.in_ok-to.to ≡ Some c.requires.chunk.0 = rw e c.requires.chunk.1 in
+    let clash : Some c.requires.chunk.0 ≡ None = sym is ∙ c.in_ok-to.ensures.ok.does.fresh in
     absurd (cc))
 
 -- the old one is still there
-still : (c : In-Ok) → chunk_at c.serve.new.self.blocks c.args.at ≡ Some c.requires.chunk.0
-still c = stays c.args.self.now.blocks c.serve.new.self.blocks c.in-Ok.to c.args.at _ c.in-Ok.ensures.ok.chunk (apart c) ∙ c.requires.chunk.1
+still : (c : In_ok-to) → chunk_at c.serve.new.self.blocks c.args.at ≡ Some c.requires.chunk.0
+still c = stays c.args.self.now.blocks c.serve.new.self.blocks c.in_ok-to.to c.args.at _ c.in_ok-to.ensures.ok.does.chunk (apart c) ∙ c.requires.chunk.1
 
 -- with its bytes
-kept_bytes : (c : In-Ok) (k : ℕ) → k < c.args.keep → byte_at c.serve.new.space c.args.at.region (c.args.at.offset + k) ≡ byte_at c.args.space.now c.args.at.region (c.args.at.offset + k)
+kept_bytes : (c : In_ok-to) (k : ℕ) → k < c.args.keep → byte_at c.serve.new.space c.args.at.region (c.args.at.offset + k) ≡ byte_at c.args.space.now c.args.at.region (c.args.at.offset + k)
 kept_bytes c k below =
     let chunk = c.requires.chunk.0 in
     let short : k < chunk.size = omega (arith, below, c.requires.chunk.2) in
-    c.in-Ok.ensures.ok.keeps c.args.at chunk.size chunk.size k (live_is c.args.self.now.blocks c.args.at chunk c.requires.chunk.1) (live_is c.serve.new.self.blocks c.args.at chunk (still c)) short short
+    c.in_ok-to.ensures.ok.does.keeps c.args.at chunk.size chunk.size k (live_is c.args.self.now.blocks c.args.at chunk c.requires.chunk.1) (live_is c.serve.new.self.blocks c.args.at chunk (still c)) short short
 
 pub carry-requires-clause-known : goal.carry-requires-clause-known
-carry-requires-clause-known c = λ k below. subst IsSome (sym (kept_bytes (goal.at.carry-requires-clause-known c).In-Ok k below)) (c.requires.known k below)
+carry-requires-clause-known c = λ k below. subst IsSome (sym (kept_bytes (goal.at.carry-requires-clause-known c).In_ok-to k below)) (c.requires.known k below)
 
-pub returns-in-Ok-clause-ok : goal.returns-in-Ok-clause-ok
-returns-in-Ok-clause-ok c =
-    let it = (goal.at.returns-in-Ok-clause-ok c).In-Ok in
+pub returns-clause-ok : goal.returns-clause-ok
+returns-clause-ok c =
+    let it = (goal.at.returns-clause-ok c).In_ok-to in
     let b = c.args.self.now.blocks in
     let m = c.serve.new.self.blocks in
     let n = c.free.new.self.blocks in
@@ -48,19 +54,32 @@ returns-in-Ok-clause-ok c =
     let v = c.carry.new.space in
     let u = c.free.new.space in
     let at = c.args.at in
-    let to = c.in-Ok.to in
+    let to = c.in_ok-to.to in
     let size = c.args.size in
-    let ok = c.in-Ok.ensures.ok in
+    let q = c.requires.chunk in
+    let served = c.in_ok-to.ensures.ok in
+    let answer = served.answer in
+    let ok = served.does in
     let f = c.free.ensures.frees in
-    let new : Chunk = record { size = size; room = granted size; own = ok.own } in
-    let first = live_put b m to (Some new) ok.chunk in
-    let second = live_put m n at None f.chunk in
+    let new : Chunk = record { size = size; room = answer.place.room; own = answer.place.own } in
     let in_m : chunk_at m to ≡ Some new = put_there b m to (Some new) ok.chunk in
     let in_n : chunk_at n to ≡ Some new = stays m n at to None f.chunk (λ e. apart it (sym e)) ∙ in_m in
+    let place : GenerationPlace = place_in b at.region q.0 in
+    let same : number_of m at.region ≡ number_of b at.region = number_in b m s t at q.0 q.1 (still it) c.requires.agrees ok.moves ok.numbers in
+    let freed : ledger_of c.free.new.self ≡ give answer.ledger place = c.free.ensures.ledger q.0 (still it) ∙ ap (λ (k : ℕ). give (ledger_of c.serve.new.self) (record place { block = k })) same ∙ ap (λ l. give l place) ok.ledger in
     record {
       kept = f.kept;
-      fresh = λ ne. fresh_put b to ok.fresh;
-      live = live_moves (footprint b) (footprint m) (footprint n) at to size (apart it) first second;
+      old = q.0;
+      was = q.1;
+      answer = record { ledger = give answer.ledger place; place = answer.place; asked = answer.asked; stays = false };
+      step = resize-moves (ledger_of c.args.self.now) (held s b.account) s.limit size place c.requires.size q.3 ∙ ap (λ (r : Result GenerationTaken CtxError). moved r place) served.is;
+      ledger = freed;
+      fresh = λ ne. ok.fresh;
+      chunk = puts_move (chunk_at b) (chunk_at m) (chunk_at n) at to new (apart it) ok.chunk f.chunk;
+      number = number_in m n v u to new in_m in_n c.carry.ensures.moves.agrees f.moves (λ r x y p w. (let g = f.among r y w in sym g.2 ∙ ap (λ (z : Block). z.number) (one_value (block_at m r) g.0 x g.1 p))) ∙ ok.number;
+      numbers = numbers_left b m n ok.numbers f.among;
+      asked = c.free.ensures.asked ∙ c.carry.ensures.asked ∙ ok.asked;
+      stays = (λ e. absurd (apart it e), λ e. absurd (cc));
       bytes = λ k below.
           (let short : k < size = omega (arith, below, c.requires.keep) in
           f.keeps to size size k (live_is m to new in_m) (live_is n to new in_n) short short ∙ c.carry.ensures.copied k below ∙ kept_bytes it k below);
@@ -74,29 +93,15 @@ returns-in-Ok-clause-ok c =
           f.keeps other p q k middle again below short ∙ c.carry.ensures.keeps other p p k (λ e. ne_to (sym e)) middle middle below below ∙ ok.keeps other p p k live middle below below);
     }
 
-pub returns-in-Ok-clause-ledger : goal.returns-in-Ok-clause-ledger
-returns-in-Ok-clause-ledger c = λ chunk is.
-    (let it = (goal.at.returns-in-Ok-clause-ledger c).In-Ok in
-    let b = c.args.self.now in
-    let left : ℕ = c.args.space.now.limit - held c.args.space.now b.blocks.account in
-    let at = c.args.at in
-    let q = c.requires.chunk in
-    let same : Some q.0 ≡ Some chunk = sym q.1 ∙ is in
-    let room : q.0.room ≡ chunk.room = cc in
-    let little : chunk.room < c.args.size = omega (arith, room, q.3) in
-    let there : chunk_at c.serve.new.self.blocks at ≡ Some chunk = still it ∙ same in
-    resized-moves (ledger_of b) left c.in-Ok.to.region c.args.size at.region chunk.room chunk.own c.requires.size little
-    ∙ ap (λ (r : Result GenerationLedger CtxError). moved r at.region chunk.own) c.in-Ok.ensures.ok.ledger
-    ∙ ap Ok (sym (c.free.ensures.ledger chunk there)))
-
-pub returns-in-Err-clause-no_space : goal.returns-in-Err-clause-no_space
-returns-in-Err-clause-no_space c = λ e number chunk is.
+pub returns-in_err-to-clause-no_space : goal.returns-in_err-to-clause-no_space
+returns-in_err-to-clause-no_space c = λ e chunk is.
     (let b = c.args.self.now in
-    let left : ℕ = c.args.space.now.limit - held c.args.space.now b.blocks.account in
+    let s = c.args.space.now in
     let q = c.requires.chunk in
     let same : Some q.0 ≡ Some chunk = sym q.1 ∙ is in
     let room : q.0.room ≡ chunk.room = cc in
     let little : chunk.room < c.args.size = omega (arith, room, q.3) in
-    let it : c.in-Err.error ≡ NoSpace = cc in
-    resized-moves (ledger_of b) left number c.args.size c.args.at.region chunk.room chunk.own c.requires.size little
-    ∙ ap (λ (r : Result GenerationLedger CtxError). moved r c.args.at.region chunk.own) (c.in-Err.ensures.no_space (ap Err it) number))
+    let it : c.in_err-to.field-0.0 ≡ NoSpace = let p = err_from_is_err_and c.from_residual.result c.from_residual.ensures.1 in cc in
+    let place = place_in b.blocks c.args.at.region chunk in
+    resize-moves (ledger_of b) (held s b.blocks.account) s.limit c.args.size place c.requires.size little
+    ∙ ap (λ (r : Result GenerationTaken CtxError). moved r place) (c.in_err-to.ensures.no_space (ap Err it)))

@@ -1,9 +1,12 @@
-use Rattle.std.proofs.Common.{sym, subst}
-use Rattle.generation_ctx.specs.Ledger.{turned, stopped}
+use Rattle.std.proofs.Common.{◌≡◌, ◌∙◌, Option, ℕ, None, option_map, if◌then◌else◌, ap, sym, subst}
+use Rattle.ctx_blocks.specs.Numbered.{AreAmong}
+use Rattle.generation_ctx.specs.Ledger.{GenerationLedger, turned, stopped, is_spare}
+use Rattle.generation_ctx.specs.State.{number_of}
 use Rattle.generation_ctx.specs.Kept.{ledger_of, IsKept}
 use Rattle.generation_ctx.specs.Steps.{Rearranges}
 use Rattle.generation_ctx.specs.declared.books.Books.{Books}
 use Rattle.generation_ctx.proofs.Kept.{kept_seated}
+use Rattle.generation_ctx.proofs.Numbers.{seated}
 use Rattle.generation_ctx.proofs.books.Books.turn_to.Goals as goal
 
 pub stop-requires-clause-kept : goal.stop-requires-clause-kept
@@ -19,5 +22,8 @@ returns-clause-rearranges c =
     let n = c.stop.new.self in
     let s = c.args.space.now in
     let t = c.stop.new.space in
-    let r = subst (λ (x : Books). Rearranges x n s t (stopped (ledger_of x) b.current)) c.seat.ensures c.stop.ensures.rearranges in
-    record { kept = r.kept; ledger_is = r.ledger_is; chunks = r.chunks; spare = r.spare; moves = r.moves; keeps = r.keeps }
+    let block = c.requires.block in
+    let r = subst (λ (x : Books). Rearranges x n s t (stopped (ledger_of x) (number_of x.blocks b.current))) c.seat.ensures c.stop.ensures.rearranges in
+    let spare = seated b.blocks b.current c.args.number b.spare block.0 c.requires.kept.numbered block.1 c.requires.kept.spare in
+    let ledger = ap (λ (o : Option ℕ). stopped (record (ledger_of b) { current = number_of b.blocks c.args.number; spare = o }) (number_of b.blocks b.current)) spare in
+    record { kept = r.kept; ledger_is = r.ledger_is ∙ ledger; chunks = r.chunks; spare = r.spare; account = r.account; moves = r.moves; keeps = r.keeps }
