@@ -83,7 +83,6 @@ module _ (l m : Layout) (number k size : ℕ) (laid : IsLaid l) (same : SameCont
             record {
               block = was.block;
               owned = others_now at.region (owned_differs at.region was.block was.owned) ∙ was.owned;
-              number = was.number;
               first = omega (arith, was.first, start_same l m same at.region, gap);
               last = was.last;
               whole = was.whole;

@@ -12,7 +12,7 @@ use Rattle.ctx_blocks.proofs.Headed.{start_whole}
 
 -- at the beginning of a block's room
 pub Holds-cut : (l : Layout) (number gap size room : ℕ) (own : Bool) (b : Block) → IsLaid l → block_at l number ≡ Some b → gap ≡ header_room l → header_room l + room ≤ b.room → 0 < header_room l + room → size ≤ room → room % 8 ≡ 0 → (own ≡ true) ⊎ (room < 2 ^ 30)
-    → Holds l (record { region = number; offset = b.size - b.room + gap }) (record { block = b.number; size = size; room = room; own = own }) (record { number = b.number; size = b.size; room = b.room - (gap + room); live = b.live + 1; freed = b.freed })
+    → Holds l (record { region = number; offset = b.size - b.room + gap }) (record { size = size; room = room; own = own }) (record { number = b.number; size = b.size; room = b.room - (gap + room); live = b.live + 1; freed = b.freed })
 Holds-cut l number gap size room own b laid owned gap_is fits some within whole value =
     let filled = laid.filled number b owned in
     let start = start_whole l number in
@@ -24,7 +24,6 @@ Holds-cut l number gap size room own b laid owned gap_is fits some within whole 
       old = b;
       owned = owned;
       number = refl;
-      named = refl;
       size = refl;
       live = refl;
       less = omega arith;
@@ -45,15 +44,14 @@ Holds-cut l number gap size room own b laid owned gap_is fits some within whole 
 
 -- where chunks were cut off and freed
 pub Holds-place : (l : Layout) (at : Addr) (size room : ℕ) (b : Block) → IsLaid l → block_at l at.region ≡ Some b → at.offset + room + b.room ≤ b.size → 1 ≤ b.freed → start_of l at.region + 40 + header_room l ≤ at.offset → at.offset % 8 ≡ 0
-    → 0 < header_room l + room → size ≤ room → room < 2 ^ 30 → ((other : Addr) (c : Chunk) → chunk_at l other ≡ Some c → IsClear (header_room l) other c at (record { block = b.number; size = size; room = room; own = false }))
-    → Holds l at (record { block = b.number; size = size; room = room; own = false }) (record { number = b.number; size = b.size; room = b.room; live = b.live + 1; freed = b.freed - 1 })
+    → 0 < header_room l + room → size ≤ room → room < 2 ^ 30 → ((other : Addr) (c : Chunk) → chunk_at l other ≡ Some c → IsClear (header_room l) other c at (record { size = size; room = room; own = false }))
+    → Holds l at (record { size = size; room = room; own = false }) (record { number = b.number; size = b.size; room = b.room; live = b.live + 1; freed = b.freed - 1 })
 Holds-place l at size room b laid owned last freed first whole some within small clear =
     let filled = laid.filled at.region b owned in
     record {
       old = b;
       owned = owned;
       number = refl;
-      named = refl;
       size = refl;
       live = refl;
       less = omega arith;

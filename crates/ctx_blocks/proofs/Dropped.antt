@@ -52,13 +52,13 @@ module _ (l m : Layout) (laid : IsLaid l) (same : SameContext l m) (chunks : m.c
   pub Lessens-dropped : Lessens l m
   Lessens-dropped = record {
     same = same;
-    chunk = λ at c found. let had = sym (chunk_same at) ∙ found in (c, had, refl, refl, (laid.placed at c had).sized.fits, refl);
+    chunk = λ at c found. let had = sym (chunk_same at) ∙ found in (c, had, refl, refl, (laid.placed at c had).sized.fits);
     block = λ other b has. let had = was_there other b has in (b, had, refl, laid.filled other b had);
     under = λ at c found.
         let had = sym (chunk_same at) ∙ found in
         let placed = laid.placed at c had in
         let differs : at.region ≢ number = λ e. let none = empty at e in absurd (cc) in
-        (placed.block, placed.block, placed.owned, others_now at.region differs ∙ placed.owned, omega arith, refl);
+        (placed.block, placed.block, placed.owned, others_now at.region differs ∙ placed.owned, omega arith);
   }
 
   pub IsCounted-dropped : IsCounted l → IsCounted m

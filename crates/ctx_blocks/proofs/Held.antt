@@ -62,7 +62,6 @@ module _ (l m : Layout) (at : Addr) (chunk : Chunk) (block : Block) (laid : IsLa
             record {
               block = block;
               owned = here.1;
-              number = was.number ∙ ap (λ (b : Block). b.number) it ∙ sym holds.number;
               first = omega (arith, was.first, start, gap);
               last = omega (arith, was.last, ap (λ (b : Block). b.size) it, ap (λ (b : Block). b.room) it, holds.size, holds.less);
               whole = was.whole;
@@ -72,7 +71,6 @@ module _ (l m : Layout) (at : Addr) (chunk : Chunk) (block : Block) (laid : IsLa
             record {
               block = was.block;
               owned = there.1 ∙ was.owned;
-              number = was.number;
               first = omega (arith, was.first, start, gap);
               last = was.last;
               whole = was.whole;
@@ -94,7 +92,6 @@ module _ (l m : Layout) (at : Addr) (chunk : Chunk) (block : Block) (laid : IsLa
       record {
         block = block;
         owned = block_now;
-        number = holds.named;
         first = omega (arith, holds.first, start, gap);
         last = holds.last;
         whole = holds.whole;

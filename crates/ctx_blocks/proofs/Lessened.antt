@@ -16,9 +16,9 @@ use Rattle.ctx_blocks.proofs.Laid.{mark_cases, mark_from_block, mark_from_chunk,
 -- each chunk and each block was there, with the same bytes; a block in which chunks are has no more room
 pub record Lessens (l m : Layout) : Type 0 where
   pub same : SameContext l m
-  pub chunk : (at : Addr) (c : Chunk) → chunk_at m at ≡ Some c → (w : Chunk) × (chunk_at l at ≡ Some w) × (w.room ≡ c.room) × (w.own ≡ c.own) × (c.size ≤ c.room) × (w.block ≡ c.block)
+  pub chunk : (at : Addr) (c : Chunk) → chunk_at m at ≡ Some c → (w : Chunk) × (chunk_at l at ≡ Some w) × (w.room ≡ c.room) × (w.own ≡ c.own) × (c.size ≤ c.room)
   pub block : (number : ℕ) (b : Block) → block_at m number ≡ Some b → (w : Block) × (block_at l number ≡ Some w) × (w.size ≡ b.size) × IsFilled (whole_of l number b.size) b
-  pub under : (at : Addr) (c : Chunk) → chunk_at m at ≡ Some c → (w : Block) × (b : Block) × (block_at l at.region ≡ Some w) × (block_at m at.region ≡ Some b) × (b.room ≤ w.room) × (b.number ≡ w.number)
+  pub under : (at : Addr) (c : Chunk) → chunk_at m at ≡ Some c → (w : Block) × (b : Block) × (block_at l at.region ≡ Some w) × (block_at m at.region ≡ Some b) × (b.room ≤ w.room)
 
 -- the start of a block and the bytes of a header stay
 pub start_same : (l m : Layout) → SameContext l m → (number : ℕ) → start_of m number ≡ start_of l number
@@ -48,7 +48,6 @@ module _ (l m : Layout) (laid : IsLaid l) (less : Lessens l m) where
             record {
               block = under.1;
               owned = under.3;
-              number = sym it.5 ∙ was.number ∙ ap (λ (b : Block). b.number) one ∙ sym under.5;
               first = omega (arith, was.first, start_same l m less.same at.region, gap);
               last = omega (arith, was.last, size, room, under.4, it.2);
               whole = was.whole;

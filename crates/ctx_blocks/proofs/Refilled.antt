@@ -52,7 +52,7 @@ module _ (l m : Layout) (laid : IsLaid l) (same : SameContext l m) (chunks : m.c
     same = same;
     chunk = λ at c found.
         let was = sym (chunk_same at) ∙ found in
-        (c, was, refl, refl, (laid.placed at c was).sized.fits, refl);
+        (c, was, refl, refl, (laid.placed at c was).sized.fits);
     block = λ other b has.
         elim (block_cases l m number (Some block) blocks other) [
           | inl here ↦
@@ -65,7 +65,7 @@ module _ (l m : Layout) (laid : IsLaid l) (same : SameContext l m) (chunks : m.c
         let placed = laid.placed at c (sym (chunk_same at) ∙ found) in
         elim (block_cases l m number (Some block) blocks at.region) [
           | inl here ↦ let none = empty at here.0 in let some = sym (chunk_same at) ∙ found in absurd (cc)
-          | inr there ↦ (placed.block, placed.block, placed.owned, there.1 ∙ placed.owned, omega arith, refl)
+          | inr there ↦ (placed.block, placed.block, placed.owned, there.1 ∙ placed.owned, omega arith)
         ];
   }
 
@@ -84,17 +84,17 @@ module _ (l m : Layout) (laid : IsLaid l) (same : SameContext l m) (chunks : m.c
   regions-refilled = region-put l m number old (record { number = k; size = old.size; room = room; live = 0; freed = 0 }) owned refl blocks
 
 -- the size of a chunk becomes another one
-module _ (l m : Layout) (laid : IsLaid l) (same : SameContext l m) (blocks : m.blocks ≡ l.blocks) (at : Addr) (old new : Chunk) (was : chunk_at l at ≡ Some old) (room : old.room ≡ new.room) (own : old.own ≡ new.own) (named : old.block ≡ new.block) (fits : new.size ≤ new.room) (chunks : PutsChunk l m at (Some new)) where
+module _ (l m : Layout) (laid : IsLaid l) (same : SameContext l m) (blocks : m.blocks ≡ l.blocks) (at : Addr) (old new : Chunk) (was : chunk_at l at ≡ Some old) (room : old.room ≡ new.room) (own : old.own ≡ new.own) (fits : new.size ≤ new.room) (chunks : PutsChunk l m at (Some new)) where
   pub block_same : (number : ℕ) → block_at m number ≡ block_at l number
   block_same number = rw blocks refl
 
-  found_before : (other : Addr) (c : Chunk) → chunk_at m other ≡ Some c → (w : Chunk) × (chunk_at l other ≡ Some w) × (w.room ≡ c.room) × (w.own ≡ c.own) × (c.size ≤ c.room) × (w.block ≡ c.block)
+  found_before : (other : Addr) (c : Chunk) → chunk_at m other ≡ Some c → (w : Chunk) × (chunk_at l other ≡ Some w) × (w.room ≡ c.room) × (w.own ≡ c.own) × (c.size ≤ c.room)
   found_before other c found =
       elim (put_cases l m at (Some new) chunks other) [
         | inl here ↦
             let it : new ≡ c = one_value (chunk_at m other) new c here.1 found in
-            (old, ap (chunk_at l) here.0 ∙ was, room ∙ ap (λ (x : Chunk). x.room) it, own ∙ ap (λ (x : Chunk). x.own) it, subst (λ (x : Chunk). x.size ≤ x.room) it fits, named ∙ ap (λ (x : Chunk). x.block) it)
-        | inr there ↦ let had = sym there.1 ∙ found in (c, had, refl, refl, (laid.placed other c had).sized.fits, refl)
+            (old, ap (chunk_at l) here.0 ∙ was, room ∙ ap (λ (x : Chunk). x.room) it, own ∙ ap (λ (x : Chunk). x.own) it, subst (λ (x : Chunk). x.size ≤ x.room) it fits)
+        | inr there ↦ let had = sym there.1 ∙ found in (c, had, refl, refl, (laid.placed other c had).sized.fits)
       ]
 
   pub Lessens-sized : Lessens l m
@@ -105,7 +105,7 @@ module _ (l m : Layout) (laid : IsLaid l) (same : SameContext l m) (blocks : m.b
     under = λ other c found.
         let before = found_before other c found in
         let placed = laid.placed other before.0 before.1 in
-        (placed.block, placed.block, placed.owned, block_same other.region ∙ placed.owned, omega arith, refl);
+        (placed.block, placed.block, placed.owned, block_same other.region ∙ placed.owned, omega arith);
   }
 
   pub IsCounted-sized : IsCounted l → ((number : ℕ) → count_in m number ≡ count_in l number) → IsCounted m
@@ -128,7 +128,7 @@ module _ (l m : Layout) (laid : IsLaid l) (same : SameContext l m) (at : Addr) (
   unfolding left
   Lessens-removed = record {
     same = same;
-    chunk = λ other c found. let had = found_there other c found in (c, had, refl, refl, (laid.placed other c had).sized.fits, refl);
+    chunk = λ other c found. let had = found_there other c found in (c, had, refl, refl, (laid.placed other c had).sized.fits);
     block = λ other b has.
         elim (block_cases l m at.region (Some left) blocks other) [
           | inl here ↦
@@ -143,8 +143,8 @@ module _ (l m : Layout) (laid : IsLaid l) (same : SameContext l m) (at : Addr) (
         elim (block_cases l m at.region (Some left) blocks other.region) [
           | inl here ↦
               let it : placed.block ≡ old = one_value (block_at l other.region) placed.block old placed.owned (ap (block_at l) here.0 ∙ owned) in
-              (placed.block, left, placed.owned, here.1, omega (arith, ap (λ (b : Block). b.room) it), sym (ap (λ (b : Block). b.number) it))
-          | inr there ↦ (placed.block, placed.block, placed.owned, there.1 ∙ placed.owned, omega arith, refl)
+              (placed.block, left, placed.owned, here.1, omega (arith, ap (λ (b : Block). b.room) it))
+          | inr there ↦ (placed.block, placed.block, placed.owned, there.1 ∙ placed.owned, omega arith)
         ];
   }
 

@@ -16,7 +16,7 @@ IsLaid-spare l blocks chunks laid = record {
   filled = laid.filled;
   placed = λ at c found.
       let was = laid.placed at c found in
-      record { block = was.block; owned = was.owned; number = was.number; first = was.first; last = was.last; whole = was.whole; sized = was.sized };
+      record { block = was.block; owned = was.owned; first = was.first; last = was.last; whole = was.whole; sized = was.sized };
   apart = laid.apart;
 }
 

@@ -21,7 +21,6 @@ pub record Holds (l : Layout) (at : Addr) (chunk : Chunk) (block : Block) : Type
   pub old : Block
   pub owned : block_at l at.region ≡ Some old
   pub number : block.number ≡ old.number
-  pub named : chunk.block ≡ block.number
   pub size : block.size ≡ old.size
   pub live : block.live ≡ old.live + 1
   pub less : block.room ≤ old.room

@@ -40,12 +40,11 @@ pub record IsSized (gap : ℕ) (chunk : Chunk) : Type 0 where
   pub fits : chunk.size ≤ chunk.room
   pub value : (chunk.own ≡ true) ⊎ (chunk.room < 2 ^ 30)
 
--- where a chunk is: in a block of the context, whose number it has, behind the block's header and a header of its
--- own, and below the block's room
+-- where a chunk is: in a block of the context, behind the block's header and a header of its own, and below the
+-- block's room
 pub record IsPlaced (l : Layout) (at : Addr) (chunk : Chunk) : Type 0 where
   pub block : Block
   pub owned : block_at l at.region ≡ Some block
-  pub number : chunk.block ≡ block.number
   pub first : start_of l at.region + 40 + header_room l ≤ at.offset
   pub last : at.offset + chunk.room + block.room ≤ block.size
   pub whole : at.offset % 8 ≡ 0

@@ -315,7 +315,7 @@ impl Books {
         ensures region { result.region ≡ number }
         ensures offset { (b : Block) → block_at (layout_of self.old) number ≡ Some b → result.offset ≡ b.size - b.room + header_room (layout_of self.old) }
         ensures fresh { chunk_at (layout_of self.old) result ≡ None }
-        ensures chunk { (b : Block) → block_at (layout_of self.old) number ≡ Some b → PutsChunk (layout_of self.old) (layout_of self.new) result (Some (record { block = b.number; size = size; room = room; own = own })) }
+        ensures chunk { PutsChunk (layout_of self.old) (layout_of self.new) result (Some (record { size = size; room = room; own = own })) }
         ensures block { (b : Block) → block_at (layout_of self.old) number ≡ Some b → PutsBlock (layout_of self.old) (layout_of self.new) number (record b { room = b.room - (header_room (layout_of self.old) + room); live = b.live + 1 }) }
         ensures spare { spare self.old.chunks ≤ spare self.new.chunks + 1 }
         ensures moves { Moves (footprint (layout_of self.old)) (footprint (layout_of self.new)) space.old space.new }
@@ -335,13 +335,7 @@ impl Books {
             live: block.live + 1,
             freed: block.freed,
         };
-        let chunk = Chunk {
-            block: block.number,
-            size,
-            room,
-            own,
-        };
-        self.hold(space, at, chunk, less);
+        self.hold(space, at, Chunk { size, room, own }, less);
         at
     }
 
@@ -355,13 +349,13 @@ impl Books {
         requires some { 0 < header_room (layout_of self.old) + room }
         requires fits { size ≤ room }
         requires value { room < 2 ^ 30 }
-        requires clear { (other : Addr) (c : Chunk) → chunk_at (layout_of self.old) other ≡ Some c → other.region ≡ at.region → (other.offset + c.room + header_room (layout_of self.old) ≤ at.offset) ⊎ (at.offset + room + header_room (layout_of self.old) ≤ other.offset) }
+        requires clear { (other : Addr) (c : Chunk) → chunk_at (layout_of self.old) other ≡ Some c → IsClear (header_room (layout_of self.old)) other c at (record { size = size; room = room; own = false }) }
         requires spare { 1 ≤ spare self.old.chunks }
         ensures kept { IsKept self.new }
         ensures same { SameContext (layout_of self.old) (layout_of self.new) }
         ensures last { self.new.last_number ≡ self.old.last_number }
         ensures fresh { chunk_at (layout_of self.old) at ≡ None }
-        ensures chunk { (b : Block) → block_at (layout_of self.old) at.region ≡ Some b → PutsChunk (layout_of self.old) (layout_of self.new) at (Some (record { block = b.number; size = size; room = room; own = false })) }
+        ensures chunk { PutsChunk (layout_of self.old) (layout_of self.new) at (Some (record { size = size; room = room; own = false })) }
         ensures block { (b : Block) → block_at (layout_of self.old) at.region ≡ Some b → PutsBlock (layout_of self.old) (layout_of self.new) at.region (record b { live = b.live + 1; freed = b.freed - 1 }) }
         ensures spare { spare self.old.chunks ≤ spare self.new.chunks + 1 }
         ensures moves { Moves (footprint (layout_of self.old)) (footprint (layout_of self.new)) space.old space.new }
@@ -377,7 +371,6 @@ impl Books {
             freed: block.freed - 1,
         };
         let chunk = Chunk {
-            block: block.number,
             size,
             room,
             own: false,
@@ -398,7 +391,6 @@ impl Books {
     {
         let chunk = self.held(at);
         let other = Chunk {
-            block: chunk.block,
             size,
             room: chunk.room,
             own: chunk.own,

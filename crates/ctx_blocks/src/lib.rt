@@ -142,7 +142,7 @@ impl Blocks {
         ensures region { result.region ≡ number }
         ensures offset { (b : Block) → block_at self.old number ≡ Some b → result.offset ≡ b.size - b.room + header_room self.old }
         ensures fresh { chunk_at self.old result ≡ None }
-        ensures chunk { (b : Block) → block_at self.old number ≡ Some b → PutsChunk self.old self.new result (Some (record { block = b.number; size = size; room = room; own = own })) }
+        ensures chunk { PutsChunk self.old self.new result (Some (record { size = size; room = room; own = own })) }
         ensures block { (b : Block) → block_at self.old number ≡ Some b → PutsBlock self.old self.new number (record b { room = b.room - (header_room self.old + room); live = b.live + 1 }) }
         ensures spare { self.old.spare_chunks ≤ self.new.spare_chunks + 1 }
         ensures moves { Moves (footprint self.old) (footprint self.new) space.old space.new }
@@ -162,12 +162,12 @@ impl Blocks {
         requires some { 0 < header_room self.old + room }
         requires fits { size ≤ room }
         requires value { room < 2 ^ 30 }
-        requires clear { (other : Addr) (c : Chunk) → chunk_at self.old other ≡ Some c → other.region ≡ at.region → (other.offset + c.room + header_room self.old ≤ at.offset) ⊎ (at.offset + room + header_room self.old ≤ other.offset) }
+        requires clear { (other : Addr) (c : Chunk) → chunk_at self.old other ≡ Some c → IsClear (header_room self.old) other c at (record { size = size; room = room; own = false }) }
         requires spare { 1 ≤ self.old.spare_chunks }
         ensures same { SameContext self.old self.new }
         ensures last { self.new.last_number ≡ self.old.last_number }
         ensures fresh { chunk_at self.old at ≡ None }
-        ensures chunk { (b : Block) → block_at self.old at.region ≡ Some b → PutsChunk self.old self.new at (Some (record { block = b.number; size = size; room = room; own = false })) }
+        ensures chunk { PutsChunk self.old self.new at (Some (record { size = size; room = room; own = false })) }
         ensures block { (b : Block) → block_at self.old at.region ≡ Some b → PutsBlock self.old self.new at.region (record b { live = b.live + 1; freed = b.freed - 1 }) }
         ensures spare { self.old.spare_chunks ≤ self.new.spare_chunks + 1 }
         ensures moves { Moves (footprint self.old) (footprint self.new) space.old space.new }

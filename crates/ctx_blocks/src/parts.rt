@@ -3,8 +3,6 @@
 /// A live chunk.
 #[derive(Clone, Copy, PartialEq, Eq, Debug)]
 pub struct Chunk {
-    /// The number of its block.
-    pub block: u64,
     /// The bytes that were asked for.
     pub size: u32,
     /// The bytes that it may have where it is, at least its size.

@@ -16,7 +16,6 @@ fn a_chunk_is_cut(rt: HostRuntime) -> Result<(), Fail> {
     let number = blocks.add(&mut space, 2048)?;
     let at = blocks.cut(&mut space, number, 20, 24, false);
     let chunk = Chunk {
-        block: 2,
         size: 20,
         room: 24,
         own: false,
@@ -121,7 +120,7 @@ fn written(alloc: Global, space: &mut Space, bytes: &[u8; 5]) -> Result<(Blocks,
     ensures kind { IfOk result (λ made. made.0.kind ≡ Generation) }
     ensures agrees { IfOk result (λ made. Agrees (footprint made.0) space.new) }
     ensures block { IfOk result (λ made. block_at made.0 made.1.region ≡ Some (record { number = 1; size = 1024; room = 768; live = 1; freed = 0 })) }
-    ensures chunk { IfOk result (λ made. chunk_at made.0 made.1 ≡ Some (record { block = 1; size = 5; room = 8; own = false })) }
+    ensures chunk { IfOk result (λ made. chunk_at made.0 made.1 ≡ Some (record { size = 5; room = 8; own = false })) }
     ensures known { IfOk result (λ made. IsKnown space.new made.1 5) }
 {
     let mut blocks = Blocks::create(alloc, space, Kind::Generation, 0, 7, 1, 1024)?;
@@ -137,7 +136,7 @@ fn carried(space: &mut Space, blocks: &mut Blocks, from: Addr) -> Result<Addr, C
     requires kind { blocks.old.kind ≡ Generation }
     requires agrees { Agrees (footprint blocks.old) space.old }
     requires block { block_at blocks.old from.region ≡ Some (record { number = 1; size = 1024; room = 768; live = 1; freed = 0 }) }
-    requires chunk { chunk_at blocks.old from ≡ Some (record { block = 1; size = 5; room = 8; own = false }) }
+    requires chunk { chunk_at blocks.old from ≡ Some (record { size = 5; room = 8; own = false }) }
     requires known { IsKnown space.old from 5 }
     ensures inside { IfOk result (λ to. IsInside space.new to 5) }
     ensures known { IfOk result (λ to. IsKnown space.new to 5) }

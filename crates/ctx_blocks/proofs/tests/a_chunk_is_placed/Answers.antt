@@ -42,7 +42,7 @@ place-requires-clause-clear g c = λ other it found region.
     let last : chunk_at c.remove.new.self other ≡ Some it = sym (ap (λ (x : Layout). chunk_at x other) c.in_ok-make_room-2.ensures.same) ∙ found in
     elim (put_cases c.cut-at.new.self c.remove.new.self there None c.remove.ensures.chunk other) [
       | inl gone ↦ let none = gone.1 in absurd (cc)
-      | inr kept ↦ elim (put_cases c.make_room.new.self c.cut-at.new.self c.cut-at.result (Some (record { block = 0; size = 20; room = 24; own = false })) (c.cut-at.ensures.chunk first (owned g then)) other) [
+      | inr kept ↦ elim (put_cases c.make_room.new.self c.cut-at.new.self c.cut-at.result (Some (record { size = 20; room = 24; own = false })) c.cut-at.ensures.chunk other) [
         | inl cut ↦ absurd (kept.0 (cut.0 ∙ at))
         | inr old ↦ let none = kept.1 ∙ old.1 ∙ before in absurd (cc)
       ]

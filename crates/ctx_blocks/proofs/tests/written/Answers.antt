@@ -20,7 +20,7 @@ first = record { number = 1; size = 1024; room = 784; live = 0; freed = 0 }
 
 -- the chunk that is cut
 cut : Chunk
-cut = record { block = 1; size = 5; room = 8; own = false }
+cut = record { size = 5; room = 8; own = false }
 
 owned : (c : After-keeper-number) → block_at c.make_room.new.self c.keeper-number.result ≡ Some first
 unfolding first
@@ -45,15 +45,15 @@ live l m at puts =
     live_is m at cut found
 
 pub write-requires : goal.write-requires
-unfolding first cut
+unfolding cut
 write-requires c =
     IsInside-live (footprint c.cut-at.new.self) c.cut-at.new.space c.cut-at.result 5 (length c.args.bytes.now) c.cut-at.ensures.moves.agrees
-    (live c.make_room.new.self c.cut-at.new.self c.cut-at.result (c.cut-at.ensures.chunk first (owned (goal.at.write-requires c).After-keeper-number))) (omega arith)
+    (live c.make_room.new.self c.cut-at.new.self c.cut-at.result c.cut-at.ensures.chunk) (omega arith)
 
-writes : (c : After-write) → PutsChunk c.make_room.new.self c.cut-at.new.self c.cut-at.result (Some cut) → WritesInside (footprint c.cut-at.new.self) c.cut-at.new.space c.write.new.self c.cut-at.result c.cut-at.result 5 c.args.bytes.now
+writes : (c : After-write) → WritesInside (footprint c.cut-at.new.self) c.cut-at.new.space c.write.new.self c.cut-at.result c.cut-at.result 5 c.args.bytes.now
 unfolding cut
-writes c put = record {
-  live = live c.make_room.new.self c.cut-at.new.self c.cut-at.result put;
+writes c = record {
+  live = live c.make_room.new.self c.cut-at.new.self c.cut-at.result c.cut-at.ensures.chunk;
   region = refl;
   first = omega arith;
   last = omega arith;
@@ -61,10 +61,8 @@ writes c put = record {
 }
 
 pub returns-clause-agrees : goal.returns-clause-agrees
-unfolding first cut
 returns-clause-agrees c =
-    let put = c.cut-at.ensures.chunk first (owned (goal.at.returns-clause-agrees c).After-keeper-number) in
-    (Moves-inside (footprint c.cut-at.new.self) c.cut-at.new.space c.write.new.self c.cut-at.result c.cut-at.result 5 c.args.bytes.now c.cut-at.ensures.moves.agrees (writes c put)).agrees
+    (Moves-inside (footprint c.cut-at.new.self) c.cut-at.new.space c.write.new.self c.cut-at.result c.cut-at.result 5 c.args.bytes.now c.cut-at.ensures.moves.agrees (writes c)).agrees
 
 pub returns-clause-block : goal.returns-clause-block
 unfolding first
@@ -76,17 +74,9 @@ returns-clause-block c =
     ap (block_at c.cut-at.new.self) c.cut-at.ensures.region ∙ put_here l c.cut-at.new.self c.keeper-number.result (less (header_room l)) put ∙ ap (λ n. Some (less n)) (gap now)
 
 pub returns-clause-known : goal.returns-clause-known
-unfolding first cut
 returns-clause-known c = λ k below.
-    let put = c.cut-at.ensures.chunk first (owned (goal.at.returns-clause-known c).After-keeper-number) in
     let at = c.cut-at.result in
-    let within = c.cut-at.ensures.moves.agrees.sound.live_inside at 5 (writes c put).live in
+    let within = c.cut-at.ensures.moves.agrees.sound.live_inside at 5 (writes c).live in
     let has = c.cut-at.ensures.moves.agrees.regions at.region within.0 within.1 in
     let bytes = HasBytes-written c.cut-at.new.space c.write.new.self at c.args.bytes.now has.0 has.1 (omega (arith, within.2, has.3)) c.write.ensures.changes in
     subst IsSome (sym (bytes k (omega arith))) refl
-
-pub returns-clause-chunk : goal.returns-clause-chunk
-unfolding first cut
-returns-clause-chunk c =
-    let puts = c.cut-at.ensures.chunk first (owned (goal.at.returns-clause-chunk c).After-keeper-number) in
-    grind (arith, puts c.cut-at.result)

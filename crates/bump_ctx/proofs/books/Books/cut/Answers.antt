@@ -19,8 +19,8 @@ returns c =
     let gap : header_room b.blocks ≡ 0 = ap gap_of kept.kind in
     let room : room_at b.blocks b.newest ≡ old.room = ap room_of is in
     let new : Block = record old { room = old.room - (header_room b.blocks + c.args.room); live = old.live + 1 } in
-    let chunk : Chunk = record { block = old.number; size = c.args.size; room = c.args.room; own = false } in
-    let put = c.cut.ensures.chunk old is in
+    let chunk : Chunk = record { size = c.args.size; room = c.args.room; own = false } in
+    let put = c.cut.ensures.chunk in
     let puts = c.cut.ensures.block old is in
     record {
       kept = kept_same b c.cut.new.self b.newest old new kept c.cut.ensures.same puts is refl;

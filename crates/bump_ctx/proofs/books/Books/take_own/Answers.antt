@@ -30,8 +30,8 @@ returns-clause-ok c =
     let last : Block = record first { room = first.room - (header_room m + room); live = 0 + 1 } in
     let here : block_at m number ≡ Some first = put_here b.blocks m number first e.block in
     let again = c.cut.ensures.block first here in
-    let chunk : Chunk = record { block = first.number; size = c.args.size; room = room; own = true } in
-    let put : PutsChunk b.blocks n c.cut.result (Some chunk) = puts_same b.blocks m n c.cut.result (Some chunk) e.chunks (c.cut.ensures.chunk first here) in
+    let chunk : Chunk = record { size = c.args.size; room = room; own = true } in
+    let put : PutsChunk b.blocks n c.cut.result (Some chunk) = puts_same b.blocks m n c.cut.result (Some chunk) e.chunks c.cut.ensures.chunk in
     let none : last.room ≡ 0 = omega (arith, gap) in
     let kept = kept_more b m number first c.requires.kept e.same e.block e.fresh in
     let step = take_own-had (ledger_of b) left (room + 40) e.fits in

@@ -22,7 +22,7 @@ less : (c : After-put) → Lessens (layout_of c.args.self.now) (layout_of (now c
 unfolding now new
 less c =
     let it : c.held-chunk.result ≡ c.requires.chunk.0 = one_value (chunk_at (layout_of c.args.self.now) c.args.at) c.held-chunk.result c.requires.chunk.0 c.held-chunk.ensures c.requires.chunk.1 in
-    Lessens-sized (layout_of c.args.self.now) (layout_of (now c)) c.requires.kept.laid (record { kind = refl; account = refl; context = refl; keeper = refl; first_number = refl }) refl c.args.at c.held-chunk.result (new c) c.held-chunk.ensures refl refl refl
+    Lessens-sized (layout_of c.args.self.now) (layout_of (now c)) c.requires.kept.laid (record { kind = refl; account = refl; context = refl; keeper = refl; first_number = refl }) refl c.args.at c.held-chunk.result (new c) c.held-chunk.ensures refl refl
     (omega (arith, ap (λ (x : Chunk). x.room) it, c.requires.chunk.2)) c.put.ensures.at
 
 counts : (c : After-put) (number : ℕ) → count_in (layout_of (now c)) number ≡ count_in (layout_of c.args.self.now) number
@@ -40,7 +40,7 @@ returns-clause-kept c =
     let it : c.held-chunk.result ≡ c.requires.chunk.0 = one_value (chunk_at l c.args.at) c.held-chunk.result c.requires.chunk.0 c.held-chunk.ensures c.requires.chunk.1 in
     record {
       laid = IsLaid-lessened l (layout_of (now c)) kept.laid (less c);
-      counted = IsCounted-sized l (layout_of (now c)) kept.laid (record { kind = refl; account = refl; context = refl; keeper = refl; first_number = refl }) refl c.args.at c.held-chunk.result (new c) c.held-chunk.ensures refl refl refl
+      counted = IsCounted-sized l (layout_of (now c)) kept.laid (record { kind = refl; account = refl; context = refl; keeper = refl; first_number = refl }) refl c.args.at c.held-chunk.result (new c) c.held-chunk.ensures refl refl
           (omega (arith, ap (λ (x : Chunk). x.room) it, c.requires.chunk.2)) c.put.ensures.at kept.counted (counts c);
       first = kept.first;
       numbered = kept.numbered;
