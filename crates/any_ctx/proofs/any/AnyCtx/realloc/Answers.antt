@@ -1,4 +1,4 @@
-use Rattle.std.proofs.Common.{◌≡◌, ◌⊎◌, ◌≤◌, IfOk, IfErr, IfSome, Err, sym, subst, ap, ◌∙◌, inl, inr, arith}
+use Rattle.std.proofs.Common.{◌≡◌, ◌⊎◌, ◌↔◌, ◌≤◌, ℕ, IfOk, IfErr, IfSome, Err, sym, subst, ap, ◌∙◌, inl, inr, arith}
 use Rattle.addr_space.specs.Space.{held}
 use Rattle.addr_space.specs.Footprint.{KeepsBut}
 use Rattle.addr_space.proofs.Options.{if_ok}
@@ -61,11 +61,11 @@ returns-in-Slab-clause-refused c =
     subst (λ (x : AnyCtx). IfErr c.realloc-in-Slab.result (λ e. (e ≡ Memory) ⊎ IfSome (place_at x c.args.at) (λ p. resize_in x s p c.args.size ≡ Err e))) (sym c.in-Slab.is)
     (refuses_at-slab c.realloc-in-Slab.result (place_at (Slab a) c.args.at) (λ p. resize_in (Slab a) s p c.args.size)
     (λ big. each_some (λ (p : Place). resize_in (Slab a) s p c.args.size ≡ Err TooBig) InSlab (slab_state.place_at a c.args.at) (λ was. ap (resized_as OfSlab InSlab) (resize_big-slab a.ledger (held s a.layout.account) s.limit was c.args.size (c.realloc-in-Slab.ensures.too_big.0 big))))
-    (λ other. if_some (λ (was : ℕ). slab_calls.resize_in a s was c.args.size ≡ Err Unsupported) (λ (p : Place). resize_in (Slab a) s p c.args.size ≡ Err Unsupported) InSlab (slab_state.place_at a c.args.at) (λ was h. ap (resized_as OfSlab InSlab) h) (c.realloc-in-Slab.ensures.unsupported.0 other)) c.realloc-in-Slab.ensures.no_other)
+    (λ other. if_some (λ (was : ℕ). (c.realloc-in-Slab.result ≡ Err Unsupported) ↔ (slab_calls.resize_in a s was c.args.size ≡ Err Unsupported)) (λ (p : Place). resize_in (Slab a) s p c.args.size ≡ Err Unsupported) InSlab (slab_state.place_at a c.args.at) (λ was h. ap (resized_as OfSlab InSlab) (h.0 other)) c.realloc-in-Slab.ensures.unsupported) c.realloc-in-Slab.ensures.no_other)
 
 pub returns-in-Slab-clause-keeps : goal.returns-in-Slab-clause-keeps
 returns-in-Slab-clause-keeps c =
-    subst (λ (x : AnyCtx). KeepsBut c.args.at (footprint x) (slab_state.footprint c.realloc-in-Slab.new.self) c.args.space.now c.realloc-in-Slab.new.space) (sym c.in-Slab.is) c.realloc-in-Slab.ensures.keeps
+    subst (λ (x : AnyCtx). KeepsBut c.args.at (footprint x) (slab_state.footprint c.realloc-in-Slab.new.self) c.args.space.now c.realloc-in-Slab.new.space) (sym c.in-Slab.is) (λ at m n k differs live again below short. c.realloc-in-Slab.ensures.keeps at m n k live again below short)
 
 pub returns-in-Generation-clause-resized : goal.returns-in-Generation-clause-resized
 returns-in-Generation-clause-resized c =
