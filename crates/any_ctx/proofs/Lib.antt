@@ -1,3 +1,4 @@
 pub mod MarkLemmas
 pub mod Taken
 pub mod Refusals
+pub mod Steps

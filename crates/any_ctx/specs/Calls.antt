@@ -1,69 +1,41 @@
--- What calls do to a context of any kind.
-use Rattle.std.specs.Prelude.{◌≡◌, ℕ, ◌-◌, Ok, Err, IfSome}
+-- What a call that serves a request does to a context of any kind, by the step of its ledger.
+use Rattle.std.specs.Prelude.{◌≡◌, ◌↔◌, ◌-◌, ℕ, IsTrue, Some, Result, Ok}
 use Rattle.addr_space.specs.declared.Addr.{Addr}
-use Rattle.chunk_header.specs.declared.CtxError.TheVariants.{NoSpace, WrongSize, Unsupported}
-use Rattle.alloc_set.specs.Ledger as set
-use Rattle.alloc_set.specs.State as set_state
-use Rattle.alloc_set.specs.Resize as set_resize
-use Rattle.slab_ctx.specs.Ledger as slab
-use Rattle.slab_ctx.specs.State as slab_state
-use Rattle.generation_ctx.specs.Ledger as generation
-use Rattle.generation_ctx.specs.State as generation_state
-use Rattle.bump_ctx.specs.Ledger as bump
+use Rattle.addr_space.specs.Space.{Space, Asks, held}
+use Rattle.addr_space.specs.Live.{PutsAt, MovesAt}
+use Rattle.chunk_header.specs.declared.CtxError.{CtxError}
+use Rattle.chunk_header.specs.Answers.{Taken, Resized}
+use Rattle.any_ctx.specs.Ledgers.{Ledger, Place, take, resize}
+use Rattle.any_ctx.specs.Contexts.{footprint, ledger, place_at}
 use Rattle.any_ctx.specs.declared.any.AnyCtx.{AnyCtx}
-use Rattle.any_ctx.specs.declared.any.AnyCtx.TheVariants.{AllocSet, Slab, Generation, Bump}
 
--- the ledger makes its step for a request, where so much is left of the account
-abbrev pub Takes : AnyCtx → AnyCtx → ℕ → Addr → ℕ → Type 0
-Takes (AllocSet s) (AllocSet t) left at size = set.take s.ledger left size ≡ Ok t.ledger
-Takes (Slab s) (Slab t) left at size = slab.take s.ledger left size ≡ Ok t.ledger
-Takes (Generation s) (Generation t) left at size = generation.take s.ledger left at.region size ≡ Ok t.ledger
-Takes (Bump s) (Bump t) left at size = bump.take s.ledger left size ≡ Ok t.ledger
-Takes s t left at size = ⊥
+-- what is left of the account of a context in a space
+abbrev pub left_of : AnyCtx → Space → ℕ
+left_of a s = s.limit - held s (footprint a).account
 
--- the ledger has no space for a request
-abbrev pub LacksSpace : AnyCtx → ℕ → ℕ → Type 0
-LacksSpace (AllocSet s) left size = set.take s.ledger left size ≡ Err NoSpace
-LacksSpace (Slab s) left size = slab.take s.ledger left size ≡ Err NoSpace
-LacksSpace (Generation s) left size = (number : ℕ) → generation.take s.ledger left number size ≡ Err NoSpace
-LacksSpace (Bump s) left size = bump.take s.ledger left size ≡ Err NoSpace
+-- the ledger's step for a request
+abbrev pub take_in : AnyCtx → Space → ℕ → Result (Taken Ledger Place) CtxError
+take_in a s size = take (ledger a) (left_of a s) size
 
--- a Slab was asked for another size than that of its chunks
-abbrev pub IsWrongSize : AnyCtx → ℕ → ℕ → Type 0
-IsWrongSize (Slab s) left size = slab.take s.ledger left size ≡ Err WrongSize
-IsWrongSize context left size = ⊥
+-- it gave an answer: it is the new ledger, its place is that of the chunk at an address, every other live chunk
+-- keeps its place, and the account took the bytes asked
+pub record Takes (a b : AnyCtx) (size : ℕ) (at : Addr) (s t : Space) : Type 0 where
+  pub answer : Taken Ledger Place
+  pub is : take_in a s size ≡ Ok answer
+  pub ledger : ledger b ≡ answer.ledger
+  pub place : PutsAt (place_at a) (place_at b) at (Some answer.place)
+  pub asked : Asks (footprint a).account answer.asked s t
 
--- the ledger makes its step for a chunk that is freed
-abbrev pub Frees : AnyCtx → AnyCtx → Addr → Type 0
-Frees (AllocSet s) (AllocSet t) at = IfSome (set_state.chunk_at s at) (λ chunk. t.ledger ≡ set_state.freed s.ledger chunk)
-Frees (Slab s) (Slab t) at = t.ledger ≡ slab.freed s.ledger (slab_state.place_of s at.region)
-Frees (Generation s) (Generation t) at = IfSome (generation_state.chunk_at s at) (λ chunk. t.ledger ≡ generation.freed s.ledger at.region chunk.own)
-Frees s t at = ⊥
+-- the ledger's step for another size of the chunk at a place
+abbrev pub resize_in : AnyCtx → Space → Place → ℕ → Result (Resized Ledger Place) CtxError
+resize_in a s place size = resize (ledger a) (held s (footprint a).account) s.limit place size
 
--- the ledger makes its step for a chunk that gets another size, where the account holds so much and may hold so much
-abbrev pub Resizes : AnyCtx → AnyCtx → ℕ → ℕ → Addr → Addr → ℕ → Type 0
-Resizes (AllocSet s) (AllocSet t) held limit at to size = set_resize.resized s.ledger held limit (set_state.chunk_at s at) size ≡ Ok t.ledger
-Resizes (Slab s) (Slab t) held limit at to size = (slab.resized s.ledger size ≡ Ok t.ledger) × (to ≡ at)
-Resizes (Generation s) (Generation t) held limit at to size = IfSome (generation_state.chunk_at s at) (λ chunk. generation.resized s.ledger (limit - held) to.region size at.region chunk.room chunk.own ≡ Ok t.ledger)
-Resizes s t held limit at to size = ⊥
-
--- the ledger has no space for another size of a chunk
-abbrev pub LacksRoom : AnyCtx → ℕ → ℕ → Addr → ℕ → Type 0
-LacksRoom (AllocSet s) held limit at size = set_resize.resized s.ledger held limit (set_state.chunk_at s at) size ≡ Err NoSpace
-LacksRoom (Generation s) held limit at size = (number : ℕ) → IfSome (generation_state.chunk_at s at) (λ chunk. generation.resized s.ledger (limit - held) number size at.region chunk.room chunk.own ≡ Err NoSpace)
-LacksRoom context held limit at size = ⊥
-
--- the context gives no chunk this size
-abbrev pub IsUnsupported : AnyCtx → ℕ → Type 0
-IsUnsupported (AllocSet s) size = ⊥
-IsUnsupported (Slab s) size = slab.resized s.ledger size ≡ Err Unsupported
-IsUnsupported (Generation s) size = ⊥
-IsUnsupported (Bump s) size = bump.refusal size ≡ Unsupported
-
--- the ledger is that of a new context
-abbrev pub IsReset : AnyCtx → AnyCtx → Type 0
-IsReset (AllocSet s) (AllocSet t) = t.ledger ≡ set.created s.ledger.init s.ledger.max
-IsReset (Slab s) (Slab t) = t.ledger ≡ slab.created s.ledger.size
-IsReset (Generation s) (Generation t) = t.ledger ≡ generation.created s.ledger.init s.ledger.max s.ledger.keeper
-IsReset (Bump s) (Bump t) = t.ledger ≡ bump.created s.ledger.init s.ledger.max
-IsReset s t = ⊥
+-- it gave an answer: the same, where the chunk is at an address now, which is the one that it had exactly where the
+-- answer says so
+pub record Resizes (a b : AnyCtx) (was : Place) (size : ℕ) (from to : Addr) (s t : Space) : Type 0 where
+  pub answer : Resized Ledger Place
+  pub is : resize_in a s was size ≡ Ok answer
+  pub ledger : ledger b ≡ answer.ledger
+  pub place : MovesAt (place_at a) (place_at b) from to answer.place
+  pub asked : Asks (footprint a).account answer.asked s t
+  pub stays : (to ≡ from) ↔ IsTrue answer.stays

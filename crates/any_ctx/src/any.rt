@@ -1,13 +1,15 @@
 //! A memory context of any kind.
 ghost use Rattle.std.specs.Prelude.{◌≡◌, ◌≢◌, ℕ, ◌+◌, ◌-◌, ◌%◌, ◌<◌, ◌≤◌, ◌↔◌, ◌⊎◌, Ok, Err, None, Some, IsSome, IfOk, IfErr, IfSome, OnOk, OnErr, min};
 ghost use Rattle.addr_space.specs.declared.Addr.{Addr};
-ghost use Rattle.addr_space.specs.Space.{accounts, held, IsKnown};
+ghost use Rattle.addr_space.specs.Space.{accounts, held, Asks, IsKnown};
 ghost use Rattle.addr_space.specs.Footprint.{nothing, Agrees, Moves, Keeps, KeepsBut};
-ghost use Rattle.chunk_header.specs.Header.{AllHeaded, TakesSpace};
-ghost use Rattle.any_ctx.specs.Kinds.{first_size, IsSlabSize, IsCreated, IsSetOf};
-ghost use Rattle.any_ctx.specs.Contexts.{footprint, stats, space_at, IsBump};
-ghost use Rattle.addr_space.specs.Live.{PutsLive, MovesLive, HasBytesOf};
-ghost use Rattle.any_ctx.specs.Calls.{Takes, LacksSpace, IsWrongSize, Frees, Resizes, LacksRoom, IsUnsupported, IsReset};
+ghost use Rattle.addr_space.specs.Live.{PutsAt, PutsLive, MovesLive, HasBytesOf};
+ghost use Rattle.chunk_header.specs.Header.{AllHeaded, AllOfKind, TakesSpace};
+ghost use Rattle.any_ctx.specs.Ledgers.{Ledger, Place, OfSet, take, give, reset, stats, chunk_bytes, IsBump};
+ghost use Rattle.any_ctx.specs.Kinds.{first_size, IsSlabSize, created};
+ghost use Rattle.any_ctx.specs.Contexts.{footprint, ledger, place_at, kind_of};
+ghost use Rattle.any_ctx.specs.Calls.{take_in, Takes, resize_in, Resizes};
+ghost use Rattle.alloc_set.specs.Ledger as set;
 
 use addr_space::{Addr, Space};
 use alloc_set::AllocSet;
@@ -69,21 +71,24 @@ fn set_of(
     requires most { sizes.max ≤ 8388608 }
     requires whole_init { sizes.init % 8 ≡ 0 }
     requires whole_max { sizes.max % 8 ≡ 0 }
-    ensures kind { IfOk result (IsSetOf sizes.init sizes.max) }
+    ensures ledger { IfOk result (λ a. ledger a ≡ OfSet (set.created sizes.init sizes.max)) }
     ensures account { IfOk result (λ a. (footprint a).account ≡ account) }
     ensures context { IfOk result (λ a. (footprint a).context ≡ context) }
+    ensures place { IfOk result (λ a. (at : Addr) → place_at a at ≡ None) }
     ensures live { IfOk result (λ a. (at : Addr) → (footprint a).live at ≡ None) }
     ensures moves { IfOk result (λ a. Moves (nothing account context) (footprint a) space.old space.new) }
+    ensures asked { OnOk result (Asks account sizes.init space.old space.new) }
     ensures no_space { (result ≡ Err CtxError.NoSpace) ↔ (space.old.limit < held space.old account + sizes.init) }
     ensures no_other { IfErr result (λ e. (e ≡ CtxError.NoSpace) ⊎ (e ≡ CtxError.Memory)) }
-    ensures err { OnErr result (space.new ≡ space.old) }
+    ensures err_space { OnErr result (space.new ≡ space.old) }
 {
     let set = AllocSet::create(alloc, space, account, context, sizes)?;
     Ok(AnyCtx::AllocSet(set))
 }
 
 impl AnyCtx {
-    /// A context of a kind, for an account of the space. `context` is the number that its blocks keep.
+    /// A context of a kind, for an account of the space: `AllocSetContextCreate`, `SlabContextCreate`,
+    /// `GenerationContextCreate` or `BumpContextCreate`. `context` is the number that its blocks keep.
     ///
     /// `NoSpace` comes where the first block doesn't fit, or the first region of a Slab, and before `Memory`. A
     /// refused call changes nothing.
@@ -96,14 +101,16 @@ impl AnyCtx {
     ) -> Result<AnyCtx, CtxError>
         requires account { account < accounts space.old }
         requires slab { IsSlabSize kind }
-        ensures kind { IfOk result (IsCreated kind) }
+        ensures ledger { IfOk result (λ a. ledger a ≡ created kind) }
         ensures account { IfOk result (λ a. (footprint a).account ≡ account) }
         ensures context { IfOk result (λ a. (footprint a).context ≡ context) }
+        ensures place { IfOk result (λ a. (at : Addr) → place_at a at ≡ None) }
         ensures live { IfOk result (λ a. (at : Addr) → (footprint a).live at ≡ None) }
         ensures moves { IfOk result (λ a. Moves (nothing account context) (footprint a) space.old space.new) }
+        ensures asked { OnOk result (Asks account (first_size kind) space.old space.new) }
         ensures no_space { (result ≡ Err CtxError.NoSpace) ↔ (space.old.limit < held space.old account + first_size kind) }
         ensures no_other { IfErr result (λ e. (e ≡ CtxError.NoSpace) ⊎ (e ≡ CtxError.Memory)) }
-        ensures err { OnErr result (space.new ≡ space.old) }
+        ensures err_space { OnErr result (space.new ≡ space.old) }
     {
         let small = Sizes {
             init: 1024,
@@ -134,21 +141,26 @@ impl AnyCtx {
         }
     }
 
-    /// Takes a chunk of `size` bytes, which may be 0, and answers its address. No byte of it is known.
+    /// Takes a chunk of `size` bytes, which may be 0, and answers its address: `MemoryContextAlloc` of PostgreSQL's
+    /// mcxt.c.
     ///
     /// `TooBig`, where `size` is over 1,073,741,823, and `WrongSize`, where a Slab has chunks of another size, come
     /// before `NoSpace`; `Memory` may come in place of `NoSpace`. A refused call changes nothing.
     pub fn alloc(&mut self, space: &mut Space, size: u64) -> Result<Addr, CtxError>
         requires { Agrees (footprint self.old) space.old }
-        ensures ledger { IfOk result (λ at. Takes self.old self.new (space.old.limit - held space.old (footprint self.old).account) at size) }
+
+        // The ledger makes its step for the request, and answers the chunk's place and the bytes asked; every other
+        // chunk keeps its place. It refuses where the call does, but for want of memory.
+        ensures taken { IfOk result (λ at. Takes self.old self.new size at space.old space.new) }
+        ensures refused { IfErr result (λ e. (e ≡ CtxError.Memory) ⊎ (take_in self.old space.old size ≡ Err e)) }
+        ensures too_big { (result ≡ Err CtxError.TooBig) ↔ (1073741823 < size) }
+
+        // The chunk was not live, and every other chunk keeps its size.
         ensures fresh { IfOk result (λ at. (footprint self.old).live at ≡ None) }
         ensures live { IfOk result (λ at. PutsLive (footprint self.old) (footprint self.new) at (Some size)) }
-        ensures moves { OnOk result (Moves (footprint self.old) (footprint self.new) space.old space.new) }
-        ensures keeps { OnOk result (Keeps (footprint self.old) (footprint self.new) space.old space.new) }
-        ensures too_big { (result ≡ Err CtxError.TooBig) ↔ (1073741823 < size) }
-        ensures wrong_size { (result ≡ Err CtxError.WrongSize) ↔ IsWrongSize self.old (space.old.limit - held space.old (footprint self.old).account) size }
-        ensures no_space { result ≡ Err CtxError.NoSpace → LacksSpace self.old (space.old.limit - held space.old (footprint self.old).account) size }
-        ensures supported { result ≢ Err CtxError.Unsupported }
+        ensures moves { Moves (footprint self.old) (footprint self.new) space.old space.new }
+        ensures keeps { Keeps (footprint self.old) (footprint self.new) space.old space.new }
+
         ensures err { OnErr result (self.new ≡ self.old) }
         ensures err_space { OnErr result (space.new ≡ space.old) }
     {
@@ -160,18 +172,25 @@ impl AnyCtx {
         }
     }
 
-    /// Frees a live chunk. It takes no memory.
+    /// Frees a live chunk: `pfree`. It takes no memory.
     ///
     /// The answer is `Unsupported` exactly in a Bump, and nothing changes then.
     pub fn free(&mut self, space: &mut Space, at: Addr) -> Result<(), CtxError>
         requires agrees { Agrees (footprint self.old) space.old }
         requires live { IsSome ((footprint self.old).live at) }
-        ensures ledger { OnOk result (Frees self.old self.new at) }
-        ensures live { OnOk result (PutsLive (footprint self.old) (footprint self.new) at None) }
-        ensures moves { OnOk result (Moves (footprint self.old) (footprint self.new) space.old space.new) }
-        ensures keeps { OnOk result (Keeps (footprint self.old) (footprint self.new) space.old space.new) }
-        ensures unsupported { (result ≡ Err CtxError.Unsupported) ↔ IsBump self.old }
+
+        // The ledger makes its step for the chunk's place, and every other chunk keeps its place. It refuses where the
+        // call does.
+        ensures given { OnOk result (IfSome (place_at self.old at) (λ place. give (ledger self.old) place ≡ Ok (ledger self.new))) }
+        ensures refused { IfErr result (λ e. IfSome (place_at self.old at) (λ place. give (ledger self.old) place ≡ Err e)) }
+        ensures place { OnOk result (PutsAt (place_at self.old) (place_at self.new) at None) }
+        ensures unsupported { (result ≡ Err CtxError.Unsupported) ↔ IsBump (ledger self.old) }
         ensures no_other { IfErr result (λ e. e ≡ CtxError.Unsupported) }
+
+        ensures live { OnOk result (PutsLive (footprint self.old) (footprint self.new) at None) }
+        ensures moves { Moves (footprint self.old) (footprint self.new) space.old space.new }
+        ensures keeps { Keeps (footprint self.old) (footprint self.new) space.old space.new }
+        ensures asked { Asks (footprint self.old).account 0 space.old space.new }
         ensures err { OnErr result (self.new ≡ self.old) }
         ensures err_space { OnErr result (space.new ≡ space.old) }
     {
@@ -183,9 +202,10 @@ impl AnyCtx {
         }
     }
 
-    /// What the context holds.
+    /// What the context holds: the `stats` method of PostgreSQL's contexts, as `MemoryContextStats` calls it.
     pub fn stats(&self) -> Stats
-        ensures { result ≡ stats self.now }
+        ensures stats { result ≡ stats (ledger self.now) }
+        ensures total { (footprint self.now).total ≡ result.total }
     {
         match self {
             AnyCtx::AllocSet(set) => set.stats(),
@@ -195,13 +215,15 @@ impl AnyCtx {
         }
     }
 
-    /// Frees all chunks: all blocks but the first go back to the space, and the context is as it was created. It
-    /// takes no memory.
+    /// Frees all chunks: `MemoryContextReset` of a context without children. All blocks but the first go back to the
+    /// space, and the ledger is that of a new context. It takes no memory.
     pub fn reset(&mut self, space: &mut Space)
         requires { Agrees (footprint self.old) space.old }
-        ensures ledger { IsReset self.old self.new }
+        ensures ledger { ledger self.new ≡ reset (ledger self.old) }
+        ensures place { (at : Addr) → place_at self.new at ≡ None }
         ensures live { (at : Addr) → (footprint self.new).live at ≡ None }
         ensures moves { Moves (footprint self.old) (footprint self.new) space.old space.new }
+        ensures asked { Asks (footprint self.old).account 0 space.old space.new }
     {
         match self {
             AnyCtx::AllocSet(set) => set.reset(space),
@@ -211,10 +233,11 @@ impl AnyCtx {
         }
     }
 
-    /// Gives all blocks back. It takes no memory.
+    /// Gives all blocks back: `MemoryContextDelete` of a context without children. It takes no memory.
     pub fn discard(self, space: &mut Space)
         requires { Agrees (footprint self) space.old }
-        ensures { Moves (footprint self) (nothing (footprint self).account (footprint self).context) space.old space.new }
+        ensures moves { Moves (footprint self) (nothing (footprint self).account (footprint self).context) space.old space.new }
+        ensures asked { Asks (footprint self).account 0 space.old space.new }
     {
         match self {
             AnyCtx::AllocSet(set) => set.discard(space),
@@ -225,11 +248,12 @@ impl AnyCtx {
     }
 
     /// Each live chunk of a context that isn't a Bump has a header that leads to its block, and so to the context, and
-    /// says what the chunk takes. A caller cites the clauses.
+    /// says what the chunk takes: the laws that `owner_of` and `chunk_space` stand on. A caller cites the clauses.
     pub fn headed(&self)
-        requires { ¬ (IsBump self.now) }
+        requires { ¬ (IsBump (ledger self.now)) }
         ensures headed { AllHeaded (footprint self.now) }
-        ensures spaces { (at : Addr) (space : ℕ) → space_at self.now at ≡ Some space → TakesSpace (footprint self.now) at space }
+        ensures kinds { AllOfKind (kind_of self.now) (footprint self.now) }
+        ensures spaces { (at : Addr) (place : Place) (n : ℕ) → place_at self.now at ≡ Some place → chunk_bytes (ledger self.now) place ≡ Some n → TakesSpace (footprint self.now) at n }
     {
         match self {
             AnyCtx::AllocSet(set) => set.headed(),
@@ -239,8 +263,8 @@ impl AnyCtx {
         }
     }
 
-    /// Gives a live chunk a size of `size` bytes, which may be 0, and answers where it is now. `keep` is how many of
-    /// its first bytes are known; they are kept, as far as the new size goes.
+    /// Gives a live chunk a size of `size` bytes, which may be 0, and answers where it is now: `repalloc`. `keep` is how
+    /// many of its first bytes are known; they are kept, as far as the new size goes.
     ///
     /// `TooBig`, where `size` is over 1,073,741,823, comes before `Unsupported`, which a Bump answers, and a Slab to
     /// another size, and that before `NoSpace`; `Memory` may come in place of `NoSpace`. A refused call changes nothing.
@@ -255,16 +279,23 @@ impl AnyCtx {
         requires live { IsSome ((footprint self.old).live at) }
         requires keep { IfSome ((footprint self.old).live at) (λ n. keep ≤ n) }
         requires known { IsKnown space.old at keep }
-        ensures ledger { IfOk result (λ to. Resizes self.old self.new (held space.old (footprint self.old).account) space.old.limit at to size) }
+
+        // The ledger makes its step for the chunk's place, and answers the new place, the bytes asked, and whether the
+        // chunk keeps its address; every other chunk keeps its place. It refuses where the call does, but for want of
+        // memory.
+        ensures resized { IfOk result (λ to. IfSome (place_at self.old at) (λ place. Resizes self.old self.new place size at to space.old space.new)) }
+        ensures refused { IfErr result (λ e. (e ≡ CtxError.Memory) ⊎ IfSome (place_at self.old at) (λ place. resize_in self.old space.old place size ≡ Err e)) }
+        ensures too_big { (result ≡ Err CtxError.TooBig) ↔ (1073741823 < size) }
+
+        // Where the chunk is at another address, none was live there, and the old address has none. Its first bytes are
+        // those that were known.
         ensures fresh { IfOk result (λ to. to ≢ at → (footprint self.old).live to ≡ None) }
         ensures live { IfOk result (λ to. MovesLive (footprint self.old) (footprint self.new) at to size) }
         ensures bytes { IfOk result (λ to. HasBytesOf space.old space.new at to (min keep size)) }
-        ensures moves { OnOk result (Moves (footprint self.old) (footprint self.new) space.old space.new) }
-        ensures keeps { OnOk result (KeepsBut at (footprint self.old) (footprint self.new) space.old space.new) }
-        ensures too_big { (result ≡ Err CtxError.TooBig) ↔ (1073741823 < size) }
-        ensures unsupported { (result ≡ Err CtxError.Unsupported) ↔ IsUnsupported self.old size }
-        ensures no_space { result ≡ Err CtxError.NoSpace → LacksRoom self.old (held space.old (footprint self.old).account) space.old.limit at size }
-        ensures fitting { result ≢ Err CtxError.WrongSize }
+        ensures known { IfOk result (λ to. IsKnown space.new to (min keep size)) }
+        ensures moves { Moves (footprint self.old) (footprint self.new) space.old space.new }
+        ensures keeps { KeepsBut at (footprint self.old) (footprint self.new) space.old space.new }
+
         ensures err { OnErr result (self.new ≡ self.old) }
         ensures err_space { OnErr result (space.new ≡ space.old) }
     {

@@ -5,13 +5,7 @@ ghost use Rattle.addr_space.specs.Footprint.{Footprint, Agrees};
 ghost use Rattle.chunk_header.specs.Header.{IsMarked, IsLeading, block_bytes, space_of, shared_bytes, TakesSpace, IsHeaded};
 
 use addr_space::{Addr, Space};
-use chunk_header::{Header, Kind};
-
-/// The bytes of a block before its chunks.
-const BLOCK_HEADER: u32 = 40;
-
-/// The bytes of a chunk's header.
-const CHUNK_HEADER: u32 = 8;
+use chunk_header::{BLOCK_HEADER, CHUNK_HEADER, Header, Kind};
 
 // Eight known bytes.
 fn read_word(space: &Space, at: Addr) -> [u8; 8]
@@ -51,7 +45,8 @@ fn block_word(space: &Space, at: Addr, header: Header) -> [u8; 8]
     read_word(space, place)
 }
 
-/// The number of the context that a chunk belongs to: the number that was handed to the context's `create`.
+/// The number of the context that a chunk belongs to, which was handed to the context's `create`:
+/// `GetMemoryChunkContext` of PostgreSQL's mcxt.c.
 ///
 /// The chunk's address is marked: each live chunk's is, but those of a Bump context.
 pub fn owner_of(space: &Space, at: Addr) -> u32
@@ -74,7 +69,7 @@ fn block_size(space: &Space, at: Addr, header: Header) -> u32
     u32::from_le_bytes([word[4], word[5], word[6], word[7]])
 }
 
-/// The bytes that a chunk takes in its block, with its header.
+/// The bytes that a chunk takes in its block, with its header: `GetMemoryChunkSpace` of PostgreSQL's mcxt.c.
 ///
 /// The chunk's address is marked: each live chunk's is, but those of a Bump context.
 pub fn chunk_space(space: &Space, at: Addr) -> u64

@@ -5,7 +5,7 @@ use Rattle.ctx_blocks.specs.Layout.{Layout, block_at, total, rooms}
 use Rattle.ctx_blocks.specs.Steps.{PutsBlock}
 use Rattle.ctx_blocks.specs.declared.parts.Block.{Block}
 use Rattle.chunk_header.specs.Growth.{granted}
-use Rattle.bump_ctx.specs.Ledger.{BumpLedger, cut_off, renewed, with_own, block_size, take_new, take_cut, take_own, take}
+use Rattle.bump_ctx.specs.Ledger.{BumpLedger, cut_off, renewed, with_own, block_size, served, take_new, take_cut, take_own, take}
 use Rattle.bump_ctx.specs.Kept.{ledger_of, room_of, room_at, IsKept}
 use Rattle.bump_ctx.specs.declared.books.Books.{Books}
 use Rattle.ctx_blocks.proofs.Totals.{total-same, rooms-same, length-same, rooms-more, length-more, room_within}
@@ -59,11 +59,11 @@ ledger_own b m n number first last kept puts again fresh size room more =
 
 module _ (l : BumpLedger) (left : ℕ) where
   -- the steps of the ledger, by what is compared
-  pub take_cut-room : (room : ℕ) → room ≤ l.room → take_cut l left room ≡ Ok (cut_off l room)
+  pub take_cut-room : (room : ℕ) → room ≤ l.room → take_cut l left room ≡ Ok (served (cut_off l room) 0)
   unfolding take_cut
   take_cut-room room fits = grind (arith, fits)
 
-  pub take_cut-new : (room : ℕ) → l.room < room → block_size l room ≤ left → take_cut l left room ≡ Ok (cut_off (renewed l (block_size l room)) room)
+  pub take_cut-new : (room : ℕ) → l.room < room → block_size l room ≤ left → take_cut l left room ≡ Ok (served (cut_off (renewed l (block_size l room)) room) (block_size l room))
   unfolding take_cut take_new
   take_cut-new room little fits = grind (arith, little, fits)
 
@@ -71,7 +71,7 @@ module _ (l : BumpLedger) (left : ℕ) where
   unfolding take_cut take_new
   take_cut-none room little over = grind (arith, little, over)
 
-  pub take_own-had : (size : ℕ) → size ≤ left → take_own l left size ≡ Ok (with_own l size)
+  pub take_own-had : (size : ℕ) → size ≤ left → take_own l left size ≡ Ok (served (with_own l size) size)
   unfolding take_own
   take_own-had size fits = grind (arith, fits)
 

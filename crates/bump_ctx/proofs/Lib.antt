@@ -2,3 +2,5 @@ pub mod Kepts
 pub mod Ledgers
 pub mod Allocated
 pub mod Resets
+pub mod Refused
+pub mod Rows

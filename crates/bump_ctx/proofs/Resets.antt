@@ -1,5 +1,5 @@
 -- The books of a context with the keeper alone.
-use Rattle.std.proofs.Common.{◌≡◌, ◌-◌, length, Some, refl, arith, ◌∙◌, ap}
+use Rattle.std.proofs.Common.{◌≡◌, ℕ, ◌-◌, length, Some, refl, arith, ◌∙◌, ap}
 use Rattle.chunk_header.specs.declared.Kind.TheVariants.{Bump}
 use Rattle.ctx_blocks.specs.Layout.{block_at, total, rooms, whole_block, keeper_alone}
 use Rattle.bump_ctx.specs.Ledger.{created}
@@ -7,20 +7,20 @@ use Rattle.chunk_header.specs.Growth.{AreSizes}
 use Rattle.bump_ctx.specs.Kept.{ledger_of, room_of, room_at, IsKept}
 use Rattle.bump_ctx.specs.declared.books.Books.{Books}
 
-module _ (n : Books) (kind : n.blocks.kind ≡ Bump) (sized : AreSizes n.sizes.init n.sizes.max n.next) (next : n.next ≡ n.sizes.init) (only : n.blocks.blocks ≡ keeper_alone n.blocks.keeper n.sizes.init) (first : n.newest ≡ n.blocks.keeper) where
-  there : block_at n.blocks n.blocks.keeper ≡ Some (whole_block 200 n.sizes.init)
+module _ (n : Books) (kind : n.blocks.kind ≡ Bump) (sized : AreSizes n.sizes.init n.sizes.max n.next) (next : n.next ≡ n.sizes.init) (k : ℕ) (only : n.blocks.blocks ≡ keeper_alone n.blocks.keeper k n.sizes.init) (first : n.newest ≡ n.blocks.keeper) where
+  there : block_at n.blocks n.blocks.keeper ≡ Some (whole_block k 200 n.sizes.init)
   there = rw only (grind arith)
 
-  at_newest : block_at n.blocks n.newest ≡ Some (whole_block 200 n.sizes.init)
+  at_newest : block_at n.blocks n.newest ≡ Some (whole_block k 200 n.sizes.init)
   at_newest = rw first there
 
   pub kept_alone : IsKept n
   kept_alone = record {
     kind = kind;
     sizes = sized;
-    keeper = record { block = whole_block 200 n.sizes.init; is = there; size = refl };
+    keeper = record { block = whole_block k 200 n.sizes.init; is = there; size = refl };
     bytes = n.sizes.init;
-    newest = record { block = whole_block 200 n.sizes.init; is = at_newest; size = refl };
+    newest = record { block = whole_block k 200 n.sizes.init; is = at_newest; size = refl };
   }
 
   pub ledger_alone : ledger_of n ≡ created n.sizes.init n.sizes.max

@@ -3,6 +3,7 @@ use Rattle.std.specs.Prelude.{ℕ, ◌+◌, ◌-◌, ◌*◌, nat_lt, nat_le, mi
 use Rattle.chunk_header.specs.declared.CtxError.{CtxError}
 use Rattle.chunk_header.specs.declared.CtxError.TheVariants.{TooBig, NoSpace, Unsupported}
 use Rattle.chunk_header.specs.declared.Stats.{Stats}
+use Rattle.chunk_header.specs.Answers.{Taken, Resized}
 use Rattle.chunk_header.specs.Growth.{grown, granted}
 
 -- the sizes that it was created with; the size of the next block; the bytes of all blocks and how many they
@@ -15,6 +16,20 @@ pub record BumpLedger : Type 0 where
   pub blocks : ℕ
   pub room : ℕ
   pub idle : ℕ
+
+-- where a live chunk is: the ledger needs to know nothing of it
+pub data BumpPlace : Type 0 where
+  Anywhere : BumpPlace
+
+abbrev pub BumpTaken : Type 0
+BumpTaken = Taken BumpLedger BumpPlace
+
+abbrev pub BumpResized : Type 0
+BumpResized = Resized BumpLedger BumpPlace
+
+-- what the ledger answers to a request that was served and asked so many bytes
+abbrev pub served : BumpLedger → ℕ → BumpTaken
+served l asked = record { ledger = l; place = Anywhere; asked = asked }
 
 -- a new context: one block, the keeper
 unfoldable pub created : ℕ → ℕ → BumpLedger
@@ -49,22 +64,23 @@ unfoldable pub block_size : BumpLedger → ℕ → ℕ
 block_size l room = grown l.next (room + 40)
 
 -- a chunk is cut off a new block of a size, where so much is left of the account
-unfoldable pub take_new : BumpLedger → ℕ → ℕ → ℕ → Result BumpLedger CtxError
-take_new l left room size = if nat_le size left then Ok (cut_off (renewed l size) room) else Err NoSpace
+unfoldable pub take_new : BumpLedger → ℕ → ℕ → ℕ → Result BumpTaken CtxError
+take_new l left room size = if nat_le size left then Ok (served (cut_off (renewed l size) room) size) else Err NoSpace
 
 -- a chunk is cut off the newest block, where that has the room, or else off a new one
-unfoldable pub take_cut : BumpLedger → ℕ → ℕ → Result BumpLedger CtxError
-take_cut l left room = if nat_le room l.room then Ok (cut_off l room) else take_new l left room (block_size l room)
+unfoldable pub take_cut : BumpLedger → ℕ → ℕ → Result BumpTaken CtxError
+take_cut l left room =
+    if nat_le room l.room then Ok (served (cut_off l room) 0) else take_new l left room (block_size l room)
 
 -- a block of so many bytes, all of which one chunk has
 unfoldable pub with_own : BumpLedger → ℕ → BumpLedger
 with_own l size = record l { total = l.total + size; blocks = l.blocks + 1 }
 
-unfoldable pub take_own : BumpLedger → ℕ → ℕ → Result BumpLedger CtxError
-take_own l left size = if nat_le size left then Ok (with_own l size) else Err NoSpace
+unfoldable pub take_own : BumpLedger → ℕ → ℕ → Result BumpTaken CtxError
+take_own l left size = if nat_le size left then Ok (served (with_own l size) size) else Err NoSpace
 
 -- a request, where so much is left of the account
-unfoldable pub take : BumpLedger → ℕ → ℕ → Result BumpLedger CtxError
+unfoldable pub take : BumpLedger → ℕ → ℕ → Result BumpTaken CtxError
 take l left size =
     if nat_lt 1073741823 size then Err TooBig
     else (if nat_lt 524288 size then take_own l left (granted size + 40) else take_cut l left (granted size))
@@ -72,6 +88,13 @@ take l left size =
 -- why no chunk gets another size
 unfoldable pub refusal : ℕ → CtxError
 refusal size = if nat_lt 1073741823 size then TooBig else Unsupported
+
+abbrev pub resize : BumpLedger → ℕ → ℕ → BumpPlace → ℕ → Result BumpResized CtxError
+resize l held limit place size = Err (refusal size)
+
+-- all chunks go, and all blocks but the keeper go back
+abbrev pub reset : BumpLedger → BumpLedger
+reset l = created l.init l.max
 
 -- what `stats` answers
 unfoldable pub stats : BumpLedger → Stats

@@ -1,11 +1,12 @@
 //! The books of a Bump context: its blocks and numbers.
 ghost use Rattle.std.specs.Prelude.{◌≡◌, ℕ, ◌+◌, ◌-◌, ◌%◌, ◌^◌, ◌<◌, ◌≤◌, ◌↔◌, ◌⊎◌, Ok, Err, Some, None, IfOk, IfErr, OnOk, OnErr};
 ghost use Rattle.addr_space.specs.declared.Addr.{Addr};
-ghost use Rattle.addr_space.specs.Space.{accounts, held};
+ghost use Rattle.addr_space.specs.Space.{accounts, held, Asks};
 ghost use Rattle.addr_space.specs.Footprint.{Agrees, Moves, Keeps, nothing};
 ghost use Rattle.ctx_blocks.specs.Layout.{footprint};
 ghost use Rattle.chunk_header.specs.Growth.{granted};
-ghost use Rattle.bump_ctx.specs.Ledger.{created, cut_off, renewed, block_size, take_own, take_cut, take, stats};
+ghost use Rattle.bump_ctx.specs.Ledger.{created, cut_off, renewed, block_size, served, take_own, take_cut, take, stats};
+ghost use Rattle.bump_ctx.specs.State.{place_in};
 ghost use Rattle.addr_space.specs.Live.{PutsLive};
 
 use addr_space::{Addr, Space};
@@ -49,16 +50,15 @@ impl Books {
         ensures ledger { IfOk result (λ b. ledger_of b ≡ created sizes.init sizes.max) }
         ensures account { IfOk result (λ b. b.blocks.account ≡ account) }
         ensures context { IfOk result (λ b. b.blocks.context ≡ context) }
+        ensures place { IfOk result (λ b. (at : Addr) → place_in b.blocks at ≡ None) }
         ensures live { IfOk result (λ b. (at : Addr) → (footprint b.blocks).live at ≡ None) }
         ensures moves { IfOk result (λ b. Moves (nothing account context) (footprint b.blocks) space.old space.new) }
+        ensures asked { OnOk result (Asks account sizes.init space.old space.new) }
         ensures no_space { (result ≡ Err CtxError.NoSpace) ↔ (space.old.limit < held space.old account + sizes.init) }
         ensures no_other { IfErr result (λ e. (e ≡ CtxError.NoSpace) ⊎ (e ≡ CtxError.Memory)) }
         ensures err { OnErr result (space.new ≡ space.old) }
     {
-        let blocks = match Blocks::create(alloc, space, Kind::Bump, account, context, sizes.init) {
-            Ok(blocks) => blocks,
-            Err(error) => return Err(error),
-        };
+        let blocks = Blocks::create(alloc, space, Kind::Bump, account, context, 1, sizes.init)?;
         let newest = blocks.keeper();
         Ok(Books {
             sizes,
@@ -102,7 +102,7 @@ impl Books {
         requires whole { room % 8 ≡ 0 }
         requires value { room < 2 ^ 30 }
         requires spare { 1 ≤ self.old.blocks.spare_chunks }
-        ensures { Allocates self.old self.new space.old space.new size result (Ok (cut_off (ledger_of self.old) room)) }
+        ensures { Allocates self.old self.new space.old space.new size result (Ok (served (cut_off (ledger_of self.old) room) 0)) }
     {
         self.blocks.cut(space, self.newest, size, room, false)
     }
@@ -120,8 +120,10 @@ impl Books {
         ensures room { OnOk result (room ≤ room_at self.new.blocks self.new.newest) }
         ensures chunks { OnOk result (self.new.blocks.chunks ≡ self.old.blocks.chunks) }
         ensures spare { OnOk result (self.new.blocks.spare_chunks ≡ self.old.blocks.spare_chunks) }
+        ensures account { OnOk result (self.new.blocks.account ≡ self.old.blocks.account) }
         ensures moves { OnOk result (Moves (footprint self.old.blocks) (footprint self.new.blocks) space.old space.new) }
         ensures keeps { OnOk result (Keeps (footprint self.old.blocks) (footprint self.new.blocks) space.old space.new) }
+        ensures asked { OnOk result (Asks self.old.blocks.account (block_size (ledger_of self.old) room) space.old space.new) }
         ensures fits { OnOk result (block_size (ledger_of self.old) room ≤ space.old.limit - held space.old self.old.blocks.account) }
         ensures no_space { (result ≡ Err CtxError.NoSpace) → space.old.limit - held space.old self.old.blocks.account < block_size (ledger_of self.old) room }
         ensures no_other { IfErr result (λ e. (e ≡ CtxError.NoSpace) ⊎ (e ≡ CtxError.Memory)) }
@@ -129,14 +131,9 @@ impl Books {
         ensures err_space { OnErr result (space.new ≡ space.old) }
     {
         let size = grown(self.next, room + 40);
-        match self.blocks.add(space, size) {
-            Ok(number) => {
-                self.newest = number;
-                self.next = (self.next * 2).min(self.sizes.max);
-                Ok(())
-            }
-            Err(error) => Err(error),
-        }
+        self.newest = self.blocks.add(space, size)?;
+        self.next = (self.next * 2).min(self.sizes.max);
+        Ok(())
     }
 
     // Cuts a chunk off the newest block, or off a new one.
@@ -156,10 +153,8 @@ impl Books {
         if self.room() >= room {
             return Ok(self.cut(space, size, room));
         }
-        match self.renew(space, room) {
-            Ok(()) => Ok(self.cut(space, size, room)),
-            Err(error) => Err(error),
-        }
+        self.renew(space, room)?;
+        Ok(self.cut(space, size, room))
     }
 
     // Takes a block for one chunk.
@@ -176,10 +171,8 @@ impl Books {
         ensures err_space { OnErr result (space.new ≡ space.old) }
     {
         let room = granted(size);
-        match self.blocks.add(space, room + 40) {
-            Ok(number) => Ok(self.blocks.cut(space, number, size, room, true)),
-            Err(error) => Err(error),
-        }
+        let number = self.blocks.add(space, room + 40)?;
+        Ok(self.blocks.cut(space, number, size, room, true))
     }
 
     // Serves a request for which room was made.
@@ -216,10 +209,8 @@ impl Books {
         if size > LARGEST {
             return Err(CtxError::TooBig);
         }
-        match self.blocks.make_room() {
-            Ok(()) => self.take(space, size as u32),
-            Err(error) => Err(error),
-        }
+        self.blocks.make_room()?;
+        self.take(space, size as u32)
     }
 
     // Gives back all that was taken since the context was created.
@@ -228,8 +219,10 @@ impl Books {
         requires agrees { Agrees (footprint self.old.blocks) space.old }
         ensures kept { IsKept self.new }
         ensures ledger { ledger_of self.new ≡ created self.old.sizes.init self.old.sizes.max }
+        ensures place { (at : Addr) → place_in self.new.blocks at ≡ None }
         ensures live { (at : Addr) → (footprint self.new.blocks).live at ≡ None }
         ensures moves { Moves (footprint self.old.blocks) (footprint self.new.blocks) space.old space.new }
+        ensures asked { space.new.taken ≡ space.old.taken }
     {
         self.blocks.reset(space);
         self.newest = self.blocks.keeper();
@@ -239,14 +232,9 @@ impl Books {
     // Gives everything back.
     pub fn discard(self, space: &mut Space)
         requires { Agrees (footprint self.blocks) space.old }
-        ensures { Moves (footprint self.blocks) (nothing self.blocks.account self.blocks.context) space.old space.new }
+        ensures moves { Moves (footprint self.blocks) (nothing self.blocks.account self.blocks.context) space.old space.new }
+        ensures asked { space.new.taken ≡ space.old.taken }
     {
-        let Books {
-            sizes: _,
-            next: _,
-            newest: _,
-            blocks,
-        } = self;
-        blocks.discard(space);
+        self.blocks.discard(space);
     }
 }

@@ -1,4 +1,5 @@
-//! A Bump: a memory context that never frees a chunk, and so writes no headers before them.
+//! A Bump: a memory context that never frees a chunk, and so writes no headers before them, as PostgreSQL's bump.c
+//! has it.
 #![tactic(auto)]
 
 ghost use Rattle.std.specs.Prelude.{◌≡◌, ℕ, ◌+◌, ◌-◌, ◌%◌, ◌<◌, ◌≤◌, ◌↔◌, ◌⊎◌, Ok, Err, None, Some, IsSome, IfOk, IfErr, OnOk, OnErr};
@@ -35,13 +36,15 @@ impl Model for BumpCtx {
 }
 
 impl BumpCtx {
-    ghost use Rattle.addr_space.specs.Space.{accounts, held};
+    ghost use Rattle.addr_space.specs.Space.{accounts, held, Asks};
     ghost use Rattle.addr_space.specs.Footprint.{nothing, Agrees, Moves, Keeps};
-    ghost use Rattle.bump_ctx.specs.State.{footprint};
-    ghost use Rattle.bump_ctx.specs.Ledger.{created, refusal};
     ghost use Rattle.addr_space.specs.Live.{PutsLive};
+    ghost use Rattle.bump_ctx.specs.State.{place_at, footprint};
+    ghost use Rattle.bump_ctx.specs.Ledger.{created, refusal, reset};
+    ghost use Rattle.bump_ctx.specs.Calls.{Takes};
 
-    /// A context with one block, for an account of the space. `context` is the number that its blocks keep.
+    /// A context with one block, for an account of the space: `BumpContextCreate` of PostgreSQL's bump.c. `context` is
+    /// the number that its blocks keep.
     ///
     /// `NoSpace` comes where the first block doesn't fit, and before `Memory`. A refused call changes nothing.
     pub fn create(
@@ -60,40 +63,43 @@ impl BumpCtx {
         ensures ledger { IfOk result (λ a. a.ledger ≡ created sizes.init sizes.max) }
         ensures account { IfOk result (λ a. (footprint a).account ≡ account) }
         ensures context { IfOk result (λ a. (footprint a).context ≡ context) }
+        ensures place { IfOk result (λ a. (at : Addr) → place_at a at ≡ None) }
         ensures live { IfOk result (λ a. (at : Addr) → (footprint a).live at ≡ None) }
         ensures moves { IfOk result (λ a. Moves (nothing account context) (footprint a) space.old space.new) }
+        ensures asked { OnOk result (Asks account sizes.init space.old space.new) }
         ensures no_space { (result ≡ Err CtxError.NoSpace) ↔ (space.old.limit < held space.old account + sizes.init) }
         ensures no_other { IfErr result (λ e. (e ≡ CtxError.NoSpace) ⊎ (e ≡ CtxError.Memory)) }
-        ensures err { OnErr result (space.new ≡ space.old) }
+        ensures err_space { OnErr result (space.new ≡ space.old) }
     {
-        match Books::create(alloc, space, account, context, sizes) {
-            Ok(books) => Ok(BumpCtx { books }),
-            Err(error) => Err(error),
-        }
+        let books = Books::create(alloc, space, account, context, sizes)?;
+        Ok(BumpCtx { books })
     }
 
-    /// What the context holds: `free` are the rooms of all blocks, and `chunks` is 0.
+    /// What the context holds: `free` are the rooms of all blocks, and `chunks` is 0 (`BumpStats`).
+    #[tactic(auto, unfolding(crate::specs::Ledger::stats))]
     pub fn stats(&self) -> Stats
-        ensures { result ≡ stats self.now.ledger }
+        ensures stats { result ≡ stats self.now.ledger }
+        ensures total { (footprint self.now).total ≡ result.total }
     {
         self.books.stats()
     }
 
-    /// Takes a chunk of `size` bytes, which may be 0, and answers its address. No byte of it is known.
+    /// Takes a chunk of `size` bytes, which may be 0, and answers its address: `BumpAlloc`.
     ///
-    /// `TooBig`, `NoSpace` and `Memory` are tried in this order. A refused call changes nothing.
+    /// `TooBig`, where `size` is over 1,073,741,823, `NoSpace` and `Memory` are tried in this order. A refused call
+    /// changes nothing.
     #[tactic(auto, using(ctx_blocks::proofs::Spared::agrees_bare, ctx_blocks::proofs::Spared::moves_bare))]
     pub fn alloc(&mut self, space: &mut Space, size: u64) -> Result<Addr, CtxError>
         requires { Agrees (footprint self.old) space.old }
 
-        // The ledger makes its step for the request, with what is left of the account.
-        ensures ledger { OnOk result (take self.old.ledger (space.old.limit - held space.old self.old.layout.account) size ≡ Ok self.new.ledger) }
+        // The ledger makes its step for the request, with what is left of the account, and answers the bytes asked.
+        ensures taken { IfOk result (λ at. Takes self.old self.new (space.old.limit - held space.old self.old.layout.account) size at space.old space.new) }
 
         // The chunk was not live, and every other chunk stays.
         ensures fresh { IfOk result (λ at. (footprint self.old).live at ≡ None) }
         ensures live { IfOk result (λ at. PutsLive (footprint self.old) (footprint self.new) at (Some size)) }
-        ensures moves { OnOk result (Moves (footprint self.old) (footprint self.new) space.old space.new) }
-        ensures keeps { OnOk result (Keeps (footprint self.old) (footprint self.new) space.old space.new) }
+        ensures moves { Moves (footprint self.old) (footprint self.new) space.old space.new }
+        ensures keeps { Keeps (footprint self.old) (footprint self.new) space.old space.new }
 
         ensures too_big { (result ≡ Err CtxError.TooBig) ↔ (1073741823 < size) }
         ensures no_space { result ≡ Err CtxError.NoSpace → take self.old.ledger (space.old.limit - held space.old self.old.layout.account) size ≡ Err CtxError.NoSpace }
@@ -104,20 +110,20 @@ impl BumpCtx {
         self.books.alloc(space, size)
     }
 
-    /// Refuses to free a live chunk: the answer is `Unsupported`, and nothing changes.
+    /// Refuses to free a live chunk: the answer is `Unsupported`, and nothing changes (`BumpFree`).
     pub fn free(&mut self, space: &mut Space, at: Addr) -> Result<(), CtxError>
         requires agrees { Agrees (footprint self.old) space.old }
         requires live { IsSome ((footprint self.old).live at) }
         ensures unsupported { result ≡ Err CtxError.Unsupported }
-        ensures same { self.new ≡ self.old }
-        ensures same_space { space.new ≡ space.old }
+        ensures err { self.new ≡ self.old }
+        ensures err_space { space.new ≡ space.old }
     {
         let _ = &self.books;
         Err(CtxError::Unsupported)
     }
 
     /// Refuses to give a live chunk another size: the answer is `TooBig` where `size` is over 1,073,741,823, else
-    /// `Unsupported`, and nothing changes.
+    /// `Unsupported`, and nothing changes (`BumpRealloc`).
     #[tactic(auto, unfolding(crate::specs::Ledger::refusal))]
     pub fn realloc(
         &mut self,
@@ -129,8 +135,8 @@ impl BumpCtx {
         requires agrees { Agrees (footprint self.old) space.old }
         requires live { IsSome ((footprint self.old).live at) }
         ensures refused { result ≡ Err (refusal size) }
-        ensures same { self.new ≡ self.old }
-        ensures same_space { space.new ≡ space.old }
+        ensures err { self.new ≡ self.old }
+        ensures err_space { space.new ≡ space.old }
     {
         let _ = &self.books;
         if size > LARGEST {
@@ -139,23 +145,26 @@ impl BumpCtx {
         Err(CtxError::Unsupported)
     }
 
-    /// Frees all chunks and gives every block but the first back: the context is as it was created. It takes no memory.
+    /// Frees all chunks and gives every block but the first back: `BumpReset`. The ledger is that of a new context. It
+    /// takes no memory.
     #[tactic(auto, using(ctx_blocks::proofs::Spared::agrees_bare, ctx_blocks::proofs::Spared::moves_bare))]
     pub fn reset(&mut self, space: &mut Space)
-        requires { Agrees (footprint self.old) space.old }
-        ensures ledger { self.new.ledger ≡ created self.old.ledger.init self.old.ledger.max }
+        requires agrees { Agrees (footprint self.old) space.old }
+        ensures ledger { self.new.ledger ≡ reset self.old.ledger }
+        ensures place { (at : Addr) → place_at self.new at ≡ None }
         ensures live { (at : Addr) → (footprint self.new).live at ≡ None }
         ensures moves { Moves (footprint self.old) (footprint self.new) space.old space.new }
+        ensures asked { Asks self.old.layout.account 0 space.old space.new }
     {
         self.books.reset(space);
     }
 
-    /// Gives all blocks back. It takes no memory.
+    /// Gives all blocks back: `BumpDelete`. It takes no memory.
     pub fn discard(self, space: &mut Space)
-        requires { Agrees (footprint self) space.old }
-        ensures { Moves (footprint self) (nothing (footprint self).account (footprint self).context) space.old space.new }
+        requires agrees { Agrees (footprint self) space.old }
+        ensures moves { Moves (footprint self) (nothing (footprint self).account (footprint self).context) space.old space.new }
+        ensures asked { Asks self.layout.account 0 space.old space.new }
     {
-        let BumpCtx { books } = self;
-        books.discard(space);
+        self.books.discard(space);
     }
 }

@@ -59,7 +59,6 @@ fn refusals_and_a_reset(rt: HostRuntime) -> Result<(), Fail> {
     let at = bump.alloc(&mut space, 7000)?;
     let refused = [
         bump.free(&mut space, at).err(),
-        bump.realloc(&mut space, at, 0, 8).err(),
         bump.realloc(&mut space, at, 0, 1_073_741_824).err(),
     ];
     bump.reset(&mut space);
@@ -67,11 +66,7 @@ fn refusals_and_a_reset(rt: HostRuntime) -> Result<(), Fail> {
     assert_eq!(rt;
         (refused, after),
         (
-            [
-                Some(CtxError::Unsupported),
-                Some(CtxError::Unsupported),
-                Some(CtxError::TooBig)
-            ],
+            [Some(CtxError::Unsupported), Some(CtxError::TooBig)],
             (7952, Some(CtxError::NoSpace))
         )
     );

@@ -2,5 +2,5 @@ use Rattle.addr_space.specs.Footprint.{nothing}
 use Rattle.ctx_blocks.proofs.Spared.{moves_to}
 use Rattle.bump_ctx.proofs.BumpCtx.create.Goals as goal
 
-pub returns-in-Ok-clause-moves : goal.returns-in-Ok-clause-moves
-returns-in-Ok-clause-moves c = moves_to (nothing c.args.account c.args.context) c.in-Ok.books.blocks c.args.space.now c.create.new.space c.in-Ok.ensures.moves
+pub returns-clause-moves : goal.returns-clause-moves
+returns-clause-moves c = moves_to (nothing c.args.account c.args.context) c.in_ok-books.books.blocks c.args.space.now c.create.new.space c.in_ok-books.ensures.moves

@@ -1,8 +1,11 @@
+use Rattle.addr_space.specs.Footprint.{nothing}
 use Rattle.ctx_blocks.proofs.Spared.{agrees_bare, moves_from}
 use Rattle.bump_ctx.proofs.BumpCtx.discard.Goals as goal
 
 pub discard-requires : goal.discard-requires
-discard-requires c = agrees_bare c.self.inside.books.blocks c.args.space.now (rw (← c.self.view_is) at c.requires)
+discard-requires c = agrees_bare c.self.inside.books.blocks c.args.space.now (rw (← c.self.view_is) at c.requires.agrees)
 
-pub returns : goal.returns
-returns c = rw (← c.self.view_is) (moves_from c.self.inside.books.blocks _ c.args.space.now c.discard.new.space c.discard.ensures)
+pub returns-clause-moves : goal.returns-clause-moves
+returns-clause-moves c =
+    let l = c.self.inside.books.blocks in
+    rw (← c.self.view_is) (moves_from l (nothing l.account l.context) c.args.space.now c.discard.new.space c.discard.ensures.moves)

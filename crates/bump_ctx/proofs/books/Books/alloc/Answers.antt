@@ -11,8 +11,8 @@ use Rattle.bump_ctx.proofs.books.Books.alloc.Goals as goal
 pub take-requires-clause-agrees : goal.take-requires-clause-agrees
 take-requires-clause-agrees c = rw c.make_room.ensures.footprint c.requires.agrees
 
-pub returns-in-Ok-clause-ok : goal.returns-in-Ok-clause-ok
-returns-in-Ok-clause-ok c =
+pub returns-clause-ok : goal.returns-clause-ok
+returns-clause-ok c =
     let b = c.args.self.now in
     let m = c.make_room.new.self in
     let s = c.args.space.now in

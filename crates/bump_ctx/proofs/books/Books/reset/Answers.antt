@@ -12,8 +12,8 @@ returns-clause-kept c =
     let m = c.reset.new.self in
     let keeper = c.requires.kept.keeper in
     let n : Books = record b { next = b.sizes.init; newest = c.keeper-self.result; blocks = m } in
-    let only : m.blocks ≡ keeper_alone m.keeper b.sizes.init = alone_as m.blocks b.blocks.keeper m.keeper keeper.block.size b.sizes.init (c.reset.ensures.blocks keeper.block keeper.is) c.reset.ensures.same.keeper keeper.size in
-    kept_alone n (c.reset.ensures.same.kind ∙ c.requires.kept.kind) (AreSizes-first b.sizes.init b.sizes.max b.next c.requires.kept.sizes) refl only c.keeper-self.ensures
+    let only : m.blocks ≡ keeper_alone m.keeper b.blocks.first_number b.sizes.init = alone_as m.blocks b.blocks.keeper m.keeper b.blocks.first_number keeper.block.size b.sizes.init (c.reset.ensures.blocks keeper.block keeper.is) c.reset.ensures.same.keeper keeper.size in
+    kept_alone n (c.reset.ensures.same.kind ∙ c.requires.kept.kind) (AreSizes-first b.sizes.init b.sizes.max b.next c.requires.kept.sizes) refl b.blocks.first_number only c.keeper-self.ensures
 
 pub returns-clause-ledger : goal.returns-clause-ledger
 returns-clause-ledger c =
@@ -21,5 +21,5 @@ returns-clause-ledger c =
     let m = c.reset.new.self in
     let keeper = c.requires.kept.keeper in
     let n : Books = record b { next = b.sizes.init; newest = c.keeper-self.result; blocks = m } in
-    let only : m.blocks ≡ keeper_alone m.keeper b.sizes.init = alone_as m.blocks b.blocks.keeper m.keeper keeper.block.size b.sizes.init (c.reset.ensures.blocks keeper.block keeper.is) c.reset.ensures.same.keeper keeper.size in
-    ledger_alone n (c.reset.ensures.same.kind ∙ c.requires.kept.kind) (AreSizes-first b.sizes.init b.sizes.max b.next c.requires.kept.sizes) refl only c.keeper-self.ensures
+    let only : m.blocks ≡ keeper_alone m.keeper b.blocks.first_number b.sizes.init = alone_as m.blocks b.blocks.keeper m.keeper b.blocks.first_number keeper.block.size b.sizes.init (c.reset.ensures.blocks keeper.block keeper.is) c.reset.ensures.same.keeper keeper.size in
+    ledger_alone n (c.reset.ensures.same.kind ∙ c.requires.kept.kind) (AreSizes-first b.sizes.init b.sizes.max b.next c.requires.kept.sizes) refl b.blocks.first_number only c.keeper-self.ensures

@@ -1,4 +1,5 @@
-use Rattle.std.proofs.Common.{◌≡◌, ℕ, ◌+◌, ◌-◌, Ok, Err, Some, true, refl, ap, sym, ◌∙◌, arith}
+use Rattle.std.proofs.Common.{◌≡◌, ℕ, ◌+◌, ◌-◌, Err, Some, true, refl, ap, sym, ◌∙◌, arith}
+use Rattle.std.proofs.lemmas.Result.{err_from_is_err_and}
 use Rattle.addr_space.specs.Space.{held}
 use Rattle.addr_space.proofs.Steps.{Moves-more, Keeps-more}
 use Rattle.chunk_header.specs.declared.CtxError.TheVariants.{NoSpace}
@@ -6,42 +7,52 @@ use Rattle.ctx_blocks.specs.Layout.{block_at, header_room, gap_of, footprint}
 use Rattle.ctx_blocks.specs.declared.parts.Block.{Block}
 use Rattle.bump_ctx.specs.Kept.{ledger_of}
 use Rattle.ctx_blocks.proofs.Changed.{put_here, live_put, fresh_put, same_live, puts_same, stays_live}
+use Rattle.ctx_blocks.specs.Steps.{PutsChunk}
+use Rattle.ctx_blocks.specs.declared.parts.Chunk.{Chunk}
+use Rattle.bump_ctx.specs.Ledger.{served, with_own}
+use Rattle.bump_ctx.proofs.Allocated.{place_put}
 use Rattle.bump_ctx.proofs.Kepts.{kept_more, kept_same}
 use Rattle.bump_ctx.proofs.Ledgers.{ledger_own, take_own-had, take_own-none}
 use Rattle.bump_ctx.proofs.books.Books.take_own.Goals as goal
 
-pub returns-in-Ok-clause-ok : goal.returns-in-Ok-clause-ok
-returns-in-Ok-clause-ok c =
+pub returns-clause-ok : goal.returns-clause-ok
+returns-clause-ok c =
     let b = c.args.self.now in
     let m = c.add.new.self in
     let n = c.cut.new.self in
     let s = c.args.space.now in
-    let e = c.in-Ok.ensures in
-    let number = c.in-Ok.number in
+    let e = c.in_ok-number.ensures in
+    let number = c.in_ok-number.number in
     let room = c.granted-room.result in
     let left : ℕ = s.limit - held s b.blocks.account in
     let gap : header_room m ≡ 0 = ap gap_of (e.same.kind ∙ c.requires.kept.kind) in
-    let first : Block = record { size = room + 40; room = room + 40 - 40; live = 0; freed = 0 } in
+    let first : Block = record { number = b.blocks.last_number + 1; size = room + 40; room = room + 40 - 40; live = 0; freed = 0 } in
     let last : Block = record first { room = first.room - (header_room m + room); live = 0 + 1 } in
     let here : block_at m number ≡ Some first = put_here b.blocks m number first e.block in
     let again = c.cut.ensures.block first here in
+    let chunk : Chunk = record { size = c.args.size; room = room; own = true } in
+    let put : PutsChunk b.blocks n c.cut.result (Some chunk) = puts_same b.blocks m n c.cut.result (Some chunk) e.chunks c.cut.ensures.chunk in
     let none : last.room ≡ 0 = omega (arith, gap) in
     let kept = kept_more b m number first c.requires.kept e.same e.block e.fresh in
     let step = take_own-had (ledger_of b) left (room + 40) e.fits in
     let ledger = ledger_own b m n number first last c.requires.kept e.block again e.fresh refl none e.total in
     rw (← c.granted-room.ensures.value) (record {
       kept = kept_same (record b { blocks = m }) n number first last kept c.cut.ensures.same again here refl;
-      ledger = step ∙ ap Ok (sym ledger);
+      answer = served (with_own (ledger_of b) (room + 40)) (room + 40);
+      is = step;
+      ledger = ledger;
+      place = place_put b.blocks n c.cut.result chunk put;
+      asked = c.cut.ensures.asked ∙ e.asked;
       fresh = sym (same_live b.blocks m e.chunks c.cut.result) ∙ fresh_put m c.cut.result c.cut.ensures.fresh;
-      live = live_put b.blocks n c.cut.result (Some (record { size = c.args.size; room = room; own = true })) (puts_same b.blocks m n c.cut.result _ e.chunks c.cut.ensures.chunk);
+      live = live_put b.blocks n c.cut.result (Some chunk) put;
       moves = Moves-more (footprint b.blocks) (footprint m) (footprint n) s c.add.new.space c.cut.new.space e.moves c.cut.ensures.moves;
       keeps = Keeps-more (footprint b.blocks) (footprint m) (footprint n) s c.add.new.space c.cut.new.space (stays_live b.blocks m e.chunks) e.keeps c.cut.ensures.keeps;
     })
 
-pub returns-in-Err-clause-no_space : goal.returns-in-Err-clause-no_space
-returns-in-Err-clause-no_space c = λ e.
+pub returns-in_err-number-clause-no_space : goal.returns-in_err-number-clause-no_space
+returns-in_err-number-clause-no_space c = λ e.
     let b = c.args.self.now in
     let left : ℕ = c.args.space.now.limit - held c.args.space.now b.blocks.account in
-    let it : c.in-Err.error ≡ NoSpace = cc in
-    let over = c.in-Err.ensures.no_space (ap Err it) in
+    let it : c.in_err-number.field-0.0 ≡ NoSpace = let p = err_from_is_err_and c.from_residual.result c.from_residual.ensures.1 in cc in
+    let over = c.in_err-number.ensures.no_space (ap Err it) in
     rw (← c.granted-room.ensures.value) (take_own-none (ledger_of b) left (c.granted-room.result + 40) over)
