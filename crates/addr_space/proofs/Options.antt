@@ -42,3 +42,8 @@ on_err (Err e) all holds = all holds
 pub either_way : {A E P : Type 0} (r : Result A E) → OnOk r P → OnErr r P → P
 either_way (Ok a) answered refused = answered
 either_way (Err e) answered refused = refused
+
+-- what holds once a call was refused, by two facts of it
+pub both_err : {A E P Q R : Type 0} (r : Result A E) → (P → Q → R) → OnErr r P → OnErr r Q → OnErr r R
+both_err (Ok a) all first second = first
+both_err (Err e) all first second = all first second

@@ -3,7 +3,7 @@ use Rattle.std.proofs.Common.{◌≡◌, ◌≢◌, ℕ, ◌+◌, ◌==◌, if�
 use Rattle.std.proofs.lemmas.Bool.{cases_eq}
 use Rattle.addr_space.specs.declared.Addr.{Addr}
 use Rattle.addr_space.specs.Space.{Region, Space, region_at, bytes_of, byte_at, Changes, HasBytes, held, accounts}
-use Rattle.addr_space.specs.Footprint.{Footprint, IsSound, Agrees, Moves, Keeps, counted, nothing}
+use Rattle.addr_space.specs.Footprint.{Footprint, IsSound, Agrees, Moves, Keeps, KeepsBut, counted, nothing}
 use Rattle.addr_space.specs.Live.{SameLive, StaysLive}
 
 -- a context that has nothing agrees with each space that has its account, and counts nothing
@@ -45,8 +45,11 @@ Moves-none f s agrees = record {
 pub Moves-same : (f g : Footprint) (s t : Space) → Agrees f s → g ≡ f → t ≡ s → Moves f g s t
 Moves-same f g s t agrees same still = rw (same, still) (Moves-none f s agrees)
 
-pub Keeps-same : (f g : Footprint) (s t : Space) → g ≡ f → t ≡ s → Keeps f g s t
-Keeps-same f g s t same still at m n k live again below short = ap (λ space. byte_at space at.region (at.offset + k)) still
+pub Keeps-same : (f g : Footprint) (s t : Space) → t ≡ s → Keeps f g s t
+Keeps-same f g s t still at m n k live again below short = ap (λ space. byte_at space at.region (at.offset + k)) still
+
+pub KeepsBut-same : (chunk : Addr) (f g : Footprint) (s t : Space) → t ≡ s → KeepsBut chunk f g s t
+KeepsBut-same chunk f g s t still at m n k apart live again below short = ap (λ space. byte_at space at.region (at.offset + k)) still
 
 -- one step after another
 pub Moves-more : (f g h : Footprint) (s t u : Space) → Moves f g s t → Moves g h t u → Moves f h s u

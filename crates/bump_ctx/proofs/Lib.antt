@@ -2,5 +2,4 @@ pub mod Kepts
 pub mod Ledgers
 pub mod Allocated
 pub mod Resets
-pub mod Refused
 pub mod Rows

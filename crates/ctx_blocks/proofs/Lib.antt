@@ -17,5 +17,4 @@ pub mod Cleared
 pub mod Summed
 pub mod Numbered
 pub mod Among
-pub mod Refused
 pub mod Places

@@ -1,8 +1,8 @@
 use Rattle.std.proofs.Common.{◌≡◌, ◌∙◌, ℕ, Some, IsSome, option_map, IfSome, ap, sym, subst, refl, arith}
 use Rattle.addr_space.specs.Footprint.{Footprint}
-use Rattle.addr_space.proofs.Options.{if_ok, on_ok, on_err}
+use Rattle.addr_space.proofs.Options.{if_ok, on_ok, on_err, either_way, both_err}
+use Rattle.addr_space.proofs.Steps.{Moves-same, KeepsBut-same}
 use Rattle.ctx_blocks.proofs.Spared.{agrees_bare, moves_bare}
-use Rattle.ctx_blocks.proofs.Refused.{either, both_err, Moves-same, KeepsBut-same}
 use Rattle.ctx_blocks.specs.declared.parts.Chunk.{Chunk}
 use Rattle.generation_ctx.specs.Ledger.{GenerationPlace}
 use Rattle.generation_ctx.specs.State.{footprint, place_in}
@@ -48,7 +48,7 @@ returns-clause-moves c =
     let t = c.realloc.new.space in
     let f : Footprint = footprint (state_of b) in
     let g : Footprint = footprint (state_of n) in
-    rw (← c.self.view_is) (either c.realloc.result
+    rw (← c.self.view_is) (either_way c.realloc.result
     (on_ok c.realloc.result (λ at had. moves_bare b.blocks n.blocks s t had.moves) c.realloc.ensures.ok)
     (both_err c.realloc.result (λ same same_space. Moves-same f g s t (rw (← c.self.view_is) at c.requires.agrees) (ap footprint same) same_space) c.realloc.ensures.err c.realloc.ensures.err_space))
 
@@ -56,6 +56,6 @@ pub returns-clause-keeps : goal.returns-clause-keeps
 returns-clause-keeps c =
     let f : Footprint = footprint (state_of c.self.inside.books) in
     let g : Footprint = footprint (state_of c.realloc.new.self) in
-    rw (← c.self.view_is) (either c.realloc.result
+    rw (← c.self.view_is) (either_way c.realloc.result
     (on_ok c.realloc.result (λ at had. had.keeps) c.realloc.ensures.ok)
     (on_err c.realloc.result (λ same_space. KeepsBut-same c.args.at f g c.args.space.now c.realloc.new.space same_space) c.realloc.ensures.err_space))

@@ -1,8 +1,8 @@
 use Rattle.std.proofs.Common.{◌≡◌, ◌∙◌, ℕ, Some, ap, refl}
 use Rattle.addr_space.specs.Footprint.{Footprint}
-use Rattle.addr_space.proofs.Options.{if_ok, on_ok, on_err}
+use Rattle.addr_space.proofs.Options.{if_ok, on_ok, on_err, either_way, both_err}
+use Rattle.addr_space.proofs.Steps.{Moves-same, Keeps-same}
 use Rattle.ctx_blocks.proofs.Places.{places_put}
-use Rattle.ctx_blocks.proofs.Refused.{either, both_err, Moves-same, Keeps-same}
 use Rattle.slab_ctx.specs.Kept.{state_of}
 use Rattle.slab_ctx.specs.Slots.{chunk_of}
 use Rattle.slab_ctx.specs.State.{footprint, place}
@@ -32,7 +32,7 @@ returns-clause-moves c =
     let g : Footprint = footprint (state_of c.alloc.new.self) in
     let s = c.args.space.now in
     let t = c.alloc.new.space in
-    rw (← c.self.view_is) (either c.alloc.result
+    rw (← c.self.view_is) (either_way c.alloc.result
     (on_ok c.alloc.result (λ at had. had.does.moves) c.alloc.ensures.ok)
     (both_err c.alloc.result (λ same same_space. Moves-same f g s t (rw (← c.self.view_is) at c.requires) (ap footprint same) same_space) c.alloc.ensures.err_state c.alloc.ensures.err_space))
 
@@ -40,6 +40,6 @@ pub returns-clause-keeps : goal.returns-clause-keeps
 returns-clause-keeps c =
     let f : Footprint = footprint (state_of c.self.inside.books) in
     let g : Footprint = footprint (state_of c.alloc.new.self) in
-    rw (← c.self.view_is) (either c.alloc.result
+    rw (← c.self.view_is) (either_way c.alloc.result
     (on_ok c.alloc.result (λ at had. had.does.keeps) c.alloc.ensures.ok)
     (on_err c.alloc.result (λ same_space. Keeps-same f g c.args.space.now c.alloc.new.space same_space) c.alloc.ensures.err_space))
