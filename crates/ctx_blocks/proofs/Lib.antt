@@ -18,3 +18,4 @@ pub mod Summed
 pub mod Numbered
 pub mod Among
 pub mod Refused
+pub mod Places

@@ -1,5 +1,5 @@
 -- Blocks that are known by their numbers.
-use Rattle.std.specs.Prelude.{◌≡◌, ℕ, ◌==◌, Bool, not, Some, if◌then◌else◌}
+use Rattle.std.specs.Prelude.{◌≡◌, ℕ, ◌==◌, Bool, not, Some, unwrap_or, if◌then◌else◌}
 use Rattle.ctx_blocks.specs.Layout.{Layout, block_at}
 use Rattle.ctx_blocks.specs.declared.parts.Block.{Block}
 
@@ -10,6 +10,13 @@ put_at new block = if block.number == new.number then new else block
 -- the block has another number: for a filter of a list
 abbrev pub is_other : ℕ → Block → Bool
 is_other number block = not (block.number == number)
+
+-- the number of the block in a region
+abbrev pub no_block : Block
+no_block = record { number = 0; size = 0; room = 0; live = 0; freed = 0 }
+
+abbrev pub number_of : Layout → ℕ → ℕ
+number_of l region = (unwrap_or (block_at l region) no_block).number
 
 -- the blocks of one layout are among those of another one, with their numbers
 abbrev pub AreAmong : Layout → Layout → Type 0

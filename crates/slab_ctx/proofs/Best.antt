@@ -3,7 +3,7 @@ use Rattle.std.proofs.Common.{◌≡◌, ◌≢◌, ℕ, ◌-◌, ◌<◌, ◌�
 use Rattle.std.proofs.lemmas.Bool.{cases_lt}
 use Rattle.std.proofs.lemmas.Bool.Decides.{nat_tests}
 use Rattle.ctx_blocks.specs.declared.parts.Block.{Block}
-use Rattle.slab_ctx.specs.Ledger.{fullest, greater}
+use Rattle.slab_ctx.specs.Lives.{fullest, greater}
 use Rattle.slab_ctx.specs.State.{live_of}
 use Rattle.slab_ctx.specs.Counts.{first_with, IsBest, IsBestOf}
 use Rattle.slab_ctx.specs.declared.books.Best.{Best}

@@ -2,7 +2,7 @@
 use Rattle.std.proofs.Common.{◌≡◌, ◌==◌, if◌then◌else◌, Bool, true, false, ℕ, ◌+◌, ◌*◌, ◌^◌, ◌≤◌, List, [], ◌∷◌, length, sum_by, ap, arith}
 use Rattle.std.proofs.lemmas.List.Sums.{sum_by-cons}
 use Rattle.std.proofs.Math.Nat.{mul-le-mul_right}
-use Rattle.slab_ctx.specs.Ledger.{is_empty, free_in, free_chunks, per_block, stride}
+use Rattle.slab_ctx.specs.Lives.{is_empty, free_in, free_chunks, per_block, stride}
 use Rattle.slab_ctx.specs.State.{lives_of}
 use Rattle.slab_ctx.specs.Kept.{IsKeptBut}
 use Rattle.slab_ctx.specs.declared.books.Books.{Books}

@@ -1,17 +1,20 @@
 -- Lemmas on the block that serves a request.
-use Rattle.std.proofs.Common.{◌≡◌, ℕ, zero, suc, ◌+◌, ◌-◌, ◌<◌, ◌≤◌, ◌++◌, List, [], ◌∷◌, length, map, take, Some, None, refl, sym, ap, subst, ◌∙◌, arith}
+use Rattle.std.proofs.Common.{◌≡◌, ℕ, zero, suc, ◌+◌, ◌-◌, ◌<◌, ◌≤◌, ◌++◌, List, [], ◌∷◌, length, map, take, Option, Some, None, option_map, refl, sym, ap, subst, ◌∙◌, arith}
 use Rattle.std.specs.Prelude.{slice_get}
 use Rattle.std.proofs.lemmas.List.{take_all}
 use Rattle.ctx_blocks.specs.Layout.{Layout, block_at}
 use Rattle.ctx_blocks.specs.declared.parts.Block.{Block}
-use Rattle.slab_ctx.specs.Ledger.{fullest}
-use Rattle.slab_ctx.specs.State.{others, live_of, lives_of}
+use Rattle.slab_ctx.specs.Lives.{fullest}
+use Rattle.slab_ctx.specs.Ledger.{serving}
+use Rattle.slab_ctx.specs.State.{others, live_of, lives_of, blocks_of, serving_block}
 use Rattle.slab_ctx.specs.Counts.{first_with, IsBest, IsBestOf}
 use Rattle.slab_ctx.specs.Kept.{IsListed}
 use Rattle.slab_ctx.specs.Steps.{IsFound, IsSeen, IsNext, IsChosen}
 use Rattle.slab_ctx.specs.declared.books.Best.{Best}
 use Rattle.slab_ctx.proofs.Best.{worse, better}
 use Rattle.slab_ctx.proofs.Lives.{not-at}
+use Rattle.slab_ctx.proofs.Listed.{find-other}
+use Rattle.slab_ctx.proofs.Numbered.{serving-none, serving_is}
 
 take_get : {X : Type 0} (es : List X) (i : ℕ) (x : X) → slice_get es i ≡ Some x → take (suc i) es ≡ take i es ++ x ∷ []
 take_get [] i x got = absurd (cc)
@@ -73,3 +76,14 @@ next-from l listed count number block entry found =
 
 pub length-listed : (l : Layout) → IsListed l → length l.blocks ≡ length (others l.blocks) + 1
 length-listed l listed = ap length listed.shape ∙ omega arith
+
+-- the block that the ledger chooses
+serving_by : (l : Layout) (per : ℕ) (best : Best) (o : Option ℕ) → IsListed l → IsSeen l per (length (others l.blocks)) best → best.number ≡ o → serving per (blocks_of l) ≡ serving_block l o
+serving_by l per best None listed seen is = serving-none per (others l.blocks) (none-free l per best seen is)
+serving_by l per best (Some number) listed seen is =
+    let it = chosen-from l per best number seen is in
+    let there = find-other l listed number it.not_keeper ∙ it.found in
+    serving_is per number (others l.blocks) it.block it.free it.greatest it.first there ∙ sym (ap (option_map (λ (b : Block). record { number = b.number; live = b.live })) it.found)
+
+pub serving-seen : (l : Layout) (per count : ℕ) (best : Best) → IsListed l → count ≡ length (others l.blocks) → IsSeen l per count best → serving per (blocks_of l) ≡ serving_block l best.number
+serving-seen l per count best listed all seen = serving_by l per best best.number listed (rw (← all) seen) refl

@@ -1,15 +1,18 @@
 -- Lemmas on a chunk that is freed.
-use Rattle.std.proofs.Common.{◌≡◌, ℕ, zero, suc, ◌-◌, ◌≤◌, ◌==◌, ◌&&◌, nat_le, if◌then◌else◌, true, false, List, [], ◌∷◌, slice_index, slice_set, refl, sym, ap, ◌∙◌, inl, inr, arith}
-use Rattle.std.specs.Prelude.{remove}
+use Rattle.std.proofs.Common.{◌≡◌, ℕ, ◌-◌, ◌≤◌, ◌==◌, ◌&&◌, nat_le, if◌then◌else◌, Bool, true, false, not, List, [], ◌∷◌, refl, sym, ap, ◌∙◌, inl, inr, arith}
 use Rattle.std.proofs.lemmas.Bool.{cases_eq}
 use Rattle.std.proofs.lemmas.Bool.Decides.{nat_tests}
-use Rattle.slab_ctx.specs.Ledger.{SlabLedger, is_empty, empties, lowered, freed}
+use Rattle.slab_ctx.specs.Ledger.{SlabLedger, SlabBlock, is_empty, empties, set_live, with_live, without_number, live_in, lowered, give}
 
--- what is removed may be another number before
-pub remove-set : (xs : List ℕ) (i x : ℕ) → remove (slice_set xs i x) i ≡ remove xs i
-remove-set [] i x = refl
-remove-set (y ∷ xs) zero x = refl
-remove-set (y ∷ xs) (suc i) x = ap (λ ys. y ∷ ys) (remove-set xs i x)
+-- which block is left out doesn't depend on live chunks
+left_out : (number live : ℕ) (b : SlabBlock) (ys zs : List SlabBlock) (t : Bool) → (b.number == number) ≡ t → ys ≡ zs
+    → (let c : SlabBlock = if t then record b { live = live } else b in if not (c.number == number) then c ∷ ys else ys) ≡ (if not t then b ∷ zs else zs)
+left_out number live b ys zs true is same = ap (λ u. if not u then record b { live = live } ∷ ys else ys) is ∙ same
+left_out number live b ys zs false is same = ap (λ u. if not u then b ∷ ys else ys) is ∙ ap (λ (xs : List SlabBlock). b ∷ xs) same
+
+pub without-set : (number live : ℕ) (xs : List SlabBlock) → without_number (with_live xs number live) number ≡ without_number xs number
+without-set number live [] = refl
+without-set number live (b ∷ xs) = left_out number live b (without_number (with_live xs number live) number) (without_number xs number) (b.number == number) refl (without-set number live xs)
 
 pub is_empty-some : (live : ℕ) → 1 ≤ live → is_empty live ≡ 0
 is_empty-some live some =
@@ -29,13 +32,13 @@ same_test live now some is = elim (cases_eq live 1) [
       a ∙ sym b
 ]
 
--- the ledger's step, from the numbers of live chunks before, between and after
-pub freed-is : (l : SlabLedger) (place other live now empty : ℕ) (mid after : List ℕ) → slice_index l.lives place ≡ live → 1 ≤ live → now ≡ live - 1 → mid ≡ slice_set l.lives place (live - 1) → other ≡ place → empty ≡ empties l.lives
-    → after ≡ (if (now == 0) && nat_le 10 empty then remove mid other else mid) → record { size = l.size; lives = after } ≡ freed l place
-unfolding freed
-freed-is l place other live now empty mid after index some is middle same count after_is =
+-- the ledger's step, from the blocks before, between and after
+pub freed-is : (l : SlabLedger) (number other live now empty : ℕ) (mid after : List SlabBlock) → live_in l.blocks number ≡ live → 1 ≤ live → now ≡ live - 1 → mid ≡ with_live l.blocks number (live - 1) → other ≡ number → empty ≡ empties l.blocks
+    → after ≡ (if (now == 0) && nat_le 10 empty then without_number mid other else mid) → record { size = l.size; count = l.count; blocks = after } ≡ give l number
+unfolding give
+freed-is l number other live now empty mid after index some is middle same count after_is =
     let test = same_test live now some is in
-    let gone : remove mid other ≡ remove l.lives place = ap (λ xs. remove xs other) middle ∙ ap (remove (slice_set l.lives place (live - 1))) same ∙ remove-set l.lives place (live - 1) in
-    let step : after ≡ lowered l.lives place live = after_is ∙ ap (λ t. if t && nat_le 10 empty then remove mid other else mid) test ∙ ap (λ n. if (live == 1) && nat_le 10 n then remove mid other else mid) count
-    ∙ ap (λ xs. if (live == 1) && nat_le 10 (empties l.lives) then xs else mid) gone ∙ ap (λ xs. if (live == 1) && nat_le 10 (empties l.lives) then remove l.lives place else xs) middle in
-    ap (λ xs. record { size = l.size; lives = xs }) (step ∙ ap (lowered l.lives place) (sym index))
+    let gone : without_number mid other ≡ without_number l.blocks number = ap (λ xs. without_number xs other) middle ∙ ap (without_number (with_live l.blocks number (live - 1))) same ∙ without-set number (live - 1) l.blocks in
+    let step : after ≡ lowered l.blocks number live = after_is ∙ ap (λ t. if t && nat_le 10 empty then without_number mid other else mid) test ∙ ap (λ n. if (live == 1) && nat_le 10 n then without_number mid other else mid) count
+    ∙ ap (λ xs. if (live == 1) && nat_le 10 (empties l.blocks) then xs else mid) gone ∙ ap (λ xs. if (live == 1) && nat_le 10 (empties l.blocks) then without_number l.blocks number else xs) middle in
+    ap (λ xs. record { size = l.size; count = l.count; blocks = xs }) (step ∙ ap (lowered l.blocks number) (sym index))

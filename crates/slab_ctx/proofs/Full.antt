@@ -6,17 +6,19 @@ use Rattle.std.proofs.lemmas.Bool.Decides.{nat_tests}
 use Rattle.addr_space.specs.declared.Addr.{Addr}
 use Rattle.addr_space.specs.Space.{Space}
 use Rattle.addr_space.specs.Footprint.{Footprint, IsSound, Agrees, Moves, nothing, counted}
-use Rattle.chunk_header.specs.Header.{IsHeaded, AllHeaded, TakesSpace}
-use Rattle.ctx_blocks.specs.Layout.{Layout, block_at, chunk_at, mark_of, footprint as footprint_of, bare}
+use Rattle.chunk_header.specs.Header.{IsHeaded, AllHeaded, AllOfKind, TakesSpace}
+use Rattle.chunk_header.specs.declared.Kind.{Kind}
+use Rattle.ctx_blocks.specs.Layout.{Layout, block_at, chunk_at, mark_of, front_of, start_of, footprint as footprint_of, bare}
 use Rattle.ctx_blocks.specs.declared.parts.Block.{Block}
 use Rattle.ctx_blocks.specs.declared.parts.Chunk.{Chunk}
-use Rattle.slab_ctx.specs.Ledger.{stride}
+use Rattle.slab_ctx.specs.Lives.{stride}
 use Rattle.slab_ctx.specs.State.{is_slot, free_slot, free_block, free_at}
 use Rattle.slab_ctx.specs.Slots.{IsSlot, IsSlotted}
 use Rattle.slab_ctx.proofs.Numbers.{stride-least, stride-some, slots_apart}
 use Rattle.addr_space.proofs.Options.{none_or_some}
 use Rattle.addr_space.proofs.Addresses.{same_addr_from}
 use Rattle.ctx_blocks.proofs.Laid.{region_is, from_live}
+use Rattle.slab_ctx.proofs.Places.{start-is, slot-least}
 
 -- what the context has in a space: what the blocks have, and the free chunks
 abbrev pub full : ℕ → Layout → Footprint
@@ -91,6 +93,14 @@ module _ (l : Layout) (size : ℕ) (s : List (ℕ × Vec ℕ)) (slotted : IsSlot
           | inr behind ↦ inr (omega (arith, behind, it.is, stride-least size))
         ];
     mark_apart = sound.mark_apart;
+    live_behind = sound.live_behind;
+    free_behind = λ at n free.
+        let it = from_free l size at n free in
+        let slot = slot-from size at.offset slotted.least it.slot in
+        let front : front_of (start_of l at.region) (block_at l at.region) ≤ start_of l at.region + 40 = rw it.found (omega arith) in
+        let start : start_of l at.region ≡ 0 = start-is l size s slotted at.region it.not_keeper in
+        omega (arith, front, start, slot-least size at.offset slot.0);
+    small = sound.small;
   }
 
   pub Agrees-full : (sp : Space) → Agrees (footprint_of l) sp → Agrees (full size l) sp
@@ -113,6 +123,9 @@ Agrees-plain size l sp bare_agrees =
         live_apart = agrees.sound.live_apart;
         free_apart = λ a b m n live free. absurd (cc);
         mark_apart = agrees.sound.mark_apart;
+        live_behind = agrees.sound.live_behind;
+        free_behind = λ at n free. absurd (cc);
+        small = agrees.sound.small;
       };
       account = agrees.account;
       regions = agrees.regions;
@@ -182,3 +195,7 @@ pub TakesSpace-full : (size : ℕ) (l : Layout) (at : Addr) (space : ℕ) → Ta
 TakesSpace-full size l at space takes =
     let more : TakesSpace (full size l) at space = record { headed = IsHeaded-full size l at takes.headed; small = takes.small; is = takes.is } in
     subst (λ f. TakesSpace f at space) (sym (full-bare size l)) more
+
+pub AllOfKind-full : (size : ℕ) (l : Layout) (kind : Kind) → AllOfKind kind (footprint_of l) → AllOfKind kind (full size (bare l))
+AllOfKind-full size l kind all = subst (AllOfKind kind) (sym (full-bare size l)) (λ at n live.
+    (let it = all at n live in (IsHeaded-full size l at it.0, it.1)))

@@ -6,17 +6,18 @@ use Rattle.std.proofs.lemmas.List.Sums.{sum_by-append, sum_by-cons}
 use Rattle.ctx_blocks.specs.Layout.{block_at, total}
 use Rattle.ctx_blocks.specs.Steps.{PutsBlock, DropsBlock, SameContext}
 use Rattle.ctx_blocks.specs.declared.parts.Block.{Block}
-use Rattle.slab_ctx.specs.Ledger.{is_empty, empties, free_in, free_chunks, per_block}
-use Rattle.slab_ctx.specs.State.{others, lives_of, place_in}
+use Rattle.slab_ctx.specs.Lives.{is_empty, empties, free_in, free_chunks, per_block}
+use Rattle.slab_ctx.specs.Ledger.{SlabBlock, with_live}
+use Rattle.slab_ctx.specs.State.{others, lives_of, blocks_of, place_in}
 use Rattle.slab_ctx.specs.Slots.{HasSlots, first_region}
 use Rattle.slab_ctx.specs.Counts.{Counts}
-use Rattle.slab_ctx.specs.Kept.{ledger_of, IsKeptBut, IsKept}
+use Rattle.slab_ctx.specs.Kept.{inner_of, ledger_of, IsKeptBut, IsKept}
 use Rattle.slab_ctx.specs.declared.books.Books.{Books}
 use Rattle.slab_ctx.proofs.Bounds.{free-is}
-use Rattle.slab_ctx.proofs.Listed.{IsListed-none, total-none, lives-none, IsListed-put, lives-added, lives-changed, total-changed, IsListed-drop, lives-dropped, place-live, sum-set, sum-remove}
+use Rattle.slab_ctx.proofs.Listed.{IsListed-none, total-none, lives-none, IsListed-put, lives-added, lives-changed, total-changed, rising-added, rising-changed, blocks-changed, IsListed-drop, lives-dropped, place-live, sum-set, sum-remove}
 
 -- the free chunks, where the books count them
-free_from : (n : Books) → n.free ≡ sum_by (free_in (per_block n.slots.size)) (lives_of n.slots.blocks) → n.free ≡ free_chunks (ledger_of n)
+free_from : (n : Books) → n.free ≡ sum_by (free_in (per_block n.slots.size)) (lives_of n.slots.blocks) → n.free ≡ free_chunks (inner_of n)
 unfolding free_chunks
 free_from n is = is
 
@@ -51,9 +52,9 @@ module _ (b n : Books) (few number : ℕ) (kept : IsKeptBut b few) (slots : HasS
   per_same xs = ap (λ z. sum_by (free_in (per_block z)) xs) size
 
   -- a block is new
-  pub kept-added : (block : Block) → few ≡ 0 → block_at b.slots.blocks number ≡ None → PutsBlock b.slots.blocks n.slots.blocks number block → block.live ≡ 0 → total n.slots.blocks ≡ total b.slots.blocks + 8192 → total n.slots.blocks ≤ 2 ^ 62
+  pub kept-added : (block : Block) → few ≡ 0 → block_at b.slots.blocks number ≡ None → PutsBlock b.slots.blocks n.slots.blocks number block → block.number ≡ b.slots.blocks.last_number + 1 → n.slots.blocks.last_number ≡ b.slots.blocks.last_number + 1 → block.live ≡ 0 → total n.slots.blocks ≡ total b.slots.blocks + 8192 → total n.slots.blocks ≤ 2 ^ 62
       → n.empty ≡ b.empty + 1 → n.free ≡ b.free + per_block b.slots.size → IsKept n
-  kept-added block none fresh puts live more most empty free =
+  kept-added block none fresh puts next last live more most empty free =
       let l = b.slots.blocks in
       let m = n.slots.blocks in
       let per = per_block b.slots.size in
@@ -62,7 +63,7 @@ module _ (b n : Books) (few number : ℕ) (kept : IsKeptBut b few) (slots : HasS
       let zero_free : sum_by (free_in per) (0 ∷ []) ≡ per = omega (arith, sum_by-cons (free_in per) 0 []) in
       record {
         slots = slots;
-        listed = IsListed-put l kept.listed number differs m same block puts;
+        listed = IsListed-put l kept.listed number differs m same block puts (rising-added l kept.listed number differs m same block puts fresh next last);
         empty = omega (arith, empty, none, kept.empty, ap empties lives, sum_by-append is_empty (lives_of l) (0 ∷ []), zero_empty);
         free = free_from n (omega (arith, free, free-is b few kept, per_same (lives_of m), ap (sum_by (free_in per)) lives, sum_by-append (free_in per) (lives_of l) (0 ∷ []), zero_free));
         bytes = omega (arith, more, kept.bytes, ap length lives, length-append (lives_of l) (0 ∷ []));
@@ -80,8 +81,12 @@ module _ (b n : Books) (few number : ℕ) (kept : IsKeptBut b few) (slots : HasS
           let at = place-live b.slots.blocks kept.listed number differs block found in
           omega (arith, ap (sum_by f) lives-counted, sum-set f (lives_of b.slots.blocks) (place_in (others b.slots.blocks.blocks) number) live at.0, ap f at.1)
 
-      pub kept-changed : (more : ℕ) → n.empty + more + is_empty block.live ≡ b.empty + few + is_empty live → n.free + free_in (per_block b.slots.size) block.live ≡ b.free + free_in (per_block b.slots.size) live → IsKeptBut n more
-      kept-changed more empty free =
+      -- its number stays
+      pub blocks-counted : blocks_of n.slots.blocks ≡ with_live (blocks_of b.slots.blocks) block.number live
+      blocks-counted = blocks-changed b.slots.blocks kept.listed number differs n.slots.blocks same counts.block counts.puts block found (counts.same_number block found) ∙ ap (with_live (blocks_of b.slots.blocks) block.number) counts.count
+
+      pub kept-changed : (more : ℕ) → n.slots.blocks.last_number ≡ b.slots.blocks.last_number → n.empty + more + is_empty block.live ≡ b.empty + few + is_empty live → n.free + free_in (per_block b.slots.size) block.live ≡ b.free + free_in (per_block b.slots.size) live → IsKeptBut n more
+      kept-changed more last empty free =
           let l = b.slots.blocks in
           let m = n.slots.blocks in
           let per = per_block b.slots.size in
@@ -89,7 +94,7 @@ module _ (b n : Books) (few number : ℕ) (kept : IsKeptBut b few) (slots : HasS
           let same_total = total-changed l kept.listed number differs m same counts.block counts.puts block found (counts.bytes ∙ sym filled.bytes) in
           record {
             slots = slots;
-            listed = IsListed-put l kept.listed number differs m same counts.block counts.puts;
+            listed = IsListed-put l kept.listed number differs m same counts.block counts.puts (rising-changed l kept.listed number differs m same counts.block counts.puts block found (counts.same_number block found) last);
             empty = omega (arith, empty, kept.empty, sum_counted is_empty);
             free = free_from n (omega (arith, free, free-is b few kept, per_same (lives_of m), sum_counted (free_in per)));
             bytes = omega (arith, same_total, kept.bytes, ap length lives-counted, length-set (lives_of l) (place_in (others l.blocks) number) live);
@@ -97,8 +102,8 @@ module _ (b n : Books) (few number : ℕ) (kept : IsKeptBut b few) (slots : HasS
           }
 
     -- an empty block is given back, which the books don't count
-    pub kept-dropped : block.live ≡ 0 → few ≡ 1 → DropsBlock b.slots.blocks n.slots.blocks number → total n.slots.blocks + 8192 ≡ total b.slots.blocks → n.empty ≡ b.empty → n.free ≡ b.free - per_block b.slots.size → IsKept n
-    kept-dropped live one drops less empty free =
+    pub kept-dropped : block.live ≡ 0 → few ≡ 1 → DropsBlock b.slots.blocks n.slots.blocks number → n.slots.blocks.last_number ≡ b.slots.blocks.last_number → total n.slots.blocks + 8192 ≡ total b.slots.blocks → n.empty ≡ b.empty → n.free ≡ b.free - per_block b.slots.size → IsKept n
+    kept-dropped live one drops last less empty free =
         let l = b.slots.blocks in
         let m = n.slots.blocks in
         let per = per_block b.slots.size in
@@ -112,7 +117,7 @@ module _ (b n : Books) (few number : ℕ) (kept : IsKeptBut b few) (slots : HasS
         let is_per : free_in per (slice_index (lives_of l) place) ≡ per = omega (arith, index) in
         record {
           slots = slots;
-          listed = IsListed-drop l kept.listed number differs m same drops block found;
+          listed = IsListed-drop l kept.listed number differs m same drops block found last;
           empty = omega (arith, empty, one, kept.empty, ap empties lives, gone_empty, is_zero);
           free = free_from n (omega (arith, free, free-is b few kept, per_same (lives_of m), ap (sum_by (free_in per)) lives, gone_free, is_per));
           bytes = omega (arith, less, kept.bytes, ap length lives, length-remove (lives_of l) place at.0);
@@ -133,3 +138,10 @@ module _ (b : Books) (few number : ℕ) (kept : IsKeptBut b few) (differs : numb
       let per = per_block b.slots.size in
       let at = place-live l kept.listed number differs block found in
       omega (arith, free-is b few kept, sum-remove (free_in per) (lives_of l) (place_in (others l.blocks) number) at.0, ap (free_in per) at.1)
+
+-- the ledger, by its parts
+pub ledger-parts : (n : Books) (size count : ℕ) (blocks : List SlabBlock) → n.slots.size ≡ size → n.slots.blocks.last_number ≡ count → blocks_of n.slots.blocks ≡ blocks → ledger_of n ≡ record { size = size; count = count; blocks = blocks }
+ledger-parts n size count blocks same last all =
+    ap (λ z. record { size = z; count = n.slots.blocks.last_number; blocks = blocks_of n.slots.blocks }) same
+    ∙ ap (λ k. record { size = size; count = k; blocks = blocks_of n.slots.blocks }) last
+    ∙ ap (λ xs. record { size = size; count = count; blocks = xs }) all

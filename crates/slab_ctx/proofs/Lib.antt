@@ -11,4 +11,7 @@ pub mod KeptSteps
 pub mod Chosen
 pub mod Freed
 pub mod Served
+pub mod Resized
 pub mod Held
+pub mod Numbered
+pub mod Public

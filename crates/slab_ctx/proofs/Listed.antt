@@ -6,11 +6,15 @@ use Rattle.std.proofs.lemmas.List.Sums.{sum_by-set, sum_by-remove}
 use Rattle.ctx_blocks.specs.Layout.{Layout, block_at, total}
 use Rattle.ctx_blocks.specs.Steps.{with_block, without_block, PutsBlock, DropsBlock, SameContext}
 use Rattle.ctx_blocks.specs.declared.parts.Block.{Block}
-use Rattle.slab_ctx.specs.State.{others, live_of, lives_of, place_in}
+use Rattle.ctx_blocks.specs.Kept.{AreRising}
+use Rattle.ctx_blocks.proofs.Numbered.{rising_put, rising_add, rising_drop}
+use Rattle.slab_ctx.specs.Ledger.{with_live, without_number}
+use Rattle.slab_ctx.specs.State.{others, live_of, lives_of, numbered_of, blocks_of, place_in}
+use Rattle.slab_ctx.proofs.Numbered.{map_last, numbered_put, numbered_drop}
 use Rattle.slab_ctx.specs.Slots.{first_region}
 use Rattle.slab_ctx.specs.Kept.{IsListed}
 use Rattle.chunk_header.proofs.Sums.{sum_by-insert}
-use Rattle.slab_ctx.proofs.Lives.{find, ne_test, lives-put, put-new, place-new, lives-new, alone-put, alone-drop, place-found, place-kept, lives-drop}
+use Rattle.slab_ctx.proofs.Lives.{find, ne_test, lives-put, put-new, lives-new, alone-put, alone-drop, place-found, lives-drop}
 
 -- a context without blocks
 pub IsListed-none : (l : Layout) → l.blocks ≡ (l.keeper, first_region) ∷ [] → IsListed l
@@ -19,6 +23,7 @@ IsListed-none l blocks =
     record {
       shape = blocks ∙ ap (λ es. (l.keeper, first_region) ∷ es) (sym none);
       alone = ap (find l.keeper) none;
+      rising = rw none tt;
     }
 
 pub total-none : (l : Layout) → l.blocks ≡ (l.keeper, first_region) ∷ [] → total l ≡ 200
@@ -26,6 +31,9 @@ total-none l blocks = ap (λ es. sum_by (λ (b : Block). b.size) (values_of es))
 
 pub lives-none : (l : Layout) → l.blocks ≡ (l.keeper, first_region) ∷ [] → lives_of l ≡ []
 lives-none l blocks = ap (λ es. map live_of (others es)) blocks
+
+pub blocks-none : (l : Layout) → l.blocks ≡ (l.keeper, first_region) ∷ [] → blocks_of l ≡ []
+blocks-none l blocks = ap (λ es. map numbered_of (others es)) blocks
 
 module _ (l : Layout) (listed : IsListed l) (number : ℕ) (differs : number ≢ l.keeper) where
   pub find-other : find number (others l.blocks) ≡ block_at l number
@@ -42,12 +50,13 @@ module _ (l : Layout) (listed : IsListed l) (number : ℕ) (differs : number ≢
       ∙ ap (λ t. if t then others l.blocks else (l.keeper, first_region) ∷ without_block (others l.blocks) number) (ne_test number l.keeper differs)
 
   module _ (m : Layout) (same : SameContext l m) where
-    listed_by : (es : List (ℕ × Block)) → m.blocks ≡ (l.keeper, first_region) ∷ es → find l.keeper es ≡ None → IsListed m
-    listed_by es shape alone =
+    listed_by : (es : List (ℕ × Block)) → m.blocks ≡ (l.keeper, first_region) ∷ es → find l.keeper es ≡ None → AreRising 1 m.last_number es → IsListed m
+    listed_by es shape alone numbers =
         let rest : others m.blocks ≡ es = ap others shape in
         record {
           shape = shape ∙ ap (λ k. (k, first_region) ∷ es) (sym same.keeper) ∙ ap (λ xs. (m.keeper, first_region) ∷ xs) (sym rest);
           alone = ap (λ k. find k (others m.blocks)) same.keeper ∙ ap (find l.keeper) rest ∙ alone;
+          rising = rw rest numbers;
         }
 
     module _ (now : Block) (puts : PutsBlock l m number now) where
@@ -55,23 +64,31 @@ module _ (l : Layout) (listed : IsListed l) (number : ℕ) (differs : number ≢
       others-put = ap others (puts.blocks ∙ put_shape now)
 
       -- a block is new, or another one
-      pub IsListed-put : IsListed m
-      IsListed-put = listed_by (with_block (others l.blocks) number now) (puts.blocks ∙ put_shape now) (alone-put number now l.keeper differs (others l.blocks) listed.alone)
+      pub IsListed-put : AreRising 1 m.last_number (with_block (others l.blocks) number now) → IsListed m
+      IsListed-put rising = listed_by (with_block (others l.blocks) number now) (puts.blocks ∙ put_shape now) (alone-put number now l.keeper differs (others l.blocks) listed.alone) rising
+
+      -- it has the next number, or that of the block before
+      pub rising-added : block_at l number ≡ None → now.number ≡ l.last_number + 1 → m.last_number ≡ l.last_number + 1 → AreRising 1 m.last_number (with_block (others l.blocks) number now)
+      rising-added fresh next last = rw last (rising_add 1 l.last_number number now (others l.blocks) (find-other ∙ fresh) (omega arith) next listed.rising)
+
+      pub rising-changed : (b : Block) → block_at l number ≡ Some b → now.number ≡ b.number → m.last_number ≡ l.last_number → AreRising 1 m.last_number (with_block (others l.blocks) number now)
+      rising-changed b found same_number last = rw last (rising_put 1 l.last_number number (others l.blocks) b now listed.rising (find-other ∙ found) same_number)
+
+      -- the blocks by their numbers
+      pub blocks-added : block_at l number ≡ None → blocks_of m ≡ blocks_of l ++ record { number = now.number; live = now.live } ∷ []
+      blocks-added fresh = ap (map numbered_of) (others-put ∙ put-new number now (others l.blocks) (find-other ∙ fresh)) ∙ map_last number now (others l.blocks)
+
+      pub blocks-changed : (b : Block) → block_at l number ≡ Some b → now.number ≡ b.number → blocks_of m ≡ with_live (blocks_of l) b.number now.live
+      blocks-changed b found same_number = ap (map numbered_of) others-put ∙ numbered_put 1 l.last_number number (others l.blocks) b now listed.rising (find-other ∙ found) same_number
 
       -- it is new
       pub lives-added : block_at l number ≡ None → lives_of m ≡ lives_of l ++ now.live ∷ []
       lives-added fresh = ap (map live_of) (others-put ∙ put-new number now (others l.blocks) (find-other ∙ fresh)) ∙ lives-new number now (others l.blocks)
 
-      pub place-added : block_at l number ≡ None → place_in (others m.blocks) number ≡ length (lives_of l)
-      place-added fresh = ap (λ es. place_in es number) (others-put ∙ put-new number now (others l.blocks) (find-other ∙ fresh)) ∙ place-new number now (others l.blocks) (find-other ∙ fresh)
-
       -- it is another one of the same size
       module _ (b : Block) (found : block_at l number ≡ Some b) where
         pub lives-changed : lives_of m ≡ slice_set (lives_of l) (place_in (others l.blocks) number) now.live
         lives-changed = ap (map live_of) others-put ∙ lives-put number now (others l.blocks) b (find-other ∙ found)
-
-        pub place-changed : place_in (others m.blocks) number ≡ place_in (others l.blocks) number
-        place-changed = ap (λ es. place_in es number) others-put ∙ place-kept number now (others l.blocks) b (find-other ∙ found)
 
         pub total-changed : now.size ≡ b.size → total m ≡ total l
         total-changed bytes =
@@ -82,8 +99,11 @@ module _ (l : Layout) (listed : IsListed l) (number : ℕ) (differs : number ≢
 
     -- a block is given back
     module _ (drops : DropsBlock l m number) (b : Block) (found : block_at l number ≡ Some b) where
-      pub IsListed-drop : IsListed m
-      IsListed-drop = listed_by (without_block (others l.blocks) number) (drops.blocks ∙ drop_shape) (alone-drop number l.keeper (others l.blocks) listed.alone)
+      pub IsListed-drop : m.last_number ≡ l.last_number → IsListed m
+      IsListed-drop last = listed_by (without_block (others l.blocks) number) (drops.blocks ∙ drop_shape) (alone-drop number l.keeper (others l.blocks) listed.alone) (rw last (rising_drop 1 l.last_number number (others l.blocks) listed.rising))
+
+      pub blocks-dropped : blocks_of m ≡ without_number (blocks_of l) b.number
+      blocks-dropped = ap (λ es. map numbered_of (others es)) (drops.blocks ∙ drop_shape) ∙ numbered_drop 1 l.last_number number (others l.blocks) b listed.rising (find-other ∙ found)
 
       pub lives-dropped : lives_of m ≡ remove (lives_of l) (place_in (others l.blocks) number)
       lives-dropped = ap (λ es. map live_of (others es)) (drops.blocks ∙ drop_shape) ∙ lives-drop number b (others l.blocks) (find-other ∙ found)
@@ -100,8 +120,9 @@ pub sum-remove : (f : ℕ → ℕ) (xs : List ℕ) (i : ℕ) → i < length xs �
 sum-remove f xs i within = sum_by-remove f xs i 0 within
 
 -- no block changes
-pub IsListed-same : (l m : Layout) → IsListed l → m.keeper ≡ l.keeper → m.blocks ≡ l.blocks → IsListed m
-IsListed-same l m listed keeper blocks = record {
+pub IsListed-same : (l m : Layout) → IsListed l → m.keeper ≡ l.keeper → m.last_number ≡ l.last_number → m.blocks ≡ l.blocks → IsListed m
+IsListed-same l m listed keeper last blocks = record {
   shape = blocks ∙ listed.shape ∙ ap (λ k. (k, first_region) ∷ others l.blocks) (sym keeper) ∙ ap (λ es. (m.keeper, first_region) ∷ others es) (sym blocks);
   alone = ap (λ k. find k (others m.blocks)) keeper ∙ ap (λ es. find l.keeper (others es)) blocks ∙ listed.alone;
+  rising = rw (last, blocks) listed.rising;
 }

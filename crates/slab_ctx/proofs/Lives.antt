@@ -5,9 +5,7 @@ use Rattle.std.specs.Map.{lookup}
 use Rattle.std.proofs.lemmas.Bool.Decides.{nat_tests}
 use Rattle.ctx_blocks.specs.Steps.{with_block, without_block}
 use Rattle.ctx_blocks.specs.declared.parts.Block.{Block}
-use Rattle.slab_ctx.specs.Ledger.{raised}
 use Rattle.slab_ctx.specs.State.{live_of, place_in}
-use Rattle.slab_ctx.specs.Counts.{first_with}
 
 -- the block of a region in a list
 abbrev pub find : ℕ → List (ℕ × Block) → Option Block
@@ -36,16 +34,6 @@ module _ (number : ℕ) (now : Block) where
   lives-put [] b found = absurd (cc)
   lives-put (e ∷ es) b found = put_step e es b (number == e.0) (lives-put es b) found
 
-  kept_step : (e : ℕ × Block) (es : List (ℕ × Block)) (b : Block) (t : Bool) → (number == e.0) ≡ t → (find number es ≡ Some b → place_in (with_block es number now) number ≡ place_in es number) → (if t then Some e.1 else find number es) ≡ Some b
-      → place_in (if t then (e.0, now) ∷ es else e ∷ with_block es number now) number ≡ (if t then 0 else suc (place_in es number))
-  kept_step e es b true is rest found = ap (λ t. if t then 0 else suc (place_in es number)) is
-  kept_step e es b false is rest found = ap (λ t. if t then 0 else suc (place_in (with_block es number now) number)) is ∙ ap suc (rest found)
-
-  -- it keeps its place
-  pub place-kept : (es : List (ℕ × Block)) (b : Block) → find number es ≡ Some b → place_in (with_block es number now) number ≡ place_in es number
-  place-kept [] b found = absurd (cc)
-  place-kept (e ∷ es) b found = kept_step e es b (number == e.0) refl (place-kept es b) found
-
   new_step : (e : ℕ × Block) (es : List (ℕ × Block)) (t : Bool) → (find number es ≡ None → with_block es number now ≡ es ++ (number, now) ∷ []) → (if t then Some e.1 else find number es) ≡ None
       → (if t then (e.0, now) ∷ es else e ∷ with_block es number now) ≡ (e ∷ es) ++ (number, now) ∷ []
   new_step e es true rest none = absurd (cc)
@@ -55,15 +43,6 @@ module _ (number : ℕ) (now : Block) where
   pub put-new : (es : List (ℕ × Block)) → find number es ≡ None → with_block es number now ≡ es ++ (number, now) ∷ []
   put-new [] none = refl
   put-new (e ∷ es) none = new_step e es (number == e.0) (put-new es) none
-
-  place_step : (e : ℕ × Block) (es : List (ℕ × Block)) (t : Bool) → (find number es ≡ None → place_in (es ++ (number, now) ∷ []) number ≡ length (map live_of es)) → (if t then Some e.1 else find number es) ≡ None
-      → (if t then 0 else suc (place_in (es ++ (number, now) ∷ []) number)) ≡ length (map live_of (e ∷ es))
-  place_step e es true rest none = absurd (cc)
-  place_step e es false rest none = ap suc (rest none)
-
-  pub place-new : (es : List (ℕ × Block)) → find number es ≡ None → place_in (es ++ (number, now) ∷ []) number ≡ length (map live_of es)
-  place-new [] none = ap (λ t. if t then 0 else 1) (eq_test number)
-  place-new (e ∷ es) none = place_step e es (number == e.0) (place-new es) none
 
   pub lives-new : (es : List (ℕ × Block)) → map live_of (es ++ (number, now) ∷ []) ≡ map live_of es ++ now.live ∷ []
   lives-new [] = refl
@@ -110,21 +89,6 @@ module _ (number : ℕ) (b : Block) where
   pub lives-drop : (es : List (ℕ × Block)) → find number es ≡ Some b → map live_of (without_block es number) ≡ remove (map live_of es) (place_in es number)
   lives-drop [] found = absurd (cc)
   lives-drop (e ∷ es) found = drop_step e es (number == e.0) (lives-drop es) found
-
-  raised_step : (count : ℕ) (e : ℕ × Block) (es : List (ℕ × Block)) (t u : Bool) → b.live ≡ count → (t ≡ true → e.1.live ≡ count) → (t ≡ false → e.1.live ≢ count) → (u ≡ false → number ≢ e.0)
-      → (first_with count es ≡ Some number → find number es ≡ Some b → slice_set (map live_of es) (place_in es number) (count + 1) ≡ raised count (map live_of es))
-      → (if t then Some e.0 else first_with count es) ≡ Some number → (if u then Some e.1 else find number es) ≡ Some b
-      → slice_set (map live_of (e ∷ es)) (if u then 0 else suc (place_in es number)) (count + 1) ≡ (if t then (e.1.live + 1) ∷ map live_of es else e.1.live ∷ raised count (map live_of es))
-  raised_step count e es true true live same differs apart rest first found = ap (λ n. (n + 1) ∷ map live_of es) (sym (same refl))
-  raised_step count e es true false live same differs apart rest first found = let is : e.0 ≡ number = cc in absurd (apart refl (sym is))
-  raised_step count e es false true live same differs apart rest first found = let is : e.1 ≡ b = cc in absurd (differs refl (ap (λ (x : Block). x.live) is ∙ live))
-  raised_step count e es false false live same differs apart rest first found = ap (λ xs. e.1.live ∷ xs) (rest first found)
-
-  -- the earliest block with so many live chunks has one more
-  pub lives-raised : (count : ℕ) (es : List (ℕ × Block)) → b.live ≡ count → first_with count es ≡ Some number → find number es ≡ Some b → slice_set (map live_of es) (place_in es number) (count + 1) ≡ raised count (map live_of es)
-  lives-raised count [] live first found = absurd (cc)
-  lives-raised count (e ∷ es) live first found =
-      raised_step count e es (e.1.live == count) (number == e.0) live (eq_from e.1.live count) (ne_from e.1.live count) (ne_from number e.0) (lives-raised count es live) first found
 
   head_apart : (key : ℕ) (e : ℕ × Block) (es : List (ℕ × Block)) (t : Bool) → (t ≡ false → key ≢ e.0) → Some e ≡ Some (number, b) → (if t then Some e.1 else find key es) ≡ None → number ≢ key
   head_apart key e es true differs got none = absurd (cc)

@@ -7,7 +7,7 @@ use Rattle.addr_space.specs.declared.Addr.{Addr}
 use Rattle.ctx_blocks.specs.Layout.{Layout, block_at, chunk_at, gap_of, header_room, start_of}
 use Rattle.ctx_blocks.specs.declared.parts.Block.{Block}
 use Rattle.ctx_blocks.specs.declared.parts.Chunk.{Chunk}
-use Rattle.slab_ctx.specs.Ledger.{stride, per_block}
+use Rattle.slab_ctx.specs.Lives.{stride, per_block}
 use Rattle.slab_ctx.specs.Slots.{IsSlot, IsFree, IsFilled, IsSlotted, stack_at, at_offset}
 use Rattle.slab_ctx.proofs.Numbers.{stride-some, stride-whole, per_block-most, per_block-fits, slots_apart}
 use Rattle.addr_space.proofs.Options.{none_or_some}

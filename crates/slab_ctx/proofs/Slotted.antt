@@ -1,5 +1,5 @@
 -- Lemmas on the slots of a Slab's blocks: what holds of them stays when one block changes.
-use Rattle.std.proofs.Common.{◌≡◌, ◌≢◌, ℕ, ◌≤◌, ◌==◌, if◌then◌else◌, true, false, List, [], ◌∷◌, length, Some, None, slice_index, refl, sym, ap, subst, ◌∙◌, inl, inr, arith}
+use Rattle.std.proofs.Common.{◌≡◌, ◌+◌, ◌≢◌, ℕ, ◌≤◌, ◌==◌, if◌then◌else◌, true, false, List, [], ◌∷◌, length, Some, None, slice_index, refl, sym, ap, subst, ◌∙◌, inl, inr, arith}
 use Rattle.std.specs.Global.{Vec}
 use Rattle.std.proofs.lemmas.Bool.{cases_eq}
 use Rattle.addr_space.specs.declared.Addr.{Addr}
@@ -11,7 +11,7 @@ use Rattle.ctx_blocks.specs.Layout.{Layout, block_at, chunk_at}
 use Rattle.ctx_blocks.specs.Steps.{PutsBlock, DropsBlock, SameContext}
 use Rattle.ctx_blocks.specs.declared.parts.Block.{Block}
 use Rattle.ctx_blocks.specs.declared.parts.Chunk.{Chunk}
-use Rattle.slab_ctx.specs.Ledger.{per_block}
+use Rattle.slab_ctx.specs.Lives.{per_block}
 use Rattle.slab_ctx.specs.Slots.{IsSlot, IsFilled, IsSlotted, stack_at, at_offset, chunk_of, first_region}
 use Rattle.addr_space.proofs.Options.{one_value, none_or_some}
 use Rattle.ctx_blocks.proofs.Laid.{block_cases}
@@ -51,6 +51,7 @@ module _ (l m : Layout) (size : ℕ) (s t : List (ℕ × Vec ℕ)) (number : ℕ
   pub IsSlotted-put : (block : Block) → PutsBlock l m number block → IsFilled m size number block (stack_at t number) → IsSlotted m size t
   IsSlotted-put block puts filled = record {
     kind = same.kind ∙ slotted.kind;
+    first = same.first_number ∙ slotted.first;
     least = slotted.least;
     most = slotted.most;
     keeper = elim (block_cases l m number (Some block) puts.at m.keeper) [
@@ -72,6 +73,7 @@ module _ (l m : Layout) (size : ℕ) (s t : List (ℕ × Vec ℕ)) (number : ℕ
   pub IsSlotted-drop : DropsBlock l m number → IsSlotted m size t
   IsSlotted-drop drops = record {
     kind = same.kind ∙ slotted.kind;
+    first = same.first_number ∙ slotted.first;
     least = slotted.least;
     most = slotted.most;
     keeper = elim (block_cases l m number None drops.at m.keeper) [
@@ -88,7 +90,7 @@ module _ (l m : Layout) (size : ℕ) (s t : List (ℕ × Vec ℕ)) (number : ℕ
   }
 
 -- a block is taken
-pub IsSlotted-added : (l m : Layout) (size : ℕ) (s t : List (ℕ × Vec ℕ)) (number : ℕ) (stack : List ℕ) → IsSlotted l size s → SameContext l m → block_at l number ≡ None → PutsBlock l m number (record { size = 8192; room = 8152; live = 0; freed = 0 }) → m.chunks ≡ l.chunks
+pub IsSlotted-added : (l m : Layout) (size : ℕ) (s t : List (ℕ × Vec ℕ)) (number : ℕ) (stack : List ℕ) → IsSlotted l size s → SameContext l m → block_at l number ≡ None → PutsBlock l m number (record { number = l.last_number + 1; size = 8192; room = 8152; live = 0; freed = 0 }) → m.chunks ≡ l.chunks
     → ((other : ℕ) → stack_at t other ≡ (if number == other then stack else stack_at s other)) → length stack ≡ per_block size → IsSlotted m size t
 IsSlotted-added l m size s t number stack slotted same fresh put chunks stacks long =
     let differs : number ≢ l.keeper = λ e. none_or_some (block_at l l.keeper) first_region (sym (ap (block_at l) e) ∙ fresh) slotted.keeper in
@@ -97,7 +99,7 @@ IsSlotted-added l m size s t number stack slotted same fresh put chunks stacks l
     IsSlotted-put l m size s t number slotted same differs (λ at apart. stay at)
     (λ other apart. let test : (number == other) ≡ false = grind (arith, nat_tests) in stacks other ∙ ap (λ b. if b then stack else stack_at s other) test)
     (λ at chunk region found. let was = sym (stay at) ∙ found in (slotted.chunk at chunk was, slotted.slot at chunk was))
-    (record { size = 8192; room = 8152; live = 0; freed = 0 }) put (record {
+    (record { number = l.last_number + 1; size = 8192; room = 8152; live = 0; freed = 0 }) put (record {
       bytes = refl;
       rest = omega arith;
       long = ap length here ∙ long;
@@ -106,12 +108,13 @@ IsSlotted-added l m size s t number stack slotted same fresh put chunks stacks l
     })
 
 -- a context without blocks
-pub IsSlotted-none : (l : Layout) (size : ℕ) (s : List (ℕ × Vec ℕ)) → l.kind ≡ Slab → 1 ≤ size → size ≤ 1024 → l.blocks ≡ (l.keeper, first_region) ∷ [] → l.chunks ≡ [] → IsSlotted l size s
-IsSlotted-none l size s kind least most blocks chunks =
+pub IsSlotted-none : (l : Layout) (size : ℕ) (s : List (ℕ × Vec ℕ)) → l.kind ≡ Slab → l.first_number ≡ 0 → 1 ≤ size → size ≤ 1024 → l.blocks ≡ (l.keeper, first_region) ∷ [] → l.chunks ≡ [] → IsSlotted l size s
+IsSlotted-none l size s kind one least most blocks chunks =
     let none : (at : Addr) (chunk : Chunk) → chunk_at l at ≡ Some chunk → ⊥ = λ at chunk found. none_or_some (chunk_at l at) chunk (ap (λ cs. lookup (same_addr at) cs) chunks) found in
     let keeper : block_at l l.keeper ≡ Some first_region = let test : (l.keeper == l.keeper) ≡ true = grind (arith, nat_tests) in ap (λ es. lookup (λ n. l.keeper == n) es) blocks ∙ ap (λ b. if b then Some first_region else None) test in
     record {
       kind = kind;
+      first = one;
       least = least;
       most = most;
       keeper = keeper;
@@ -131,6 +134,7 @@ IsSlotted-same l m size s same blocks chunks slotted =
     let block = λ (number : ℕ). ap (λ es. lookup (λ n. number == n) es) blocks in
     record {
       kind = same.kind ∙ slotted.kind;
+      first = same.first_number ∙ slotted.first;
       least = slotted.least;
       most = slotted.most;
       keeper = block m.keeper ∙ ap (block_at l) same.keeper ∙ slotted.keeper;

@@ -8,7 +8,7 @@ use Rattle.ctx_blocks.specs.Layout.{Layout, block_at, chunk_at}
 use Rattle.ctx_blocks.specs.Steps.{PutsBlock, PutsChunk, SameContext}
 use Rattle.ctx_blocks.specs.declared.parts.Block.{Block}
 use Rattle.ctx_blocks.specs.declared.parts.Chunk.{Chunk}
-use Rattle.slab_ctx.specs.Ledger.{stride}
+use Rattle.slab_ctx.specs.Lives.{stride}
 use Rattle.slab_ctx.specs.Slots.{IsSlot, IsFree, IsFilled, IsSlotted, stack_at, at_offset, chunk_of}
 use Rattle.slab_ctx.proofs.Numbers.{stride-some, per_block-most}
 use Rattle.addr_space.proofs.Options.{one_value, none_or_some}

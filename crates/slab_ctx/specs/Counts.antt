@@ -1,9 +1,9 @@
 -- How the number of a block's live chunks changes.
 use Rattle.std.specs.Prelude.{◌≡◌, ℕ, ◌-◌, ◌+◌, ◌≤◌, List, [], ◌∷◌, map, Option, Some, None, ◌==◌, if◌then◌else◌}
-use Rattle.slab_ctx.specs.Ledger.{fullest}
+use Rattle.slab_ctx.specs.Lives.{fullest}
 use Rattle.slab_ctx.specs.State.{live_of}
 use Rattle.slab_ctx.specs.declared.books.Best.{Best}
-use Rattle.ctx_blocks.specs.Layout.{Layout}
+use Rattle.ctx_blocks.specs.Layout.{Layout, block_at}
 use Rattle.ctx_blocks.specs.Steps.{PutsBlock}
 use Rattle.ctx_blocks.specs.declared.parts.Block.{Block}
 
@@ -12,6 +12,7 @@ pub record Counts (l m : Layout) (number live : ℕ) : Type 0 where
   pub block : Block
   pub puts : PutsBlock l m number block
   pub count : block.live ≡ live
+  pub same_number : (old : Block) → block_at l number ≡ Some old → block.number ≡ old.number
   pub bytes : block.size ≡ 8192
 
 -- the region of the earliest block of a list with so many live chunks

@@ -2,14 +2,20 @@
 use Rattle.std.specs.Prelude.{◌≡◌, ℕ, ◌+◌, ◌*◌, ◌^◌, ◌≤◌, ◌==◌, ◌∷◌, length, None}
 use Rattle.std.specs.Map.{lookup}
 use Rattle.ctx_blocks.specs.Layout.{Layout, total, bare}
-use Rattle.slab_ctx.specs.Ledger.{SlabLedger, empties, free_chunks}
-use Rattle.slab_ctx.specs.State.{SlabState, others, lives_of}
+use Rattle.ctx_blocks.specs.Kept.{AreRising}
+use Rattle.slab_ctx.specs.Lives.{LiveCounts, empties, free_chunks}
+use Rattle.slab_ctx.specs.Ledger.{SlabLedger}
+use Rattle.slab_ctx.specs.State.{SlabState, others, lives_of, blocks_of}
 use Rattle.slab_ctx.specs.Slots.{HasSlots, first_region}
 use Rattle.slab_ctx.specs.declared.books.Books.{Books}
 
--- the ledger: how many live chunks each block has
+-- how many live chunks each block has
+abbrev pub inner_of : Books → LiveCounts
+inner_of b = record { size = b.slots.size; lives = lives_of b.slots.blocks }
+
+-- the ledger: its blocks are those that there are, by their numbers
 abbrev pub ledger_of : Books → SlabLedger
-ledger_of b = record { size = b.slots.size; lives = lives_of b.slots.blocks }
+ledger_of b = record { size = b.slots.size; count = b.slots.blocks.last_number; blocks = blocks_of b.slots.blocks }
 
 -- the value that contracts see
 abbrev pub state_of : Books → SlabState
@@ -19,13 +25,14 @@ state_of b = record { ledger = ledger_of b; layout = bare b.slots.blocks }
 pub record IsListed (l : Layout) : Type 0 where
   pub shape : l.blocks ≡ (l.keeper, first_region) ∷ others l.blocks
   pub alone : lookup (λ n. l.keeper == n) (others l.blocks) ≡ None
+  pub rising : AreRising 1 l.last_number (others l.blocks)
 
 -- all that the code keeps, but that the books count so many empty blocks too few
 pub record IsKeptBut (b : Books) (few : ℕ) : Type 0 where
   pub slots : HasSlots b.slots
   pub listed : IsListed b.slots.blocks
   pub empty : b.empty + few ≡ empties (lives_of b.slots.blocks)
-  pub free : b.free ≡ free_chunks (ledger_of b)
+  pub free : b.free ≡ free_chunks (inner_of b)
   pub bytes : total b.slots.blocks ≡ 200 + 8192 * length (lives_of b.slots.blocks)
   pub most : total b.slots.blocks ≤ 2 ^ 62
 

@@ -1,14 +1,31 @@
--- The ledger of a Slab: its numbers, without addresses.
-use Rattle.std.specs.Prelude.{ℕ, ◌+◌, ◌-◌, ◌*◌, ◌/◌, ◌==◌, ◌&&◌, ◌++◌, List, [], ◌∷◌, length, nat_lt, nat_le, max, if◌then◌else◌, Option, Some, None, Result, Ok, Err, slice_index, slice_set, remove, sum_by}
+-- The ledger of a Slab: its blocks by their numbers, without a place in a space.
+use Rattle.std.specs.Prelude.{ℕ, ◌+◌, ◌-◌, ◌*◌, ◌/◌, ◌==◌, ◌&&◌, ◌++◌, true, not, List, [], ◌∷◌, length, map, filter, nat_lt, nat_le, if◌then◌else◌, Option, Some, None, Result, Ok, Err, sum_by}
+use Rattle.std.specs.Option.{option_map_or}
+use Rattle.std.specs.List.{find}
 use Rattle.chunk_header.specs.declared.CtxError.{CtxError}
 use Rattle.chunk_header.specs.declared.CtxError.TheVariants.{TooBig, NoSpace, WrongSize, Unsupported}
 use Rattle.chunk_header.specs.declared.Stats.{Stats}
+use Rattle.chunk_header.specs.Answers.{Taken, Resized}
 use Rattle.chunk_header.specs.Growth.{up8}
 
--- the size of all its chunks, and how many live chunks each block has, in the order in which the blocks were taken
+-- a block: its number, and how many live chunks it has
+pub record SlabBlock : Type 0 where
+  pub number : ℕ
+  pub live : ℕ
+
+-- the size of all its chunks; how many blocks were taken since it was created or reset, each of which has its place
+-- in that order as its number; and the blocks, in the order in which they were taken
 pub record SlabLedger : Type 0 where
   pub size : ℕ
-  pub lives : List ℕ
+  pub count : ℕ
+  pub blocks : List SlabBlock
+
+-- a live chunk is in the block of this number
+abbrev pub SlabTaken : Type 0
+SlabTaken = Taken SlabLedger ℕ
+
+abbrev pub SlabResized : Type 0
+SlabResized = Resized SlabLedger ℕ
 
 -- what a chunk takes in a block, with its header
 unfoldable pub stride : ℕ → ℕ
@@ -20,72 +37,93 @@ per_block size = (8192 - 40) / stride size
 
 -- a new context: no block
 unfoldable pub created : ℕ → SlabLedger
-created size = record { size = size; lives = [] }
+created size = record { size = size; count = 0; blocks = [] }
 
--- the greater of two numbers, where there is a second one
-abbrev pub greater : ℕ → Option ℕ → ℕ
-greater live None = live
-greater live (Some other) = max live other
+-- of two blocks the one with more live chunks, and of equal ones the earlier
+abbrev pub fuller : SlabBlock → Option SlabBlock → SlabBlock
+fuller block None = block
+fuller block (Some later) = if nat_lt block.live later.live then later else block
 
--- the greatest number of live chunks that a block has which isn't full, where a block has so many chunks in
--- all: a block with so many live chunks has the fewest free ones, but at least one
-abbrev pub fullest : ℕ → List ℕ → Option ℕ
-fullest per [] = None
-fullest per (live ∷ lives) = if nat_lt live per then Some (greater live (fullest per lives)) else fullest per lives
+-- the block with the fewest free chunks but at least one, where each has so many chunks in all: of equal ones the
+-- one that was taken earliest
+abbrev pub serving : ℕ → List SlabBlock → Option SlabBlock
+serving per [] = None
+serving per (block ∷ blocks) = if nat_lt block.live per then Some (fuller block (serving per blocks)) else serving per blocks
 
--- the earliest block with so many live chunks has one more
-abbrev pub raised : ℕ → List ℕ → List ℕ
-raised count [] = []
-raised count (live ∷ lives) = if live == count then (live + 1) ∷ lives else live ∷ raised count lives
+-- the block of a number has so many live chunks
+abbrev pub set_live : ℕ → ℕ → SlabBlock → SlabBlock
+set_live number live block = if block.number == number then record block { live = live } else block
 
--- a chunk is taken of the earliest block with so many live chunks, or else of a new block, where so much is left
--- of the account
-unfoldable pub serve : SlabLedger → ℕ → Option ℕ → Result SlabLedger CtxError
-serve l left (Some count) = Ok (record l { lives = raised count l.lives })
-serve l left None = if nat_le 8192 left then Ok (record l { lives = l.lives ++ 1 ∷ [] }) else Err NoSpace
+abbrev pub with_live : List SlabBlock → ℕ → ℕ → List SlabBlock
+with_live blocks number live = map (set_live number live) blocks
+
+-- a chunk is taken of a block, or else of a new one, where so much is left of the account
+unfoldable pub serve : SlabLedger → ℕ → Option SlabBlock → Result SlabTaken CtxError
+serve l left (Some block) = Ok (record { ledger = record l { blocks = with_live l.blocks block.number (block.live + 1) }; place = block.number; asked = 0 })
+serve l left None =
+    if nat_le 8192 left
+    then Ok (record {
+      ledger = record l { count = l.count + 1; blocks = l.blocks ++ record { number = l.count + 1; live = 1 } ∷ [] };
+      place = l.count + 1;
+      asked = 8192;
+    })
+    else Err NoSpace
 
 -- a request, where so much is left of the account
-unfoldable pub take : SlabLedger → ℕ → ℕ → Result SlabLedger CtxError
+unfoldable pub take : SlabLedger → ℕ → ℕ → Result SlabTaken CtxError
 take l left size =
     if nat_lt 1073741823 size then Err TooBig
-    else (if l.size == size then serve l left (fullest (per_block l.size) l.lives) else Err WrongSize)
+    else (if l.size == size then serve l left (serving (per_block l.size) l.blocks) else Err WrongSize)
 
 -- how many blocks have no live chunk
 abbrev pub is_empty : ℕ → ℕ
 is_empty live = if live == 0 then 1 else 0
 
-abbrev pub empties : List ℕ → ℕ
-empties lives = sum_by is_empty lives
+abbrev pub empties : List SlabBlock → ℕ
+empties blocks = sum_by (λ b. is_empty b.live) blocks
 
--- the block at a place, which has so many live chunks, has one fewer; it goes back where that was its last one
+-- how many live chunks the block of a number has
+abbrev pub live_in : List SlabBlock → ℕ → ℕ
+live_in blocks number = option_map_or (λ b. b.live) (find (λ b. b.number == number) blocks) 0
+
+-- the blocks without that of a number
+abbrev pub without_number : List SlabBlock → ℕ → List SlabBlock
+without_number blocks number = filter (λ b. not (b.number == number)) blocks
+
+-- the block of a number, which has so many live chunks, has one fewer; it goes back where that was its last one
 -- and ten blocks are empty already
-abbrev pub lowered : List ℕ → ℕ → ℕ → List ℕ
-lowered lives place live =
-    if (live == 1) && nat_le 10 (empties lives) then remove lives place
-    else slice_set lives place (live - 1)
+abbrev pub lowered : List SlabBlock → ℕ → ℕ → List SlabBlock
+lowered blocks number live =
+    if (live == 1) && nat_le 10 (empties blocks) then without_number blocks number
+    else with_live blocks number (live - 1)
 
--- a live chunk of the block at a place is freed
-unfoldable pub freed : SlabLedger → ℕ → SlabLedger
-freed l place = record l { lives = lowered l.lives place (slice_index l.lives place) }
+-- a live chunk of the block of a number is freed
+unfoldable pub give : SlabLedger → ℕ → SlabLedger
+give l number = record l { blocks = lowered l.blocks number (live_in l.blocks number) }
 
 -- a live chunk is to have another size
-unfoldable pub resized : SlabLedger → ℕ → Result SlabLedger CtxError
-resized l size =
+unfoldable pub resize : SlabLedger → ℕ → ℕ → ℕ → ℕ → Result SlabResized CtxError
+resize l held limit place size =
     if nat_lt 1073741823 size then Err TooBig
-    else (if l.size == size then Ok l else Err Unsupported)
+    else (if l.size == size then Ok (record { ledger = l; place = place; asked = 0; stays = true }) else Err Unsupported)
+
+-- all chunks are freed, and all blocks go back
+unfoldable pub reset : SlabLedger → SlabLedger
+reset l = created l.size
+
+-- what a chunk takes in its block, with its header
+abbrev pub chunk_bytes : SlabLedger → ℕ
+chunk_bytes l = stride l.size
 
 -- how many free chunks there are
-abbrev pub free_in : ℕ → ℕ → ℕ
-free_in per live = per - live
-
 unfoldable pub free_chunks : SlabLedger → ℕ
-free_chunks l = sum_by (free_in (per_block l.size)) l.lives
+free_chunks l = sum_by (λ b. per_block l.size - b.live) l.blocks
 
 -- what `stats` answers
 unfoldable pub stats : SlabLedger → Stats
 stats l = record {
-  total = 200 + 8192 * length l.lives;
-  blocks = length l.lives;
+  total = 200 + 8192 * length l.blocks;
+  blocks = length l.blocks;
   free = stride l.size * free_chunks l;
   chunks = free_chunks l;
 }

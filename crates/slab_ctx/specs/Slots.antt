@@ -7,12 +7,12 @@ use Rattle.chunk_header.specs.declared.Kind.TheVariants.{Slab}
 use Rattle.ctx_blocks.specs.Layout.{Layout, block_at, chunk_at}
 use Rattle.ctx_blocks.specs.declared.parts.Block.{Block}
 use Rattle.ctx_blocks.specs.declared.parts.Chunk.{Chunk}
-use Rattle.slab_ctx.specs.Ledger.{stride, per_block}
+use Rattle.slab_ctx.specs.Lives.{stride, per_block}
 use Rattle.slab_ctx.specs.declared.slots.Slots.{Slots}
 
 -- the first region, which has no room for a block
 abbrev pub first_region : Block
-first_region = record { size = 200; room = 0; live = 0; freed = 0 }
+first_region = record { number = 0; size = 200; room = 0; live = 0; freed = 0 }
 
 -- every live chunk
 abbrev pub chunk_of : ℕ → Chunk
@@ -52,6 +52,7 @@ pub record IsFilled (l : Layout) (size number : ℕ) (block : Block) (stack : Li
 -- the blocks and live chunks of a Slab with chunks of a size, and its stacks
 pub record IsSlotted (l : Layout) (size : ℕ) (stacks : List (ℕ × Vec ℕ)) : Type 0 where
   pub kind : l.kind ≡ Slab
+  pub first : l.first_number ≡ 0
   pub least : 1 ≤ size
   pub most : size ≤ 1024
   pub keeper : block_at l l.keeper ≡ Some first_region

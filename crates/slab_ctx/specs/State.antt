@@ -1,11 +1,12 @@
 -- What contracts see of a Slab: its ledger, and where its blocks and chunks are.
-use Rattle.std.specs.Prelude.{ℕ, suc, ◌+◌, ◌-◌, ◌%◌, ◌==◌, ◌&&◌, Bool, List, [], ◌∷◌, Option, Some, None, map, nat_le, if◌then◌else◌}
+use Rattle.std.specs.Prelude.{ℕ, suc, ◌+◌, ◌-◌, ◌%◌, ◌==◌, ◌&&◌, Bool, List, [], ◌∷◌, Option, Some, None, option_map, option_and_then, map, nat_le, if◌then◌else◌}
 use Rattle.addr_space.specs.declared.Addr.{Addr}
 use Rattle.addr_space.specs.Footprint.{Footprint}
 use Rattle.ctx_blocks.specs.Layout.{Layout, block_at, chunk_at, footprint as footprint_of}
+use Rattle.ctx_blocks.specs.Numbered.{number_of}
 use Rattle.ctx_blocks.specs.declared.parts.Block.{Block}
 use Rattle.ctx_blocks.specs.declared.parts.Chunk.{Chunk}
-use Rattle.slab_ctx.specs.Ledger.{SlabLedger, stride}
+use Rattle.slab_ctx.specs.Ledger.{SlabLedger, SlabBlock, stride}
 
 -- the ledger, and the blocks and live chunks
 pub record SlabState : Type 0 where
@@ -16,6 +17,21 @@ pub record SlabState : Type 0 where
 abbrev pub others : List (ℕ × Block) → List (ℕ × Block)
 others [] = []
 others (e ∷ es) = es
+
+-- each of them by its number, with its live chunks
+abbrev pub numbered_of : ℕ × Block → SlabBlock
+numbered_of e = record { number = e.1.number; live = e.1.live }
+
+abbrev pub blocks_of : Layout → List SlabBlock
+blocks_of l = map numbered_of (others l.blocks)
+
+-- the place of a chunk: the number of its block
+abbrev pub place : ℕ → Chunk → ℕ
+place number chunk = number
+
+-- the place of the live chunk at an address
+abbrev pub place_at : SlabState → Addr → Option ℕ
+place_at s at = option_map (place (number_of s.layout at.region)) (chunk_at s.layout at)
 
 -- how many live chunks each of them has
 abbrev pub live_of : ℕ × Block → ℕ
@@ -52,3 +68,7 @@ free_at size l at = if l.keeper == at.region then None else free_block size at.o
 -- what the context has in a space
 abbrev pub footprint : SlabState → Footprint
 footprint s = record (footprint_of s.layout) { free = free_at s.ledger.size s.layout }
+
+-- the block in a region, by its number, with its live chunks
+abbrev pub serving_block : Layout → Option ℕ → Option SlabBlock
+serving_block l region = option_and_then (λ r. option_map (λ b. record { number = b.number; live = b.live }) (block_at l r)) region

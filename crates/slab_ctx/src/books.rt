@@ -1,14 +1,17 @@
 //! The books of a Slab: its blocks, and how many free chunks and empty blocks there are.
-ghost use Rattle.std.specs.Prelude.{◌≡◌, ◌≢◌, ℕ, ◌+◌, ◌-◌, ◌*◌, ◌^◌, ◌<◌, ◌≤◌, ◌↔◌, ◌⊎◌, ◌==◌, ◌&&◌, ◌++◌, Ok, Err, Some, None, IsSome, IfOk, IfErr, OnOk, OnErr, IfSome, IfNone, if◌then◌else◌, nat_le, length, [], ◌∷◌, slice_set, remove};
+ghost use Rattle.std.specs.Prelude.{◌≡◌, ◌≢◌, ℕ, ◌+◌, ◌-◌, ◌*◌, ◌^◌, ◌<◌, ◌≤◌, ◌↔◌, ◌⊎◌, ◌==◌, ◌&&◌, ◌++◌, Ok, Err, Some, None, IsSome, IfOk, IfErr, OnOk, OnErr, IfSome, IfNone, if◌then◌else◌, nat_le, length, [], ◌∷◌};
 ghost use Rattle.addr_space.specs.declared.Addr.{Addr};
-ghost use Rattle.addr_space.specs.Space.{Space, accounts, held};
+ghost use Rattle.addr_space.specs.Space.{Space, Asks, accounts, held};
 ghost use Rattle.addr_space.specs.Footprint.{Agrees, Moves, Keeps, nothing};
-ghost use Rattle.chunk_header.specs.Header.{AllHeaded, TakesSpace};
+ghost use Rattle.chunk_header.specs.Header.{AllHeaded, AllOfKind, TakesSpace};
 ghost use Rattle.ctx_blocks.specs.declared.parts.Block.{Block};
 ghost use Rattle.ctx_blocks.specs.Layout.{Layout, block_at, chunk_at, footprint as blocks_footprint};
 ghost use Rattle.ctx_blocks.specs.Steps.{PutsChunk, SameContext};
-ghost use Rattle.slab_ctx.specs.Ledger.{stride, per_block, created, fullest, is_empty, serve, take, freed, resized, stats};
-ghost use Rattle.slab_ctx.specs.State.{footprint, lives_of, others, place_in, place_of};
+ghost use Rattle.slab_ctx.specs.Ledger.{SlabBlock, stride, per_block, created, serving, is_empty, with_live, without_number, serve, take, give, resize, reset, stats};
+ghost use Rattle.slab_ctx.specs.Lives.{fullest};
+ghost use Rattle.slab_ctx.specs.State.{footprint, lives_of, blocks_of, serving_block};
+ghost use Rattle.ctx_blocks.specs.Numbered.{number_of, AreAmong};
+ghost use Rattle.chunk_header.specs.declared.Kind.TheVariants.{Slab};
 ghost use Rattle.slab_ctx.specs.Slots.{chunk_of};
 ghost use Rattle.slab_ctx.specs.Steps.{IsSeen, IsNext};
 
@@ -59,8 +62,7 @@ fn one_if_empty(live: u32) -> u64
 
 impl Books {
     ghost use Rattle.slab_ctx.specs.Kept.{ledger_of, state_of, IsKept, IsKeptBut};
-    ghost use Rattle.addr_space.specs.Live.{PutsLive};
-    ghost use Rattle.slab_ctx.specs.Steps.{IsChosen, Allocates};
+    ghost use Rattle.slab_ctx.specs.Steps.{IsChosen, Serves};
 
     // The books of a new context, whose first region was taken.
     pub fn create(
@@ -74,29 +76,28 @@ impl Books {
         requires least { 1 ≤ size }
         requires most { size ≤ 1024 }
         ensures kept { IfOk result IsKept }
-        ensures ledger { IfOk result (λ b. (state_of b).ledger ≡ created size) }
+        ensures ledger { IfOk result (λ b. ledger_of b ≡ created size) }
         ensures account { IfOk result (λ b. (state_of b).layout.account ≡ account) }
         ensures context { IfOk result (λ b. (footprint (state_of b)).context ≡ context) }
-        ensures live { IfOk result (λ b. (at : Addr) → (footprint (state_of b)).live at ≡ None) }
+        ensures chunks { IfOk result (λ b. b.slots.blocks.chunks ≡ []) }
+        ensures asked { OnOk result (Asks account 200 space.old space.new) }
         ensures moves { IfOk result (λ b. Moves (nothing account context) (footprint (state_of b)) space.old space.new) }
         ensures no_space { (result ≡ Err CtxError.NoSpace) ↔ (space.old.limit < held space.old account + 200) }
         ensures no_other { IfErr result (λ e. (e ≡ CtxError.NoSpace) ⊎ (e ≡ CtxError.Memory)) }
         ensures err { OnErr result (space.new ≡ space.old) }
     {
-        match Slots::create(alloc, space, account, context, size) {
-            Ok(slots) => Ok(Books {
-                slots,
-                empty: 0,
-                free: 0,
-            }),
-            Err(error) => Err(error),
-        }
+        let slots = Slots::create(alloc, space, account, context, size)?;
+        Ok(Books {
+            slots,
+            empty: 0,
+            free: 0,
+        })
     }
 
     // What the books say.
     pub fn stats(&self) -> Stats
         requires { IsKept self.now }
-        ensures { result ≡ stats (state_of self.now).ledger }
+        ensures { result ≡ stats (ledger_of self.now) }
     {
         Stats {
             total: self.slots.blocks.total(),
@@ -110,6 +111,7 @@ impl Books {
     pub fn headed(&self)
         requires { IsKept self.now }
         ensures headed { AllHeaded (footprint (state_of self.now)) }
+        ensures kinds { AllOfKind Slab (footprint (state_of self.now)) }
         ensures spaces { (at : Addr) (size : ℕ) → (footprint (state_of self.now)).live at ≡ Some size → TakesSpace (footprint (state_of self.now)) at (stride self.now.slots.size) }
     {
         self.slots.blocks.headed();
@@ -120,6 +122,7 @@ impl Books {
         requires { IsKept self.now }
         ensures none { IfNone result (fullest (per_block self.now.slots.size) (lives_of self.now.slots.blocks) ≡ None) }
         ensures some { IfSome result (λ number. IsChosen self.now.slots.blocks (per_block self.now.slots.size) number) }
+        ensures serving { serving (per_block self.now.slots.size) (blocks_of self.now.slots.blocks) ≡ serving_block self.now.slots.blocks result }
     {
         let per_block = per_block(self.slots.size);
         let mut best = Best {
@@ -142,7 +145,12 @@ impl Books {
         requires spare { 1 ≤ self.old.slots.blocks.spare_chunks }
         ensures kept { IsKept self.new }
         ensures size { self.new.slots.size ≡ self.old.slots.size }
-        ensures lives { (b : Block) → block_at self.old.slots.blocks number ≡ Some b → lives_of self.new.slots.blocks ≡ slice_set (lives_of self.old.slots.blocks) (place_in (others self.old.slots.blocks.blocks) number) (b.live + 1) }
+        ensures blocks { (b : Block) → block_at self.old.slots.blocks number ≡ Some b → blocks_of self.new.slots.blocks ≡ with_live (blocks_of self.old.slots.blocks) b.number (b.live + 1) }
+        ensures number { number_of self.new.slots.blocks result.region ≡ number_of self.old.slots.blocks number }
+        ensures among { AreAmong self.new.slots.blocks self.old.slots.blocks }
+        ensures last { self.new.slots.blocks.last_number ≡ self.old.slots.blocks.last_number }
+        ensures account { self.new.slots.blocks.account ≡ self.old.slots.blocks.account }
+        ensures asked { space.new.taken ≡ space.old.taken }
         ensures fresh { chunk_at self.old.slots.blocks result ≡ None }
         ensures chunk { PutsChunk self.old.slots.blocks self.new.slots.blocks result (Some (chunk_of self.old.slots.size)) }
         ensures moves { Moves (blocks_footprint self.old.slots.blocks) (blocks_footprint self.new.slots.blocks) space.old space.new }
@@ -160,9 +168,11 @@ impl Books {
         requires spare { 1 ≤ self.old.slots.blocks.spare_blocks }
         ensures kept { IsKept self.new }
         ensures size { self.new.slots.size ≡ self.old.slots.size }
-        ensures lives { OnOk result (lives_of self.new.slots.blocks ≡ lives_of self.old.slots.blocks ++ 0 ∷ []) }
-        ensures place { IfOk result (λ number. place_in (others self.new.slots.blocks.blocks) number ≡ length (lives_of self.old.slots.blocks)) }
-        ensures block { IfOk result (λ number. block_at self.new.slots.blocks number ≡ Some (record { size = 8192; room = 8152; live = 0; freed = 0 })) }
+        ensures blocks { OnOk result (blocks_of self.new.slots.blocks ≡ blocks_of self.old.slots.blocks ++ record { number = self.old.slots.blocks.last_number + 1; live = 0 } ∷ []) }
+        ensures last { OnOk result (self.new.slots.blocks.last_number ≡ self.old.slots.blocks.last_number + 1) }
+        ensures among { OnOk result (AreAmong self.old.slots.blocks self.new.slots.blocks) }
+        ensures asked { OnOk result (Asks self.old.slots.blocks.account 8192 space.old space.new) }
+        ensures block { IfOk result (λ number. block_at self.new.slots.blocks number ≡ Some (record { number = self.old.slots.blocks.last_number + 1; size = 8192; room = 8152; live = 0; freed = 0 })) }
         ensures not_keeper { IfOk result (λ number. number ≢ self.new.slots.blocks.keeper) }
         ensures chunks { OnOk result (self.new.slots.blocks.chunks ≡ self.old.slots.blocks.chunks) }
         ensures spare { OnOk result (self.new.slots.blocks.spare_chunks ≡ self.old.slots.blocks.spare_chunks) }
@@ -174,10 +184,7 @@ impl Books {
         ensures err { OnErr result (self.new.slots.blocks ≡ self.old.slots.blocks) }
         ensures err_space { OnErr result (space.new ≡ space.old) }
     {
-        let number = match self.slots.add(space) {
-            Ok(number) => number,
-            Err(error) => return Err(error),
-        };
+        let number = self.slots.add(space)?;
         self.empty += 1;
         self.free += u64::from(per_block(self.slots.size));
         Ok(number)
@@ -201,8 +208,8 @@ impl Books {
         requires agrees { Agrees (footprint (state_of self.old)) space.old }
         requires spare_blocks { 1 ≤ self.old.slots.blocks.spare_blocks }
         requires spare_chunks { 1 ≤ self.old.slots.blocks.spare_chunks }
-        ensures ok { IfOk result (λ at. Allocates (state_of self.old) self.new space.old space.new self.old.slots.size at (serve (state_of self.old).ledger (space.old.limit - held space.old (state_of self.old).layout.account) (fullest (per_block self.old.slots.size) (state_of self.old).ledger.lives))) }
-        ensures no_space { result ≡ Err CtxError.NoSpace → serve (state_of self.old).ledger (space.old.limit - held space.old (state_of self.old).layout.account) (fullest (per_block self.old.slots.size) (state_of self.old).ledger.lives) ≡ Err CtxError.NoSpace }
+        ensures ok { IfOk result (λ at. Serves (state_of self.old) self.new space.old space.new at (serve (ledger_of self.old) (space.old.limit - held space.old self.old.slots.blocks.account) (serving (per_block self.old.slots.size) (blocks_of self.old.slots.blocks)))) }
+        ensures no_space { result ≡ Err CtxError.NoSpace → serve (ledger_of self.old) (space.old.limit - held space.old self.old.slots.blocks.account) (serving (per_block self.old.slots.size) (blocks_of self.old.slots.blocks)) ≡ Err CtxError.NoSpace }
         ensures no_other { IfErr result (λ e. (e ≡ CtxError.NoSpace) ⊎ (e ≡ CtxError.Memory)) }
         ensures err_state { OnErr result (state_of self.new ≡ state_of self.old) }
         ensures err_kept { OnErr result (IsKept self.new) }
@@ -211,20 +218,19 @@ impl Books {
         if let Some(number) = self.fullest() {
             return Ok(self.take(space, number));
         }
-        match self.add(space) {
-            Ok(number) => Ok(self.take(space, number)),
-            Err(error) => Err(error),
-        }
+        let number = self.add(space)?;
+        Ok(self.take(space, number))
     }
 
     // Serves a request.
     pub fn alloc(&mut self, space: &mut Space, size: u64) -> Result<Addr, CtxError>
         requires kept { IsKept self.old }
         requires agrees { Agrees (footprint (state_of self.old)) space.old }
-        ensures ok { IfOk result (λ at. Allocates (state_of self.old) self.new space.old space.new size at (take (state_of self.old).ledger (space.old.limit - held space.old (state_of self.old).layout.account) size)) }
+        ensures ok { IfOk result (λ at. Serves (state_of self.old) self.new space.old space.new at (take (ledger_of self.old) (space.old.limit - held space.old self.old.slots.blocks.account) size)) }
+        ensures size { OnOk result (size ≡ self.old.slots.size) }
         ensures too_big { (result ≡ Err CtxError.TooBig) ↔ (1073741823 < size) }
-        ensures wrong_size { (result ≡ Err CtxError.WrongSize) ↔ (take (state_of self.old).ledger (space.old.limit - held space.old (state_of self.old).layout.account) size ≡ Err CtxError.WrongSize) }
-        ensures no_space { result ≡ Err CtxError.NoSpace → take (state_of self.old).ledger (space.old.limit - held space.old (state_of self.old).layout.account) size ≡ Err CtxError.NoSpace }
+        ensures wrong_size { (result ≡ Err CtxError.WrongSize) ↔ (take (ledger_of self.old) (space.old.limit - held space.old self.old.slots.blocks.account) size ≡ Err CtxError.WrongSize) }
+        ensures no_space { result ≡ Err CtxError.NoSpace → take (ledger_of self.old) (space.old.limit - held space.old self.old.slots.blocks.account) size ≡ Err CtxError.NoSpace }
         ensures no_other { IfErr result (λ e. (e ≡ CtxError.TooBig) ⊎ ((e ≡ CtxError.WrongSize) ⊎ ((e ≡ CtxError.NoSpace) ⊎ (e ≡ CtxError.Memory)))) }
         ensures err_state { OnErr result (state_of self.new ≡ state_of self.old) }
         ensures err_kept { OnErr result (IsKept self.new) }
@@ -236,10 +242,8 @@ impl Books {
         if size != u64::from(self.slots.size) {
             return Err(CtxError::WrongSize);
         }
-        match self.make_room() {
-            Ok(()) => self.serve(space),
-            Err(error) => Err(error),
-        }
+        self.make_room()?;
+        self.serve(space)
     }
 
     // Gives a block back, where it has no live chunk and enough others are empty.
@@ -249,7 +253,10 @@ impl Books {
         requires not_keeper { number ≢ self.old.slots.blocks.keeper }
         ensures kept { IsKept self.new }
         ensures size { self.new.slots.size ≡ self.old.slots.size }
-        ensures lives { (b : Block) → block_at self.old.slots.blocks number ≡ Some b → lives_of self.new.slots.blocks ≡ (if (b.live == 0) && nat_le 10 self.old.empty then remove (lives_of self.old.slots.blocks) (place_in (others self.old.slots.blocks.blocks) number) else lives_of self.old.slots.blocks) }
+        ensures blocks { (b : Block) → block_at self.old.slots.blocks number ≡ Some b → blocks_of self.new.slots.blocks ≡ (if (b.live == 0) && nat_le 10 self.old.empty then without_number (blocks_of self.old.slots.blocks) b.number else blocks_of self.old.slots.blocks) }
+        ensures last { self.new.slots.blocks.last_number ≡ self.old.slots.blocks.last_number }
+        ensures among { AreAmong self.new.slots.blocks self.old.slots.blocks }
+        ensures asked { space.new.taken ≡ space.old.taken }
         ensures chunks { self.new.slots.blocks.chunks ≡ self.old.slots.blocks.chunks }
         ensures moves { Moves (blocks_footprint self.old.slots.blocks) (blocks_footprint self.new.slots.blocks) space.old space.new }
         ensures keeps { Keeps (blocks_footprint self.old.slots.blocks) (blocks_footprint self.new.slots.blocks) space.old space.new }
@@ -271,8 +278,10 @@ impl Books {
         requires agrees { Agrees (footprint (state_of self.old)) space.old }
         requires live { IsSome ((footprint (state_of self.old)).live at) }
         ensures kept { IsKept self.new }
-        ensures ledger { (state_of self.new).ledger ≡ freed (state_of self.old).ledger (place_of (state_of self.old) at.region) }
-        ensures live { PutsLive (footprint (state_of self.old)) (footprint (state_of self.new)) at None }
+        ensures ledger { ledger_of self.new ≡ give (ledger_of self.old) (number_of self.old.slots.blocks at.region) }
+        ensures chunk { PutsChunk self.old.slots.blocks self.new.slots.blocks at None }
+        ensures among { AreAmong self.new.slots.blocks self.old.slots.blocks }
+        ensures asked { space.new.taken ≡ space.old.taken }
         ensures moves { Moves (footprint (state_of self.old)) (footprint (state_of self.new)) space.old space.new }
         ensures keeps { Keeps (footprint (state_of self.old)) (footprint (state_of self.new)) space.old space.new }
     {
@@ -283,13 +292,10 @@ impl Books {
 
     // Answers a request for another size of a live chunk.
     pub fn realloc(&self, at: Addr, size: u64) -> Result<Addr, CtxError>
-        requires kept { IsKept self.now }
-        requires live { IsSome ((footprint (state_of self.now)).live at) }
-        ensures ledger { OnOk result (resized (state_of self.now).ledger size ≡ Ok (state_of self.now).ledger) }
-        ensures place { IfOk result (λ to. to ≡ at) }
-        ensures live { IfOk result (λ to. (footprint (state_of self.now)).live to ≡ Some size) }
+        ensures size { OnOk result ((size ≡ self.now.slots.size) × (size ≤ 1073741823)) }
+        ensures at { IfOk result (λ to. to ≡ at) }
         ensures too_big { (result ≡ Err CtxError.TooBig) ↔ (1073741823 < size) }
-        ensures unsupported { (result ≡ Err CtxError.Unsupported) ↔ (resized (state_of self.now).ledger size ≡ Err CtxError.Unsupported) }
+        ensures unsupported { (held limit place : ℕ) → (result ≡ Err CtxError.Unsupported) ↔ (resize (ledger_of self.now) held limit place size ≡ Err CtxError.Unsupported) }
         ensures no_other { IfErr result (λ e. (e ≡ CtxError.TooBig) ⊎ (e ≡ CtxError.Unsupported)) }
     {
         if size > LARGEST {
@@ -306,10 +312,11 @@ impl Books {
         requires kept { IsKept self.old }
         requires agrees { Agrees (footprint (state_of self.old)) space.old }
         ensures kept { IsKept self.new }
-        ensures ledger { (state_of self.new).ledger ≡ created (state_of self.old).ledger.size }
+        ensures ledger { ledger_of self.new ≡ reset (ledger_of self.old) }
         ensures account { (state_of self.new).layout.account ≡ (state_of self.old).layout.account }
         ensures context { (footprint (state_of self.new)).context ≡ (footprint (state_of self.old)).context }
-        ensures live { (at : Addr) → (footprint (state_of self.new)).live at ≡ None }
+        ensures chunks { self.new.slots.blocks.chunks ≡ [] }
+        ensures asked { space.new.taken ≡ space.old.taken }
         ensures moves { Moves (footprint (state_of self.old)) (footprint (state_of self.new)) space.old space.new }
     {
         self.slots.reset(space);
@@ -321,7 +328,8 @@ impl Books {
     pub fn discard(self, space: &mut Space)
         requires kept { IsKept self }
         requires agrees { Agrees (footprint (state_of self)) space.old }
-        ensures { Moves (footprint (state_of self)) (nothing (state_of self).layout.account (footprint (state_of self)).context) space.old space.new }
+        ensures moves { Moves (footprint (state_of self)) (nothing (state_of self).layout.account (footprint (state_of self)).context) space.old space.new }
+        ensures asked { space.new.taken ≡ space.old.taken }
     {
         let Books {
             slots,

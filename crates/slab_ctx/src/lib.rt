@@ -3,7 +3,7 @@
 
 ghost use Rattle.std.specs.Prelude.{◌≡◌, ℕ, ◌+◌, ◌-◌, ◌<◌, ◌≤◌, ◌↔◌, ◌⊎◌, Ok, Err, None, Some, IsSome, IfOk, IfErr, IfSome, OnOk, OnErr};
 ghost use Rattle.addr_space.specs.declared.Addr.{Addr};
-ghost use Rattle.slab_ctx.specs.Ledger.{stride, stats, take, resized};
+ghost use Rattle.slab_ctx.specs.Ledger.{stats, take, give, reset, chunk_bytes};
 
 mod books;
 mod slots;
@@ -14,8 +14,9 @@ use chunk_header::{CtxError, Stats};
 use std::alloc::Global;
 use std::marker::Model;
 
-/// A context whose chunks all have one size. It begins with a region of 200 bytes that has no chunk, and takes
-/// blocks of 8,192 bytes.
+/// A context whose chunks all have one size: PostgreSQL's `SlabContext` (slab.c). It begins with a region of 200 bytes
+/// that has no chunk, and takes blocks of 8,192 bytes. Each request is served from the block with the fewest free
+/// chunks but at least one, the one taken earliest of such.
 #[derive(Drop)]
 pub struct SlabCtx {
     books: Books,
@@ -34,15 +35,17 @@ impl Model for SlabCtx {
 }
 
 impl SlabCtx {
-    ghost use Rattle.addr_space.specs.Space.{accounts, held, IsKnown};
-    ghost use Rattle.addr_space.specs.Footprint.{nothing, Agrees, Moves, Keeps};
-    ghost use Rattle.chunk_header.specs.Header.{AllHeaded, TakesSpace};
-    ghost use Rattle.slab_ctx.specs.State.{footprint, place_of};
-    ghost use Rattle.slab_ctx.specs.Ledger.{created, freed};
-    ghost use Rattle.addr_space.specs.Live.{PutsLive};
+    ghost use Rattle.addr_space.specs.Space.{accounts, held, Asks, IsKnown};
+    ghost use Rattle.addr_space.specs.Footprint.{nothing, Agrees, Moves, Keeps, KeepsBut};
+    ghost use Rattle.addr_space.specs.Live.{PutsAt, PutsLive, MovesLive, HasBytesOf};
+    ghost use Rattle.chunk_header.specs.declared.Kind.TheVariants.{Slab};
+    ghost use Rattle.chunk_header.specs.Header.{AllHeaded, AllOfKind, TakesSpace};
+    ghost use Rattle.slab_ctx.specs.Ledger.{created};
+    ghost use Rattle.slab_ctx.specs.State.{place_at, footprint};
+    ghost use Rattle.slab_ctx.specs.Calls.{Takes, Resizes, resize_in};
 
-    /// A context without blocks, for an account of the space. Each of its chunks has `size` bytes, and `context`
-    /// is the number that its blocks keep.
+    /// A context without blocks, for an account of the space: `SlabContextCreate`. Each of its chunks has `size`
+    /// bytes, and `context` is the number that its blocks keep.
     ///
     /// `NoSpace` comes where the first region doesn't fit, and before `Memory`. A refused call changes nothing.
     pub fn create(
@@ -56,23 +59,25 @@ impl SlabCtx {
         requires least { 1 ≤ size }
         requires most { size ≤ 1024 }
         ensures ledger { IfOk result (λ a. a.ledger ≡ created size) }
-        ensures account { IfOk result (λ a. a.layout.account ≡ account) }
+        ensures account { IfOk result (λ a. (footprint a).account ≡ account) }
         ensures context { IfOk result (λ a. (footprint a).context ≡ context) }
+        ensures place { IfOk result (λ a. (at : Addr) → place_at a at ≡ None) }
         ensures live { IfOk result (λ a. (at : Addr) → (footprint a).live at ≡ None) }
         ensures moves { IfOk result (λ a. Moves (nothing account context) (footprint a) space.old space.new) }
+        ensures asked { OnOk result (Asks account 200 space.old space.new) }
         ensures no_space { (result ≡ Err CtxError.NoSpace) ↔ (space.old.limit < held space.old account + 200) }
         ensures no_other { IfErr result (λ e. (e ≡ CtxError.NoSpace) ⊎ (e ≡ CtxError.Memory)) }
-        ensures err { OnErr result (space.new ≡ space.old) }
+        ensures err_space { OnErr result (space.new ≡ space.old) }
     {
-        match Books::create(alloc, space, account, context, size) {
-            Ok(books) => Ok(SlabCtx { books }),
-            Err(error) => Err(error),
-        }
+        let books = Books::create(alloc, space, account, context, size)?;
+        Ok(SlabCtx { books })
     }
 
-    /// What the context holds.
+    /// What the context holds: `chunks` are the free chunks of all blocks, and `free` their bytes with their headers
+    /// (`SlabStats`).
     pub fn stats(&self) -> Stats
-        ensures { result ≡ stats self.now.ledger }
+        ensures stats { result ≡ stats self.now.ledger }
+        ensures total { (footprint self.now).total ≡ result.total }
     {
         self.books.stats()
     }
@@ -81,27 +86,27 @@ impl SlabCtx {
     /// caller cites the clauses.
     pub fn headed(&self)
         ensures headed { AllHeaded (footprint self.now) }
-        ensures spaces { (at : Addr) (size : ℕ) → (footprint self.now).live at ≡ Some size → TakesSpace (footprint self.now) at (stride self.now.ledger.size) }
+        ensures kinds { AllOfKind Slab (footprint self.now) }
+        ensures spaces { (at : Addr) (size : ℕ) → (footprint self.now).live at ≡ Some size → TakesSpace (footprint self.now) at (chunk_bytes self.now.ledger) }
     {
         self.books.headed();
     }
 
-    /// Takes a chunk of `size` bytes, which must be the size of the context's chunks, and answers its address. No
-    /// byte of it is known.
+    /// Takes a chunk of `size` bytes, which must be the size of the context's chunks, and answers its address:
+    /// `SlabAlloc`.
     ///
-    /// `TooBig`, where `size` is over 1,073,741,823, `WrongSize`, `NoSpace` and `Memory` are tried in this order.
-    /// A refused call changes nothing.
+    /// `TooBig`, `WrongSize`, `NoSpace` and `Memory` are tried in this order. A refused call changes nothing.
     pub fn alloc(&mut self, space: &mut Space, size: u64) -> Result<Addr, CtxError>
         requires { Agrees (footprint self.old) space.old }
 
-        // The ledger makes its step for the request, with what is left of the account.
-        ensures ledger { OnOk result (take self.old.ledger (space.old.limit - held space.old self.old.layout.account) size ≡ Ok self.new.ledger) }
+        // The ledger makes its step for the request.
+        ensures taken { IfOk result (λ at. Takes self.old self.new (space.old.limit - held space.old self.old.layout.account) size at space.old space.new) }
 
         // The chunk was not live, and every other chunk stays.
         ensures fresh { IfOk result (λ at. (footprint self.old).live at ≡ None) }
         ensures live { IfOk result (λ at. PutsLive (footprint self.old) (footprint self.new) at (Some size)) }
-        ensures moves { OnOk result (Moves (footprint self.old) (footprint self.new) space.old space.new) }
-        ensures keeps { OnOk result (Keeps (footprint self.old) (footprint self.new) space.old space.new) }
+        ensures moves { Moves (footprint self.old) (footprint self.new) space.old space.new }
+        ensures keeps { Keeps (footprint self.old) (footprint self.new) space.old space.new }
 
         ensures too_big { (result ≡ Err CtxError.TooBig) ↔ (1073741823 < size) }
         ensures wrong_size { (result ≡ Err CtxError.WrongSize) ↔ (take self.old.ledger (space.old.limit - held space.old self.old.layout.account) size ≡ Err CtxError.WrongSize) }
@@ -113,23 +118,25 @@ impl SlabCtx {
         self.books.alloc(space, size)
     }
 
-    /// Frees a live chunk. It never refuses, and takes no memory: another request may have the chunk again, and a
-    /// block whose last chunk it was goes back to the space where ten others are empty.
+    /// Frees a live chunk: `SlabFree`. It never refuses, and takes no memory: another request may have the chunk
+    /// again, and a block whose last chunk it was goes back to the space where ten others are empty.
     pub fn free(&mut self, space: &mut Space, at: Addr) -> Result<(), CtxError>
         requires agrees { Agrees (footprint self.old) space.old }
         requires live { IsSome ((footprint self.old).live at) }
         ensures ok { result ≡ Ok tt }
-        ensures ledger { self.new.ledger ≡ freed self.old.ledger (place_of self.old at.region) }
+        ensures ledger { IfSome (place_at self.old at) (λ place. self.new.ledger ≡ give self.old.ledger place) }
+        ensures place { PutsAt (place_at self.old) (place_at self.new) at None }
         ensures live { PutsLive (footprint self.old) (footprint self.new) at None }
         ensures moves { Moves (footprint self.old) (footprint self.new) space.old space.new }
         ensures keeps { Keeps (footprint self.old) (footprint self.new) space.old space.new }
+        ensures asked { Asks self.old.layout.account 0 space.old space.new }
     {
         self.books.free(space, at);
         Ok(())
     }
 
     /// Answers the address of a live chunk that is asked to have `size` bytes, which must be the size of the
-    /// context's chunks: it stays where it is. `keep` is how many of its first bytes are known.
+    /// context's chunks: it stays where it is (`SlabRealloc`). `keep` is how many of its first bytes are known.
     ///
     /// `TooBig`, where `size` is over 1,073,741,823, comes before `Unsupported`. The call changes nothing.
     pub fn realloc(
@@ -143,13 +150,16 @@ impl SlabCtx {
         requires live { IsSome ((footprint self.old).live at) }
         requires keep { IfSome ((footprint self.old).live at) (λ n. keep ≤ n) }
         requires known { IsKnown space.old at keep }
-        ensures ledger { OnOk result (resized self.old.ledger size ≡ Ok self.new.ledger) }
-        ensures place { IfOk result (λ to. to ≡ at) }
-        ensures live { IfOk result (λ to. (footprint self.new).live to ≡ Some size) }
+
+        // The ledger makes its step for the chunk, which keeps its address.
+        ensures resized { IfOk result (λ to. IfSome (place_at self.old at) (λ place. Resizes self.old self.new place size at to space.old space.new)) }
+        ensures stays { IfOk result (λ to. to ≡ at) }
+        ensures live { IfOk result (λ to. MovesLive (footprint self.old) (footprint self.new) at to size) }
         ensures moves { Moves (footprint self.old) (footprint self.new) space.old space.new }
         ensures keeps { Keeps (footprint self.old) (footprint self.new) space.old space.new }
+
         ensures too_big { (result ≡ Err CtxError.TooBig) ↔ (1073741823 < size) }
-        ensures unsupported { (result ≡ Err CtxError.Unsupported) ↔ (resized self.old.ledger size ≡ Err CtxError.Unsupported) }
+        ensures unsupported { IfSome (place_at self.old at) (λ place. (result ≡ Err CtxError.Unsupported) ↔ (resize_in self.old space.old place size ≡ Err CtxError.Unsupported)) }
         ensures no_other { IfErr result (λ e. (e ≡ CtxError.TooBig) ⊎ (e ≡ CtxError.Unsupported)) }
         ensures same { self.new ≡ self.old }
         ensures same_space { space.new ≡ space.old }
@@ -157,22 +167,26 @@ impl SlabCtx {
         self.books.realloc(at, size)
     }
 
-    /// Frees all chunks: all blocks go back to the space, and the context is as it was created.
+    /// Frees all chunks: all blocks go back to the space, and the context is as it was created (`SlabReset`). It takes
+    /// no memory.
     pub fn reset(&mut self, space: &mut Space)
         requires { Agrees (footprint self.old) space.old }
-        ensures ledger { self.new.ledger ≡ created self.old.ledger.size }
-        ensures account { self.new.layout.account ≡ self.old.layout.account }
+        ensures ledger { self.new.ledger ≡ reset self.old.ledger }
+        ensures account { (footprint self.new).account ≡ (footprint self.old).account }
         ensures context { (footprint self.new).context ≡ (footprint self.old).context }
+        ensures place { (at : Addr) → place_at self.new at ≡ None }
         ensures live { (at : Addr) → (footprint self.new).live at ≡ None }
         ensures moves { Moves (footprint self.old) (footprint self.new) space.old space.new }
+        ensures asked { Asks self.old.layout.account 0 space.old space.new }
     {
         self.books.reset(space);
     }
 
-    /// Gives all blocks and the first region back to the space.
+    /// Gives all blocks and the first region back to the space: `SlabDelete`. It takes no memory.
     pub fn discard(self, space: &mut Space)
         requires { Agrees (footprint self) space.old }
-        ensures { Moves (footprint self) (nothing self.layout.account (footprint self).context) space.old space.new }
+        ensures moves { Moves (footprint self) (nothing (footprint self).account (footprint self).context) space.old space.new }
+        ensures asked { Asks (footprint self).account 0 space.old space.new }
     {
         let SlabCtx { books } = self;
         books.discard(space);

@@ -5,7 +5,7 @@ ghost use Rattle.indexmap.specs.IndexMap.{spare};
 ghost use Rattle.ctx_blocks.specs.declared.parts.Block.{Block};
 ghost use Rattle.ctx_blocks.specs.declared.parts.Chunk.{Chunk};
 ghost use Rattle.ctx_blocks.specs.Layout.{block_at, chunk_at};
-ghost use Rattle.slab_ctx.specs.Ledger.{stride, per_block};
+ghost use Rattle.slab_ctx.specs.Lives.{stride, per_block};
 ghost use Rattle.slab_ctx.specs.Slots.{stack_at};
 
 use addr_space::{Addr, Space};
@@ -90,7 +90,7 @@ fn close(stacks: &mut IndexMap<u32, Vec<u16>>, number: u32)
 }
 
 impl Slots {
-    ghost use Rattle.addr_space.specs.Space.{Space, accounts, held};
+    ghost use Rattle.addr_space.specs.Space.{Space, Asks, accounts, held};
     ghost use Rattle.addr_space.specs.Footprint.{Agrees, Moves, Keeps, nothing};
     ghost use Rattle.ctx_blocks.specs.Layout.{total, footprint};
     ghost use Rattle.ctx_blocks.specs.Steps.{PutsBlock, DropsBlock, PutsChunk, SameContext, MovesStill};
@@ -113,21 +113,21 @@ impl Slots {
         ensures account { IfOk result (λ s. s.blocks.account ≡ account) }
         ensures context { IfOk result (λ s. s.blocks.context ≡ context) }
         ensures blocks { IfOk result (λ s. s.blocks.blocks ≡ (s.blocks.keeper, first_region) ∷ []) }
+        ensures numbers { IfOk result (λ s. (s.blocks.first_number ≡ 0) × (s.blocks.last_number ≡ 0)) }
         ensures chunks { IfOk result (λ s. s.blocks.chunks ≡ []) }
+        ensures asked { OnOk result (Asks account 200 space.old space.new) }
         ensures moves { IfOk result (λ s. Moves (nothing account context) (footprint s.blocks) space.old space.new) }
         ensures no_space { (result ≡ Err CtxError.NoSpace) ↔ (space.old.limit < held space.old account + 200) }
         ensures no_other { IfErr result (λ e. (e ≡ CtxError.NoSpace) ⊎ (e ≡ CtxError.Memory)) }
         ensures err { OnErr result (space.new ≡ space.old) }
     {
-        match Blocks::create(alloc, space, Kind::Slab, account, context, 200) {
-            Ok(blocks) => Ok(Slots {
-                blocks,
-                size,
-                stacks: IndexMap::new(alloc),
-                alloc,
-            }),
-            Err(error) => Err(error),
-        }
+        let blocks = Blocks::create(alloc, space, Kind::Slab, account, context, 0, 200)?;
+        Ok(Slots {
+            blocks,
+            size,
+            stacks: IndexMap::new(alloc),
+            alloc,
+        })
     }
 
     // The block in a region of the context.
@@ -151,7 +151,9 @@ impl Slots {
         ensures same { OnOk result (SameContext self.old.blocks self.new.blocks) }
         ensures not_keeper { IfOk result (λ number. number ≢ self.old.blocks.keeper) }
         ensures fresh { IfOk result (λ number. block_at self.old.blocks number ≡ None) }
-        ensures block { IfOk result (λ number. PutsBlock self.old.blocks self.new.blocks number (record { size = 8192; room = 8152; live = 0; freed = 0 })) }
+        ensures block { IfOk result (λ number. PutsBlock self.old.blocks self.new.blocks number (record { number = self.old.blocks.last_number + 1; size = 8192; room = 8152; live = 0; freed = 0 })) }
+        ensures last { OnOk result (self.new.blocks.last_number ≡ self.old.blocks.last_number + 1) }
+        ensures asked { OnOk result (Asks self.old.blocks.account 8192 space.old space.new) }
         ensures chunks { OnOk result (self.new.blocks.chunks ≡ self.old.blocks.chunks) }
         ensures spare { OnOk result (self.new.blocks.spare_chunks ≡ self.old.blocks.spare_chunks) }
         ensures total { OnOk result (total self.new.blocks ≡ total self.old.blocks + 8192) }
@@ -171,10 +173,7 @@ impl Slots {
             Ok(stack) => stack,
             Err(_) => return Err(CtxError::Memory),
         };
-        let number = match self.blocks.add(space, BLOCK) {
-            Ok(number) => number,
-            Err(error) => return Err(error),
-        };
+        let number = self.blocks.add(space, BLOCK)?;
         open(&mut self.stacks, number, stack);
         let _ = self.blocks.total();
         Ok(number)
@@ -193,6 +192,9 @@ impl Slots {
         ensures fresh { chunk_at self.old.blocks result ≡ None }
         ensures chunk { PutsChunk self.old.blocks self.new.blocks result (Some (chunk_of self.old.size)) }
         ensures block { (b : Block) → block_at self.old.blocks number ≡ Some b → Counts self.old.blocks self.new.blocks number (b.live + 1) }
+        ensures last { self.new.blocks.last_number ≡ self.old.blocks.last_number }
+        ensures region { result.region ≡ number }
+        ensures asked { space.new.taken ≡ space.old.taken }
         ensures moves { Moves (footprint self.old.blocks) (footprint self.new.blocks) space.old space.new }
         ensures keeps { Keeps (footprint self.old.blocks) (footprint self.new.blocks) space.old space.new }
     {
@@ -218,6 +220,9 @@ impl Slots {
         ensures fresh { chunk_at self.old.blocks result ≡ None }
         ensures chunk { PutsChunk self.old.blocks self.new.blocks result (Some (chunk_of self.old.size)) }
         ensures block { (b : Block) → block_at self.old.blocks number ≡ Some b → Counts self.old.blocks self.new.blocks number (b.live + 1) }
+        ensures last { self.new.blocks.last_number ≡ self.old.blocks.last_number }
+        ensures region { result.region ≡ number }
+        ensures asked { space.new.taken ≡ space.old.taken }
         ensures moves { Moves (footprint self.old.blocks) (footprint self.new.blocks) space.old space.new }
         ensures keeps { Keeps (footprint self.old.blocks) (footprint self.new.blocks) space.old space.new }
     {
@@ -238,6 +243,9 @@ impl Slots {
         ensures fresh { chunk_at self.old.blocks result ≡ None }
         ensures chunk { PutsChunk self.old.blocks self.new.blocks result (Some (chunk_of self.old.size)) }
         ensures block { (b : Block) → block_at self.old.blocks number ≡ Some b → Counts self.old.blocks self.new.blocks number (b.live + 1) }
+        ensures last { self.new.blocks.last_number ≡ self.old.blocks.last_number }
+        ensures region { result.region ≡ number }
+        ensures asked { space.new.taken ≡ space.old.taken }
         ensures moves { Moves (footprint self.old.blocks) (footprint self.new.blocks) space.old space.new }
         ensures keeps { Keeps (footprint self.old.blocks) (footprint self.new.blocks) space.old space.new }
     {
@@ -258,6 +266,7 @@ impl Slots {
         ensures chunk { PutsChunk self.old.blocks self.new.blocks at None }
         ensures not_keeper { at.region ≢ self.old.blocks.keeper }
         ensures block { (b : Block) × (block_at self.old.blocks at.region ≡ Some b) × (1 ≤ b.live) × Counts self.old.blocks self.new.blocks at.region (b.live - 1) }
+        ensures last { self.new.blocks.last_number ≡ self.old.blocks.last_number }
         ensures moves { MovesStill self.old.blocks self.new.blocks }
     {
         self.blocks.laid();
@@ -277,6 +286,8 @@ impl Slots {
         ensures same { SameContext self.old.blocks self.new.blocks }
         ensures chunks { self.new.blocks.chunks ≡ self.old.blocks.chunks }
         ensures block { DropsBlock self.old.blocks self.new.blocks number }
+        ensures last { self.new.blocks.last_number ≡ self.old.blocks.last_number }
+        ensures asked { space.new.taken ≡ space.old.taken }
         ensures total { total self.new.blocks + 8192 ≡ total self.old.blocks }
         ensures moves { Moves (footprint self.old.blocks) (footprint self.new.blocks) space.old space.new }
         ensures keeps { Keeps (footprint self.old.blocks) (footprint self.new.blocks) space.old space.new }
@@ -293,6 +304,8 @@ impl Slots {
         ensures size { self.new.size ≡ self.old.size }
         ensures same { SameContext self.old.blocks self.new.blocks }
         ensures blocks { self.new.blocks.blocks ≡ (self.new.blocks.keeper, first_region) ∷ [] }
+        ensures last { self.new.blocks.last_number ≡ 0 }
+        ensures asked { space.new.taken ≡ space.old.taken }
         ensures chunks { self.new.blocks.chunks ≡ [] }
         ensures moves { Moves (footprint self.old.blocks) (footprint self.new.blocks) space.old space.new }
     {

@@ -1,5 +1,5 @@
 use Rattle.std.proofs.Common.{◌/◌, ap}
-use Rattle.slab_ctx.specs.Ledger.{per_block}
+use Rattle.slab_ctx.specs.Lives.{per_block}
 use Rattle.slab_ctx.proofs.slots.per_block.Goals as goal
 
 pub returns-clause-value : goal.returns-clause-value

@@ -1,5 +1,5 @@
 use Rattle.std.proofs.Common.{◌+◌, ap}
-use Rattle.slab_ctx.specs.Ledger.{stride}
+use Rattle.slab_ctx.specs.Lives.{stride}
 use Rattle.slab_ctx.proofs.slots.stride.Goals as goal
 
 pub returns-clause-value : goal.returns-clause-value

@@ -4,7 +4,7 @@ use Rattle.slab_ctx.proofs.books.Books.discard.Goals as goal
 pub discard-requires : goal.discard-requires
 discard-requires c = Agrees-plain c.args.self.slots.size c.args.self.slots.blocks c.args.space.now c.requires.agrees
 
-pub returns : goal.returns
-returns c =
+pub returns-clause-moves : goal.returns-clause-moves
+returns-clause-moves c =
     let s = c.args.self.slots in
-    Moves-gone s.size s.blocks.account s.blocks.context s.blocks c.args.space.now c.discard.new.space c.discard.ensures
+    Moves-gone s.size s.blocks.account s.blocks.context s.blocks c.args.space.now c.discard.new.space c.discard.ensures.moves

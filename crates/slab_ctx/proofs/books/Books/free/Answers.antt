@@ -5,17 +5,20 @@ use Rattle.std.specs.Map.{lookup}
 use Rattle.ctx_blocks.specs.declared.parts.Block.{Block}
 use Rattle.addr_space.specs.Live.{same_addr}
 use Rattle.ctx_blocks.specs.Layout.{Layout, block_at, footprint as footprint_of}
-use Rattle.slab_ctx.specs.Ledger.{is_empty}
-use Rattle.slab_ctx.specs.State.{lives_of, place_in, others}
+use Rattle.ctx_blocks.proofs.Among.{among_put, among_more}
+use Rattle.ctx_blocks.proofs.Places.{number_is}
+use Rattle.slab_ctx.specs.Ledger.{is_empty, empties, give}
+use Rattle.slab_ctx.specs.State.{blocks_of, others}
 use Rattle.slab_ctx.specs.Kept.{ledger_of}
 use Rattle.slab_ctx.specs.declared.books.Books.{Books}
 use Rattle.slab_ctx.proofs.Bounds.{free-small}
 use Rattle.slab_ctx.proofs.Full.{Agrees-plain, Moves-full}
 use Rattle.slab_ctx.proofs.Freed.{is_empty-some, freed-is}
 use Rattle.slab_ctx.proofs.Lives.{eq_test}
-use Rattle.slab_ctx.proofs.Listed.{place-live, place-changed}
+use Rattle.slab_ctx.proofs.Listed.{find-other}
+use Rattle.slab_ctx.proofs.Numbered.{live_is, empties_is}
 use Rattle.slab_ctx.proofs.Places.{chunks-few}
-use Rattle.slab_ctx.proofs.KeptSteps.{kept-changed, lives-counted}
+use Rattle.slab_ctx.proofs.KeptSteps.{kept-changed, blocks-counted, ledger-parts}
 use Rattle.addr_space.proofs.Steps.{Keeps-then}
 use Rattle.ctx_blocks.proofs.Changed.{size_of}
 use Rattle.slab_ctx.proofs.books.Books.free.Goals as goal
@@ -42,7 +45,7 @@ settle-requires-clause-kept c =
     let one_less : is_empty counts.block.live ≡ is_empty (block.live - 1) = ap is_empty counts.count in (
       counts.block,
       found_now l c.remove.new.self.blocks number counts.block counts.puts.at,
-      kept-changed b n 0 number c.requires.kept c.remove.ensures.slots c.remove.ensures.size c.remove.ensures.same differs block found (block.live - 1) counts (is_empty counts.block.live)
+      kept-changed b n 0 number c.requires.kept c.remove.ensures.slots c.remove.ensures.size c.remove.ensures.same differs block found (block.live - 1) counts (is_empty counts.block.live) c.remove.ensures.last
           (omega (arith, one_less, is_empty-some block.live had.2))
           (omega (arith, few, had.2)),
     )
@@ -56,6 +59,7 @@ returns-clause-ledger c =
     let b = c.args.self.now in
     let l = b.slots.blocks in
     let m = c.remove.new.self.blocks in
+    let k = c.settle.new.self in
     let number = c.args.at.region in
     let had = c.remove.ensures.block in
     let block = had.0 in
@@ -63,13 +67,24 @@ returns-clause-ledger c =
     let counts = had.3 in
     let differs = c.remove.ensures.not_keeper in
     let n : Books = record { slots = c.remove.new.self; empty = b.empty; free = b.free + 1 } in
-    let mid = lives-counted b n 0 number c.requires.kept c.remove.ensures.slots c.remove.ensures.size c.remove.ensures.same differs block found (block.live - 1) counts in
-    let at = place-live l c.requires.kept.listed number differs block found in
-    let place = place-changed l c.requires.kept.listed number differs m c.remove.ensures.same counts.block counts.puts block found in
-    let after = c.settle.ensures.lives counts.block (found_now l m number counts.block counts.puts.at) in
-    let empty : b.empty ≡ _ = omega (arith, c.requires.kept.empty) in
-    ap (λ z. record { size = z; lives = lives_of c.settle.new.self.slots.blocks }) (c.settle.ensures.size ∙ c.remove.ensures.size)
-    ∙ freed-is (ledger_of b) (place_in (others l.blocks) number) (place_in (others m.blocks) number) block.live counts.block.live b.empty (lives_of m) (lives_of c.settle.new.self.slots.blocks) at.1 had.2 counts.count mid place empty after
+    let mid = blocks-counted b n 0 number c.requires.kept c.remove.ensures.slots c.remove.ensures.size c.remove.ensures.same differs block found (block.live - 1) counts in
+    let live = live_is 1 l.last_number number (others l.blocks) block c.requires.kept.listed.rising (find-other l c.requires.kept.listed number differs ∙ found) in
+    let after = c.settle.ensures.blocks counts.block (found_now l m number counts.block counts.puts.at) in
+    let empty : b.empty ≡ empties (blocks_of l) = omega (arith, c.requires.kept.empty, empties_is (others l.blocks)) in
+    ledger-parts k b.slots.size l.last_number (blocks_of k.slots.blocks) (c.settle.ensures.size ∙ c.remove.ensures.size) (c.settle.ensures.last ∙ c.remove.ensures.last) refl
+    ∙ freed-is (ledger_of b) block.number counts.block.number block.live counts.block.live b.empty (blocks_of m) (blocks_of k.slots.blocks) live had.2 counts.count mid (counts.same_number block found) empty after
+    ∙ ap (give (ledger_of b)) (sym (number_is l number block found))
+
+pub returns-clause-chunk : goal.returns-clause-chunk
+returns-clause-chunk c = λ other. ap (λ cs. lookup (same_addr other) cs) c.settle.ensures.chunks ∙ c.remove.ensures.chunk other
+
+pub returns-clause-among : goal.returns-clause-among
+returns-clause-among c =
+    let l = c.args.self.now.slots.blocks in
+    let m = c.remove.new.self.blocks in
+    let had = c.remove.ensures.block in
+    let counts = had.3 in
+    among_more c.settle.new.self.slots.blocks m l c.settle.ensures.among (among_put l m c.args.at.region had.0 counts.block had.1 counts.puts (counts.same_number had.0 had.1))
 
 pub returns-clause-moves : goal.returns-clause-moves
 returns-clause-moves c =

@@ -1,15 +1,21 @@
 use Rattle.std.proofs.Common.{◌≡◌, ◌+◌, ap, subst, arith}
-use Rattle.chunk_header.specs.Header.{TakesSpace}
+use Rattle.chunk_header.specs.Header.{AllOfKind, TakesSpace}
+use Rattle.chunk_header.specs.declared.Kind.TheVariants.{Slab}
 use Rattle.ctx_blocks.specs.Layout.{footprint as footprint_of}
 use Rattle.ctx_blocks.specs.declared.parts.Chunk.{Chunk}
 use Rattle.ctx_blocks.proofs.Laid.{from_live}
-use Rattle.slab_ctx.specs.Ledger.{stride}
+use Rattle.slab_ctx.specs.Lives.{stride}
 use Rattle.slab_ctx.proofs.Numbers.{stride-least}
-use Rattle.slab_ctx.proofs.Full.{AllHeaded-full, TakesSpace-full}
+use Rattle.slab_ctx.proofs.Full.{AllHeaded-full, AllOfKind-full, TakesSpace-full}
 use Rattle.slab_ctx.proofs.books.Books.headed.Goals as goal
 
 pub returns-clause-headed : goal.returns-clause-headed
 returns-clause-headed c = AllHeaded-full c.args.self.now.slots.size c.args.self.now.slots.blocks c.headed.ensures.headed
+
+pub returns-clause-kinds : goal.returns-clause-kinds
+returns-clause-kinds c =
+    let s = c.args.self.now.slots in
+    AllOfKind-full s.size s.blocks Slab (subst (λ k. AllOfKind k (footprint_of s.blocks)) c.requires.slots.kind c.headed.ensures.kind)
 
 pub returns-clause-spaces : goal.returns-clause-spaces
 returns-clause-spaces c = λ at size live.

@@ -1,9 +1,9 @@
 use Rattle.std.proofs.Common.{refl, ap, ◌∙◌}
-use Rattle.slab_ctx.specs.Ledger.{created}
-use Rattle.slab_ctx.specs.State.{lives_of}
+use Rattle.slab_ctx.specs.Ledger.{created, reset}
+use Rattle.slab_ctx.specs.State.{blocks_of}
 use Rattle.slab_ctx.proofs.Full.{Agrees-plain, Moves-full}
 use Rattle.slab_ctx.proofs.KeptSteps.{kept-none}
-use Rattle.slab_ctx.proofs.Listed.{lives-none}
+use Rattle.slab_ctx.proofs.Listed.{blocks-none}
 use Rattle.slab_ctx.proofs.books.Books.reset.Goals as goal
 
 pub reset-requires-clause-agrees : goal.reset-requires-clause-agrees
@@ -13,9 +13,12 @@ pub returns-clause-kept : goal.returns-clause-kept
 returns-clause-kept c = kept-none (record { slots = c.reset.new.self; empty = 0; free = 0 }) c.reset.ensures.slots c.reset.ensures.blocks refl refl
 
 pub returns-clause-ledger : goal.returns-clause-ledger
-unfolding created
+unfolding created reset
 returns-clause-ledger c =
-    ap (λ n. record { size = n; lives = lives_of c.reset.new.self.blocks }) c.reset.ensures.size ∙ ap (λ xs. record { size = c.args.self.now.slots.size; lives = xs }) (lives-none c.reset.new.self.blocks c.reset.ensures.blocks)
+    let m = c.reset.new.self.blocks in
+    ap (λ n. record { size = n; count = m.last_number; blocks = blocks_of m }) c.reset.ensures.size
+    ∙ ap (λ n. record { size = c.args.self.now.slots.size; count = n; blocks = blocks_of m }) c.reset.ensures.last
+    ∙ ap (λ xs. record { size = c.args.self.now.slots.size; count = 0; blocks = xs }) (blocks-none m c.reset.ensures.blocks)
 
 pub returns-clause-moves : goal.returns-clause-moves
 returns-clause-moves c =

@@ -1,23 +1,26 @@
-use Rattle.std.proofs.Common.{◌≡◌, ◌-◌, ℕ, if◌then◌else◌, Some, Ok, Err, ap, sym, ◌∙◌, refl}
+use Rattle.std.proofs.Common.{◌≡◌, ◌+◌, ◌-◌, ◌++◌, ℕ, [], ◌∷◌, if◌then◌else◌, Some, Ok, Err, option_map, ap, sym, subst, ◌∙◌, refl, arith}
 use Rattle.std.specs.Map.{lookup}
+use Rattle.std.proofs.lemmas.Result.{err_from_is_err_and}
 use Rattle.addr_space.specs.declared.Addr.{Addr}
 use Rattle.addr_space.specs.Space.{held}
+use Rattle.addr_space.specs.Live.{same_addr}
 use Rattle.addr_space.proofs.Steps.{Moves-more, Keeps-more}
 use Rattle.chunk_header.specs.declared.CtxError.TheVariants.{NoSpace}
-use Rattle.addr_space.specs.Live.{same_addr}
-use Rattle.ctx_blocks.specs.Layout.{chunk_at, footprint as footprint_of}
+use Rattle.ctx_blocks.specs.Layout.{Layout, chunk_at, footprint as footprint_of}
+use Rattle.ctx_blocks.specs.Steps.{PutsChunk}
 use Rattle.ctx_blocks.specs.declared.parts.Block.{Block}
-use Rattle.slab_ctx.specs.Ledger.{per_block, fullest}
-use Rattle.slab_ctx.specs.State.{lives_of, place_in, others}
+use Rattle.ctx_blocks.proofs.Places.{number_is, numbers_among}
+use Rattle.ctx_blocks.proofs.Among.{numbers_stay}
+use Rattle.ctx_blocks.proofs.Changed.{size_of}
+use Rattle.slab_ctx.specs.Ledger.{SlabBlock, SlabLedger, SlabTaken, per_block, serving, with_live}
+use Rattle.slab_ctx.specs.State.{blocks_of, others}
 use Rattle.slab_ctx.specs.Slots.{chunk_of}
 use Rattle.slab_ctx.specs.Kept.{ledger_of}
 use Rattle.slab_ctx.proofs.Numbers.{per_block-some}
 use Rattle.slab_ctx.proofs.Full.{Agrees-plain, Moves-full}
-use Rattle.slab_ctx.proofs.Lives.{lives-raised}
-use Rattle.slab_ctx.proofs.Listed.{find-other}
-use Rattle.slab_ctx.proofs.Served.{serve-some, serve-none, serve-full, lives-first}
+use Rattle.slab_ctx.proofs.KeptSteps.{ledger-parts}
+use Rattle.slab_ctx.proofs.Served.{more, serve-some, serve-none, serve-full, live-last}
 use Rattle.slab_ctx.proofs.books.Books.serve.Goals as goal
-use Rattle.ctx_blocks.proofs.Changed.{size_of, live_put}
 
 pub take-requires-clause-agrees : goal.take-requires-clause-agrees
 take-requires-clause-agrees c = Agrees-plain c.args.self.now.slots.size c.args.self.now.slots.blocks c.args.space.now c.requires.agrees
@@ -28,56 +31,71 @@ returns-in-Some-clause-ok c =
     let l = b.slots.blocks in
     let n = c.take.new.self in
     let m = n.slots.blocks in
-    let at = c.take.result in
     let left : ℕ = c.args.space.now.limit - held c.args.space.now l.account in
     let chosen = c.in-Some.ensures.some in
-    let number = c.in-Some.number in
-    let lives = c.take.ensures.lives chosen.block chosen.found ∙ lives-raised number chosen.block chosen.block.live (others l.blocks) refl chosen.first (find-other l c.requires.kept.listed number chosen.not_keeper ∙ chosen.found) in
+    let block : SlabBlock = record { number = chosen.block.number; live = chosen.block.live } in
+    let picked : serving (per_block b.slots.size) (blocks_of l) ≡ Some block = c.in-Some.ensures.serving ∙ ap (option_map (λ (x : Block). record { number = x.number; live = x.live })) chosen.found in
+    let after : SlabLedger = record { size = b.slots.size; count = l.last_number; blocks = with_live (blocks_of l) chosen.block.number (chosen.block.live + 1) } in
     record {
-      kept = c.take.ensures.kept;
-      ledger = serve-some (ledger_of b) left chosen.block.live (fullest (per_block b.slots.size) (lives_of l)) (lives_of m) chosen.greatest lives ∙ ap (λ z. Ok (record { size = z; lives = lives_of m })) (sym c.take.ensures.size);
-      fresh = ap size_of c.take.ensures.fresh;
-      live = live_put l m at (Some (chunk_of b.slots.size)) c.take.ensures.chunk;
-      moves = Moves-full b.slots.size n.slots.size l m n.slots.stacks.entries c.args.space.now c.take.new.space c.take.ensures.size c.take.ensures.kept.slots c.take.ensures.moves;
-      keeps = c.take.ensures.keeps;
+      answer = record { ledger = after; place = chosen.block.number; asked = 0 };
+      is = serve-some (ledger_of b) left block (serving (per_block b.slots.size) (blocks_of l)) picked;
+      does = record {
+        kept = c.take.ensures.kept;
+        ledger = ledger-parts n b.slots.size l.last_number after.blocks c.take.ensures.size c.take.ensures.last (c.take.ensures.blocks chosen.block chosen.found);
+        fresh = c.take.ensures.fresh;
+        chunk = c.take.ensures.chunk;
+        number = c.take.ensures.number ∙ number_is l c.in-Some.number chosen.block chosen.found;
+        numbers = numbers_among l m c.take.ensures.among;
+        asked = c.take.ensures.asked;
+        moves = Moves-full b.slots.size n.slots.size l m n.slots.stacks.entries c.args.space.now c.take.new.space c.take.ensures.size c.take.ensures.kept.slots c.take.ensures.moves;
+        keeps = c.take.ensures.keeps;
+      };
     }
 
 pub add-requires-clause-agrees : goal.add-requires-clause-agrees
 add-requires-clause-agrees c = Agrees-plain c.args.self.now.slots.size c.args.self.now.slots.blocks c.args.space.now c.requires.agrees
 
-pub take-requires-in-Ok-clause-block : goal.take-requires-in-Ok-clause-block
-take-requires-in-Ok-clause-block c =
-    (record { size = 8192; room = 8152; live = 0; freed = 0 }, c.in-Ok.ensures.block, per_block-some c.add.new.self.slots.size c.add.ensures.kept.slots.most)
+pub take-requires-2-clause-block : goal.take-requires-2-clause-block
+take-requires-2-clause-block c =
+    (record { number = c.args.self.now.slots.blocks.last_number + 1; size = 8192; room = 8152; live = 0; freed = 0 }, c.in_ok-number.ensures.block, per_block-some c.add.new.self.slots.size c.add.ensures.kept.slots.most)
 
-pub returns-in-Ok-clause-ok : goal.returns-in-Ok-clause-ok
-returns-in-Ok-clause-ok c =
+pub returns-clause-ok : goal.returns-clause-ok
+returns-clause-ok c =
     let b = c.args.self.now in
     let l = b.slots.blocks in
     let d = c.add.new.self in
     let k = d.slots.blocks in
-    let n = c.take-in-Ok.new.self in
+    let n = c.take-2.new.self in
     let m = n.slots.blocks in
-    let at = c.take-in-Ok.result in
+    let at = c.take-2.result in
     let size = b.slots.size in
+    let e = c.in_ok-number.ensures in
+    let t = c.take-2.ensures in
     let left : ℕ = c.args.space.now.limit - held c.args.space.now l.account in
-    let block : Block = record { size = 8192; room = 8152; live = 0; freed = 0 } in
-    let stay : (other : Addr) → chunk_at k other ≡ chunk_at l other = λ other. ap (λ cs. lookup (same_addr other) cs) c.in-Ok.ensures.chunks in
-    let lives = c.take-in-Ok.ensures.lives block c.in-Ok.ensures.block ∙ lives-first (lives_of l) (lives_of k) (place_in (others k.blocks) c.in-Ok.number) c.in-Ok.ensures.lives c.in-Ok.ensures.place in
-    let sizes = c.take-in-Ok.ensures.size ∙ c.add.ensures.size in
-    let moves = Moves-more (footprint_of l) (footprint_of k) (footprint_of m) c.args.space.now c.add.new.space c.take-in-Ok.new.space c.in-Ok.ensures.moves c.take-in-Ok.ensures.moves in
+    let next : ℕ = l.last_number + 1 in
+    let block : Block = record { number = next; size = 8192; room = 8152; live = 0; freed = 0 } in
+    let stay : (other : Addr) → chunk_at k other ≡ chunk_at l other = λ other. ap (λ cs. lookup (same_addr other) cs) e.chunks in
+    let blocks : blocks_of m ≡ blocks_of l ++ record { number = next; live = 1 } ∷ [] = t.blocks block e.block ∙ ap (λ xs. with_live xs next 1) e.blocks ∙ live-last 1 l.last_number next (others l.blocks) (omega arith) c.requires.kept.listed.rising in
+    let sizes = t.size ∙ c.add.ensures.size in
+    let moves = Moves-more (footprint_of l) (footprint_of k) (footprint_of m) c.args.space.now c.add.new.space c.take-2.new.space e.moves t.moves in
     record {
-      kept = c.take-in-Ok.ensures.kept;
-      ledger = serve-none (ledger_of b) left (fullest (per_block size) (lives_of l)) (lives_of m) c.in_default.ensures.none c.in-Ok.ensures.fits lives ∙ ap (λ z. Ok (record { size = z; lives = lives_of m })) (sym sizes);
-      fresh = ap size_of (sym (stay at) ∙ c.take-in-Ok.ensures.fresh);
-      live = λ other. live_put k m at (Some (chunk_of d.slots.size)) c.take-in-Ok.ensures.chunk other
-          ∙ ap (λ z. if same_addr at other then Some z else size_of (chunk_at k other)) c.add.ensures.size
-          ∙ ap (λ o. if same_addr at other then Some size else size_of o) (stay other);
-      moves = Moves-full size n.slots.size l m n.slots.stacks.entries c.args.space.now c.take-in-Ok.new.space sizes c.take-in-Ok.ensures.kept.slots moves;
-      keeps = Keeps-more (footprint_of l) (footprint_of k) (footprint_of m) c.args.space.now c.add.new.space c.take-in-Ok.new.space (λ other x live. ap size_of (stay other) ∙ live) c.in-Ok.ensures.keeps c.take-in-Ok.ensures.keeps;
+      answer = more (ledger_of b);
+      is = serve-none (ledger_of b) left (serving (per_block size) (blocks_of l)) c.in_default.ensures.serving e.fits;
+      does = record {
+        kept = t.kept;
+        ledger = ledger-parts n size next (blocks_of l ++ record { number = next; live = 1 } ∷ []) sizes (t.last ∙ e.last) blocks;
+        fresh = sym (stay at) ∙ t.fresh;
+        chunk = λ other. subst (λ z. PutsChunk k m at (Some (chunk_of z))) c.add.ensures.size t.chunk other ∙ ap (λ o. if same_addr at other then Some (chunk_of size) else o) (stay other);
+        number = t.number ∙ number_is k c.in_ok-number.number block e.block;
+        numbers = numbers_stay l k m e.among t.among;
+        asked = t.asked ∙ e.asked;
+        moves = Moves-full size n.slots.size l m n.slots.stacks.entries c.args.space.now c.take-2.new.space sizes t.kept.slots moves;
+        keeps = Keeps-more (footprint_of l) (footprint_of k) (footprint_of m) c.args.space.now c.add.new.space c.take-2.new.space (λ other x live. ap size_of (stay other) ∙ live) e.keeps t.keeps;
+      };
     }
 
-pub returns-in-Err-clause-no_space : goal.returns-in-Err-clause-no_space
-returns-in-Err-clause-no_space c = λ e.
+pub returns-in_err-number-clause-no_space : goal.returns-in_err-number-clause-no_space
+returns-in_err-number-clause-no_space c = λ e.
     let b = c.args.self.now in
-    let is : c.in-Err.error ≡ NoSpace = cc in
-    serve-full (ledger_of b) (c.args.space.now.limit - held c.args.space.now b.slots.blocks.account) (fullest (per_block b.slots.size) (lives_of b.slots.blocks)) c.in_default.ensures.none (c.in-Err.ensures.no_space (ap Err is))
+    let is : c.in_err-number.field-0.0 ≡ NoSpace = let p = err_from_is_err_and c.from_residual.result c.from_residual.ensures.1 in cc in
+    serve-full (ledger_of b) (c.args.space.now.limit - held c.args.space.now b.slots.blocks.account) (serving (per_block b.slots.size) (blocks_of b.slots.blocks)) c.in_default.ensures.serving (c.in_err-number.ensures.no_space (ap Err is))

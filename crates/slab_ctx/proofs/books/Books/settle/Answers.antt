@@ -1,14 +1,14 @@
 use Rattle.std.proofs.Common.{◌≡◌, ◌≤◌, ◌-◌, ◌==◌, ◌&&◌, nat_le, if◌then◌else◌, true, ap, sym, ◌∙◌, arith, refl}
-use Rattle.std.specs.Prelude.{remove}
 use Rattle.std.proofs.lemmas.Bool.Decides.{nat_tests}
 use Rattle.ctx_blocks.specs.declared.parts.Block.{Block}
 use Rattle.ctx_blocks.specs.Layout.{block_at}
-use Rattle.slab_ctx.specs.Ledger.{per_block, is_empty}
-use Rattle.slab_ctx.specs.State.{lives_of, place_in, others}
+use Rattle.ctx_blocks.proofs.Among.{among_drop}
+use Rattle.slab_ctx.specs.Ledger.{per_block, is_empty, without_number}
+use Rattle.slab_ctx.specs.State.{blocks_of}
 use Rattle.slab_ctx.specs.declared.books.Books.{Books}
 use Rattle.addr_space.proofs.Options.{one_value}
 use Rattle.slab_ctx.proofs.KeptSteps.{free-least, kept-dropped}
-use Rattle.slab_ctx.proofs.Listed.{lives-dropped}
+use Rattle.slab_ctx.proofs.Listed.{blocks-dropped}
 use Rattle.slab_ctx.proofs.books.Books.settle.Goals as goal
 
 pub overflow_sub-self : goal.overflow_sub-self
@@ -28,11 +28,11 @@ returns-clause-kept c =
     let is = one_value (block_at b.slots.blocks c.args.number) c.owned.result block c.owned.ensures found in
     let none : block.live ≡ 0 = omega (arith, c.if-owned-gt0.false, ap (λ (x : Block). x.live) is) in
     let n : Books = record { slots = c.give.new.self; empty = b.empty; free = b.free - c.from.result } in
-    kept-dropped b n (is_empty block.live) c.args.number c.requires.kept.2 c.give.ensures.slots c.give.ensures.size c.give.ensures.same c.requires.not_keeper block found none (ap is_empty none) c.give.ensures.block c.give.ensures.total refl
+    kept-dropped b n (is_empty block.live) c.args.number c.requires.kept.2 c.give.ensures.slots c.give.ensures.size c.give.ensures.same c.requires.not_keeper block found none (ap is_empty none) c.give.ensures.block c.give.ensures.last c.give.ensures.total refl
     (ap (λ x. b.free - x) (c.from.ensures ∙ c.per_block.ensures.value ∙ ap per_block c.give.ensures.size))
 
-pub returns-clause-lives : goal.returns-clause-lives
-returns-clause-lives c = λ block found.
+pub returns-clause-blocks : goal.returns-clause-blocks
+returns-clause-blocks c = λ block found.
     let b = c.args.self.now in
     let l = b.slots.blocks in
     let is = one_value (block_at b.slots.blocks c.args.number) c.owned.result block c.owned.ensures found in
@@ -40,6 +40,9 @@ returns-clause-lives c = λ block found.
     let zero : (block.live == 0) ≡ true = grind (arith, nat_tests) in
     let many : 10 ≤ b.empty = omega (arith, c.if-self-lt-MOST_EMPTY.false) in
     let ten : nat_le 10 b.empty ≡ true = grind (arith, nat_tests) in
-    let gone = remove (lives_of l) (place_in (others l.blocks) c.args.number) in
-    lives-dropped l c.requires.kept.2.listed c.args.number c.requires.not_keeper c.give.new.self.blocks c.give.ensures.same c.give.ensures.block block found
-    ∙ sym (ap (λ t. if t && nat_le 10 b.empty then gone else lives_of l) zero ∙ ap (λ t. if t then gone else lives_of l) ten)
+    let gone = without_number (blocks_of l) block.number in
+    blocks-dropped l c.requires.kept.2.listed c.args.number c.requires.not_keeper c.give.new.self.blocks c.give.ensures.same c.give.ensures.block block found
+    ∙ sym (ap (λ t. if t && nat_le 10 b.empty then gone else blocks_of l) zero ∙ ap (λ t. if t then gone else blocks_of l) ten)
+
+pub returns-clause-among : goal.returns-clause-among
+returns-clause-among c = among_drop c.args.self.now.slots.blocks c.give.new.self.blocks c.args.number c.give.ensures.block

@@ -1,11 +1,14 @@
-use Rattle.std.proofs.Common.{◌<◌, ◌+◌, ◌-◌, sym, subst, arith}
+use Rattle.std.proofs.Common.{◌<◌, ◌+◌, ◌-◌, sym, ap, ◌∙◌, subst, arith}
 use Rattle.ctx_blocks.specs.declared.parts.Block.{Block}
 use Rattle.ctx_blocks.specs.Layout.{block_at}
-use Rattle.slab_ctx.specs.Ledger.{per_block}
+use Rattle.slab_ctx.specs.Lives.{per_block}
 use Rattle.slab_ctx.specs.declared.books.Books.{Books}
 use Rattle.addr_space.proofs.Options.{one_value}
+use Rattle.ctx_blocks.specs.Numbered.{number_of}
+use Rattle.ctx_blocks.proofs.Places.{number_put}
+use Rattle.ctx_blocks.proofs.Among.{among_put}
 use Rattle.slab_ctx.proofs.Freed.{is_empty-some}
-use Rattle.slab_ctx.proofs.KeptSteps.{empty-least, free-least, kept-changed, lives-counted}
+use Rattle.slab_ctx.proofs.KeptSteps.{empty-least, free-least, kept-changed, blocks-counted}
 use Rattle.slab_ctx.proofs.books.Books.take.Goals as goal
 
 pub overflow_sub-self : goal.overflow_sub-self
@@ -25,12 +28,28 @@ returns-clause-kept c =
     let n : Books = record { slots = c.take.new.self; empty = b.empty - c.one_if_empty.result; free = b.free - 1 } in
     let empty = empty-least b 0 c.args.number c.requires.kept c.requires.not_keeper block found in
     let free = free-least b 0 c.args.number c.requires.kept c.requires.not_keeper block found in
-    kept-changed b n 0 c.args.number c.requires.kept c.take.ensures.slots c.take.ensures.size c.take.ensures.same c.requires.not_keeper block found (block.live + 1) (c.take.ensures.block block found) 0
+    kept-changed b n 0 c.args.number c.requires.kept c.take.ensures.slots c.take.ensures.size c.take.ensures.same c.requires.not_keeper block found (block.live + 1) (c.take.ensures.block block found) 0 c.take.ensures.last
     (omega (arith, empty, c.one_if_empty.ensures, is_empty-some (block.live + 1) (omega arith)))
     (omega (arith, free, under))
 
-pub returns-clause-lives : goal.returns-clause-lives
-returns-clause-lives c = λ block found.
+pub returns-clause-blocks : goal.returns-clause-blocks
+returns-clause-blocks c = λ block found.
     let b = c.args.self.now in
     let n : Books = record { slots = c.take.new.self; empty = 0; free = 0 } in
-    lives-counted b n 0 c.args.number c.requires.kept c.take.ensures.slots c.take.ensures.size c.take.ensures.same c.requires.not_keeper block found (block.live + 1) (c.take.ensures.block block found)
+    blocks-counted b n 0 c.args.number c.requires.kept c.take.ensures.slots c.take.ensures.size c.take.ensures.same c.requires.not_keeper block found (block.live + 1) (c.take.ensures.block block found)
+
+pub returns-clause-number : goal.returns-clause-number
+returns-clause-number c =
+    let l = c.args.self.now.slots.blocks in
+    let m = c.take.new.self.blocks in
+    let block = c.requires.block.0 in
+    let found = c.requires.block.1 in
+    let counts = c.take.ensures.block block found in
+    ap (number_of m) c.take.ensures.region ∙ number_put l m c.args.number block counts.block found counts.puts (counts.same_number block found) c.args.number
+
+pub returns-clause-among : goal.returns-clause-among
+returns-clause-among c =
+    let block = c.requires.block.0 in
+    let found = c.requires.block.1 in
+    let counts = c.take.ensures.block block found in
+    among_put c.args.self.now.slots.blocks c.take.new.self.blocks c.args.number block counts.block found counts.puts (counts.same_number block found)

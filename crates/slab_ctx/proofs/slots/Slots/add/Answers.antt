@@ -1,5 +1,5 @@
 use Rattle.std.proofs.Common.{◌≡◌, length, sym, ◌∙◌}
-use Rattle.slab_ctx.specs.Ledger.{per_block}
+use Rattle.slab_ctx.specs.Lives.{per_block}
 use Rattle.slab_ctx.proofs.Slotted.{IsSlotted-added}
 use Rattle.slab_ctx.proofs.slots.Slots.add.Goals as goal
 
@@ -8,4 +8,4 @@ returns-clause-slots c =
     let stack = c.in-Ok.stack in
     let long : length stack.items ≡ per_block c.args.self.now.size = sym stack.ok.0 ∙ c.in-Ok.ensures.len ∙ c.per_block.ensures.value in
     let opened = rw c.reserve.ensures.entries at c.open.ensures in
-    IsSlotted-added c.args.self.now.blocks c.add.new.self c.args.self.now.size c.args.self.now.stacks.entries c.open.new.stacks.entries c.in-Ok-add.number stack.items c.requires.slots c.in-Ok-add.ensures.same c.in-Ok-add.ensures.fresh c.in-Ok-add.ensures.block c.in-Ok-add.ensures.chunks opened long
+    IsSlotted-added c.args.self.now.blocks c.add.new.self c.args.self.now.size c.args.self.now.stacks.entries c.open.new.stacks.entries c.in_ok-number.number stack.items c.requires.slots c.in_ok-number.ensures.same c.in_ok-number.ensures.fresh c.in_ok-number.ensures.block c.in_ok-number.ensures.chunks opened long

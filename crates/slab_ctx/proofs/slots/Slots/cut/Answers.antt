@@ -2,6 +2,7 @@ use Rattle.std.proofs.Common.{◌≡◌, ◌+◌, ◌-◌, Some, false, ap, sym,
 use Rattle.ctx_blocks.specs.declared.parts.Block.{Block}
 use Rattle.ctx_blocks.specs.Layout.{block_at, header_room}
 use Rattle.ctx_blocks.specs.Steps.{PutsBlock, PutsChunk}
+use Rattle.addr_space.proofs.Options.{one_value}
 use Rattle.slab_ctx.proofs.Numbers.{stride-least, stride-whole}
 use Rattle.slab_ctx.proofs.Places.{gap-is}
 use Rattle.slab_ctx.proofs.Taken.{IsSlotted-cut}
@@ -37,5 +38,6 @@ returns-clause-block c = λ b found. record {
   block = record b { room = b.room - (header_room c.args.self.now.blocks + (c.stride-room.result - 8)); live = b.live + 1 };
   puts = c.cut.ensures.block b found;
   count = refl;
+  same_number = λ old is. ap (λ (x : Block). x.number) (one_value (block_at c.args.self.now.blocks c.args.number) b old found is);
   bytes = (c.requires.slots.filled c.args.number b c.requires.not_keeper found).bytes;
 }

@@ -1,7 +1,9 @@
 use Rattle.std.proofs.Common.{◌≡◌, ◌+◌, ◌-◌, Some, false, ap, sym, subst, ◌∙◌, refl, arith}
 use Rattle.addr_space.specs.declared.Addr.{Addr}
 use Rattle.ctx_blocks.specs.declared.parts.Block.{Block}
+use Rattle.ctx_blocks.specs.Layout.{block_at}
 use Rattle.ctx_blocks.specs.Steps.{PutsChunk}
+use Rattle.addr_space.proofs.Options.{one_value}
 use Rattle.slab_ctx.specs.Slots.{IsFree}
 use Rattle.slab_ctx.proofs.Numbers.{stride-least}
 use Rattle.slab_ctx.proofs.Places.{gap-is, start-is, slot-least, slot-whole, last-free, depth-few, clear-of}
@@ -60,5 +62,6 @@ returns-clause-block c = λ b found. record {
   block = record b { live = b.live + 1; freed = b.freed - 1 };
   puts = c.place.ensures.block b found;
   count = refl;
+  same_number = λ old is. ap (λ (x : Block). x.number) (one_value (block_at c.args.self.now.blocks c.args.number) b old found is);
   bytes = (c.requires.slots.filled c.args.number b c.requires.not_keeper found).bytes;
 }

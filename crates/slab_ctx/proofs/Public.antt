@@ -1,0 +1,76 @@
+-- Lemmas on what callers of a Slab see.
+use Rattle.std.proofs.Common.{◌≡◌, ℕ, ◌≤◌, ◌==◌, if◌then◌else◌, Option, Some, None, IfSome, IsSome, IfOk, OnOk, Result, Ok, Err, option_map, nat_lt, true, false, length, refl, sym, ap, ◌∙◌, arith, inl, inr}
+use Rattle.std.proofs.lemmas.Bool.Decides.{nat_tests}
+use Rattle.std.proofs.lemmas.List.{length-map}
+use Rattle.addr_space.specs.declared.Addr.{Addr}
+use Rattle.addr_space.specs.Space.{Space}
+use Rattle.addr_space.specs.Live.{same_addr, MovesAt, MovesLive}
+use Rattle.addr_space.proofs.Addresses.{same_addr-cases}
+use Rattle.ctx_blocks.specs.Layout.{Layout, chunk_at}
+use Rattle.ctx_blocks.specs.declared.parts.Chunk.{Chunk}
+use Rattle.ctx_blocks.proofs.Laid.{from_live}
+use Rattle.slab_ctx.specs.Ledger.{SlabLedger, SlabResized, resize}
+use Rattle.slab_ctx.specs.State.{others, live_of, numbered_of, lives_of, blocks_of, place_at, footprint}
+use Rattle.slab_ctx.specs.Slots.{chunk_of, HasSlots}
+use Rattle.slab_ctx.specs.Calls.{Resizes}
+use Rattle.slab_ctx.specs.Kept.{state_of}
+use Rattle.slab_ctx.specs.declared.books.Books.{Books}
+
+-- what follows at a value that there may be
+pub some_with : {A : Type 0} {P : A → Type 0} (o : Option A) → ((a : A) → o ≡ Some a → P a) → IfSome o P
+some_with None all = tt
+some_with (Some a) all = all a refl
+
+-- a value that there is
+pub some_is : {A : Type 0} (o : Option A) → IsSome o → (a : A) × (o ≡ Some a)
+some_is None some = absurd (cc)
+some_is (Some a) some = (a, refl)
+
+-- what is moved to where it is stays there
+pub moves_stay : {A : Type 0} (f : Addr → Option A) (from to : Addr) (a : A) → to ≡ from → f from ≡ Some a → MovesAt f f from to a
+moves_stay f from to a same is other = elim (same_addr-cases to other) [
+  | inl here ↦
+      ap f (sym here.0 ∙ same) ∙ is ∙ sym (ap (λ t. if t then Some a else (if same_addr from other then None else f other)) here.1)
+  | inr there ↦
+      let not : same_addr from other ≡ false = ap (λ (x : Addr). same_addr x other) (sym same) ∙ there.1 in
+      sym (ap (λ t. if t then Some a else (if same_addr from other then None else f other)) there.1 ∙ ap (λ t. if t then None else f other) not)
+]
+
+-- the ledger's step for a chunk that has its size
+pub resize_same : (l : SlabLedger) (held limit place size : ℕ) → size ≡ l.size → size ≤ 1073741823 → resize l held limit place size ≡ Ok (record { ledger = l; place = place; asked = 0; stays = true })
+unfolding resize
+resize_same l held limit place size same most =
+    let big : nat_lt 1073741823 size ≡ false = grind (arith, nat_tests) in
+    let here : (l.size == size) ≡ true = grind (arith, nat_tests) in
+    rw (big, here) refl
+
+pub resizes_same : (b : Books) (s : Space) (from to : Addr) (place size : ℕ) → to ≡ from → size ≡ b.slots.size → size ≤ 1073741823 → place_at (state_of b) from ≡ Some place → Resizes (state_of b) (state_of b) place size from to s s
+resizes_same b s from to place size same is most there = record {
+  answer = record { ledger = (state_of b).ledger; place = place; asked = 0; stays = true };
+  is = resize_same (state_of b).ledger _ _ place size is most;
+  ledger = refl;
+  place = moves_stay (place_at (state_of b)) from to place same there;
+  asked = refl;
+  stays = ((λ e. refl), (λ e. same));
+}
+
+-- as many blocks as numbers of live chunks
+pub length-blocks : (l : Layout) → length (blocks_of l) ≡ length (lives_of l)
+length-blocks l = length-map (others l.blocks) numbered_of ∙ sym (length-map (others l.blocks) live_of)
+
+-- what follows of both clauses of a call that was served
+pub both_ok : {A E : Type 0} {P Q : A → Type 0} {R : Type 0} (r : Result A E) → ((a : A) → P a → R → Q a) → IfOk r P → OnOk r R → IfOk r Q
+both_ok (Ok a) all p q = all a p q
+both_ok (Err e) all p q = p
+
+-- a live chunk has the size of all of them
+pub size_is : (b : Books) (at : Addr) (chunk : Chunk) → HasSlots b.slots → chunk_at b.slots.blocks at ≡ Some chunk → (footprint (state_of b)).live at ≡ Some b.slots.size
+size_is b at chunk slots there =
+    let is : chunk ≡ chunk_of b.slots.size = slots.chunk at chunk there in
+    ap (option_map (λ (x : Chunk). x.size)) there ∙ ap (λ (x : Chunk). Some x.size) is
+
+pub live_stays : (b : Books) (from to : Addr) (size : ℕ) → to ≡ from → size ≡ b.slots.size → HasSlots b.slots → IsSome ((footprint (state_of b)).live from) → MovesLive (footprint (state_of b)) (footprint (state_of b)) from to size
+live_stays b from to size same is slots live =
+    let some = some_is ((footprint (state_of b)).live from) live in
+    let had = from_live b.slots.blocks from some.0 some.1 in
+    moves_stay (footprint (state_of b)).live from to size same (size_is b from had.0 slots had.1 ∙ ap Some (sym is))
