@@ -1,5 +1,6 @@
 use Rattle.std.proofs.Common.{◌≡◌, ℕ, Some, option_map, sym, subst, ap, ◌∙◌}
 use Rattle.ctx_blocks.specs.Layout.{chunk_at}
+use Rattle.ctx_blocks.specs.Numbered.{number_of}
 use Rattle.ctx_blocks.specs.declared.parts.Chunk.{Chunk}
 use Rattle.addr_space.specs.declared.Addr.{Addr}
 use Rattle.addr_space.proofs.Options.{from_map}
@@ -41,7 +42,7 @@ returns-in-Slab-clause-spaces c = subst SaysSpaces (sym c.in-Slab.is) (λ at pla
     let had = from_map InSlab (slab_state.place_at a at) place is in
     let same : Some (slab.chunk_bytes a.ledger) ≡ Some n = ap (chunk_bytes (OfSlab a.ledger)) had.2 ∙ takes in
     let bytes : slab.chunk_bytes a.ledger ≡ n = cc in
-    subst (TakesSpace (slab_state.footprint a) at) bytes (let chunk = from_map (slab_state.place (slab_state.number_of a.layout at.region)) (chunk_at a.layout at) had.0 had.1 in c.headed-in-Slab.ensures.spaces at chunk.0.size (ap (option_map (λ (x : Chunk). x.size)) chunk.1)))
+    subst (TakesSpace (slab_state.footprint a) at) bytes (let chunk = from_map (slab_state.place (number_of a.layout at.region)) (chunk_at a.layout at) had.0 had.1 in c.headed-in-Slab.ensures.spaces at chunk.0.size (ap (option_map (λ (x : Chunk). x.size)) chunk.1)))
 
 pub returns-in-Generation-clause-kinds : goal.returns-in-Generation-clause-kinds
 returns-in-Generation-clause-kinds c = subst (λ (x : AnyCtx). AllOfKind (kind_of x) (footprint x)) (sym c.in-Generation.is) c.headed-in-Generation.ensures.kinds

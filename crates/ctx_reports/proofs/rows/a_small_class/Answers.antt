@@ -1,0 +1,6 @@
+use Rattle.ctx_reports.proofs.Steps.{answered}
+use Rattle.ctx_reports.proofs.Runs.{row-a_small_class}
+use Rattle.ctx_reports.proofs.rows.a_small_class.Goals as goal
+
+pub returns : goal.returns
+returns c = answered c.new_pair.result row-a_small_class c.new_pair.ensures
