@@ -1,6 +1,6 @@
 -- The numbers of each command are in their ranges.
 use Rattle.std.proofs.Common.{◌≡◌, ℕ, ◌%◌, ◌*◌, ◌+◌, Bool, true, false, List, [], ◌∷◌, ◌++◌, length, codes, Option, Some, None, Ok, Err, Result, IfSome, cond, refl, arith}
-use Rattle.std.specs.Prelude.{⊤, nat_le, ◌&&◌, ◌==◌, IfOk, drop, slice_get}
+use Rattle.std.specs.Prelude.{⊤, nat_le, ◌&&◌, ◌==◌, IfOk}
 use Rattle.std.proofs.lemmas.Bool.{and_parts}
 use Rattle.std.specs.Option.{option_map, option_and_then, option_or}
 use Rattle.std.specs.Result.{result_ok}
@@ -11,13 +11,13 @@ use Rattle.hex.specs.Hex.{decode_of, decode_pairs, pair_value, ◌>>=◌}
 use Rattle.hex.specs.declared.error.FromHexError.{FromHexError}
 use Rattle.hex.specs.declared.error.FromHexError.TheVariants.{OddLength}
 use Rattle.pgs_command.specs.Words.{is_text, alone, next, only, pair, behind}
-use Rattle.pgs_command.specs.Values.{name_of, number_of, number_between, bytes_of, length_of, count_of, turns_of, class_of, mode_of, kind_of, plain_kind}
+use Rattle.pgs_command.specs.Values.{name_of, number_of, number_between, bytes_of, length_of, count_of, turns_of, kind_of, plain_kind}
 use Rattle.pgs_command.specs.Table.{Reading, Row, none, one, two, three, with_kind, portal, portal_with_bad, transaction_rows, context_rows, chunk_rows, resource_rows, query_rows, table, look_up, command_of}
 use Rattle.pgs_command.specs.Ranges.{IsBetween, IsKindInRange, IsInRange}
 use Rattle.pgs_command.specs.declared.kinds.ContextKind.{ContextKind}
 use Rattle.pgs_command.specs.declared.kinds.ContextKind.TheVariants.{Default, Small, Slab, Generation, Bump}
 use Rattle.pgs_command.specs.declared.commands.Command.{Command}
-use Rattle.pgs_command.specs.declared.commands.Command.TheVariants.{Begin, Commit, Rollback, Savepoint, Release, RollbackTo, Raise, Report, Stat, Context, Switch, OnReset, Reset, ResetOnly, Delete, DeleteChildren, Reparent, Alloc, AllocZeroed, Realloc, Free, Put, Show, Pin, Unpin, Buffer, Open, Touch, Close, Lock, Unlock, Reference, Unreference, Acquire, Drop, Snapshot, Unsnapshot, Push, Pop, Plan, PlanReference, PlanUnreference, PlanDrop, Portal, Fetch, EndPortal}
+use Rattle.pgs_command.specs.declared.commands.Command.TheVariants.{RollbackTo, Context, Put, Show, Portal, Fetch}
 
 -- ---- values
 
@@ -104,15 +104,11 @@ chained : {A B : Type 0} (Q : A → Type 0) (P : B → Type 0) (go_on : A → Op
 chained Q P go_on None q h = tt
 chained Q P go_on (Some a) q h = h a q
 
-read_first : {A : Type 0} (Q : A → Type 0) (read : List ℕ → Option A) → ((word : List ℕ) → IfSome (read word) Q) → (words : List (List ℕ)) → IfSome (option_and_then read (slice_get words 0)) Q
-read_first Q read q [] = tt
-read_first Q read q (word ∷ words) = q word
-
 next-keeps : {A B : Type 0} (Q : A → Type 0) (P : B → Type 0) (read : List ℕ → Option A) (go_on : A → List (List ℕ) → Option B)
     → ((word : List ℕ) → IfSome (read word) Q) → ((a : A) → Q a → (words : List (List ℕ)) → IfSome (go_on a words) P)
     → (words : List (List ℕ)) → IfSome (next read go_on words) P
-next-keeps Q P read go_on q h words =
-    chained Q P (λ a. go_on a (drop 1 words)) (option_and_then read (slice_get words 0)) (read_first Q read q words) (λ a p. h a p (drop 1 words))
+next-keeps Q P read go_on q h [] = tt
+next-keeps Q P read go_on q h (word ∷ words) = chained Q P (λ a. go_on a words) (read word) (q word) (λ a p. h a p words)
 
 none-keeps : (command : Command) → IsInRange command → Keeps (none command)
 none-keeps command h = alone-keeps IsInRange command h
@@ -228,161 +224,29 @@ portal_with_bad-keeps =
     (λ name _. three-keeps IsCount IsCount IsCount count_of count_of count_of (λ object rows bad. Portal name object rows (Some bad))
     (number_in_range 0 1000000) (number_in_range 0 1000000) (number_in_range 0 1000000) (λ _ _ _ h k l. (h.1, k.1, l.1)))
 
+-- the numbers of these rows take the whole range of their type
+two_free : {A B : Type 0} (read : List ℕ → Option A) (read' : List ℕ → Option B) (make : A → B → Command) → ((a : A) (b : B) → IsInRange (make a b)) → Keeps (two read read' make)
+two_free read read' make h = two-keeps (λ _. ⊤) read read' make (λ word. anything (read' word)) (λ a b _. h a b)
+
+fetch-keeps : Keeps (two name_of turns_of Fetch)
+fetch-keeps = two-keeps (IsBetween 1 1000000) name_of turns_of Fetch (number_in_range 1 1000000) (λ _ _ h. h)
+
+ruleset keeping = (none-keeps, one-keeps, two_free, rollback_to-keeps, with_kind-keeps, put-keeps, show-keeps, portal-keeps, portal_with_bad-keeps, fetch-keeps)
+
 transaction_rows-keep : AllKeep transaction_rows
-transaction_rows-keep = (
-  none-keeps Begin tt,
-  (
-    none-keeps Commit tt,
-    (
-      none-keeps Rollback tt,
-      (
-        rollback_to-keeps,
-        (
-          one-keeps name_of Savepoint (λ _. tt),
-          (
-            one-keeps name_of Release (λ _. tt),
-            (
-              none-keeps Raise tt,
-              (
-                none-keeps Report tt,
-                (
-                  none-keeps Stat tt,
-                  tt,
-                ),
-              ),
-            ),
-          ),
-        ),
-      ),
-    ),
-  ),
-)
+transaction_rows-keep = search keeping
 
 context_rows-keep : AllKeep context_rows
-context_rows-keep = (
-  with_kind-keeps,
-  (
-    one-keeps name_of Switch (λ _. tt),
-    (
-      one-keeps name_of OnReset (λ _. tt),
-      (
-        one-keeps name_of Reset (λ _. tt),
-        (
-          one-keeps name_of ResetOnly (λ _. tt),
-          (
-            one-keeps name_of Delete (λ _. tt),
-            (
-              one-keeps name_of DeleteChildren (λ _. tt),
-              (
-                two-keeps (λ _. ⊤) name_of name_of Reparent (λ word. anything (name_of word)) (λ _ _ _. tt),
-                tt,
-              ),
-            ),
-          ),
-        ),
-      ),
-    ),
-  ),
-)
+context_rows-keep = search keeping
 
 chunk_rows-keep : AllKeep chunk_rows
-chunk_rows-keep = (
-  two-keeps (λ _. ⊤) name_of number_of Alloc (λ word. anything (number_of word)) (λ _ _ _. tt),
-  (
-    two-keeps (λ _. ⊤) name_of number_of AllocZeroed (λ word. anything (number_of word)) (λ _ _ _. tt),
-    (
-      two-keeps (λ _. ⊤) name_of number_of Realloc (λ word. anything (number_of word)) (λ _ _ _. tt),
-      (
-        one-keeps name_of Free (λ _. tt),
-        (
-          put-keeps,
-          (
-            show-keeps,
-            tt,
-          ),
-        ),
-      ),
-    ),
-  ),
-)
+chunk_rows-keep = search keeping
 
 resource_rows-keep : AllKeep resource_rows
-resource_rows-keep = (
-  one-keeps number_of Pin (λ _. tt),
-  (
-    one-keeps number_of Unpin (λ _. tt),
-    (
-      one-keeps number_of Buffer (λ _. tt),
-      (
-        one-keeps number_of Open (λ _. tt),
-        (
-          one-keeps number_of Touch (λ _. tt),
-          (
-            one-keeps number_of Close (λ _. tt),
-            (
-              two-keeps (λ _. ⊤) number_of mode_of Lock (λ word. anything (mode_of word)) (λ _ _ _. tt),
-              (
-                two-keeps (λ _. ⊤) number_of mode_of Unlock (λ word. anything (mode_of word)) (λ _ _ _. tt),
-                (
-                  two-keeps (λ _. ⊤) class_of number_of Reference (λ word. anything (number_of word)) (λ _ _ _. tt),
-                  (
-                    two-keeps (λ _. ⊤) class_of number_of Unreference (λ word. anything (number_of word)) (λ _ _ _. tt),
-                    (
-                      two-keeps (λ _. ⊤) name_of number_of Acquire (λ word. anything (number_of word)) (λ _ _ _. tt),
-                      (
-                        two-keeps (λ _. ⊤) name_of number_of Drop (λ word. anything (number_of word)) (λ _ _ _. tt),
-                        tt,
-                      ),
-                    ),
-                  ),
-                ),
-              ),
-            ),
-          ),
-        ),
-      ),
-    ),
-  ),
-)
+resource_rows-keep = search keeping
 
 query_rows-keep : AllKeep query_rows
-query_rows-keep = (
-  one-keeps number_of Snapshot (λ _. tt),
-  (
-    one-keeps number_of Unsnapshot (λ _. tt),
-    (
-      one-keeps number_of Push (λ _. tt),
-      (
-        none-keeps Pop tt,
-        (
-          one-keeps number_of Plan (λ _. tt),
-          (
-            one-keeps number_of PlanReference (λ _. tt),
-            (
-              one-keeps number_of PlanUnreference (λ _. tt),
-              (
-                one-keeps number_of PlanDrop (λ _. tt),
-                (
-                  portal-keeps,
-                  (
-                    portal_with_bad-keeps,
-                    (
-                      two-keeps (IsBetween 1 1000000) name_of turns_of Fetch (number_in_range 1 1000000) (λ _ _ h. h),
-                      (
-                        one-keeps name_of EndPortal (λ _. tt),
-                        tt,
-                      ),
-                    ),
-                  ),
-                ),
-              ),
-            ),
-          ),
-        ),
-      ),
-    ),
-  ),
-)
+query_rows-keep = search keeping
 
 table-keeps : AllKeep table
 table-keeps =

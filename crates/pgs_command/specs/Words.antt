@@ -1,5 +1,5 @@
 -- The words of a line, and how the words of a command are read.
-use Rattle.std.specs.Prelude.{ℕ, ◌==◌, Bool, if◌then◌else◌, List, [], ◌∷◌, drop, slice_get, Option, Some, None}
+use Rattle.std.specs.Prelude.{ℕ, ◌==◌, Bool, if◌then◌else◌, List, [], ◌∷◌, Option, Some, None}
 use Rattle.std.specs.Option.{option_and_then}
 use Rattle.std.specs.List.{slice_split}
 use lib.Pointwise.{pointwise}
@@ -24,7 +24,8 @@ alone value (word ∷ words) = None
 
 -- the first word is read, and then the words behind it with what it stands for
 abbrev pub next : {A B : Type 0} → (List ℕ → Option A) → (A → List (List ℕ) → Option B) → List (List ℕ) → Option B
-next read go_on words = option_and_then (λ value. go_on value (drop 1 words)) (option_and_then read (slice_get words 0))
+next read go_on [] = None
+next read go_on (word ∷ words) = option_and_then (λ value. go_on value words) (read word)
 
 -- a fixed word, and then the words behind it
 abbrev pub behind : {A : Type 0} → List ℕ → (List (List ℕ) → Option A) → List (List ℕ) → Option A

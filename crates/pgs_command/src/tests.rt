@@ -11,289 +11,254 @@ fn bytes(rt: &impl Abort, bytes: &[u8]) -> ChunkBytes {
     ChunkBytes::new(bytes).expect(rt, "at most 128 bytes")
 }
 
+/// Whether session 1 is to perform the command.
+fn is_read(line: &[u8], command: Command) -> bool {
+    parse_line(line, false)
+        == Ok(Line {
+            session: 1,
+            command,
+        })
+}
+
 fn command(line: &[u8]) -> Option<Command> {
     parse_line(line, false).ok().map(|line| line.command)
 }
 
 #[test]
 fn transactions_are_read(rt: HostRuntime) {
-    for (line, want) in [
-        (b"begin".as_slice(), Command::Begin),
-        (b"commit".as_slice(), Command::Commit),
-        (b"rollback".as_slice(), Command::Rollback),
-        (
-            b"savepoint s_1".as_slice(),
-            Command::Savepoint(name(&rt, b"s_1")),
-        ),
-        (b"release S".as_slice(), Command::Release(name(&rt, b"S"))),
-        (
-            b"rollback to s".as_slice(),
-            Command::RollbackTo(name(&rt, b"s")),
-        ),
-        (b"raise".as_slice(), Command::Raise),
-        (b"report".as_slice(), Command::Report),
-        (b"stat".as_slice(), Command::Stat),
-    ] {
-        assert_eq!(rt;
-            parse_line(line, false),
-            Ok(Line {
-                session: 1,
-                command: want
-            })
-        );
-    }
+    let s_1 = name(&rt, b"s_1");
+    let upper = name(&rt, b"S");
+    let s = name(&rt, b"s");
+    assert!(rt; is_read(b"begin", Command::Begin));
+    assert!(rt; is_read(b"commit", Command::Commit));
+    assert!(rt; is_read(b"rollback", Command::Rollback));
+    assert!(rt; is_read(b"savepoint s_1", Command::Savepoint(s_1)));
+    assert!(rt; is_read(b"release S", Command::Release(upper)));
+    assert!(rt; is_read(b"rollback to s", Command::RollbackTo(s)));
+    assert!(rt; is_read(b"raise", Command::Raise));
+    assert!(rt; is_read(b"report", Command::Report));
+    assert!(rt; is_read(b"stat", Command::Stat));
 }
 
 #[test]
 fn contexts_are_read(rt: HostRuntime) {
-    for (line, want) in [
-        (
-            b"context w CurTransactionContext default".as_slice(),
+    let w = name(&rt, b"w");
+    let current = name(&rt, b"CurTransactionContext");
+    let p = name(&rt, b"p");
+    assert!(rt;
+        is_read(
+            b"context w CurTransactionContext default",
             Command::Context {
-                name: name(&rt, b"w"),
-                parent: name(&rt, b"CurTransactionContext"),
+                name: w,
+                parent: current,
                 kind: ContextKind::Default,
-            },
-        ),
-        (
-            b"context w p small".as_slice(),
+            }
+        )
+    );
+    assert!(rt;
+        is_read(
+            b"context w p small",
             Command::Context {
-                name: name(&rt, b"w"),
-                parent: name(&rt, b"p"),
+                name: w,
+                parent: p,
                 kind: ContextKind::Small,
-            },
-        ),
-        (
-            b"context w p slab 1024".as_slice(),
+            }
+        )
+    );
+    assert!(rt;
+        is_read(
+            b"context w p slab 1024",
             Command::Context {
-                name: name(&rt, b"w"),
-                parent: name(&rt, b"p"),
+                name: w,
+                parent: p,
                 kind: ContextKind::Slab(1024),
-            },
-        ),
-        (
-            b"context w p generation".as_slice(),
+            }
+        )
+    );
+    assert!(rt;
+        is_read(
+            b"context w p generation",
             Command::Context {
-                name: name(&rt, b"w"),
-                parent: name(&rt, b"p"),
+                name: w,
+                parent: p,
                 kind: ContextKind::Generation,
-            },
-        ),
-        (
-            b"context w p bump".as_slice(),
+            }
+        )
+    );
+    assert!(rt;
+        is_read(
+            b"context w p bump",
             Command::Context {
-                name: name(&rt, b"w"),
-                parent: name(&rt, b"p"),
+                name: w,
+                parent: p,
                 kind: ContextKind::Bump,
-            },
-        ),
-        (b"switch w".as_slice(), Command::Switch(name(&rt, b"w"))),
-        (b"onreset w".as_slice(), Command::OnReset(name(&rt, b"w"))),
-        (b"reset w".as_slice(), Command::Reset(name(&rt, b"w"))),
-        (
-            b"resetonly w".as_slice(),
-            Command::ResetOnly(name(&rt, b"w")),
-        ),
-        (b"delete w".as_slice(), Command::Delete(name(&rt, b"w"))),
-        (
-            b"deletechildren w".as_slice(),
-            Command::DeleteChildren(name(&rt, b"w")),
-        ),
-        (
-            b"reparent w p".as_slice(),
-            Command::Reparent {
-                name: name(&rt, b"w"),
-                parent: name(&rt, b"p"),
-            },
-        ),
-    ] {
-        assert_eq!(rt;
-            parse_line(line, false),
-            Ok(Line {
-                session: 1,
-                command: want
-            })
-        );
-    }
+            }
+        )
+    );
+    assert!(rt; is_read(b"switch w", Command::Switch(w)));
+    assert!(rt; is_read(b"onreset w", Command::OnReset(w)));
+    assert!(rt; is_read(b"reset w", Command::Reset(w)));
+    assert!(rt; is_read(b"resetonly w", Command::ResetOnly(w)));
+    assert!(rt; is_read(b"delete w", Command::Delete(w)));
+    assert!(rt; is_read(b"deletechildren w", Command::DeleteChildren(w)));
+    assert!(rt; is_read(b"reparent w p", Command::Reparent { name: w, parent: p }));
 }
 
 #[test]
 fn chunks_are_read(rt: HostRuntime) {
-    for (line, want) in [
-        (
-            b"alloc a 100".as_slice(),
+    let a = name(&rt, b"a");
+    assert!(rt;
+        is_read(
+            b"alloc a 100",
             Command::Alloc {
-                chunk: name(&rt, b"a"),
+                chunk: a,
                 size: 100,
-            },
-        ),
-        (
-            b"alloc0 a 0".as_slice(),
-            Command::AllocZeroed {
-                chunk: name(&rt, b"a"),
-                size: 0,
-            },
-        ),
-        (
-            b"realloc a 4294967295".as_slice(),
+            }
+        )
+    );
+    assert!(rt; is_read(b"alloc0 a 0", Command::AllocZeroed { chunk: a, size: 0 }));
+    assert!(rt;
+        is_read(
+            b"realloc a 4294967295",
             Command::Realloc {
-                chunk: name(&rt, b"a"),
+                chunk: a,
                 size: 4294967295,
-            },
-        ),
-        (b"free a".as_slice(), Command::Free(name(&rt, b"a"))),
-        (
-            b"put a 10 0aFF".as_slice(),
+            }
+        )
+    );
+    assert!(rt; is_read(b"free a", Command::Free(a)));
+    assert!(rt;
+        is_read(
+            b"put a 10 0aFF",
             Command::Put {
-                chunk: name(&rt, b"a"),
+                chunk: a,
                 at: 10,
                 bytes: bytes(&rt, &[10, 255]),
-            },
-        ),
-        (
-            b"show a 0 128".as_slice(),
+            }
+        )
+    );
+    assert!(rt;
+        is_read(
+            b"show a 0 128",
             Command::Show {
-                chunk: name(&rt, b"a"),
+                chunk: a,
                 at: 0,
                 length: 128,
-            },
-        ),
-    ] {
-        assert_eq!(rt;
-            parse_line(line, false),
-            Ok(Line {
-                session: 1,
-                command: want
-            })
-        );
-    }
+            }
+        )
+    );
 }
 
 #[test]
 fn resources_are_read(rt: HostRuntime) {
-    for (line, want) in [
-        (b"pin 7".as_slice(), Command::Pin(7)),
-        (b"unpin 2000".as_slice(), Command::Unpin(2000)),
-        (b"buffer 7".as_slice(), Command::Buffer(7)),
-        (b"open 3".as_slice(), Command::Open(3)),
-        (b"touch 3".as_slice(), Command::Touch(3)),
-        (b"close 3".as_slice(), Command::Close(3)),
-        (
-            b"lock 5 AccessShareLock".as_slice(),
+    let conn = name(&rt, b"conn");
+    assert!(rt; is_read(b"pin 7", Command::Pin(7)));
+    assert!(rt; is_read(b"unpin 2000", Command::Unpin(2000)));
+    assert!(rt; is_read(b"buffer 7", Command::Buffer(7)));
+    assert!(rt; is_read(b"open 3", Command::Open(3)));
+    assert!(rt; is_read(b"touch 3", Command::Touch(3)));
+    assert!(rt; is_read(b"close 3", Command::Close(3)));
+    assert!(rt;
+        is_read(
+            b"lock 5 AccessShareLock",
             Command::Lock {
                 object: 5,
                 mode: Mode::AccessShareLock,
-            },
-        ),
-        (
-            b"unlock 5 AccessExclusiveLock".as_slice(),
+            }
+        )
+    );
+    assert!(rt;
+        is_read(
+            b"unlock 5 AccessExclusiveLock",
             Command::Unlock {
                 object: 5,
                 mode: Mode::AccessExclusiveLock,
-            },
-        ),
-        (
-            b"ref relcache 9".as_slice(),
+            }
+        )
+    );
+    assert!(rt;
+        is_read(
+            b"ref relcache 9",
             Command::Reference {
                 class: ReferenceClass::Relcache,
                 key: 9,
-            },
-        ),
-        (
-            b"unref catcache 9".as_slice(),
+            }
+        )
+    );
+    assert!(rt;
+        is_read(
+            b"unref catcache 9",
             Command::Unreference {
                 class: ReferenceClass::Catcache,
                 key: 9,
-            },
-        ),
-        (
-            b"ref catlist 9".as_slice(),
+            }
+        )
+    );
+    assert!(rt;
+        is_read(
+            b"ref catlist 9",
             Command::Reference {
                 class: ReferenceClass::CatcacheList,
                 key: 9,
-            },
-        ),
-        (
-            b"ref tupdesc 9".as_slice(),
+            }
+        )
+    );
+    assert!(rt;
+        is_read(
+            b"ref tupdesc 9",
             Command::Reference {
                 class: ReferenceClass::TupleDescriptor,
                 key: 9,
-            },
-        ),
-        (
-            b"acquire conn 4".as_slice(),
-            Command::Acquire {
-                kind: name(&rt, b"conn"),
-                key: 4,
-            },
-        ),
-        (
-            b"drop conn 4".as_slice(),
-            Command::Drop {
-                kind: name(&rt, b"conn"),
-                key: 4,
-            },
-        ),
-    ] {
-        assert_eq!(rt;
-            parse_line(line, false),
-            Ok(Line {
-                session: 1,
-                command: want
-            })
-        );
-    }
+            }
+        )
+    );
+    assert!(rt; is_read(b"acquire conn 4", Command::Acquire { kind: conn, key: 4 }));
+    assert!(rt; is_read(b"drop conn 4", Command::Drop { kind: conn, key: 4 }));
 }
 
 #[test]
 fn snapshots_plans_and_portals_are_read(rt: HostRuntime) {
-    for (line, want) in [
-        (b"snapshot 4".as_slice(), Command::Snapshot(4)),
-        (b"unsnapshot 4".as_slice(), Command::Unsnapshot(4)),
-        (b"push 4".as_slice(), Command::Push(4)),
-        (b"pop".as_slice(), Command::Pop),
-        (b"plan 4".as_slice(), Command::Plan(4)),
-        (b"planref 4".as_slice(), Command::PlanReference(4)),
-        (b"planunref 4".as_slice(), Command::PlanUnreference(4)),
-        (b"plandrop 4".as_slice(), Command::PlanDrop(4)),
-        (
-            b"portal p 1000000 25".as_slice(),
+    let p = name(&rt, b"p");
+    assert!(rt; is_read(b"snapshot 4", Command::Snapshot(4)));
+    assert!(rt; is_read(b"unsnapshot 4", Command::Unsnapshot(4)));
+    assert!(rt; is_read(b"push 4", Command::Push(4)));
+    assert!(rt; is_read(b"pop", Command::Pop));
+    assert!(rt; is_read(b"plan 4", Command::Plan(4)));
+    assert!(rt; is_read(b"planref 4", Command::PlanReference(4)));
+    assert!(rt; is_read(b"planunref 4", Command::PlanUnreference(4)));
+    assert!(rt; is_read(b"plandrop 4", Command::PlanDrop(4)));
+    assert!(rt;
+        is_read(
+            b"portal p 1000000 25",
             Command::Portal {
-                name: name(&rt, b"p"),
+                name: p,
                 object: 1000000,
                 rows: 25,
                 bad: None,
-            },
-        ),
-        (
-            b"portal p 7 25 0".as_slice(),
+            }
+        )
+    );
+    assert!(rt;
+        is_read(
+            b"portal p 7 25 0",
             Command::Portal {
-                name: name(&rt, b"p"),
+                name: p,
                 object: 7,
                 rows: 25,
                 bad: Some(0),
-            },
-        ),
-        (
-            b"fetch p 1000000".as_slice(),
+            }
+        )
+    );
+    assert!(rt;
+        is_read(
+            b"fetch p 1000000",
             Command::Fetch {
-                name: name(&rt, b"p"),
+                name: p,
                 count: 1000000,
-            },
-        ),
-        (
-            b"endportal p".as_slice(),
-            Command::EndPortal(name(&rt, b"p")),
-        ),
-    ] {
-        assert_eq!(rt;
-            parse_line(line, false),
-            Ok(Line {
-                session: 1,
-                command: want
-            })
-        );
-    }
+            }
+        )
+    );
+    assert!(rt; is_read(b"endportal p", Command::EndPortal(p)));
 }
 
 #[test]
