@@ -47,23 +47,23 @@ pub fn append_text<const N: usize>(event: &Event, names: &[Name], out: &mut Arra
     ensures text { out.new.items ≡ out.old.items ++ text_of names.now event.now }
     ensures short { array_vec_len out.new ≤ array_vec_len out.old + 512 }
 {
-    if has_text(event.what, names) {
+    if has_text(&event.what, names) {
         put_number(out, event.session as u64);
         out.push(b' ');
-        put_what(out, event.what, names);
+        put_what(out, &event.what, names);
         out.push(b'\n');
     }
 }
 
 /// Whether an event has a text: false where it names a kind without a name.
 #[tactic(auto, unfolding(crate::specs::Text::what_text))]
-fn has_text(what: What, names: &[Name]) -> bool
-    ensures { result ≡ is_some (what_text names.now what) }
+fn has_text(what: &What, names: &[Name]) -> bool
+    ensures { result ≡ is_some (what_text names.now what.now) }
 {
-    match what {
-        What::Acquire { item, .. } => has_name(item.kind, names),
-        What::Release { item, .. } => has_name(item.kind, names),
-        What::NotClosed { item, .. } => has_name(item.kind, names),
+    match *what {
+        What::Acquire { item, .. } | What::Release { item, .. } | What::NotClosed { item, .. } => {
+            has_name(item.kind, names)
+        }
         _ => true,
     }
 }
@@ -82,12 +82,12 @@ fn has_name(kind: KindId, names: &[Name]) -> bool
 
 /// Writes an event's text at the end, where it has one.
 #[tactic(auto, unfolding(crate::specs::Text::what_text))]
-fn put_what<const N: usize>(out: &mut ArrayVec<u8, N>, what: What, names: &[Name])
+fn put_what<const N: usize>(out: &mut ArrayVec<u8, N>, what: &What, names: &[Name])
     requires { array_vec_len out.old + 450 ≤ N }
-    ensures text { IfSome (what_text names.now what) (λ text. out.new.items ≡ out.old.items ++ text) }
+    ensures text { IfSome (what_text names.now what.now) (λ text. out.new.items ≡ out.old.items ++ text) }
     ensures short { array_vec_len out.new ≤ array_vec_len out.old + 450 }
 {
-    match what {
+    match *what {
         What::BeginLevel(level) => put_counted(out, b"begin level ", level as u64),
         What::CommitLevel(level) => put_counted(out, b"commit level ", level as u64),
         What::AbortLevel(level) => put_counted(out, b"abort level ", level as u64),

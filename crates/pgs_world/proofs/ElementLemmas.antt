@@ -1,8 +1,9 @@
 -- Which elements a line has.
-use Rattle.std.proofs.Common.{◌≡◌, ℕ, ◌<◌, ◌≤◌, Bool, true, false, [], ◌∷◌, Option, Some, None, refl, arith}
+use Rattle.std.proofs.Common.{◌≡◌, ◌⊎◌, inl, inr, ap, ℕ, ◌<◌, ◌≤◌, Bool, true, false, [], ◌∷◌, Option, Some, None, refl, arith}
 use Rattle.std.specs.Prelude.{nat_lt, if◌then◌else◌}
 use Rattle.std.proofs.lemmas.Bool.Decides.{nat_tests}
 use Rattle.pgs_step.specs.declared.errors.Error.TheVariants.{SyntaxError, TransactionAborted, NoSuchBuffer}
+use Rattle.pgs_step.specs.declared.events.What.TheVariants.{NotInTransaction}
 use Rattle.pgs_step.specs.declared.events.What.TheVariants as what
 use Rattle.pgs_command.specs.declared.commands.Command.{Command}
 use Rattle.pgs_command.specs.declared.commands.Command.TheVariants.{Nothing, Begin, Commit, Rollback, Pin}
@@ -37,6 +38,11 @@ aborted_refuses Nothing n c r = absurd (n refl)
 aborted_refuses Commit n c r = absurd (c refl)
 aborted_refuses Rollback n c r = absurd (r refl)
 aborted_refuses command n c r = refl
+
+-- the ends where there is nothing to end
+pub idle_warns : (command : Command) → (command ≡ Commit) ⊎ (command ≡ Rollback) → idle_elements command ≡ Says NotInTransaction ∷ Says what.Ok ∷ []
+idle_warns command (inl e) = ap idle_elements e
+idle_warns command (inr e) = ap idle_elements e
 
 pub bad_elements : (command : Option Command) (session : SessionState) → command ≡ None → elements_of command session ≡ Refuse SyntaxError ∷ []
 unfolding elements_of

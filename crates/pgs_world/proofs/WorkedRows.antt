@@ -1,5 +1,5 @@
 -- Scripts and their transcripts, computed from the definitions.
-use Rattle.std.proofs.Common.{◌≡◌, List, [], ◌∷◌, None, refl}
+use Rattle.std.proofs.Common.{◌≡◌, [], ◌∷◌, None, refl}
 use Rattle.std.specs.Prelude.{codes}
 use Rattle.std.specs.Fmt.{digits}
 use Rattle.pgs_step.specs.Text.{text_of, what_text, kind_name, error_text}

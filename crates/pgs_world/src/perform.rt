@@ -62,11 +62,7 @@ impl Session {
         match command {
             Command::Nothing => Ok(()),
             Command::Begin => self.begin(out),
-            Command::Commit => {
-                say(What::NotInTransaction, out);
-                Ok(())
-            }
-            Command::Rollback => {
+            Command::Commit | Command::Rollback => {
                 say(What::NotInTransaction, out);
                 Ok(())
             }
@@ -111,11 +107,7 @@ impl Session {
     {
         match command {
             Command::Nothing => Ok(()),
-            Command::Commit => {
-                self.end_aborted(out);
-                Ok(())
-            }
-            Command::Rollback => {
+            Command::Commit | Command::Rollback => {
                 self.end_aborted(out);
                 Ok(())
             }

@@ -1,16 +1,13 @@
 use Rattle.std.proofs.Common.{refl, arith}
 use Rattle.pgs_world.proofs.AnswerLemmas.{Answers-nil, Answers-warn, Answers-refuse}
-use Rattle.pgs_world.proofs.ElementLemmas.{idle_refuses}
+use Rattle.pgs_world.proofs.ElementLemmas.{idle_refuses, idle_warns}
 use Rattle.pgs_world.proofs.session.Session.perform_idle.Goals as goal
 
 pub returns-in-Nothing-clause-answers : goal.returns-in-Nothing-clause-answers
 returns-in-Nothing-clause-answers g c = rw c.in-Nothing.is (Answers-nil _ _ (g.met.E.Emit.emits_none _))
 
 pub returns-in-Commit-clause-answers : goal.returns-in-Commit-clause-answers
-returns-in-Commit-clause-answers g c = rw c.in-Commit.is (Answers-warn _ _ _ c.say.ensures)
-
-pub returns-in-Rollback-clause-answers : goal.returns-in-Rollback-clause-answers
-returns-in-Rollback-clause-answers g c = rw c.in-Rollback.is (Answers-warn _ _ _ c.say-in-Rollback.ensures)
+returns-in-Commit-clause-answers g c = rw (idle_warns c.args.command c.in-Commit.is) (Answers-warn _ _ _ c.say.ensures)
 
 pub returns-in_default : goal.returns-in_default
 returns-in_default g c = record {
