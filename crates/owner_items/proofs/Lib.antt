@@ -3,3 +3,4 @@ pub mod NewestFirst
 pub mod NextSoFar
 pub mod Order
 pub mod Taken
+pub mod Uses

@@ -1,7 +1,7 @@
 -- The search for the item that is released next, part of the way.
 use Rattle.std.proofs.Common.{◌≡◌, ℕ, ◌+◌, ◌<◌, ◌≤◌, Bool, true, false, not, ◌&&◌, ◌||◌, nat_le, List, length, get_or, Option, Some, None, MatchOption, IsTrue, is_some, is_none, ◌⊎◌, inl, inr, refl, sym, ◌∙◌, ap, below_more, arith}
 use Rattle.std.proofs.lemmas.List.{get_or_default}
-use Rattle.owner_items.specs.Newest.{FindsNewest, FindsNext}
+use Rattle.owner_items.specs.Newest.{FindsNext}
 use Rattle.pgs_step.specs.declared.ids.Item.{Item}
 
 -- among the first n items none passes the test
@@ -94,20 +94,6 @@ next_passed test rank items n (Some place) low next worse =
       later = λ k d behind below yes. after k below d behind yes;
     }
 
-pub newest_all :
-    (test : Item → Bool) (items : List Item) (n : ℕ) (found : Option ℕ) →
-    NextYet test (λ _. 0) items n found 0 → n ≡ length items → FindsNewest test items found
-newest_all test items n None none all = λ k d below. none k d (omega arith)
-newest_all test items n (Some place) next all =
-    record {
-      within = omega (arith, next.within);
-      passes = next.passes;
-      later =
-          λ k d after below.
-          no_if_not_yes (test (get_or items k d))
-          (λ yes. absurd (let never : 0 < 0 = next.later k d after (omega arith) yes in omega arith));
-    }
-
 pub next_all :
     (test : Item → Bool) (rank : Item → ℕ) (items : List Item) (n : ℕ) (found : Option ℕ) (low : ℕ) →
     NextYet test rank items n found low → n ≡ length items → FindsNext test rank items found
@@ -122,22 +108,6 @@ next_all test rank items n (Some place) low next all =
 
 at_any : {Y : Type 0} (f : Item → Y) (items : List Item) (n : ℕ) (d : Item) → n < length items → f (get_or items n d) ≡ f (get_or items n no_item)
 at_any f items n d within = ap f (get_or_default items n d no_item within)
-
-pub newest_taken :
-    (test : Item → Bool) (items : List Item) (n : ℕ) (found : Option ℕ) (r : Bool) →
-    NextYet test (λ _. 0) items n found 0 → n < length items → r ≡ test (get_or items n no_item) → r ≡ true →
-    NextYet test (λ _. 0) items (n + 1) (Some n) 0
-newest_taken test items n found r so_far within is holds =
-    next_taken test (λ _. 0) items n found 0 so_far (λ d. at_any test items n d within ∙ (sym is ∙ holds)) 0 (λ d. refl)
-    (inr (omega arith))
-
-pub newest_passed :
-    (test : Item → Bool) (items : List Item) (n : ℕ) (found : Option ℕ) (r : Bool) →
-    NextYet test (λ _. 0) items n found 0 → n < length items → r ≡ test (get_or items n no_item) → r ≡ false →
-    NextYet test (λ _. 0) items (n + 1) found 0
-newest_passed test items n found r so_far within is fails =
-    next_passed test (λ _. 0) items n found 0 so_far
-    (λ d holds. absurd (let never : true ≡ false = sym holds ∙ (at_any test items n d within ∙ (sym is ∙ fails)) in cc))
 
 split_true : (t f : Bool) (a b : ℕ) → (t && (f || nat_le a b)) ≡ true → (t ≡ true) × ((f ≡ true) ⊎ (a ≤ b))
 split_true true true a b holds = (refl, inl refl)

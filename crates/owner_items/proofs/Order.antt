@@ -48,6 +48,15 @@ All-order P test rank (x ∷ xs) all =
     in
     cases (test x) refl
 
+with_item-some : (rank : Item → ℕ) (x : Item) (zs : List Item) → with_item rank x zs ≡ [] → ⊥
+with_item-some rank x [] wrong = cc
+with_item-some rank x (z ∷ zs) wrong =
+    let cases : (b : Bool) → cond b (x ∷ z ∷ zs) (z ∷ with_item rank x zs) ≡ [] → ⊥ = elim [
+      | true ↦ λ is. cc
+      | false ↦ λ is. cc
+    ] in
+    cases (nat_le (rank x) (rank z)) wrong
+
 -- the first of the least rank comes first
 order-take :
     (test : Item → Bool) (rank : Item → ℕ) (front back : List Item) (x : Item) → test x ≡ true →
@@ -219,7 +228,7 @@ order-none test rank (x ∷ xs) none =
     let rest : order test rank xs ≡ [] = order-none test rank xs (All-tail (λ x. test x ≡ false) x xs none) in
     grind (arith, first, rest)
 
-All-without : (P : Item → Type 0) (test : Item → Bool) (xs : List Item) → All P xs → All P (without_newest test xs)
+pub All-without : (P : Item → Type 0) (test : Item → Bool) (xs : List Item) → All P xs → All P (without_newest test xs)
 All-without P test [] all = all
 All-without P test (x ∷ xs) all =
     elim (test x) as (λ b. All P (cond b xs (x ∷ without_newest test xs))) [
@@ -244,3 +253,18 @@ pub order-nothing :
 order-nothing test rank xs none =
     order-none test rank (reverse xs)
     (All-permutation (λ x. test x ≡ false) xs (reverse xs) (IsPermutation-reverse xs) none)
+
+-- where a phase has no item left, its items are those that it leaves
+pub nothing-left :
+    (test : Item → Bool) (rank : Item → ℕ) (xs : List Item) → order test rank xs ≡ [] → filter (λ x. not (test x)) xs ≡ xs
+nothing-left test rank [] none = refl
+nothing-left test rank (x ∷ xs) none =
+    let cases :
+    (b : Bool) → test x ≡ b → by_rank rank (cond b (x ∷ filter test xs) (filter test xs)) ≡ [] →
+    cond (not b) (x ∷ filter (λ x. not (test x)) xs) (filter (λ x. not (test x)) xs) ≡ x ∷ xs =
+    elim [
+      | true ↦ λ is wrong. absurd (with_item-some rank x (order test rank xs) wrong)
+      | false ↦ λ is rest. ap (λ zs. x ∷ zs) (nothing-left test rank xs rest)
+    ]
+    in
+    cases (test x) refl none

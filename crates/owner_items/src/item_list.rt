@@ -58,9 +58,10 @@ impl Items {
         self.items.len()
     }
 
-    /// Makes room for one more item.
+    /// Makes room for one more item: `ResourceOwnerEnlarge`.
     pub fn enlarge(&mut self) -> Result<(), AllocError>
         ensures ok { OnOk result (1 ≤ self.new.spare) }
+        ensures spare { self.old.spare ≤ self.new.spare }
         ensures items { self.new.items ≡ self.old.items }
         ensures err { OnErr result (self.new ≡ self.old) }
         ensures falling { AreFalling self.new.items }
@@ -68,7 +69,7 @@ impl Items {
         self.items.reserve(1)
     }
 
-    /// Remembers an item, which is the newest then. It uses room that `enlarge` made.
+    /// Remembers an item, which is the newest then: `ResourceOwnerRemember`. It uses room that `enlarge` made.
     pub fn remember(&mut self, item: Item)
         requires spare { 1 ≤ self.old.spare }
         requires newest { All (λ other. other.serial < item.serial) self.old.items }
@@ -79,7 +80,9 @@ impl Items {
         self.items.push_reserved(item);
     }
 
-    /// Forgets the newest item of this kind and key.
+    /// Forgets the newest item of this kind and key: `ResourceOwnerForget`.
+    ///
+    /// It looks from the newest item on, so one that was remembered late is found soon.
     pub fn forget(&mut self, kind: KindId, key: u32) -> Option<Item>
         ensures newest { result ≡ find (is_of kind key) self.old.items }
         ensures rest { self.new.items ≡ without_newest (is_of kind key) self.old.items }
@@ -92,7 +95,7 @@ impl Items {
     }
 
     /// Takes the item that is released next in this phase, if any is left: of those with the lowest
-    /// priority number the newest.
+    /// priority number the newest. It looks through all items, and takes no memory.
     pub fn take_next<K: ExtKind>(&mut self, kinds: &KindShelf<K>, phase: Phase) -> Option<Item>
         requires { All (λ item. IsKind (table_of kinds.now) item.kind) self.old.items }
         ensures none { IsNone result ↔ (release_order (table_of kinds.now) phase self.old.items ≡ []) }
@@ -101,6 +104,7 @@ impl Items {
         ensures order { release_order (table_of kinds.now) phase self.old.items ≡ option_to_list result ++ release_order (table_of kinds.now) phase self.new.items }
         ensures rest { IfSome result (λ item. self.new.items ≡ without_serial item.serial self.old.items) }
         ensures left { items_left (table_of kinds.now) phase self.new.items ≡ items_left (table_of kinds.now) phase self.old.items }
+        ensures done { IfNone result (items_left (table_of kinds.now) phase self.new.items ≡ self.new.items) }
         ensures unchanged { IfNone result (self.new ≡ self.old) }
         ensures kinds { All (λ item. IsKind (table_of kinds.now) item.kind) self.new.items }
         ensures falling { AreFalling self.new.items }
@@ -114,13 +118,12 @@ impl Items {
 fn newest_of(items: &[Item], kind: KindId, key: u32) -> Option<usize>
     ensures { FindsNewest (is_of kind key) items.now result }
 {
-    let mut newest = None;
-    for (place, item) in items.iter().enumerate() {
-        if is_item_of(item, kind, key) {
-            newest = Some(place);
+    for place in (0..items.len()).rev() {
+        if is_item_of(&items[place], kind, key) {
+            return Some(place);
         }
     }
-    newest
+    None
 }
 
 fn is_item_of(item: &Item, kind: KindId, key: u32) -> bool

@@ -1,6 +1,10 @@
+ghost use Rattle.std.specs.Prelude.{All, IfOk};
+ghost use Rattle.owner_kinds.specs.KindTable.{IsBuiltIn};
+
 use crate::Items;
 use owner_kinds::{CountedKind, KindShelf};
 use pgs_step::{Item, KindId, Phase};
+use std::alloc::{AllocError, Global};
 use std::test::Fail;
 
 #[test]
@@ -91,5 +95,41 @@ fn lower_priority_goes_before_newer(rt: HostRuntime) -> Result<(), Fail> {
             .serial,
         1
     );
+    Ok(())
+}
+
+// Pins of the buffers 0 to 32, each with the next serial.
+fn pins(alloc: Global) -> Result<Items, AllocError>
+    ensures { IfOk result (λ items. All (λ item. IsBuiltIn item.kind) items.items) }
+{
+    let mut items = Items::new(alloc);
+    for key in 0..33 {
+        items.enlarge()?;
+        items.remember(Item {
+            kind: KindId::BUFFER_PIN,
+            key,
+            serial: key as u64 + 1,
+        });
+    }
+    Ok(items)
+}
+
+#[test]
+fn more_than_thirty_two(rt: HostRuntime) -> Result<(), Fail> {
+    let none: Vec<CountedKind> = Vec::new(rt.alloc());
+    let kinds = KindShelf::new(rt.alloc(), none)?;
+    let mut items = pins(rt.alloc())?;
+    for half in 0..16 {
+        let key = 2 * half + 1;
+        let item = items.forget(KindId::BUFFER_PIN, key).ok_or("none")?;
+        assert_eq!(rt; item.serial, key as u64 + 1);
+    }
+    assert_eq!(rt; items.len(), 17);
+    for half in (0..17).rev() {
+        let key = 2 * half;
+        let item = items.take_next(&kinds, Phase::BeforeLocks).ok_or("none")?;
+        assert_eq!(rt; (item.key, item.serial), (key, key as u64 + 1));
+    }
+    assert_eq!(rt; items.take_next(&kinds, Phase::BeforeLocks), None);
     Ok(())
 }

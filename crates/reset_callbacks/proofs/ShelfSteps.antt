@@ -6,7 +6,8 @@ use Rattle.std.proofs.lemmas.List.Elements.{All-nil, All-cons, All-head, All-tai
 use Rattle.reset_callbacks.specs.Hook.{Hook, Lacks, IsBelow, AreRising, AreDistinct, in_order}
 use Rattle.reset_callbacks.specs.Least.{IsFirstLeast}
 use Rattle.reset_callbacks.specs.ShelfState.{ShelfState, held, taken, finished, returned, renewed}
-use Rattle.reset_callbacks.proofs.InOrder.{in_order-remove, in_order-push, in_order-append_in_order, length-in_order, All-from_in_order, NeverFalls, AreDistinct-push, AreDistinct-in_order, AreDistinct-of_rising}
+use Rattle.std.specs.List.Sorted.{IsPermutation}
+use Rattle.reset_callbacks.proofs.InOrder.{in_order-permutes, in_order-remove, in_order-push, in_order-append_in_order, length-in_order, All-from_in_order, NeverFalls, AreDistinct-push, AreDistinct-in_order, AreDistinct-of_rising}
 
 pub length-fresh : {B : Type 0} (xs : List B) (meaning : B → Hook) → length (in_order (map meaning xs)) ≡ length xs
 length-fresh xs meaning = length-in_order (map meaning xs) ∙ length-map xs meaning
@@ -148,3 +149,7 @@ below_rest h (x ∷ xs) ys never lacks =
 -- a list with an element is not empty
 pub not_none : {X : Type 0} (xs ys : List X) (x : X) → xs ≡ x ∷ ys → (true ≡ false → xs ≡ []) × (xs ≡ [] → true ≡ false)
 not_none xs ys x is = (λ wrong. absurd cc, λ none. absurd cc)
+
+-- to make the spent hooks fresh only moves hooks
+pub renewed-permutes : (s : ShelfState) → IsPermutation (held s) (held (renewed s))
+renewed-permutes s = rw append-nil (in_order-permutes (held s))

@@ -3,7 +3,7 @@ use Rattle.owner_kinds.specs.KindTable.{IsKind}
 use Rattle.owner_kinds.specs.KindShelf.{table_of}
 use Rattle.owner_items.specs.ItemList.{AreFalling}
 use Rattle.owner_items.specs.Next.{is_of_phase, priority, release_order}
-use Rattle.owner_items.proofs.Order.{IsSplit, take_out, order-next, order-nothing, split-All, split-falling, split-rest, split-left, not_both, next_passes}
+use Rattle.owner_items.proofs.Order.{IsSplit, take_out, order-next, order-nothing, nothing-left, split-All, split-falling, split-rest, split-left, not_both, next_passes}
 use Rattle.owner_items.proofs.Taken.{all_oldest_first}
 use Rattle.owner_items.proofs.item_list.Items.take_next.Goals as goal
 
@@ -13,15 +13,21 @@ next_of-requires g c =
     (all_oldest_first (λ item. IsKind (table_of c.args.kinds.now) item.kind) c.self.inside.items.items _
     (ap (λ z. z.items) c.self.view_is) c.requires)
 
+nothing_here :
+    (g : _) (c : goal.After-from_residual g) → release_order (table_of c.args.kinds.now) c.args.phase c.args.self.now.items ≡ []
+nothing_here g c =
+    subst (λ z. release_order (table_of c.args.kinds.now) c.args.phase z.items ≡ []) c.self.view_is
+    (order-nothing (is_of_phase (table_of c.args.kinds.now) c.args.phase) (priority (table_of c.args.kinds.now)) c.self.inside.items.items
+    (rw c.deref.ensures.value at c.in_err-place.ensures))
+
 pub returns-in_err-place-clause-none : goal.returns-in_err-place-clause-none
-returns-in_err-place-clause-none g c =
-    rw c.from_residual.ensures (
-      λ _.
-          subst (λ z. release_order (table_of c.args.kinds.now) c.args.phase z.items ≡ []) c.self.view_is
-          (order-nothing (is_of_phase (table_of c.args.kinds.now) c.args.phase) (priority (table_of c.args.kinds.now)) c.self.inside.items.items
-          (rw c.deref.ensures.value at c.in_err-place.ensures)),
-      λ _. refl,
-    )
+returns-in_err-place-clause-none g c = rw c.from_residual.ensures (λ _. nothing_here g c, λ _. refl)
+
+pub returns-in_err-place-clause-done : goal.returns-in_err-place-clause-done
+returns-in_err-place-clause-done g c =
+    rw c.from_residual.ensures
+    (nothing-left (is_of_phase (table_of c.args.kinds.now) c.args.phase) (priority (table_of c.args.kinds.now)) c.args.self.now.items
+    (nothing_here g c))
 
 split_here : (g : _) (c : goal.After-remove g) → IsSplit c.args.self.now.items c.remove.result (reverse c.remove.new.self.items)
 split_here g c =
