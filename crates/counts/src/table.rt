@@ -76,6 +76,15 @@ impl<K: Ord + Copy> Counts<K> {
         Some(left)
     }
 
+    /// Facts of every table, for proofs. It does nothing.
+    pub fn laws(&self)
+        ensures counts { AreCounts K.cmp self.now }
+        // of any list in which each key stands as often as it counts, the number of different keys
+        ensures different { (keys : List K) → Tallies K.cmp keys self.now → length self.now ≡ distinct_count (eq_by_cmp K.cmp) keys }
+    {
+        let _ = self.counts.len();
+    }
+
     /// How many keys count.
     pub fn distinct(&self) -> u64
         ensures entries { result ≡ length self.now }

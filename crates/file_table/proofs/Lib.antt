@@ -1,3 +1,4 @@
 pub mod FileLists
 pub mod Sound
 pub mod Caches
+pub mod FileCounts

@@ -1,5 +1,5 @@
 -- The open files, and what becomes of their descriptors.
-use Rattle.std.specs.Prelude.{◌≡◌, ℕ, ◌-◌, ◌<◌, ◌≤◌, IsTrue, false, if◌then◌else◌, List, [], ◌∷◌, ◌++◌, length, take, slice_get, Option, Some, None}
+use Rattle.std.specs.Prelude.{◌≡◌, ℕ, ◌+◌, ◌-◌, ◌<◌, ◌≤◌, ◌==◌, IsTrue, count_by, false, if◌then◌else◌, List, [], ◌∷◌, ◌++◌, length, take, slice_get, Option, Some, None}
 use Rattle.pgs_step.specs.declared.events.What.{What}
 use Rattle.pgs_step.specs.declared.events.What.TheVariants.{DescriptorOpened, DescriptorClosed}
 use Rattle.file_table.specs.Descriptors.{is_among, without}
@@ -44,6 +44,18 @@ closed_file file files = record files { opened = without file files.opened; rece
 
 abbrev pub closing_events : ℕ → Files → List What
 closing_events file files = if is_among file files.recent then DescriptorClosed file ∷ [] else []
+
+-- how often the file is open: once or not at all
+abbrev pub opens : Files → ℕ → ℕ
+opens files file = count_by (λ other. file == other) files.opened
+
+-- the file is open once more, and every other as before
+abbrev pub OpensOneMore : Files → Files → ℕ → Type 0
+OpensOneMore old new file = (f : ℕ) → opens new f ≡ opens old f + (if file == f then 1 else 0)
+
+-- the file is open once less, and every other as before
+abbrev pub OpensOneLess : Files → Files → ℕ → Type 0
+OpensOneLess old new file = (f : ℕ) → opens new f + (if file == f then 1 else 0) ≡ opens old f
 
 -- no file is twice in the list
 abbrev pub IsDistinct : List ℕ → Type 0

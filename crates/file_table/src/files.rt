@@ -1,5 +1,5 @@
 //! The open files.
-ghost use Rattle.std.specs.Prelude.{◌≡◌, ◌≢◌, ◌↔◌, ◌<◌, ◌≤◌, ◌++◌, ◌∷◌, [], length, position, ◌==◌, false, IsTrue, IfOk, IfErr, OnOk, OnErr};
+ghost use Rattle.std.specs.Prelude.{◌≡◌, ◌≢◌, ◌↔◌, ◌<◌, ◌≤◌, ◌++◌, ◌∷◌, [], length, position, count_by, nat_eq, if◌then◌else◌, ℕ, List, ◌==◌, false, IsTrue, IfOk, IfErr, OnOk, OnErr};
 ghost use Rattle.std.specs.Bool.{OnFalse};
 ghost use Rattle.file_table.specs.Descriptors.{is_among, without};
 ghost use Rattle.file_table.specs.Files.{given_events};
@@ -49,7 +49,8 @@ impl Model for FileTable {
 }
 
 impl FileTable {
-    ghost use Rattle.file_table.specs.Files.{IsSound, opened_file, touched_file, closed_file, opening_events, touch_events, closing_events};
+    ghost use Rattle.std.specs.Set.{distinct_count};
+    ghost use Rattle.file_table.specs.Files.{IsSound, opens, OpensOneMore, OpensOneLess, opened_file, touched_file, closed_file, opening_events, touch_events, closing_events};
 
     /// No open file, and this many descriptors, of which there is at least one. It fails for want of memory
     /// alone.
@@ -74,6 +75,7 @@ impl FileTable {
     /// It answers `Taken` exactly where the file is open, and else `TooMany` exactly where 4,096 files are.
     pub fn open_file<E: Emit>(&mut self, file: u32, out: &mut E) -> Result<(), FileError>
         ensures opened { OnOk result (self.new ≡ opened_file file self.old) }
+        ensures counts { OnOk result (OpensOneMore self.old self.new file) }
         ensures events { OnOk result (E.emits out.old (opening_events file self.old) out.new) }
         ensures taken { (result ≡ Err FileError.Taken) ↔ IsTrue (is_among file self.old.opened) }
         ensures too_many { (result ≡ Err FileError.TooMany) ↔ ((is_among file self.old.opened ≡ false) × (length self.old.opened ≡ 4096)) }
@@ -106,6 +108,7 @@ impl FileTable {
     /// It answers `NoFile` exactly where the file isn't open.
     pub fn touch<E: Emit>(&mut self, file: u32, out: &mut E) -> Result<(), FileError>
         ensures touched { OnOk result (self.new ≡ touched_file file self.old) }
+        ensures open { self.new.opened ≡ self.old.opened }
         ensures events { OnOk result (E.emits out.old (touch_events file self.old) out.new) }
         ensures no_file { (result ≡ Err FileError.NoFile) ↔ (is_among file self.old.opened ≡ false) }
         ensures no_other { (result ≢ Err FileError.Taken) × (result ≢ Err FileError.TooMany) }
@@ -132,6 +135,7 @@ impl FileTable {
     /// It answers `NoFile` exactly where the file isn't open.
     pub fn close_file<E: Emit>(&mut self, file: u32, out: &mut E) -> Result<(), FileError>
         ensures closed { OnOk result (self.new ≡ closed_file file self.old) }
+        ensures counts { OnOk result (OpensOneLess self.old self.new file) }
         ensures events { OnOk result (E.emits out.old (closing_events file self.old) out.new) }
         ensures no_file { (result ≡ Err FileError.NoFile) ↔ (is_among file self.old.opened ≡ false) }
         ensures no_other { IfErr result (λ error. error ≡ FileError.NoFile) }
@@ -152,6 +156,19 @@ impl FileTable {
         ensures { result ≡ is_among file self.now.opened }
     {
         self.opened.iter().any(|own| file == *own)
+    }
+
+    /// Facts of every table, for proofs. It does nothing.
+    pub fn laws(&self)
+        ensures sound { IsSound self.now }
+        // a file is open exactly where it counts, and it counts once then
+        ensures open { (file : ℕ) → opens self.now file ≡ (if is_among file self.now.opened then 1 else 0) }
+        // of any list of the open files, the number of different ones
+        ensures different { (files : List ℕ) → ((file : ℕ) → is_among file files ≡ is_among file self.now.opened) → length self.now.opened ≡ distinct_count nat_eq files }
+        // any list in which each file stands as often as it is open is as long
+        ensures length { (files : List ℕ) → ((file : ℕ) → count_by (λ other. file == other) files ≡ opens self.now file) → length self.now.opened ≡ length files }
+    {
+        let _ = &self.opened;
     }
 
     /// How many files are open, and how many of them have a descriptor.

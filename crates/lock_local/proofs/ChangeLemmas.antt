@@ -244,9 +244,6 @@ acquired_new owner o m (x ∷ xs) (suc i) d s =
 abbrev pub table : ℕ → List Lock → SessionLocks
 table s xs = record { session = s; locks = xs }
 
-pub state_is : (s : ℕ) (xs ys : List Lock) (f : List Lock → List Lock) (now : SessionLocks) → table s xs ≡ now → ys ≡ f xs → table s ys ≡ table now.session (f now.locks)
-state_is s xs ys f now e h = ap (table s) h ∙ ap (λ (t : SessionLocks). table t.session (f t.locks)) e
-
 -- what is shared still agrees once the lock is counted up
 pub counted_up_agrees : (owner o : ℕ) (m : Mode) (xs : List Lock) (i : ℕ) (d y : Lock) (s : ℕ) (shared : List Holding) → AreLocks xs → StandsAt o m xs i d → y ≡ counted_up owner (get_or xs i d) → ((a : ℕ) (n : Mode) → holds shared a n s ≡ is_held xs a n) → (a : ℕ) (n : Mode) → holds shared a n s ≡ is_held (set xs i y) a n
 counted_up_agrees owner o m xs i d y s shared h st e agrees =
@@ -380,10 +377,6 @@ acquired_over owner o m xs i x y s e f = ap (λ (z : Lock). set xs i z) (f ∙ a
 
 pub down_over : (owner o : ℕ) (m : Mode) (xs : List Lock) (i : ℕ) (x y : Lock) → IsInOrder xs → StandsAt o m xs i x → x ≡ get_or xs i x → y ≡ counted_down owner x → set xs i y ≡ map (down owner o m) xs
 down_over owner o m xs i x y h s e f = ap (λ (z : Lock). set xs i z) (f ∙ ap (counted_down owner) e) ∙ down_at owner o m xs i x h s
-
--- an answer of no
-pub no_answer : (n : ℕ) → n ≡ 0 → (false ≡ true → 0 < n) × (0 < n → false ≡ true)
-no_answer n e = (λ h. absurd (true≢false (sym h)), λ h. absurd (omega (arith, h, e)))
 
 pub freed_by : (b : Bool) (o : ℕ) (m : Mode) (s : ℕ) (old new : List Holding) → (b ≡ true → new ≡ old) → (b ≡ false → Sets old new o m s false) → MatchBool b (new ≡ old) (Sets old new o m s false)
 freed_by true o m s old new f g = f refl

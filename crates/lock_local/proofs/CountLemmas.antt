@@ -4,13 +4,13 @@ use Rattle.std.specs.Prelude.{All, sum_by}
 use Rattle.std.proofs.lemmas.Bool.{true≢false, eqb-true, lt-ltb}
 use Rattle.std.proofs.lemmas.Bool.Decides.{nat_tests}
 use Rattle.std.proofs.lemmas.List.{get_or_default}
-use Rattle.std.proofs.lemmas.List.Elements.{All-head, All-tail, All-get_or}
+use Rattle.std.proofs.lemmas.List.Elements.{All-head, All-tail}
 use Rattle.std.proofs.lemmas.List.Sums.{sum_by-cons, sum_by-set}
 use Rattle.pgs_step.specs.declared.lock_modes.Mode.{Mode}
 use Rattle.pgs_step.specs.Mode.{mode_number}
 use Rattle.lock_shared.specs.Holdings.{same_lock}
 use Rattle.lock_local.specs.declared.local_lock.OwnerCount.{OwnerCount}
-use Rattle.lock_local.specs.Locks.{Lock, owner_count, count_if, is_lock, has_owner, count_of, comes_before, AreLocks, SessionLocks, total}
+use Rattle.lock_local.specs.Locks.{Lock, owner_count, count_if, is_lock, has_owner, count_of, comes_before}
 use Rattle.lock_local.specs.Counts.{HoldsOneMore, HoldsOneLess, HoldsNothing, HoldsBoth}
 use Rattle.lock_local.specs.Places.{StandsAt}
 use Rattle.lock_local.specs.Changes.{added, lowered, new_lock, counted_up, counted_down, without, passed_lock, acquired, released, passed}

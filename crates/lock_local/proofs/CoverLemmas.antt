@@ -1,19 +1,18 @@
 -- What an owner holds is remembered.
-use Rattle.std.proofs.Common.{◌≡◌, ◌≢◌, ℕ, zero, ◌<◌, ◌≤◌, ◌+◌, ◌^◌, Bool, true, false, ◌&&◌, ◌||◌, cond, nat_eq, List, [], ◌∷◌, map, filter, refl, ap, sym, subst, ◌∙◌, arith}
-use Rattle.std.specs.Prelude.{All, sum_by}
+use Rattle.std.proofs.Common.{◌≡◌, ◌≢◌, ℕ, ◌<◌, ◌≤◌, ◌+◌, Bool, true, false, ◌&&◌, ◌||◌, cond, nat_eq, List, map, refl, ap, sym, subst, ◌∙◌, arith}
+use Rattle.std.specs.Prelude.{sum_by}
 use Rattle.std.specs.List.{find, list_any}
 use Rattle.std.specs.Option.{option_map_or}
-use Rattle.std.proofs.lemmas.Bool.{true≢false, false≢true, eqb-true, eqb-false, eq-eqb, and_parts}
+use Rattle.std.proofs.lemmas.Bool.{eqb-true, eqb-false, eq-eqb, and_parts}
 use Rattle.pgs_step.specs.declared.lock_modes.Mode.{Mode}
 use Rattle.pgs_step.specs.Mode.{mode_number}
 use Rattle.lock_shared.specs.Holdings.{same_lock}
 use Rattle.lock_local.specs.declared.recalled.LockTag.{LockTag}
-use Rattle.lock_local.specs.Locks.{Lock, SessionLocks, owner_count, count_of, total}
+use Rattle.lock_local.specs.Locks.{Lock, SessionLocks, owner_count, count_of}
 use Rattle.lock_local.specs.Counts.{HoldsOneMore, HoldsOneLess, HoldsNothing, HoldsBoth}
-use Rattle.lock_local.specs.Changes.{acquired, released, passed, given_back}
-use Rattle.lock_local.specs.Recalled.{Recall, recalls, may_hold, Covers}
+use Rattle.lock_local.specs.Changes.{given_back}
+use Rattle.lock_local.specs.Recalled.{Recall, may_hold, Covers}
 use Rattle.lock_local.proofs.ChangeLemmas.{table, FitLocks, down, fit_given_back}
-use Rattle.lock_local.proofs.CountLemmas.{where_so}
 
 -- a lock may be named by any mode of its number
 pub count_like : (xs : List Lock) (o : ℕ) (m : Mode) (a : ℕ) (n : Mode) (w : ℕ) → same_lock o m a n ≡ true → count_of xs o m w ≡ count_of xs a n w

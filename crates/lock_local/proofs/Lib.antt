@@ -9,3 +9,4 @@ pub mod StepLemmas
 pub mod PlaceLemmas
 pub mod TotalLemmas
 pub mod CoverLemmas
+pub mod LawLemmas

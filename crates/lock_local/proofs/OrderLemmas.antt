@@ -90,9 +90,6 @@ after_lock l o w e = after_not_same l.object (mode_number l.mode) o (mode_number
 pub lock_not_before : (l : Lock) (o : ℕ) (w : Mode) → is_lock o w l ≡ true → comes_before l.object l.mode o w ≡ false
 lock_not_before l o w e = same_not_before l.object (mode_number l.mode) o (mode_number w) e
 
-pub before_again : (l : Lock) (o : ℕ) (w : Mode) (o' : ℕ) (w' : Mode) → comes_before l.object l.mode o w ≡ true → same_lock o w o' w' ≡ true → comes_before l.object l.mode o' w' ≡ true
-before_again l o w o' w' e f = before_other l.object (mode_number l.mode) o (mode_number w) o' (mode_number w') e f
-
 pub before_both : (l m : Lock) (o : ℕ) (w : Mode) → Before l m → comes_before m.object m.mode o w ≡ true → comes_before l.object l.mode o w ≡ true
 before_both l m o w e f = before_trans l.object (mode_number l.mode) m.object (mode_number m.mode) o (mode_number w) e f
 

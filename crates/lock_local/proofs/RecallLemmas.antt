@@ -1,14 +1,15 @@
 -- What is remembered of the owners' locks after a change.
-use Rattle.std.proofs.Common.{◌≡◌, ℕ, suc, zero, ◌<◌, Bool, true, false, ◌||◌, cond, nat_eq, nat_lt, List, [], ◌∷◌, ◌++◌, length, get_or, set, Option, Some, None, refl, ap, sym, subst, ◌∙◌, arith}
+use Rattle.std.proofs.Common.{◌≡◌, ℕ, suc, zero, ◌<◌, Bool, true, false, cond, nat_eq, nat_lt, List, [], ◌∷◌, ◌++◌, length, get_or, set, Option, Some, None, refl, ap, sym, subst, ◌∙◌, arith}
 use Rattle.std.specs.Prelude.{position, remove}
 use Rattle.std.specs.Option.{option_map_or}
-use Rattle.std.specs.List.{find, position_or_len}
-use Rattle.std.proofs.lemmas.Bool.{true≢false, false≢true, eqb-true, eq-eqb, ltb-false}
+use Rattle.std.specs.List.{find, list_any, position_or_len}
+use Rattle.std.proofs.lemmas.Bool.{false≢true, eqb-true, eq-eqb, ltb-false}
 use Rattle.std.proofs.lemmas.List.Sums.{fails_before_first}
 use Rattle.std.proofs.lemmas.List.Quantifiers.{position-Some}
-use Rattle.std.proofs.lemmas.List.Folds.{find_past}
+use Rattle.std.proofs.lemmas.List.Folds.{find_past, list_any_none}
+use Rattle.std.proofs.lemmas.List.Elements.{All-from_get_or}
 use Rattle.pgs_step.specs.declared.lock_modes.Mode.{Mode}
-use Rattle.lock_local.specs.Recalled.{Recall, recalls, may_hold}
+use Rattle.lock_local.specs.Recalled.{Recall, recalls, may_hold, holds_more}
 
 -- the first element that passes
 module _ {X : Type 0} (p : X → Bool) where
@@ -132,3 +133,12 @@ but_one w xs i x y same e r h k o m v = by_owner (λ (u : ℕ). (nat_eq w u ≡ 
 -- the owner of what was found
 pub owner_at : (w : ℕ) (xs : List Recall) (i : ℕ) (x : Recall) → position (is_of w) xs ≡ Some i → x ≡ get_or xs i x → x.owner ≡ w
 owner_at w xs i x e r = ap (λ (z : Recall). z.owner) r ∙ eqb-true (get_or xs i x).owner w (position-Some (is_of w) xs i x e).1
+
+pub more_written : (w : ℕ) (xs : List Recall) (i : ℕ) (y : Recall) → position (is_of w) xs ≡ Some i → y.owner ≡ w → holds_more (set xs i y) w ≡ y.more
+more_written w xs i y e h =
+    let at = position-Some (is_of w) xs i y e in
+    ap (λ (o : Option Recall). option_map_or (λ (r : Recall). r.more) o false) (find_written (is_of w) xs i y y at.0 (eq-eqb y.owner w h) at.2)
+
+-- where none is found, none passes
+pub any_none : {X : Type 0} (p : X → Bool) (xs : List X) (d : X) → position p xs ≡ None → list_any p xs ≡ false
+any_none {X} p xs d e = list_any_none p xs (All-from_get_or (λ x. p x ≡ false) xs d (none_passes p xs d e))

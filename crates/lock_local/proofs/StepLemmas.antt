@@ -1,5 +1,5 @@
 -- One lock of an owner is given up or passed, and what is left of its locks.
-use Rattle.std.proofs.Common.{◌≡◌, ◌≢◌, ℕ, suc, zero, ◌<◌, ◌≤◌, ◌+◌, Bool, true, false, ◌||◌, not, cond, nat_eq, nat_lt, List, [], ◌∷◌, ◌++◌, length, drop, get_or, set, map, filter, inl, inr, refl, ap, sym, subst, ◌∙◌, arith, append_assoc}
+use Rattle.std.proofs.Common.{◌≡◌, ◌≢◌, ℕ, suc, zero, ◌<◌, ◌≤◌, ◌+◌, Bool, true, false, ◌||◌, not, cond, nat_eq, List, [], ◌∷◌, ◌++◌, length, drop, get_or, set, map, filter, inl, inr, refl, ap, sym, ◌∙◌, arith}
 use Rattle.std.specs.Prelude.{All, sum_by, ◌⊎◌}
 use Rattle.std.specs.List.{flat_map, list_any}
 use Rattle.std.proofs.lemmas.Bool.{true≢false, false≢true, eqb-true, eqb-false, eq-eqb, ne_eqb}
@@ -10,19 +10,18 @@ use Rattle.pgs_step.specs.declared.lock_modes.Mode.{Mode}
 use Rattle.pgs_step.specs.declared.lock_modes.Mode.TheVariants.{AccessShareLock}
 use Rattle.pgs_step.specs.declared.events.What.{What}
 use Rattle.pgs_step.specs.declared.events.What.TheVariants.{ReleaseLock, PassLock}
-use Rattle.lock_shared.specs.Holdings.{same_lock}
 use Rattle.lock_local.specs.declared.local_lock.OwnerCount.{OwnerCount}
 use Rattle.lock_local.specs.declared.recalled.LockTag.{LockTag}
 use Rattle.lock_local.specs.Locks.{Lock, owner_count, count_if, count_of, is_lock, has_owner, comes_before, IsInOrder, AreLocks}
-use Rattle.lock_local.specs.Places.{StandsAt, WouldStandAt}
+use Rattle.lock_local.specs.Places.{StandsAt}
 use Rattle.lock_local.specs.Changes.{without, passed_lock, release_of, pass_of, released, passed, releases, passes}
 use Rattle.lock_local.specs.Recalled.{is_tag, IsRising}
 use Rattle.lock_local.specs.Tagged.{at_lock, told_of, given_up, gives_up, handed_on, hands_on, AreTagged}
 use Rattle.lock_local.proofs.OwnerLemmas.{Counted, is_owner, others}
-use Rattle.lock_local.proofs.OrderLemmas.{Before, KeepsLock, other_lock, lock_swapped, lock_itself, after_lock, before_lock, after_both}
-use Rattle.lock_local.proofs.ChangeLemmas.{by_passing, WellCounted, Owned, AreLocks-filtered, AreLocks-mapped, keeps-without, counted-without, keeps-passed, counted-passed, owner-passed, stands_tail, would_stand_tail, none_like}
+use Rattle.lock_local.proofs.OrderLemmas.{Before, KeepsLock, lock_swapped, lock_itself, after_lock, before_lock, after_both}
+use Rattle.lock_local.proofs.ChangeLemmas.{by_passing, WellCounted, Owned, AreLocks-filtered, AreLocks-mapped, keeps-without, counted-without, keeps-passed, counted-passed, owner-passed, stands_tail, none_like}
 use Rattle.lock_local.proofs.CountLemmas.{owner_others, owner_passed_count, where_so}
-use Rattle.lock_local.proofs.TagLemmas.{TagBefore, behind_tag}
+use Rattle.lock_local.proofs.TagLemmas.{behind_tag}
 
 nothing_behind : {X : Type 0} (zs : List X) → zs ++ [] ≡ zs
 nothing_behind [] = refl

@@ -1,16 +1,17 @@
 -- Tags of locks in their order.
-use Rattle.std.proofs.Common.{◌≡◌, ℕ, suc, zero, ◌<◌, ◌+◌, Bool, true, false, ◌||◌, cond, List, [], ◌∷◌, length, get_or, refl, ap, sym, subst, ◌∙◌, arith, add-one}
+use Rattle.std.proofs.Common.{◌≡◌, ℕ, suc, zero, ◌<◌, Bool, true, false, ◌||◌, cond, List, [], ◌∷◌, length, get_or, refl, ap, sym, subst, ◌∙◌, arith}
 use Rattle.std.specs.Prelude.{All, insert, remove, count_by}
 use Rattle.std.specs.List.{list_any}
 use Rattle.std.proofs.lemmas.Bool.{true≢false, false≢true}
-use Rattle.std.proofs.lemmas.List.Elements.{All-nil, All-cons, All-head, All-tail, All-weaker}
+use Rattle.std.proofs.lemmas.List.Elements.{All-nil, All-cons, All-head, All-tail, All-weaker, All-get_or}
+use Rattle.std.proofs.lemmas.List.Folds.{list_any_none}
 use Rattle.std.proofs.lemmas.List.Sums.{sum_by-cons}
 use Rattle.pgs_step.specs.declared.lock_modes.Mode.{Mode}
 use Rattle.lock_shared.specs.Holdings.{same_lock}
 use Rattle.lock_local.specs.declared.recalled.LockTag.{LockTag}
 use Rattle.lock_local.specs.Locks.{Lock, comes_before}
 use Rattle.lock_local.specs.Recalled.{is_tag, IsRising}
-use Rattle.lock_local.proofs.OrderLemmas.{comes_after, after_both, later_not_before, order_other, other_lock_by}
+use Rattle.lock_local.proofs.OrderLemmas.{comes_after, after_both, later_not_before, order_other, other_lock_by, other_lock, before_lock}
 
 module _ {X : Type 0} (p : X → Bool) where
   or_swap : (a b c : Bool) → (a || (b || c)) ≡ (b || (a || c))
@@ -118,3 +119,11 @@ behind_tag o m t (u ∷ ts) h e = by_test (behind_tag o m t ts (All-tail (TagBef
 -- the tag of one lock isn't that of another
 pub other_tag : (o : ℕ) (m : Mode) (a : ℕ) (n : Mode) (t : LockTag) → is_tag o m t ≡ true → same_lock o m a n ≡ false → is_tag a n t ≡ false
 other_tag o m a n t e f = other_lock_by t.object t.mode o m a n e f
+
+-- a tag that is taken out stands nowhere else
+pub taken_out : (o : ℕ) (m : Mode) (ts : List LockTag) (i : ℕ) (d : LockTag) → IsRising ts → i < length ts → is_tag o m (get_or ts i d) ≡ true → list_any (is_tag o m) (remove ts i) ≡ false
+taken_out o m [] i d h l e = absurd (omega (arith, l))
+taken_out o m (t ∷ ts) zero d h l e = list_any_none (is_tag o m) ts (All-weaker (TagBefore t) (λ u. is_tag o m u ≡ false) (λ u b. other_lock (bare t) (bare u) o m b e) ts h.0)
+taken_out o m (t ∷ ts) (suc i) d h l e =
+    let sooner_tag : comes_before t.object t.mode o m ≡ true = order_other t.object t.mode (get_or ts i d).object (get_or ts i d).mode o m (All-get_or (TagBefore t) ts i d (omega (arith, l)) h.0) e in
+    ap (λ b. b || list_any (is_tag o m) (remove ts i)) (before_lock (bare t) o m sooner_tag) ∙ taken_out o m ts i d h.1 (omega (arith, l)) e

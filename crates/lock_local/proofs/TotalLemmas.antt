@@ -1,15 +1,15 @@
 -- How often all owners together hold locks, after a change.
-use Rattle.std.proofs.Common.{◌≡◌, ◌≢◌, ℕ, zero, ◌<◌, ◌≤◌, ◌+◌, ◌-◌, Bool, true, false, ◌&&◌, cond, nat_eq, nat_lt, List, [], ◌∷◌, length, get_or, set, map, filter, refl, ap, sym, ◌∙◌, arith}
+use Rattle.std.proofs.Common.{◌≡◌, ℕ, ◌<◌, ◌+◌, Bool, true, false, cond, nat_lt, List, [], ◌∷◌, length, get_or, set, map, filter, refl, ap, sym, ◌∙◌, arith}
 use Rattle.std.specs.Prelude.{All, sum_by}
 use Rattle.std.proofs.lemmas.Bool.{true≢false, lt-ltb}
 use Rattle.std.proofs.lemmas.List.Sums.{sum_by-cons, sum_by-set}
 use Rattle.pgs_step.specs.declared.lock_modes.Mode.{Mode}
 use Rattle.lock_shared.specs.Holdings.{same_lock}
 use Rattle.lock_local.specs.declared.local_lock.OwnerCount.{OwnerCount}
-use Rattle.lock_local.specs.Locks.{Lock, owner_count, count_if, lock_total, total, owner_total, is_lock, has_owner, count_of, whole_of, comes_before}
+use Rattle.lock_local.specs.Locks.{Lock, owner_count, lock_total, total, owner_total, is_lock, has_owner, count_of, whole_of, comes_before}
 use Rattle.lock_local.specs.Counts.{WholeOneMore, WholeOneLess, WholeLess, WholeStays}
 use Rattle.lock_local.specs.Places.{StandsAt}
-use Rattle.lock_local.specs.Changes.{added, new_lock, counted_up, counted_down, without, passed_lock, acquired, released, passed}
+use Rattle.lock_local.specs.Changes.{new_lock, counted_up, counted_down, without, passed_lock, acquired, released, passed}
 use Rattle.lock_local.proofs.OwnerLemmas.{Counted, counts, counts-added, counts-lowered, counts-others}
 use Rattle.lock_local.proofs.ChangeLemmas.{by_passing}
 use Rattle.lock_local.proofs.CountLemmas.{where_so, so_sum, same_as}

@@ -67,6 +67,10 @@ abbrev pub IsInOrder : List Lock → Type 0
 IsInOrder [] = Unit {0}
 IsInOrder (l ∷ ls) = All (λ m. IsTrue (comes_before l.object l.mode m.object m.mode)) ls × IsInOrder ls
 
+-- whether two names, each an object and a mode, are those of one lock
+abbrev pub same_name : ℕ × Mode → ℕ × Mode → Bool
+same_name a b = same_lock a.0 a.1 b.0 b.1
+
 -- The locks are in order, so that no two are one; each has an owner, and no count is 0.
 pub record AreLocks (locks : List Lock) : Type 0 where
   pub in_order : IsInOrder locks

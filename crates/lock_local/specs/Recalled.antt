@@ -1,5 +1,5 @@
 -- What is remembered of the locks of each owner.
-use Rattle.std.specs.Prelude.{◌≡◌, ℕ, ◌<◌, ◌==◌, Bool, false, ◌||◌, IsTrue, List, [], ◌∷◌, All}
+use Rattle.std.specs.Prelude.{ℕ, ◌<◌, ◌==◌, Bool, false, ◌||◌, IsTrue, List, [], ◌∷◌, All}
 use Rattle.std.specs.Option.{option_map_or}
 use Rattle.std.specs.List.{list_any, find}
 use Rattle.pgs_step.specs.declared.lock_modes.Mode.{Mode}
@@ -24,6 +24,10 @@ recalls recall object mode = recall.more || list_any (is_tag object mode) recall
 -- whether it is remembered that the owner holds the object in the mode
 abbrev pub may_hold : List Recall → ℕ → Mode → ℕ → Bool
 may_hold recalled object mode owner = option_map_or (λ recall. recalls recall object mode) (find (λ recall. recall.owner == owner) recalled) false
+
+-- whether it is remembered that the owner holds more locks than those with a tag
+abbrev pub holds_more : List Recall → ℕ → Bool
+holds_more recalled owner = option_map_or (λ recall. recall.more) (find (λ recall. recall.owner == owner) recalled) false
 
 -- each tag comes before all that stand behind it
 abbrev pub IsRising : List LockTag → Type 0

@@ -1,11 +1,13 @@
 //! The locks of one session.
-ghost use Rattle.std.specs.Prelude.{◌≡◌, ◌↔◌, ◌<◌, ◌+◌, ◌^◌, ℕ, List, [], ◌∷◌, length, OnOk, OnErr, IsErrOf, IsOkUnless};
+ghost use Rattle.std.specs.Prelude.{◌≡◌, ◌↔◌, ◌<◌, ◌+◌, ◌^◌, ℕ, nat_lt, List, [], ◌∷◌, length, OnOk, OnErr, IsErrOf, IsOkUnless};
+ghost use Rattle.std.specs.List.{list_any};
+ghost use Rattle.std.specs.Set.{distinct_count};
 ghost use Rattle.pgs_step.specs.declared.lock_modes.Mode.{Mode};
 ghost use Rattle.pgs_step.specs.declared.events.What.{What};
 ghost use Rattle.pgs_step.specs.declared.events.What.TheVariants.{AcquireLock, ReleaseLock};
 ghost use Rattle.lock_shared.specs.Holdings.{IsConflict};
 ghost use Rattle.lock_local.specs.declared.errors.LockError.TheVariants.{Conflict, NotHeld};
-ghost use Rattle.lock_local.specs.Locks.{total, owner_total, count_of, is_held, AreLocks, Agrees, OthersStay};
+ghost use Rattle.lock_local.specs.Locks.{total, owner_total, count_of, whole_of, is_held, same_name, AreLocks, Agrees, OthersStay};
 ghost use Rattle.lock_local.specs.Counts.{HoldsOneMore, HoldsOneLess, HoldsNothing, HoldsBoth, WholeOneMore, WholeOneLess, WholeLess, WholeStays};
 ghost use Rattle.lock_local.specs.Changes.{acquired, given_back, released, passed, releases, passes, releases_of_all};
 
@@ -200,6 +202,17 @@ impl LockTable {
         release_each(self.locks.as_slice(), self.session, top.number, shared, out);
         self.locks.clear();
         self.recalled.clear();
+    }
+
+    /// Facts of every table, for proofs. It does nothing.
+    pub fn laws(&self)
+        ensures locks { AreLocks self.now.locks }
+        // a lock is held where all owners together hold it at least once
+        ensures held { (object : ℕ) (mode : Mode) → is_held self.now.locks object mode ≡ nat_lt 0 (whole_of self.now.locks object mode) }
+        // of any list of the objects and modes that are held, the number of different ones
+        ensures different { (names : List (ℕ × Mode)) → ((object : ℕ) (mode : Mode) → list_any (same_name (object, mode)) names ≡ is_held self.now.locks object mode) → length self.now.locks ≡ distinct_count same_name names }
+    {
+        let _ = &self.locks;
     }
 
     /// How many different objects and modes the session holds.

@@ -4,7 +4,7 @@ ghost use Rattle.std.specs.List.{list_any};
 ghost use Rattle.pgs_step.specs.declared.lock_modes.Mode.{Mode};
 ghost use Rattle.lock_shared.specs.Holdings.{same_lock};
 ghost use Rattle.lock_local.specs.Locks.{comes_before};
-ghost use Rattle.lock_local.specs.Recalled.{Recall, is_tag, recalls, may_hold, IsRising};
+ghost use Rattle.lock_local.specs.Recalled.{Recall, is_tag, recalls, may_hold, holds_more, IsRising};
 
 use arrayvec::ArrayVec;
 use pgs_step::Mode;
@@ -130,6 +130,7 @@ impl OwnerLocks {
     /// Forgets a lock: PostgreSQL's `ResourceOwnerForgetLock`.
     pub fn forget(&mut self, object: u32, mode: Mode)
         ensures owner { self.new.owner ≡ self.old.owner }
+        ensures gone { IsTrue (recalls self.new object mode) → IsTrue self.new.more }
         ensures kept { (o : ℕ) (m : Mode) → same_lock object mode o m ≡ false → recalls self.new o m ≡ recalls self.old o m }
     {
         if let Some(place) = place_of_tag(self.tags.as_slice(), object, mode) {
@@ -231,6 +232,7 @@ pub fn note(recalled: &mut Vec<OwnerLocks>, owner: u64, object: u32, mode: Mode)
 
 /// Forgets a lock of an owner that held it just once.
 pub fn forget_last(recalled: &mut Vec<OwnerLocks>, count: u64, owner: u64, object: u32, mode: Mode)
+    ensures gone { count ≡ 1 → IsTrue (may_hold recalled.new.items object mode owner) → IsTrue (holds_more recalled.new.items owner) }
     ensures kept { (o : ℕ) (m : Mode) (w : ℕ) → (count ≡ 1 → (same_lock object mode o m && (owner == w)) ≡ false) → may_hold recalled.new.items o m w ≡ may_hold recalled.old.items o m w }
 {
     if count == 1 {

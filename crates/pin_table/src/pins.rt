@@ -3,7 +3,7 @@ ghost use Rattle.std.specs.Prelude.{◌≡◌, ◌≢◌, ◌↔◌, ◌<◌, �
 ghost use Rattle.std.specs.Ordering.{nat_cmp, eq_by_cmp};
 ghost use Rattle.std.specs.Set.{distinct_count};
 ghost use Rattle.counts.specs.Counts.{total, AreCounts, Tallies};
-ghost use Rattle.pin_table.specs.Pins.{pins_of, sessions_of, AreShared};
+ghost use Rattle.pin_table.specs.Pins.{pins_of, sessions_of, AreShared, PinsOneMore, PinsOneLess};
 
 use crate::shared::{BUFFERS, SharedPins};
 use counts::Counts;
@@ -69,6 +69,7 @@ impl PinTable {
         ensures wanted { buffer < BUFFERS → IsOkUnless result PinError.Memory }
         ensures pinned { OnOk result (pins_of self.new buffer ≡ pins_of self.old buffer + 1) }
         ensures others { OnOk result ((q : ℕ) → q ≢ buffer → pins_of self.new q ≡ pins_of self.old q) }
+        ensures counts { OnOk result (PinsOneMore self.old self.new buffer) }
         ensures total { OnOk result (total self.new ≡ total self.old + 1) }
         ensures first { OnOk result (pins_of self.old buffer ≡ 0 → sessions_of shared.new buffer ≡ sessions_of shared.old buffer + 1) }
         ensures again { OnOk result (1 ≤ pins_of self.old buffer → shared.new ≡ shared.old) }
@@ -97,6 +98,7 @@ impl PinTable {
         ensures pinned { 1 ≤ pins_of self.old buffer → IsOk result }
         ensures unpinned { OnOk result (pins_of self.new buffer + 1 ≡ pins_of self.old buffer) }
         ensures others { OnOk result ((q : ℕ) → q ≢ buffer → pins_of self.new q ≡ pins_of self.old q) }
+        ensures counts { OnOk result (PinsOneLess self.old self.new buffer) }
         ensures total { OnOk result (total self.new + 1 ≡ total self.old) }
         ensures last { OnOk result (pins_of self.old buffer ≡ 1 → sessions_of shared.new buffer + 1 ≡ sessions_of shared.old buffer) }
         ensures still { OnOk result (2 ≤ pins_of self.old buffer → shared.new ≡ shared.old) }
@@ -113,6 +115,15 @@ impl PinTable {
             }
             Some(_) => Ok(()),
         }
+    }
+
+    /// Facts of every table, for proofs. It does nothing.
+    pub fn laws(&self)
+        ensures counts { AreCounts nat_cmp self.now }
+        // of any list in which each buffer stands as often as it is pinned, the number of different ones
+        ensures different { (buffers : List ℕ) → Tallies nat_cmp buffers self.now → length self.now ≡ distinct_count (eq_by_cmp nat_cmp) buffers }
+    {
+        self.pins.laws();
     }
 
     /// How many different buffers the session pins.

@@ -41,3 +41,18 @@ fn refuses(rt: HostRuntime) -> Result<(), Fail> {
     assert_eq!(rt; shared.count(2000), 0);
     Ok(())
 }
+
+#[test]
+fn ninth_buffer_counts(rt: HostRuntime) -> Result<(), Fail> {
+    let mut shared = SharedPins::new(rt.alloc())?;
+    let mut pins = PinTable::new(rt.alloc());
+    for buffer in 0..9 {
+        pins.pin(&mut shared, buffer)?;
+    }
+    pins.unpin(&mut shared, 0)?;
+    assert_eq!(rt; pins.distinct(), 8);
+    assert_eq!(rt; shared.count(8), 1);
+    pins.unpin(&mut shared, 8)?;
+    assert_eq!(rt; pins.distinct(), 7);
+    Ok(())
+}

@@ -1,5 +1,5 @@
 -- The plans of a session.
-use Rattle.std.specs.Prelude.{◌≡◌, ℕ, ◌<◌, ◌≤◌, Bool, true, false, not, nat_eq, List, length, All, sum_by, Option, None, Some, IfSome, slice_set}
+use Rattle.std.specs.Prelude.{◌≡◌, ℕ, ◌+◌, ◌<◌, ◌≤◌, ◌==◌, if◌then◌else◌, Bool, true, false, not, nat_eq, List, length, All, sum_by, Option, None, Some, IfSome, slice_set}
 use Rattle.std.specs.Option.{option_map_or}
 use Rattle.std.specs.List.{IsDistinct, remove}
 use Rattle.std.specs.Map.{keys_of, values_of, lookup, set_value, remove_entry}
@@ -13,6 +13,22 @@ pub record Plans : Type 0 where
 -- the plan of that number, where one stands
 abbrev pub plan_of : Plans → ℕ → Option Plan
 plan_of plans number = lookup (nat_eq number) plans.standing
+
+-- how many references to the plan of that number are held
+abbrev pub references_to : Plans → ℕ → ℕ
+references_to plans number = option_map_or (λ plan. plan.references) (plan_of plans number) 0
+
+-- one more reference to the plan is held, and to every other as many as before
+abbrev pub RefersOneMore : Plans → Plans → ℕ → Type 0
+RefersOneMore old new number = (q : ℕ) → references_to new q ≡ references_to old q + (if number == q then 1 else 0)
+
+-- one reference less to the plan is held, and to every other as many as before
+abbrev pub RefersOneLess : Plans → Plans → ℕ → Type 0
+RefersOneLess old new number = (q : ℕ) → references_to new q + (if number == q then 1 else 0) ≡ references_to old q
+
+-- as many references to each plan are held as before
+abbrev pub RefersAlike : Plans → Plans → Type 0
+RefersAlike old new = (q : ℕ) → references_to new q ≡ references_to old q
 
 -- whether a plan of that number stands that isn't discarded
 abbrev pub is_usable : Plans → ℕ → Bool

@@ -1,8 +1,10 @@
 //! The plans of a session.
-ghost use Rattle.std.specs.Prelude.{◌≡◌, ◌≢◌, ◌↔◌, ◌<◌, ◌≤◌, ◌+◌, ◌-◌, ◌^◌, ◌==◌, ◌&&◌, if◌then◌else◌, ℕ, true, false, List, [], ◌∷◌, ◌++◌, nat_eq, length, not, slice_set, remove, IsTrue, IsOk, IsErrOf, IsOkUnless, IsSome, IfSome, IsSomeAnd, MatchOption, IfOk, IfNone, OnSome, OnOk, OnErr, Some, None};
+ghost use Rattle.std.specs.Prelude.{◌≡◌, ◌≢◌, ◌↔◌, ◌<◌, ◌≤◌, ◌+◌, ◌-◌, ◌^◌, ◌==◌, ◌&&◌, if◌then◌else◌, ℕ, true, false, List, [], ◌∷◌, ◌++◌, nat_eq, length, not, slice_set, remove, IsTrue, IsOk, IsErrOf, IsOkUnless, is_some, IsSome, IfSome, IsSomeAnd, MatchOption, IfOk, IfNone, OnSome, OnOk, OnErr, Some, None};
 ghost use Rattle.std.specs.Map.{lookup, set_value, remove_entry};
+ghost use Rattle.std.specs.List.{list_any};
+ghost use Rattle.std.specs.Set.{distinct_count};
 ghost use Rattle.plan_store.specs.declared.plan.Plan.{Plan};
-ghost use Rattle.plan_store.specs.Plans.{Plans, plan_of, is_usable, references, ArePlans, IsPlaced};
+ghost use Rattle.plan_store.specs.Plans.{Plans, plan_of, RefersOneMore, RefersOneLess, RefersAlike, is_usable, references, ArePlans, IsPlaced};
 
 use crate::plan::{Plan, PlanError};
 use pgs_step::CtxId;
@@ -73,6 +75,7 @@ impl PlanStore {
     pub fn make(&mut self, plan: u32, context: CtxId)
         requires { self.old.reserved ≡ Some plan }
         ensures made { self.new.standing ≡ self.old.standing ++ (plan, record { context = context; discarded = false; references = 0 }) ∷ [] }
+        ensures counts { RefersAlike self.old self.new }
         ensures used { self.new.reserved ≡ None }
     {
         let made = Plan {
@@ -109,6 +112,7 @@ impl PlanStore {
         ensures no_plan { IsErrOf result PlanError.NoPlan ↔ (is_usable self.old plan ≡ false) }
         ensures wanted { IsTrue (is_usable self.old plan) → IsOkUnless result PlanError.Memory }
         ensures added { OnOk result (IfSome (plan_of self.old plan) (λ kept. self.new.standing ≡ set_value (nat_eq plan) self.old.standing (record kept { references = kept.references + 1 }))) }
+        ensures counts { OnOk result (RefersOneMore self.old self.new plan) }
         ensures total { OnOk result (references self.new ≡ references self.old + 1) }
         ensures reserved { self.new.reserved ≡ self.old.reserved }
         ensures refused { OnErr result (self.new ≡ self.old) }
@@ -141,6 +145,7 @@ impl PlanStore {
         ensures context { IfOk result (λ context. IfSome (plan_of self.old plan) (λ kept. context ≡ (if kept.discarded && (kept.references == 1) then Some kept.context else None))) }
         ensures gone { IfOk result (λ context. OnSome context (self.new.standing ≡ remove_entry (nat_eq plan) self.old.standing)) }
         ensures stays { IfOk result (λ context. IfNone context (IfSome (plan_of self.old plan) (λ kept. self.new.standing ≡ set_value (nat_eq plan) self.old.standing (record kept { references = kept.references - 1 })))) }
+        ensures counts { OnOk result (RefersOneLess self.old self.new plan) }
         ensures total { OnOk result (references self.new + 1 ≡ references self.old) }
         ensures reserved { self.new.reserved ≡ self.old.reserved }
         ensures refused { OnErr result (self.new ≡ self.old) }
@@ -176,6 +181,7 @@ impl PlanStore {
         ensures context { IfOk result (λ context. IfSome (plan_of self.old plan) (λ kept. context ≡ (if kept.references == 0 then Some kept.context else None))) }
         ensures gone { IfOk result (λ context. OnSome context (self.new.standing ≡ remove_entry (nat_eq plan) self.old.standing)) }
         ensures stays { IfOk result (λ context. IfNone context (IfSome (plan_of self.old plan) (λ kept. self.new.standing ≡ set_value (nat_eq plan) self.old.standing (record kept { discarded = true })))) }
+        ensures counts { RefersAlike self.old self.new }
         ensures total { references self.new ≡ references self.old }
         ensures reserved { self.new.reserved ≡ self.old.reserved }
         ensures refused { OnErr result (self.new ≡ self.old) }
@@ -198,6 +204,15 @@ impl PlanStore {
             },
         );
         Ok(None)
+    }
+
+    /// Facts of every store, for proofs. It does nothing.
+    pub fn laws(&self)
+        ensures sound { ArePlans self.now }
+        // of any list of the numbers of the plans that stand, the number of different ones
+        ensures different { (numbers : List ℕ) → ((q : ℕ) → list_any (nat_eq q) numbers ≡ is_some (plan_of self.now q)) → length self.now.standing ≡ distinct_count nat_eq numbers }
+    {
+        let _ = &self.plans;
     }
 
     /// How many plans stand, discarded or not.

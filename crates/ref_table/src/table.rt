@@ -4,7 +4,7 @@ ghost use Rattle.std.specs.Ordering.{eq_by_cmp};
 ghost use Rattle.std.specs.Set.{distinct_count};
 ghost use Rattle.counts.specs.Counts.{total, AreCounts, Tallies};
 ghost use Rattle.pgs_step.specs.declared.ids.KindId.{KindId};
-ghost use Rattle.ref_table.specs.References.{pair_cmp, references_of};
+ghost use Rattle.ref_table.specs.References.{pair_cmp, references_of, RefersOneMore, RefersOneLess};
 
 use counts::Counts;
 use pgs_step::KindId;
@@ -51,6 +51,7 @@ impl RefTable {
         requires room { total self.old < 2 ^ 62 }
         ensures added { OnOk result (references_of self.new class key ≡ references_of self.old class key + 1) }
         ensures others { OnOk result ((c : KindId) (k : ℕ) → (c ≡ class → k ≢ key) → references_of self.new c k ≡ references_of self.old c k) }
+        ensures counts { OnOk result (RefersOneMore self.old self.new class.0 key) }
         ensures total { OnOk result (total self.new ≡ total self.old + 1) }
         ensures refused { OnErr result (self.new ≡ self.old) }
     {
@@ -62,6 +63,7 @@ impl RefTable {
         ensures not_held { IsErr result ↔ (references_of self.old class key ≡ 0) }
         ensures dropped { OnOk result (references_of self.new class key + 1 ≡ references_of self.old class key) }
         ensures others { OnOk result ((c : KindId) (k : ℕ) → (c ≡ class → k ≢ key) → references_of self.new c k ≡ references_of self.old c k) }
+        ensures counts { OnOk result (RefersOneLess self.old self.new class.0 key) }
         ensures total { OnOk result (total self.new + 1 ≡ total self.old) }
         ensures refused { OnErr result (self.new ≡ self.old) }
     {
@@ -69,6 +71,15 @@ impl RefTable {
             Some(_) => Ok(()),
             None => Err(RefError::NotHeld),
         }
+    }
+
+    /// Facts of every table, for proofs. It does nothing.
+    pub fn laws(&self)
+        ensures counts { AreCounts pair_cmp self.now }
+        // of any list in which each pair stands as often as references to it are held, the number of different ones
+        ensures different { (pairs : List (ℕ × ℕ)) → Tallies pair_cmp pairs self.now → length self.now ≡ distinct_count (eq_by_cmp pair_cmp) pairs }
+    {
+        self.references.laws();
     }
 
     /// To how many different pairs of class and key references are held.

@@ -16,6 +16,14 @@ pub record Snapshots : Type 0 where
 abbrev pub registrations : Snapshots → ℕ → ℕ
 registrations table snapshot = count_of nat_cmp table.registered snapshot
 
+-- the snapshot is registered once more, and every other as often as before
+abbrev pub RegisteredOneMore : Snapshots → Snapshots → ℕ → Type 0
+RegisteredOneMore old new snapshot = (q : ℕ) → registrations new q ≡ registrations old q + (if snapshot == q then 1 else 0)
+
+-- the snapshot is registered once less, and every other as often as before
+abbrev pub RegisteredOneLess : Snapshots → Snapshots → ℕ → Type 0
+RegisteredOneLess old new snapshot = (q : ℕ) → registrations new q + (if snapshot == q then 1 else 0) ≡ registrations old q
+
 -- how many registrations and entries of the stack there are
 abbrev pub size : Snapshots → ℕ
 size table = total table.registered + length table.stack

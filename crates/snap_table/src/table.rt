@@ -3,9 +3,9 @@ ghost use Rattle.std.specs.Prelude.{◌≡◌, ◌≢◌, ◌↔◌, ◌<◌, �
 ghost use Rattle.std.specs.Ordering.{nat_cmp, eq_by_cmp};
 ghost use Rattle.std.specs.BTreeMap.{is_at};
 ghost use Rattle.std.specs.Set.{distinct_count};
-ghost use Rattle.counts.specs.Counts.{count_of, total, Tallies};
+ghost use Rattle.counts.specs.Counts.{count_of, total, AreCounts, Tallies};
 ghost use Rattle.snap_table.specs.declared.active.Active.{Active};
-ghost use Rattle.snap_table.specs.Snapshots.{Snapshots, registrations, size, snapshots_of, is_deep, kept_below, pops, lowered};
+ghost use Rattle.snap_table.specs.Snapshots.{Snapshots, registrations, RegisteredOneMore, RegisteredOneLess, size, snapshots_of, is_deep, kept_below, pops, lowered};
 
 use crate::active::{Active, SnapError};
 use counts::Counts;
@@ -53,6 +53,7 @@ impl SnapTable {
         requires room { size self.old < 2 ^ 62 }
         ensures registered { OnOk result (registrations self.new snapshot ≡ registrations self.old snapshot + 1) }
         ensures others { OnOk result ((q : ℕ) → q ≢ snapshot → registrations self.new q ≡ registrations self.old q) }
+        ensures counts { OnOk result (RegisteredOneMore self.old self.new snapshot) }
         ensures size { OnOk result (size self.new ≡ size self.old + 1) }
         ensures stack { self.new.stack ≡ self.old.stack }
         ensures refused { OnErr result (self.new ≡ self.old) }
@@ -70,6 +71,7 @@ impl SnapTable {
         ensures not_held { IsErr result ↔ (registrations self.old snapshot ≡ 0) }
         ensures unregistered { OnOk result (registrations self.new snapshot + 1 ≡ registrations self.old snapshot) }
         ensures others { OnOk result ((q : ℕ) → q ≢ snapshot → registrations self.new q ≡ registrations self.old q) }
+        ensures counts { OnOk result (RegisteredOneLess self.old self.new snapshot) }
         ensures size { OnOk result (size self.new + 1 ≡ size self.old) }
         ensures stack { self.new.stack ≡ self.old.stack }
         ensures refused { OnErr result (self.new ≡ self.old) }
@@ -143,6 +145,15 @@ impl SnapTable {
         ensures { self.new ≡ record self.old { stack = map (lowered level) self.old.stack } }
     {
         lower_level(&mut self.stack, level);
+    }
+
+    /// Facts of every table, for proofs. It does nothing.
+    pub fn laws(&self)
+        ensures counts { AreCounts nat_cmp self.now.registered }
+        // of any list in which each snapshot stands as often as it is registered, the number of different ones
+        ensures different { (taken : List ℕ) → Tallies nat_cmp taken self.now.registered → length self.now.registered ≡ distinct_count (eq_by_cmp nat_cmp) taken }
+    {
+        self.registered.laws();
     }
 
     /// How many different snapshots are registered or on the stack.

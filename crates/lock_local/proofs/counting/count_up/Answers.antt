@@ -1,7 +1,7 @@
-use Rattle.std.proofs.Common.{◌≡◌, set, ap, ◌∙◌, arith}
+use Rattle.std.proofs.Common.{◌≡◌, ap, ◌∙◌, arith}
 use Rattle.std.specs.Prelude.{insert}
 use Rattle.lock_local.specs.Places.{WouldStandAt}
-use Rattle.lock_local.specs.Changes.{counted_up, new_lock, acquired}
+use Rattle.lock_local.specs.Changes.{counted_up, new_lock}
 use Rattle.lock_local.proofs.ChangeLemmas.{stands, would_stand, no_lock, acquired_over, acquired_new, counted_up_agrees, new_agrees}
 use Rattle.lock_local.proofs.counting.count_up.Goals as goal
 

@@ -1,5 +1,5 @@
-use Rattle.std.proofs.Common.{sym, subst, ap, ◌∙◌, List}
-use Rattle.lock_local.specs.Recalled.{Recall, recalls, may_hold}
+use Rattle.std.proofs.Common.{ap, ◌∙◌, List}
+use Rattle.lock_local.specs.Recalled.{Recall, may_hold}
 use Rattle.lock_local.proofs.RecallLemmas.{placed, owner_at, may_written, may_pushed, kept_written, kept_pushed}
 use Rattle.lock_local.proofs.recalled.note.Goals as goal
 

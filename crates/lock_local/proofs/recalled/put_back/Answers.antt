@@ -1,6 +1,6 @@
-use Rattle.std.proofs.Common.{◌≡◌, ℕ, sym, subst, ap, ◌∙◌, List, Some, None}
+use Rattle.std.proofs.Common.{◌≡◌, ℕ, sym, ap, ◌∙◌, List, Some, None}
 use Rattle.std.specs.List.{position}
-use Rattle.lock_local.specs.Recalled.{Recall, recalls, may_hold}
+use Rattle.lock_local.specs.Recalled.{Recall, may_hold}
 use Rattle.lock_local.proofs.RecallLemmas.{is_of, placed, owner_at, may_written, may_pushed, kept_written, kept_pushed}
 use Rattle.lock_local.proofs.recalled.put_back.Goals as goal
 

@@ -1,4 +1,4 @@
-use Rattle.std.proofs.Common.{refl, sym, ap, ◌∙◌, List}
+use Rattle.std.proofs.Common.{sym, ap, ◌∙◌, List}
 use Rattle.lock_local.specs.Recalled.{Recall, recalls, may_hold}
 use Rattle.lock_local.proofs.RecallLemmas.{placed, may_first, may_none, may_left}
 use Rattle.lock_local.proofs.recalled.take_out.Goals as goal

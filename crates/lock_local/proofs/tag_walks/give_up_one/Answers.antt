@@ -1,6 +1,6 @@
 use Rattle.std.proofs.Common.{List, ap, sym, subst, ◌∙◌, arith, filter}
 use Rattle.pgs_step.specs.declared.events.What.{What}
-use Rattle.lock_local.specs.Locks.{Lock, has_owner}
+use Rattle.lock_local.specs.Locks.{has_owner}
 use Rattle.lock_local.specs.Changes.{without, release_of}
 use Rattle.lock_local.proofs.ChangeLemmas.{no_lock, stands, would_stand, none_standing}
 use Rattle.lock_local.proofs.StepLemmas.{at_place, told_place, at_none, told_none, all_kept}

@@ -1,8 +1,7 @@
-use Rattle.std.proofs.Common.{◌≡◌, ◌<◌, ◌+◌, ◌^◌, ℕ, true, List, ap, sym, subst, ◌∙◌, arith}
-use Rattle.pgs_step.specs.declared.lock_modes.Mode.{Mode}
+use Rattle.std.proofs.Common.{◌≡◌, ◌<◌, ◌+◌, ◌^◌, ℕ, List, ap, sym, subst, ◌∙◌, arith}
 use Rattle.lock_local.specs.Locks.{Lock, SessionLocks, total}
 use Rattle.lock_local.specs.Counts.{HoldsOneMore, WholeOneMore}
-use Rattle.lock_local.specs.Recalled.{Recall, Covers, may_hold}
+use Rattle.lock_local.specs.Recalled.{Recall, Covers}
 use Rattle.lock_local.proofs.ChangeLemmas.{fit_acquired, total-acquired}
 use Rattle.lock_local.proofs.CountLemmas.{counts_more}
 use Rattle.lock_local.proofs.TotalLemmas.{wholes_more}

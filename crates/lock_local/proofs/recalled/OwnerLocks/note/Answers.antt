@@ -1,8 +1,8 @@
-use Rattle.std.proofs.Common.{◌≡◌, Bool, true, false, ◌||◌, sym, ap, ◌∙◌, rules, subst, List}
+use Rattle.std.proofs.Common.{◌≡◌, Bool, true, false, ◌||◌, sym, ap, ◌∙◌, List}
 use Rattle.std.specs.List.{list_any}
 use Rattle.lock_local.specs.declared.recalled.LockTag.{LockTag}
-use Rattle.lock_local.specs.Recalled.{Recall, is_tag, recalls, IsRising}
-use Rattle.lock_local.proofs.TagLemmas.{IsRising-insert, any-insert, sooner, new_tag}
+use Rattle.lock_local.specs.Recalled.{Recall, is_tag, recalls}
+use Rattle.lock_local.proofs.TagLemmas.{IsRising-insert, any-insert, new_tag}
 use Rattle.lock_local.proofs.recalled.OwnerLocks.note.Goals as goal
 
 not_second : (a b : Bool) → (a || b) ≡ false → b ≡ false

@@ -1,7 +1,8 @@
-use Rattle.std.proofs.Common.{◌+◌, ◌<◌, ◌^◌, subst, sym, arith}
+use Rattle.std.proofs.Common.{refl, ◌+◌, ◌<◌, ◌^◌, subst, sym, arith}
 use Rattle.plan_store.specs.declared.plan.Plan.{Plan}
 use Rattle.plan_store.specs.Plans.{Plans, references, IsHeld, IsPlaced}
 use Rattle.plan_store.proofs.PlanLemmas.{are-replaced, references-replaced, references-removed}
+use Rattle.plan_store.proofs.PlanCounts.{refers_more}
 use Rattle.plan_store.proofs.store.PlanStore.add_ref.Goals as goal
 
 pub overflow_add-kept : goal.overflow_add-kept
@@ -27,3 +28,9 @@ returns-clause-total c =
     let other : Plan = record c.in-Some.kept { references = c.in-Some.kept.references + 1 } in
     let sums = references-replaced plans c.args.plan c.in-Some.kept other placed.read in
     rw (← c.self.view_is, placed.replaced other) (omega (arith, sums))
+
+pub returns-clause-counts : goal.returns-clause-counts
+returns-clause-counts c = λ q.
+    let placed : IsPlaced c.self.inside.plans.items c.args.plan c.in-Some.at c.in-Some.kept = subst (λ xs. IsPlaced xs c.args.plan c.in-Some.at c.in-Some.kept) c.as_slice.ensures.value c.in-Some.ensures in
+    let other : Plan = record c.in-Some.kept { references = c.in-Some.kept.references + 1 } in
+    rw (← c.self.view_is, placed.replaced other) (refers_more c.args.plan q c.self.inside.plans.items c.in-Some.kept other placed.read refl)

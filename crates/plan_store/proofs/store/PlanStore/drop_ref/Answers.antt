@@ -1,7 +1,8 @@
-use Rattle.std.proofs.Common.{◌-◌, inl, inr, subst, arith}
+use Rattle.std.proofs.Common.{refl, ◌-◌, inl, inr, subst, arith}
 use Rattle.plan_store.specs.declared.plan.Plan.{Plan}
 use Rattle.plan_store.specs.Plans.{Plans, IsHeld, IsPlaced}
 use Rattle.plan_store.proofs.PlanLemmas.{are-replaced, are-removed, still-room, references-replaced, references-removed}
+use Rattle.plan_store.proofs.PlanCounts.{refers_less, gone_less}
 use Rattle.plan_store.proofs.store.PlanStore.drop_ref.Goals as goal
 
 pub invariant_of-self : goal.invariant_of-self
@@ -32,3 +33,14 @@ returns-clause-total c =
     let other : Plan = record c.in-Some.kept { references = c.in-Some.kept.references - 1 } in
     let sums = references-replaced plans c.args.plan c.in-Some.kept other placed.read in
     rw (← c.self.view_is, placed.replaced other) (omega (arith, sums))
+
+pub returns-then-left-eq0-clause-counts : goal.returns-then-left-eq0-clause-counts
+returns-then-left-eq0-clause-counts c = λ q.
+    let placed : IsPlaced c.self.inside.plans.items c.args.plan c.in-Some.at c.in-Some.kept = subst (λ xs. IsPlaced xs c.args.plan c.in-Some.at c.in-Some.kept) c.as_slice.ensures.value c.in-Some.ensures in
+    rw (← c.self.view_is, c.remove.ensures.items, placed.taken) (gone_less c.args.plan q c.self.inside.plans.items c.in-Some.kept c.self.invariant.0.different placed.read (omega arith))
+
+pub returns-clause-counts : goal.returns-clause-counts
+returns-clause-counts c = λ q.
+    let placed : IsPlaced c.self.inside.plans.items c.args.plan c.in-Some.at c.in-Some.kept = subst (λ xs. IsPlaced xs c.args.plan c.in-Some.at c.in-Some.kept) c.as_slice.ensures.value c.in-Some.ensures in
+    let other : Plan = record c.in-Some.kept { references = c.in-Some.kept.references - 1 } in
+    rw (← c.self.view_is, placed.replaced other) (refers_less c.args.plan q c.self.inside.plans.items c.in-Some.kept other placed.read (omega arith))
