@@ -85,7 +85,7 @@ fn twelve_blocks(rt: HostRuntime) -> Result<(), Fail> {
 }
 
 #[test]
-fn each_call(rt: HostRuntime) -> Result<(), Fail> {
+fn a_freed_chunk_is_taken_again(rt: HostRuntime) -> Result<(), Fail> {
     let mut space = Space::new(rt.alloc(), 1, 9000)?;
     let mut slab = SlabCtx::create(rt.alloc(), &mut space, 0, 7, 64)?;
     let at = slab.alloc(&mut space, 64)?;
@@ -93,14 +93,20 @@ fn each_call(rt: HostRuntime) -> Result<(), Fail> {
     slab.headed();
     slab.free(&mut space, at)?;
     let again = slab.alloc(&mut space, 64)?;
-    slab.reset(&mut space);
-    let emptied = slab.stats();
-    slab.discard(&mut space);
     assert_eq!(rt; (stays == at, again == at), (true, true));
-    assert_eq!(rt;
-        (emptied.total, emptied.blocks, emptied.chunks),
-        (200, 0, 0)
-    );
+    assert_eq!(rt; space.taken(0), 8392);
+    Ok(())
+}
+
+#[test]
+fn reset_and_discarded(rt: HostRuntime) -> Result<(), Fail> {
+    let mut space = Space::new(rt.alloc(), 1, 9000)?;
+    let mut slab = SlabCtx::create(rt.alloc(), &mut space, 0, 7, 64)?;
+    slab.alloc(&mut space, 64)?;
+    slab.reset(&mut space);
+    let stats = slab.stats();
+    slab.discard(&mut space);
+    assert_eq!(rt; (stats.total, stats.blocks, stats.chunks), (200, 0, 0));
     assert_eq!(rt; (space.held(0), space.taken(0)), (0, 8392));
     Ok(())
 }
