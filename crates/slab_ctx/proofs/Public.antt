@@ -1,5 +1,5 @@
 -- Lemmas on what callers of a Slab see.
-use Rattle.std.proofs.Common.{◌≡◌, ℕ, ◌≤◌, ◌==◌, if◌then◌else◌, Option, Some, None, IfSome, IsSome, IfOk, OnOk, Result, Ok, Err, option_map, nat_lt, true, false, length, refl, sym, ap, ◌∙◌, arith, inl, inr}
+use Rattle.std.proofs.Common.{◌≡◌, ℕ, ◌≤◌, if◌then◌else◌, Option, Some, None, IfSome, IsSome, IfOk, OnOk, Result, Ok, Err, option_map, true, false, length, refl, sym, ap, ◌∙◌, inl, inr}
 use Rattle.std.proofs.lemmas.List.{length-map}
 use Rattle.addr_space.specs.declared.Addr.{Addr}
 use Rattle.addr_space.specs.Space.{Space}
