@@ -15,3 +15,4 @@ pub mod Resized
 pub mod Held
 pub mod Numbered
 pub mod Public
+pub mod Rows

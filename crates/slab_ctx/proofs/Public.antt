@@ -1,6 +1,5 @@
 -- Lemmas on what callers of a Slab see.
-use Rattle.std.proofs.Common.{◌≡◌, ℕ, ◌≤◌, ◌==◌, if◌then◌else◌, Option, Some, None, IfSome, IsSome, IfOk, OnOk, Result, Ok, Err, option_map, nat_lt, true, false, length, refl, sym, ap, ◌∙◌, arith, inl, inr}
-use Rattle.std.proofs.lemmas.Bool.Decides.{nat_tests}
+use Rattle.std.proofs.Common.{◌≡◌, ℕ, ◌≤◌, if◌then◌else◌, Option, Some, None, IfSome, IsSome, IfOk, OnOk, Result, Ok, Err, option_map, true, false, length, refl, sym, ap, ◌∙◌, inl, inr}
 use Rattle.std.proofs.lemmas.List.{length-map}
 use Rattle.addr_space.specs.declared.Addr.{Addr}
 use Rattle.addr_space.specs.Space.{Space}
@@ -9,12 +8,12 @@ use Rattle.addr_space.proofs.Addresses.{same_addr-cases}
 use Rattle.ctx_blocks.specs.Layout.{Layout, chunk_at}
 use Rattle.ctx_blocks.specs.declared.parts.Chunk.{Chunk}
 use Rattle.ctx_blocks.proofs.Laid.{from_live}
-use Rattle.slab_ctx.specs.Ledger.{SlabLedger, SlabResized, resize}
 use Rattle.slab_ctx.specs.State.{others, live_of, numbered_of, lives_of, blocks_of, place_at, footprint}
 use Rattle.slab_ctx.specs.Slots.{chunk_of, HasSlots}
 use Rattle.slab_ctx.specs.Calls.{Resizes}
 use Rattle.slab_ctx.specs.Kept.{state_of}
 use Rattle.slab_ctx.specs.declared.books.Books.{Books}
+use Rattle.slab_ctx.proofs.Resized.{resize-same}
 
 -- what follows at a value that there may be
 pub some_with : {A : Type 0} {P : A → Type 0} (o : Option A) → ((a : A) → o ≡ Some a → P a) → IfSome o P
@@ -36,18 +35,11 @@ moves_stay f from to a same is other = elim (same_addr-cases to other) [
       sym (ap (λ t. if t then Some a else (if same_addr from other then None else f other)) there.1 ∙ ap (λ t. if t then None else f other) not)
 ]
 
--- the ledger's step for a chunk that has its size
-pub resize_same : (l : SlabLedger) (held limit place size : ℕ) → size ≡ l.size → size ≤ 1073741823 → resize l held limit place size ≡ Ok (record { ledger = l; place = place; asked = 0; stays = true })
-unfolding resize
-resize_same l held limit place size same most =
-    let big : nat_lt 1073741823 size ≡ false = grind (arith, nat_tests) in
-    let here : (l.size == size) ≡ true = grind (arith, nat_tests) in
-    rw (big, here) refl
-
+-- a chunk that has its size stays
 pub resizes_same : (b : Books) (s : Space) (from to : Addr) (place size : ℕ) → to ≡ from → size ≡ b.slots.size → size ≤ 1073741823 → place_at (state_of b) from ≡ Some place → Resizes (state_of b) (state_of b) place size from to s s
 resizes_same b s from to place size same is most there = record {
   answer = record { ledger = (state_of b).ledger; place = place; asked = 0; stays = true };
-  is = resize_same (state_of b).ledger _ _ place size is most;
+  is = resize-same (state_of b).ledger _ _ place size most is;
   ledger = refl;
   place = moves_stay (place_at (state_of b)) from to place same there;
   asked = refl;

@@ -85,21 +85,43 @@ fn twelve_blocks(rt: HostRuntime) -> Result<(), Fail> {
 }
 
 #[test]
-fn each_call(rt: HostRuntime) -> Result<(), Fail> {
+fn a_freed_chunk_is_taken_again(rt: HostRuntime) -> Result<(), Fail> {
     let mut space = Space::new(rt.alloc(), 1, 9000)?;
     let mut slab = SlabCtx::create(rt.alloc(), &mut space, 0, 7, 64)?;
     let at = slab.alloc(&mut space, 64)?;
-    let other = slab.alloc(&mut space, 65);
-    slab.realloc(&mut space, at, 0, 64)?;
+    let stays = slab.realloc(&mut space, at, 0, 64)?;
+    slab.headed();
     slab.free(&mut space, at)?;
     let again = slab.alloc(&mut space, 64)?;
-    slab.headed();
+    assert_eq!(rt; (stays == at, again == at), (true, true));
+    assert_eq!(rt; space.taken(0), 8392);
+    Ok(())
+}
+
+#[test]
+fn reset_and_discarded(rt: HostRuntime) -> Result<(), Fail> {
+    let mut space = Space::new(rt.alloc(), 1, 9000)?;
+    let mut slab = SlabCtx::create(rt.alloc(), &mut space, 0, 7, 64)?;
+    slab.alloc(&mut space, 64)?;
     slab.reset(&mut space);
-    let held = space.held(0);
+    let stats = slab.stats();
     slab.discard(&mut space);
-    assert_eq!(rt;
-        (again == at, other, held, space.held(0)),
-        (true, Err(CtxError::WrongSize), 200, 0)
-    );
+    assert_eq!(rt; (stats.total, stats.blocks, stats.chunks), (200, 0, 0));
+    assert_eq!(rt; (space.held(0), space.taken(0)), (0, 8392));
+    Ok(())
+}
+
+// Why a context in a space of so many bytes refuses a request.
+fn refusal(rt: &HostRuntime, limit: u64, size: u64) -> Result<Option<CtxError>, Fail> {
+    let mut space = Space::new(rt.alloc(), 1, limit)?;
+    let mut slab = SlabCtx::create(rt.alloc(), &mut space, 0, 7, 64)?;
+    Ok(slab.alloc(&mut space, size).err())
+}
+
+#[test]
+fn what_a_context_refuses(rt: HostRuntime) -> Result<(), Fail> {
+    assert_eq!(rt; refusal(&rt, 9000, 1_073_741_824)?, Some(CtxError::TooBig));
+    assert_eq!(rt; refusal(&rt, 9000, 65)?, Some(CtxError::WrongSize));
+    assert_eq!(rt; refusal(&rt, 8391, 64)?, Some(CtxError::NoSpace));
     Ok(())
 }

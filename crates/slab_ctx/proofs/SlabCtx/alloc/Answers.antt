@@ -1,4 +1,4 @@
-use Rattle.std.proofs.Common.{◌≡◌, ◌∙◌, ℕ, Some, ap, refl}
+use Rattle.std.proofs.Common.{Some, ap}
 use Rattle.addr_space.specs.Footprint.{Footprint}
 use Rattle.addr_space.proofs.Options.{if_ok, on_ok, on_err, either_way, both_err}
 use Rattle.addr_space.proofs.Steps.{Moves-same, Keeps-same}

@@ -1,8 +1,5 @@
-use Rattle.std.proofs.Common.{◌≡◌, ◌∙◌, ℕ, Some, option_map, sym, ap, refl}
-use Rattle.addr_space.proofs.Options.{if_ok}
+use Rattle.std.proofs.Common.{refl}
 use Rattle.addr_space.proofs.Steps.{Moves-none}
-use Rattle.ctx_blocks.specs.Layout.{chunk_at}
-use Rattle.ctx_blocks.specs.declared.parts.Chunk.{Chunk}
 use Rattle.slab_ctx.specs.State.{footprint, place_at}
 use Rattle.slab_ctx.specs.Kept.{state_of}
 use Rattle.slab_ctx.proofs.Public.{some_with, resizes_same, live_stays, both_ok}

@@ -1,4 +1,4 @@
-use Rattle.std.proofs.Common.{◌≡◌, ◌∙◌, ◌+◌, ◌*◌, sym, ap}
+use Rattle.std.proofs.Common.{◌∙◌, ◌+◌, ◌*◌, sym, ap}
 use Rattle.chunk_header.specs.declared.Stats.{Stats}
 use Rattle.slab_ctx.specs.Ledger.{stats}
 use Rattle.slab_ctx.proofs.Public.{length-blocks}

@@ -66,7 +66,7 @@ returns-clause-block c =
         block = record b { live = b.live - 1; freed = b.freed + 1 };
         puts = c.remove.ensures.block b found;
         count = refl;
-  same_number = λ old is. ap (λ (x : Block). x.number) (one_value (block_at c.args.self.now.blocks c.args.at.region) b old found is);
+        same_number = λ old is. ap (λ (x : Block). x.number) (one_value (block_at c.args.self.now.blocks c.args.at.region) b old found is);
         bytes = (c.requires.slots.filled c.args.at.region b (c.requires.slots.owned c.args.at chunk has) found).bytes;
       },
     )
