@@ -1,19 +1,18 @@
 -- The pins of both parts as one list, and after a change of either.
-use Rattle.std.proofs.Common.{◌≡◌, ◌≢◌, ℕ, suc, zero, ◌+◌, ◌-◌, ◌≤◌, ◌<◌, ◌^◌, Bool, true, false, cond, nat_eq, List, [], ◌∷◌, ◌++◌, length, Option, Some, None, refl, sym, ap, subst, ◌∙◌, arith}
+use Rattle.std.proofs.Common.{◌≡◌, ℕ, suc, zero, ◌+◌, ◌-◌, ◌≤◌, ◌^◌, Bool, true, false, cond, nat_eq, List, [], ◌∷◌, ◌++◌, length, Option, Some, None, refl, sym, ap, subst, ◌∙◌, arith}
 use Rattle.std.specs.declared.cmp.Ordering.{Ordering}
 use Rattle.std.specs.declared.cmp.Ordering.TheVariants.{Less, Equal, Greater}
 use Rattle.std.specs.Prelude.{All, sum}
-use Rattle.std.specs.Cmp.{IsTotalOrder, IsEquivalence}
+use Rattle.std.specs.Cmp.{IsEquivalence}
 use Rattle.std.specs.Ordering.{nat_cmp, eq_by_cmp, match_ordering, ordering_reverse, is_eq}
 use Rattle.std.specs.BTreeMap.{is_at, insert_entry}
 use Rattle.std.specs.List.{AllByRecursion, IsDistinct}
 use Rattle.std.specs.List.Sorted.{IsStrictlySortedBy}
 use Rattle.std.specs.Map.{keys_of, values_of, lookup, set_value, remove_entry}
-use Rattle.std.specs.Option.{IfSome, IsSome, is_some, unwrap_or, option_map}
-use Rattle.std.proofs.lemmas.Bool.{true≢false, cases_Bool, eqb-true, eqb-false, false≢true}
+use Rattle.std.specs.Option.{IfSome, is_some, unwrap_or, option_map}
+use Rattle.std.proofs.lemmas.Bool.{true≢false, eqb-true}
 use Rattle.std.proofs.lemmas.Bool.Decides.{nat_tests}
 use Rattle.std.proofs.lemmas.Cmp.{nat_cmp_total, eq_by_cmp_equiv}
-use Rattle.std.proofs.lemmas.Iterator.Adapters.{option_map_id}
 use Rattle.std.proofs.lemmas.List.{map-append}
 use Rattle.std.proofs.lemmas.List.Elements.{All-nil, All-cons, All-head, All-tail}
 use Rattle.std.proofs.lemmas.List.Sums.{sum_by-cons, sum_by_push}
@@ -167,6 +166,10 @@ total-merged (e ∷ es) rest p =
     let none : unwrap_or (option_map (λ (x : ℕ). x) (lookup (at e.0) (merged es rest))) 0 ≡ 0 = ap (λ o. unwrap_or (option_map (λ (x : ℕ). x) o) 0) (head_missing e es rest p) in
     let more : total (e ∷ es) ≡ e.1 + total es = sum_by-cons (λ (x : ℕ). x) e.1 (values_of es) in
     omega (arith, sums, none, more, total-merged es rest later)
+
+-- what a look-up in the array found
+pub looked_up : (b : ℕ) (xs es : List (ℕ × ℕ)) (r o : Option ℕ) → r ≡ lookup (at b) xs → xs ≡ es → r ≡ o → lookup (at b) es ≡ o
+looked_up b xs es r o e s is = ap (lookup (at b)) (sym s) ∙ sym e ∙ is
 
 -- ---- a change of one count
 

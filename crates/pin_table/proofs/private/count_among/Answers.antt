@@ -1,4 +1,4 @@
-use Rattle.std.proofs.Common.{refl, sym, ◌∙◌}
+use Rattle.std.proofs.Common.{sym}
 use Rattle.pin_table.proofs.Places.{lookup_placed, lookup_missed}
 use Rattle.pin_table.proofs.private.count_among.Goals as goal
 

@@ -1,4 +1,4 @@
-use Rattle.std.proofs.Common.{ap, sym, ◌∙◌, arith, length}
+use Rattle.std.proofs.Common.{ap, arith, length}
 use Rattle.pin_table.proofs.PartLemmas.{length-merged, length_total}
 use Rattle.pin_table.proofs.private.PrivateCounts.distinct.Goals as goal
 
