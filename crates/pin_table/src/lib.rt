@@ -2,6 +2,7 @@
 #![tactic(auto)]
 
 mod pins;
+mod private;
 mod shared;
 
 pub use pins::{PinError, PinTable};

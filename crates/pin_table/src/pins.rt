@@ -5,8 +5,8 @@ ghost use Rattle.std.specs.Set.{distinct_count};
 ghost use Rattle.counts.specs.Counts.{total, AreCounts, Tallies};
 ghost use Rattle.pin_table.specs.Pins.{pins_of, sessions_of, AreShared, PinsOneMore, PinsOneLess};
 
+use crate::private::PrivateCounts;
 use crate::shared::{BUFFERS, SharedPins};
-use counts::Counts;
 use std::alloc::{AllocError, Global};
 use std::marker::Model;
 
@@ -37,7 +37,7 @@ impl From<AllocError> for PinError {
 /// Contracts see the list of the buffers that the session pins, each with its count, in their order.
 #[derive(Drop)]
 pub struct PinTable {
-    pins: Counts<u32>,
+    pins: PrivateCounts,
 }
 
 impl Model for PinTable {
@@ -54,7 +54,7 @@ impl PinTable {
         ensures { result ≡ [] }
     {
         PinTable {
-            pins: Counts::new(alloc),
+            pins: PrivateCounts::new(alloc),
         }
     }
 
@@ -133,6 +133,7 @@ impl PinTable {
         // of any list in which each buffer stands as often as it is pinned, the number of different ones
         ensures different { (buffers : List ℕ) → Tallies nat_cmp buffers self.now → result ≡ distinct_count (eq_by_cmp nat_cmp) buffers }
     {
+        self.pins.laws();
         self.pins.distinct()
     }
 }

@@ -1,4 +1,5 @@
-//! Each call once, each refusal, and a buffer that two sessions pin.
+//! Each call once, each refusal, a buffer that two sessions pin, and nine buffers.
+use crate::private::PrivateCounts;
 use crate::{PinError, PinTable, SharedPins};
 use std::test::Fail;
 
@@ -54,5 +55,34 @@ fn ninth_buffer_counts(rt: HostRuntime) -> Result<(), Fail> {
     assert_eq!(rt; shared.count(8), 1);
     pins.unpin(&mut shared, 8)?;
     assert_eq!(rt; pins.distinct(), 7);
+    Ok(())
+}
+
+#[test]
+fn each_of_nine_goes(rt: HostRuntime) -> Result<(), Fail> {
+    let mut counts = PrivateCounts::new(rt.alloc());
+    for buffer in 0..9 {
+        counts.raise(buffer)?;
+    }
+    assert_eq!(rt; counts.count(8), 1);
+    for buffer in 0..9 {
+        assert_eq!(rt; counts.lower(buffer), Some(0));
+    }
+    assert_eq!(rt; counts.distinct(), 0);
+    Ok(())
+}
+
+#[test]
+fn count_of_the_table_stays_there(rt: HostRuntime) -> Result<(), Fail> {
+    let mut counts = PrivateCounts::new(rt.alloc());
+    for buffer in 0..9 {
+        counts.raise(buffer)?;
+    }
+    assert_eq!(rt; counts.lower(0), Some(0));
+    counts.raise(8)?;
+    assert_eq!(rt; counts.count(8), 2);
+    assert_eq!(rt; counts.distinct(), 8);
+    assert_eq!(rt; counts.lower(8), Some(1));
+    assert_eq!(rt; counts.lower(9), None);
     Ok(())
 }
