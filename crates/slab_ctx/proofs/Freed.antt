@@ -2,7 +2,7 @@
 use Rattle.std.proofs.Common.{◌≡◌, ℕ, ◌-◌, ◌≤◌, ◌==◌, ◌&&◌, nat_le, if◌then◌else◌, Bool, true, false, not, List, [], ◌∷◌, refl, sym, ap, ◌∙◌, inl, inr, arith}
 use Rattle.std.proofs.lemmas.Bool.{cases_eq}
 use Rattle.std.proofs.lemmas.Bool.Decides.{nat_tests}
-use Rattle.slab_ctx.specs.Ledger.{SlabLedger, SlabBlock, is_empty, empties, set_live, with_live, without_number, live_in, lowered, give}
+use Rattle.slab_ctx.specs.Ledger.{SlabLedger, SlabBlock, is_empty, empties, with_live, without_number, live_in, lowered, give}
 
 -- which block is left out doesn't depend on live chunks
 left_out : (number live : ℕ) (b : SlabBlock) (ys zs : List SlabBlock) (t : Bool) → (b.number == number) ≡ t → ys ≡ zs

@@ -1,14 +1,13 @@
 -- The blocks of a Slab by their numbers: what is done to one by its region is done to it by its number.
 use Rattle.std.proofs.Common.{◌≡◌, ◌≢◌, ℕ, suc, ◌+◌, ◌-◌, ◌<◌, ◌≤◌, ◌==◌, ◌++◌, if◌then◌else◌, Bool, true, false, List, [], ◌∷◌, length, map, sum_by, max, nat_lt, Option, Some, None, refl, sym, ap, ◌∙◌, arith}
 use Rattle.std.specs.List.{find as first_of}
-use Rattle.std.specs.Option.{option_map_or}
 use Rattle.std.proofs.lemmas.Bool.Decides.{nat_tests}
 use Rattle.std.proofs.lemmas.List.Sums.{sum_by-cons}
 use Rattle.ctx_blocks.specs.Kept.{AreRising}
 use Rattle.ctx_blocks.specs.Steps.{with_block, without_block}
 use Rattle.ctx_blocks.specs.declared.parts.Block.{Block}
 use Rattle.ctx_blocks.proofs.Numbered.{rising_above}
-use Rattle.slab_ctx.specs.Ledger.{SlabBlock, set_live, with_live, without_number, live_in, fuller, serving, is_empty, empties}
+use Rattle.slab_ctx.specs.Ledger.{SlabBlock, with_live, without_number, live_in, fuller, serving, is_empty, empties}
 use Rattle.slab_ctx.specs.Lives.{fullest, greater, free_in, empties as empties_of}
 use Rattle.slab_ctx.specs.Counts.{first_with}
 use Rattle.slab_ctx.specs.State.{live_of, numbered_of}

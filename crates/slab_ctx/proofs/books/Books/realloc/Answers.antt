@@ -1,5 +1,4 @@
-use Rattle.std.proofs.Common.{ℕ, ◌≡◌, ◌≢◌, ◌<◌, ◌≤◌, ◌==◌, nat_lt, true, false, if◌then◌else◌, Ok, Err, refl, sym, ap, ◌∙◌, arith}
-use Rattle.std.proofs.lemmas.Bool.Decides.{nat_tests}
+use Rattle.std.proofs.Common.{◌≡◌, Ok, Err, refl, sym, ◌∙◌, arith}
 use Rattle.chunk_header.specs.declared.CtxError.TheVariants.{TooBig, Unsupported}
 use Rattle.slab_ctx.specs.Kept.{ledger_of}
 use Rattle.slab_ctx.proofs.Resized.{resize-big, resize-other, resize-same, kept_place}

@@ -1,4 +1,4 @@
-use Rattle.std.proofs.Common.{◌≡◌, ◌+◌, ◌-◌, ◌++◌, ℕ, [], ◌∷◌, if◌then◌else◌, Some, Ok, Err, option_map, ap, sym, subst, ◌∙◌, refl, arith}
+use Rattle.std.proofs.Common.{◌≡◌, ◌+◌, ◌-◌, ◌++◌, ℕ, [], ◌∷◌, if◌then◌else◌, Some, Err, option_map, ap, sym, subst, ◌∙◌, arith}
 use Rattle.std.specs.Map.{lookup}
 use Rattle.std.proofs.lemmas.Result.{err_from_is_err_and}
 use Rattle.addr_space.specs.declared.Addr.{Addr}
@@ -6,13 +6,13 @@ use Rattle.addr_space.specs.Space.{held}
 use Rattle.addr_space.specs.Live.{same_addr}
 use Rattle.addr_space.proofs.Steps.{Moves-more, Keeps-more}
 use Rattle.chunk_header.specs.declared.CtxError.TheVariants.{NoSpace}
-use Rattle.ctx_blocks.specs.Layout.{Layout, chunk_at, footprint as footprint_of}
+use Rattle.ctx_blocks.specs.Layout.{chunk_at, footprint as footprint_of}
 use Rattle.ctx_blocks.specs.Steps.{PutsChunk}
 use Rattle.ctx_blocks.specs.declared.parts.Block.{Block}
 use Rattle.ctx_blocks.proofs.Places.{number_is, numbers_among}
 use Rattle.ctx_blocks.proofs.Among.{numbers_stay}
 use Rattle.ctx_blocks.proofs.Changed.{size_of}
-use Rattle.slab_ctx.specs.Ledger.{SlabBlock, SlabLedger, SlabTaken, per_block, serving, with_live}
+use Rattle.slab_ctx.specs.Ledger.{SlabBlock, SlabLedger, per_block, serving, with_live}
 use Rattle.slab_ctx.specs.State.{blocks_of, others}
 use Rattle.slab_ctx.specs.Slots.{chunk_of}
 use Rattle.slab_ctx.specs.Kept.{ledger_of}
