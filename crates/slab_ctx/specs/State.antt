@@ -45,9 +45,6 @@ abbrev pub place_in : List (ℕ × Block) → ℕ → ℕ
 place_in [] number = 0
 place_in (e ∷ es) number = if number == e.0 then 0 else suc (place_in es number)
 
-abbrev pub place_of : SlabState → ℕ → ℕ
-place_of s number = place_in (others s.layout.blocks) number
-
 -- whether a chunk may stand at an offset of a block
 abbrev pub is_slot : ℕ → ℕ → Bool
 is_slot size offset = (nat_le 48 offset && ((offset - 48) % stride size == 0)) && nat_le (offset + (stride size - 8)) 8192
