@@ -1,15 +1,12 @@
 -- A context that is alone in its account, from one call to the next.
-use Rattle.std.proofs.Common.{◌≡◌, ◌≢◌, ℕ, ◌+◌, ◌-◌, ◌==◌, if◌then◌else◌, true, Option, Some, None, Result, Ok, Err, IfOk, [], sum_by, refl, sym, ap, ◌∙◌, inl, inr, arith}
+use Rattle.std.proofs.Common.{◌≡◌, ℕ, ◌-◌, ◌==◌, if◌then◌else◌, true, Result, Ok, Err, IfOk, [], sum_by, refl, sym, ap, ◌∙◌, arith}
 use Rattle.std.proofs.lemmas.Bool.Decides.{nat_tests}
 use Rattle.addr_space.specs.declared.Addr.{Addr}
 use Rattle.addr_space.specs.Space.{Space, held, share}
 use Rattle.addr_space.specs.Footprint.{Footprint, Moves, AreDisjoint, counted, nothing}
 use Rattle.addr_space.proofs.Steps.{none_counted}
-use Rattle.addr_space.specs.Live.{PutsAt}
 use Rattle.addr_space.proofs.Apart.{Agrees-other, AreDisjoint-other, AreDisjoint-sym}
-use Rattle.chunk_header.specs.Answers.{Taken}
-use Rattle.chunk_header.specs.declared.Stats.{Stats}
-use Rattle.any_ctx.specs.Ledgers.{Ledger, Place, take, stats, reset}
+use Rattle.any_ctx.specs.Ledgers.{take}
 use Rattle.any_ctx.specs.Calls.{Takes}
 use Rattle.any_ctx.specs.Contexts.{footprint, ledger}
 use Rattle.any_ctx.specs.declared.any.AnyCtx.{AnyCtx}

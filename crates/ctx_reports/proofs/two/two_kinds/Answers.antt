@@ -1,4 +1,4 @@
-use Rattle.std.proofs.Common.{◌≡◌, ℕ, ◌-◌, slice_index, sym, ap, ◌∙◌, arith}
+use Rattle.std.proofs.Common.{◌≡◌, ◌-◌, slice_index, sym, ap, ◌∙◌, arith}
 use Rattle.addr_space.specs.Space.{held, raised}
 use Rattle.any_ctx.specs.Ledgers.{take}
 use Rattle.any_ctx.specs.Contexts.{footprint, ledger}
