@@ -1,23 +1,19 @@
 -- The steps of one kind's ledger as those of any kind's.
-use Rattle.std.proofs.Common.{◌≡◌, ◌⊎◌, ◌↔◌, ◌<◌, ◌-◌, ℕ, Bool, true, false, if◌then◌else◌, Option, Some, None, IfSome, option_map, Result, Ok, Err, IfErr, OnOk, OnErr, IsTrue, refl, sym, ap, ◌∙◌, inl, inr, arith}
+use Rattle.std.proofs.Common.{◌≡◌, ◌-◌, ℕ, Bool, true, false, if◌then◌else◌, Option, Some, None, IfSome, option_map, refl, ap, ◌∙◌}
 use Rattle.addr_space.specs.declared.Addr.{Addr}
 use Rattle.addr_space.specs.Space.{Space, held}
 use Rattle.addr_space.specs.Live.{same_addr, PutsAt, MovesAt}
-use Rattle.chunk_header.specs.declared.CtxError.{CtxError}
-use Rattle.chunk_header.specs.declared.CtxError.TheVariants.{TooBig, NoSpace, WrongSize, Unsupported, Memory}
 use Rattle.alloc_set.specs.Ledger as set
 use Rattle.alloc_set.specs.State as set_state
 use Rattle.alloc_set.specs.Calls as set_calls
-use Rattle.slab_ctx.specs.Ledger as slab
 use Rattle.slab_ctx.specs.State as slab_state
 use Rattle.slab_ctx.specs.Calls as slab_calls
 use Rattle.generation_ctx.specs.Ledger as generation
 use Rattle.generation_ctx.specs.State as generation_state
 use Rattle.generation_ctx.specs.Calls as generation_calls
-use Rattle.bump_ctx.specs.Ledger as bump
 use Rattle.bump_ctx.specs.State as bump_state
 use Rattle.bump_ctx.specs.Calls as bump_calls
-use Rattle.any_ctx.specs.Ledgers.{Ledger, OfSet, OfSlab, OfGeneration, OfBump, Place, InSet, InSlab, InGeneration, InBump, taken_as, resized_as}
+use Rattle.any_ctx.specs.Ledgers.{OfSet, OfSlab, OfGeneration, OfBump, InSet, InSlab, InGeneration, InBump, taken_as, resized_as}
 use Rattle.any_ctx.specs.Calls.{Takes, Resizes}
 use Rattle.any_ctx.specs.declared.any.AnyCtx.TheVariants.{AllocSet, Slab, Generation, Bump}
 

@@ -2,7 +2,6 @@
 use Rattle.std.specs.Prelude.{ℕ}
 use Rattle.chunk_header.specs.declared.Stats.{Stats}
 use Rattle.ctx_reports.specs.declared.Pair.{Pair}
-use Rattle.ctx_reports.specs.declared.End.{End}
 use Rattle.ctx_reports.specs.declared.Course.{Course}
 
 -- the bytes of all blocks and their number, the free bytes, and the free chunks

@@ -16,11 +16,13 @@ ghost use Rattle.ctx_reports.specs.Courses.{given, resized, pair, end_of, course
 
 mod both;
 mod rows;
+mod two;
 
 use addr_space::{Addr, Space};
 use any_ctx::AnyCtx;
-pub use both::alloc_beside;
+pub use both::{alloc_beside, free_beside, realloc_beside, reset_beside};
 use chunk_header::{CtxError, Stats};
+pub use two::two_kinds;
 
 /// What a context reports once a chunk was taken, and once it was freed.
 #[derive(Clone, Copy, PartialEq, Eq, Debug)]

@@ -1,10 +1,7 @@
-use Rattle.std.proofs.Common.{◌≡◌, ℕ, Ok, IfOk, ap, ◌∙◌, refl, subst, arith}
-use Rattle.addr_space.specs.Space.{Space}
-use Rattle.any_ctx.specs.Ledgers.{Ledger}
+use Rattle.std.proofs.Common.{◌≡◌, ap, ◌∙◌}
 use Rattle.chunk_header.specs.declared.Stats.{Stats}
 use Rattle.any_ctx.specs.Contexts.{footprint, ledger}
 use Rattle.ctx_reports.specs.Alone.{total_of}
-use Rattle.ctx_reports.specs.Courses.{pair}
 use Rattle.ctx_reports.proofs.Steps.{IsAlone-new}
 use Rattle.ctx_reports.proofs.rows.new_pair.Goals as goal
 

@@ -2,7 +2,7 @@ use Rattle.std.proofs.Common.{◌≡◌, ◌⊎◌, ◌-◌, ℕ, IfOk, IfErr, E
 use Rattle.addr_space.specs.Space.{held}
 use Rattle.addr_space.specs.Footprint.{Keeps}
 use Rattle.addr_space.proofs.Options.{if_ok}
-use Rattle.chunk_header.specs.declared.CtxError.TheVariants.{TooBig, NoSpace, WrongSize, Memory}
+use Rattle.chunk_header.specs.declared.CtxError.TheVariants.{Memory}
 use Rattle.alloc_set.specs.State as set_state
 use Rattle.slab_ctx.specs.State as slab_state
 use Rattle.generation_ctx.specs.State as generation_state

@@ -3,7 +3,6 @@ use Rattle.addr_space.specs.Footprint.{Keeps}
 use Rattle.alloc_set.specs.State as set_state
 use Rattle.slab_ctx.specs.State as slab_state
 use Rattle.generation_ctx.specs.State as generation_state
-use Rattle.bump_ctx.specs.State as bump_state
 use Rattle.any_ctx.specs.declared.any.AnyCtx.{AnyCtx}
 use Rattle.any_ctx.specs.Contexts.{footprint}
 use Rattle.any_ctx.proofs.any.AnyCtx.free.Goals as goal

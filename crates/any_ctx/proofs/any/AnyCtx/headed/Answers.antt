@@ -8,11 +8,9 @@ use Rattle.chunk_header.specs.Header.{AllOfKind, TakesSpace}
 use Rattle.alloc_set.specs.State as set_state
 use Rattle.slab_ctx.specs.State as slab_state
 use Rattle.generation_ctx.specs.State as generation_state
-use Rattle.bump_ctx.specs.State as bump_state
 use Rattle.alloc_set.specs.Ledger as set
 use Rattle.slab_ctx.specs.Ledger as slab
 use Rattle.generation_ctx.specs.Ledger as generation
-use Rattle.bump_ctx.specs.Ledger as bump
 use Rattle.any_ctx.specs.declared.any.AnyCtx.{AnyCtx}
 use Rattle.any_ctx.specs.Ledgers.{Place, OfSet, OfSlab, OfGeneration, InSet, InSlab, InGeneration, chunk_bytes}
 use Rattle.any_ctx.specs.Contexts.{footprint, ledger, place_at, kind_of}

@@ -1,4 +1,4 @@
-use Rattle.std.proofs.Common.{◌≡◌, ◌⊎◌, ◌↔◌, ◌≤◌, ℕ, IfOk, IfErr, IfSome, Err, sym, subst, ap, ◌∙◌, inl, inr, arith}
+use Rattle.std.proofs.Common.{◌≡◌, ◌⊎◌, ◌↔◌, ℕ, IfOk, IfErr, IfSome, Err, sym, subst, ap, ◌∙◌, inl, inr, arith}
 use Rattle.addr_space.specs.Space.{held}
 use Rattle.addr_space.specs.Footprint.{KeepsBut}
 use Rattle.addr_space.proofs.Options.{if_ok}
@@ -6,17 +6,14 @@ use Rattle.chunk_header.specs.declared.CtxError.TheVariants.{TooBig, NoSpace, Un
 use Rattle.alloc_set.specs.State as set_state
 use Rattle.slab_ctx.specs.State as slab_state
 use Rattle.generation_ctx.specs.State as generation_state
-use Rattle.bump_ctx.specs.State as bump_state
 use Rattle.any_ctx.specs.declared.any.AnyCtx.{AnyCtx}
-use Rattle.any_ctx.specs.declared.any.AnyCtx.TheVariants.{AllocSet, Slab, Generation, Bump}
+use Rattle.any_ctx.specs.declared.any.AnyCtx.TheVariants.{AllocSet, Slab, Generation}
 use Rattle.alloc_set.specs.Ledger as set
-use Rattle.slab_ctx.specs.Ledger as slab
 use Rattle.generation_ctx.specs.Ledger as generation
-use Rattle.bump_ctx.specs.Ledger as bump
 use Rattle.alloc_set.specs.Calls as set_calls
 use Rattle.slab_ctx.specs.Calls as slab_calls
 use Rattle.generation_ctx.specs.Calls as generation_calls
-use Rattle.any_ctx.specs.Ledgers.{Place, OfSet, OfSlab, OfGeneration, OfBump, InSet, InSlab, InGeneration, InBump, resized_as}
+use Rattle.any_ctx.specs.Ledgers.{Place, OfSet, OfSlab, OfGeneration, InSet, InSlab, InGeneration, resized_as}
 use Rattle.any_ctx.specs.Contexts.{footprint, place_at}
 use Rattle.any_ctx.specs.Calls.{Resizes, resize_in}
 use Rattle.any_ctx.proofs.Steps.{Resizes-set, Resizes-slab, Resizes-generation, if_some, each_some}
