@@ -6,8 +6,8 @@ use Rattle.pgs_step.specs.declared.ids.Item.{Item}
 use Rattle.pgs_step.specs.declared.errors.Error.{Error}
 use Rattle.pgs_step.specs.declared.events.What.{What}
 use Rattle.pgs_step.specs.declared.events.What.TheVariants as what
-use Rattle.owner_core.specs.Owners.{Owner, items_of}
-use Rattle.owner_core.specs.Steps.{release_of, releases_of}
+use Rattle.flat_owners.specs.Owners.{Owner, items_of}
+use Rattle.flat_owners.specs.Steps.{release_of, releases_of}
 use Rattle.pgs_command.specs.declared.commands.Command.{Command}
 use Rattle.pgs_command.specs.declared.commands.Command.TheVariants.{Nothing, Begin, Commit, Rollback, Pin}
 use Rattle.pgs_world.specs.Pins.{said, said-append}

@@ -6,7 +6,7 @@ use Rattle.std.proofs.lemmas.List.Sums.{count_by-le-length}
 use Rattle.std.proofs.lemmas.List.{length-replicate}
 use Rattle.std.proofs.lemmas.Bool.Decides.{nat_tests}
 use Rattle.pgs_step.specs.declared.ids.Item.{Item}
-use Rattle.owner_core.specs.Owners.{Owner, has_owner, items_of, released, remembered, uses}
+use Rattle.flat_owners.specs.Owners.{Owner, has_owner, items_of, released, remembered, uses}
 use Rattle.pgs_step.specs.declared.ids.Phase.TheVariants.{BeforeLocks}
 use Rattle.pgs_world.specs.Session.{World, SessionState, LevelState, after_release, after_gone, owner_of, opening}
 use Rattle.pgs_world.specs.Pins.{pins_counted}

@@ -3,7 +3,7 @@ use Rattle.std.specs.Prelude.{◌≡◌, ℕ, ◌+◌, ◌<◌, ◌≤◌, ◌^�
 use Rattle.std.specs.Option.{option_map}
 use Rattle.pgs_step.specs.declared.ids.Item.{Item}
 use Rattle.pgs_step.specs.declared.ids.OwnerId.{OwnerId}
-use Rattle.owner_core.specs.Owners.{OwnerTable, Owner, owners_of, items_of, has_owner, uses}
+use Rattle.flat_owners.specs.Owners.{OwnerTable, Owner, owners_of, items_of, has_owner, uses}
 use Rattle.pgs_world.specs.declared.session.Level.{Level}
 use Rattle.pgs_world.specs.declared.session.Standing.{Standing}
 use Rattle.pgs_world.specs.declared.session.Standing.TheVariants.{Idle, InBlock, Aborted}

@@ -2,7 +2,7 @@
 use Rattle.std.specs.Prelude.{◌≡◌, ℕ, ◌-◌, ◌==◌, if◌then◌else◌, List, [], ◌∷◌, ◌++◌, slice_index, slice_set}
 use Rattle.std.proofs.Common.{refl, sym, ap, ◌∙◌}
 use Rattle.pgs_step.specs.declared.events.What.{What}
-use Rattle.owner_core.specs.Steps.{Step, Said, GivesBack}
+use Rattle.flat_owners.specs.Steps.{Step, Said, GivesBack}
 
 -- what the steps of a release say, in order
 abbrev pub said : List Step → List What

@@ -7,9 +7,9 @@ use Rattle.pgs_step.specs.declared.errors.Error.TheVariants.{SyntaxError, Transa
 use Rattle.pgs_step.specs.declared.events.What.{What}
 use Rattle.pgs_step.specs.declared.events.What.TheVariants.{BeginLevel, CommitLevel, AbortLevel, CleanupLevel, Owner, OwnerGone, Acquire, AlreadyInTransaction, NotInTransaction, Exit}
 use Rattle.pgs_step.specs.declared.events.What.TheVariants as what
-use Rattle.owner_core.specs.Owners as owners
-use Rattle.owner_core.specs.Owners.{items_of, remembered, released, without}
-use Rattle.owner_core.specs.Steps.{releases_of}
+use Rattle.flat_owners.specs.Owners as owners
+use Rattle.flat_owners.specs.Owners.{items_of, remembered, released, without}
+use Rattle.flat_owners.specs.Steps.{releases_of}
 use Rattle.pgs_step.specs.declared.ids.Phase.TheVariants.{BeforeLocks}
 use Rattle.pgs_world.specs.Pins.{said}
 use Rattle.pgs_command.specs.declared.commands.Command.{Command}

@@ -1,11 +1,11 @@
 //! How often the session pins each buffer.
 ghost use Rattle.std.specs.Prelude.{◌≡◌, ◌<◌, ◌+◌, ◌^◌, [], ◌∷◌, ℕ, List, length, slice_index, slice_set, replicate, IfOk};
 ghost use Rattle.pgs_step.specs.declared.events.What.{What};
-ghost use Rattle.owner_core.specs.Owners.{uses};
-ghost use Rattle.owner_core.specs.Steps.{GivesBack};
+ghost use Rattle.flat_owners.specs.Owners.{uses};
+ghost use Rattle.flat_owners.specs.Steps.{GivesBack};
 ghost use Rattle.pgs_world.specs.Pins.{pins_counted, PinsDo};
 
-use owner_core::Release;
+use flat_owners::Release;
 use pgs_step::{Emit, Item};
 use std::alloc::{AllocError, Global};
 use std::marker::Model;

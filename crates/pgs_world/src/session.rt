@@ -2,13 +2,13 @@
 ghost use Rattle.std.specs.Prelude.{◌≡◌, ◌<◌, ◌≤◌, ◌+◌, ℕ, true, false, Some, None, [], ◌++◌, length, OnOk, IfOk, IfErr};
 ghost use Rattle.std.specs.Option.{option_map};
 ghost use Rattle.pgs_step.specs.declared.errors.Error.TheVariants.{NoMemory};
-ghost use Rattle.owner_core.specs.Owners.{owners_of, uses};
+ghost use Rattle.flat_owners.specs.Owners.{owners_of, uses};
 ghost use Rattle.pgs_world.specs.Pins.{pins_counted};
 ghost use Rattle.pgs_world.specs.Session.{opening, level_made, owner_made, owner_of, pinned_by, release_events, after_release, gone_events, after_gone, committed, aborted, cleaned_up};
 ghost use Rattle.pgs_world.specs.Parts.{level_state, number_in, held_by, IsLive, standing_of, is_starting_in, IsOpen, IsLevel, IsAborted, HasRoom};
 
 use crate::pins::Pins;
-use owner_core::Owners;
+use flat_owners::Owners;
 use pgs_step::{Emit, Error, KindId, OwnerId, Phase, What};
 use std::alloc::{AllocError, Global};
 use std::marker::Model;

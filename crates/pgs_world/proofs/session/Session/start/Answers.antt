@@ -1,5 +1,5 @@
 use Rattle.std.proofs.Common.{ap, None}
-use Rattle.owner_core.specs.Owners.{OwnerTable}
+use Rattle.flat_owners.specs.Owners.{OwnerTable}
 use Rattle.pgs_world.specs.Parts.{world_of}
 use Rattle.pgs_world.proofs.OwnerLemmas.{sound_opening}
 use Rattle.pgs_world.proofs.session.Session.start.Goals as goal
