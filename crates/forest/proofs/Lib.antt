@@ -1,0 +1,6 @@
+pub mod Trees
+pub mod Linking
+pub mod Numbers
+pub mod Neighbours
+pub mod Seen
+pub mod Calls

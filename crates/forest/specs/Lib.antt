@@ -1,0 +1,7 @@
+pub mod Forest
+pub mod Code
+pub mod Forested
+pub mod Links
+pub mod Edits
+pub mod LendsValue
+pub mod Lends
