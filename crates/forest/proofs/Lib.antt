@@ -4,3 +4,4 @@ pub mod Numbers
 pub mod Neighbours
 pub mod Seen
 pub mod Calls
+pub mod Walks

@@ -1,6 +1,6 @@
 -- What an arena is seen as, and what its calls make of it.
 use Rattle.std.proofs.Common.{◌≡◌, ◌≢◌, ◌⊎◌, ℕ, ◌+◌, ◌≤◌, Bool, true, false, Option, Some, None, List, count_by, is_some, get_or, subst, refl, sym, ap, ◌∙◌, inl, inr, arith, eqb, cond}
-use Rattle.std.specs.Prelude.{◌==◌, MatchOption, IfSome, IsSome}
+use Rattle.std.specs.Prelude.{◌==◌, MatchOption, IfSome, IsSome, unwrap_or}
 use Rattle.std.proofs.lemmas.Bool.{cases_Bool, both_ways}
 use Rattle.slab.specs.Slab.{Slab, get, slab_len, ContainsKey}
 use Rattle.forest.specs.Forest.{Forest, Empty, Node, has, Once, size, at, first, children, next_of, is_root, parent_of, put, removed, changed, moved}
@@ -74,3 +74,8 @@ module _ {T : Type 0} where
       let is : id ≡ Some (record { number = l.number; slot = x }) = rw names.1 at some in
       let places : slots s.tree ≡ f.places = ap (λ (g : Forested T). g.places) (sym (seen_is nodes link s) ∙ v) in
       rw is (names.2, rw (← places) (placed_at (get nodes) None None x l s.tree s.by_slot s.by_number (inside x refl) s.linked names.1))
+
+  -- where a node is named, its number is that number
+  pub named_or : (f : Forested T) (id : Option NodeId) (number : Option ℕ) (m : ℕ) (other : NodeId) → Named f id number → number ≡ Some m → (unwrap_or id other).number ≡ m
+  named_or f None number m other n e = absurd (cc)
+  named_or f (Some x) number m other n e = let q : Some x.number ≡ Some m = sym n.0 ∙ e in cc

@@ -3,7 +3,7 @@ use Rattle.std.proofs.Common.{◌≡◌, ◌≢◌, ◌⊎◌, ℕ, ◌+◌, ◌
 use Rattle.std.specs.Prelude.{◌==◌, ◌||◌, if◌then◌else◌}
 use Rattle.std.proofs.lemmas.Bool.{cases_eq, cases_Bool, eq-eqb, ne_eqb, eqb-true, eqb-false, or_parts, or_cases, or_from, both_ways, false_from_ne_true}
 use Rattle.std.proofs.lemmas.Bool.Decides.{nat_tests}
-use Rattle.forest.specs.Forest.{Forest, Empty, Node, either, has, times, Once, size, at, first, children, next_of, is_root, parent_of, put, removed, changed, moved, order}
+use Rattle.forest.specs.Forest.{Forest, Empty, Node, either, has, times, Once, size, at, first, children, next_of, is_root, parent_of, put, removed, changed, moved}
 
 module _ {A : Type 0} where
   pub times_none : (n : ℕ) (t : Forest A) → has n t ≡ false → times n t ≡ 0

@@ -94,17 +94,3 @@ module _ {A : Type 0} where
   -- the forest with the node of the first number, and all below it, as the first child of the second one
   abbrev pub moved : ℕ → ℕ → Forest A → Forest A
   moved n p t = option_map_or (λ a. put p n a (children n t) (removed n t)) (at n t) t
-
-  -- the forest with a new node without children, as the first child of the node of this number or as the first root
-  abbrev pub inserted : Option ℕ → ℕ → A → Forest A → Forest A
-  inserted None n new t = Node n new Empty t
-  inserted (Some p) n new t = put p n new Empty t
-
-  -- the numbers, the children of each node before it and its siblings behind it
-  abbrev pub order : Forest A → List ℕ
-  order Empty = []
-  order (Node k a below beside) = order below ++ k ∷ order beside
-
-  -- what is below the node of this number, in that order, and then the node
-  abbrev pub order_at : ℕ → Forest A → List ℕ
-  order_at n t = order (children n t) ++ n ∷ []

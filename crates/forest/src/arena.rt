@@ -1,9 +1,10 @@
 //! A forest by links in one slab.
-ghost use Rattle.std.specs.Prelude.{◌≡◌, ◌≢◌, ℕ, ◌≤◌, false, Some, None, IfOk, OnErr, IfErr, IfSome};
+ghost use Rattle.std.specs.Prelude.{◌≡◌, ◌≢◌, ℕ, ◌≤◌, true, false, Some, None, IfOk, OnErr, IfErr, IfSome};
 ghost use Rattle.std.specs.Option.{option_map, IfNone};
 ghost use Rattle.std.specs.Borrow.{sem};
 ghost use Rattle.slab.specs.Slab.{get, ContainsKey};
 ghost use Rattle.forest.specs.Forest.{Empty, Node, Once, has, size, at, first, children, next_of, parent_of, is_above, put, removed, moved};
+ghost use Rattle.forest.specs.Walk.{lead, follows};
 ghost use Rattle.forest.specs.Forested.{IsPlaced, Named};
 
 use crate::edits::{front_without, set_first_child, set_place, set_previous, skip, vacant_slot};
@@ -195,6 +196,37 @@ impl<T> LinkedForest<T> {
         ensures { Named self.now result (next_of id.number self.now.forest) }
     {
         named(&self.nodes, self.nodes[id.slot as usize].next)
+    }
+
+    /// Where the walk of all that is below a node begins: its first child's first child, and so on, or the
+    /// node itself. The walk comes to each node behind all its children.
+    pub fn first_leaf(&self, id: NodeId) -> NodeId
+        requires { IsPlaced self.now id }
+        ensures number { result.number ≡ lead id.number (children id.number self.now.forest) }
+        ensures placed { IsPlaced self.now result }
+    {
+        let _ = &self.nodes;
+        let mut leaf = id;
+        while let Some(child) = self.first_child(leaf) {
+            leaf = child;
+        }
+        leaf
+    }
+
+    /// Where that walk of what is below `top` goes from a node: to the first leaf of the next sibling, or to
+    /// the parent.
+    pub fn following(&self, id: NodeId, top: NodeId) -> NodeId
+        requires placed { IsPlaced self.now id }
+        requires top { IsPlaced self.now top }
+        requires below { has id.number (children top.number self.now.forest) ≡ true }
+        ensures number { result.number ≡ follows id.number top.number (children top.number self.now.forest) }
+        ensures placed { IsPlaced self.now result }
+    {
+        let _ = &self.nodes;
+        match self.next_sibling(id) {
+            Some(next) => self.first_leaf(next),
+            None => self.parent(id).unwrap_or(top),
+        }
     }
 }
 
