@@ -287,7 +287,7 @@ count_none (x ∷ xs) o m w h =
     let here : f x ≡ 0 = ap (λ b. cond b (owner_count w x) 0) (All-head (λ l. is_lock o m l ≡ false) x xs h) in
     omega (arith, here, sum_by-cons f x xs, count_none xs o m w (All-tail (λ l. is_lock o m l ≡ false) x xs h))
 
-none_like : (x : Lock) (xs : List Lock) (o : ℕ) (m : Mode) → All (Before x) xs → is_lock o m x ≡ true → All (λ l. is_lock o m l ≡ false) xs
+pub none_like : (x : Lock) (xs : List Lock) (o : ℕ) (m : Mode) → All (Before x) xs → is_lock o m x ≡ true → All (λ l. is_lock o m l ≡ false) xs
 none_like x xs o m h e = All-weaker (Before x) (λ l. is_lock o m l ≡ false) (λ l b. other_lock x l o m b e) xs h
 
 pub count_at : (xs : List Lock) (i : ℕ) (d : Lock) (o : ℕ) (m : Mode) (w : ℕ) → IsInOrder xs → StandsAt o m xs i d → count_of xs o m w ≡ owner_count w (get_or xs i d)
@@ -301,16 +301,17 @@ count_at (x ∷ xs) (suc i) d o m w h s =
     let here : f x ≡ 0 = ap (λ b. cond b (owner_count w x) 0) (before_lock x o m (s.before zero (omega arith))) in
     omega (arith, here, sum_by-cons f x xs, count_at xs i d o m w h.1 (stands_tail o m x xs i d s))
 
+-- a lock that isn't there
+pub none_standing : (xs : List Lock) (i : ℕ) (d : Lock) (o : ℕ) (m : Mode) → IsInOrder xs → WouldStandAt o m xs i d → All (λ l. is_lock o m l ≡ false) xs
+none_standing [] i d o m h s = All-nil (λ l. is_lock o m l ≡ false)
+none_standing (x ∷ xs) zero d o m h s =
+    let after = comes_after x o m (s.not_before (omega arith)) (s.not_here (omega arith)) in
+    All-cons (λ l. is_lock o m l ≡ false) x xs (s.not_here (omega arith)) (All-weaker (Before x) (λ l. is_lock o m l ≡ false) (λ l b. after_lock l o m (after_both x l o m after b)) xs h.0)
+none_standing (x ∷ xs) (suc i) d o m h s =
+    All-cons (λ l. is_lock o m l ≡ false) x xs (before_lock x o m (s.before zero (omega arith))) (none_standing xs i d o m h.1 (would_stand_tail o m x xs i d s))
+
 pub count_missing : (xs : List Lock) (i : ℕ) (d : Lock) (o : ℕ) (m : Mode) (w : ℕ) → IsInOrder xs → WouldStandAt o m xs i d → count_of xs o m w ≡ 0
-count_missing xs i d o m w h s = count_none xs o m w (none xs i h s)
-  where
-    none : (xs : List Lock) (i : ℕ) → IsInOrder xs → WouldStandAt o m xs i d → All (λ l. is_lock o m l ≡ false) xs
-    none [] i h s = All-nil (λ l. is_lock o m l ≡ false)
-    none (x ∷ xs) zero h s =
-        let after = comes_after x o m (s.not_before (omega arith)) (s.not_here (omega arith)) in
-        All-cons (λ l. is_lock o m l ≡ false) x xs (s.not_here (omega arith)) (All-weaker (Before x) (λ l. is_lock o m l ≡ false) (λ l b. after_lock l o m (after_both x l o m after b)) xs h.0)
-    none (x ∷ xs) (suc i) h s =
-        All-cons (λ l. is_lock o m l ≡ false) x xs (before_lock x o m (s.before zero (omega arith))) (none xs i h.1 (would_stand_tail o m x xs i d s))
+count_missing xs i d o m w h s = count_none xs o m w (none_standing xs i d o m h s)
 
 -- a lock that is counted down
 abbrev pub down : ℕ → ℕ → Mode → Lock → Lock

@@ -15,13 +15,13 @@ use Rattle.lock_local.specs.Counts.{HoldsOneMore, HoldsOneLess, HoldsNothing, Ho
 use Rattle.lock_local.specs.Places.{StandsAt}
 use Rattle.lock_local.specs.Changes.{added, lowered, new_lock, counted_up, counted_down, without, passed_lock, acquired, released, passed}
 use Rattle.lock_local.proofs.OwnerLemmas.{Counted, is_owner, others, less_one}
-use Rattle.lock_local.proofs.ChangeLemmas.{by_passing, table, WellCounted, down, total-acquired, total-released, total-all-passed, total-filter, total-map, total-down}
+use Rattle.lock_local.proofs.ChangeLemmas.{by_passing}
 
 -- n where the test passes, else nothing
 abbrev pub where_so : Bool → ℕ → ℕ
 where_so b n = cond b n 0
 
-so_sum : (b : Bool) (m n : ℕ) → where_so b (m + n) ≡ where_so b m + where_so b n
+pub so_sum : (b : Bool) (m n : ℕ) → where_so b (m + n) ≡ where_so b m + where_so b n
 so_sum true m n = refl
 so_sum false m n = refl
 
@@ -101,7 +101,7 @@ owner_passed_count from to w l = by_test (nat_eq (owner_count from l) 0) refl
 abbrev pub one_count : ℕ → Mode → ℕ → Lock → ℕ
 one_count o m w l = cond (is_lock o m l) (owner_count w l) 0
 
-same_as : (l : Lock) (o : ℕ) (m : Mode) (o' : ℕ) (m' : Mode) → is_lock o m l ≡ true → is_lock o' m' l ≡ same_lock o m o' m'
+pub same_as : (l : Lock) (o : ℕ) (m : Mode) (o' : ℕ) (m' : Mode) → is_lock o m l ≡ true → is_lock o' m' l ≡ same_lock o m o' m'
 same_as l o m o' m' e = numbers l.object (mode_number l.mode) o (mode_number m) o' (mode_number m') e
   where
     numbers : (a i b j c k : ℕ) → (nat_eq a b && nat_eq i j) ≡ true → (nat_eq a c && nat_eq i k) ≡ (nat_eq b c && nat_eq j k)
@@ -216,46 +216,21 @@ count-down owner o m o' m' w xs i d y s e h l =
     ap (λ b. where_so b (where_so (nat_eq owner w) 1)) (same_as x o m o' m' s.here) ∙ so_both (same_lock o m o' m') (nat_eq owner w) 1 in
     omega (arith, over, less, alike, ap f e)
 
--- the same for a table
-pub counts_more : (owner o : ℕ) (m : Mode) (s : ℕ) (xs ys : List Lock) (now : SessionLocks) → table s xs ≡ now → ys ≡ acquired owner o m xs → HoldsOneMore now.locks ys o m owner
-counts_more owner o m s xs ys now e h o' m' w =
-    ap (λ (zs : List Lock). count_of zs o' m' w) h
-    ∙ count-acquired owner o m o' m' w xs
-    ∙ ap (λ (t : SessionLocks). count_of t.locks o' m' w + where_so (same_lock o m o' m' && nat_eq owner w) 1) e
-
-pub total_more : (owner o : ℕ) (m : Mode) (s : ℕ) (xs ys : List Lock) (now : SessionLocks) → table s xs ≡ now → ys ≡ acquired owner o m xs → total ys ≡ total now.locks + 1
-total_more owner o m s xs ys now e h = ap total h ∙ total-acquired owner o m xs ∙ ap (λ (t : SessionLocks). total t.locks + 1) e
-
-pub counts_less : (owner o : ℕ) (m : Mode) (s : ℕ) (xs mid ys : List Lock) (i : ℕ) (d y : Lock) (now : SessionLocks) → table s xs ≡ now → AreLocks xs → StandsAt o m xs i d → y ≡ counted_down owner (get_or xs i d) → 0 < owner_count owner (get_or xs i d) → mid ≡ set xs i y → ys ≡ filter has_owner mid → HoldsOneLess now.locks ys o m owner
-counts_less owner o m s xs mid ys i d y now e a st f l g h o' m' w =
+-- the same for the locks of a table
+pub counts_lowered : (owner o : ℕ) (m : Mode) (xs mid ys : List Lock) (i : ℕ) (d y : Lock) → StandsAt o m xs i d → y ≡ counted_down owner (get_or xs i d) → All Counted (get_or xs i d).owners → 0 < owner_count owner (get_or xs i d) → mid ≡ set xs i y → ys ≡ filter has_owner mid → HoldsOneLess xs ys o m owner
+counts_lowered owner o m xs mid ys i d y st f a l g h o' m' w =
     ap (λ (zs : List Lock). count_of zs o' m' w + where_so (same_lock o m o' m' && nat_eq owner w) 1) (h ∙ ap (filter has_owner) g)
     ∙ ap (λ (n : ℕ). n + where_so (same_lock o m o' m' && nat_eq owner w) 1) (count-filter (set xs i y) o' m' w)
-    ∙ count-down owner o m o' m' w xs i d y st f (All-get_or WellCounted xs i d st.within a.counted) l
-    ∙ ap (λ (t : SessionLocks). count_of t.locks o' m' w) e
+    ∙ count-down owner o m o' m' w xs i d y st f a l
 
-pub counts_released : (owner s : ℕ) (xs mid ys : List Lock) (now : SessionLocks) → table s xs ≡ now → mid ≡ map (without owner) xs → ys ≡ filter has_owner mid → HoldsNothing now.locks ys owner
-counts_released owner s xs mid ys now e g h o m w =
-    ap (λ (zs : List Lock). count_of zs o m w) (h ∙ ap (filter has_owner) g)
-    ∙ count-released owner o m w xs
-    ∙ ap (λ (t : SessionLocks). cond (nat_eq owner w) 0 (count_of t.locks o m w)) e
+pub counts_more : (owner o : ℕ) (m : Mode) (xs ys : List Lock) → ys ≡ acquired owner o m xs → HoldsOneMore xs ys o m owner
+counts_more owner o m xs ys e o' m' w = ap (λ (zs : List Lock). count_of zs o' m' w) e ∙ count-acquired owner o m o' m' w xs
 
-pub counts_both : (from to s : ℕ) (xs ys : List Lock) (now : SessionLocks) → table s xs ≡ now → ys ≡ passed from to xs → HoldsBoth now.locks ys from to
-counts_both from to s xs ys now e h o m w =
-    ap (λ (zs : List Lock). count_of zs o m w) h
-    ∙ count-passed from to o m w xs
-    ∙ ap (λ (t : SessionLocks). cond (nat_eq from w) 0 (count_of t.locks o m w) + where_so (nat_eq to w) (count_of t.locks o m from)) e
+pub counts_released : (owner : ℕ) (xs ys : List Lock) → ys ≡ released owner xs → HoldsNothing xs ys owner
+counts_released owner xs ys e o m w = ap (λ (zs : List Lock). count_of zs o m w) e ∙ count-released owner o m w xs
 
--- fewer counts
-pub total_released_by : (owner s : ℕ) (xs mid ys : List Lock) (now : SessionLocks) → table s xs ≡ now → mid ≡ map (without owner) xs → ys ≡ filter has_owner mid → total ys ≤ total now.locks
-total_released_by owner s xs mid ys now e g h =
-    omega (arith, total-released owner xs, ap total (h ∙ ap (filter has_owner) g), ap (λ (t : SessionLocks). total t.locks) e)
-
-pub total_passed_by : (from to s : ℕ) (xs ys : List Lock) (now : SessionLocks) → table s xs ≡ now → ys ≡ passed from to xs → total ys ≤ total now.locks
-total_passed_by from to s xs ys now e h = omega (arith, total-all-passed from to xs, ap total h, ap (λ (t : SessionLocks). total t.locks) e)
-
-pub total_less : (owner o : ℕ) (m : Mode) (s : ℕ) (xs mid ys : List Lock) (now : SessionLocks) → table s xs ≡ now → mid ≡ map (down owner o m) xs → ys ≡ filter has_owner mid → total ys ≤ total now.locks
-total_less owner o m s xs mid ys now e g h =
-    omega (arith, total-filter has_owner (map (down owner o m) xs), total-map (down owner o m) (total-down owner o m) xs, ap total (h ∙ ap (filter has_owner) g), ap (λ (t : SessionLocks). total t.locks) e)
+pub counts_both : (from to : ℕ) (xs ys : List Lock) → ys ≡ passed from to xs → HoldsBoth xs ys from to
+counts_both from to xs ys e o m w = ap (λ (zs : List Lock). count_of zs o m w) e ∙ count-passed from to o m w xs
 
 -- a count that was read and isn't 0
 pub counted_there : (owner n : ℕ) (xs : List Lock) (i : ℕ) (x d : Lock) → i < length xs → x ≡ get_or xs i x → n ≡ owner_count owner x → n ≢ 0 → 0 < owner_count owner (get_or xs i d)

@@ -3,3 +3,9 @@ pub mod OrderLemmas
 pub mod WalkLemmas
 pub mod ChangeLemmas
 pub mod CountLemmas
+pub mod RecallLemmas
+pub mod TagLemmas
+pub mod StepLemmas
+pub mod PlaceLemmas
+pub mod TotalLemmas
+pub mod CoverLemmas

@@ -38,6 +38,36 @@ neither a i b j e f = grind (arith, nat_tests)
 after_not_same : (a i b j : ℕ) → before b j a i ≡ true → same a i b j ≡ false
 after_not_same a i b j e = grind (arith, nat_tests)
 
+after_not_before : (a i b j : ℕ) → before b j a i ≡ true → before a i b j ≡ false
+after_not_before a i b j e = grind (arith, nat_tests)
+
+same_swapped : (a i b j : ℕ) → same a i b j ≡ same b j a i
+same_swapped a i b j = grind (arith, nat_tests)
+
+before_alike : (a i b j c k : ℕ) → same a i b j ≡ true → before a i c k ≡ before b j c k
+before_alike a i b j c k e = grind (arith, nat_tests)
+
+pub lock_swapped : (o : ℕ) (w : Mode) (o' : ℕ) (w' : Mode) → same_lock o w o' w' ≡ same_lock o' w' o w
+lock_swapped o w o' w' = same_swapped o (mode_number w) o' (mode_number w')
+
+same_itself : (a i : ℕ) → same a i a i ≡ true
+same_itself a i = grind (arith, nat_tests)
+
+pub lock_itself : (o : ℕ) (w : Mode) → same_lock o w o w ≡ true
+lock_itself o w = same_itself o (mode_number w)
+
+same_then_other : (a i b j c k : ℕ) → same a i b j ≡ true → same b j c k ≡ false → same a i c k ≡ false
+same_then_other a i b j c k e f = grind (arith, nat_tests)
+
+pub other_lock_by : (o : ℕ) (w : Mode) (o' : ℕ) (w' : Mode) (a : ℕ) (m : Mode) → same_lock o w o' w' ≡ true → same_lock o' w' a m ≡ false → same_lock o w a m ≡ false
+other_lock_by o w o' w' a m e f = same_then_other o (mode_number w) o' (mode_number w') a (mode_number m) e f
+
+pub later_not_before : (o : ℕ) (w : Mode) (o' : ℕ) (w' : Mode) → comes_before o' w' o w ≡ true → comes_before o w o' w' ≡ false
+later_not_before o w o' w' e = after_not_before o (mode_number w) o' (mode_number w') e
+
+pub order_other : (o : ℕ) (w : Mode) (o' : ℕ) (w' : Mode) (a : ℕ) (m : Mode) → comes_before o w o' w' ≡ true → same_lock o' w' a m ≡ true → comes_before o w a m ≡ true
+order_other o w o' w' a m e f = before_other o (mode_number w) o' (mode_number w') a (mode_number m) e f
+
 -- that a lock comes before another
 abbrev pub Before : Lock → Lock → Type 0
 Before l m = comes_before l.object l.mode m.object m.mode ≡ true

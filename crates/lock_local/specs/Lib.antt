@@ -2,3 +2,5 @@ pub mod Locks
 pub mod Counts
 pub mod Places
 pub mod Changes
+pub mod Recalled
+pub mod Tagged

@@ -34,6 +34,10 @@ lock_total lock = sum_by (λ c. c.count) lock.owners
 abbrev pub total : List Lock → ℕ
 total locks = sum_by lock_total locks
 
+-- how often the owner holds any lock
+abbrev pub owner_total : ℕ → List Lock → ℕ
+owner_total owner locks = sum_by (owner_count owner) locks
+
 -- whether it is the lock on that object in that mode
 abbrev pub is_lock : ℕ → Mode → Lock → Bool
 is_lock object mode lock = same_lock lock.object lock.mode object mode
@@ -45,6 +49,10 @@ has_owner lock = nat_lt 0 (length lock.owners)
 -- how often the owner holds the object in that mode
 abbrev pub count_of : List Lock → ℕ → Mode → ℕ → ℕ
 count_of locks object mode owner = sum_by (λ l. if is_lock object mode l then owner_count owner l else 0) locks
+
+-- how often all owners together hold the object in that mode
+abbrev pub whole_of : List Lock → ℕ → Mode → ℕ
+whole_of locks object mode = sum_by (λ l. if is_lock object mode l then lock_total l else 0) locks
 
 -- whether some owner of the session holds the object in that mode
 abbrev pub is_held : List Lock → ℕ → Mode → Bool

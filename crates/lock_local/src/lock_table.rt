@@ -1,18 +1,20 @@
 //! The locks of one session.
-ghost use Rattle.std.specs.Prelude.{◌≡◌, ◌↔◌, ◌<◌, ◌≤◌, ◌+◌, ◌^◌, ℕ, List, [], ◌∷◌, length, IsTrue, OnOk, OnErr, IsErrOf, IsOkUnless};
-ghost use Rattle.std.specs.Bool.{OnTrue, OnFalse};
+ghost use Rattle.std.specs.Prelude.{◌≡◌, ◌↔◌, ◌<◌, ◌+◌, ◌^◌, ℕ, List, [], ◌∷◌, length, OnOk, OnErr, IsErrOf, IsOkUnless};
 ghost use Rattle.pgs_step.specs.declared.lock_modes.Mode.{Mode};
 ghost use Rattle.pgs_step.specs.declared.events.What.{What};
 ghost use Rattle.pgs_step.specs.declared.events.What.TheVariants.{AcquireLock, ReleaseLock};
-ghost use Rattle.lock_shared.specs.Holdings.{holds, IsConflict};
+ghost use Rattle.lock_shared.specs.Holdings.{IsConflict};
 ghost use Rattle.lock_local.specs.declared.errors.LockError.TheVariants.{Conflict, NotHeld};
-ghost use Rattle.lock_local.specs.Locks.{Lock, total, count_of, is_held, AreLocks, Agrees, OthersStay};
-ghost use Rattle.lock_local.specs.Counts.{HoldsOneMore, HoldsOneLess, HoldsNothing, HoldsBoth};
+ghost use Rattle.lock_local.specs.Locks.{total, owner_total, count_of, is_held, AreLocks, Agrees, OthersStay};
+ghost use Rattle.lock_local.specs.Counts.{HoldsOneMore, HoldsOneLess, HoldsNothing, HoldsBoth, WholeOneMore, WholeOneLess, WholeLess, WholeStays};
 ghost use Rattle.lock_local.specs.Changes.{acquired, given_back, released, passed, releases, passes, releases_of_all};
 
+use crate::counting::{count_down, count_up};
 use crate::errors::LockError;
 use crate::local_lock::LocalLock;
-use crate::walks::{find, give_up_each, keep_held, pass_each, put_in, release_each};
+use crate::recalled::{OwnerLocks, forget_last, hand_on, note, take_out};
+use crate::tag_walks::{give_up_recalled, pass_recalled};
+use crate::walks::release_each;
 use lock_shared::SharedLocks;
 use pgs_step::{Emit, Mode, OwnerId, What};
 use std::alloc::{AllocError, Global};
@@ -22,23 +24,26 @@ use std::marker::Model;
 ///
 /// Contracts see the session's number and the locks in the order of object and mode, each with its owners
 /// and their counts. The shared locks that calls are handed hold for the session just what it holds, and
-/// each call leaves that so.
+/// each call leaves that so. For each owner up to 15 locks are remembered: its locks are released and passed
+/// by these alone, and by a walk over all locks where it holds more.
 #[derive(Drop)]
 pub struct LockTable {
     alloc: Global,
     session: u8,
     locks: Vec<LocalLock>,
+    recalled: Vec<OwnerLocks>,
 }
 
 impl Model for LockTable {
     ghost use Rattle.std.specs.Prelude.{◌≤◌, ◌^◌};
     ghost use Rattle.lock_local.specs.Locks.{SessionLocks, AreLocks, total};
+    ghost use Rattle.lock_local.specs.Recalled.{Covers};
 
     ghost Value = { SessionLocks };
 
     ghost view = { λ t. record { session = t.session; locks = t.locks.items } };
 
-    ghost invariant = { λ t. AreLocks t.locks.items × (total t.locks.items ≤ 2 ^ 62) };
+    ghost invariant = { λ t. record { fits : AreLocks t.locks.items × (total t.locks.items ≤ 2 ^ 62); covers : Covers t.recalled.items t.locks.items } };
 }
 
 impl LockTable {
@@ -50,6 +55,7 @@ impl LockTable {
             alloc,
             session,
             locks: Vec::new(alloc),
+            recalled: Vec::new(alloc),
         }
     }
 
@@ -72,6 +78,7 @@ impl LockTable {
 
         ensures ok { OnOk result (self.new ≡ record self.old { locks = acquired owner.number object mode self.old.locks }) }
         ensures counts { OnOk result (HoldsOneMore self.old.locks self.new.locks object mode owner.number) }
+        ensures wholes { OnOk result (WholeOneMore self.old.locks self.new.locks object mode) }
         ensures total { OnOk result (total self.new.locks ≡ total self.old.locks + 1) }
         ensures events { OnOk result (E.emits out.old (AcquireLock object mode owner.number ∷ []) out.new) }
         ensures err { OnErr result (self.new ≡ self.old) }
@@ -85,7 +92,7 @@ impl LockTable {
         if let Some((session, mode)) = shared.conflict(object, mode, self.session) {
             return Err(LockError::Conflict { session, mode });
         }
-        if self.count_up(shared, owner.number, object, mode).is_err() {
+        if self.hold(shared, owner.number, object, mode).is_err() {
             return Err(LockError::Memory);
         }
         out.emit(What::AcquireLock {
@@ -97,6 +104,8 @@ impl LockTable {
     }
 
     /// The owner holds the object in this mode once less: PostgreSQL's `LockRelease`.
+    ///
+    /// `NotHeld` comes exactly where the owner doesn't hold it.
     pub fn release<E: Emit>(
         &mut self,
         shared: &mut SharedLocks,
@@ -111,7 +120,8 @@ impl LockTable {
 
         ensures ok { OnOk result (self.new ≡ record self.old { locks = given_back owner.number object mode self.old.locks }) }
         ensures counts { OnOk result (HoldsOneLess self.old.locks self.new.locks object mode owner.number) }
-        ensures total { total self.new.locks ≤ total self.old.locks }
+        ensures wholes { OnOk result (WholeOneLess self.old.locks self.new.locks object mode) }
+        ensures total { OnOk result (total self.new.locks + 1 ≡ total self.old.locks) }
         ensures events { OnOk result (E.emits out.old (ReleaseLock object mode 1 owner.number ∷ []) out.new) }
         ensures err { OnErr result (self.new ≡ self.old) }
         ensures err_shared { OnErr result (shared.new ≡ shared.old) }
@@ -121,7 +131,7 @@ impl LockTable {
         ensures others { OthersStay self.old.session shared.old shared.new }
         ensures locks { AreLocks self.new.locks }
     {
-        if !self.count_down(shared, owner.number, object, mode) {
+        if self.lower(shared, owner.number, object, mode) == 0 {
             return Err(LockError::NotHeld);
         }
         out.emit(What::ReleaseLock {
@@ -138,14 +148,22 @@ impl LockTable {
         requires { Agrees self.old shared.old }
         ensures state { self.new ≡ record self.old { locks = released owner.number self.old.locks } }
         ensures counts { HoldsNothing self.old.locks self.new.locks owner.number }
-        ensures total { total self.new.locks ≤ total self.old.locks }
+        ensures wholes { WholeLess self.old.locks self.new.locks owner.number }
+        ensures total { total self.new.locks + owner_total owner.number self.old.locks ≡ total self.old.locks }
         ensures events { E.emits out.old (releases owner.number self.old.locks) out.new }
         ensures agrees { Agrees self.new shared.new }
         ensures others { OthersStay self.old.session shared.old shared.new }
         ensures locks { AreLocks self.new.locks }
     {
-        give_up_each(&mut self.locks, self.session, owner.number, shared, out);
-        keep_held(&mut self.locks);
+        give_up_recalled(
+            &mut self.locks,
+            self.recalled.as_slice(),
+            self.session,
+            owner.number,
+            shared,
+            out,
+        );
+        let _ = take_out(&mut self.recalled, owner.number);
     }
 
     /// All that the owner `from` holds goes to the owner `to`, its parent, as at the commit of a
@@ -153,12 +171,20 @@ impl LockTable {
     pub fn pass_owner<E: Emit>(&mut self, from: OwnerId, to: OwnerId, out: &mut E)
         ensures state { self.new ≡ record self.old { locks = passed from.number to.number self.old.locks } }
         ensures counts { HoldsBoth self.old.locks self.new.locks from.number to.number }
-        ensures total { total self.new.locks ≤ total self.old.locks }
+        ensures wholes { WholeStays self.old.locks self.new.locks }
+        ensures total { total self.new.locks ≡ total self.old.locks }
         ensures events { E.emits out.old (passes from.number to.number self.old.locks) out.new }
         ensures held { (object : ℕ) (mode : Mode) → is_held self.new.locks object mode ≡ is_held self.old.locks object mode }
         ensures locks { AreLocks self.new.locks }
     {
-        pass_each(&mut self.locks, from.number, to.number, out);
+        pass_recalled(
+            &mut self.locks,
+            self.recalled.as_slice(),
+            from.number,
+            to.number,
+            out,
+        );
+        hand_on(&mut self.recalled, from.number, to.number);
     }
 
     /// All that the session holds is released, as at the end of a transaction: each lock with the sum of
@@ -169,9 +195,11 @@ impl LockTable {
         ensures events { E.emits out.old (releases_of_all top.number self.old.locks) out.new }
         ensures agrees { Agrees self.new shared.new }
         ensures others { OthersStay self.old.session shared.old shared.new }
+        ensures was { AreLocks self.old.locks }
     {
         release_each(self.locks.as_slice(), self.session, top.number, shared, out);
         self.locks.clear();
+        self.recalled.clear();
     }
 
     /// How many different objects and modes the session holds.
@@ -183,7 +211,7 @@ impl LockTable {
     }
 
     /// The owner holds the lock once more. It fails for want of memory alone.
-    fn count_up(
+    fn hold(
         &mut self,
         shared: &mut SharedLocks,
         owner: u64,
@@ -194,6 +222,7 @@ impl LockTable {
         requires few { total self.old.locks < 2 ^ 62 }
         ensures ok { OnOk result (self.new ≡ record self.old { locks = acquired owner object mode self.old.locks }) }
         ensures counts { OnOk result (HoldsOneMore self.old.locks self.new.locks object mode owner) }
+        ensures wholes { OnOk result (WholeOneMore self.old.locks self.new.locks object mode) }
         ensures total { OnOk result (total self.new.locks ≡ total self.old.locks + 1) }
         ensures err { OnErr result (self.new ≡ self.old) }
         ensures err_shared { OnErr result (shared.new ≡ shared.old) }
@@ -201,43 +230,36 @@ impl LockTable {
         ensures others { OthersStay self.old.session shared.old shared.new }
         ensures locks { AreLocks self.new.locks }
     {
-        match find(self.locks.as_slice(), object, mode) {
-            Ok(at) => self.locks[at].count_up(owner)?,
-            Err(at) => {
-                let lock = LocalLock::new(self.alloc, object, mode, owner)?;
-                self.locks.reserve(1)?;
-                shared.grant(object, mode, self.session)?;
-                put_in(&mut self.locks, at, lock);
-            }
-        }
+        self.recalled.reserve(1)?;
+        count_up(
+            self.alloc,
+            &mut self.locks,
+            self.session,
+            shared,
+            owner,
+            object,
+            mode,
+        )?;
+        note(&mut self.recalled, owner, object, mode);
         Ok(())
     }
 
-    /// The owner holds the lock once less. The answer is whether it held it.
-    fn count_down(&mut self, shared: &mut SharedLocks, owner: u64, object: u32, mode: Mode) -> bool
+    /// The owner holds the lock once less, where it holds it. The answer is how often it did before.
+    fn lower(&mut self, shared: &mut SharedLocks, owner: u64, object: u32, mode: Mode) -> u64
         requires { Agrees self.old shared.old }
-        ensures answer { IsTrue result ↔ (0 < count_of self.old.locks object mode owner) }
-        ensures yes { OnTrue result (self.new ≡ record self.old { locks = given_back owner object mode self.old.locks }) }
-        ensures yes_counts { OnTrue result (HoldsOneLess self.old.locks self.new.locks object mode owner) }
-        ensures total { total self.new.locks ≤ total self.old.locks }
-        ensures no { OnFalse result (self.new ≡ self.old) }
-        ensures no_shared { OnFalse result (shared.new ≡ shared.old) }
+        ensures answer { result ≡ count_of self.old.locks object mode owner }
+        ensures held { 0 < result → self.new ≡ record self.old { locks = given_back owner object mode self.old.locks } }
+        ensures counts { 0 < result → HoldsOneLess self.old.locks self.new.locks object mode owner }
+        ensures wholes { 0 < result → WholeOneLess self.old.locks self.new.locks object mode }
+        ensures total { 0 < result → total self.new.locks + 1 ≡ total self.old.locks }
+        ensures none { result ≡ 0 → self.new ≡ self.old }
+        ensures none_shared { result ≡ 0 → shared.new ≡ shared.old }
         ensures agrees { Agrees self.new shared.new }
         ensures others { OthersStay self.old.session shared.old shared.new }
         ensures locks { AreLocks self.new.locks }
     {
-        let Ok(at) = find(self.locks.as_slice(), object, mode) else {
-            return false;
-        };
-        if self.locks[at].count(owner) == 0 {
-            return false;
-        }
-        let lock = &mut self.locks[at];
-        lock.count_down(owner);
-        if !lock.has_owner() {
-            shared.drop_grant(object, mode, self.session);
-        }
-        keep_held(&mut self.locks);
-        true
+        let count = count_down(&mut self.locks, self.session, shared, owner, object, mode);
+        forget_last(&mut self.recalled, count, owner, object, mode);
+        count
     }
 }

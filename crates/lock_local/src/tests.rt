@@ -2,6 +2,8 @@
 use super::*;
 use lock_shared::SharedLocks;
 use pgs_step::{EventList, Mode, OwnerId, What};
+use std::alloc::Global;
+use std::process::Abort;
 use std::test::Fail;
 
 const SHARE: Mode = Mode::AccessShareLock;
@@ -120,4 +122,36 @@ fn refusals_are_told(rt: HostRuntime) -> Result<(), Fail> {
         "lock is held by session 1 as AccessShareLock"
     );
     Ok(())
+}
+
+/// Releases all of an owner that holds objects 1 to n, the last one taken first.
+fn released_in_order(rt: &impl Abort, alloc: Global, n: u32) -> Result<(), Fail> {
+    let mut shared = SharedLocks::new(alloc);
+    let mut table = LockTable::new(alloc, 1);
+    let mut out = EventList::new(alloc, 100)?;
+    for object in (1..n + 1).rev() {
+        table.acquire(&mut shared, TWO, object, SHARE, &mut out)?;
+    }
+    table.release_owner(&mut shared, TWO, &mut out);
+    assert_eq!(rt; out.events().len(), 2 * n as usize);
+    for (object, event) in (1..n + 1).zip(out.events().iter().skip(n as usize)) {
+        assert_eq!(rt; *event, release(object, SHARE, 1, 2));
+    }
+    assert_eq!(rt; table.distinct(), 0);
+    Ok(())
+}
+
+#[test]
+fn fifteen_locks(rt: HostRuntime) -> Result<(), Fail> {
+    released_in_order(&rt, rt.alloc(), 15)
+}
+
+#[test]
+fn sixteen_locks(rt: HostRuntime) -> Result<(), Fail> {
+    released_in_order(&rt, rt.alloc(), 16)
+}
+
+#[test]
+fn forty_locks(rt: HostRuntime) -> Result<(), Fail> {
+    released_in_order(&rt, rt.alloc(), 40)
 }

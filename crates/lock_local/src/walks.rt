@@ -1,38 +1,13 @@
 //! Walks over a session's locks.
-ghost use Rattle.std.specs.Prelude.{◌≡◌, ◌<◌, ◌≤◌, ◌∷◌, [], ℕ, map, filter, insert, vec_len, vec_capacity, MatchResult, MatchBool, false};
+ghost use Rattle.std.specs.Prelude.{◌≡◌, ◌∷◌, [], ℕ, map, filter, MatchBool, false};
 ghost use Rattle.pgs_step.specs.declared.lock_modes.Mode.{Mode};
 ghost use Rattle.lock_shared.specs.Holdings.{Sets, holds};
-ghost use Rattle.lock_local.specs.Locks.{Lock, has_owner, OthersStay, IsInOrder, is_held};
-ghost use Rattle.lock_local.specs.Places.{StandsAt, WouldStandAt};
+ghost use Rattle.lock_local.specs.Locks.{has_owner, OthersStay, IsInOrder, is_held};
 ghost use Rattle.lock_local.specs.Changes.{without, passed_lock, release_of, pass_of, release_whole, releases, passes, releases_of_all};
 
 use crate::local_lock::LocalLock;
 use lock_shared::SharedLocks;
 use pgs_step::{Emit, Mode, What};
-
-/// Where the lock stands, or else where it would stand.
-pub fn find(locks: &[LocalLock], object: u32, mode: Mode) -> Result<usize, usize>
-    ensures { (d : Lock) → MatchResult result (λ i. StandsAt object mode locks.now i d) (λ i. WouldStandAt object mode locks.now i d) }
-{
-    let mut at = 0;
-    while at < locks.len() && locks[at].comes_before(object, mode) {
-        at += 1;
-    }
-    if at < locks.len() && locks[at].is(object, mode) {
-        Ok(at)
-    } else {
-        Err(at)
-    }
-}
-
-/// Puts a lock at its place, where there is room for it.
-pub fn put_in(locks: &mut Vec<LocalLock>, at: usize, lock: LocalLock)
-    requires within { at ≤ vec_len locks.old }
-    requires room { vec_len locks.old < vec_capacity locks.old }
-    ensures { locks.new.items ≡ insert locks.old.items at lock }
-{
-    let _ = locks.insert(at, lock);
-}
 
 /// Takes off the locks that no owner holds.
 pub fn keep_held(locks: &mut Vec<LocalLock>)
@@ -91,7 +66,7 @@ pub fn release_each<E: Emit>(
 }
 
 /// The owner gives up a lock. Where no other owner holds it, the session doesn't any more.
-fn give_up<E: Emit>(
+pub fn give_up<E: Emit>(
     lock: &mut LocalLock,
     session: u8,
     owner: u64,
@@ -117,7 +92,7 @@ fn give_up<E: Emit>(
 }
 
 /// One owner's counts of a lock go to another.
-fn pass_on<E: Emit>(lock: &mut LocalLock, from: u64, to: u64, out: &mut E)
+pub fn pass_on<E: Emit>(lock: &mut LocalLock, from: u64, to: u64, out: &mut E)
     ensures lock { lock.new ≡ passed_lock from to lock.old }
     ensures events { E.emits out.old (pass_of from to lock.old) out.new }
 {

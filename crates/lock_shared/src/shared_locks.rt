@@ -53,10 +53,11 @@ impl SharedLocks {
     }
 
     /// The session holds the object in this mode from now on, if it didn't before. It fails for want of
-    /// memory alone, and not where the session holds it already.
+    /// memory alone. Where the session holds it already, it doesn't fail, and nothing changes.
     pub fn grant(&mut self, object: u32, mode: Mode, session: u8) -> Result<(), AllocError>
         ensures ok { OnOk result (Sets self.old self.new object mode session true) }
         ensures held { IsTrue (holds self.old object mode session) → IsOk result }
+        ensures again { IsTrue (holds self.old object mode session) → self.new ≡ self.old }
         ensures err { OnErr result (self.new ≡ self.old) }
     {
         if !is_held(self.holdings.as_slice(), object, mode, session) {

@@ -1,5 +1,5 @@
-ghost use Rattle.std.specs.Prelude.{◌≡◌, ◌≢◌, ◌<◌, ◌≤◌, length, Contains, OnOk, OnErr};
-ghost use Rattle.owner_kinds.specs.Kind.{Kind, opened, closed};
+ghost use Rattle.std.specs.Prelude.{◌≡◌, ◌≢◌, ◌≤◌, ◌↔◌, OnOk, OnErr};
+ghost use Rattle.owner_kinds.specs.Kind.{Kind, IsFull, times, opened, closed};
 
 use pgs_step::{Name, Phase};
 
@@ -13,6 +13,8 @@ pub enum KindError {
 }
 
 /// A kind of resource that the program adds to those that are built in: PostgreSQL's `ResourceOwnerDesc`.
+///
+/// What a kind stands for has its keys in rising order. How a kind keeps them is its own affair.
 pub trait ExtKind: Drop {
     ghost kind_meaning: { Self → Kind };
 
@@ -36,12 +38,11 @@ pub trait ExtKind: Drop {
         ensures ok { OnOk result (kind_meaning self.new ≡ opened key (kind_meaning self.old)) }
         ensures err { OnErr result (kind_meaning self.new ≡ kind_meaning self.old) }
 
-        // It answers Full exactly where the kind holds as many keys as it may; memory may want there too.
-        ensures full { result ≡ Err KindError.Full → (kind_meaning self.old).limit ≤ length (kind_meaning self.old).held }
-        ensures room { OnOk result (length (kind_meaning self.old).held < (kind_meaning self.old).limit) };
+        // Where the kind holds as many keys as it may it answers Full, and nowhere else.
+        ensures full { (result ≡ Err KindError.Full) ↔ IsFull (kind_meaning self.old) };
 
     /// Holds the key once less. It cannot fail.
     fn close(&mut self, key: u32)
-        requires { Contains (kind_meaning self.old).held key }
+        requires { 1 ≤ times key (kind_meaning self.old).held }
         ensures { kind_meaning self.new ≡ closed key (kind_meaning self.old) };
 }

@@ -1,32 +1,43 @@
-ghost use Rattle.owner_kinds.specs.Kind.{opened, closed};
-ghost use Rattle.owner_kinds.specs.KindTable.{row};
-ghost use Rattle.owner_kinds.specs.Different.{AreDifferent, AreDifferent-prop};
+ghost use Rattle.std.specs.Prelude.{◌≡◌, ◌+◌, ◌-◌, ◌≤◌, ◌↔◌, map, slice_get, All, Contains, vec_len, IfOk, OnOk, OnErr, IfSome, IsNone};
+ghost use Rattle.pgs_step.specs.declared.ids.KindId.{KindId};
+ghost use Rattle.owner_kinds.specs.Different.{AreDifferent};
+ghost use Rattle.owner_kinds.specs.Kind.{IsFull, opened, closed, changed_at};
+ghost use Rattle.owner_kinds.specs.KindShelf.{table_of, times_held, one_at};
+ghost use Rattle.owner_kinds.specs.KindTable.{IsExtension, IsSound, phase_of, priority_of, row, row_of};
 ghost use Rattle.owner_kinds.specs.Place.{IsPlace};
-ghost use Rattle.std.specs.Prelude.{◌≡◌, ◌≢◌, ◌+◌, ◌-◌, ◌<◌, ◌≤◌, ◌^◌, [], ◌∷◌, length, map, slice_index_or, slice_get, All, Contains, vec_len, IfOk, OnOk, OnErr, IfSome, IfNone, IsNone, ◌↔◌};
 
 use crate::ext_kind::{ExtKind, KindError};
 use crate::kind_row::KindRow;
 use pgs_step::{KindId, Name, Phase};
 use std::alloc::{AllocError, Global};
+use std::marker::Model;
 
 /// The extension kinds of the program, at most 16. The first of them is kind 16.
+///
+/// Contracts see the list of what they stand for.
 #[derive(Drop)]
-pub struct KindShelf {
-    kinds: Vec<Box<dyn ExtKind>>,
+pub struct KindShelf<K: ExtKind> {
+    kinds: Vec<K>,
     // What never changes of each kind.
     names: Vec<Name>,
     rows: Vec<KindRow>,
-    ghost different: { AreDifferent names.items } by { AreDifferent-prop names.items },
-    ghost few: { vec_len kinds ≤ 16 },
-    ghost named: { vec_len names ≡ vec_len kinds },
-    ghost placed: { vec_len rows ≡ vec_len kinds },
-    ghost places: { All IsPlace rows.items },
+}
+
+impl<K: ExtKind> Model for KindShelf<K> {
+    ghost use Rattle.std.specs.Prelude.{List, map};
+    ghost use Rattle.owner_kinds.specs.Kind.{Kind};
+    ghost use Rattle.owner_kinds.specs.KindShelf.{IsShelf};
+
+    ghost Value = { List Kind };
+
+    ghost view = { λ s. map K.kind_meaning s.kinds.items };
+
+    ghost invariant = { λ s. IsShelf s.names.items s.rows.items (map K.kind_meaning s.kinds.items) };
 }
 
 // The row of a kind as it stands.
-fn row_of_kind(kind: &Box<dyn ExtKind>) -> KindRow
-    ensures phase { result.phase ≡ (kind_meaning kind.now).phase }
-    ensures priority { result.priority ≡ (kind_meaning kind.now).priority }
+fn row_of_kind<K: ExtKind>(kind: &K) -> KindRow
+    ensures row { result ≡ row (K.kind_meaning kind.now).phase (K.kind_meaning kind.now).priority }
     ensures place { IsPlace result }
 {
     KindRow {
@@ -35,24 +46,18 @@ fn row_of_kind(kind: &Box<dyn ExtKind>) -> KindRow
     }
 }
 
-fn name_of(kind: &Box<dyn ExtKind>) -> Name
-    ensures { result ≡ (kind_meaning kind.now).name }
-{
-    kind.name()
-}
-
-fn names_of(alloc: Global, kinds: &[Box<dyn ExtKind>]) -> Result<Vec<Name>, AllocError>
-    ensures { IfOk result (λ names. names.items ≡ map (λ kind. (kind_meaning kind).name) kinds.now) }
+fn names_of<K: ExtKind>(alloc: Global, kinds: &[K]) -> Result<Vec<Name>, AllocError>
+    ensures { IfOk result (λ names. names.items ≡ map (λ kind. (K.kind_meaning kind).name) kinds.now) }
 {
     let mut names = Vec::with_capacity(alloc, kinds.len())?;
     for kind in kinds {
-        names.push(name_of(kind))?;
+        names.push(kind.name())?;
     }
     Ok(names)
 }
 
-fn rows_of(alloc: Global, kinds: &[Box<dyn ExtKind>]) -> Result<Vec<KindRow>, AllocError>
-    ensures rows { IfOk result (λ rows. rows.items ≡ map (λ kind. row (kind_meaning kind).phase (kind_meaning kind).priority) kinds.now) }
+fn rows_of<K: ExtKind>(alloc: Global, kinds: &[K]) -> Result<Vec<KindRow>, AllocError>
+    ensures rows { IfOk result (λ rows. rows.items ≡ map (λ kind. row (K.kind_meaning kind).phase (K.kind_meaning kind).priority) kinds.now) }
     ensures places { IfOk result (λ rows. All IsPlace rows.items) }
 {
     let mut rows = Vec::with_capacity(alloc, kinds.len())?;
@@ -62,34 +67,12 @@ fn rows_of(alloc: Global, kinds: &[Box<dyn ExtKind>]) -> Result<Vec<KindRow>, Al
     Ok(rows)
 }
 
-fn open_key(kind: &mut Box<dyn ExtKind>, key: u32) -> Result<(), KindError>
-    ensures ok { OnOk result (kind_meaning kind.new ≡ opened key (kind_meaning kind.old)) }
-    ensures err { OnErr result (kind_meaning kind.new ≡ kind_meaning kind.old) }
-    ensures full { result ≡ Err KindError.Full → (kind_meaning kind.old).limit ≤ length (kind_meaning kind.old).held }
-    ensures room { OnOk result (length (kind_meaning kind.old).held < (kind_meaning kind.old).limit) }
-{
-    kind.open(key)
-}
-
-fn close_key(kind: &mut Box<dyn ExtKind>, key: u32)
-    requires { Contains (kind_meaning kind.old).held key }
-    ensures { kind_meaning kind.new ≡ closed key (kind_meaning kind.old) }
-{
-    kind.close(key);
-}
-
-impl KindShelf {
-    ghost use Rattle.owner_kinds.specs.Kind.{changed_at};
-    ghost use Rattle.owner_kinds.specs.KindTable.{IsExtension, IsSound, phase_of, priority_of, row_of};
-    ghost use Rattle.owner_kinds.specs.KindShelf.{kinds_of, table_of};
-
+impl<K: ExtKind> KindShelf<K> {
     /// A shelf of these kinds.
-    pub fn new(alloc: Global, kinds: Vec<Box<dyn ExtKind>>) -> Result<KindShelf, AllocError>
+    pub fn new(alloc: Global, kinds: Vec<K>) -> Result<KindShelf<K>, AllocError>
         requires few { vec_len kinds ≤ 16 }
-        requires different { AreDifferent (map (λ kind. (kind_meaning kind).name) kinds.items) }
-        ensures kinds { IfOk result (λ shelf. kinds_of kind_meaning shelf ≡ map kind_meaning kinds.items) }
-        ensures names { IfOk result (λ shelf. (table_of shelf).names ≡ map (λ kind. (kind_meaning kind).name) kinds.items) }
-        ensures rows { IfOk result (λ shelf. (table_of shelf).rows ≡ map (λ kind. row (kind_meaning kind).phase (kind_meaning kind).priority) kinds.items) }
+        requires different { AreDifferent (map (λ kind. (K.kind_meaning kind).name) kinds.items) }
+        ensures kinds { IfOk result (λ shelf. shelf ≡ map K.kind_meaning kinds.items) }
         ensures sound { IfOk result (λ shelf. IsSound (table_of shelf)) }
     {
         let names = names_of(alloc, &kinds)?;
@@ -110,8 +93,9 @@ impl KindShelf {
         ensures none { IsNone result ↔ ¬ Contains (table_of self.now).names name.now }
         ensures extension { IfSome result (IsExtension (table_of self.now)) }
         ensures named { IfSome result (λ kind. slice_get (table_of self.now).names (kind.0 - 16) ≡ Some name.now) }
+        ensures sound { IsSound (table_of self.now) }
     {
-        let place = self.names.iter().position(|own| own.is(name))?;
+        let place = self.names.iter().position(|own| *own == *name)?;
         Some(KindId(KindId::FIRST_EXTENSION + place as u8))
     }
 
@@ -139,7 +123,8 @@ impl KindShelf {
 
     #[tactic(auto, unfolding(crate::specs::KindTable::row_of))]
     fn row(&self, kind: KindId) -> Option<KindRow>
-        ensures { result ≡ row_of (table_of self.now) kind }
+        ensures row { result ≡ row_of (table_of self.now) kind }
+        ensures sound { IsSound (table_of self.now) }
     {
         if kind.0 >= KindId::FIRST_EXTENSION {
             return self
@@ -156,31 +141,27 @@ impl KindShelf {
     /// Opens a key of an extension kind.
     pub fn open(&mut self, kind: KindId, key: u32) -> Result<(), KindError>
         requires { IsExtension (table_of self.old) kind }
-        ensures ok { OnOk result (kinds_of kind_meaning self.new ≡ changed_at (kind.0 - 16) (opened key) (kinds_of kind_meaning self.old)) }
-        ensures err { OnErr result (kinds_of kind_meaning self.new ≡ kinds_of kind_meaning self.old) }
+        ensures ok { OnOk result (self.new ≡ changed_at (kind.0 - 16) (opened key) self.old) }
+        ensures err { OnErr result (self.new ≡ self.old) }
         ensures table { table_of self.new ≡ table_of self.old }
+        ensures sound { IsSound (table_of self.new) }
+        ensures times { OnOk result ((other : KindId) (q : _) → times_held self.new other q ≡ times_held self.old other q + one_at kind key other q) }
 
-        // It answers Full exactly where the kind holds as many keys as it may; memory may want there too.
-        ensures full { result ≡ Err KindError.Full → IfSome (slice_get (kinds_of kind_meaning self.old) (kind.0 - 16)) (λ own. own.limit ≤ length own.held) }
-        ensures room { OnOk result (IfSome (slice_get (kinds_of kind_meaning self.old) (kind.0 - 16)) (λ own. length own.held < own.limit)) }
+        // Where the kind holds as many keys as it may it answers Full, and nowhere else.
+        ensures full { (result ≡ Err KindError.Full) ↔ IfSome (slice_get self.old (kind.0 - 16)) IsFull }
     {
-        open_key(
-            &mut self.kinds[(kind.0 - KindId::FIRST_EXTENSION) as usize],
-            key,
-        )
+        self.kinds[(kind.0 - KindId::FIRST_EXTENSION) as usize].open(key)
     }
 
     /// Closes a key of an extension kind, which must hold it. It cannot fail.
     pub fn close(&mut self, kind: KindId, key: u32)
-        requires extension { IsExtension (table_of self.old) kind }
-        requires held { IfSome (slice_get (kinds_of kind_meaning self.old) (kind.0 - 16)) (λ own. Contains own.held key) }
-        ensures after { kinds_of kind_meaning self.new ≡ changed_at (kind.0 - 16) (closed key) (kinds_of kind_meaning self.old) }
+        requires { 1 ≤ times_held self.old kind key }
+        ensures after { self.new ≡ changed_at (kind.0 - 16) (closed key) self.old }
         ensures table { table_of self.new ≡ table_of self.old }
+        ensures sound { IsSound (table_of self.new) }
+        ensures times { (other : KindId) (q : _) → times_held self.new other q + one_at kind key other q ≡ times_held self.old other q }
     {
-        close_key(
-            &mut self.kinds[(kind.0 - KindId::FIRST_EXTENSION) as usize],
-            key,
-        );
+        self.kinds[(kind.0 - KindId::FIRST_EXTENSION) as usize].close(key);
     }
 }
 

@@ -1,7 +1,7 @@
 -- The digits of a number, two at a time.
 use Rattle.std.proofs.Common.{◌≡◌, ℕ, zero, suc, ◌+◌, ◌-◌, ◌*◌, ◌/◌, ◌%◌, ◌^◌, ◌<◌, ◌≤◌, Bool, true, ◌&&◌, T, eqb, List, [], ◌∷◌, ◌++◌, get_or, ap, sym, ◌∙◌, inl, inr, arith, eq-zero-or-pos, eqb→eq, append_assoc}
 use lib.Ieee.Fits.{and_l, and_r}
-use Rattle.pgs_step.specs.declared.texts.TheConstants.{PAIRS}
+use Rattle.pgs_step.specs.declared.pieces.TheConstants.{PAIRS}
 use Rattle.std.specs.Prelude.{decimal}
 use Rattle.std.proofs.lemmas.Fmt.{decimal_digit, decimal_step}
 

@@ -1,3 +1,3 @@
 pub mod DigitLemmas
-pub mod NameLemmas
+pub mod KeptLemmas
 pub mod TextLemmas

@@ -1,3 +1,4 @@
+pub mod Kept
 pub mod Mode
 pub mod Name
 pub mod EventList

@@ -1,8 +1,7 @@
 -- What a name is.
-use Rattle.std.specs.Prelude.{◌≡◌, ℕ, ◌-◌, ◌≤◌, Bool, ◌&&◌, ◌||◌, nat_le, ◌==◌, IsTrue, List, ◌++◌, length, take, drop, replicate}
+use Rattle.std.specs.Prelude.{ℕ, ◌≤◌, Bool, ◌&&◌, ◌||◌, nat_le, ◌==◌, IsTrue, List, length, take}
 use Rattle.std.specs.List.{list_all}
-use Rattle.std.proofs.Common.{arith, ap, sym, ◌∙◌}
-use Rattle.std.proofs.lemmas.List.{take-append-drop, length-take-le}
+use Rattle.pgs_step.specs.Kept.{IsKept}
 
 -- a letter, a digit or an underscore
 abbrev pub is_name_byte : ℕ → Bool
@@ -14,19 +13,7 @@ pub record IsName (word : List ℕ) : Type 0 where
   pub short : length word ≤ 32
   pub letters : IsTrue (list_all is_name_byte word)
 
--- the name that an array of 32 bytes keeps in its first places, with 0 in each place that is not used
+-- the name that an array of 32 bytes keeps in its first places
 pub record IsKeptName (bytes : List ℕ) (len : ℕ) : Type 0 where
-  pub whole : length bytes ≡ 32
-  pub within : len ≤ 32
+  pub kept : IsKept 32 bytes len
   pub name : IsName (take len bytes)
-  pub unused : drop len bytes ≡ replicate (32 - len) 0
-
--- the bytes of the name give the array and the length back
-pub kept_length : (bytes : List ℕ) (len : ℕ) → IsKeptName bytes len → length (take len bytes) ≡ len
-kept_length bytes len h = length-take-le len bytes (omega (arith, h.whole, h.within))
-
-pub kept_bytes : (bytes : List ℕ) (len : ℕ) → IsKeptName bytes len → take len bytes ++ replicate (32 - length (take len bytes)) 0 ≡ bytes
-kept_bytes bytes len h =
-    ap (λ n. take len bytes ++ replicate (32 - n) 0) (kept_length bytes len h)
-    ∙ ap (λ zs. take len bytes ++ zs) (sym h.unused)
-    ∙ take-append-drop len bytes

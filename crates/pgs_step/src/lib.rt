@@ -2,6 +2,8 @@
 //! line of text of each event.
 #![tactic(auto)]
 
+mod chunk_bytes;
+mod counters;
 mod emitter;
 mod errors;
 mod event_list;
@@ -9,8 +11,13 @@ mod events;
 mod ids;
 mod lock_modes;
 mod names;
+mod pieces;
+mod report_texts;
+mod steps;
 mod texts;
 
+pub use chunk_bytes::ChunkBytes;
+pub use counters::{Depth, MemoryCounters, SessionCounts};
 pub use emitter::Emit;
 pub use errors::Error;
 pub use event_list::EventList;
@@ -18,6 +25,7 @@ pub use events::{Event, What};
 pub use ids::{CtxId, Item, KindId, OwnerId, Phase};
 pub use lock_modes::Mode;
 pub use names::Name;
+pub use steps::Step;
 pub use texts::{append_text, text, text_with};
 
 #[cfg(test)]

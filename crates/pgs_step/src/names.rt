@@ -20,7 +20,8 @@ pub struct Name {
 impl Model for Name {
     ghost use Rattle.std.specs.Prelude.{ℕ, List, ◌-◌, ◌++◌, length, take, drop, replicate};
     ghost use Rattle.std.proofs.Common.{ap, ◌∙◌};
-    ghost use Rattle.pgs_step.specs.Name.{IsKeptName, kept_bytes, kept_length};
+    ghost use Rattle.pgs_step.specs.Name.{IsKeptName};
+    ghost use Rattle.pgs_step.specs.Kept.{kept_bytes, kept_length};
 
     ghost Value = { List ℕ };
 
@@ -30,7 +31,7 @@ impl Model for Name {
 
     ghost inverse = { λ xs. record { bytes = xs ++ replicate (32 - length xs) 0; len = length xs } };
 
-    ghost inverse_ok = { λ a h. ap (λ (n : ℕ). record { bytes = take a.len a.bytes ++ replicate (32 - length (take a.len a.bytes)) 0; len = n }) (kept_length a.bytes a.len h) ∙ ap (λ (xs : List ℕ). record { bytes = xs; len = a.len }) (kept_bytes a.bytes a.len h) };
+    ghost inverse_ok = { λ a h. ap (λ (n : ℕ). record { bytes = take a.len a.bytes ++ replicate (32 - length (take a.len a.bytes)) 0; len = n }) (kept_length 32 a.bytes a.len h.kept) ∙ ap (λ (xs : List ℕ). record { bytes = xs; len = a.len }) (kept_bytes 32 a.bytes a.len h.kept) };
 }
 
 impl Name {
@@ -57,13 +58,6 @@ impl Name {
     {
         &self.bytes[..self.len as usize]
     }
-
-    /// Whether the two names are one.
-    pub fn is(&self, other: &Name) -> bool
-        ensures { IsTrue result ↔ (self.now ≡ other.now) }
-    {
-        self.as_slice() == other.as_slice()
-    }
 }
 
 impl PartialEq for Name {
@@ -76,7 +70,10 @@ impl PartialEq for Name {
 
     ghost laws = { Prim.search (comparing, rules) };
 
-    fn eq(&self, other: &Name) -> bool {
+    fn eq(&self, other: &Name) -> bool
+        ensures value { result ≡ pointwise ◌==◌ self.now other.now }
+        ensures same { IsTrue result ↔ (self.now ≡ other.now) }
+    {
         self.as_slice() == other.as_slice()
     }
 }

@@ -23,6 +23,20 @@ fn texts_of_levels_owners_and_items(rt: HostRuntime) {
             b"1 cleanup level 4294967295\n".as_slice(),
         ),
         (What::Owner(99), b"1 owner o99\n".as_slice()),
+        (
+            What::OwnerIn {
+                owner: 2,
+                parent: 1,
+            },
+            b"1 owner o2 in o1\n".as_slice(),
+        ),
+        (
+            What::MoveOwner {
+                owner: 2,
+                parent: 3,
+            },
+            b"1 owner o2 to o3\n".as_slice(),
+        ),
         (What::OwnerGone(100), b"1 owner o100 gone\n".as_slice()),
         (
             What::Acquire {
@@ -101,19 +115,251 @@ fn texts_of_locks_files_snapshots_and_ends(rt: HostRuntime) {
             b"8 warning there is no transaction in progress\n".as_slice(),
         ),
         (What::Ok, b"8 ok\n".as_slice()),
-        (
-            What::Error(Error::SyntaxError),
-            b"8 ERROR 42601 syntax error\n".as_slice(),
-        ),
-        (
-            What::Error(Error::NoMemory(18446744073709551615)),
-            b"8 ERROR 53200 no memory at call 18446744073709551615\n".as_slice(),
-        ),
         (What::Exit, b"8 exit\n".as_slice()),
     ] {
         text(&Event { session: 8, what }, &mut out);
         assert_eq!(rt; out.as_slice(), want);
     }
+}
+
+#[test]
+fn texts_of_contexts_and_hooks(rt: HostRuntime) {
+    let Some(name) = Name::new(b"w") else {
+        return;
+    };
+    let mut out = ArrayVec::new();
+    for (what, want) in [
+        (
+            What::Create {
+                context: 7,
+                name,
+                parent: 1,
+            },
+            b"1 create c7 w in c1\n".as_slice(),
+        ),
+        (What::Reset(8), b"1 reset c8\n".as_slice()),
+        (What::Delete(7), b"1 delete c7\n".as_slice()),
+        (
+            What::Move {
+                context: 7,
+                parent: 6,
+            },
+            b"1 move c7 to c6\n".as_slice(),
+        ),
+        (
+            What::Hook {
+                word: 1,
+                context: 7,
+            },
+            b"1 hook 1 c7\n".as_slice(),
+        ),
+        (
+            What::Callback {
+                word: 4,
+                context: 9,
+            },
+            b"1 callback 4 c9\n".as_slice(),
+        ),
+    ] {
+        text(&Event { session: 1, what }, &mut out);
+        assert_eq!(rt; out.as_slice(), want);
+    }
+}
+
+#[test]
+fn texts_of_rows_bytes_and_counts(rt: HostRuntime) {
+    let (Some(name), Some(bytes)) = (Name::new(b"p"), ChunkBytes::new(&[10, 255])) else {
+        return;
+    };
+    let counts = SessionCounts {
+        pins: 0,
+        files: 1,
+        descriptors: 2,
+        locks: 3,
+        snapshots: 4,
+        plans: 5,
+        refs: 6,
+        owners: 7,
+        contexts: 8,
+    };
+    let mut out = ArrayVec::new();
+    for (what, want) in [
+        (
+            What::Row {
+                portal: name,
+                row: 1,
+                value: 247,
+            },
+            b"1 row p 1 247\n".as_slice(),
+        ),
+        (
+            What::Fetched {
+                portal: name,
+                rows: 12,
+            },
+            b"1 fetched p 12\n".as_slice(),
+        ),
+        (
+            What::Bytes {
+                chunk: name,
+                at: 3,
+                bytes,
+            },
+            b"1 bytes p 3 0aff\n".as_slice(),
+        ),
+        (
+            What::Buffer {
+                buffer: 7,
+                sessions: 2,
+            },
+            b"1 buffer 7 pinned by 2\n".as_slice(),
+        ),
+        (
+            What::Stat(counts),
+            b"1 stat pins 0 files 1 descriptors 2 locks 3 snapshots 4 plans 5 refs 6 owners 7 contexts 8\n".as_slice(),
+        ),
+    ] {
+        text(&Event { session: 1, what }, &mut out);
+        assert_eq!(rt; out.as_slice(), want);
+    }
+}
+
+#[test]
+fn texts_of_reports(rt: HostRuntime) {
+    let Some(name) = Name::new(b"TopMemoryContext") else {
+        return;
+    };
+    let counters = MemoryCounters {
+        total: 8192,
+        blocks: 1,
+        free: 7952,
+        chunks: 0,
+    };
+    let more_free = MemoryCounters {
+        total: 1,
+        blocks: 7,
+        free: 2,
+        chunks: 9,
+    };
+    let mut out = ArrayVec::new();
+    for (what, want) in [
+        (
+            What::ContextStats {
+                depth: Depth::new(0),
+                context: 1,
+                name,
+                counters,
+            },
+            b"1 c1 TopMemoryContext: 8192 total in 1 blocks; 7952 free (0 chunks); 240 used\n".as_slice(),
+        ),
+        (
+            What::ContextStats {
+                depth: Depth::new(2),
+                context: 7,
+                name,
+                counters: more_free,
+            },
+            b"1     c7 TopMemoryContext: 1 total in 7 blocks; 2 free (9 chunks); 0 used\n".as_slice(),
+        ),
+        (
+            What::GrandTotal(counters),
+            b"1 Grand total: 8192 bytes in 1 blocks; 7952 free (0 chunks); 240 used\n".as_slice(),
+        ),
+        (
+            What::GrandTotal(more_free),
+            b"1 Grand total: 1 bytes in 7 blocks; 2 free (9 chunks); 0 used\n".as_slice(),
+        ),
+    ] {
+        text(&Event { session: 1, what }, &mut out);
+        assert_eq!(rt; out.as_slice(), want);
+    }
+}
+
+#[test]
+fn texts_of_errors_of_lines_and_contexts(rt: HostRuntime) {
+    for (error, want) in [
+        (Error::SyntaxError, b"42601 syntax error".as_slice()),
+        (Error::NoSuchSession, b"08003 no such session".as_slice()),
+        (
+            Error::TransactionAborted,
+            b"25P02 transaction is aborted".as_slice(),
+        ),
+        (
+            Error::NoTransactionBlock,
+            b"25P01 no transaction block".as_slice(),
+        ),
+        (
+            Error::NoSuchSavepoint,
+            b"3B001 no such savepoint".as_slice(),
+        ),
+        (Error::NoSuchName, b"42704 no such name".as_slice()),
+        (Error::NameTaken, b"42710 name is taken".as_slice()),
+        (
+            Error::ContextProtected,
+            b"42501 context is protected".as_slice(),
+        ),
+        (Error::ContextInUse, b"55006 context is in use".as_slice()),
+        (Error::ContextCycle, b"42P17 cycle of contexts".as_slice()),
+        (Error::TooBig, b"54000 request is too big".as_slice()),
+        (Error::OutOfSpace, b"53200 out of space".as_slice()),
+        (
+            Error::Injected(5),
+            b"53200 out of memory at call 5".as_slice(),
+        ),
+        (Error::WrongChunkSize, b"22023 wrong chunk size".as_slice()),
+    ] {
+        assert!(rt; is_told(error, want));
+    }
+}
+
+#[test]
+fn texts_of_errors_of_resources_and_portals(rt: HostRuntime) {
+    for (error, want) in [
+        (
+            Error::Unsupported,
+            b"0A000 not supported by this kind".as_slice(),
+        ),
+        (
+            Error::OutsideChunk,
+            b"22003 outside the chunk's bytes".as_slice(),
+        ),
+        (Error::NoSuchBuffer, b"22023 no such buffer".as_slice()),
+        (Error::NotHeld, b"55000 not held by this owner".as_slice()),
+        (
+            Error::LockHeld {
+                session: 1,
+                mode: Mode::AccessShareLock,
+            },
+            b"55P03 lock is held by session 1 as AccessShareLock".as_slice(),
+        ),
+        (
+            Error::KindLimit,
+            b"53400 limit of the kind is reached".as_slice(),
+        ),
+        (Error::LimitReached, b"54000 limit is reached".as_slice()),
+        (Error::NoSuchPortal, b"34000 no such portal".as_slice()),
+        (Error::PortalTaken, b"42P03 portal is there".as_slice()),
+        (Error::PortalFailed, b"55000 portal has failed".as_slice()),
+        (Error::BadRow(3), b"22012 bad row 3".as_slice()),
+        (Error::Raised, b"P0001 raised".as_slice()),
+        (
+            Error::NoMemory(18446744073709551615),
+            b"53200 no memory at call 18446744073709551615".as_slice(),
+        ),
+    ] {
+        assert!(rt; is_told(error, want));
+    }
+}
+
+// Whether the line of the error in session 2 is "2 ERROR ", these words and a newline.
+fn is_told(error: Error, words: &[u8]) -> bool {
+    let what = What::Error(error);
+    let mut out = ArrayVec::new();
+    text(&Event { session: 2, what }, &mut out);
+    out.as_slice()
+        .strip_prefix(b"2 ERROR ".as_slice())
+        .and_then(|rest| rest.strip_suffix(b"\n".as_slice()))
+        == Some(words)
 }
 
 #[test]
@@ -160,10 +406,29 @@ fn names_are_equal_where_their_bytes_are(rt: HostRuntime) {
         Name::new(b"a_B9"),
         Name::new(b"a_B"),
     ) {
-        assert!(rt; one.is(&same));
         assert!(rt; one == same);
-        assert!(rt; !one.is(&other));
+        assert!(rt; one != other);
         assert_eq!(rt; other.as_slice(), b"a_B".as_slice());
+    }
+}
+
+#[test]
+fn bytes_of_a_chunk_are_at_most_128(rt: HostRuntime) {
+    assert!(rt; ChunkBytes::new(&[7; 129]).is_none());
+    if let (Some(all), Some(one), Some(none)) = (
+        ChunkBytes::new(&[7; 128]),
+        ChunkBytes::new(&[0]),
+        ChunkBytes::new(&[]),
+    ) {
+        assert_eq!(rt; all.as_slice(), [7; 128].as_slice());
+        assert!(rt; one != none);
+    }
+}
+
+#[test]
+fn depths_are_at_most_100(rt: HostRuntime) {
+    for (levels, depth) in [(0, 0), (99, 99), (100, 100), (101, 100), (4294967295, 100)] {
+        assert_eq!(rt; Depth::new(levels).levels(), depth);
     }
 }
 

@@ -1,20 +1,22 @@
 //! The line of text of an event.
-ghost use Rattle.std.specs.Prelude.{◌≡◌, ℕ, ◌+◌, ◌/◌, ◌%◌, ◌≤◌, ◌<◌, [], ◌∷◌, ◌++◌, length, codes, decimal, IfSome};
+ghost use Rattle.std.specs.Prelude.{◌≡◌, ◌+◌, ◌≤◌, [], ◌++◌, length, codes, decimal, IfSome};
 ghost use Rattle.std.specs.Option.{is_some};
+ghost use Rattle.hex.specs.Hex.{encode_lower};
 ghost use Rattle.arrayvec.specs.ArrayVec.{array_vec_len};
-ghost use Rattle.pgs_step.specs.Text.{kind_name, error_text, by_owner, item_text, gone_owner, lock_text, acquired_lock, lock_counts, passed_lock, lock_event, error_line, said_of, what_text, text_of};
+ghost use Rattle.pgs_step.specs.Text.{kind_name, error_text, by_owner, item_text, lock_text, lock_counts, what_text, text_of};
+ghost use Rattle.pgs_step.specs.Mode.{mode_name};
 
+use crate::chunk_bytes::ChunkBytes;
 use crate::errors::Error;
 use crate::events::{Event, What};
 use crate::ids::{Item, KindId};
 use crate::lock_modes::Mode;
 use crate::names::Name;
+use crate::pieces::{
+    put, put_behind, put_behind_two, put_both, put_counted, put_name, put_named, put_number,
+};
+use crate::report_texts::{put_context_stats, put_grand_total, put_stat};
 use arrayvec::ArrayVec;
-use itoa::Buffer;
-
-/// The two digits of each number below 100.
-static PAIRS: [u8; 200] =
-    *b"00010203040506070809101112131415161718192021222324252627282930313233343536373839404142434445464748495051525354555657585960616263646566676869707172737475767778798081828384858687888990919293949596979899";
 
 /// Clears `out` and writes the event's line, with its newline, in a program without extension kinds.
 ///
@@ -81,17 +83,29 @@ fn has_name(kind: KindId, names: &[Name]) -> bool
 /// Writes an event's text at the end, where it has one.
 #[tactic(auto, unfolding(crate::specs::Text::what_text))]
 fn put_what<const N: usize>(out: &mut ArrayVec<u8, N>, what: What, names: &[Name])
-    requires { array_vec_len out.old + 400 ≤ N }
+    requires { array_vec_len out.old + 450 ≤ N }
     ensures text { IfSome (what_text names.now what) (λ text. out.new.items ≡ out.old.items ++ text) }
-    ensures short { array_vec_len out.new ≤ array_vec_len out.old + 400 }
+    ensures short { array_vec_len out.new ≤ array_vec_len out.old + 450 }
 {
     match what {
         What::BeginLevel(level) => put_counted(out, b"begin level ", level as u64),
         What::CommitLevel(level) => put_counted(out, b"commit level ", level as u64),
         What::AbortLevel(level) => put_counted(out, b"abort level ", level as u64),
         What::CleanupLevel(level) => put_counted(out, b"cleanup level ", level as u64),
+        What::Create {
+            context,
+            name,
+            parent,
+        } => put_create(out, context, &name, parent),
+        What::Reset(context) => put_counted(out, b"reset c", context),
+        What::Delete(context) => put_counted(out, b"delete c", context),
+        What::Move { context, parent } => put_both(out, b"move c", context, b" to c", parent),
+        What::Hook { word, context } => put_both(out, b"hook ", word, b" c", context),
+        What::Callback { word, context } => put_both(out, b"callback ", word, b" c", context),
         What::Owner(owner) => put_counted(out, b"owner o", owner),
-        What::OwnerGone(owner) => put_gone_owner(out, owner),
+        What::OwnerIn { owner, parent } => put_both(out, b"owner o", owner, b" in o", parent),
+        What::MoveOwner { owner, parent } => put_both(out, b"owner o", owner, b" to o", parent),
+        What::OwnerGone(owner) => put_owner_gone(out, owner),
         What::Acquire { item, owner } => put_said(out, b"acquire ", item, owner, names),
         What::Release { item, owner } => put_said(out, b"release ", item, owner, names),
         What::NotClosed { item, owner } => {
@@ -101,19 +115,53 @@ fn put_what<const N: usize>(out: &mut ArrayVec<u8, N>, what: What, names: &[Name
                 item,
                 owner,
                 names,
-            );
+            )
         }
-        What::AcquireLock { .. } | What::ReleaseLock { .. } | What::PassLock { .. } => {
-            put_lock_event(out, what)
-        }
+        What::AcquireLock {
+            object,
+            mode,
+            owner,
+        } => put_acquire_lock(out, object, mode, owner),
+        What::ReleaseLock {
+            object,
+            mode,
+            count,
+            owner,
+        } => { put_lock_counts(out, b"release lock ", object, mode, count, owner) }
+        What::PassLock {
+            object,
+            mode,
+            count,
+            from,
+            to,
+        } => { put_pass_lock(out, object, mode, count, from, to) }
         What::DescriptorOpened(file) => put_counted(out, b"descriptor opened ", file as u64),
         What::DescriptorClosed(file) => put_counted(out, b"descriptor closed ", file as u64),
         What::Push(snapshot) => put_counted(out, b"push ", snapshot as u64),
         What::Pop(snapshot) => put_counted(out, b"pop ", snapshot as u64),
-        What::AlreadyInTransaction => put(
-            out,
-            b"warning there is already a transaction in progress",
-        ),
+        What::Row { portal, row, value } => put_row(out, &portal, row, value),
+        What::Fetched { portal, rows } => put_named(out, b"fetched ", &portal, rows),
+        What::Bytes { chunk, at, bytes } => put_bytes(out, &chunk, at, &bytes),
+        What::Buffer { buffer, sessions } => {
+            put_both(
+                out,
+                b"buffer ",
+                buffer as u64,
+                b" pinned by ",
+                sessions as u64,
+            )
+        }
+        What::Stat(counts) => put_stat(out, counts),
+        What::ContextStats {
+            depth,
+            context,
+            name,
+            counters,
+        } => { put_context_stats(out, depth, context, &name, counters) }
+        What::GrandTotal(counters) => put_grand_total(out, counters),
+        What::AlreadyInTransaction => {
+            put(out, b"warning there is already a transaction in progress")
+        }
         What::NotInTransaction => put(out, b"warning there is no transaction in progress"),
         What::Ok => put(out, b"ok"),
         What::Error(error) => put_error_line(out, error),
@@ -121,40 +169,52 @@ fn put_what<const N: usize>(out: &mut ArrayVec<u8, N>, what: What, names: &[Name
     }
 }
 
-/// Writes the text of an event of a lock.
-fn put_lock_event<const N: usize>(out: &mut ArrayVec<u8, N>, what: What)
-    requires { array_vec_len out.old + 400 ≤ N }
-    ensures text { out.new.items ≡ out.old.items ++ lock_event what }
-    ensures short { array_vec_len out.new ≤ array_vec_len out.old + 400 }
+/// "create cK NAME in cJ"
+fn put_create<const N: usize>(out: &mut ArrayVec<u8, N>, context: u64, name: &Name, parent: u64)
+    requires { array_vec_len out.old + 200 ≤ N }
+    ensures text { out.new.items ≡ out.old.items ++ (codes "create c" ++ decimal context ++ codes " " ++ name.now ++ codes " in c" ++ decimal parent) }
+    ensures short { array_vec_len out.new ≤ array_vec_len out.old + 200 }
 {
-    match what {
-        What::AcquireLock {
-            object,
-            mode,
-            owner,
-        } => put_acquired_lock(out, object, mode, owner),
-        What::ReleaseLock {
-            object,
-            mode,
-            count,
-            owner,
-        } => {
-            put_lock_counts(out, b"release lock ", object, mode, count, owner);
-        }
-        What::PassLock {
-            object,
-            mode,
-            count,
-            from,
-            to,
-        } => {
-            put_passed_lock(out, object, mode, count, from, to);
-        }
-        _ => {}
-    }
+    put_counted(out, b"create c", context);
+    put_name(out, b" ", name);
+    put_counted(out, b" in c", parent);
 }
 
-/// Writes what is said of an item, where its kind has a name.
+/// "row NAME R V"
+fn put_row<const N: usize>(out: &mut ArrayVec<u8, N>, portal: &Name, row: u32, value: u32)
+    requires { array_vec_len out.old + 200 ≤ N }
+    ensures text { out.new.items ≡ out.old.items ++ (codes "row " ++ portal.now ++ codes " " ++ decimal row ++ codes " " ++ decimal value) }
+    ensures short { array_vec_len out.new ≤ array_vec_len out.old + 200 }
+{
+    put_named(out, b"row ", portal, row);
+    put_behind(out, b' ', value as u64);
+}
+
+/// "bytes CHUNK N HEX"
+fn put_bytes<const N: usize>(out: &mut ArrayVec<u8, N>, chunk: &Name, at: u32, bytes: &ChunkBytes)
+    requires { array_vec_len out.old + 400 ≤ N }
+    ensures text { out.new.items ≡ out.old.items ++ (codes "bytes " ++ chunk.now ++ codes " " ++ decimal at ++ codes " " ++ encode_lower bytes.now) }
+    ensures short { array_vec_len out.new ≤ array_vec_len out.old + 400 }
+{
+    put_named(out, b"bytes ", chunk, at);
+    out.push(b' ');
+    put_hex(out, bytes);
+}
+
+/// Two digits for each byte.
+fn put_hex<const N: usize>(out: &mut ArrayVec<u8, N>, bytes: &ChunkBytes)
+    requires { array_vec_len out.old + 256 ≤ N }
+    ensures text { out.new.items ≡ out.old.items ++ encode_lower bytes.now }
+    ensures short { array_vec_len out.new ≤ array_vec_len out.old + 256 }
+{
+    let bytes = bytes.as_slice();
+    let mut digits = [0; 256];
+    let digits = &mut digits[..2 * bytes.len()];
+    let _ = hex::encode_to_slice(bytes, digits);
+    put(out, digits);
+}
+
+/// "KIND KEY #S oK" behind a word, where the kind has a name.
 #[inline(always)]
 fn put_said<const N: usize>(
     out: &mut ArrayVec<u8, N>,
@@ -164,7 +224,7 @@ fn put_said<const N: usize>(
     names: &[Name],
 )
     requires { (array_vec_len out.old + 300 ≤ N) × (length word.now ≤ 40) }
-    ensures text { IfSome (said_of names.now word.now item owner) (λ text. out.new.items ≡ out.old.items ++ text) }
+    ensures text { IfSome (item_text names.now word.now item owner) (λ text. out.new.items ≡ out.old.items ++ text) }
     ensures short { array_vec_len out.new ≤ array_vec_len out.old + 200 }
 {
     put(out, word);
@@ -211,46 +271,83 @@ fn put_item<const N: usize>(out: &mut ArrayVec<u8, N>, item: Item, owner: u64)
 
 #[tactic(auto, unfolding(crate::specs::Text::error_text))]
 fn put_error<const N: usize>(out: &mut ArrayVec<u8, N>, error: Error)
-    requires { array_vec_len out.old + 80 ≤ N }
+    requires { array_vec_len out.old + 100 ≤ N }
     ensures text { out.new.items ≡ out.old.items ++ error_text error }
-    ensures short { array_vec_len out.new ≤ array_vec_len out.old + 80 }
+    ensures short { array_vec_len out.new ≤ array_vec_len out.old + 100 }
 {
     match error {
         Error::SyntaxError => put(out, b"42601 syntax error"),
+        Error::NoSuchSession => put(out, b"08003 no such session"),
         Error::TransactionAborted => put(out, b"25P02 transaction is aborted"),
+        Error::NoTransactionBlock => put(out, b"25P01 no transaction block"),
+        Error::NoSuchSavepoint => put(out, b"3B001 no such savepoint"),
+        Error::NoSuchName => put(out, b"42704 no such name"),
+        Error::NameTaken => put(out, b"42710 name is taken"),
+        Error::ContextProtected => put(out, b"42501 context is protected"),
+        Error::ContextInUse => put(out, b"55006 context is in use"),
+        Error::ContextCycle => put(out, b"42P17 cycle of contexts"),
+        Error::TooBig => put(out, b"54000 request is too big"),
+        Error::OutOfSpace => put(out, b"53200 out of space"),
+        Error::Injected(call) => put_counted(out, b"53200 out of memory at call ", call),
+        Error::WrongChunkSize => put(out, b"22023 wrong chunk size"),
+        Error::Unsupported => put(out, b"0A000 not supported by this kind"),
+        Error::OutsideChunk => put(out, b"22003 outside the chunk's bytes"),
         Error::NoSuchBuffer => put(out, b"22023 no such buffer"),
+        Error::NotHeld => put(out, b"55000 not held by this owner"),
+        Error::LockHeld { session, mode } => put_lock_held(out, session, mode),
+        Error::KindLimit => put(out, b"53400 limit of the kind is reached"),
+        Error::LimitReached => put(out, b"54000 limit is reached"),
+        Error::NoSuchPortal => put(out, b"34000 no such portal"),
+        Error::PortalTaken => put(out, b"42P03 portal is there"),
+        Error::PortalFailed => put(out, b"55000 portal has failed"),
+        Error::BadRow(row) => put_counted(out, b"22012 bad row ", row as u64),
+        Error::Raised => put(out, b"P0001 raised"),
         Error::NoMemory(call) => put_counted(out, b"53200 no memory at call ", call),
     }
 }
 
 fn put_error_line<const N: usize>(out: &mut ArrayVec<u8, N>, error: Error)
-    requires { array_vec_len out.old + 100 ≤ N }
-    ensures text { out.new.items ≡ out.old.items ++ error_line error }
-    ensures short { array_vec_len out.new ≤ array_vec_len out.old + 100 }
+    requires { array_vec_len out.old + 110 ≤ N }
+    ensures text { out.new.items ≡ out.old.items ++ (codes "ERROR " ++ error_text error) }
+    ensures short { array_vec_len out.new ≤ array_vec_len out.old + 110 }
 {
     put(out, b"ERROR ");
     put_error(out, error);
 }
 
-fn put_gone_owner<const N: usize>(out: &mut ArrayVec<u8, N>, owner: u64)
+/// "55P03 lock is held by session S as MODE"
+fn put_lock_held<const N: usize>(out: &mut ArrayVec<u8, N>, session: u8, mode: Mode)
+    requires { array_vec_len out.old + 100 ≤ N }
+    ensures text { out.new.items ≡ out.old.items ++ (codes "55P03 lock is held by session " ++ decimal session ++ codes " as " ++ mode_name mode) }
+    ensures short { array_vec_len out.new ≤ array_vec_len out.old + 100 }
+{
+    put_counted(out, b"55P03 lock is held by session ", session as u64);
+    put(out, b" as ");
+    put(out, mode.name());
+}
+
+/// "owner oK gone"
+fn put_owner_gone<const N: usize>(out: &mut ArrayVec<u8, N>, owner: u64)
     requires { array_vec_len out.old + 40 ≤ N }
-    ensures text { out.new.items ≡ out.old.items ++ gone_owner owner }
+    ensures text { out.new.items ≡ out.old.items ++ (codes "owner o" ++ decimal owner ++ codes " gone") }
     ensures short { array_vec_len out.new ≤ array_vec_len out.old + 40 }
 {
     put_counted(out, b"owner o", owner);
     put(out, b" gone");
 }
 
-fn put_acquired_lock<const N: usize>(out: &mut ArrayVec<u8, N>, object: u32, mode: Mode, owner: u64)
+/// "acquire lock N MODE oK"
+fn put_acquire_lock<const N: usize>(out: &mut ArrayVec<u8, N>, object: u32, mode: Mode, owner: u64)
     requires { array_vec_len out.old + 200 ≤ N }
-    ensures text { out.new.items ≡ out.old.items ++ acquired_lock object mode owner }
+    ensures text { out.new.items ≡ out.old.items ++ (lock_text (codes "acquire lock ") object mode ++ by_owner owner) }
     ensures short { array_vec_len out.new ≤ array_vec_len out.old + 200 }
 {
     put_lock(out, b"acquire lock ", object, mode);
     put_owner(out, owner);
 }
 
-fn put_passed_lock<const N: usize>(
+/// "pass lock N MODE xC oK to oJ"
+fn put_pass_lock<const N: usize>(
     out: &mut ArrayVec<u8, N>,
     object: u32,
     mode: Mode,
@@ -259,7 +356,7 @@ fn put_passed_lock<const N: usize>(
     to: u64,
 )
     requires { array_vec_len out.old + 300 ≤ N }
-    ensures text { out.new.items ≡ out.old.items ++ passed_lock object mode count from to }
+    ensures text { out.new.items ≡ out.old.items ++ (lock_counts (codes "pass lock ") object mode count from ++ codes " to" ++ by_owner to) }
     ensures short { array_vec_len out.new ≤ array_vec_len out.old + 300 }
 {
     put_lock_counts(out, b"pass lock ", object, mode, count, from);
@@ -304,129 +401,4 @@ fn put_owner<const N: usize>(out: &mut ArrayVec<u8, N>, owner: u64)
     ensures short { array_vec_len out.new ≤ array_vec_len out.old + 22 }
 {
     put_behind_two(out, b' ', b'o', owner);
-}
-
-/// A byte and a number behind it.
-#[inline(always)]
-fn put_behind<const N: usize>(out: &mut ArrayVec<u8, N>, byte: u8, n: u64)
-    requires { array_vec_len out.old + 21 ≤ N }
-    ensures text { out.new.items ≡ out.old.items ++ ((byte ∷ []) ++ decimal n) }
-    ensures short { array_vec_len out.new ≤ array_vec_len out.old + 21 }
-{
-    out.push(byte);
-    put_number(out, n);
-}
-
-/// Two bytes and a number behind them.
-#[inline(always)]
-fn put_behind_two<const N: usize>(out: &mut ArrayVec<u8, N>, first: u8, second: u8, n: u64)
-    requires { array_vec_len out.old + 22 ≤ N }
-    ensures text { out.new.items ≡ out.old.items ++ ((first ∷ second ∷ []) ++ decimal n) }
-    ensures short { array_vec_len out.new ≤ array_vec_len out.old + 22 }
-{
-    out.push(first);
-    put_behind(out, second, n);
-}
-
-/// A word and a number behind it.
-#[inline(always)]
-fn put_counted<const N: usize>(out: &mut ArrayVec<u8, N>, word: &[u8], n: u64)
-    requires { array_vec_len out.old + length word.now + 20 ≤ N }
-    ensures text { out.new.items ≡ out.old.items ++ (word.now ++ decimal n) }
-    ensures short { array_vec_len out.new ≤ array_vec_len out.old + length word.now + 20 }
-{
-    put(out, word);
-    put_number(out, n);
-}
-
-/// The digits of a number, which mostly is small.
-#[inline(always)]
-fn put_number<const N: usize>(out: &mut ArrayVec<u8, N>, n: u64)
-    requires { array_vec_len out.old + 20 ≤ N }
-    ensures text { out.new.items ≡ out.old.items ++ decimal n }
-    ensures short { array_vec_len out.new ≤ array_vec_len out.old + 20 }
-{
-    if n < 10 {
-        put_digit(out, n);
-    } else {
-        put_long_number(out, n);
-    }
-}
-
-/// The digits of a number.
-#[inline(never)]
-fn put_long_number<const N: usize>(out: &mut ArrayVec<u8, N>, n: u64)
-    requires { array_vec_len out.old + 20 ≤ N }
-    ensures text { out.new.items ≡ out.old.items ++ decimal n }
-    ensures short { array_vec_len out.new ≤ array_vec_len out.old + 20 }
-{
-    if n < 10_000 {
-        put_up_to_four(out, n);
-    } else if n < 1_000_000 {
-        put_up_to_four(out, n / 100);
-        put_pair(out, n % 100);
-    } else {
-        put(out, Buffer::new().format(n).as_bytes());
-    }
-}
-
-/// The digits of a number of at most four.
-#[inline(always)]
-fn put_up_to_four<const N: usize>(out: &mut ArrayVec<u8, N>, n: u64)
-    requires { (array_vec_len out.old + 4 ≤ N) × (n < 10000) }
-    ensures text { out.new.items ≡ out.old.items ++ decimal n }
-    ensures short { array_vec_len out.new ≤ array_vec_len out.old + 4 }
-{
-    if n < 100 {
-        put_up_to_two(out, n);
-    } else {
-        put_up_to_two(out, n / 100);
-        put_pair(out, n % 100);
-    }
-}
-
-/// The digits of a number of at most two.
-#[inline(always)]
-fn put_up_to_two<const N: usize>(out: &mut ArrayVec<u8, N>, n: u64)
-    requires { (array_vec_len out.old + 2 ≤ N) × (n < 100) }
-    ensures text { out.new.items ≡ out.old.items ++ decimal n }
-    ensures short { array_vec_len out.new ≤ array_vec_len out.old + 2 }
-{
-    if n < 10 {
-        put_digit(out, n);
-    } else {
-        put_pair(out, n);
-    }
-}
-
-/// Two digits.
-#[inline(always)]
-fn put_pair<const N: usize>(out: &mut ArrayVec<u8, N>, n: u64)
-    requires { (array_vec_len out.old + 2 ≤ N) × (n < 100) }
-    ensures text { out.new.items ≡ out.old.items ++ ((48 + n / 10) ∷ (48 + n % 10) ∷ []) }
-    ensures len { array_vec_len out.new ≡ array_vec_len out.old + 2 }
-{
-    let at = n as usize * 2;
-    let (tens, ones) = (PAIRS[at], PAIRS[at + 1]);
-    out.push(tens);
-    out.push(ones);
-}
-
-/// One digit.
-#[inline(always)]
-fn put_digit<const N: usize>(out: &mut ArrayVec<u8, N>, n: u64)
-    requires { (array_vec_len out.old < N) × (n < 10) }
-    ensures text { out.new.items ≡ out.old.items ++ decimal n }
-    ensures len { array_vec_len out.new ≡ array_vec_len out.old + 1 }
-{
-    out.push(b'0' + n as u8);
-}
-
-#[inline(always)]
-fn put<const N: usize>(out: &mut ArrayVec<u8, N>, piece: &[u8])
-    requires { array_vec_len out.old + length piece.now ≤ N }
-    ensures text { out.new.items ≡ out.old.items ++ piece.now }
-    ensures len { array_vec_len out.new ≡ array_vec_len out.old + length piece.now }
-{
-    let _ = out.try_extend_from_slice(piece);
 }

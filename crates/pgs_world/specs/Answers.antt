@@ -1,7 +1,7 @@
 -- How the code's answers stand to the definitions, whichever fallible call is refused for want of memory.
 use Rattle.std.specs.Prelude.{◌≡◌, ℕ, ◌<◌, ◌≤◌, Bool, true, false, List, Option, Some, None, Result, Ok, Err}
 use Rattle.pgs_step.specs.declared.errors.Error.{Error}
-use Rattle.pgs_step.specs.declared.errors.Error.TheVariants.{SyntaxError, TransactionAborted, NoSuchBuffer, NoMemory}
+use Rattle.pgs_step.specs.declared.errors.Error.TheVariants.{NoMemory}
 use Rattle.pgs_step.specs.declared.events.What.{What}
 use Rattle.pgs_world.specs.Session.{World, SessionState, Done, Ended}
 
@@ -12,10 +12,8 @@ IsLater calls (Some w) = calls < w
 
 -- whether the error is a want of memory
 abbrev pub is_want : Error → Bool
-is_want SyntaxError = false
-is_want TransactionAborted = false
-is_want NoSuchBuffer = false
 is_want (NoMemory call) = true
+is_want error = false
 
 abbrev pub wants : Option Error → Bool
 wants None = false

@@ -66,27 +66,8 @@ pub record EndsAt (w : ℕ) (lines : List (List ℕ)) (line : ℕ) : Type 0 wher
   pub line_is : (course_of (Some w) lines).performed ≡ line
 
 abbrev pub is_error : What → Bool
-is_error (what.BeginLevel level) = false
-is_error (what.CommitLevel level) = false
-is_error (what.AbortLevel level) = false
-is_error (what.CleanupLevel level) = false
-is_error (what.Owner owner) = false
-is_error (what.OwnerGone owner) = false
-is_error (what.Acquire item owner) = false
-is_error (what.Release item owner) = false
-is_error (what.NotClosed item owner) = false
-is_error (what.AcquireLock object mode owner) = false
-is_error (what.ReleaseLock object mode count owner) = false
-is_error (what.PassLock object mode count from to) = false
-is_error (what.DescriptorOpened file) = false
-is_error (what.DescriptorClosed file) = false
-is_error (what.Push snapshot) = false
-is_error (what.Pop snapshot) = false
-is_error what.AlreadyInTransaction = false
-is_error what.NotInTransaction = false
-is_error what.Ok = false
 is_error (what.Error error) = true
-is_error what.Exit = false
+is_error what = false
 
 -- how many ERROR events there are
 abbrev pub errors_in : List What → ℕ

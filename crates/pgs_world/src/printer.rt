@@ -108,8 +108,8 @@ impl<'a, K: Sink> Printer<'a, K> {
     }
 
     /// Counts the event where it is an ERROR event.
-    fn count(&mut self, what: What)
-        ensures { self.new ≡ record self.old { errors = min (self.old.errors + (if is_error what then 1 else 0)) (2 ^ 64 - 1) } }
+    fn count(&mut self, what: &What)
+        ensures { self.new ≡ record self.old { errors = min (self.old.errors + (if is_error what.now then 1 else 0)) (2 ^ 64 - 1) } }
     {
         if is_error(what) {
             self.errors = self.errors.saturating_add(1);
@@ -131,8 +131,8 @@ fn clear_in_pieces(bytes: &mut ArrayVec<u8, GATHERED>)
     bytes.clear();
 }
 
-fn is_error(what: What) -> bool
-    ensures { result ≡ is_error what }
+fn is_error(what: &What) -> bool
+    ensures { result ≡ is_error what.now }
 {
     matches!(what, What::Error(_))
 }
@@ -144,7 +144,7 @@ impl<'a, K: Sink> Emit for Printer<'a, K> {
     ghost emits = { TakesEvents K.written K.faults };
 
     fn emit(&mut self, what: What) {
-        self.count(what);
+        self.count(&what);
         self.gather(&Event {
             session: self.session,
             what,

@@ -79,7 +79,7 @@ impl Portals {
     pub fn get(&self, name: &Name) -> Option<&Portal>
         ensures { option_copied result ≡ portal_named name.now self.now }
     {
-        self.portals.iter().find(|portal| portal.name.is(name))
+        self.portals.iter().find(|portal| portal.name == *name)
     }
 
     /// Puts a portal in the place of the one that has its name.
@@ -166,7 +166,7 @@ impl Portals {
     fn place(&self, name: &Name) -> Option<usize>
         ensures { result ≡ position (has_name name.now) self.now }
     {
-        self.portals.iter().position(|portal| portal.name.is(name))
+        self.portals.iter().position(|portal| portal.name == *name)
     }
 }
 

@@ -1,11 +1,12 @@
--- What the calls of a shelf do to its lists of boxed hooks.
-use Rattle.std.proofs.Common.{◌≡◌, ℕ, ◌<◌, ◌≤◌, List, [], ◌∷◌, ◌++◌, length, map, get_or, All, refl, sym, ◌∙◌, ap, subst, append_assoc, arith, true, false}
+-- What the calls of a shelf do to its lists of hooks.
+use Rattle.std.proofs.Common.{◌≡◌, ◌≢◌, ℕ, ◌+◌, ◌-◌, ◌<◌, ◌≤◌, List, [], ◌∷◌, ◌++◌, length, map, get_or, drop, refl, sym, ◌∙◌, ap, subst, append_assoc, arith, true, false}
 use Rattle.std.specs.List.{remove}
 use Rattle.std.proofs.lemmas.List.{get_or-map, length-map, map-append, append-nil}
+use Rattle.std.proofs.lemmas.List.Elements.{All-nil, All-cons, All-head, All-tail}
 use Rattle.reset_callbacks.specs.Hook.{Hook, Lacks, IsBelow, AreRising, AreDistinct, in_order}
 use Rattle.reset_callbacks.specs.Least.{IsFirstLeast}
 use Rattle.reset_callbacks.specs.ShelfState.{ShelfState, held, taken, finished, returned, renewed}
-use Rattle.reset_callbacks.proofs.InOrder.{in_order-remove, in_order-push, in_order-append_in_order, length-in_order, All-from_in_order, NeverFalls, NeverFalls-in_order, AreDistinct-push, AreDistinct-in_order, AreDistinct-of_rising}
+use Rattle.reset_callbacks.proofs.InOrder.{in_order-remove, in_order-push, in_order-append_in_order, length-in_order, All-from_in_order, NeverFalls, AreDistinct-push, AreDistinct-in_order, AreDistinct-of_rising}
 
 pub length-fresh : {B : Type 0} (xs : List B) (meaning : B → Hook) → length (in_order (map meaning xs)) ≡ length xs
 length-fresh xs meaning = length-in_order (map meaning xs) ∙ length-map xs meaning
@@ -41,15 +42,6 @@ take_first xs i x ys meaning found is rest =
     let reach : k < length (map (λ b. (meaning b).word) xs) = rw (length-map xs (λ b. (meaning b).word)) inside in
     omega (arith, number, word_at meaning xs k x inside, found.least k reach)))
 
--- no word of the others is below its word
-pub take_least :
-    {B : Type 0} (xs ys : List B) (x : B) (meaning : B → Hook) →
-    in_order (map meaning xs) ≡ meaning x ∷ in_order (map meaning ys) →
-    All (λ other. (meaning x).word ≤ other.word) (in_order (map meaning ys))
-take_least xs ys x meaning first =
-    let never : NeverFalls (meaning x ∷ in_order (map meaning ys)) = subst NeverFalls first (NeverFalls-in_order (map meaning xs)) in
-    never.0
-
 -- a hook behind whose word is below all others comes first
 pub put_first :
     {B : Type 0} (xs ys : List B) (x : B) (meaning : B → Hook) → ys ≡ xs ++ x ∷ [] →
@@ -77,13 +69,55 @@ pub same_state :
     old ≡ new
 same_state fresh fresh' spent spent' out out' same_fresh same_spent same_out = cc
 
+-- what a shelf of these lists stands for
+abbrev pub state_of : {B : Type 0} → (B → Hook) → List B → List B → ℕ → ShelfState
+state_of meaning fresh spent out =
+    record { fresh = in_order (map meaning fresh); spent = map meaning spent; out = out }
+
+pub taken_is :
+    {B : Type 0} (meaning : B → Hook) (fresh fresh' spent : List B) (out : ℕ) (x : B) (s : ShelfState) →
+    state_of meaning fresh spent out ≡ s → in_order (map meaning fresh) ≡ meaning x ∷ in_order (map meaning fresh') →
+    state_of meaning fresh' spent (out + 1) ≡ taken s
+taken_is meaning fresh fresh' spent out x s is first =
+    rw (← is) (same_state _ _ _ _ _ _ (sym (ap (drop 1) first)) refl refl)
+
+pub finished_is :
+    {B : Type 0} (meaning : B → Hook) (fresh spent spent' : List B) (out : ℕ) (x : B) (s : ShelfState) →
+    state_of meaning fresh spent out ≡ s → spent' ≡ spent ++ x ∷ [] →
+    state_of meaning fresh spent' (out - 1) ≡ finished (meaning x) s
+finished_is meaning fresh spent spent' out x s is pushed =
+    rw (← is) (same_state _ _ _ _ _ _ refl (push_spent spent spent' x meaning pushed) refl)
+
+pub returned_is :
+    {B : Type 0} (meaning : B → Hook) (fresh fresh' spent : List B) (out : ℕ) (x : B) (s : ShelfState) →
+    state_of meaning fresh spent out ≡ s → IsBelow (meaning x).word s.fresh → fresh' ≡ fresh ++ x ∷ [] →
+    state_of meaning fresh' spent (out - 1) ≡ returned (meaning x) s
+returned_is meaning fresh fresh' spent out x s is below pushed =
+    let under : IsBelow (meaning x).word (in_order (map meaning fresh)) =
+    subst (λ z. IsBelow (meaning x).word z.fresh) (sym is) below
+    in
+    rw (← is) (same_state _ _ _ _ _ _ (put_first fresh fresh' x meaning pushed under) refl refl)
+
+pub renewed_is :
+    {B : Type 0} (meaning : B → Hook) (fresh fresh' spent spent' : List B) (out : ℕ) (s : ShelfState) →
+    state_of meaning fresh spent out ≡ s → fresh' ≡ fresh ++ spent → spent' ≡ [] →
+    state_of meaning fresh' spent' out ≡ renewed s
+renewed_is meaning fresh fresh' spent spent' out s is joined none =
+    rw (← is) (same_state _ _ _ _ _ _ (join_fresh fresh spent fresh' meaning joined) (ap (map meaning) none) refl)
+
 -- the words of the hooks that are held differ after each call as they did before
-pub differ_taken :
-    (s new : ShelfState) (h : Hook) → new ≡ taken s → s.fresh ≡ h ∷ new.fresh → AreDistinct (held s) → AreDistinct (held new)
+pub differ_now :
+    {B : Type 0} (meaning : B → Hook) (fresh spent : List B) (out : ℕ) (s : ShelfState) → state_of meaning fresh spent out ≡ s →
+    AreDistinct (in_order (map meaning fresh) ++ map meaning spent) → AreDistinct (held s)
+differ_now meaning fresh spent out s is differ = subst (λ z. AreDistinct (held z)) is differ
+
+pub differ_taken : (s new : ShelfState) (h : Hook) → new ≡ taken s → s.fresh ≡ h ∷ new.fresh → AreDistinct (held s) → Lacks (held new) h.word × AreDistinct (held new)
 differ_taken s new h after first differ =
     let same_spent : new.spent ≡ s.spent = ap (λ z. z.spent) after in
-    let all : AreDistinct ((h ∷ new.fresh) ++ s.spent) = subst (λ hooks. AreDistinct (hooks ++ s.spent)) first differ in
-    subst (λ hooks. AreDistinct (new.fresh ++ hooks)) (sym same_spent) all.1
+    let all : AreDistinct ((h ∷ new.fresh) ++ s.spent) = subst (λ hooks. AreDistinct (hooks ++ s.spent)) first differ in (
+      subst (λ hooks. Lacks (new.fresh ++ hooks) h.word) (sym same_spent) all.0,
+      subst (λ hooks. AreDistinct (new.fresh ++ hooks)) (sym same_spent) all.1,
+    )
 
 pub differ_finished :
     (s new : ShelfState) (h : Hook) → new ≡ finished h s → Lacks (held s) h.word → AreDistinct (held s) → AreDistinct (held new)
@@ -100,6 +134,16 @@ differ_renewed s new after differ =
 
 pub differ_new : (xs : List Hook) → AreRising xs → AreDistinct (in_order xs ++ [])
 differ_new xs rising = rw append-nil (AreDistinct-in_order xs (AreDistinct-of_rising xs rising))
+
+-- a hook that comes first is below all others, where their words differ
+pub below_rest : (h : Hook) (xs ys : List Hook) → NeverFalls (h ∷ xs) → Lacks (xs ++ ys) h.word → IsBelow h.word xs
+below_rest h [] ys never lacks = All-nil (λ other. h.word < other.word)
+below_rest h (x ∷ xs) ys never lacks =
+    let least : h.word ≤ x.word = All-head (λ other. h.word ≤ other.word) x xs never.0 in
+    let other : x.word ≢ h.word = All-head (λ z. z.word ≢ h.word) x (xs ++ ys) lacks in
+    All-cons (λ other. h.word < other.word) x xs (omega arith)
+    (below_rest h xs ys (All-tail (λ other. h.word ≤ other.word) x xs never.0, never.1.1)
+    (All-tail (λ z. z.word ≢ h.word) x (xs ++ ys) lacks))
 
 -- a list with an element is not empty
 pub not_none : {X : Type 0} (xs ys : List X) (x : X) → xs ≡ x ∷ ys → (true ≡ false → xs ≡ []) × (xs ≡ [] → true ≡ false)

@@ -1,4 +1,3 @@
 pub mod Hook
 pub mod Least
-pub mod PendingState
 pub mod ShelfState

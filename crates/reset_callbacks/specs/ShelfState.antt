@@ -1,9 +1,6 @@
 -- What a shelf stands for, and what each call makes of it.
-use Rattle.std.specs.Prelude.{ℕ, ◌+◌, ◌-◌, List, [], ◌∷◌, ◌++◌, map, drop}
-use Rattle.std.specs.declared.alloc.Global.{Global}
-use Rattle.std.specs.declared.dyn_box.DynBox.{DynBox}
+use Rattle.std.specs.Prelude.{ℕ, ◌+◌, ◌-◌, List, [], ◌∷◌, ◌++◌, drop}
 use Rattle.reset_callbacks.specs.Hook.{Hook, in_order}
-use Rattle.reset_callbacks.specs.declared.hook_shelf.Shelf.{Shelf}
 
 -- the hooks that may be taken, in rising order of their words, those that were finished, in the
 -- order in which they were, and how many were taken and are neither finished nor put back
@@ -11,15 +8,6 @@ pub record ShelfState : Type 0 where
   pub fresh : List Hook
   pub spent : List Hook
   pub out : ℕ
-
--- what a shelf stands for, where `meaning` gives what a boxed hook stands for
-abbrev pub shelf_state : {I : Type 0} {D : I → Type 0} → (DynBox I Global D → Hook) → Shelf I D → ShelfState
-shelf_state meaning s =
-    record {
-      fresh = in_order (map meaning s.fresh.items);
-      spent = map meaning s.spent.items;
-      out = s.out;
-    }
 
 -- the hooks that the shelf holds
 abbrev pub held : ShelfState → List Hook

@@ -1,53 +1,61 @@
-ghost use Rattle.std.specs.Prelude.{◌≡◌, [], ◌∷◌, All, IsTrue, IsSome, ◌↔◌, IsNone, OnOk, OnErr, IfErr, IfSome, IfNone};
+ghost use Rattle.std.specs.Prelude.{◌≡◌, [], ◌∷◌, IsTrue, ◌↔◌, IsNone, OnOk, OnErr, IfErr, IfSome, IfNone};
 
 use crate::reset_hook::ResetHook;
-use smallvec::SmallVec;
 use std::alloc::Global;
+use std::marker::Model;
 
-/// The hooks that wait on a memory context.
+/// The hooks that wait on a memory context: PostgreSQL's `MemoryContextData.reset_cbs`.
+///
+/// Contracts see what the hooks stand for, newest first.
 #[derive(Drop)]
-pub struct Pending {
-    // The newest is the last. A place of the inline array holds a hook only while it is in use.
-    hooks: SmallVec<Option<Box<dyn ResetHook>>, 2>,
-    ghost filled: { All IsSome hooks.items },
+pub struct Pending<H: ResetHook> {
+    // The newest is the last.
+    hooks: Vec<H>,
 }
 
-impl Pending {
-    ghost use Rattle.reset_callbacks.specs.PendingState.{pending_hooks};
+impl<H: ResetHook> Model for Pending<H> {
+    ghost use Rattle.std.specs.Prelude.{List, map, reverse};
+    ghost use Rattle.reset_callbacks.specs.Hook.{Hook};
 
+    ghost Value = { List Hook };
+
+    ghost view = { λ p. reverse (map H.hook_meaning p.hooks.items) };
+}
+
+impl<H: ResetHook> Pending<H> {
     /// No hook waits yet.
-    pub fn new(alloc: Global) -> Pending
-        ensures { pending_hooks hook_meaning result ≡ [] }
+    pub fn new(alloc: Global) -> Pending<H>
+        ensures { result ≡ [] }
     {
         Pending {
-            hooks: SmallVec::new(alloc),
+            hooks: Vec::new(alloc),
         }
     }
 
     /// Adds the hook as the newest, or hands it back for want of memory.
-    pub fn push(&mut self, hook: Box<dyn ResetHook>) -> Result<(), Box<dyn ResetHook>>
-        ensures ok { OnOk result (pending_hooks hook_meaning self.new ≡ hook_meaning hook ∷ pending_hooks hook_meaning self.old) }
-        ensures err { OnErr result (pending_hooks hook_meaning self.new ≡ pending_hooks hook_meaning self.old) }
+    pub fn push(&mut self, hook: H) -> Result<(), H>
+        ensures ok { OnOk result (self.new ≡ H.hook_meaning hook ∷ self.old) }
+        ensures err { OnErr result (self.new ≡ self.old) }
         ensures handed_back { IfErr result (λ back. back ≡ hook) }
     {
-        match self.hooks.push(Some(hook)) {
+        match self.hooks.push(hook) {
             Ok(()) => Ok(()),
-            Err(failed) => Err(failed.value.unwrap()),
+            Err(failed) => Err(failed.value),
         }
     }
 
     /// Takes the newest hook off.
-    pub fn pop(&mut self) -> Option<Box<dyn ResetHook>>
-        ensures none { IsNone result ↔ (pending_hooks hook_meaning self.old ≡ []) }
-        ensures newest { IfSome result (λ hook. pending_hooks hook_meaning self.old ≡ hook_meaning hook ∷ pending_hooks hook_meaning self.new) }
-        ensures unchanged { IfNone result (pending_hooks hook_meaning self.new ≡ pending_hooks hook_meaning self.old) }
+    pub fn pop(&mut self) -> Option<H>
+        ensures none { IsNone result ↔ (self.old ≡ []) }
+        ensures newest { IfSome result (λ hook. self.old ≡ H.hook_meaning hook ∷ self.new) }
+        ensures unchanged { IfNone result (self.new ≡ self.old) }
     {
-        self.hooks.pop().flatten()
+        self.hooks.pop()
     }
 
     /// Whether no hook waits.
     pub fn is_empty(&self) -> bool
-        ensures { IsTrue result ↔ (pending_hooks hook_meaning self.now ≡ []) }
+        ensures { IsTrue result ↔ (self.now ≡ []) }
     {
         self.hooks.is_empty()
     }

@@ -1,53 +1,22 @@
-ghost use Rattle.std.specs.Prelude.{◌≡◌, [], ◌∷◌, IfOk, min, ◌+◌, ◌-◌, ◌^◌};
-ghost use Rattle.reset_callbacks.specs.Hook.{Hook};
-
-use crate::{Pending, ResetHook, Shelf};
-use std::alloc::{AllocError, Global};
+use crate::{CountedHook, Pending, ResetHook, Shelf};
 use std::test::Fail;
-
-#[derive(Drop)]
-struct Counter {
-    word: u64,
-    runs: u64,
-}
-
-impl ResetHook for Counter {
-    ghost use Rattle.reset_callbacks.specs.Hook.{Hook};
-
-    ghost hook_meaning = { λ counter. record { word = counter.word; runs = counter.runs } };
-
-    fn word(&self) -> u64 {
-        self.word
-    }
-
-    fn run(&mut self) {
-        self.runs = self.runs.saturating_add(1);
-    }
-}
-
-fn boxed(alloc: Global, word: u64) -> Result<Box<dyn ResetHook>, AllocError>
-    ensures { IfOk result (λ hook. hook_meaning hook ≡ record { word = word; runs = 0 }) }
-{
-    Ok(Box::new(alloc, Counter { word, runs: 0 })?)
-}
 
 #[test]
 fn runs_are_counted(rt: HostRuntime) {
-    let mut hook = Counter { word: 7, runs: 0 };
+    let mut hook = CountedHook::new(7);
+    assert_eq!(rt; (hook.word(), hook.runs()), (7, 0));
     hook.run();
-    assert_eq!(rt; (hook.word(), hook.runs), (7, 1));
-    hook.runs = u64::MAX;
-    hook.run();
-    assert_eq!(rt; (hook.word(), hook.runs), (7, u64::MAX));
+    assert_eq!(rt; (hook.word(), hook.runs()), (7, 1));
 }
 
 #[test]
 fn pending_gives_the_newest(rt: HostRuntime) -> Result<(), Fail> {
-    let alloc = rt.alloc();
-    let mut pending = Pending::new(alloc);
+    let mut pending = Pending::new(rt.alloc());
     assert!(rt; pending.is_empty());
     for word in 1..4 {
-        pending.push(boxed(alloc, word)?).map_err(|_| "no memory")?;
+        pending
+            .push(CountedHook::new(word))
+            .map_err(|_| "no memory")?;
     }
     assert!(rt; !pending.is_empty());
     for word in [3, 2, 1] {
@@ -61,8 +30,8 @@ fn pending_gives_the_newest(rt: HostRuntime) -> Result<(), Fail> {
 fn take_gives_the_least(rt: HostRuntime) -> Result<(), Fail> {
     let alloc = rt.alloc();
     let mut fresh = Vec::new(alloc);
-    fresh.push(boxed(alloc, 3)?)?;
-    fresh.push(boxed(alloc, 5)?)?;
+    fresh.push(CountedHook::new(3))?;
+    fresh.push(CountedHook::new(5))?;
     let mut shelf = Shelf::new(alloc, fresh)?;
     assert_eq!(rt; (shelf.fresh(), shelf.spent()), (2, 0));
     let first = shelf.take().ok_or("no hook")?;

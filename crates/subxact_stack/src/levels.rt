@@ -31,7 +31,7 @@ impl Level {
         ensures { result ≡ is_named name.now self.now }
     {
         match self.name {
-            Some(own) => own.is(name),
+            Some(own) => own == *name,
             None => false,
         }
     }

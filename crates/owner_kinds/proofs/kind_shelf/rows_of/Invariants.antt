@@ -8,10 +8,6 @@ invariant-loop-kind g l =
     record {
       rows :
           l.rows.items
-          ≡ map
-          (λ kind.
-          row ((goal.ExtKind-dyn g (kind.vtable, kind.value)).kind_meaning kind.value).phase
-          ((goal.ExtKind-dyn g (kind.vtable, kind.value)).kind_meaning kind.value).priority)
-          (take l.kind-index l.kinds);
+          ≡ map (λ kind. row (g.K.ExtKind.kind_meaning kind).phase (g.K.ExtKind.kind_meaning kind).priority) (take l.kind-index l.kinds);
       places : All IsPlace l.rows.items;
     }

@@ -6,11 +6,11 @@ use Rattle.reset_callbacks.proofs.hook_shelf.least_word.Goals.{then-other-word, 
 pub loop-at-init : goal.loop-at-init
 loop-at-init g c =
     let within : 0 < length c.args.hooks.now = search arith in
-    so_far_start _ _ (number_of_read _ _ 0 _ _ within c.index-hooks-0.is c.word_of-word.ensures)
+    so_far_start _ _ (number_of_read _ _ 0 _ _ within c.index-hooks-0.is c.word-word.ensures)
 
 pub loop-at-preserved : goal.loop-at-preserved
 loop-at-preserved g c =
-    let read = number_of_read _ _ c.loop-at.at _ _ c.loop-at-test.true c.index-hooks-at.is c.word_of-other.ensures in
+    let read = number_of_read _ _ c.loop-at.at _ _ c.loop-at-test.true c.index-hooks-at.is c.word-other.ensures in
     elim c.if-other-word.branch [
       | then-other-word w ↦ rw (w.least-is, w.word-is) (so_far_smaller _ _ _ _ _ c.loop-at.invariant read w.if-other-word.true)
       | else-other-word w ↦ rw (w.least-is, w.word-is) (so_far_other _ _ _ _ _ c.loop-at.invariant read w.if-other-word.false)

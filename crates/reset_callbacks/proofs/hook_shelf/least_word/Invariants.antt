@@ -3,7 +3,4 @@ use Rattle.reset_callbacks.proofs.LeastSoFar.{IsLeastSoFar}
 use Rattle.reset_callbacks.proofs.hook_shelf.least_word.Given as goal
 
 abbrev pub invariant-loop-at : goal.invariant-loop-at
-invariant-loop-at g l =
-    IsLeastSoFar
-    (map (λ hook. ((goal.ResetHook-dyn g (hook.vtable, hook.value)).hook_meaning hook.value).word) l.hooks)
-    l.at l.least l.word
+invariant-loop-at g l = IsLeastSoFar (map (λ hook. (g.H.ResetHook.hook_meaning hook).word) l.hooks) l.at l.least l.word

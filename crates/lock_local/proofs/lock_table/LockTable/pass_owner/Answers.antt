@@ -1,23 +1,32 @@
-use Rattle.std.proofs.Common.{List, ap, ◌∙◌}
-use Rattle.lock_local.specs.Locks.{Lock, SessionLocks, is_held}
+use Rattle.std.proofs.Common.{◌≡◌, List, ap, ◌∙◌}
+use Rattle.lock_local.specs.Locks.{Lock, SessionLocks, total, is_held}
+use Rattle.lock_local.specs.Counts.{HoldsBoth, WholeStays}
 use Rattle.lock_local.proofs.ChangeLemmas.{fit_passed, is_held-passed}
-use Rattle.lock_local.proofs.CountLemmas.{counts_both, total_passed_by}
+use Rattle.lock_local.proofs.CountLemmas.{counts_both}
+use Rattle.lock_local.proofs.TotalLemmas.{wholes_passed, totals_passed}
+use Rattle.lock_local.proofs.CoverLemmas.{covers_passed, by_view}
 use Rattle.lock_local.proofs.lock_table.LockTable.pass_owner.Goals as goal
 
 pub invariant_of-self : goal.invariant_of-self
-invariant_of-self g c = fit_passed c.args.from.number c.args.to.number _ _ c.self.invariant c.pass_each.ensures.locks
+invariant_of-self g c = record {
+  fits = fit_passed c.args.from.number c.args.to.number _ _ c.self.invariant.fits c.pass_recalled.ensures.locks;
+  covers = covers_passed c.self.inside.recalled.items c.hand_on.new.recalled.items c.self.inside.locks.items c.pass_recalled.new.locks.items c.args.from.number c.args.to.number c.self.invariant.covers (counts_both c.args.from.number c.args.to.number _ _ c.pass_recalled.ensures.locks) c.hand_on.ensures.kept;
+}
 
 pub returns-clause-held : goal.returns-clause-held
 returns-clause-held g c = λ o m.
-    ap (λ (zs : List Lock). is_held zs o m) c.pass_each.ensures.locks
+    ap (λ (zs : List Lock). is_held zs o m) c.pass_recalled.ensures.locks
     ∙ is_held-passed c.args.from.number c.args.to.number c.self.inside.locks.items o m
     ∙ ap (λ (t : SessionLocks). is_held t.locks o m) c.self.view_is
 
 pub returns-clause-locks : goal.returns-clause-locks
-returns-clause-locks g c = (fit_passed c.args.from.number c.args.to.number _ _ c.self.invariant c.pass_each.ensures.locks).0
+returns-clause-locks g c = (fit_passed c.args.from.number c.args.to.number _ _ c.self.invariant.fits c.pass_recalled.ensures.locks).0
 
 pub returns-clause-counts : goal.returns-clause-counts
-returns-clause-counts g c = counts_both c.args.from.number c.args.to.number _ _ _ _ c.self.view_is c.pass_each.ensures.locks
+returns-clause-counts g c = by_view (λ (zs : List Lock). HoldsBoth zs c.pass_recalled.new.locks.items c.args.from.number c.args.to.number) _ _ _ c.self.view_is (counts_both c.args.from.number c.args.to.number _ _ c.pass_recalled.ensures.locks)
+
+pub returns-clause-wholes : goal.returns-clause-wholes
+returns-clause-wholes g c = by_view (λ (zs : List Lock). WholeStays zs c.pass_recalled.new.locks.items) _ _ _ c.self.view_is (wholes_passed c.args.from.number c.args.to.number _ _ c.pass_recalled.ensures.locks)
 
 pub returns-clause-total : goal.returns-clause-total
-returns-clause-total g c = total_passed_by c.args.from.number c.args.to.number _ _ _ _ c.self.view_is c.pass_each.ensures.locks
+returns-clause-total g c = by_view (λ (zs : List Lock). total c.pass_recalled.new.locks.items ≡ total zs) _ _ _ c.self.view_is (totals_passed c.args.from.number c.args.to.number _ _ c.pass_recalled.ensures.locks)

@@ -1,25 +1,30 @@
-use Rattle.std.proofs.Common.{List, ap, sym, ◌∙◌}
-use Rattle.lock_local.specs.Locks.{Lock, is_held}
-use Rattle.lock_local.proofs.ChangeLemmas.{fit_released, is_held-filter, agrees_by}
-use Rattle.lock_local.proofs.CountLemmas.{counts_released, total_released_by}
+use Rattle.std.proofs.Common.{◌≡◌, ◌+◌, List, refl, map}
+use Rattle.lock_local.specs.Locks.{Lock, total, owner_total}
+use Rattle.lock_local.specs.Counts.{HoldsNothing, WholeLess}
+use Rattle.lock_local.specs.Changes.{without}
+use Rattle.lock_local.proofs.ChangeLemmas.{agrees_by, fit_released}
+use Rattle.lock_local.proofs.CountLemmas.{counts_released}
+use Rattle.lock_local.proofs.TotalLemmas.{wholes_released, totals_released}
+use Rattle.lock_local.proofs.CoverLemmas.{covers_released, by_view}
 use Rattle.lock_local.proofs.lock_table.LockTable.release_owner.Goals as goal
 
-pub give_up_each-requires-clause-agrees : goal.give_up_each-requires-clause-agrees
-give_up_each-requires-clause-agrees g c = agrees_by _ _ _ c.self.view_is c.requires
+pub give_up_recalled-requires-clause-agrees : goal.give_up_recalled-requires-clause-agrees
+give_up_recalled-requires-clause-agrees g c = agrees_by _ _ _ c.self.view_is c.requires
 
 pub invariant_of-self : goal.invariant_of-self
-invariant_of-self g c = fit_released c.args.owner.number _ _ _ c.self.invariant c.give_up_each.ensures.locks c.keep_held.ensures
-
-pub returns-clause-agrees : goal.returns-clause-agrees
-returns-clause-agrees g c = λ o m.
-    c.give_up_each.ensures.agrees o m
-    ∙ sym (ap (λ (zs : List Lock). is_held zs o m) c.keep_held.ensures ∙ is_held-filter c.give_up_each.new.locks.items o m)
-
-pub returns-clause-locks : goal.returns-clause-locks
-returns-clause-locks g c = (fit_released c.args.owner.number _ _ _ c.self.invariant c.give_up_each.ensures.locks c.keep_held.ensures).0
+invariant_of-self g c = record {
+  fits = fit_released c.args.owner.number c.self.inside.locks.items (map (without c.args.owner.number) c.self.inside.locks.items) _ c.self.invariant.fits refl c.give_up_recalled.ensures.locks;
+  covers = covers_released c.self.inside.recalled.items c.take_out.new.recalled.items c.self.inside.locks.items c.give_up_recalled.new.locks.items c.args.owner.number c.self.invariant.covers (counts_released c.args.owner.number c.self.inside.locks.items c.give_up_recalled.new.locks.items c.give_up_recalled.ensures.locks) c.take_out.ensures.kept;
+}
 
 pub returns-clause-counts : goal.returns-clause-counts
-returns-clause-counts g c = counts_released c.args.owner.number _ _ _ _ _ c.self.view_is c.give_up_each.ensures.locks c.keep_held.ensures
+returns-clause-counts g c = by_view (λ (zs : List Lock). HoldsNothing zs c.give_up_recalled.new.locks.items c.args.owner.number) _ _ _ c.self.view_is (counts_released c.args.owner.number c.self.inside.locks.items c.give_up_recalled.new.locks.items c.give_up_recalled.ensures.locks)
+
+pub returns-clause-wholes : goal.returns-clause-wholes
+returns-clause-wholes g c = by_view (λ (zs : List Lock). WholeLess zs c.give_up_recalled.new.locks.items c.args.owner.number) _ _ _ c.self.view_is (wholes_released c.args.owner.number c.self.inside.locks.items c.give_up_recalled.new.locks.items c.give_up_recalled.ensures.locks)
 
 pub returns-clause-total : goal.returns-clause-total
-returns-clause-total g c = total_released_by c.args.owner.number _ _ _ _ _ c.self.view_is c.give_up_each.ensures.locks c.keep_held.ensures
+returns-clause-total g c = by_view (λ (zs : List Lock). total c.give_up_recalled.new.locks.items + owner_total c.args.owner.number zs ≡ total zs) _ _ _ c.self.view_is (totals_released c.args.owner.number c.self.inside.locks.items c.give_up_recalled.new.locks.items c.give_up_recalled.ensures.locks)
+
+pub returns-clause-locks : goal.returns-clause-locks
+returns-clause-locks g c = (fit_released c.args.owner.number c.self.inside.locks.items (map (without c.args.owner.number) c.self.inside.locks.items) _ c.self.invariant.fits refl c.give_up_recalled.ensures.locks).0

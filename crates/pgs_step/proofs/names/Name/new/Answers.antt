@@ -1,5 +1,5 @@
 use Rattle.std.proofs.Common.{rules}
-use Rattle.pgs_step.proofs.NameLemmas.{kept_name}
+use Rattle.pgs_step.proofs.KeptLemmas.{kept_name}
 use Rattle.pgs_step.proofs.names.Name.new.Goals as goal
 
 pub invariant_of-result : goal.invariant_of-result

@@ -1,14 +1,17 @@
-use Rattle.std.proofs.Common.{refl}
-use Rattle.reset_callbacks.specs.ShelfState.{shelf_state}
-use Rattle.reset_callbacks.proofs.ShelfSteps.{put_first, same_state, differ_returned}
+use Rattle.std.proofs.Common.{rules}
+use Rattle.reset_callbacks.proofs.ShelfSteps.{returned_is, differ_now, differ_returned}
 use Rattle.reset_callbacks.proofs.hook_shelf.Shelf.put_back.Goals as goal
 
 pub returns-clause-after : goal.returns-clause-after
 returns-clause-after g c =
-    same_state _ _ _ _ _ _
-    (put_first c.args.self.now.fresh.items _ c.args.hook (λ hook. (goal.ResetHook-dyn g (hook.vtable, hook.value)).hook_meaning hook.value) c.push_reserved.ensures.items c.requires.below)
-    refl refl
+    returned_is g.H.ResetHook.hook_meaning c.self.inside.fresh.items c.push_reserved.new.self.items c.self.inside.spent.items c.self.inside.out c.args.hook c.args.self.now c.self.view_is
+    c.requires.below c.push_reserved.ensures.items
 
 pub returns-clause-words_differ : goal.returns-clause-words_differ
 returns-clause-words_differ g c =
-    differ_returned (shelf_state (λ hook. (goal.ResetHook-dyn g (hook.vtable, hook.value)).hook_meaning hook.value) c.args.self.now) _ _ (returns-clause-after g c) c.requires.other_word
+    differ_returned c.args.self.now _ _ (returns-clause-after g c) c.requires.other_word
+    (differ_now g.H.ResetHook.hook_meaning c.self.inside.fresh.items c.self.inside.spent.items c.self.inside.out _ c.self.view_is c.self.invariant.words_differ)
+
+pub invariant_of-self : goal.invariant_of-self
+invariant_of-self g c =
+    record { fresh_room = search rules; spent_room = search rules; words_differ = returns-clause-words_differ g c }

@@ -1,0 +1,68 @@
+use Rattle.std.proofs.Common.{◌≡◌, ◌<◌, get_or, List, filter, map, set, ap, sym, ◌∙◌, arith, refl}
+use Rattle.std.specs.Bool.{MatchBool}
+use Rattle.std.specs.Prelude.{All, false}
+use Rattle.std.proofs.lemmas.List.Elements.{All-get_or}
+use Rattle.lock_shared.specs.Holdings.{Sets}
+use Rattle.lock_local.specs.Locks.{Lock, owner_count, has_owner, is_held}
+use Rattle.lock_local.specs.Changes.{counted_down}
+use Rattle.lock_local.proofs.ChangeLemmas.{no_lock, down, down_over, down_agrees, count_at, count_missing, is_held-filter, freed_yes, freed_no, stands, would_stand, WellCounted}
+use Rattle.lock_local.proofs.OwnerLemmas.{Counted}
+use Rattle.lock_local.proofs.CountLemmas.{counted_there, counts_lowered}
+use Rattle.lock_local.proofs.TotalLemmas.{wholes_lowered, totals_lowered}
+use Rattle.lock_local.proofs.counting.count_down.Goals as goal
+use Rattle.lock_local.proofs.counting.count_down.Goals.{then-not-has_owner, else-not-has_owner}
+
+-- what the lock at its place becomes
+lower : (c : goal.After-keep_if_held) → set c.args.locks.now.items c.in-Ok.at c.count_down.new.self ≡ map (down c.args.owner c.args.object c.args.mode) c.args.locks.now.items
+lower c =
+    down_over c.args.owner c.args.object c.args.mode c.args.locks.now.items c.in-Ok.at c.index_mut-lock.result.now c.count_down.new.self c.requires.locks.in_order
+    (stands _ _ _ _ _ _ c.as_slice.ensures.value (c.in-Ok.ensures c.index_mut-lock.result.now)) c.index_mut-lock.ensures.value c.count_down.ensures
+
+-- what is shared, by whether an owner is left
+freed : (c : goal.After-keep_if_held) → MatchBool (has_owner c.count_down.new.self) (c.if-not-has_owner.shared ≡ c.args.shared.now) (Sets c.args.shared.now c.if-not-has_owner.shared c.args.object c.args.mode c.args.session false)
+freed c =
+    elim c.if-not-has_owner.branch [
+      | then-not-has_owner w ↦ freed_yes _ _ _ _ _ _ _ w.if-not-has_owner.ensures w.drop_grant.ensures w.shared-is
+      | else-not-has_owner w ↦ freed_no _ _ _ _ _ _ w.if-not-has_owner.ensures w.shared-is
+    ]
+
+pub returns-in_default-clause-answer : goal.returns-in_default-clause-answer
+returns-in_default-clause-answer c = sym (count_missing c.args.locks.now.items c.in_default.field-0 no_lock c.args.object c.args.mode c.args.owner c.requires.locks.in_order (would_stand _ _ _ _ _ _ c.as_slice.ensures.value (c.in_default.ensures no_lock)))
+
+pub index-requires : goal.index-requires
+index-requires c = omega (arith, (c.in-Ok.ensures no_lock).within, c.as_slice.ensures.len)
+
+pub returns-then-count-eq0-clause-answer : goal.returns-then-count-eq0-clause-answer
+returns-then-count-eq0-clause-answer c =
+    sym (count_at c.args.locks.now.items c.in-Ok.at c.index.result.now c.args.object c.args.mode c.args.owner c.requires.locks.in_order (stands _ _ _ _ _ _ c.as_slice.ensures.value (c.in-Ok.ensures c.index.result.now))
+    ∙ ap (owner_count c.args.owner) (sym c.index.ensures) ∙ sym c.count-count.ensures ∙ c.if-count-eq0.true)
+
+pub returns-clause-answer : goal.returns-clause-answer
+returns-clause-answer c =
+    sym (count_at c.args.locks.now.items c.in-Ok.at c.index.result.now c.args.object c.args.mode c.args.owner c.requires.locks.in_order (stands _ _ _ _ _ _ c.as_slice.ensures.value (c.in-Ok.ensures c.index.result.now))
+    ∙ ap (owner_count c.args.owner) (sym c.index.ensures) ∙ sym c.count-count.ensures)
+
+pub returns-clause-held : goal.returns-clause-held
+returns-clause-held c = λ _. c.keep_if_held.ensures ∙ ap (filter has_owner) (lower c)
+
+pub returns-clause-agrees : goal.returns-clause-agrees
+returns-clause-agrees c = λ o m.
+    down_agrees c.args.owner c.args.object c.args.mode c.args.locks.now.items c.in-Ok.at c.index_mut-lock.result.now c.count_down.new.self c.args.session c.args.shared.now c.if-not-has_owner.shared c.requires.locks
+    (stands _ _ _ _ _ _ c.as_slice.ensures.value (c.in-Ok.ensures c.index_mut-lock.result.now)) (c.count_down.ensures ∙ ap (counted_down c.args.owner) c.index_mut-lock.ensures.value) (freed c) c.requires.agrees o m
+    ∙ sym (ap (λ (zs : List Lock). is_held zs o m) c.keep_if_held.ensures ∙ is_held-filter (set c.args.locks.now.items c.in-Ok.at c.count_down.new.self) o m)
+
+-- the count that was read, at the lock that is lowered
+some : (c : goal.After-keep_if_held) → 0 < owner_count c.args.owner (get_or c.args.locks.now.items c.in-Ok.at c.index_mut-lock.result.now)
+some c = counted_there c.args.owner c.count-count.result c.args.locks.now.items c.in-Ok.at c.index.result.now c.index_mut-lock.result.now (stands _ _ _ _ _ _ c.as_slice.ensures.value (c.in-Ok.ensures no_lock)).within c.index.ensures c.count-count.ensures c.if-count-eq0.false
+
+counted : (c : goal.After-keep_if_held) → All Counted (get_or c.args.locks.now.items c.in-Ok.at c.index_mut-lock.result.now).owners
+counted c = All-get_or WellCounted c.args.locks.now.items c.in-Ok.at c.index_mut-lock.result.now (stands _ _ _ _ _ _ c.as_slice.ensures.value (c.in-Ok.ensures no_lock)).within c.requires.locks.counted
+
+pub returns-clause-counts : goal.returns-clause-counts
+returns-clause-counts c = λ _. counts_lowered c.args.owner c.args.object c.args.mode c.args.locks.now.items _ _ c.in-Ok.at c.index_mut-lock.result.now c.count_down.new.self (stands _ _ _ _ _ _ c.as_slice.ensures.value (c.in-Ok.ensures c.index_mut-lock.result.now)) (c.count_down.ensures ∙ ap (counted_down c.args.owner) c.index_mut-lock.ensures.value) (counted c) (some c) refl c.keep_if_held.ensures
+
+pub returns-clause-wholes : goal.returns-clause-wholes
+returns-clause-wholes c = λ _. wholes_lowered c.args.owner c.args.object c.args.mode c.args.locks.now.items _ _ c.in-Ok.at c.index_mut-lock.result.now c.count_down.new.self (stands _ _ _ _ _ _ c.as_slice.ensures.value (c.in-Ok.ensures c.index_mut-lock.result.now)) (c.count_down.ensures ∙ ap (counted_down c.args.owner) c.index_mut-lock.ensures.value) (counted c) (some c) refl c.keep_if_held.ensures
+
+pub returns-clause-total : goal.returns-clause-total
+returns-clause-total c = λ _. totals_lowered c.args.owner c.args.locks.now.items _ _ c.in-Ok.at c.index_mut-lock.result.now c.count_down.new.self (stands _ _ _ _ _ _ c.as_slice.ensures.value (c.in-Ok.ensures no_lock)).within (c.count_down.ensures ∙ ap (counted_down c.args.owner) c.index_mut-lock.ensures.value) (counted c) (some c) refl c.keep_if_held.ensures

@@ -1,0 +1,14 @@
+use Rattle.std.proofs.Common.{◌≡◌, ℕ, ◌-◌, ◌<◌, ◌≤◌, true, false, length, get_or}
+use Rattle.lock_local.specs.Locks.{Lock, comes_before}
+use Rattle.lock_local.proofs.places.find.Given as goal
+
+abbrev pub invariant-loop-low : goal.invariant-loop-low
+invariant-loop-low l = record {
+  ordered : l.low ≤ l.high;
+  within : l.high ≤ length l.locks;
+  front : (k : ℕ) (d : Lock) → k < l.low → comes_before (get_or l.locks k d).object (get_or l.locks k d).mode l.object l.mode ≡ true;
+  back : (k : ℕ) (d : Lock) → l.high ≤ k → k < length l.locks → comes_before (get_or l.locks k d).object (get_or l.locks k d).mode l.object l.mode ≡ false;
+}
+
+abbrev pub decreases-loop-low : goal.decreases-loop-low
+decreases-loop-low l = l.high - l.low

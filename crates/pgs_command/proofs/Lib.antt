@@ -1,0 +1,4 @@
+pub mod ValueLemmas
+pub mod WordLemmas
+pub mod TableLemmas
+pub mod LineLemmas

@@ -1,0 +1,49 @@
+-- The first word of a text, and the words behind it.
+use Rattle.std.proofs.Common.{◌≡◌, ◌≢◌, ℕ, ◌<◌, ◌≤◌, ◌==◌, Bool, true, false, List, [], ◌∷◌, length, take, refl, sym, ◌∙◌, ap, subst, arith}
+use Rattle.std.specs.Prelude.{All, min}
+use Rattle.std.specs.List.{before_first, after_first, slice_split, position_or_len, onto_first}
+use Rattle.std.proofs.lemmas.Bool.Decides.{nat_tests}
+use Rattle.std.proofs.lemmas.List.{length-take, take_all}
+use Rattle.std.proofs.lemmas.List.Elements.{All-weaker}
+use Rattle.std.proofs.lemmas.List.Splits.{slice_split_first, slice_split_none}
+use Rattle.std.proofs.Common.{Option, None, cond}
+use Rattle.pgs_command.specs.Words.{words_of, alone}
+
+abbrev is_space : ℕ → Bool
+is_space b = b == 32
+
+not_space : (b : ℕ) → b ≢ 32 → is_space b ≡ false
+not_space b h = grind (arith, nat_tests)
+
+-- a word that ends before its text does is followed by the words behind the space
+pub words_of-first : (text word rest : List ℕ) → word ≡ before_first (λ b. b == 32) text → rest ≡ after_first (λ b. b == 32) text → length word < length text
+    → words_of text ≡ word ∷ words_of rest
+unfolding words_of
+words_of-first text word rest w r short =
+    let n = position_or_len is_space text in
+    let cut : length word ≡ min n (length text) = ap length w ∙ length-take n text in
+    slice_split_first is_space text 0 (omega arith) ∙ rw (w, r) refl
+
+-- a word that is the whole text is the only one
+pub words_of-last : (text word : List ℕ) → word ≡ before_first (λ b. b == 32) text → All (λ b. b ≢ 32) word → length text ≤ length word → words_of text ≡ word ∷ []
+unfolding words_of
+words_of-last text word w none long =
+    let n = position_or_len is_space text in
+    let cut : length word ≡ min n (length text) = ap length w ∙ length-take n text in
+    let whole : word ≡ text = w ∙ take_all n text (omega arith) in
+    let clear : All (λ b. is_space b ≡ false) word = All-weaker (λ b. b ≢ 32) (λ b. is_space b ≡ false) not_space word none in
+    slice_split_none is_space text (subst (All (λ b. is_space b ≡ false)) whole clear) ∙ ap (λ z. z ∷ []) (sym whole)
+
+-- a text has a word
+parts_some : {A : Type 0} (value : A) (parts : List (List ℕ)) (x : ℕ) → None ≡ alone value (onto_first x parts)
+parts_some value [] x = refl
+parts_some value (part ∷ parts) x = refl
+
+cut_some : {A : Type 0} (value : A) (cut : Bool) (xs : List (List ℕ)) (x : ℕ) → None ≡ alone value (cond cut ([] ∷ xs) (onto_first x xs))
+cut_some value true xs x = refl
+cut_some value false xs x = parts_some value xs x
+
+pub alone-words_of : {A : Type 0} (value : A) (text : List ℕ) → None ≡ alone value (words_of text)
+unfolding words_of
+alone-words_of value [] = refl
+alone-words_of value (b ∷ bs) = cut_some value (is_space b) (slice_split is_space bs) b

@@ -1,0 +1,14 @@
+//! The lines of a script: what each of them asks for.
+#![tactic(auto)]
+
+mod commands;
+mod kinds;
+mod lines;
+mod picks;
+mod rows;
+mod values;
+mod words;
+
+pub use commands::Command;
+pub use kinds::{ContextKind, ReferenceClass};
+pub use lines::{BadLine, Line, parse_line};
