@@ -5,3 +5,4 @@ pub mod Neighbours
 pub mod Seen
 pub mod Calls
 pub mod Walks
+pub mod Mapped

@@ -94,3 +94,18 @@ module _ {A : Type 0} where
   -- the forest with the node of the first number, and all below it, as the first child of the second one
   abbrev pub moved : ℕ → ℕ → Forest A → Forest A
   moved n p t = option_map_or (λ a. put p n a (children n t) (removed n t)) (at n t) t
+
+  -- the node of this number with all below it, alone
+  abbrev pub subtree : ℕ → Forest A → Forest A
+  subtree n t = option_map_or (λ a. Node n a (children n t) Empty) (at n t) Empty
+
+  -- each node's data is so
+  abbrev pub AllNodes : (A → Type 0) → Forest A → Type 0
+  AllNodes P Empty = Unit {0}
+  AllNodes P (Node k a below beside) = P a × AllNodes P below × AllNodes P beside
+
+module _ {A B : Type 0} where
+  -- the forest with other data at each node
+  abbrev pub mapped : (A → B) → Forest A → Forest B
+  mapped f Empty = Empty
+  mapped f (Node k a below beside) = Node k (f a) (mapped f below) (mapped f beside)

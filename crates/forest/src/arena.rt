@@ -204,6 +204,8 @@ impl<T> LinkedForest<T> {
         requires { IsPlaced self.now id }
         ensures number { result.number ≡ lead id.number (children id.number self.now.forest) }
         ensures placed { IsPlaced self.now result }
+        ensures stands { has id.number self.now.forest ≡ true }
+        ensures once { Once self.now.forest }
     {
         let _ = &self.nodes;
         let mut leaf = id;
