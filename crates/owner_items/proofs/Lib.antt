@@ -1,4 +1,5 @@
 pub mod KindRows
 pub mod NewestFirst
 pub mod NextSoFar
+pub mod Order
 pub mod Taken

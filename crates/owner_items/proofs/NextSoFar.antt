@@ -1,9 +1,7 @@
 -- The search for the item that is released next, part of the way.
-use Rattle.std.proofs.Common.{◌≡◌, ℕ, ◌+◌, ◌<◌, ◌≤◌, zero, suc, Bool, true, false, not, ◌&&◌, ◌||◌, nat_le, List, [], ◌∷◌, length, get_or, Option, Some, None, MatchOption, IsTrue, IsNone, reverse, ◌++◌, is_some, is_none, ◌⊎◌, inl, inr, refl, sym, ◌∙◌, ap, below_more, arith}
-use Rattle.std.specs.List.{list_all}
-use Rattle.std.proofs.lemmas.Grind.{reverse_onto}
+use Rattle.std.proofs.Common.{◌≡◌, ℕ, ◌+◌, ◌<◌, ◌≤◌, Bool, true, false, not, ◌&&◌, ◌||◌, nat_le, List, length, get_or, Option, Some, None, MatchOption, IsTrue, is_some, is_none, ◌⊎◌, inl, inr, refl, sym, ◌∙◌, ap, below_more, arith}
 use Rattle.std.proofs.lemmas.List.{get_or_default}
-use Rattle.owner_items.specs.Newest.{FindsNewest, NonePasses}
+use Rattle.owner_items.specs.Newest.{FindsNewest, FindsNext}
 use Rattle.pgs_step.specs.declared.ids.Item.{Item}
 
 -- among the first n items none passes the test
@@ -96,79 +94,6 @@ next_passed test rank items n (Some place) low next worse =
       later = λ k d behind below yes. after k below d behind yes;
     }
 
--- the test of the whole list: the item passes, and no other that passes has a lower rank
-abbrev pub goes_next : (Item → Bool) → (Item → ℕ) → List Item → Item → Bool
-goes_next test rank items item = test item && list_all (λ other. not (test other) || nat_le (rank item) (rank other)) items
-
-list_all-append : (p : Item → Bool) (xs ys : List Item) → list_all p (xs ++ ys) ≡ (list_all p xs && list_all p ys)
-list_all-append p [] ys = refl
-list_all-append p (x ∷ xs) ys = grind (arith, list_all-append p xs ys)
-
-list_all-reverse : (p : Item → Bool) (xs : List Item) → list_all p (reverse xs) ≡ list_all p xs
-list_all-reverse p [] = refl
-list_all-reverse p (x ∷ xs) =
-    rw (reverse_onto xs x [], list_all-append p (reverse xs) (x ∷ []), list_all-reverse p xs) (grind arith)
-
-all_pass : (p : Item → Bool) (xs : List Item) → ((k : ℕ) (d : Item) → k < length xs → p (get_or xs k d) ≡ true) → list_all p xs ≡ true
-all_pass p [] each = refl
-all_pass p (x ∷ xs) each =
-    let first : p x ≡ true = each 0 x (omega arith) in
-    let rest : list_all p xs ≡ true = all_pass p xs (λ k d below. each (suc k) d (omega arith)) in
-    grind (arith, first, rest)
-
-one_fails : (p : Item → Bool) (xs : List Item) (k : ℕ) (d : Item) → k < length xs → p (get_or xs k d) ≡ false → list_all p xs ≡ false
-one_fails p [] k d below fails = absurd (omega arith)
-one_fails p (x ∷ xs) zero d below fails = grind (arith, fails)
-one_fails p (x ∷ xs) (suc k) d below fails = grind (arith, one_fails p xs k d (omega arith) fails)
-
-no_test : (test : Item → Bool) (rank : Item → ℕ) (all : List Item) (x : Item) → test x ≡ false → goes_next test rank all x ≡ false
-no_test test rank all x fails = grind (arith, fails)
-
-both : (a b : Bool) → a ≡ true → b ≡ true → (a && b) ≡ true
-both a b holds also = grind (arith, holds, also)
-
-second_fails : (a b : Bool) → b ≡ false → (a && b) ≡ false
-second_fails a b fails = grind (arith, fails)
-
-not_lower : (t : Bool) (a b : ℕ) → (t ≡ true → a ≤ b) → (not t || nat_le a b) ≡ true
-not_lower true a b low = let below : a ≤ b = low refl in grind arith
-not_lower false a b low = refl
-
-is_lower : (t : Bool) (a b : ℕ) → t ≡ true → b < a → (not t || nat_le a b) ≡ false
-is_lower t a b holds low = grind (arith, holds)
-
-by_test : (a b : Bool) → (a ≡ true → b ≡ false) → (a && b) ≡ false
-by_test true b fails = fails refl
-by_test false b fails = refl
-
-passes_all :
-    (test : Item → Bool) (rank : Item → ℕ) (items : List Item) (n place low : ℕ) → IsNextYet test rank items n place low →
-    n ≡ length items → (d : Item) → goes_next test rank (reverse items) (get_or items place d) ≡ true
-passes_all test rank items n place low next all d =
-    let x = get_or items place d in
-    let none_lower : Item → Bool = λ other. not (test other) || nat_le (rank x) (rank other) in
-    let each : list_all none_lower items ≡ true =
-    all_pass none_lower items
-    (λ k e below.
-    not_lower (test (get_or items k e)) (rank x) (rank (get_or items k e))
-    (λ yes. omega (arith, next.is d, next.least k e (omega arith) yes)))
-    in
-    both (test x) (list_all none_lower (reverse items)) (next.passes d) (list_all-reverse none_lower items ∙ each)
-
-later_fails :
-    (test : Item → Bool) (rank : Item → ℕ) (items : List Item) (n place low : ℕ) → IsNextYet test rank items n place low →
-    n ≡ length items → (k : ℕ) (d : Item) → place < k → k < length items →
-    goes_next test rank (reverse items) (get_or items k d) ≡ false
-later_fails test rank items n place low next all k d after below =
-    let x = get_or items k d in
-    let none_lower : Item → Bool = λ other. not (test other) || nat_le (rank x) (rank other) in
-    by_test (test x) (list_all none_lower (reverse items))
-    (λ yes.
-    list_all-reverse none_lower items
-    ∙ one_fails none_lower items place d (omega (arith, next.within))
-    (is_lower (test (get_or items place d)) (rank x) (rank (get_or items place d)) (next.passes d)
-    (omega (arith, next.is d, next.later k d after (omega arith) yes))))
-
 pub newest_all :
     (test : Item → Bool) (items : List Item) (n : ℕ) (found : Option ℕ) →
     NextYet test (λ _. 0) items n found 0 → n ≡ length items → FindsNewest test items found
@@ -185,30 +110,15 @@ newest_all test items n (Some place) next all =
 
 pub next_all :
     (test : Item → Bool) (rank : Item → ℕ) (items : List Item) (n : ℕ) (found : Option ℕ) (low : ℕ) →
-    NextYet test rank items n found low → n ≡ length items →
-    FindsNewest (goes_next test rank (reverse items)) items found
-next_all test rank items n None low none all =
-    λ k d below. no_test test rank (reverse items) (get_or items k d) (none k d (omega arith))
+    NextYet test rank items n found low → n ≡ length items → FindsNext test rank items found
+next_all test rank items n None low none all = λ k d below. none k d (omega arith)
 next_all test rank items n (Some place) low next all =
     record {
       within = omega (arith, next.within);
-      passes = λ d. passes_all test rank items n place low next all d;
-      later = λ k d after below. later_fails test rank items n place low next all k d after below;
+      passes = next.passes;
+      least = λ k d below yes. omega (arith, next.is d, next.least k d (omega arith) yes);
+      later = λ k d after below yes. omega (arith, next.is d, next.later k d after (omega arith) yes);
     }
-
-pub none_all :
-    (test : Item → Bool) (rank : Item → ℕ) (items : List Item) (n : ℕ) (found : Option ℕ) (low : ℕ) →
-    NextYet test rank items n found low → n ≡ length items →
-    (IsNone found → NonePasses test items) × (NonePasses test items → IsNone found)
-none_all test rank items n None low none all = (λ _. λ k d below. none k d (omega arith), λ _. refl)
-none_all test rank items n (Some place) low next all = (
-  λ never. absurd cc,
-  λ none.
-      absurd
-      (let passes : test (get_or items place no_item) ≡ true = next.passes no_item in
-      let fails : test (get_or items place no_item) ≡ false = none place no_item (omega (arith, next.within)) in
-      cc),
-)
 
 at_any : {Y : Type 0} (f : Item → Y) (items : List Item) (n : ℕ) (d : Item) → n < length items → f (get_or items n d) ≡ f (get_or items n no_item)
 at_any f items n d within = ap f (get_or_default items n d no_item within)

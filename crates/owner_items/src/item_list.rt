@@ -1,16 +1,19 @@
-ghost use Rattle.std.specs.Prelude.{◌≡◌, ◌+◌, ◌<◌, ◌≤◌, [], ◌∷◌, false, ◌&&◌, ◌||◌, nat_le, length, reverse, find, All, OnOk, OnErr, IfNone, IsNone, ◌↔◌};
-ghost use Rattle.owner_items.specs.ItemList.{is_of, without_newest};
-ghost use Rattle.owner_items.specs.Newest.{FindsNewest, NonePasses};
-ghost use Rattle.owner_items.specs.Next.{is_next, is_of_phase, priority};
+ghost use Rattle.std.specs.Prelude.{◌≡◌, ◌+◌, ◌<◌, ◌≤◌, [], ◌∷◌, ◌++◌, ◌&&◌, ◌||◌, nat_le, length, find, All, OnOk, OnErr, IfSome, IfNone, IsNone, ◌↔◌};
+ghost use Rattle.std.specs.Option.{option_to_list};
+ghost use Rattle.owner_items.specs.ItemList.{AreFalling, is_of, without_newest, without_serial};
+ghost use Rattle.owner_items.specs.Newest.{FindsNewest, FindsNext};
+ghost use Rattle.owner_items.specs.Next.{is_of_phase, priority, release_order, items_left};
 ghost use Rattle.owner_kinds.specs.KindShelf.{table_of};
 ghost use Rattle.owner_kinds.specs.KindTable.{IsKind};
 
-use owner_kinds::KindShelf;
+use owner_kinds::{ExtKind, KindShelf};
 use pgs_step::{Item, KindId, Phase};
 use std::alloc::{AllocError, Global};
 use std::marker::Model;
 
 /// The items that one owner remembers: the array and the hash table of PostgreSQL's `ResourceOwner`.
+///
+/// Contracts see the list of the items, newest first. Their serials fall along it.
 #[derive(Drop)]
 pub struct Items {
     // The newest is the last.
@@ -19,11 +22,13 @@ pub struct Items {
 
 impl Model for Items {
     ghost use Rattle.std.specs.Prelude.{◌-◌, reverse, vec_len, vec_capacity};
-    ghost use Rattle.owner_items.specs.ItemList.{ItemList};
+    ghost use Rattle.owner_items.specs.ItemList.{AreFalling, ItemList};
 
     ghost Value = { ItemList };
 
     ghost view = { λ s. record { items = reverse s.items.items; spare = vec_capacity s.items - vec_len s.items } };
+
+    ghost invariant = { λ s. AreFalling (reverse s.items.items) };
 }
 
 impl Items {
@@ -38,14 +43,17 @@ impl Items {
 
     /// How many more items may be remembered without memory.
     pub fn spare(&self) -> usize
-        ensures { result ≡ self.now.spare }
+        ensures spare { result ≡ self.now.spare }
+        ensures falling { AreFalling self.now.items }
     {
-        self.items.capacity() - self.items.len()
+        let items = &self.items;
+        items.capacity() - items.len()
     }
 
     /// How many items are remembered.
     pub fn len(&self) -> usize
-        ensures { result ≡ length self.now.items }
+        ensures count { result ≡ length self.now.items }
+        ensures falling { AreFalling self.now.items }
     {
         self.items.len()
     }
@@ -55,6 +63,7 @@ impl Items {
         ensures ok { OnOk result (1 ≤ self.new.spare) }
         ensures items { self.new.items ≡ self.old.items }
         ensures err { OnErr result (self.new ≡ self.old) }
+        ensures falling { AreFalling self.new.items }
     {
         self.items.reserve(1)
     }
@@ -65,6 +74,7 @@ impl Items {
         requires newest { All (λ other. other.serial < item.serial) self.old.items }
         ensures items { self.new.items ≡ item ∷ self.old.items }
         ensures spare { self.old.spare ≤ self.new.spare + 1 }
+        ensures falling { AreFalling self.new.items }
     {
         self.items.push_reserved(item);
     }
@@ -73,7 +83,9 @@ impl Items {
     pub fn forget(&mut self, kind: KindId, key: u32) -> Option<Item>
         ensures newest { result ≡ find (is_of kind key) self.old.items }
         ensures rest { self.new.items ≡ without_newest (is_of kind key) self.old.items }
-        ensures unchanged { IfNone result (self.new.items ≡ self.old.items) }
+        ensures spare { self.old.spare ≤ self.new.spare }
+        ensures unchanged { IfNone result (self.new ≡ self.old) }
+        ensures falling { AreFalling self.new.items }
     {
         let place = newest_of(&self.items, kind, key)?;
         Some(self.items.remove(place))
@@ -81,12 +93,17 @@ impl Items {
 
     /// Takes the item that is released next in this phase, if any is left: of those with the lowest
     /// priority number the newest.
-    pub fn take_next(&mut self, kinds: &KindShelf, phase: Phase) -> Option<Item>
+    pub fn take_next<K: ExtKind>(&mut self, kinds: &KindShelf<K>, phase: Phase) -> Option<Item>
         requires { All (λ item. IsKind (table_of kinds.now) item.kind) self.old.items }
-        ensures none { IsNone result ↔ All (λ item. is_of_phase (table_of kinds.now) phase item ≡ false) self.old.items }
-        ensures next { result ≡ find (is_next (table_of kinds.now) phase self.old.items) self.old.items }
-        ensures rest { self.new.items ≡ without_newest (is_next (table_of kinds.now) phase self.old.items) self.old.items }
-        ensures unchanged { IfNone result (self.new.items ≡ self.old.items) }
+        ensures none { IsNone result ↔ (release_order (table_of kinds.now) phase self.old.items ≡ []) }
+
+        // So calls until the first None take the items in just that order.
+        ensures order { release_order (table_of kinds.now) phase self.old.items ≡ option_to_list result ++ release_order (table_of kinds.now) phase self.new.items }
+        ensures rest { IfSome result (λ item. self.new.items ≡ without_serial item.serial self.old.items) }
+        ensures left { items_left (table_of kinds.now) phase self.new.items ≡ items_left (table_of kinds.now) phase self.old.items }
+        ensures unchanged { IfNone result (self.new ≡ self.old) }
+        ensures kinds { All (λ item. IsKind (table_of kinds.now) item.kind) self.new.items }
+        ensures falling { AreFalling self.new.items }
     {
         let place = next_of(&self.items, kinds, phase)?;
         Some(self.items.remove(place))
@@ -113,10 +130,9 @@ fn is_item_of(item: &Item, kind: KindId, key: u32) -> bool
 }
 
 // The place of the item that is released next in this phase.
-fn next_of(items: &[Item], kinds: &KindShelf, phase: Phase) -> Option<usize>
+fn next_of<K: ExtKind>(items: &[Item], kinds: &KindShelf<K>, phase: Phase) -> Option<usize>
     requires { All (λ item. IsKind (table_of kinds.now) item.kind) items.now }
-    ensures none { IsNone result ↔ NonePasses (is_of_phase (table_of kinds.now) phase) items.now }
-    ensures next { FindsNewest (is_next (table_of kinds.now) phase (reverse items.now)) items.now result }
+    ensures { FindsNext (is_of_phase (table_of kinds.now) phase) (priority (table_of kinds.now)) items.now result }
 {
     let mut next = None;
     let mut least = 0;
@@ -130,21 +146,27 @@ fn next_of(items: &[Item], kinds: &KindShelf, phase: Phase) -> Option<usize>
 }
 
 // Whether the item is released before those older ones whose least priority number is this, if there are any.
-fn goes_before(item: &Item, kinds: &KindShelf, phase: Phase, first: bool, least: u32) -> bool
+fn goes_before<K: ExtKind>(
+    item: &Item,
+    kinds: &KindShelf<K>,
+    phase: Phase,
+    first: bool,
+    least: u32,
+) -> bool
     requires { IsKind (table_of kinds.now) item.now.kind }
     ensures { result ≡ (is_of_phase (table_of kinds.now) phase item.now && (first || nat_le (priority (table_of kinds.now) item.now) least)) }
 {
     is_item_of_phase(item, kinds, phase) && (first || priority_of_item(item, kinds) <= least)
 }
 
-fn is_item_of_phase(item: &Item, kinds: &KindShelf, phase: Phase) -> bool
+fn is_item_of_phase<K: ExtKind>(item: &Item, kinds: &KindShelf<K>, phase: Phase) -> bool
     requires { IsKind (table_of kinds.now) item.now.kind }
     ensures { result ≡ is_of_phase (table_of kinds.now) phase item.now }
 {
     kinds.phase(item.kind) == phase
 }
 
-fn priority_of_item(item: &Item, kinds: &KindShelf) -> u32
+fn priority_of_item<K: ExtKind>(item: &Item, kinds: &KindShelf<K>) -> u32
     requires { IsKind (table_of kinds.now) item.now.kind }
     ensures { result ≡ priority (table_of kinds.now) item.now }
 {

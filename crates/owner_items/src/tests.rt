@@ -1,5 +1,5 @@
 use crate::Items;
-use owner_kinds::KindShelf;
+use owner_kinds::{CountedKind, KindShelf};
 use pgs_step::{Item, KindId, Phase};
 use std::test::Fail;
 
@@ -29,7 +29,8 @@ fn forget_takes_the_newest(rt: HostRuntime) -> Result<(), Fail> {
 
 #[test]
 fn next_has_the_lowest_priority(rt: HostRuntime) -> Result<(), Fail> {
-    let kinds = KindShelf::new(rt.alloc(), Vec::new(rt.alloc()))?;
+    let none: Vec<CountedKind> = Vec::new(rt.alloc());
+    let kinds = KindShelf::new(rt.alloc(), none)?;
     let mut items = Items::new(rt.alloc());
     items.enlarge()?;
     items.remember(Item {
@@ -67,7 +68,8 @@ fn next_has_the_lowest_priority(rt: HostRuntime) -> Result<(), Fail> {
 
 #[test]
 fn lower_priority_goes_before_newer(rt: HostRuntime) -> Result<(), Fail> {
-    let kinds = KindShelf::new(rt.alloc(), Vec::new(rt.alloc()))?;
+    let none: Vec<CountedKind> = Vec::new(rt.alloc());
+    let kinds = KindShelf::new(rt.alloc(), none)?;
     let mut items = Items::new(rt.alloc());
     items.enlarge()?;
     items.remember(Item {

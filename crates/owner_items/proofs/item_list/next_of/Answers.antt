@@ -1,7 +1,7 @@
 use Rattle.std.proofs.Common.{◌≡◌, length, arith}
 use Rattle.owner_kinds.specs.KindShelf.{table_of}
 use Rattle.owner_items.specs.Next.{is_of_phase, priority}
-use Rattle.owner_items.proofs.NextSoFar.{next_start, lowest_taken, lowest_passed, next_all, none_all}
+use Rattle.owner_items.proofs.NextSoFar.{next_start, lowest_taken, lowest_passed, next_all}
 use Rattle.owner_items.proofs.item_list.next_of.Goals as goal
 use Rattle.owner_items.proofs.item_list.next_of.Goals.{then-goes_before, else-goes_before}
 
@@ -25,14 +25,8 @@ loop-place-preserved g c =
           c.loop-place-test.true c.is_none.ensures c.goes_before.ensures w.if-goes_before.false)
     ]
 
-pub returns-clause-none : goal.returns-clause-none
-returns-clause-none g c =
-    let all : c.loop-place.place ≡ length c.args.items.now = search arith in
-    none_all (is_of_phase (table_of c.args.kinds.now) c.args.phase) (priority (table_of c.args.kinds.now)) c.args.items.now
-    c.loop-place.place c.loop-place.next c.loop-place.least c.loop-place.invariant all
-
-pub returns-clause-next : goal.returns-clause-next
-returns-clause-next g c =
+pub returns : goal.returns
+returns g c =
     let all : c.loop-place.place ≡ length c.args.items.now = search arith in
     next_all (is_of_phase (table_of c.args.kinds.now) c.args.phase) (priority (table_of c.args.kinds.now)) c.args.items.now
     c.loop-place.place c.loop-place.next c.loop-place.least c.loop-place.invariant all

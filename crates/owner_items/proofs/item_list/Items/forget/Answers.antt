@@ -1,5 +1,6 @@
-use Rattle.std.proofs.Common.{ap, ◌∙◌}
-use Rattle.owner_items.specs.ItemList.{is_of}
+use Rattle.std.proofs.Common.{ap, ◌∙◌, subst, sym}
+use Rattle.owner_items.specs.ItemList.{is_of, AreFalling}
+use Rattle.owner_items.proofs.Order.{falling-without}
 use Rattle.owner_items.proofs.Taken.{taken_newest, taken_rest, none_newest, none_rest}
 use Rattle.owner_items.proofs.item_list.Items.forget.Goals as goal
 
@@ -23,3 +24,12 @@ pub returns-clause-rest : goal.returns-clause-rest
 returns-clause-rest c =
     taken_rest (λ _. is_of c.args.kind c.args.key) c.self.inside.items.items _ _ _ _ (ap (λ z. z.items) c.self.view_is)
     (rw c.deref.ensures.value at c.in_ok-place.ensures) c.remove.ensures.value c.remove.ensures.items
+
+pub returns-clause-falling : goal.returns-clause-falling
+returns-clause-falling c =
+    subst AreFalling (sym (returns-clause-rest c))
+    (falling-without (is_of c.args.kind c.args.key) c.args.self.now.items
+    (subst (λ z. AreFalling z.items) c.self.view_is c.self.invariant))
+
+pub invariant_of-self : goal.invariant_of-self
+invariant_of-self c = returns-clause-falling c

@@ -1,0 +1,246 @@
+-- An item that is taken out of the items, which stand newest first.
+use Rattle.std.proofs.Common.{◌≡◌, ℕ, ◌<◌, ◌≤◌, zero, suc, Bool, true, false, not, cond, nat_le, ◌==◌, List, [], ◌∷◌, ◌++◌, length, reverse, get_or, filter, All, refl, sym, ◌∙◌, ap, append_assoc, arith}
+use Rattle.std.specs.List.{remove}
+use Rattle.std.proofs.lemmas.Grind.{reverse_onto}
+use Rattle.std.proofs.lemmas.List.{append-nil, get_or_default}
+use Rattle.std.proofs.lemmas.Bool.Decides.{nat_tests}
+use Rattle.std.proofs.lemmas.List.Elements.{All-nil, All-cons, All-head, All-tail}
+use Rattle.std.proofs.lemmas.List.Sorted.{All-permutation, IsPermutation-reverse}
+use Rattle.pgs_step.specs.declared.ids.Item.{Item}
+use Rattle.owner_items.specs.ItemList.{AreFalling, without_newest, without_serial}
+use Rattle.owner_items.specs.Next.{with_item, by_rank}
+use Rattle.owner_items.specs.Newest.{IsNext, NonePasses}
+
+-- the items of a phase in the order of their release
+abbrev pub order : (Item → Bool) → (Item → ℕ) → List Item → List Item
+order test rank items = by_rank rank (filter test items)
+
+-- the items are these in front of one, that one, and those behind it
+pub record IsSplit (items : List Item) (item : Item) (rest : List Item) : Type 0 where
+  pub front : List Item
+  pub back : List Item
+  pub whole : items ≡ front ++ item ∷ back
+  pub without : rest ≡ front ++ back
+
+with_item-first : (rank : Item → ℕ) (x : Item) (zs : List Item) → All (λ z. rank x ≤ rank z) zs → with_item rank x zs ≡ x ∷ zs
+with_item-first rank x [] least = refl
+with_item-first rank x (z ∷ zs) least =
+    let first : rank x ≤ rank z = All-head (λ z. rank x ≤ rank z) z zs least in grind arith
+
+All-with_item : (P : Item → Type 0) (rank : Item → ℕ) (x : Item) (zs : List Item) → P x → All P zs → All P (with_item rank x zs)
+All-with_item P rank x [] holds all = All-cons P x [] holds all
+All-with_item P rank x (z ∷ zs) holds all =
+    elim (nat_le (rank x) (rank z)) as (λ b. All P (cond b (x ∷ z ∷ zs) (z ∷ with_item rank x zs))) [
+      | true ↦ All-cons P x (z ∷ zs) holds all
+      | false ↦ All-cons P z (with_item rank x zs) (All-head P z zs all) (All-with_item P rank x zs holds (All-tail P z zs all))
+    ]
+
+All-order : (P : Item → Type 0) (test : Item → Bool) (rank : Item → ℕ) (xs : List Item) → All (λ x. test x ≡ true → P x) xs → All P (order test rank xs)
+All-order P test rank [] all = All-nil P
+All-order P test rank (x ∷ xs) all =
+    let rest : All P (order test rank xs) = All-order P test rank xs (All-tail (λ x. test x ≡ true → P x) x xs all) in
+    let here : test x ≡ true → P x = All-head (λ x. test x ≡ true → P x) x xs all in
+    let cases : (b : Bool) → test x ≡ b → All P (by_rank rank (cond b (x ∷ filter test xs) (filter test xs))) =
+    elim [
+      | true ↦ λ is. All-with_item P rank x (order test rank xs) (here is) rest
+      | false ↦ λ is. rest
+    ]
+    in
+    cases (test x) refl
+
+-- the first of the least rank comes first
+order-take :
+    (test : Item → Bool) (rank : Item → ℕ) (front back : List Item) (x : Item) → test x ≡ true →
+    All (λ z. test z ≡ true → rank x < rank z) front → All (λ z. test z ≡ true → rank x ≤ rank z) back →
+    order test rank (front ++ x ∷ back) ≡ x ∷ order test rank (front ++ back)
+order-take test rank [] back x passes above least =
+    let first : with_item rank x (order test rank back) ≡ x ∷ order test rank back =
+    with_item-first rank x (order test rank back) (All-order (λ z. rank x ≤ rank z) test rank back least)
+    in
+    grind (arith, passes, first)
+order-take test rank (y ∷ front) back x passes above least =
+    let here : test y ≡ true → rank x < rank y = All-head (λ z. test z ≡ true → rank x < rank z) y front above in
+    let rest : order test rank (front ++ x ∷ back) ≡ x ∷ order test rank (front ++ back) =
+    order-take test rank front back x passes (All-tail (λ z. test z ≡ true → rank x < rank z) y front above) least
+    in
+    let cases :
+    (b : Bool) → test y ≡ b →
+    by_rank rank (cond b (y ∷ filter test (front ++ x ∷ back)) (filter test (front ++ x ∷ back)))
+    ≡ x ∷ by_rank rank (cond b (y ∷ filter test (front ++ back)) (filter test (front ++ back))) =
+    elim [
+      | true ↦ λ is. ap (with_item rank y) rest ∙ (let behind : rank x < rank y = here is in grind arith)
+      | false ↦ λ is. rest
+    ]
+    in
+    cases (test y) refl
+
+All-front : (P : Item → Type 0) (front back : List Item) → All P (front ++ back) → All P front
+All-front P [] back all = All-nil P
+All-front P (x ∷ front) back all =
+    All-cons P x front (All-head P x (front ++ back) all) (All-front P front back (All-tail P x (front ++ back) all))
+
+All-back : (P : Item → Type 0) (front back : List Item) → All P (front ++ back) → All P back
+All-back P [] back all = all
+All-back P (x ∷ front) back all = All-back P front back (All-tail P x (front ++ back) all)
+
+All-both : (P : Item → Type 0) (front back : List Item) → All P front → All P back → All P (front ++ back)
+All-both P [] back all also = also
+All-both P (x ∷ front) back all also =
+    All-cons P x (front ++ back) (All-head P x front all) (All-both P front back (All-tail P x front all) also)
+
+All-less : (P : Item → Type 0) (front back : List Item) (x : Item) → All P (front ++ x ∷ back) → All P (front ++ back)
+All-less P front back x all =
+    All-both P front back (All-front P front (x ∷ back) all) (All-tail P x back (All-back P front (x ∷ back) all))
+
+pub split-All : (P : Item → Type 0) (items : List Item) (item : Item) (rest : List Item) → IsSplit items item rest → All P items → All P rest
+split-All P items item rest split all = rw split.without (All-less P split.front split.back item (rw split.whole at all))
+
+falling-less : (front back : List Item) (x : Item) → AreFalling (front ++ x ∷ back) → AreFalling (front ++ back)
+falling-less [] back x falling = falling.1
+falling-less (y ∷ front) back x falling =
+    (All-less (λ z. z.serial < y.serial) front back x falling.0, falling-less front back x falling.1)
+
+pub split-falling : (items : List Item) (item : Item) (rest : List Item) → IsSplit items item rest → AreFalling items → AreFalling rest
+split-falling items item rest split falling = rw split.without (falling-less split.front split.back item (rw split.whole at falling))
+
+serial-less : (front back : List Item) (x : Item) → AreFalling (front ++ x ∷ back) → without_serial x.serial (front ++ x ∷ back) ≡ front ++ back
+serial-less [] back x falling = grind (arith, nat_tests)
+serial-less (y ∷ front) back x falling =
+    let below : x.serial < y.serial =
+    All-head (λ z. z.serial < y.serial) x back (All-back (λ z. z.serial < y.serial) front (x ∷ back) falling.0)
+    in
+    let rest : without_serial x.serial (front ++ x ∷ back) ≡ front ++ back = serial-less front back x falling.1 in
+    let other : (y.serial == x.serial) ≡ false = grind (arith, nat_tests) in
+    grind (arith, rest, other)
+
+-- the item is known by its serial
+pub split-rest :
+    (items : List Item) (item : Item) (rest : List Item) → IsSplit items item rest → AreFalling items →
+    rest ≡ without_serial item.serial items
+split-rest items item rest split falling =
+    rw (split.without, split.whole) (sym (serial-less split.front split.back item (rw split.whole at falling)))
+
+left-less :
+    (test : Item → Bool) (front back : List Item) (x : Item) → test x ≡ true →
+    filter (λ z. not (test z)) (front ++ back) ≡ filter (λ z. not (test z)) (front ++ x ∷ back)
+left-less test [] back x passes = grind (arith, passes)
+left-less test (y ∷ front) back x passes = grind (arith, left-less test front back x passes)
+
+pub split-left :
+    (test : Item → Bool) (items : List Item) (item : Item) (rest : List Item) → IsSplit items item rest → test item ≡ true →
+    filter (λ z. not (test z)) rest ≡ filter (λ z. not (test z)) items
+split-left test items item rest split passes =
+    rw (split.without, split.whole) (left-less test split.front split.back item passes)
+
+-- the item at a place of a list whose newest is the last
+pub take_out :
+    (xs : List Item) (place : ℕ) (x : Item) → place < length xs → x ≡ get_or xs place x →
+    IsSplit (reverse xs) x (reverse (remove xs place))
+take_out [] place x within is = absurd (omega arith)
+take_out (y ∷ ys) zero x within is =
+    record {
+      front = reverse ys;
+      back = [];
+      whole = reverse_onto ys y [] ∙ ap (λ z. reverse ys ++ z ∷ []) (sym is);
+      without = sym (append-nil (reverse ys));
+    }
+take_out (y ∷ ys) (suc place) x within is =
+    let below : place < length ys = omega arith in
+    let rest : IsSplit (reverse ys) x (reverse (remove ys place)) = take_out ys place x below is in
+    record {
+      front = rest.front;
+      back = rest.back ++ y ∷ [];
+      whole =
+          reverse_onto ys y []
+          ∙ (ap (λ z. z ++ y ∷ []) rest.whole ∙ append_assoc rest.front (x ∷ rest.back) (y ∷ []));
+      without =
+          reverse_onto (remove ys place) y []
+          ∙ (ap (λ z. z ++ y ∷ []) rest.without ∙ append_assoc rest.front rest.back (y ∷ []));
+    }
+
+-- what is newer than it is released after it, and nothing older before it
+next_front :
+    (test : Item → Bool) (rank : Item → ℕ) (xs : List Item) (place : ℕ) (x : Item) (within : place < length xs)
+    (is : x ≡ get_or xs place x) →
+    ((k : ℕ) (d : Item) → place < k → k < length xs → test (get_or xs k d) ≡ true → rank x < rank (get_or xs k d)) →
+    All (λ z. test z ≡ true → rank x < rank z) (take_out xs place x within is).front
+unfolding take_out
+next_front test rank [] place x within is later = absurd (omega arith)
+next_front test rank (y ∷ ys) zero x within is later =
+    All-permutation (λ z. test z ≡ true → rank x < rank z) ys (reverse ys) (IsPermutation-reverse ys)
+    (λ k d below. later (suc k) d (omega arith) (omega arith))
+next_front test rank (y ∷ ys) (suc place) x within is later =
+    next_front test rank ys place x _ is (λ k d after below. later (suc k) d (omega arith) (omega arith))
+
+next_back :
+    (test : Item → Bool) (rank : Item → ℕ) (xs : List Item) (place : ℕ) (x : Item) (within : place < length xs)
+    (is : x ≡ get_or xs place x) →
+    ((k : ℕ) (d : Item) → k < length xs → test (get_or xs k d) ≡ true → rank x ≤ rank (get_or xs k d)) →
+    All (λ z. test z ≡ true → rank x ≤ rank z) (take_out xs place x within is).back
+unfolding take_out
+next_back test rank [] place x within is least = absurd (omega arith)
+next_back test rank (y ∷ ys) zero x within is least = All-nil (λ z. test z ≡ true → rank x ≤ rank z)
+next_back test rank (y ∷ ys) (suc place) x within is least =
+    All-both (λ z. test z ≡ true → rank x ≤ rank z) _ (y ∷ [])
+    (next_back test rank ys place x _ is (λ k d below. least (suc k) d (omega arith)))
+    (All-cons (λ z. test z ≡ true → rank x ≤ rank z) y [] (least 0 y (omega arith)) (All-nil (λ z. test z ≡ true → rank x ≤ rank z)))
+
+pub split-order :
+    (test : Item → Bool) (rank : Item → ℕ) (items : List Item) (item : Item) (rest : List Item) →
+    (split : IsSplit items item rest) → test item ≡ true → All (λ z. test z ≡ true → rank item < rank z) split.front →
+    All (λ z. test z ≡ true → rank item ≤ rank z) split.back → order test rank items ≡ item ∷ order test rank rest
+split-order test rank items item rest split passes above least =
+    rw (split.without, split.whole) (order-take test rank split.front split.back item passes above least)
+
+at_place : {Y : Type 0} (f : Item → Y) (xs : List Item) (place : ℕ) (x d : Item) → place < length xs → x ≡ get_or xs place x → f (get_or xs place d) ≡ f x
+at_place f xs place x d within is = ap f (get_or_default xs place d x within ∙ sym is)
+
+pub next_passes :
+    (test : Item → Bool) (rank : Item → ℕ) (xs : List Item) (place : ℕ) (x : Item) → IsNext test rank xs place →
+    x ≡ get_or xs place x → test x ≡ true
+next_passes test rank xs place x next is = sym (at_place test xs place x x next.within is) ∙ next.passes x
+
+-- what is found next goes first, and the others after it
+pub order-next :
+    (test : Item → Bool) (rank : Item → ℕ) (xs : List Item) (place : ℕ) (x : Item) → IsNext test rank xs place →
+    x ≡ get_or xs place x → order test rank (reverse xs) ≡ x ∷ order test rank (reverse (remove xs place))
+order-next test rank xs place x next is =
+    split-order test rank (reverse xs) x (reverse (remove xs place)) (take_out xs place x next.within is)
+    (sym (at_place test xs place x x next.within is) ∙ next.passes x)
+    (next_front test rank xs place x next.within is
+    (λ k d after below yes. omega (arith, at_place rank xs place x d next.within is, next.later k d after below yes)))
+    (next_back test rank xs place x next.within is
+    (λ k d below yes. omega (arith, at_place rank xs place x d next.within is, next.least k d below yes)))
+
+pub order-none : (test : Item → Bool) (rank : Item → ℕ) (xs : List Item) → All (λ x. test x ≡ false) xs → order test rank xs ≡ []
+order-none test rank [] none = refl
+order-none test rank (x ∷ xs) none =
+    let first : test x ≡ false = All-head (λ x. test x ≡ false) x xs none in
+    let rest : order test rank xs ≡ [] = order-none test rank xs (All-tail (λ x. test x ≡ false) x xs none) in
+    grind (arith, first, rest)
+
+All-without : (P : Item → Type 0) (test : Item → Bool) (xs : List Item) → All P xs → All P (without_newest test xs)
+All-without P test [] all = all
+All-without P test (x ∷ xs) all =
+    elim (test x) as (λ b. All P (cond b xs (x ∷ without_newest test xs))) [
+      | true ↦ All-tail P x xs all
+      | false ↦ All-cons P x (without_newest test xs) (All-head P x xs all) (All-without P test xs (All-tail P x xs all))
+    ]
+
+pub falling-without : (test : Item → Bool) (xs : List Item) → AreFalling xs → AreFalling (without_newest test xs)
+falling-without test [] falling = tt
+falling-without test (x ∷ xs) falling =
+    elim (test x) as (λ b. AreFalling (cond b xs (x ∷ without_newest test xs))) [
+      | true ↦ falling.1
+      | false ↦ (All-without (λ z. z.serial < x.serial) test xs falling.0, falling-without test xs falling.1)
+    ]
+
+-- a list with an element is not empty
+pub not_both : {X : Type 0} (xs ys : List X) (x : X) → xs ≡ x ∷ ys → (true ≡ false → xs ≡ []) × (xs ≡ [] → true ≡ false)
+not_both xs ys x is = (λ wrong. absurd cc, λ none. absurd cc)
+
+pub order-nothing :
+    (test : Item → Bool) (rank : Item → ℕ) (xs : List Item) → NonePasses test xs → order test rank (reverse xs) ≡ []
+order-nothing test rank xs none =
+    order-none test rank (reverse xs)
+    (All-permutation (λ x. test x ≡ false) xs (reverse xs) (IsPermutation-reverse xs) none)
