@@ -72,7 +72,7 @@ module _ {T : Type 0} where
     none = subst (λ (xs : List (Option (Linked T))). get_or xs v None ≡ None) same (rw at at none);
     new = rw at at updates.changed;
     others = λ x ne.
-      subst (λ (xs : List (Option (Linked T))). get c x ≡ get_or xs x None) same (updates.others x (λ z. ne (z ∙ at)));
+        subst (λ (xs : List (Option (Linked T))). get c x ≡ get_or xs x None) same (updates.others x (λ z. ne (z ∙ at)));
     len = len ∙ ap (λ (xs : List (Option (Linked T))). count_by is_some xs + 1) same;
   }
 
@@ -95,8 +95,8 @@ module _ {T : Type 0} where
           sets.others v (λ q. other v q refl) ∙ w.new ∙ ap (λ (x : Option ℕ). Some (linked e None None None x)) s.front,
           tt,
           relink (get a) (get c) None None (Some v) t s.by_slot s.linked
-          (λ f m q g. sets.changed f m (s.front ∙ q) (w.others f (other f (s.front ∙ q)) ∙ g))
-          (λ k h q. sets.others k (λ z. q (sym s.front ∙ z)) ∙ w.others k (differs k v t h absent)),
+              (λ f m q g. sets.changed f m (s.front ∙ q) (w.others f (other f (s.front ∙ q)) ∙ g))
+              (λ k h q. sets.others k (λ z. q (sym s.front ∙ z)) ∙ w.others k (differs k v t h absent)),
         );
         front = refl;
         by_slot = once_front v e t s.by_slot absent;
@@ -116,7 +116,7 @@ module _ {T : Type 0} where
       let pv : p ≢ v = differs p v t hp absent in
       let inside : (f : ℕ) → next ≡ Some f → has f t ≡ true = λ f q. first_inside p f t next s.by_slot fc q in
       let fp : (f : ℕ) → next ≡ Some f → f ≢ p =
-          λ f q z. both_ways (has p (children p t)) (first_child_other p t s.by_slot hp) (rw z at (has_first f (children p t) (fc ∙ q))) in
+      λ f q z. both_ways (has p (children p t)) (first_child_other p t s.by_slot hp) (rw z at (has_first f (children p t) (fc ∙ q))) in
       let fv : (f : ℕ) → next ≡ Some f → f ≢ v = λ f q. differs f v t (inside f q) absent in
       let values_are : values (put p v e Empty t) ≡ put n e.number e.value Empty (values t) = put_agreed (λ x d. d.value) p n v e Empty t agree in
       let hn : has n (values t) ≡ true = has_agreed (λ x d. d.value) p n t agree ∙ hp in
@@ -156,7 +156,7 @@ module _ {T : Type 0} where
       let above : (s : ℕ) → l.previous ≡ None → l.parent ≡ Some s → has s (removed v t) ≡ true = λ s n q. elim (nr.above s n q) [ inl x ↦ x | inr x ↦ absurd (cc x.2) ] in
       let gone : has v (removed v t) ≡ true → ⊥ = λ z. both_ways (has v (removed v t)) (removed_has v t o h) z in
       let low : (s : ℕ) → has s (children v t) ≡ true → has s (removed v t) ≡ true → ⊥ =
-          λ s x z. both_ways (has s (children v t)) (left_apart s v t o h z).1 x in
+      λ s x z. both_ways (has s (children v t)) (left_apart s v t o h z).1 x in
       record {
         linked = detach (get a) (get c) None None v l t o h g (past a b c v l skips sets) (λ s z. absurd (cc z)) (λ s z. absurd (cc z)) i;
         own = sets.others v (λ q. gone (nr.behind v q)) ∙ skips.others v (λ q. gone (before v q)) (λ n q. gone (above v n q));
@@ -209,9 +209,9 @@ module _ {T : Type 0} where
       elim (cases_Bool (k == q)) [
         | inl y ↦ rw y g.1
         | inr y ↦ elim (cases_Bool (has q below)) [
-            | inl u ↦ rw (y, u) (agree_children v n q below g.1)
-            | inr u ↦ rw (y, u) (agree_children v n q beside g.2)
-          ]
+          | inl u ↦ rw (y, u) (agree_children v n q below g.1)
+          | inr u ↦ rw (y, u) (agree_children v n q beside g.2)
+        ]
       ]
 
   -- by slots, a node moves as it does by numbers
@@ -222,14 +222,14 @@ module _ {T : Type 0} where
         node = h;
         parent = sym (has_agreed (λ x d. d.value) p m t above) ∙ w.parent;
         other = λ z.
-          let e = Trees.at_some v t h in
-          let one = at_agreed (λ x d. x) v n e.0 t agree e.1 in
-          let two = at_agreed (λ x d. x) p m e.0 t above (ap (λ (x : ℕ). at x t) z ∙ e.1) in
-          w.other (sym two.0 ∙ one.0);
+            let e = Trees.at_some v t h in
+            let one = at_agreed (λ x d. x) v n e.0 t agree e.1 in
+            let two = at_agreed (λ x d. x) p m e.0 t above (ap (λ (x : ℕ). at x t) z ∙ e.1) in
+            w.other (sym two.0 ∙ one.0);
         apart =
-          sym (has_agreed (λ x d. d.value) p m (children v t) (agree_children p m v t above))
-          ∙ ap (λ (x : Forest T). has m x) (children_agreed (λ x d. d.value) v n t agree)
-          ∙ w.apart;
+            sym (has_agreed (λ x d. d.value) p m (children v t) (agree_children p m v t above))
+            ∙ ap (λ (x : Forest T). has m x) (children_agreed (λ x d. d.value) v n t agree)
+            ∙ w.apart;
       }
 
   pub put_moved : {B : Type 0} (f : ℕ → Entry T → B) (v n p m : ℕ) (e : Entry T) (t : Forest (Entry T)) → Agree v n t → Agree p m t → at v t ≡ Some e
@@ -263,22 +263,22 @@ module _ {T : Type 0} where
       let absent : has v rest ≡ false = removed_has v t o mv.node in
       let inside : (x : ℕ) → next ≡ Some x → has x rest ≡ true = λ x q. first_inside p x rest next o2 fc q in
       let fp : (x : ℕ) → next ≡ Some x → x ≢ p =
-          λ x q z. both_ways (has p (children p rest)) (first_child_other p rest o2 hp) (rw z at (has_first x (children p rest) (fc ∙ q))) in
+      λ x q z. both_ways (has p (children p rest)) (first_child_other p rest o2 hp) (rw z at (has_first x (children p rest) (fc ∙ q))) in
       let fv : (x : ℕ) → next ≡ Some x → x ≢ v = λ x q. differs x v rest (inside x q) absent in
       let low : (x : ℕ) → has x (children v t) ≡ true → (x ≢ v) × (x ≢ p) × ((next ≡ Some x) → ⊥) =
-          λ x h. (
-            differs x v (children v t) h (first_child_other v t o mv.node),
-            differs x p (children v t) h mv.apart,
-            λ q. both_ways (has x (children v t)) (left_apart x v t o mv.node (inside x q)).1 h,
-          ) in
+      λ x h. (
+        differs x v (children v t) h (first_child_other v t o mv.node),
+        differs x p (children v t) h mv.apart,
+        λ q. both_ways (has x (children v t)) (left_apart x v t o mv.node (inside x q)).1 h,
+      ) in
       let e1 : Entry T = entry_of l in
       record {
         linked = attach (get c) (get f) None None p v e1 next (children v t) rest o2 hp absent w.linked fc
             (over.others v (λ z. mv.other (sym z)) ∙ behind.others v (λ q. fv v q refl) ∙ place.changed l (w.own ∙ g)
-              ∙ ap (λ (x : Option ℕ). Some (linked e1 (Some p) x None next)) (child_is (get a) None None v l t o mv.node s.linked g))
+            ∙ ap (λ (x : Option ℕ). Some (linked e1 (Some p) x None next)) (child_is (get a) None None v l t o mv.node s.linked g))
             (frame (get a) (get f) (Some v) None (children v t)
-              (λ x h. let q = low x h in over.others x q.1 ∙ behind.others x q.2 ∙ place.others x q.0 ∙ w.below x h)
-              (children_linked (get a) None None v t o mv.node s.linked))
+            (λ x h. let q = low x h in over.others x q.1 ∙ behind.others x q.2 ∙ place.others x q.0 ∙ w.below x h)
+            (children_linked (get a) None None v t o mv.node s.linked))
             (λ x j. over.changed x (behind.others p (λ q. fp p q refl) ∙ place.others p mv.other ∙ j))
             (λ x y q j. over.others x (fp x q) ∙ behind.changed x y q (place.others x (fv x q) ∙ j))
             (λ x q r z. over.others x r ∙ behind.others x z ∙ place.others x q);
@@ -345,7 +345,7 @@ module _ {T : Type 0} where
       let node : IsNode (get a) None t id.slot id.number l = node_is (get a) None None id.slot id.number l t s.by_slot w.agree w.stands s.linked g in
       let o2 : Once (removed id.slot t) = once_removed id.slot t s.by_slot w.stands in
       let child : (m : Linked T) → get c parent.slot ≡ Some m → m.first_child ≡ first (children parent.slot (removed id.slot t)) =
-          λ m q. child_is (get c) None None parent.slot m (removed id.slot t) o2 (parent_stays id.slot parent.slot t s.by_slot mv) det.linked q in
+      λ m q. child_is (get c) None None parent.slot m (removed id.slot t) o2 (parent_stays id.slot parent.slot t s.by_slot mv) det.linked q in
       record {
         numbers = mvn;
         slot_moves = mv;
@@ -408,6 +408,6 @@ module _ {T : Type 0} where
       → seen (with_value nodes v (record l { value = w })) link ≡ record f { forest = changed n (λ _. w) f.forest }
   seen_written nodes link f v n w l s view h agree g =
       let forest : values (changed v (valued w) s.tree) ≡ changed n (λ _. w) f.forest =
-          values_changed v n w s.tree agree ∙ ap (λ (x : Forest T). changed n (λ _. w) x) (forest_is nodes link f s view) in
+      values_changed v n w s.tree agree ∙ ap (λ (x : Forest T). changed n (λ _. w) x) (forest_is nodes link f s view) in
       let places : slots (changed v (valued w) s.tree) ≡ f.places = slots_changed v w s.tree ∙ places_are nodes link f s view in
       seen_built _ _ _ (written nodes link v n w l s h agree g) ∙ rw (forest, places) refl

@@ -46,7 +46,7 @@ module _ {T : Type 0} where
   relink G H parent previous new (Node k e below beside) o l write same =
       let apart : Apart k below beside = apart_of k e below beside o in
       let rest : (s : ℕ) → has s (Node k e below beside) ≡ true → s ≢ k → H s ≡ G s =
-          λ s h ne. same s h (λ (f : Some k ≡ Some s). ne (cc)) in (
+      λ s h ne. same s h (λ (f : Some k ≡ Some s). ne (cc)) in (
         write k (linked e parent (first below) previous (first beside)) refl l.0,
         frame G H (Some k) None below (λ s h. rest s (in_below s k below beside e h) (differs s k below h apart.not_below)) l.1,
         frame G H parent (Some k) beside (λ s h. rest s (in_beside s k below beside e h) (differs s k beside h apart.not_beside)) l.2,
@@ -72,7 +72,7 @@ module _ {T : Type 0} where
       elim (where_is v k e below beside o h) [
         | Here same y u w ↦
             let is : l ≡ linked e parent (first below) previous (first beside) =
-                let z : G v ≡ Some (linked e parent (first below) previous (first beside)) = rw same at i.0 in cc in
+            let z : G v ≡ Some (linked e parent (first below) previous (first beside)) = rw same at i.0 in cc in
             record {
               behind = λ s n. rw (y, removed_absent v beside w) (has_first s beside (ap (λ (m : Linked T). m.next) (sym is) ∙ n));
               before = λ s n. inr (ap (λ x. Some x) same, ap (λ (m : Linked T). m.previous) (sym is) ∙ n);
@@ -131,19 +131,19 @@ module _ {T : Type 0} where
         | Here same y u w ↦
             let fb : first below ≡ c = rw y at fc in
             let written : H p ≡ Some (linked d parent (Some v) previous (first beside)) =
-                over (linked d parent (first below) previous (first beside)) (rw same at l.0) in
+            over (linked d parent (first below) previous (first beside)) (rw same at l.0) in
             rw (y, put_absent p v e sub beside w) (
               rw same written,
               (
                 rw (same, fb) node,
                 subs,
                 relink G H (Some k) None (Some v) below apart.once_below l.1
-                (λ f m q g. next f m (sym fb ∙ q) g)
-                (λ s i q. others s (differs s v below i outs.0) (differs s p below i u) (λ z. q (fb ∙ z))),
+                    (λ f m q g. next f m (sym fb ∙ q) g)
+                    (λ s i q. others s (differs s v below i outs.0) (differs s p below i u) (λ z. q (fb ∙ z))),
               ),
               frame G H parent (Some k) beside
-              (λ s i. others s (differs s v beside i outs.1) (differs s p beside i w) (λ z. both_ways (has s beside) (apart.apart s (has_first s below (fb ∙ z))) i))
-              l.2,
+                  (λ s i. others s (differs s v beside i outs.1) (differs s p beside i w) (λ z. both_ways (has s beside) (apart.apart s (has_first s below (fb ∙ z))) i))
+                  l.2,
             )
         | Below ne y u w ↦
             let fb : first (children p below) ≡ c = rw (y, u) at fc in
@@ -152,8 +152,8 @@ module _ {T : Type 0} where
               others k (eqb-false k v out.0) ne (λ z. both_ways (has k below) apart.not_below (inside k z)) ∙ l.0,
               attach G H (Some k) None p v e c sub below apart.once_below u outs.0 l.1 fb node subs over next others,
               frame G H parent (Some k) beside
-              (λ s i. others s (differs s v beside i outs.1) (differs s p beside i w) (λ z. both_ways (has s beside) (apart.apart s (inside s z)) i))
-              l.2,
+                  (λ s i. others s (differs s v beside i outs.1) (differs s p beside i w) (λ z. both_ways (has s beside) (apart.apart s (inside s z)) i))
+                  l.2,
             )
         | Beside ne y u w ↦
             let fb : first (children p beside) ≡ c = rw (y, u) at fc in
@@ -161,8 +161,8 @@ module _ {T : Type 0} where
             rw (y, put_absent p v e sub below u, first_put p v e sub beside) (
               others k (eqb-false k v out.0) ne (λ z. both_ways (has k beside) apart.not_beside (inside k z)) ∙ l.0,
               frame G H (Some k) None below
-              (λ s i. others s (differs s v below i outs.0) (differs s p below i u) (λ z. both_ways (has s below) (apart.apart_back s (inside s z)) i))
-              l.1,
+                  (λ s i. others s (differs s v below i outs.0) (differs s p below i u) (λ z. both_ways (has s below) (apart.apart_back s (inside s z)) i))
+                  l.1,
               attach G H parent (Some k) p v e c sub beside apart.once_beside w outs.1 l.2 fb node subs over next others,
             )
       ]
@@ -183,9 +183,11 @@ module _ {T : Type 0} where
       let apart : Apart k below beside = apart_of k e below beside o in
       let w : G v ≡ Some (linked e parent (first below) previous (first beside)) = rw same at i.0 in
       let is : l ≡ linked e parent (first below) previous (first beside) = cc in
-      let nb : has v beside ≡ false = rw same at apart.not_beside in
-      (ap (λ (m : Linked T). m.parent) is, ap (λ (m : Linked T). m.previous) is,
-       rw (eq-eqb k v same, removed_absent v beside nb) (ap (λ (m : Linked T). m.next) is))
+      let nb : has v beside ≡ false = rw same at apart.not_beside in (
+        ap (λ (m : Linked T). m.parent) is,
+        ap (λ (m : Linked T). m.previous) is,
+        rw (eq-eqb k v same, removed_absent v beside nb) (ap (λ (m : Linked T). m.next) is),
+      )
 
   pub cases_first : (t : Forest (Entry T)) (v : ℕ) → (first t ≡ Some v) ⊎ (first t ≢ Some v)
   cases_first Empty v = inr (λ z. cc)
@@ -213,75 +215,75 @@ module _ {T : Type 0} where
             let head = head_is G parent previous (Node k e below beside) v l i (ap (λ x. Some x) same) g o in
             let ln : l.next ≡ first beside = rw (y, removed_absent v beside w) at head.2 in
             rw (y, removed_absent v beside w) (
-              relink G H parent (Some k) previous beside apart.once_beside i.2
-              (λ f m q j.
-                let inside : has f beside ≡ true = has_first f beside q in
-                past.behind f m (differs f v beside inside w) (ln ∙ q)
-                (λ z. both_ways (has f (Node k e below beside)) (out f (sym head.1 ∙ z)) (in_beside f k below beside e inside))
-                (λ n z. both_ways (has f (Node k e below beside)) (outside f (sym head.0 ∙ z)) (in_beside f k below beside e inside))
-                j
-                ∙ ap (λ (x : Option ℕ). Some (record m { previous = x })) head.1)
-              (λ s j q. past.others s (differs s v beside j w)
-                (λ z. both_ways (has s (Node k e below beside)) (out s (sym head.1 ∙ z)) (in_beside s k below beside e j))
-                (λ n z. both_ways (has s (Node k e below beside)) (outside s (sym head.0 ∙ z)) (in_beside s k below beside e j))
-                (λ z. q (sym ln ∙ z)))
+            relink G H parent (Some k) previous beside apart.once_beside i.2
+            (λ f m q j.
+            let inside : has f beside ≡ true = has_first f beside q in
+            past.behind f m (differs f v beside inside w) (ln ∙ q)
+            (λ z. both_ways (has f (Node k e below beside)) (out f (sym head.1 ∙ z)) (in_beside f k below beside e inside))
+            (λ n z. both_ways (has f (Node k e below beside)) (outside f (sym head.0 ∙ z)) (in_beside f k below beside e inside))
+            j
+            ∙ ap (λ (x : Option ℕ). Some (record m { previous = x })) head.1)
+            (λ s j q. past.others s (differs s v beside j w)
+            (λ z. both_ways (has s (Node k e below beside)) (out s (sym head.1 ∙ z)) (in_beside s k below beside e j))
+            (λ n z. both_ways (has s (Node k e below beside)) (outside s (sym head.0 ∙ z)) (in_beside s k below beside e j))
+            (λ z. q (sym ln ∙ z)))
             )
         | Below ne y u w ↦
             let nr : Near (Some k) None below v l = near G (Some k) None below v l apart.once_below i.1 u g in
             let still : (s : ℕ) → has s (removed v below) ≡ true → has s below ≡ true = λ s z. has_of_removed s v below z in
             let out_of : has k below ≡ true → ⊥ = λ z. both_ways (has k below) apart.not_below z in
             let front : H k ≡ Some (linked e parent (first (removed v below)) previous (first beside)) =
-                elim (cases_first below v) [
-                  | inl f ↦
-                      let head = head_is G (Some k) None below v l i.1 f g apart.once_below in
-                      past.above k (linked e parent (first below) previous (first beside)) ne head.1 head.0 (λ z. out_of (still k (nr.behind k z))) i.0
-                      ∙ ap (λ (x : Option ℕ). Some (linked e parent x previous (first beside))) head.2
-                  | inr nf ↦
-                      rw (first_removed v below nf) (
-                        past.others k ne
-                        (λ z. elim (nr.before k z) [ inl x ↦ out_of (still k x) | inr x ↦ nf x.0 ])
-                        (λ n z. elim (nr.above k n z) [ inl x ↦ out_of (still k x) | inr x ↦ nf x.0 ])
-                        (λ z. out_of (still k (nr.behind k z)))
-                        ∙ i.0
-                      )
-                ] in
+            elim (cases_first below v) [
+              | inl f ↦
+                  let head = head_is G (Some k) None below v l i.1 f g apart.once_below in
+                  past.above k (linked e parent (first below) previous (first beside)) ne head.1 head.0 (λ z. out_of (still k (nr.behind k z))) i.0
+                  ∙ ap (λ (x : Option ℕ). Some (linked e parent x previous (first beside))) head.2
+              | inr nf ↦
+                  rw (first_removed v below nf) (
+                  past.others k ne
+                  (λ z. elim (nr.before k z) [ inl x ↦ out_of (still k x) | inr x ↦ nf x.0 ])
+                  (λ n z. elim (nr.above k n z) [ inl x ↦ out_of (still k x) | inr x ↦ nf x.0 ])
+                  (λ z. out_of (still k (nr.behind k z)))
+                  ∙ i.0
+                  )
+            ] in
             rw (y, removed_absent v beside w) (
               front,
               detach G H (Some k) None v l below apart.once_below u g past (λ s z. one k s below apart.not_below z) (λ s z. absurd (cc)) i.1,
               frame G H parent (Some k) beside
-              (λ s j. past.others s (differs s v beside j w)
-                (λ z. elim (nr.before s z) [ inl x ↦ both s below beside (still s x) apart.apart j | inr x ↦ absurd (cc x.1) ])
-                (λ n z. elim (nr.above s n z) [ inl x ↦ both s below beside (still s x) apart.apart j | inr x ↦ both_ways (has s beside) (one k s beside apart.not_beside x.2) j ])
-                (λ z. both s below beside (still s (nr.behind s z)) apart.apart j))
-              i.2,
+                  (λ s j. past.others s (differs s v beside j w)
+                  (λ z. elim (nr.before s z) [ inl x ↦ both s below beside (still s x) apart.apart j | inr x ↦ absurd (cc x.1) ])
+                  (λ n z. elim (nr.above s n z) [ inl x ↦ both s below beside (still s x) apart.apart j | inr x ↦ both_ways (has s beside) (one k s beside apart.not_beside x.2) j ])
+                  (λ z. both s below beside (still s (nr.behind s z)) apart.apart j))
+                  i.2,
             )
         | Beside ne y u w ↦
             let nr : Near parent (Some k) beside v l = near G parent (Some k) beside v l apart.once_beside i.2 w g in
             let still : (s : ℕ) → has s (removed v beside) ≡ true → has s beside ≡ true = λ s z. has_of_removed s v beside z in
             let out_of : has k beside ≡ true → ⊥ = λ z. both_ways (has k beside) apart.not_beside z in
             let front : H k ≡ Some (linked e parent (first below) previous (first (removed v beside))) =
-                elim (cases_first beside v) [
-                  | inl f ↦
-                      let head = head_is G parent (Some k) beside v l i.2 f g apart.once_beside in
-                      past.before k (linked e parent (first below) previous (first beside)) ne head.1 (λ z. out_of (still k (nr.behind k z))) i.0
-                      ∙ ap (λ (x : Option ℕ). Some (linked e parent (first below) previous x)) head.2
-                  | inr nf ↦
-                      rw (first_removed v beside nf) (
-                        past.others k ne
-                        (λ z. elim (nr.before k z) [ inl x ↦ out_of (still k x) | inr x ↦ nf x.0 ])
-                        (λ n z. elim (nr.above k n z) [ inl x ↦ out_of (still k x) | inr x ↦ nf x.0 ])
-                        (λ z. out_of (still k (nr.behind k z)))
-                        ∙ i.0
-                      )
-                ] in
+            elim (cases_first beside v) [
+              | inl f ↦
+                  let head = head_is G parent (Some k) beside v l i.2 f g apart.once_beside in
+                  past.before k (linked e parent (first below) previous (first beside)) ne head.1 (λ z. out_of (still k (nr.behind k z))) i.0
+                  ∙ ap (λ (x : Option ℕ). Some (linked e parent (first below) previous x)) head.2
+              | inr nf ↦
+                  rw (first_removed v beside nf) (
+                  past.others k ne
+                  (λ z. elim (nr.before k z) [ inl x ↦ out_of (still k x) | inr x ↦ nf x.0 ])
+                  (λ n z. elim (nr.above k n z) [ inl x ↦ out_of (still k x) | inr x ↦ nf x.0 ])
+                  (λ z. out_of (still k (nr.behind k z)))
+                  ∙ i.0
+                  )
+            ] in
             rw (y, removed_absent v below u) (
               front,
               frame G H (Some k) None below
-              (λ s j. past.others s (differs s v below j u)
-                (λ z. elim (nr.before s z) [ inl x ↦ both s beside below (still s x) apart.apart_back j | inr x ↦ both_ways (has s below) (one k s below apart.not_below x.1) j ])
-                (λ n z. elim (nr.above s n z) [ inl x ↦ both s beside below (still s x) apart.apart_back j | inr x ↦ absurd (cc x.1) ])
-                (λ z. both s beside below (still s (nr.behind s z)) apart.apart_back j))
-              i.1,
+                  (λ s j. past.others s (differs s v below j u)
+                  (λ z. elim (nr.before s z) [ inl x ↦ both s beside below (still s x) apart.apart_back j | inr x ↦ both_ways (has s below) (one k s below apart.not_below x.1) j ])
+                  (λ n z. elim (nr.above s n z) [ inl x ↦ both s beside below (still s x) apart.apart_back j | inr x ↦ absurd (cc x.1) ])
+                  (λ z. both s beside below (still s (nr.behind s z)) apart.apart_back j))
+                  i.1,
               detach G H parent (Some k) v l beside apart.once_beside w g past (λ s z. outside_beside s k e below beside (outside s z)) (λ s z. one k s beside apart.not_beside z) i.2,
             )
       ]
@@ -319,9 +321,9 @@ module _ {T : Type 0} where
       elim (where_is v k e below beside o h) [
         | Here same y u z ↦
             let old : l ≡ linked e parent (first below) previous (first beside) =
-                let q : G v ≡ Some (linked e parent (first below) previous (first beside)) = rw same at i.0 in cc in
+            let q : G v ≡ Some (linked e parent (first below) previous (first beside)) = rw same at i.0 in cc in
             let wrote : H v ≡ Some (linked (change e) parent (first below) previous (first beside)) =
-                w ∙ ap (λ x. Some x) is ∙ ap (λ (m : Linked T). Some (linked (change (entry_of m)) m.parent m.first_child m.previous m.next)) old in
+            w ∙ ap (λ x. Some x) is ∙ ap (λ (m : Linked T). Some (linked (change (entry_of m)) m.parent m.first_child m.previous m.next)) old in
             rw (y, changed_absent v change below u, changed_absent v change beside z) (
               rw same wrote,
               frame G H (Some k) None below (λ s j. others s (differs s v below j u)) i.1,

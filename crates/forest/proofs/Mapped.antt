@@ -47,15 +47,21 @@ module _ {A B : Type 0} (f : A → B) where
         | inl y ↦
             let u : has n below ≡ false = rw (eqb-true k n y) at apart.not_below in
             let v : has n beside ≡ false = rw (eqb-true k n y) at apart.not_beside in
-            rw (y, changed_absent n g below u, changed_absent n g beside v, e a (rw y refl),
-              changed_absent n h (mapped f below) (mapped-has n below ∙ u), changed_absent n h (mapped f beside) (mapped-has n beside ∙ v)) refl
+            rw (
+              y,
+              changed_absent n g below u,
+              changed_absent n g beside v,
+              e a (rw y refl),
+              changed_absent n h (mapped f below) (mapped-has n below ∙ u),
+              changed_absent n h (mapped f beside) (mapped-has n beside ∙ v),
+            ) refl
         | inr y ↦
             let one : mapped f (changed n g below) ≡ changed n h (mapped f below) =
-                mapped-changed n g h below (λ b q. e b (rw (y, q) refl)) apart.once_below in
+            mapped-changed n g h below (λ b q. e b (rw (y, q) refl)) apart.once_below in
             let two : mapped f (changed n g beside) ≡ changed n h (mapped f beside) =
-                mapped-changed n g h beside
-                (λ b q. e b (let v : has n beside ≡ true = has_at n beside b q in rw (y, at_absent n below (apart.apart_back n v), q) refl))
-                apart.once_beside in
+            mapped-changed n g h beside
+            (λ b q. e b (let v : has n beside ≡ true = has_at n beside b q in rw (y, at_absent n below (apart.apart_back n v), q) refl))
+            apart.once_beside in
             rw (y, one, two) refl
       ]
 
@@ -77,9 +83,9 @@ module _ {A B : Type 0} (f : A → B) where
       elim (cases_Bool (k == n)) [
         | inl y ↦ rw y refl
         | inr y ↦ elim (cases_Bool (has n below)) [
-            | inl u ↦ rw (y, mapped-has n below, u) (mapped-children n below)
-            | inr u ↦ rw (y, mapped-has n below, u) (mapped-children n beside)
-          ]
+          | inl u ↦ rw (y, mapped-has n below, u) (mapped-children n below)
+          | inr u ↦ rw (y, mapped-has n below, u) (mapped-children n beside)
+        ]
       ]
 
   pub mapped-root : (n : ℕ) (t : Forest A) → is_root n (mapped f t) ≡ is_root n t
@@ -129,12 +135,12 @@ module _ {A : Type 0} where
       elim (cases_Bool (k == n)) [
         | inl y ↦ let e : b ≡ a = let w : Some b ≡ Some a = rw y at h in cc in rw y (ap (λ x. Some (f x)) e)
         | inr y ↦ elim (cases_Bool (has n below)) [
-            | inl u ↦
-                let w = at_some n below u in
-                let r : at n below ≡ Some a = let z : either (at n below) (at n beside) ≡ Some a = rw y at h in w.1 ∙ (rw w.1 at z) in
-                rw (y, at_changed n f below a r) refl
-            | inr u ↦
-                let r : at n beside ≡ Some a = rw (y, at_absent n below u) at h in
-                rw (y, at_absent n (changed n f below) (has_changed n n f below ∙ u), at_changed n f beside a r) refl
-          ]
+          | inl u ↦
+              let w = at_some n below u in
+              let r : at n below ≡ Some a = let z : either (at n below) (at n beside) ≡ Some a = rw y at h in w.1 ∙ (rw w.1 at z) in
+              rw (y, at_changed n f below a r) refl
+          | inr u ↦
+              let r : at n beside ≡ Some a = rw (y, at_absent n below u) at h in
+              rw (y, at_absent n (changed n f below) (has_changed n n f below ∙ u), at_changed n f beside a r) refl
+        ]
       ]

@@ -83,7 +83,7 @@ module _ {T : Type 0} where
         | Here same y u w ↦
             let num : (e.number == n) ≡ true = sym g.0 ∙ y in
             let is : l ≡ linked e parent (first below) previous (first beside) =
-                let z : G v ≡ Some (linked e parent (first below) previous (first beside)) = rw same at i.0 in cc in
+            let z : G v ≡ Some (linked e parent (first below) previous (first beside)) = rw same at i.0 in cc in
             record {
               number = ap (λ (m : Linked T). m.number) is ∙ eqb-true e.number n num;
               entry = rw y (ap (λ (m : Linked T). Some (entry_of m)) (sym is));
@@ -143,8 +143,8 @@ module _ {T : Type 0} where
       elim (where_is s k e below beside o h) [
         | Here same y u w ↦
             let is : e.number ≡ l.number =
-                let z : G s ≡ Some (linked e parent (first below) previous (first beside)) = rw same at i.0 in
-                let q : l ≡ linked e parent (first below) previous (first beside) = cc in ap (λ (m : Linked T). m.number) (sym q) in
+            let z : G s ≡ Some (linked e parent (first below) previous (first beside)) = rw same at i.0 in
+            let q : l ≡ linked e parent (first below) previous (first beside) = cc in ap (λ (m : Linked T). m.number) (sym q) in
             rw (eq-eqb e.number l.number is) (ap (λ x. Some x) same)
         | Below ne y u w ↦
             let r : at l.number (slots below) ≡ Some s = placed_at G (Some k) None s l below apart.once_below parts.once_below u i.1 j in

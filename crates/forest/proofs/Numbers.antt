@@ -39,9 +39,9 @@ module _ {T B : Type 0} (f : ℕ → Entry T → B) where
       elim (cases_Bool (k == v)) [
         | inl y ↦ rw (y, sym g.0 ∙ y) refl
         | inr y ↦ elim (cases_Bool (has v below)) [
-            | inl u ↦ rw (y, sym g.0 ∙ y, has_agreed v n below g.1, u) (children_agreed v n below g.1)
-            | inr u ↦ rw (y, sym g.0 ∙ y, has_agreed v n below g.1, u) (children_agreed v n beside g.2)
-          ]
+          | inl u ↦ rw (y, sym g.0 ∙ y, has_agreed v n below g.1, u) (children_agreed v n below g.1)
+          | inr u ↦ rw (y, sym g.0 ∙ y, has_agreed v n below g.1, u) (children_agreed v n beside g.2)
+        ]
       ]
 
   pub removed_agreed : (v n : ℕ) (t : Forest (Entry T)) → Agree v n t → by_number f (removed v t) ≡ removed n (by_number f t)
@@ -70,17 +70,17 @@ module _ {T B : Type 0} (f : ℕ → Entry T → B) where
             let slot : k ≡ v = eqb-true k v y in
             (rw (← same) (eqb-true d.number n num), rw num (ap (λ x. Some x) (ap (λ (s : ℕ). f s d) slot ∙ ap (f v) same)))
         | inr y ↦ elim (cases_Bool (has v below)) [
-            | inl u ↦
-                let w = at_some v below u in
-                let r : at v below ≡ Some e = let z : either (at v below) (at v beside) ≡ Some e = rw y at h in w.1 ∙ (rw w.1 at z) in
-                let rest = at_agreed v n e below g.1 r in
-                (rest.0, rw (sym g.0 ∙ y, rest.1) refl)
-            | inr u ↦
-                let r : at v beside ≡ Some e = rw (y, at_absent v below u) at h in
-                let rest = at_agreed v n e beside g.2 r in
-                let none : at n (by_number f below) ≡ None = at_absent n (by_number f below) (has_agreed v n below g.1 ∙ u) in
-                (rest.0, rw (sym g.0 ∙ y, none, rest.1) refl)
-          ]
+          | inl u ↦
+              let w = at_some v below u in
+              let r : at v below ≡ Some e = let z : either (at v below) (at v beside) ≡ Some e = rw y at h in w.1 ∙ (rw w.1 at z) in
+              let rest = at_agreed v n e below g.1 r in
+              (rest.0, rw (sym g.0 ∙ y, rest.1) refl)
+          | inr u ↦
+              let r : at v beside ≡ Some e = rw (y, at_absent v below u) at h in
+              let rest = at_agreed v n e beside g.2 r in
+              let none : at n (by_number f below) ≡ None = at_absent n (by_number f below) (has_agreed v n below g.1 ∙ u) in
+              (rest.0, rw (sym g.0 ∙ y, none, rest.1) refl)
+        ]
       ]
 
 module _ {T : Type 0} where
@@ -99,14 +99,14 @@ module _ {T : Type 0} where
       elim (cases_Bool (e.number == n)) [
         | inl y ↦ let same : k ≡ v = let w : Some k ≡ Some v = rw y at h in cc in rw (eq-eqb k v same) refl
         | inr y ↦ elim (cases_Bool (has n (slots below))) [
-            | inl u ↦
-                let w = at_some n (slots below) u in
-                let r : at n (slots below) ≡ Some v = let z : either (at n (slots below)) (at n (slots beside)) ≡ Some v = rw y at h in w.1 ∙ (rw w.1 at z) in
-                grind (arith, placed_has v n below r)
-            | inr u ↦
-                let r : at n (slots beside) ≡ Some v = rw (y, at_absent n (slots below) u) at h in
-                grind (arith, placed_has v n beside r)
-          ]
+          | inl u ↦
+              let w = at_some n (slots below) u in
+              let r : at n (slots below) ≡ Some v = let z : either (at n (slots below)) (at n (slots beside)) ≡ Some v = rw y at h in w.1 ∙ (rw w.1 at z) in
+              grind (arith, placed_has v n below r)
+          | inr u ↦
+              let r : at n (slots beside) ≡ Some v = rw (y, at_absent n (slots below) u) at h in
+              grind (arith, placed_has v n beside r)
+        ]
       ]
 
   pub agree_at : (v n : ℕ) (t : Forest (Entry T)) → Once t → Once (values t) → at n (slots t) ≡ Some v → Agree v n t
@@ -117,33 +117,30 @@ module _ {T : Type 0} where
       elim (cases_Bool (e.number == n)) [
         | inl y ↦
             let same : k ≡ v = let w : Some k ≡ Some v = rw y at h in cc in
-            let num : e.number ≡ n = eqb-true e.number n y in
-            (
+            let num : e.number ≡ n = eqb-true e.number n y in (
               rw (eq-eqb k v same) (sym y),
               agree_absent v n below (rw same at apart.not_below) (rw num at parts.not_below),
               agree_absent v n beside (rw same at apart.not_beside) (rw num at parts.not_beside),
             )
         | inr y ↦ elim (cases_Bool (has n (slots below))) [
-            | inl u ↦
-                let w = at_some n (slots below) u in
-                let r : at n (slots below) ≡ Some v = let z : either (at n (slots below)) (at n (slots beside)) ≡ Some v = rw y at h in w.1 ∙ (rw w.1 at z) in
-                let inside : has v below ≡ true = placed_has v n below r in
-                let numbers : has n (values below) ≡ true = sym (has_by (λ s d. s) n below) ∙ u in
-                (
-                  rw y (false_from_ne_true (k == v) (λ z. both_ways (has v below) (rw (eqb-true k v z) at apart.not_below) inside)),
-                  agree_at v n below apart.once_below parts.once_below r,
-                  agree_absent v n beside (apart.apart v inside) (parts.apart n numbers),
-                )
-            | inr u ↦
-                let r : at n (slots beside) ≡ Some v = rw (y, at_absent n (slots below) u) at h in
-                let inside : has v beside ≡ true = placed_has v n beside r in
-                let numbers : has n (values beside) ≡ true = sym (has_by (λ s d. s) n beside) ∙ has_at n (slots beside) v r in
-                (
-                  rw y (false_from_ne_true (k == v) (λ z. both_ways (has v beside) (rw (eqb-true k v z) at apart.not_beside) inside)),
-                  agree_absent v n below (apart.apart_back v inside) (parts.apart_back n numbers),
-                  agree_at v n beside apart.once_beside parts.once_beside r,
-                )
-          ]
+          | inl u ↦
+              let w = at_some n (slots below) u in
+              let r : at n (slots below) ≡ Some v = let z : either (at n (slots below)) (at n (slots beside)) ≡ Some v = rw y at h in w.1 ∙ (rw w.1 at z) in
+              let inside : has v below ≡ true = placed_has v n below r in
+              let numbers : has n (values below) ≡ true = sym (has_by (λ s d. s) n below) ∙ u in (
+                rw y (false_from_ne_true (k == v) (λ z. both_ways (has v below) (rw (eqb-true k v z) at apart.not_below) inside)),
+                agree_at v n below apart.once_below parts.once_below r,
+                agree_absent v n beside (apart.apart v inside) (parts.apart n numbers),
+              )
+          | inr u ↦
+              let r : at n (slots beside) ≡ Some v = rw (y, at_absent n (slots below) u) at h in
+              let inside : has v beside ≡ true = placed_has v n beside r in
+              let numbers : has n (values beside) ≡ true = sym (has_by (λ s d. s) n beside) ∙ has_at n (slots beside) v r in (
+                rw y (false_from_ne_true (k == v) (λ z. both_ways (has v beside) (rw (eqb-true k v z) at apart.not_beside) inside)),
+                agree_absent v n below (apart.apart_back v inside) (parts.apart_back n numbers),
+                agree_at v n beside apart.once_beside parts.once_beside r,
+              )
+        ]
       ]
 
   -- another value at a slot

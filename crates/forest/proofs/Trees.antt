@@ -19,9 +19,9 @@ module _ {A : Type 0} where
       elim (or_cases (k == n) (has n below || has n beside) h) [
         | inl e ↦ rw e (omega arith)
         | inr r ↦ elim (or_cases (has n below) (has n beside) r) [
-            | inl e ↦ omega (arith, times_some n below e)
-            | inr e ↦ omega (arith, times_some n beside e)
-          ]
+          | inl e ↦ omega (arith, times_some n below e)
+          | inr e ↦ omega (arith, times_some n beside e)
+        ]
       ]
 
   pub has_none : (n : ℕ) (t : Forest A) → times n t ≡ 0 → has n t ≡ false
@@ -210,7 +210,7 @@ module _ {A : Type 0} where
   pub parent_stays : (n p : ℕ) (t : Forest A) → Once t → Moves n p t → has p (removed n t) ≡ true
   parent_stays n p t o w =
       let e : times p (removed n t) + (0 + 0) ≡ times p t =
-          rw (ne_eqb n p (λ h. w.other (sym h)), times_none p (children n t) w.apart) at (times_removed p n t o w.node) in
+      rw (ne_eqb n p (λ h. w.other (sym h)), times_none p (children n t) w.apart) at (times_removed p n t o w.node) in
       has_some p (removed n t) (omega (arith, times_some p t w.parent, e))
 
   pub once_removed : (n : ℕ) (t : Forest A) → Once t → has n t ≡ true → Once (removed n t)
@@ -221,7 +221,7 @@ module _ {A : Type 0} where
     once = λ m. elim (cases_eq n m) [
       | inl e ↦ rw (times_put m p n a Empty t o h, eq-eqb n m e, times_none m t (rw e at new)) (omega arith)
       | inr ne ↦ rw (times_put m p n a Empty t o h, ne_eqb n m ne) (omega (arith, o.once m))
-    ]
+    ];
   }
 
   pub once_front : (n : ℕ) (a : A) (t : Forest A) → Once t → has n t ≡ false → Once (Node n a Empty t)
@@ -229,7 +229,7 @@ module _ {A : Type 0} where
     once = λ m. elim (cases_eq n m) [
       | inl e ↦ rw (eq-eqb n m e, times_none m t (rw e at new)) (omega arith)
       | inr ne ↦ rw (ne_eqb n m ne) (omega (arith, o.once m))
-    ]
+    ];
   }
 
   pub once_changed : (n : ℕ) (f : A → A) (t : Forest A) → Once t → Once (changed n f t)
@@ -268,17 +268,38 @@ module _ {A : Type 0} where
             elim (or_cases (k == m) (has m (removed n below) || has m (removed n beside)) r) [
               | inl e ↦ rw e refl
               | inr e ↦ elim (or_cases (has m (removed n below)) (has m (removed n beside)) e) [
-                  | inl x ↦ grind (arith, has_of_removed m n below x)
-                  | inr x ↦ grind (arith, has_of_removed m n beside x)
-                ]
+                | inl x ↦ grind (arith, has_of_removed m n below x)
+                | inr x ↦ grind (arith, has_of_removed m n beside x)
+              ]
             ]
       ]
 
   -- what is left without a node is neither the node nor below it
   pub left_apart : (m n : ℕ) (t : Forest A) → Once t → has n t ≡ true → has m (removed n t) ≡ true → (m ≢ n) × (has m (children n t) ≡ false)
   left_apart m n t o h u =
-      let sum = times_removed m n t o h in
-      (
+      let sum = times_removed m n t o h in (
         λ e. both_ways (has m (removed n t)) (rw e (removed_has n t o h)) u,
         has_none m (children n t) (omega (arith, o.once m, sum, times_some m (removed n t) u)),
       )
+
+  -- without a node that has no children, every other one is there as before
+  pub at_removed : (m n : ℕ) (t : Forest A) → Once t → m ≢ n → children n t ≡ Empty → at m (removed n t) ≡ at m t
+  at_removed m n Empty o ne leaf = refl
+  at_removed m n (Node k a below beside) o ne leaf =
+      let apart : Apart k below beside = apart_of k a below beside o in
+      elim (cases_Bool (k == n)) [
+        | inl y ↦
+            let e : k ≡ n = eqb-true k n y in
+            let empty : below ≡ Empty = rw y at leaf in
+            let out : has n beside ≡ false = rw e at apart.not_beside in
+            let other : (k == m) ≡ false = ne_eqb k m (λ z. ne (sym z ∙ e)) in
+            rw (y, removed_absent n beside out, other, empty) refl
+        | inr y ↦ elim (cases_Bool (has n below)) [
+          | inl u ↦
+              let l : children n below ≡ Empty = rw (y, u) at leaf in
+              rw (y, removed_absent n beside (apart.apart n u), at_removed m n below apart.once_below ne l) refl
+          | inr u ↦
+              let l : children n beside ≡ Empty = rw (y, u) at leaf in
+              rw (y, removed_absent n below u, at_removed m n beside apart.once_beside ne l) refl
+        ]
+      ]

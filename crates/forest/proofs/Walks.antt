@@ -121,19 +121,19 @@ module _ {A : Type 0} where
             left_other up n (Node k a below beside) rest (λ z. eqb-false k up p.0 (same ∙ z))
             ∙ ap (λ (xs : List ℕ). n ∷ (xs ++ up ∷ rest)) behind
             ∙ ap (λ (xs : List ℕ). n ∷ xs)
-              (sym (left_first up beside rest apart.once_beside q.1) ∙ sym (left_beside up k (lead up beside) a below beside rest o out (lead_in up beside)) ∙ ap (λ (m : ℕ). left up m (Node k a below beside) rest) (sym next))
+            (sym (left_first up beside rest apart.once_beside q.1) ∙ sym (left_beside up k (lead up beside) a below beside rest o out (lead_in up beside)) ∙ ap (λ (m : ℕ). left up m (Node k a below beside) rest) (sym next))
         | Below ne y u w ↦
             let next : follows n up (Node k a below beside) ≡ follows n k below = rw (y, u) refl in
             left_below up k n a below beside rest o out (inr u)
             ∙ left_next k n below (order beside ++ up ∷ rest) apart.once_below apart.not_below u
             ∙ ap (λ (xs : List ℕ). n ∷ xs)
-              (sym (left_below up k (follows n k below) a below beside rest o out (follows_in n k below apart.once_below u)) ∙ ap (λ (m : ℕ). left up m (Node k a below beside) rest) (sym next))
+            (sym (left_below up k (follows n k below) a below beside rest o out (follows_in n k below apart.once_below u)) ∙ ap (λ (m : ℕ). left up m (Node k a below beside) rest) (sym next))
         | Beside ne y u w ↦
             let next : follows n up (Node k a below beside) ≡ follows n up beside = rw (y, u) refl in
             left_beside up k n a below beside rest o out (inr w)
             ∙ left_next up n beside rest apart.once_beside q.1 w
             ∙ ap (λ (xs : List ℕ). n ∷ xs)
-              (sym (left_beside up k (follows n up beside) a below beside rest o out (follows_in n up beside apart.once_beside w)) ∙ ap (λ (m : ℕ). left up m (Node k a below beside) rest) (sym next))
+            (sym (left_beside up k (follows n up beside) a below beside rest o out (follows_in n up beside apart.once_beside w)) ∙ ap (λ (m : ℕ). left up m (Node k a below beside) rest) (sym next))
       ]
 
   pub todo_first : (up : ℕ) (t : Forest A) → Once t → has up t ≡ false → todo up (lead up t) t ≡ order t ++ up ∷ []
@@ -200,9 +200,9 @@ module _ {A : Type 0} where
       elim (cases_Bool (k == m)) [
         | inl y ↦ rw y refl
         | inr y ↦ elim (cases_Bool (has m below)) [
-            | inl u ↦ rw (y, has_changed m n f below, u) (children_changed m n f below)
-            | inr u ↦ rw (y, has_changed m n f below, u) (children_changed m n f beside)
-          ]
+          | inl u ↦ rw (y, has_changed m n f below, u) (children_changed m n f below)
+          | inr u ↦ rw (y, has_changed m n f below, u) (children_changed m n f beside)
+        ]
       ]
 
   pub follows_changed : (m up n : ℕ) (f : A → A) (t : Forest A) → follows m up (changed n f t) ≡ follows m up t
@@ -229,17 +229,17 @@ module _ {A : Type 0} where
             let ne : k ≢ m = λ z. apart_from m k below u apart.not_below (sym z) in
             rw (y, ne_eqb k m ne, u) refl
         | inr y ↦ elim (cases_Bool (has n below)) [
-            | inl v ↦
-                let u : has m (children n below) ≡ true = rw (y, v) at h in
-                let w : has m below ≡ true = has_children m n below apart.once_below u in
-                let ne : k ≢ m = λ z. apart_from m k below w apart.not_below (sym z) in
-                rw (y, v, ne_eqb k m ne, w) (children_in m n below apart.once_below u)
-            | inr v ↦
-                let u : has m (children n beside) ≡ true = rw (y, v) at h in
-                let w : has m beside ≡ true = has_children m n beside apart.once_beside u in
-                let ne : k ≢ m = λ z. apart_from m k beside w apart.not_beside (sym z) in
-                rw (y, v, ne_eqb k m ne, apart.apart_back m w) (children_in m n beside apart.once_beside u)
-          ]
+          | inl v ↦
+              let u : has m (children n below) ≡ true = rw (y, v) at h in
+              let w : has m below ≡ true = has_children m n below apart.once_below u in
+              let ne : k ≢ m = λ z. apart_from m k below w apart.not_below (sym z) in
+              rw (y, v, ne_eqb k m ne, w) (children_in m n below apart.once_below u)
+          | inr v ↦
+              let u : has m (children n beside) ≡ true = rw (y, v) at h in
+              let w : has m beside ≡ true = has_children m n beside apart.once_beside u in
+              let ne : k ≢ m = λ z. apart_from m k beside w apart.not_beside (sym z) in
+              rw (y, v, ne_eqb k m ne, apart.apart_back m w) (children_in m n beside apart.once_beside u)
+        ]
       ]
 
   pub next_in : (m n : ℕ) (t : Forest A) → Once t → has m (children n t) ≡ true → next_of m (children n t) ≡ next_of m t
@@ -252,17 +252,17 @@ module _ {A : Type 0} where
             let ne : k ≢ m = λ z. apart_from m k below u apart.not_below (sym z) in
             rw (y, ne_eqb k m ne, u) refl
         | inr y ↦ elim (cases_Bool (has n below)) [
-            | inl v ↦
-                let u : has m (children n below) ≡ true = rw (y, v) at h in
-                let w : has m below ≡ true = has_children m n below apart.once_below u in
-                let ne : k ≢ m = λ z. apart_from m k below w apart.not_below (sym z) in
-                rw (y, v, ne_eqb k m ne, w) (next_in m n below apart.once_below u)
-            | inr v ↦
-                let u : has m (children n beside) ≡ true = rw (y, v) at h in
-                let w : has m beside ≡ true = has_children m n beside apart.once_beside u in
-                let ne : k ≢ m = λ z. apart_from m k beside w apart.not_beside (sym z) in
-                rw (y, v, ne_eqb k m ne, apart.apart_back m w) (next_in m n beside apart.once_beside u)
-          ]
+          | inl v ↦
+              let u : has m (children n below) ≡ true = rw (y, v) at h in
+              let w : has m below ≡ true = has_children m n below apart.once_below u in
+              let ne : k ≢ m = λ z. apart_from m k below w apart.not_below (sym z) in
+              rw (y, v, ne_eqb k m ne, w) (next_in m n below apart.once_below u)
+          | inr v ↦
+              let u : has m (children n beside) ≡ true = rw (y, v) at h in
+              let w : has m beside ≡ true = has_children m n beside apart.once_beside u in
+              let ne : k ≢ m = λ z. apart_from m k beside w apart.not_beside (sym z) in
+              rw (y, v, ne_eqb k m ne, apart.apart_back m w) (next_in m n beside apart.once_beside u)
+        ]
       ]
 
   -- where the walk goes from a node: to the next sibling's first, or to the parent
@@ -278,9 +278,9 @@ module _ {A : Type 0} where
       elim (where_is m k a below beside o h) [
         | Here same y u w ↦ absurd (both_ways (k == m) q.0 y)
         | Below ne y u w ↦ elim (cases_Bool (is_root m below)) [
-            | inl b ↦ (k, rw b refl)
-            | inr b ↦ let p = parent_has m below apart.once_below u b in (p.0, rw (b, u) p.1)
-          ]
+          | inl b ↦ (k, rw b refl)
+          | inr b ↦ let p = parent_has m below apart.once_below u b in (p.0, rw (b, u) p.1)
+        ]
         | Beside ne y u w ↦
             let p = parent_has m beside apart.once_beside w q.1 in
             (p.0, rw (root_absent m below u, u) p.1)
@@ -302,9 +302,9 @@ module _ {A : Type 0} where
       elim (cases_Bool (k == m)) [
         | inl y ↦ in_later b k a below beside (has_first b beside (rw y at q))
         | inr y ↦ elim (cases_Bool (has m below)) [
-            | inl u ↦ in_lower b k a below beside (next_has m b below (rw (y, u) at q))
-            | inr u ↦ in_later b k a below beside (next_has m b beside (rw (y, u) at q))
-          ]
+          | inl u ↦ in_lower b k a below beside (next_has m b below (rw (y, u) at q))
+          | inr u ↦ in_later b k a below beside (next_has m b beside (rw (y, u) at q))
+        ]
       ]
 
   part_below : (b k : ℕ) (a : A) (below beside : Forest A) → Apart k below beside → has b below ≡ true → children b (Node k a below beside) ≡ children b below
@@ -325,31 +325,31 @@ module _ {A : Type 0} where
             let goal : follows m up t ≡ lead up beside = rw y refl in
             record {
               beside = λ b q.
-                let f : first beside ≡ Some b = rw y at q in
-                goal ∙ lead_first up b beside f ∙ ap (λ (x : Forest A). lead b x) (sym (part_beside b k a below beside apart (has_first b beside f)));
+                  let f : first beside ≡ Some b = rw y at q in
+                  goal ∙ lead_first up b beside f ∙ ap (λ (x : Forest A). lead b x) (sym (part_beside b k a below beside apart (has_first b beside f)));
               over = λ q.
-                let f : first beside ≡ None = rw y at q in
-                let none : parent_of m t ≡ None = rw (root_absent m below u, u) (parent_absent m beside w) in
-                goal ∙ lead_none up beside f ∙ ap (λ (o : Option ℕ). unwrap_or o up) (sym none);
+                  let f : first beside ≡ None = rw y at q in
+                  let none : parent_of m t ≡ None = rw (root_absent m below u, u) (parent_absent m beside w) in
+                  goal ∙ lead_none up beside f ∙ ap (λ (o : Option ℕ). unwrap_or o up) (sym none);
             }
         | Below ne y u w ↦
             let r : Goes m k below = goes m k below apart.once_below u in
             let goal : follows m up t ≡ follows m k below = rw (y, u) refl in
             record {
               beside = λ b q.
-                let f : next_of m below ≡ Some b = rw (y, u) at q in
-                goal ∙ r.beside b f ∙ ap (λ (x : Forest A). lead b x) (sym (part_below b k a below beside apart (next_has m b below f)));
+                  let f : next_of m below ≡ Some b = rw (y, u) at q in
+                  goal ∙ r.beside b f ∙ ap (λ (x : Forest A). lead b x) (sym (part_below b k a below beside apart (next_has m b below f)));
               over = λ q.
-                let f : next_of m below ≡ None = rw (y, u) at q in
-                elim (cases_Bool (is_root m below)) [
-                  | inl b ↦
-                      let is : parent_of m t ≡ Some k = rw b refl in
-                      goal ∙ r.over f ∙ ap (λ (o : Option ℕ). unwrap_or o k) (parent_root m below apart.once_below b) ∙ ap (λ (o : Option ℕ). unwrap_or o up) (sym is)
-                  | inr b ↦
-                      let p = parent_has m below apart.once_below u b in
-                      let is : parent_of m t ≡ Some p.0 = rw (b, u) p.1 in
-                      goal ∙ r.over f ∙ ap (λ (o : Option ℕ). unwrap_or o k) p.1 ∙ ap (λ (o : Option ℕ). unwrap_or o up) (sym is)
-                ];
+                  let f : next_of m below ≡ None = rw (y, u) at q in
+                  elim (cases_Bool (is_root m below)) [
+                    | inl b ↦
+                        let is : parent_of m t ≡ Some k = rw b refl in
+                        goal ∙ r.over f ∙ ap (λ (o : Option ℕ). unwrap_or o k) (parent_root m below apart.once_below b) ∙ ap (λ (o : Option ℕ). unwrap_or o up) (sym is)
+                    | inr b ↦
+                        let p = parent_has m below apart.once_below u b in
+                        let is : parent_of m t ≡ Some p.0 = rw (b, u) p.1 in
+                        goal ∙ r.over f ∙ ap (λ (o : Option ℕ). unwrap_or o k) p.1 ∙ ap (λ (o : Option ℕ). unwrap_or o up) (sym is)
+                  ];
             }
         | Beside ne y u w ↦
             let r : Goes m up beside = goes m up beside apart.once_beside w in
@@ -357,11 +357,11 @@ module _ {A : Type 0} where
             let above : parent_of m t ≡ parent_of m beside = rw (root_absent m below u, u) refl in
             record {
               beside = λ b q.
-                let f : next_of m beside ≡ Some b = rw (y, u) at q in
-                goal ∙ r.beside b f ∙ ap (λ (x : Forest A). lead b x) (sym (part_beside b k a below beside apart (next_has m b beside f)));
+                  let f : next_of m beside ≡ Some b = rw (y, u) at q in
+                  goal ∙ r.beside b f ∙ ap (λ (x : Forest A). lead b x) (sym (part_beside b k a below beside apart (next_has m b beside f)));
               over = λ q.
-                let f : next_of m beside ≡ None = rw (y, u) at q in
-                goal ∙ r.over f ∙ ap (λ (o : Option ℕ). unwrap_or o up) (sym above);
+                  let f : next_of m beside ≡ None = rw (y, u) at q in
+                  goal ∙ r.over f ∙ ap (λ (o : Option ℕ). unwrap_or o up) (sym above);
             }
       ]
 
@@ -371,16 +371,16 @@ module _ {A : Type 0} where
   below_root m n (Node k a below beside) o h =
       let apart : Apart k below beside = apart_of k a below beside o in
       let deep : has m below ≡ true → is_root m (Node k a below beside) ≡ false =
-          λ u. rw (ne_eqb k m (λ z. apart_from m k below u apart.not_below (sym z))) (root_absent m beside (apart.apart m u)) in
+      λ u. rw (ne_eqb k m (λ z. apart_from m k below u apart.not_below (sym z))) (root_absent m beside (apart.apart m u)) in
       elim (cases_Bool (k == n)) [
         | inl y ↦ deep (rw y at h)
         | inr y ↦ elim (cases_Bool (has n below)) [
-            | inl v ↦ deep (has_children m n below apart.once_below (rw (y, v) at h))
-            | inr v ↦
-                let u : has m (children n beside) ≡ true = rw (y, v) at h in
-                let w : has m beside ≡ true = has_children m n beside apart.once_beside u in
-                rw (ne_eqb k m (λ z. apart_from m k beside w apart.not_beside (sym z))) (below_root m n beside apart.once_beside u)
-          ]
+          | inl v ↦ deep (has_children m n below apart.once_below (rw (y, v) at h))
+          | inr v ↦
+              let u : has m (children n beside) ≡ true = rw (y, v) at h in
+              let w : has m beside ≡ true = has_children m n beside apart.once_beside u in
+              rw (ne_eqb k m (λ z. apart_from m k beside w apart.not_beside (sym z))) (below_root m n beside apart.once_beside u)
+        ]
       ]
 
   pub parent_in : (m n : ℕ) (t : Forest A) → Once t → has m (children n t) ≡ true → parent_of m t ≡ Some (unwrap_or (parent_of m (children n t)) n)
@@ -395,16 +395,16 @@ module _ {A : Type 0} where
               | inr b ↦ let p = parent_has m below apart.once_below u b in rw (y, b, u, p.1) refl
             ]
         | inr y ↦ elim (cases_Bool (has n below)) [
-            | inl v ↦
-                let u : has m (children n below) ≡ true = rw (y, v) at h in
-                let w : has m below ≡ true = has_children m n below apart.once_below u in
-                rw (y, v, below_root m n below apart.once_below u, w) (parent_in m n below apart.once_below u)
-            | inr v ↦
-                let u : has m (children n beside) ≡ true = rw (y, v) at h in
-                let w : has m beside ≡ true = has_children m n beside apart.once_beside u in
-                let z : has m below ≡ false = apart.apart_back m w in
-                rw (y, v, root_absent m below z, z) (parent_in m n beside apart.once_beside u)
-          ]
+          | inl v ↦
+              let u : has m (children n below) ≡ true = rw (y, v) at h in
+              let w : has m below ≡ true = has_children m n below apart.once_below u in
+              rw (y, v, below_root m n below apart.once_below u, w) (parent_in m n below apart.once_below u)
+          | inr v ↦
+              let u : has m (children n beside) ≡ true = rw (y, v) at h in
+              let w : has m beside ≡ true = has_children m n beside apart.once_beside u in
+              let z : has m below ≡ false = apart.apart_back m w in
+              rw (y, v, root_absent m below z, z) (parent_in m n beside apart.once_beside u)
+        ]
       ]
 
   pub once_children : (n : ℕ) (t : Forest A) → Once t → Once (children n t)
@@ -414,9 +414,9 @@ module _ {A : Type 0} where
       elim (cases_Bool (k == n)) [
         | inl y ↦ rw y apart.once_below
         | inr y ↦ elim (cases_Bool (has n below)) [
-            | inl v ↦ rw (y, v) (once_children n below apart.once_below)
-            | inr v ↦ rw (y, v) (once_children n beside apart.once_beside)
-          ]
+          | inl v ↦ rw (y, v) (once_children n below apart.once_below)
+          | inr v ↦ rw (y, v) (once_children n beside apart.once_beside)
+        ]
       ]
 
   front_step : (up c : ℕ) (f : Forest A) → first f ≡ Some c → (lead c (children c f) ≡ lead up f) × (size (children c f) < size f)
@@ -446,3 +446,88 @@ module _ {A : Type 0} where
   goes_over m top t o h q =
       let f : next_of m (children top t) ≡ None = next_in m top t o h ∙ q in
       parent_in m top t o h ∙ ap (λ x. Some x) (sym ((goes m top (children top t) (once_children top t o) h).over f))
+
+  -- the walk that takes nodes out: where it stands, nothing is below
+  pub lead_leaf : (up : ℕ) (t : Forest A) → Once t → has (lead up t) t ≡ true → children (lead up t) t ≡ Empty
+  lead_leaf up Empty o h = absurd (cc)
+  lead_leaf up (Node k a Empty beside) o h = rw (eq-eqb k k refl) refl
+  lead_leaf up (Node k a (Node m b low next) beside) o h =
+      let below : Forest A = Node m b low next in
+      let apart : Apart k below beside = apart_of k a below beside o in
+      let i : has (lead k below) below ≡ true = lead_of_node k m b low next in
+      part_below (lead k below) k a below beside apart i ∙ lead_leaf k (Node m b low next) apart.once_below i
+
+  pub lead_end : (up : ℕ) (t : Forest A) → has up t ≡ false → lead up t ≡ up → t ≡ Empty
+  lead_end up Empty out e = refl
+  lead_end up (Node k a below beside) out e =
+      absurd (both_ways (has up (Node k a below beside)) out (ap (λ (n : ℕ). has n (Node k a below beside)) (sym e) ∙ lead_of_node up k a below beside))
+
+  pub removed_below : (m n : ℕ) (t : Forest A) → Once t → has m (children n t) ≡ true → removed n (removed m t) ≡ removed n t
+  removed_below m n Empty o h = refl
+  removed_below m n (Node k a below beside) o h =
+      let apart : Apart k below beside = apart_of k a below beside o in
+      elim (cases_Bool (k == n)) [
+        | inl y ↦
+            let u : has m below ≡ true = rw y at h in
+            let ne : k ≢ m = λ z. apart_from m k below u apart.not_below (sym z) in
+            rw (ne_eqb k m ne, removed_absent m beside (apart.apart m u), y) refl
+        | inr y ↦ elim (cases_Bool (has n below)) [
+          | inl v ↦
+              let u : has m (children n below) ≡ true = rw (y, v) at h in
+              let w : has m below ≡ true = has_children m n below apart.once_below u in
+              let ne : k ≢ m = λ z. apart_from m k below w apart.not_below (sym z) in
+              rw (ne_eqb k m ne, removed_absent m beside (apart.apart m w), y, removed_below m n below apart.once_below u) refl
+          | inr v ↦
+              let u : has m (children n beside) ≡ true = rw (y, v) at h in
+              let w : has m beside ≡ true = has_children m n beside apart.once_beside u in
+              let ne : k ≢ m = λ z. apart_from m k beside w apart.not_beside (sym z) in
+              rw (ne_eqb k m ne, removed_absent m below (apart.apart_back m w), y, removed_below m n beside apart.once_beside u) refl
+        ]
+      ]
+
+  pub above_stays : (m n : ℕ) (t : Forest A) → Once t → has m (children n t) ≡ true → has n (removed m t) ≡ true
+  above_stays m n Empty o h = absurd (cc)
+  above_stays m n (Node k a below beside) o h =
+      let apart : Apart k below beside = apart_of k a below beside o in
+      elim (cases_Bool (k == n)) [
+        | inl y ↦
+            let u : has m below ≡ true = rw y at h in
+            let ne : k ≢ m = λ z. apart_from m k below u apart.not_below (sym z) in
+            rw (ne_eqb k m ne, y) refl
+        | inr y ↦ elim (cases_Bool (has n below)) [
+          | inl v ↦
+              let u : has m (children n below) ≡ true = rw (y, v) at h in
+              let w : has m below ≡ true = has_children m n below apart.once_below u in
+              let ne : k ≢ m = λ z. apart_from m k below w apart.not_below (sym z) in
+              rw (ne_eqb k m ne, y, above_stays m n below apart.once_below u) refl
+          | inr v ↦
+              let u : has m (children n beside) ≡ true = rw (y, v) at h in
+              let w : has m beside ≡ true = has_children m n beside apart.once_beside u in
+              let ne : k ≢ m = λ z. apart_from m k beside w apart.not_beside (sym z) in
+              rw (ne_eqb k m ne, removed_absent m below (apart.apart_back m w), y, v, above_stays m n beside apart.once_beside u) refl
+        ]
+      ]
+
+  pub children_removed : (m n : ℕ) (t : Forest A) → Once t → has m (children n t) ≡ true → children n (removed m t) ≡ removed m (children n t)
+  children_removed m n Empty o h = refl
+  children_removed m n (Node k a below beside) o h =
+      let apart : Apart k below beside = apart_of k a below beside o in
+      elim (cases_Bool (k == n)) [
+        | inl y ↦
+            let u : has m below ≡ true = rw y at h in
+            let ne : k ≢ m = λ z. apart_from m k below u apart.not_below (sym z) in
+            rw (ne_eqb k m ne, y) refl
+        | inr y ↦ elim (cases_Bool (has n below)) [
+          | inl v ↦
+              let u : has m (children n below) ≡ true = rw (y, v) at h in
+              let w : has m below ≡ true = has_children m n below apart.once_below u in
+              let ne : k ≢ m = λ z. apart_from m k below w apart.not_below (sym z) in
+              let still : has n (removed m below) ≡ true = above_stays m n below apart.once_below u in
+              rw (ne_eqb k m ne, y, still, v) (children_removed m n below apart.once_below u)
+          | inr v ↦
+              let u : has m (children n beside) ≡ true = rw (y, v) at h in
+              let w : has m beside ≡ true = has_children m n beside apart.once_beside u in
+              let ne : k ≢ m = λ z. apart_from m k beside w apart.not_beside (sym z) in
+              rw (ne_eqb k m ne, y, removed_absent m below (apart.apart_back m w), v) (children_removed m n beside apart.once_beside u)
+        ]
+      ]

@@ -87,7 +87,12 @@ impl<T> LinkedForest<T> {
 
     /// Makes a node without children that is the first child of another one. Its number must be a new one.
     /// Where there is no memory the data comes back, and nothing changes.
-    pub fn insert_child(&mut self, parent: NodeId, number: u64, value: T) -> Result<NodeId, AllocFailed<T>>
+    pub fn insert_child(
+        &mut self,
+        parent: NodeId,
+        number: u64,
+        value: T,
+    ) -> Result<NodeId, AllocFailed<T>>
         requires parent { IsPlaced self.old parent }
         requires fresh { has number self.old.forest ≡ false }
         ensures number { IfOk result (λ id. id.number ≡ number) }
@@ -120,6 +125,7 @@ impl<T> LinkedForest<T> {
         ensures value { at id.number self.old.forest ≡ Some result }
         ensures forest { self.new.forest ≡ removed id.number self.old.forest }
         ensures places { self.new.places ≡ removed id.number self.old.places }
+        ensures stays { (other : ℕ) → other ≢ id.number → at other self.new.places ≡ at other self.old.places }
     {
         let node = &self.nodes[id.slot as usize];
         let (previous, above, next) = (node.previous, node.parent, node.next);

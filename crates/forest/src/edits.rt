@@ -50,7 +50,12 @@ pub fn set_previous<T>(nodes: &mut Slab<Linked<T>>, at: Option<u32>, previous: O
 }
 
 /// Links the sibling before a node, or the parent of a first child, to what stands behind it.
-pub fn skip<T>(nodes: &mut Slab<Linked<T>>, before: Option<u32>, parent: Option<u32>, next: Option<u32>)
+pub fn skip<T>(
+    nodes: &mut Slab<Linked<T>>,
+    before: Option<u32>,
+    parent: Option<u32>,
+    next: Option<u32>,
+)
     requires before { IfSome before (ContainsKey nodes.old) }
     requires parent { IfSome parent (ContainsKey nodes.old) }
     ensures { Skips nodes.old nodes.new before parent next }

@@ -11,3 +11,6 @@ mod links;
 
 pub use arena::LinkedForest;
 pub use id::NodeId;
+
+#[cfg(test)]
+mod tests;

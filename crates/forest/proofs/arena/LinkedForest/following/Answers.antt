@@ -18,4 +18,4 @@ returns-in-None-clause-number g c =
     let o : Once c.args.self.now.forest = rw (forest_is c.self.inside.nodes c.self.inside.first _ c.self.invariant c.self.view_is) at c.self.invariant.by_number in
     ap (λ (x : NodeId). x.number) c.unwrap_or.ensures
     ∙ named_or c.args.self.now c.parent.result _ _ c.args.top c.parent.ensures
-      (goes_over c.args.id.number c.args.top.number c.args.self.now.forest o c.requires.below c.in-None.ensures)
+    (goes_over c.args.id.number c.args.top.number c.args.self.now.forest o c.requires.below c.in-None.ensures)

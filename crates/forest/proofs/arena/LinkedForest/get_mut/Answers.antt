@@ -30,8 +30,8 @@ returns g c =
       record {
         lends = tt;
         value =
-          ap (λ (f : Forest g.row.T.Denot). at c.args.id.number f) (sym (forest_is nodes c.self.inside.first _ s c.self.view_is))
-          ∙ (at_agreed (λ x d. d.value) c.args.id.slot c.args.id.number (entry_of c.index_mut.result.now) s.tree p.agree node.entry).1
-          ∙ ap (λ x. Some x) c.value_mut.ensures.value;
+            ap (λ (f : Forest g.row.T.Denot). at c.args.id.number f) (sym (forest_is nodes c.self.inside.first _ s c.self.view_is))
+            ∙ (at_agreed (λ x d. d.value) c.args.id.slot c.args.id.number (entry_of c.index_mut.result.now) s.tree p.agree node.entry).1
+            ∙ ap (λ x. Some x) c.value_mut.ensures.value;
       },
     )

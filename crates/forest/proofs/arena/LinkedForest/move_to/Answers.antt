@@ -41,7 +41,7 @@ index-requires g c =
 pub set_previous-requires-2 : goal.set_previous-requires-2
 set_previous-requires-2 g c =
     let w = moving c.self.inside.nodes c.skip.new.nodes c.set_previous.new.nodes c.self.inside.first _ c.args.id c.args.parent c.index-node.result.now c.self.invariant c.self.view_is
-            c.requires.placed c.requires.parent c.requires.other c.requires.apart c.index-node.ensures c.skip.ensures c.set_previous.ensures in
+    c.requires.placed c.requires.parent c.requires.other c.requires.apart c.index-node.ensures c.skip.ensures c.set_previous.ensures in
     if_some_more c.index.result.now.first_child (ContainsKey c.set_previous.new.nodes) (ContainsKey c.set_place.new.nodes) c.set_place.ensures.keys
     (w.child_key c.index.result.now c.index.ensures)
 
@@ -53,7 +53,7 @@ set_first_child-requires g c =
 made : (g : given.Over) (c : goal.After-set_first_child g) → Builds c.set_first_child.new.nodes c.front_without-self-inside.result (put c.args.parent.slot c.args.id.slot (entry_of c.index-node.result.now) (children c.args.id.slot c.self.invariant.tree) (removed c.args.id.slot c.self.invariant.tree))
 made g c =
     let w = moving c.self.inside.nodes c.skip.new.nodes c.set_previous.new.nodes c.self.inside.first _ c.args.id c.args.parent c.index-node.result.now c.self.invariant c.self.view_is
-            c.requires.placed c.requires.parent c.requires.other c.requires.apart c.index-node.ensures c.skip.ensures c.set_previous.ensures in
+    c.requires.placed c.requires.parent c.requires.other c.requires.apart c.index-node.ensures c.skip.ensures c.set_previous.ensures in
     moved_to c.self.inside.nodes c.skip.new.nodes c.set_previous.new.nodes c.set_place.new.nodes c.set_previous-2.new.nodes c.set_first_child.new.nodes
     c.self.inside.first c.front_without-self-inside.result c.args.id.slot c.args.id.number c.args.parent.slot c.args.parent.number c.index-node.result.now c.index.result.now.first_child c.self.invariant
     w.agree w.numbers w.slot_moves c.index-node.ensures w.entry w.over c.skip.ensures c.set_previous.ensures

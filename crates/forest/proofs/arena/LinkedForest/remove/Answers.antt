@@ -5,9 +5,9 @@ use Rattle.forest.specs.Forest.{Forest, Empty, Node, has, Once, size, at, first,
 use Rattle.forest.specs.Forested.{Forested, IsPlaced, Named}
 use Rattle.forest.specs.Links.{Entry, entry_of, linked, IsLinked, values, slots, forested, IsSound, seen}
 use Rattle.forest.specs.declared.links.Linked.{Linked}
-use Rattle.forest.proofs.Trees.{children_absent, has_first}
+use Rattle.forest.proofs.Trees.{children_absent, has_first, at_removed}
 use Rattle.forest.proofs.Linking.{child_is, near, Near, first_inside}
-use Rattle.forest.proofs.Numbers.{Agree, has_agreed, children_agreed, removed_agreed, put_agreed, at_agreed, empty_by}
+use Rattle.forest.proofs.Numbers.{Agree, has_agreed, children_agreed, removed_agreed, put_agreed, at_agreed, empty_by, times_by}
 use Rattle.forest.proofs.Neighbours.{Names, names_first, IsNode, node_is, parent_root}
 use Rattle.forest.proofs.Seen.{seen_from, seen_is, seen_slots, sound_slots, Stands, stands_at, contains, named_is}
 use Rattle.forest.proofs.Calls.{Builds, sound_of, seen_built, insert_front, insert_below, taken_out, moved_to, moved_agreed, forest_is, places_are, if_some, if_some_more, Neighbours, neighbours, Moving, moving, vacant, key_in, Detached, detached}
@@ -41,9 +41,9 @@ made g c =
     let nodes = c.self.inside.nodes in
     let w = stands_at nodes c.self.inside.first _ c.args.id s c.self.view_is c.requires.placed in
     let leaf : children c.args.id.slot s.tree ≡ Empty =
-        empty_by (λ x d. d.value) (children c.args.id.slot s.tree)
-        (children_agreed (λ x d. d.value) c.args.id.slot c.args.id.number s.tree w.agree
-          ∙ ap (λ (f : Forest g.row.T.Denot). children c.args.id.number f) (forest_is nodes c.self.inside.first _ s c.self.view_is) ∙ c.requires.leaf) in
+    empty_by (λ x d. d.value) (children c.args.id.slot s.tree)
+    (children_agreed (λ x d. d.value) c.args.id.slot c.args.id.number s.tree w.agree
+    ∙ ap (λ (f : Forest g.row.T.Denot). children c.args.id.number f) (forest_is nodes c.self.inside.first _ s c.self.view_is) ∙ c.requires.leaf) in
     taken_out nodes c.skip.new.nodes c.set_previous.new.nodes c.remove-value.new.self c.self.inside.first c.front_without-self-inside.result c.args.id.slot c.args.id.number c.index-node.result.now s
     w.stands w.agree leaf c.index-node.ensures c.skip.ensures c.set_previous.ensures c.remove-value.ensures.updates c.remove-value.ensures.len
     c.front_without-self-inside.ensures.gone c.front_without-self-inside.ensures.stays
@@ -80,3 +80,20 @@ returns-clause-places g c =
     ap (λ (f : Forested g.row.T.Denot). f.places) (seen_built _ _ _ (made g c))
     ∙ removed_agreed (λ x d. x) c.args.id.slot c.args.id.number s.tree w.agree
     ∙ ap (λ (f : Forest ℕ). removed c.args.id.number f) (places_are c.self.inside.nodes c.self.inside.first _ s c.self.view_is)
+
+pub returns-clause-stays : goal.returns-clause-stays
+returns-clause-stays g c other ne =
+    let s = c.self.invariant in
+    let nodes = c.self.inside.nodes in
+    let w = stands_at nodes c.self.inside.first _ c.args.id s c.self.view_is c.requires.placed in
+    let leaf : children c.args.id.slot s.tree ≡ Empty =
+    empty_by (λ x d. d.value) (children c.args.id.slot s.tree)
+    (children_agreed (λ x d. d.value) c.args.id.slot c.args.id.number s.tree w.agree
+    ∙ ap (λ (f : Forest g.row.T.Denot). children c.args.id.number f) (forest_is nodes c.self.inside.first _ s c.self.view_is) ∙ c.requires.leaf) in
+    let below : children c.args.id.number (slots s.tree) ≡ Empty =
+    sym (children_agreed (λ x d. x) c.args.id.slot c.args.id.number s.tree w.agree) ∙ ap (λ (t : Forest (Entry g.row.T.Denot)). slots t) leaf in
+    let once : Once (slots s.tree) = record { once = λ n. rw (times_by (λ x d. x) n s.tree) (s.by_number.once n) } in
+    ap (λ (f : Forested g.row.T.Denot). at other f.places) (seen_built _ _ _ (made g c))
+    ∙ ap (λ (f : Forest ℕ). at other f) (removed_agreed (λ x d. x) c.args.id.slot c.args.id.number s.tree w.agree)
+    ∙ at_removed other c.args.id.number (slots s.tree) once ne below
+    ∙ ap (λ (f : Forest ℕ). at other f) (places_are nodes c.self.inside.first _ s c.self.view_is)
