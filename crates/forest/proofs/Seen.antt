@@ -1,0 +1,81 @@
+-- What an arena is seen as, and what its calls make of it.
+use Rattle.std.proofs.Common.{◌≡◌, ◌≢◌, ◌⊎◌, ℕ, ◌+◌, ◌≤◌, Bool, true, false, Option, Some, None, List, count_by, is_some, get_or, subst, refl, sym, ap, ◌∙◌, inl, inr, arith, eqb, cond}
+use Rattle.std.specs.Prelude.{◌==◌, MatchOption, IfSome, IsSome, unwrap_or}
+use Rattle.std.proofs.lemmas.Bool.{cases_Bool, both_ways}
+use Rattle.slab.specs.Slab.{Slab, get, slab_len, ContainsKey}
+use Rattle.forest.specs.Forest.{Forest, Empty, Node, has, Once, size, at, first, children, next_of, is_root, parent_of, put, removed, changed, moved}
+use Rattle.forest.specs.Forested.{Forested, IsPlaced, Named}
+use Rattle.forest.specs.Links.{Entry, entry_of, linked, built, IsLinked, by_number, values, slots, forested, IsSound, seen}
+use Rattle.forest.specs.declared.id.NodeId.{NodeId}
+use Rattle.forest.specs.declared.links.Linked.{Linked}
+use Rattle.forest.proofs.Trees.{has_first}
+use Rattle.forest.proofs.Linking.{Look, built_is, near, first_inside}
+use Rattle.forest.proofs.Numbers.{Agree, has_by, size_by, has_agreed, children_agreed, removed_agreed, put_agreed, at_agreed, agree_at, placed_has}
+use Rattle.forest.proofs.Neighbours.{Names, names_first, node_at, IsNode, node_is, placed_at, parent_root}
+
+module _ {T : Type 0} where
+  pub seen_from : (nodes : Slab (Linked T)) (link : Option ℕ) (t : Forest (Entry T)) → IsLinked (get nodes) None None t → link ≡ first t → size t ≡ slab_len nodes → seen nodes link ≡ forested t
+  unfolding seen
+  seen_from nodes link t i front count =
+      ap forested (ap (built (slab_len nodes) (get nodes)) front ∙ built_is (get nodes) None None t (slab_len nodes) (omega arith) i)
+
+  pub seen_is : (nodes : Slab (Linked T)) (link : Option ℕ) (s : IsSound nodes link) → seen nodes link ≡ forested s.tree
+  seen_is nodes link s = seen_from nodes link s.tree s.linked s.front s.count
+
+  pub seen_slots : (m n : Slab (Linked T)) (link : Option ℕ) → n.slots ≡ m.slots → seen n link ≡ seen m link
+  unfolding seen
+  seen_slots m n link e = ap (λ (xs : List (Option (Linked T))). forested (built (count_by is_some xs) (λ k. get_or xs k None) link)) e
+
+  pub sound_slots : (m n : Slab (Linked T)) (link : Option ℕ) → n.slots ≡ m.slots → IsSound m link → IsSound n link
+  sound_slots m n link e s = record {
+    tree = s.tree;
+    linked = subst (λ (xs : List (Option (Linked T))). IsLinked (λ k. get_or xs k None) None None s.tree) (sym e) s.linked;
+    front = s.front;
+    by_slot = s.by_slot;
+    by_number = s.by_number;
+    count = s.count ∙ ap (λ (xs : List (Option (Linked T))). count_by is_some xs) (sym e);
+  }
+
+  -- a node that is placed
+  pub record Stands (nodes : Slab (Linked T)) (t : Forest (Entry T)) (id : NodeId) : Type 0 where
+    pub stands : has id.slot t ≡ true
+    pub agree : Agree id.slot id.number t
+    pub node : Linked T
+    pub lies : get nodes id.slot ≡ Some node
+    pub is : IsNode (get nodes) None t id.slot id.number node
+
+  pub stands_at : (nodes : Slab (Linked T)) (link : Option ℕ) (f : Forested T) (id : NodeId) (s : IsSound nodes link) → seen nodes link ≡ f → IsPlaced f id → Stands nodes s.tree id
+  stands_at nodes link f id s v placed =
+      let w : at id.number (slots s.tree) ≡ Some id.slot = ap (λ (g : Forested T). at id.number g.places) (sym (seen_is nodes link s) ∙ v) ∙ placed in
+      let stands : has id.slot s.tree ≡ true = placed_has id.slot id.number s.tree w in
+      let agree : Agree id.slot id.number s.tree = agree_at id.slot id.number s.tree s.by_slot s.by_number w in
+      let node = node_at (get nodes) None None id.slot s.tree stands s.linked in
+      record {
+        stands = stands;
+        agree = agree;
+        node = node.0;
+        lies = node.1;
+        is = node_is (get nodes) None None id.slot id.number node.0 s.tree s.by_slot agree stands s.linked node.1;
+      }
+
+  pub contains : (nodes : Slab (Linked T)) (link : Option ℕ) (f : Forested T) (id : NodeId) (s : IsSound nodes link) → seen nodes link ≡ f → IsPlaced f id → ContainsKey nodes id.slot
+  contains nodes link f id s v placed = let w : Stands nodes s.tree id = stands_at nodes link f id s v placed in rw w.lies refl
+
+  -- the node at a link of a forest
+  pub named_is : (nodes : Slab (Linked T)) (link : Option ℕ) (f : Forested T) (s : IsSound nodes link) → seen nodes link ≡ f
+      → (at_link : Option ℕ) (number : Option ℕ) (id : Option NodeId)
+      → Names (get nodes) at_link number → ((x : ℕ) → at_link ≡ Some x → has x s.tree ≡ true)
+      → (at_link ≡ None → id ≡ None)
+      → IfSome at_link (λ x. IfSome (get nodes x) (λ l. id ≡ Some (record { number = l.number; slot = x })))
+      → Named f id number
+  named_is nodes link f s v None number id names inside none some = rw (none refl) names
+  named_is nodes link f s v (Some x) number id names inside none some =
+      let l = names.0 in
+      let is : id ≡ Some (record { number = l.number; slot = x }) = rw names.1 at some in
+      let places : slots s.tree ≡ f.places = ap (λ (g : Forested T). g.places) (sym (seen_is nodes link s) ∙ v) in
+      rw is (names.2, rw (← places) (placed_at (get nodes) None None x l s.tree s.by_slot s.by_number (inside x refl) s.linked names.1))
+
+  -- where a node is named, its number is that number
+  pub named_or : (f : Forested T) (id : Option NodeId) (number : Option ℕ) (m : ℕ) (other : NodeId) → Named f id number → number ≡ Some m → (unwrap_or id other).number ≡ m
+  named_or f None number m other n e = absurd (cc)
+  named_or f (Some x) number m other n e = let q : Some x.number ≡ Some m = sym n.0 ∙ e in cc

@@ -1,0 +1,32 @@
+use Rattle.std.proofs.Common.{◌≡◌, ℕ, Option, Some, None, true, refl, sym, ap, ◌∙◌}
+use Rattle.forest.specs.Forest.{Forest, Once, has, children, next_of, parent_of}
+use Rattle.forest.specs.Walk.{lead, follows}
+use Rattle.forest.proofs.Calls.{forest_is}
+use Rattle.forest.proofs.Numbers.{has_agreed}
+use Rattle.forest.proofs.Seen.{stands_at}
+use Rattle.forest.proofs.Walks.{first_step, first_none}
+use Rattle.forest.proofs.arena.LinkedForest.first_leaf.Goals as goal
+
+pub loop-child-init : goal.loop-child-init
+loop-child-init g c = record {
+  once = rw (forest_is c.self.inside.nodes c.self.inside.first _ c.self.invariant c.self.view_is) at c.self.invariant.by_number;
+  placed = c.requires;
+  same = refl;
+}
+
+pub loop-child-smaller : goal.loop-child-smaller
+loop-child-smaller g c = (first_step c.loop-child.leaf.number c.in-Some.child.number c.args.self.now.forest c.loop-child.invariant.once c.in-Some.ensures.0).1
+
+pub loop-child-preserved : goal.loop-child-preserved
+loop-child-preserved g c = record {
+  once = c.loop-child.invariant.once;
+  placed = c.in-Some.ensures.1;
+  same = (first_step c.loop-child.leaf.number c.in-Some.child.number c.args.self.now.forest c.loop-child.invariant.once c.in-Some.ensures.0).0 ∙ c.loop-child.invariant.same;
+}
+
+pub returns-clause-stands : goal.returns-clause-stands
+returns-clause-stands g c =
+    let s = c.self.invariant in
+    let w = stands_at c.self.inside.nodes c.self.inside.first _ c.args.id s c.self.view_is c.requires in
+    ap (λ (f : Forest g.row.T.Denot). has c.args.id.number f) (sym (forest_is c.self.inside.nodes c.self.inside.first _ s c.self.view_is))
+    ∙ has_agreed (λ x d. d.value) c.args.id.slot c.args.id.number s.tree w.agree ∙ w.stands

@@ -1,0 +1,37 @@
+use Rattle.std.proofs.Common.{◌≡◌, ℕ, Option, Some, None, refl, sym, ap, ◌∙◌}
+use Rattle.slab.specs.Slab.{Slab, get, ContainsKey, with_value}
+use Rattle.forest.specs.Forest.{Forest, at, changed}
+use Rattle.forest.specs.Forested.{Forested}
+use Rattle.forest.specs.Links.{entry_of, values}
+use Rattle.forest.specs.declared.links.Linked.{Linked}
+use Rattle.forest.proofs.Numbers.{at_agreed, valued, values_changed, slots_changed}
+use Rattle.forest.proofs.Neighbours.{node_is}
+use Rattle.forest.proofs.Seen.{stands_at, contains}
+use Rattle.forest.proofs.Calls.{Builds, sound_of, seen_built, written, seen_written, forest_is, places_are}
+use Rattle.forest.proofs.arena.LinkedForest.get_mut.Goals as goal
+use Rattle.forest.proofs.arena.LinkedForest.get_mut.Given as given
+
+pub index_mut-requires : goal.index_mut-requires
+index_mut-requires g c = contains c.self.inside.nodes c.self.inside.first _ c.args.id c.self.invariant c.self.view_is c.requires
+
+pub invariant_of-self-lent : goal.invariant_of-self-lent
+invariant_of-self-lent g c w =
+    let s = c.self.invariant in
+    let p = stands_at c.self.inside.nodes c.self.inside.first _ c.args.id s c.self.view_is c.requires in
+    sound_of _ _ _ (written c.self.inside.nodes c.self.inside.first c.args.id.slot c.args.id.number w c.index_mut.result.now s p.stands p.agree c.index_mut.ensures.value)
+
+pub returns : goal.returns
+returns g c =
+    let s = c.self.invariant in
+    let nodes = c.self.inside.nodes in
+    let p = stands_at nodes c.self.inside.first _ c.args.id s c.self.view_is c.requires in
+    let node = node_is (get nodes) None None c.args.id.slot c.args.id.number c.index_mut.result.now s.tree s.by_slot p.agree p.stands s.linked c.index_mut.ensures.value in (
+      (refl, λ w. seen_written nodes c.self.inside.first _ c.args.id.slot c.args.id.number w c.index_mut.result.now s c.self.view_is p.stands p.agree c.index_mut.ensures.value),
+      record {
+        lends = tt;
+        value =
+            ap (λ (f : Forest g.row.T.Denot). at c.args.id.number f) (sym (forest_is nodes c.self.inside.first _ s c.self.view_is))
+            ∙ (at_agreed (λ x d. d.value) c.args.id.slot c.args.id.number (entry_of c.index_mut.result.now) s.tree p.agree node.entry).1
+            ∙ ap (λ x. Some x) c.value_mut.ensures.value;
+      },
+    )

@@ -1,0 +1,48 @@
+use Rattle.std.proofs.Common.{◌≡◌, ◌≢◌, ◌⊎◌, ℕ, Bool, true, false, Option, Some, None, refl, sym, ap, ◌∙◌, inl, inr, arith}
+use Rattle.std.specs.Prelude.{MatchOption, IfSome, IsSome}
+use Rattle.slab.specs.Slab.{Slab, get, slab_len, ContainsKey}
+use Rattle.forest.specs.Forest.{Forest, Empty, Node, has, Once, size, at, first, children, next_of, is_root, parent_of, put, removed, changed, moved}
+use Rattle.forest.specs.Forested.{Forested, IsPlaced, Named}
+use Rattle.forest.specs.Links.{Entry, entry_of, linked, IsLinked, values, slots, forested, IsSound, seen}
+use Rattle.forest.specs.declared.links.Linked.{Linked}
+use Rattle.forest.proofs.Trees.{children_absent, has_first}
+use Rattle.forest.proofs.Linking.{child_is, near, Near, first_inside}
+use Rattle.forest.proofs.Numbers.{Agree, has_agreed, children_agreed, removed_agreed, put_agreed, at_agreed, empty_by}
+use Rattle.forest.proofs.Neighbours.{Names, names_first, IsNode, node_is, parent_root}
+use Rattle.forest.proofs.Seen.{seen_from, seen_is, seen_slots, sound_slots, Stands, stands_at, contains, named_is}
+use Rattle.forest.proofs.Calls.{Builds, sound_of, seen_built, insert_front, insert_below, taken_out, moved_to, moved_agreed, forest_is, places_are, if_some, if_some_more, Neighbours, neighbours, Moving, moving, vacant, key_in, Entered, entered, entered_keys}
+use Rattle.forest.proofs.arena.LinkedForest.insert_root.Goals as goal
+use Rattle.forest.proofs.arena.LinkedForest.insert_root.Given as given
+
+pub invariant_of-self : goal.invariant_of-self
+invariant_of-self g c = sound_slots c.self.inside.nodes c.vacant_slot.new.nodes c.self.inside.first c.vacant_slot.ensures.slots c.self.invariant
+
+pub returns-in_default-clause-refused : goal.returns-in_default-clause-refused
+returns-in_default-clause-refused g c = seen_slots c.self.inside.nodes c.vacant_slot.new.nodes c.self.inside.first c.vacant_slot.ensures.slots ∙ c.self.view_is
+
+pub set_previous-requires : goal.set_previous-requires
+set_previous-requires g c =
+    let s = c.self.invariant in
+    let w = entered c.self.inside.nodes c.vacant_slot.new.nodes c.insert_reserved.new.self c.in-Some.slot c.insert_reserved.result _ c.vacant_slot.ensures.slots (c.insert_reserved.ensures.key ∙ c.in-Some.ensures.next) c.insert_reserved.ensures.was_vacant c.insert_reserved.ensures.updates c.insert_reserved.ensures.len in
+    if_some c.self.inside.first (ContainsKey c.insert_reserved.new.self)
+    (λ x q. entered_keys _ _ _ _ w x (key_in c.self.inside.nodes x s.tree s.linked (has_first x s.tree (sym s.front ∙ q))))
+
+made : (g : given.Over) (c : goal.After-self-1 g) → Builds c.set_previous.new.nodes (Some c.in-Some.slot) (Node c.in-Some.slot (record { number = c.args.number; value = c.args.value }) Empty c.self.invariant.tree)
+made g c =
+    let s = c.self.invariant in
+    let w = entered c.self.inside.nodes c.vacant_slot.new.nodes c.insert_reserved.new.self c.in-Some.slot c.insert_reserved.result _ c.vacant_slot.ensures.slots (c.insert_reserved.ensures.key ∙ c.in-Some.ensures.next) c.insert_reserved.ensures.was_vacant c.insert_reserved.ensures.updates c.insert_reserved.ensures.len in
+    insert_front c.self.inside.nodes c.insert_reserved.new.self c.set_previous.new.nodes c.self.inside.first c.in-Some.slot (record { number = c.args.number; value = c.args.value }) s
+    w c.set_previous.ensures (rw (forest_is c.self.inside.nodes c.self.inside.first _ s c.self.view_is) c.requires)
+
+pub invariant_of-self-2 : goal.invariant_of-self-2
+invariant_of-self-2 g c = sound_of _ _ _ (made g c)
+
+pub returns-clause-forest : goal.returns-clause-forest
+returns-clause-forest g c =
+    ap (λ (f : Forested g.row.T.Denot). f.forest) (seen_built _ _ _ (made g c))
+    ∙ ap (λ (f : Forest g.row.T.Denot). Node c.args.number c.args.value Empty f) (forest_is c.self.inside.nodes c.self.inside.first _ c.self.invariant c.self.view_is)
+
+pub returns-clause-places : goal.returns-clause-places
+returns-clause-places g c =
+    ap (λ (f : Forested g.row.T.Denot). f.places) (seen_built _ _ _ (made g c))
+    ∙ ap (λ (f : Forest ℕ). Node c.args.number c.in-Some.slot Empty f) (places_are c.self.inside.nodes c.self.inside.first _ c.self.invariant c.self.view_is)

@@ -1,0 +1,83 @@
+use Rattle.std.proofs.Common.{◌≡◌, ◌≢◌, ◌⊎◌, ℕ, Bool, true, false, Option, Some, None, refl, sym, ap, ◌∙◌, inl, inr, arith}
+use Rattle.std.specs.Prelude.{MatchOption, IfSome, IsSome}
+use Rattle.slab.specs.Slab.{Slab, get, slab_len, ContainsKey}
+use Rattle.forest.specs.Forest.{Forest, Empty, Node, has, Once, size, at, first, children, next_of, is_root, parent_of, put, removed, changed, moved}
+use Rattle.forest.specs.Forested.{Forested, IsPlaced, Named}
+use Rattle.forest.specs.Links.{Entry, entry_of, linked, IsLinked, values, slots, forested, IsSound, seen}
+use Rattle.forest.specs.declared.links.Linked.{Linked}
+use Rattle.forest.proofs.Trees.{children_absent, has_first}
+use Rattle.forest.proofs.Linking.{child_is, near, Near, first_inside}
+use Rattle.forest.proofs.Numbers.{Agree, has_agreed, children_agreed, removed_agreed, put_agreed, at_agreed, empty_by}
+use Rattle.forest.proofs.Neighbours.{Names, names_first, IsNode, node_is, parent_root}
+use Rattle.forest.proofs.Seen.{seen_from, seen_is, seen_slots, sound_slots, Stands, stands_at, contains, named_is}
+use Rattle.forest.proofs.Calls.{Builds, sound_of, seen_built, insert_front, insert_below, taken_out, moved_to, moved_agreed, forest_is, places_are, if_some, if_some_more, Neighbours, neighbours, Moving, moving, vacant, key_in}
+use Rattle.forest.proofs.arena.LinkedForest.move_to.Goals as goal
+use Rattle.forest.proofs.arena.LinkedForest.move_to.Given as given
+
+near_of : goal.index-node-requires
+near_of g c = contains c.self.inside.nodes c.self.inside.first _ c.args.id c.self.invariant c.self.view_is c.requires.placed
+
+pub index-node-requires : goal.index-node-requires
+index-node-requires g c = near_of g c
+
+pub skip-requires-clause-before : goal.skip-requires-clause-before
+skip-requires-clause-before g c =
+    (neighbours c.self.inside.nodes c.self.inside.first _ c.args.id c.index-node.result.now c.self.invariant c.self.view_is c.requires.placed c.index-node.ensures).before
+
+pub skip-requires-clause-parent : goal.skip-requires-clause-parent
+skip-requires-clause-parent g c =
+    (neighbours c.self.inside.nodes c.self.inside.first _ c.args.id c.index-node.result.now c.self.invariant c.self.view_is c.requires.placed c.index-node.ensures).above
+
+pub set_previous-requires : goal.set_previous-requires
+set_previous-requires g c =
+    if_some_more c.index-node.result.now.next (ContainsKey c.self.inside.nodes) (ContainsKey c.skip.new.nodes) c.skip.ensures.keys
+    (neighbours c.self.inside.nodes c.self.inside.first _ c.args.id c.index-node.result.now c.self.invariant c.self.view_is c.requires.placed c.index-node.ensures).behind
+
+pub index-requires : goal.index-requires
+index-requires g c =
+    c.set_previous.ensures.keys c.args.parent.slot
+    (c.skip.ensures.keys c.args.parent.slot (contains c.self.inside.nodes c.self.inside.first _ c.args.parent c.self.invariant c.self.view_is c.requires.parent))
+
+pub set_previous-requires-2 : goal.set_previous-requires-2
+set_previous-requires-2 g c =
+    let w = moving c.self.inside.nodes c.skip.new.nodes c.set_previous.new.nodes c.self.inside.first _ c.args.id c.args.parent c.index-node.result.now c.self.invariant c.self.view_is
+    c.requires.placed c.requires.parent c.requires.other c.requires.apart c.index-node.ensures c.skip.ensures c.set_previous.ensures in
+    if_some_more c.index.result.now.first_child (ContainsKey c.set_previous.new.nodes) (ContainsKey c.set_place.new.nodes) c.set_place.ensures.keys
+    (w.child_key c.index.result.now c.index.ensures)
+
+pub set_first_child-requires : goal.set_first_child-requires
+set_first_child-requires g c =
+    c.set_previous-2.ensures.keys c.args.parent.slot (c.set_place.ensures.keys c.args.parent.slot (c.set_previous.ensures.keys c.args.parent.slot
+    (c.skip.ensures.keys c.args.parent.slot (contains c.self.inside.nodes c.self.inside.first _ c.args.parent c.self.invariant c.self.view_is c.requires.parent))))
+
+made : (g : given.Over) (c : goal.After-set_first_child g) → Builds c.set_first_child.new.nodes c.front_without-self-inside.result (put c.args.parent.slot c.args.id.slot (entry_of c.index-node.result.now) (children c.args.id.slot c.self.invariant.tree) (removed c.args.id.slot c.self.invariant.tree))
+made g c =
+    let w = moving c.self.inside.nodes c.skip.new.nodes c.set_previous.new.nodes c.self.inside.first _ c.args.id c.args.parent c.index-node.result.now c.self.invariant c.self.view_is
+    c.requires.placed c.requires.parent c.requires.other c.requires.apart c.index-node.ensures c.skip.ensures c.set_previous.ensures in
+    moved_to c.self.inside.nodes c.skip.new.nodes c.set_previous.new.nodes c.set_place.new.nodes c.set_previous-2.new.nodes c.set_first_child.new.nodes
+    c.self.inside.first c.front_without-self-inside.result c.args.id.slot c.args.id.number c.args.parent.slot c.args.parent.number c.index-node.result.now c.index.result.now.first_child c.self.invariant
+    w.agree w.numbers w.slot_moves c.index-node.ensures w.entry w.over c.skip.ensures c.set_previous.ensures
+    c.front_without-self-inside.ensures.gone c.front_without-self-inside.ensures.stays
+    (w.child c.index.result.now c.index.ensures) c.set_place.ensures c.set_previous-2.ensures c.set_first_child.ensures
+
+known : (g : given.Over) (c : goal.After-set_first_child g) → Moving c.self.inside.nodes c.set_previous.new.nodes c.self.invariant.tree c.args.id c.args.parent c.index-node.result.now
+known g c =
+    moving c.self.inside.nodes c.skip.new.nodes c.set_previous.new.nodes c.self.inside.first _ c.args.id c.args.parent c.index-node.result.now c.self.invariant c.self.view_is
+    c.requires.placed c.requires.parent c.requires.other c.requires.apart c.index-node.ensures c.skip.ensures c.set_previous.ensures
+
+pub invariant_of-self : goal.invariant_of-self
+invariant_of-self g c = sound_of _ _ _ (made g c)
+
+pub returns-clause-forest : goal.returns-clause-forest
+returns-clause-forest g c =
+    let w = known g c in
+    ap (λ (f : Forested g.row.T.Denot). f.forest) (seen_built _ _ _ (made g c))
+    ∙ moved_agreed (λ x d. d.value) c.args.id.slot c.args.id.number c.args.parent.slot c.args.parent.number (entry_of c.index-node.result.now) c.self.invariant.tree w.agree w.over w.entry
+    ∙ ap (λ (f : Forest g.row.T.Denot). moved c.args.id.number c.args.parent.number f) (forest_is c.self.inside.nodes c.self.inside.first _ c.self.invariant c.self.view_is)
+
+pub returns-clause-places : goal.returns-clause-places
+returns-clause-places g c =
+    let w = known g c in
+    ap (λ (f : Forested g.row.T.Denot). f.places) (seen_built _ _ _ (made g c))
+    ∙ moved_agreed (λ x d. x) c.args.id.slot c.args.id.number c.args.parent.slot c.args.parent.number (entry_of c.index-node.result.now) c.self.invariant.tree w.agree w.over w.entry
+    ∙ ap (λ (f : Forest ℕ). moved c.args.id.number c.args.parent.number f) (places_are c.self.inside.nodes c.self.inside.first _ c.self.invariant c.self.view_is)

@@ -1,0 +1,31 @@
+use Rattle.std.proofs.Common.{◌≡◌, ◌≢◌, ◌⊎◌, ℕ, Bool, true, false, Option, Some, None, refl, sym, ap, ◌∙◌, inl, inr, arith}
+use Rattle.std.specs.Prelude.{MatchOption, IfSome, IsSome}
+use Rattle.slab.specs.Slab.{Slab, get, slab_len, ContainsKey}
+use Rattle.forest.specs.Forest.{Forest, Empty, Node, has, Once, size, at, first, children, next_of, is_root, parent_of, put, removed, changed, moved}
+use Rattle.forest.specs.Forested.{Forested, IsPlaced, Named}
+use Rattle.forest.specs.Links.{Entry, entry_of, linked, IsLinked, values, slots, forested, IsSound, seen}
+use Rattle.forest.specs.declared.links.Linked.{Linked}
+use Rattle.forest.proofs.Trees.{children_absent, has_first}
+use Rattle.forest.proofs.Linking.{child_is, near, Near, first_inside}
+use Rattle.forest.proofs.Numbers.{Agree, has_agreed, children_agreed, removed_agreed, put_agreed, at_agreed, empty_by}
+use Rattle.forest.proofs.Neighbours.{Names, names_first, IsNode, node_is, parent_root}
+use Rattle.forest.proofs.Seen.{seen_from, seen_is, seen_slots, sound_slots, Stands, stands_at, contains, named_is}
+use Rattle.forest.proofs.Calls.{Builds, sound_of, seen_built, insert_front, insert_below, taken_out, moved_to, moved_agreed, forest_is, places_are, if_some, if_some_more, Neighbours, neighbours, Moving, moving, vacant, key_in, stand_all}
+use Rattle.forest.proofs.arena.LinkedForest.next_sibling.Goals as goal
+
+pub index-requires : goal.index-requires
+index-requires g c = contains c.self.inside.nodes c.self.inside.first _ c.args.id c.self.invariant c.self.view_is c.requires
+
+pub named-requires : goal.named-requires
+named-requires g c = (neighbours c.self.inside.nodes c.self.inside.first _ c.args.id c.index.result.now c.self.invariant c.self.view_is c.requires c.index.ensures).behind
+
+pub returns : goal.returns
+returns g c =
+    let s = c.self.invariant in
+    let nodes = c.self.inside.nodes in
+    let w = stands_at nodes c.self.inside.first _ c.args.id s c.self.view_is c.requires in
+    let node = node_is (get nodes) None None c.args.id.slot c.args.id.number c.index.result.now s.tree s.by_slot w.agree w.stands s.linked c.index.ensures in
+    named_is nodes c.self.inside.first _ s c.self.view_is c.index.result.now.next _ c.named.result
+    (rw (← forest_is nodes c.self.inside.first _ s c.self.view_is) node.next)
+    (stand_all nodes c.self.inside.first _ c.args.id c.index.result.now s c.self.view_is c.requires c.index.ensures).behind
+    c.named.ensures.none c.named.ensures.some
