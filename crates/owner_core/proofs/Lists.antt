@@ -1,0 +1,85 @@
+-- Lists of numbers that differ, and what is said of each element.
+use Rattle.std.proofs.Common.{◌≡◌, ◌≢◌, ℕ, ◌+◌, Bool, true, false, List, [], ◌∷◌, ◌++◌, refl, sym, ap, ◌∙◌, append_assoc}
+use Rattle.std.specs.List.{flat_map}
+use Rattle.std.specs.Prelude.{◌==◌, ◌||◌}
+use Rattle.std.proofs.Common.{◌⊎◌, inl, inr}
+use Rattle.std.proofs.lemmas.Bool.{both_ways, or_left, or_right, eq-eqb}
+use Rattle.forest.specs.Forest.{Forest, Empty, Node, has, Once}
+use Rattle.forest.specs.Walk.{order}
+use Rattle.forest.proofs.Trees.{Apart, apart_of}
+
+-- each element is so
+abbrev pub Each : {X : Type 0} → (X → Type 0) → List X → Type 0
+Each P [] = Unit {0}
+Each P (x ∷ xs) = P x × Each P xs
+
+-- each number differs from those behind it
+abbrev pub Differ : List ℕ → Type 0
+Differ [] = Unit {0}
+Differ (n ∷ ns) = Each (λ m. m ≢ n) ns × Differ ns
+
+module _ {X : Type 0} where
+  pub Each-both : (P : X → Type 0) (xs ys : List X) → Each P xs → Each P ys → Each P (xs ++ ys)
+  Each-both P [] ys a b = b
+  Each-both P (x ∷ xs) ys a b = (a.0, Each-both P xs ys a.1 b)
+
+  pub Each-more : (P Q : X → Type 0) (xs : List X) → ((x : X) → P x → Q x) → Each P xs → Each Q xs
+  Each-more P Q [] f a = tt
+  Each-more P Q (x ∷ xs) f a = (f x a.0, Each-more P Q xs f a.1)
+
+  pub Each-left : (P : X → Type 0) (xs ys : List X) → Each P (xs ++ ys) → Each P xs
+  Each-left P [] ys a = tt
+  Each-left P (x ∷ xs) ys a = (a.0, Each-left P xs ys a.1)
+
+  pub Each-right : (P : X → Type 0) (xs ys : List X) → Each P (xs ++ ys) → Each P ys
+  Each-right P [] ys a = a
+  Each-right P (x ∷ xs) ys a = Each-right P xs ys a.1
+
+module _ {X Y : Type 0} where
+  pub flat-append : (f : X → List Y) (xs ys : List X) → flat_map f (xs ++ ys) ≡ flat_map f xs ++ flat_map f ys
+  flat-append f [] ys = refl
+  flat-append f (x ∷ xs) ys = ap (λ (zs : List Y). f x ++ zs) (flat-append f xs ys) ∙ sym (append_assoc (f x) (flat_map f xs) (flat_map f ys))
+
+  pub flat-same : (f g : X → List Y) (xs : List X) → Each (λ x. f x ≡ g x) xs → flat_map f xs ≡ flat_map g xs
+  flat-same f g [] a = refl
+  flat-same f g (x ∷ xs) a = rw (a.0, flat-same f g xs a.1) refl
+
+differ_both : (xs ys : List ℕ) → Differ xs → Differ ys → Each (λ n. Each (λ m. m ≢ n) ys) xs → Differ (xs ++ ys)
+differ_both [] ys a b c = b
+differ_both (x ∷ xs) ys a b c = (Each-both (λ m. m ≢ x) xs ys a.0 c.0, differ_both xs ys a.1 b c.1)
+
+module _ {A : Type 0} where
+  -- each number of the walk stands in the forest
+  pub order_in : (t : Forest A) → Each (λ n. has n t ≡ true) (order t)
+  order_in Empty = tt
+  order_in (Node k a below beside) =
+      Each-both (λ n. has n (Node k a below beside) ≡ true) (order below) (k ∷ order beside)
+      (Each-more (λ n. has n below ≡ true) (λ n. has n (Node k a below beside) ≡ true) (order below) (λ n h. in_node n k a below beside (inl h)) (order_in below)) (
+        in_node k k a below beside (inr (inl refl)),
+        Each-more (λ n. has n beside ≡ true) (λ n. has n (Node k a below beside) ≡ true) (order beside) (λ n h. in_node n k a below beside (inr (inr h))) (order_in beside),
+      )
+    where
+      in_node : (n k : ℕ) (a : A) (below beside : Forest A) → (has n below ≡ true) ⊎ ((k ≡ n) ⊎ (has n beside ≡ true)) → has n (Node k a below beside) ≡ true
+      in_node n k a below beside (inl h) = or_right (k == n) (has n below || has n beside) (or_left (has n below) (has n beside) h)
+      in_node n k a below beside (inr (inl h)) = or_left (k == n) (has n below || has n beside) (eq-eqb k n h)
+      in_node n k a below beside (inr (inr h)) = or_right (k == n) (has n below || has n beside) (or_right (has n below) (has n beside) h)
+
+  apart_of_one : (n : ℕ) (t : Forest A) (ns : List ℕ) → has n t ≡ false → Each (λ m. has m t ≡ true) ns → Each (λ m. m ≢ n) ns
+  apart_of_one n t [] h a = tt
+  apart_of_one n t (m ∷ ns) h a = (λ e. both_ways (has n t) h (rw e at a.0), apart_of_one n t ns h a.1)
+
+  pub order_differ : (t : Forest A) → Once t → Differ (order t)
+  order_differ Empty o = tt
+  order_differ (Node k a below beside) o =
+      let apart : Apart k below beside = apart_of k a below beside o in
+      differ_both (order below) (k ∷ order beside)
+      (order_differ below apart.once_below)
+      (apart_of_one k beside (order beside) apart.not_beside (order_in beside), order_differ beside apart.once_beside)
+      (Each-more (λ n. has n below ≡ true) (λ n. Each (λ m. m ≢ n) (k ∷ order beside)) (order below)
+      (λ n h. (λ e. both_ways (has n below) (rw e at apart.not_below) h, apart_of_one n beside (order beside) (apart.apart n h) (order_in beside)))
+      (order_in below))
+
+  pub order_at_differ : (n : ℕ) (t : Forest A) → Once t → has n t ≡ false → Differ (order t ++ n ∷ [])
+  order_at_differ n t o h =
+      differ_both (order t) (n ∷ []) (order_differ t o) (tt, tt)
+      (Each-more (λ m. has m t ≡ true) (λ m. Each (λ x. x ≢ m) (n ∷ [])) (order t) (λ m i. (λ e. both_ways (has m t) (rw e at h) i, tt)) (order_in t))

@@ -1,0 +1,107 @@
+-- Each turn takes out the first of what is still to go.
+use Rattle.std.proofs.Common.{◌≡◌, ◌≢◌, ◌<◌, ℕ, true, List, [], ◌∷◌, ◌++◌, map, arith, ap, refl, sym, ◌∙◌, subst, append_assoc}
+use Rattle.std.proofs.lemmas.Bool.{both_ways}
+use Rattle.pgs_step.specs.declared.events.What.{What}
+use Rattle.pgs_step.specs.declared.events.What.TheVariants.{OwnerGone}
+use Rattle.forest.specs.Forest.{Forest, Once, has, at, size, children, removed}
+use Rattle.forest.specs.Walk.{lead, follows, order_at}
+use Rattle.forest.proofs.Trees.{removed_has}
+use Rattle.owner_core.specs.Owners.{Roomy}
+use Rattle.owner_core.proofs.Gone.{Takes, takes, bare, order_bare, stays_apart}
+use Rattle.owner_core.proofs.discard_tree.discard_tree.Goals as goal
+use Rattle.owner_core.proofs.discard_tree.discard_tree.Given as given
+
+pub loop-current-init : goal.loop-current-init
+loop-current-init g c = record {
+  once = c.first_leaf-current.ensures.once;
+  stands = c.first_leaf-current.ensures.stands;
+  owner = c.requires;
+  placed = c.first_leaf-current.ensures.placed;
+  first = c.first_leaf-current.ensures.number;
+  rooms = refl;
+  stays = λ other h. refl;
+  done = ([], g.met.E.Emit.emits_none _, refl);
+}
+
+pub following-next-requires-clause-below : goal.following-next-requires-clause-below
+following-next-requires-clause-below g c =
+    let inv = c.loop-current.invariant in
+    let n0 = c.args.owner.number in
+    let cur = c.loop-current.current.number in
+    let t = c.loop-current.nodes.forest in
+    let ne : cur ≢ n0 = λ e. omega arith in
+    (takes n0 cur (follows cur n0 (children n0 t)) t inv.once inv.stands inv.first ne refl).inside
+
+pub remove-requires-clause-leaf : goal.remove-requires-clause-leaf
+remove-requires-clause-leaf g c =
+    let inv = c.loop-current.invariant in
+    let n0 = c.args.owner.number in
+    let cur = c.loop-current.current.number in
+    let t = c.loop-current.nodes.forest in
+    let ne : cur ≢ n0 = λ e. omega arith in
+    (takes n0 cur (follows cur n0 (children n0 t)) t inv.once inv.stands inv.first ne refl).leaf
+
+pub loop-current-smaller : goal.loop-current-smaller
+loop-current-smaller g c =
+    let inv = c.loop-current.invariant in
+    let n0 = c.args.owner.number in
+    let cur = c.loop-current.current.number in
+    let t = c.loop-current.nodes.forest in
+    let ne : cur ≢ n0 = λ e. omega arith in
+    let w = takes n0 cur (follows cur n0 (children n0 t)) t inv.once inv.stands inv.first ne refl in
+    omega (arith, w.smaller, ap (λ (x : Forest Roomy). size x) c.remove.ensures.forest)
+
+pub loop-current-preserved : goal.loop-current-preserved
+loop-current-preserved g c =
+    let inv = c.loop-current.invariant in
+    let n0 = c.args.owner.number in
+    let cur = c.loop-current.current.number in
+    let t = c.loop-current.nodes.forest in
+    let next = c.following-next.result.number in
+    let ne : cur ≢ n0 = λ e. omega arith in
+    let w = takes n0 cur next t inv.once inv.stands inv.first ne c.following-next.ensures.number in
+    let forest = c.remove.ensures.forest in
+    let so_far = inv.done in
+    record {
+      once = subst (λ (x : Forest Roomy). Once x) (sym forest) w.once;
+      stands = ap (λ (x : Forest Roomy). has n0 x) forest ∙ w.stands;
+      owner = c.remove.ensures.stays n0 (λ z. ne (sym z)) ∙ inv.owner;
+      placed = c.remove.ensures.stays next w.other ∙ c.following-next.ensures.placed;
+      first = w.next_is ∙ ap (λ (x : Forest Roomy). lead n0 (children n0 x)) (sym forest);
+      rooms = ap (λ (x : Forest Roomy). removed n0 x) forest ∙ w.left ∙ inv.rooms;
+      stays = λ other h.
+          c.remove.ensures.stays other (stays_apart other n0 cur t inv.once inv.stands w.inside (ap (λ (x : Forest Roomy). has other x) inv.rooms ∙ h)) ∙ inv.stays other h;
+      done = (
+        so_far.0 ++ OwnerGone cur ∷ [],
+        g.met.E.Emit.emits_more _ _ _ _ _ _ so_far.1 c.emit.ensures.emitted refl,
+        append_assoc so_far.0 (OwnerGone cur ∷ []) (map (λ n. OwnerGone n) (order_at n0 c.remove.new.self.forest))
+            ∙ ap (λ (x : Forest Roomy). so_far.0 ++ (OwnerGone cur ∷ map (λ n. OwnerGone n) (order_at n0 x))) forest
+            ∙ ap (λ (ns : List ℕ). so_far.0 ++ map (λ n. OwnerGone n) ns) (sym w.order) ∙ so_far.2,
+      );
+    }
+
+pub remove-requires-2-clause-leaf : goal.remove-requires-2-clause-leaf
+remove-requires-2-clause-leaf g c =
+    let inv = c.loop-current.invariant in
+    let e : c.loop-current.current.number ≡ c.args.owner.number = omega arith in
+    bare c.args.owner.number c.loop-current.current.number c.loop-current.nodes.forest inv.once inv.stands inv.first e
+
+pub returns-clause-stays : goal.returns-clause-stays
+returns-clause-stays g c other h =
+    let inv = c.loop-current.invariant in
+    let n0 = c.args.owner.number in
+    let t = c.loop-current.nodes.forest in
+    c.remove-2.ensures.stays other
+    (λ e. both_ways (has n0 (removed n0 t)) (removed_has n0 t inv.once inv.stands)
+    (ap (λ (m : ℕ). has m (removed n0 t)) (sym e) ∙ ap (λ (x : Forest Roomy). has other x) inv.rooms ∙ h))
+    ∙ inv.stays other h
+
+pub returns-clause-emits : goal.returns-clause-emits
+returns-clause-emits g c =
+    let inv = c.loop-current.invariant in
+    let n0 = c.args.owner.number in
+    let t = c.loop-current.nodes.forest in
+    let e : c.loop-current.current.number ≡ n0 = omega arith in
+    let none = bare n0 c.loop-current.current.number t inv.once inv.stands inv.first e in
+    g.met.E.Emit.emits_more _ _ _ _ _ _ inv.done.1 c.emit-2.ensures.emitted
+    (ap (λ (ns : List ℕ). inv.done.0 ++ map (λ n. OwnerGone n) ns) (sym (order_bare n0 t none)) ∙ inv.done.2)

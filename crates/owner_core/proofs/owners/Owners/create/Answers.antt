@@ -1,0 +1,66 @@
+use Rattle.std.proofs.Common.{◌≡◌, ◌≢◌, ℕ, ◌+◌, ◌≤◌, Bool, true, false, Option, Some, None, Ok, Err, List, [], ◌∷◌, ◌++◌, map, refl, sym, ap, ◌∙◌, subst, arith, rules}
+use Rattle.std.specs.Option.{option_map, option_map_or}
+use Rattle.pgs_step.specs.declared.ids.Item.{Item}
+use Rattle.pgs_step.specs.declared.events.What.{What}
+use Rattle.pgs_step.specs.declared.events.What.TheVariants.{OwnerGone}
+use Rattle.forest.specs.declared.id.NodeId.{NodeId}
+use Rattle.forest.specs.Forest.{Forest, Empty, Node, has, Once, size, at, children, removed, changed, moved}
+use Rattle.forest.specs.Walk.{order_at}
+use Rattle.forest.proofs.Trees.{at_some}
+use Rattle.forest.proofs.Mapped.{mapped-size, mapped-has, mapped-removed, at_changed}
+use Rattle.owner_kinds.specs.KindTable.{KindTable}
+use Rattle.owner_items.specs.ItemList.{is_of, without_newest}
+use Rattle.owner_core.specs.Owners.{Owner, OwnerTree, OwnerTable, Roomy, tree_of, owners_of, has_begun, items_of, spare_of, created, entered, remembered, forgotten}
+use Rattle.owner_core.specs.Released.{released, own_released}
+use Rattle.owner_core.specs.Sound.{IsSound}
+use Rattle.owner_core.proofs.Sounds.{once_of, fresh, newest, sound_created, sound_removed, sound_moved, sound_remembered, sound_forgotten, sound_released}
+use Rattle.owner_core.proofs.Tables.{at_tree, once_rooms, changed_to, changed_same, changed_back, tree_entered, tree_moved, tree_order}
+use Rattle.owner_core.proofs.Releasing.{inside_tree}
+use Rattle.owner_core.proofs.owners.Owners.create.Goals as goal
+
+pub returns-then-len-ge-MOST_OWNERS-clause-fresh : goal.returns-then-len-ge-MOST_OWNERS-clause-fresh
+returns-then-len-ge-MOST_OWNERS-clause-fresh g c = rw (← c.self.view_is) (fresh _ _ _ c.self.invariant)
+
+pub returns-then-len-ge-MOST_OWNERS-clause-too_many : goal.returns-then-len-ge-MOST_OWNERS-clause-too_many
+returns-then-len-ge-MOST_OWNERS-clause-too_many g c =
+    let size_is : size (owners_of c.args.self.now) ≡ c.len.result =
+    rw (← c.self.view_is) (mapped-size (λ (r : Roomy). r.owner) c.self.inside.nodes.forest ∙ sym c.len.ensures.value) in
+    (λ _. omega arith, λ _. refl)
+
+pub insert-requires-clause-fresh : goal.insert-requires-clause-fresh
+insert-requires-clause-fresh g c = sym (mapped-has (λ (r : Roomy). r.owner) c.self.inside.next_owner c.self.inside.nodes.forest) ∙ fresh _ _ _ c.self.invariant
+
+pub returns-in_default-clause-fresh : goal.returns-in_default-clause-fresh
+returns-in_default-clause-fresh g c = rw (← c.self.view_is) (fresh _ _ _ c.self.invariant)
+
+pub returns-in_default-clause-too_many : goal.returns-in_default-clause-too_many
+returns-in_default-clause-too_many g c =
+    let size_is : size (owners_of c.args.self.now) ≡ c.len.result =
+    rw (← c.self.view_is) (mapped-size (λ (r : Roomy). r.owner) c.self.inside.nodes.forest ∙ sym c.len.ensures.value) in
+    (λ e. absurd (cc e), λ h. absurd (omega arith))
+
+pub invariant_of-self-2 : goal.invariant_of-self-2
+invariant_of-self-2 g c =
+    let forest = c.self.inside.nodes.forest in
+    let parent : Option ℕ = option_map (λ p. p.number) c.args.parent in
+    let few : size (tree_of forest) ≡ c.len.result = mapped-size (λ (r : Roomy). r.owner) forest ∙ sym c.len.ensures.value in
+    subst (λ (x : OwnerTree). IsSound x (c.self.inside.next_owner + 1) c.self.inside.next_serial)
+    (sym (ap (λ (x : Forest Roomy). tree_of x) c.in-Some.ensures.forest ∙ tree_entered parent c.self.inside.next_owner c.new.result forest c.new.ensures))
+    (sound_created parent (tree_of forest) _ _ c.self.invariant (omega arith))
+
+pub returns-clause-owners : goal.returns-clause-owners
+returns-clause-owners g c =
+    let forest = c.self.inside.nodes.forest in
+    let parent : Option ℕ = option_map (λ p. p.number) c.args.parent in
+    ap (λ (x : Forest Roomy). tree_of x) c.in-Some.ensures.forest
+    ∙ tree_entered parent c.self.inside.next_owner c.new.result forest c.new.ensures
+    ∙ ap (λ (t : OwnerTable). created parent t.next_owner (owners_of t)) c.self.view_is
+
+pub returns-clause-fresh : goal.returns-clause-fresh
+returns-clause-fresh g c = rw (← c.self.view_is) (fresh _ _ _ c.self.invariant)
+
+pub returns-clause-too_many : goal.returns-clause-too_many
+returns-clause-too_many g c =
+    let size_is : size (owners_of c.args.self.now) ≡ c.len.result =
+    rw (← c.self.view_is) (mapped-size (λ (r : Roomy). r.owner) c.self.inside.nodes.forest ∙ sym c.len.ensures.value) in
+    (λ e. absurd (cc e), λ h. absurd (omega arith))

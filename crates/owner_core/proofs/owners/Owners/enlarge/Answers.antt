@@ -1,0 +1,61 @@
+use Rattle.std.proofs.Common.{◌≡◌, ◌≢◌, ℕ, ◌+◌, ◌≤◌, Bool, true, false, Option, Some, None, Ok, Err, List, [], ◌∷◌, ◌++◌, map, refl, sym, ap, ◌∙◌, subst, arith, rules}
+use Rattle.std.specs.Option.{option_map, option_map_or}
+use Rattle.pgs_step.specs.declared.ids.Item.{Item}
+use Rattle.pgs_step.specs.declared.events.What.{What}
+use Rattle.pgs_step.specs.declared.events.What.TheVariants.{OwnerGone}
+use Rattle.forest.specs.declared.id.NodeId.{NodeId}
+use Rattle.forest.specs.Forest.{Forest, Empty, Node, has, Once, size, at, children, removed, changed, moved}
+use Rattle.forest.specs.Walk.{order_at}
+use Rattle.forest.proofs.Trees.{at_some}
+use Rattle.forest.proofs.Mapped.{mapped-size, mapped-has, mapped-removed, at_changed}
+use Rattle.owner_kinds.specs.KindTable.{KindTable}
+use Rattle.owner_items.specs.ItemList.{is_of, without_newest}
+use Rattle.owner_core.specs.Owners.{Owner, OwnerTree, OwnerTable, Roomy, tree_of, owners_of, has_begun, items_of, spare_of, created, entered, remembered, forgotten}
+use Rattle.owner_core.specs.Released.{released, own_released}
+use Rattle.owner_core.specs.Sound.{IsSound}
+use Rattle.owner_core.proofs.Sounds.{once_of, fresh, newest, sound_created, sound_removed, sound_moved, sound_remembered, sound_forgotten, sound_released}
+use Rattle.owner_core.proofs.Tables.{at_tree, once_rooms, changed_to, changed_same, changed_back, tree_entered, tree_moved, tree_order, on_err, room_back}
+use Rattle.std.specs.Result.{OnOk, OnErr}
+use Rattle.owner_core.proofs.Releasing.{inside_tree}
+use Rattle.owner_core.proofs.owners.Owners.enlarge.Goals as goal
+
+pub invariant_of-self : goal.invariant_of-self
+invariant_of-self c =
+    let forest = c.self.inside.nodes.forest in
+    let o : Once forest = once_rooms forest (once_of _ _ _ c.self.invariant) in
+    subst (λ (x : OwnerTree). IsSound x c.self.inside.next_owner c.self.inside.next_serial)
+    (sym (changed_same c.node_at.result.number forest c.get_mut.result.now c.enlarge.new.self o c.get_mut.ensures.value c.enlarge.ensures.owner)) c.self.invariant
+
+pub returns-clause-spare : goal.returns-clause-spare
+returns-clause-spare c =
+    let forest = c.self.inside.nodes.forest in
+    let new = c.enlarge.new.self in
+    let lies : at c.args.owner.number (changed c.node_at.result.number (λ _. new) forest) ≡ Some new =
+    ap (λ (x : NodeId). at x.number (changed c.node_at.result.number (λ _. new) forest)) (sym c.node_at.ensures)
+    ∙ at_changed c.node_at.result.number (λ _. new) forest c.get_mut.result.now c.get_mut.ensures.value in
+    subst (λ (k : ℕ). OnOk c.enlarge.result (1 ≤ k)) (sym (ap (λ (x : Option Roomy). option_map_or (λ (r : Roomy). r.spare) x 0) lies)) c.enlarge.ensures.spare
+
+pub returns-clause-owners : goal.returns-clause-owners
+returns-clause-owners c =
+    let forest = c.self.inside.nodes.forest in
+    let o : Once forest = once_rooms forest (once_of _ _ _ c.self.invariant) in
+    changed_same c.node_at.result.number forest c.get_mut.result.now c.enlarge.new.self o c.get_mut.ensures.value c.enlarge.ensures.owner
+    ∙ ap (λ (t : OwnerTable). owners_of t) c.self.view_is
+
+pub returns-clause-releasing : goal.returns-clause-releasing
+returns-clause-releasing c =
+    let forest = c.self.inside.nodes.forest in
+    let lies : at c.args.owner.number (tree_of forest) ≡ Some c.get_mut.result.now.owner =
+    ap (λ (x : NodeId). at x.number (tree_of forest)) (sym c.node_at.ensures) ∙ at_tree c.node_at.result.number forest c.get_mut.result.now c.get_mut.ensures.value in
+    let begun : has_begun c.args.owner.number (owners_of c.args.self.now) ≡ c.get_mut.result.now.owner.begun =
+    ap (λ (t : OwnerTable). has_begun c.args.owner.number (owners_of t)) (sym c.self.view_is) ∙ ap (λ (x : Option Owner). option_map_or (λ (y : Owner). y.begun) x false) lies in
+    rw begun c.enlarge.ensures.releasing
+
+pub returns-clause-refused : goal.returns-clause-refused
+returns-clause-refused c =
+    let forest = c.self.inside.nodes.forest in
+    let o : Once forest = once_rooms forest (once_of _ _ _ c.self.invariant) in
+    let table : OwnerTable = record { rooms = forest; places = c.self.inside.nodes.places; next_owner = c.self.inside.next_owner; next_serial = c.self.inside.next_serial } in
+    on_err c.enlarge.result _ _
+    (λ e. room_back c.node_at.result.number c.get_mut.result.now c.enlarge.new.self table o c.get_mut.ensures.value e ∙ c.self.view_is)
+    c.enlarge.ensures.refused

@@ -1,0 +1,43 @@
+use Rattle.std.proofs.Common.{◌≡◌, ◌≢◌, ℕ, ◌+◌, ◌≤◌, Bool, true, false, Option, Some, None, Ok, Err, List, [], ◌∷◌, ◌++◌, map, refl, sym, ap, ◌∙◌, subst, arith, rules}
+use Rattle.std.specs.Option.{option_map, option_map_or}
+use Rattle.pgs_step.specs.declared.ids.Item.{Item}
+use Rattle.pgs_step.specs.declared.events.What.{What}
+use Rattle.pgs_step.specs.declared.events.What.TheVariants.{OwnerGone}
+use Rattle.forest.specs.declared.id.NodeId.{NodeId}
+use Rattle.forest.specs.Forest.{Forest, Empty, Node, has, Once, size, at, children, removed, changed, moved}
+use Rattle.forest.specs.Walk.{order_at}
+use Rattle.forest.proofs.Trees.{at_some}
+use Rattle.forest.proofs.Mapped.{mapped-size, mapped-has, mapped-removed, at_changed}
+use Rattle.owner_kinds.specs.KindTable.{KindTable}
+use Rattle.owner_items.specs.ItemList.{is_of, without_newest}
+use Rattle.owner_core.specs.Owners.{Owner, OwnerTree, OwnerTable, Roomy, tree_of, owners_of, has_begun, items_of, spare_of, created, entered, remembered, forgotten}
+use Rattle.owner_core.specs.Released.{released, own_released}
+use Rattle.owner_core.specs.Sound.{IsSound}
+use Rattle.owner_core.proofs.Sounds.{once_of, fresh, newest, sound_created, sound_removed, sound_moved, sound_remembered, sound_forgotten, sound_released}
+use Rattle.owner_core.proofs.Tables.{at_tree, once_rooms, changed_to, changed_same, changed_back, tree_entered, tree_moved, tree_order}
+use Rattle.owner_core.proofs.Releasing.{inside_tree}
+use Rattle.owner_core.proofs.owners.Owners.new_parent.Goals as goal
+
+pub move_to-requires-clause-apart : goal.move_to-requires-clause-apart
+move_to-requires-clause-apart g c =
+    let one : c.node_at.result.number ≡ c.args.owner.number = ap (λ (x : NodeId). x.number) c.node_at.ensures in
+    let two : c.node_at-2.result.number ≡ c.args.parent.number = ap (λ (x : NodeId). x.number) c.node_at-2.ensures in
+    let apart : has c.args.parent.number (children c.args.owner.number (tree_of c.self.inside.nodes.forest)) ≡ false =
+    ap (λ (t : OwnerTable). has c.args.parent.number (children c.args.owner.number (owners_of t))) c.self.view_is ∙ c.requires.apart in
+    rw (one, two) (sym (inside_tree c.args.owner.number c.args.parent.number c.self.inside.nodes.forest) ∙ apart)
+
+pub invariant_of-self : goal.invariant_of-self
+invariant_of-self g c =
+    let forest = c.self.inside.nodes.forest in
+    subst (λ (x : OwnerTree). IsSound x c.self.inside.next_owner c.self.inside.next_serial)
+    (sym (ap (λ (x : Forest Roomy). tree_of x) c.move_to.ensures.forest ∙ tree_moved c.node_at.result.number c.node_at-2.result.number forest))
+    (sound_moved c.node_at.result.number c.node_at-2.result.number (tree_of forest) _ _ c.self.invariant)
+
+pub returns-clause-owners : goal.returns-clause-owners
+returns-clause-owners g c =
+    let forest = c.self.inside.nodes.forest in
+    ap (λ (x : Forest Roomy). tree_of x) c.move_to.ensures.forest
+    ∙ tree_moved c.node_at.result.number c.node_at-2.result.number forest
+    ∙ ap (λ (x : NodeId). moved x.number c.node_at-2.result.number (tree_of forest)) c.node_at.ensures
+    ∙ ap (λ (x : NodeId). moved c.args.owner.number x.number (tree_of forest)) c.node_at-2.ensures
+    ∙ ap (λ (t : OwnerTable). moved c.args.owner.number c.args.parent.number (owners_of t)) c.self.view_is

@@ -1,0 +1,42 @@
+use Rattle.std.proofs.Common.{◌≡◌, ◌≢◌, ℕ, ◌+◌, ◌≤◌, Bool, true, false, Option, Some, None, Ok, Err, List, [], ◌∷◌, ◌++◌, map, refl, sym, ap, ◌∙◌, subst, arith, rules}
+use Rattle.std.specs.Option.{option_map, option_map_or}
+use Rattle.pgs_step.specs.declared.ids.Item.{Item}
+use Rattle.pgs_step.specs.declared.events.What.{What}
+use Rattle.pgs_step.specs.declared.events.What.TheVariants.{OwnerGone}
+use Rattle.forest.specs.declared.id.NodeId.{NodeId}
+use Rattle.forest.specs.Forest.{Forest, Empty, Node, has, Once, size, at, children, removed, changed, moved}
+use Rattle.forest.specs.Walk.{order_at}
+use Rattle.forest.proofs.Trees.{at_some}
+use Rattle.forest.proofs.Mapped.{mapped-size, mapped-has, mapped-removed, at_changed}
+use Rattle.owner_kinds.specs.KindTable.{KindTable}
+use Rattle.owner_items.specs.ItemList.{is_of, without_newest}
+use Rattle.owner_core.specs.Owners.{Owner, OwnerTree, OwnerTable, Roomy, tree_of, owners_of, has_begun, items_of, spare_of, created, entered, remembered, forgotten}
+use Rattle.owner_core.specs.Released.{released, own_released}
+use Rattle.owner_core.specs.Sound.{IsSound}
+use Rattle.owner_core.proofs.Sounds.{once_of, fresh, newest, sound_created, sound_removed, sound_moved, sound_remembered, sound_forgotten, sound_released}
+use Rattle.owner_core.proofs.Tables.{at_tree, once_rooms, changed_to, changed_same, changed_back, tree_entered, tree_moved, tree_order}
+use Rattle.owner_core.proofs.Releasing.{inside_tree}
+use Rattle.owner_core.proofs.owners.Owners.remember.Goals as goal
+
+pub remember-requires-clause-newest : goal.remember-requires-clause-newest
+remember-requires-clause-newest g c =
+    let forest = c.self.inside.nodes.forest in
+    newest c.node_at.result.number c.get_mut.result.now.owner (tree_of forest) _ _ c.self.invariant (at_tree c.node_at.result.number forest c.get_mut.result.now c.get_mut.ensures.value)
+
+pub invariant_of-self : goal.invariant_of-self
+invariant_of-self g c =
+    let forest = c.self.inside.nodes.forest in
+    let o : Once forest = once_rooms forest (once_of _ _ _ c.self.invariant) in
+    let item : Item = record { kind = c.args.kind; key = c.args.key; serial = c.self.inside.next_serial } in
+    subst (λ (x : OwnerTree). IsSound x c.self.inside.next_owner (c.self.inside.next_serial + 1))
+    (sym (changed_to c.node_at.result.number (λ (x : Owner). record x { items = item ∷ x.items }) forest c.get_mut.result.now c.remember.new.self o c.get_mut.ensures.value c.remember.ensures))
+    (sound_remembered c.node_at.result.number c.get_mut.result.now.owner item (tree_of forest) _ _ c.self.invariant (at_tree c.node_at.result.number forest c.get_mut.result.now c.get_mut.ensures.value) refl)
+
+pub returns-clause-owners : goal.returns-clause-owners
+returns-clause-owners g c =
+    let forest = c.self.inside.nodes.forest in
+    let o : Once forest = once_rooms forest (once_of _ _ _ c.self.invariant) in
+    let item : Item = record { kind = c.args.kind; key = c.args.key; serial = c.self.inside.next_serial } in
+    changed_to c.node_at.result.number (λ (x : Owner). record x { items = item ∷ x.items }) forest c.get_mut.result.now c.remember.new.self o c.get_mut.ensures.value c.remember.ensures
+    ∙ ap (λ (x : NodeId). remembered x.number item (tree_of forest)) c.node_at.ensures
+    ∙ ap (λ (t : OwnerTable). remembered c.args.owner.number (record { kind = c.args.kind; key = c.args.key; serial = t.next_serial }) (owners_of t)) c.self.view_is

@@ -1,0 +1,34 @@
+//! Why a call on owners is refused.
+ghost use Rattle.std.specs.Prelude.{◌≡◌};
+ghost use Rattle.owner_core.specs.declared.errors.OwnerError.TheVariants.{Memory};
+
+use std::alloc::{AllocError, AllocFailed};
+
+/// Why a call on owners is refused. After it the owners are as they were.
+#[derive(Clone, Copy, Debug, PartialEq, Eq)]
+pub enum OwnerError {
+    /// The owner's release has begun, so that it remembers and forgets nothing more.
+    Releasing,
+    /// The owner has no item of this kind and key.
+    NotOwned,
+    /// As many owners live as can: `MOST_OWNERS`.
+    TooMany,
+    /// Memory was refused.
+    Memory,
+}
+
+impl From<AllocError> for OwnerError {
+    ghost from_gives = { λ _ e. e ≡ Memory };
+
+    fn from(_error: AllocError) -> OwnerError {
+        OwnerError::Memory
+    }
+}
+
+impl<T: Drop> From<AllocFailed<T>> for OwnerError {
+    ghost from_gives = { λ _ e. e ≡ Memory };
+
+    fn from(_error: AllocFailed<T>) -> OwnerError {
+        OwnerError::Memory
+    }
+}
