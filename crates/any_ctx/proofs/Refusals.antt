@@ -8,6 +8,8 @@ use Rattle.alloc_set.specs.Ledger as set
 use Rattle.slab_ctx.specs.Ledger as slab
 use Rattle.generation_ctx.specs.Ledger as generation
 use Rattle.bump_ctx.specs.Ledger as bump
+use Rattle.chunk_header.specs.Answers.{Taken, Resized}
+use Rattle.any_ctx.specs.Ledgers.{Ledger, Place, taken_as, resized_as}
 
 -- too great a request
 pub take_big-set : (l : set.SetLedger) (left size : ℕ) → 1073741823 < size → set.take l left size ≡ Err TooBig
@@ -99,3 +101,28 @@ refuses_at-slab (Err e) place step big other refused = elim refused [
   | inl is ↦ inr (if_some_err place step e TooBig is (big (ap Err is)))
   | inr is ↦ inr (if_some_err place step e Unsupported is (other (ap Err is)))
 ]
+
+-- neither of two other refusals is one of these
+pub not_wrong : {A : Type 0} (r : Result A CtxError) → IfErr r (λ e. (e ≡ TooBig) ⊎ ((e ≡ NoSpace) ⊎ (e ≡ Memory))) → r ≡ Err WrongSize → ⊥
+not_wrong (Ok a) other is = cc
+not_wrong (Err e) (inl x) is = cc
+not_wrong (Err e) (inr (inl x)) is = cc
+not_wrong (Err e) (inr (inr x)) is = cc
+
+pub not_unsupported : {A : Type 0} (r : Result A CtxError) → IfErr r (λ e. (e ≡ TooBig) ⊎ ((e ≡ NoSpace) ⊎ (e ≡ Memory))) → r ≡ Err Unsupported → ⊥
+not_unsupported (Ok a) other is = cc
+not_unsupported (Err e) (inl x) is = cc
+not_unsupported (Err e) (inr (inl x)) is = cc
+not_unsupported (Err e) (inr (inr x)) is = cc
+
+-- a refusal of a ledger of any kind is that of its kind
+pub taken_err : {L P : Type 0} (ledger : L → Ledger) (place : P → Place) (r : Result (Taken L P) CtxError) (e : CtxError) → taken_as ledger place r ≡ Err e → r ≡ Err e
+taken_err ledger place (Ok t) e is = absurd (cc)
+taken_err ledger place (Err f) e is = cc
+
+pub resized_err : {L P : Type 0} (ledger : L → Ledger) (place : P → Place) (r : Result (Resized L P) CtxError) (e : CtxError) → resized_as ledger place r ≡ Err e → r ≡ Err e
+resized_err ledger place (Ok t) e is = absurd (cc)
+resized_err ledger place (Err f) e is = cc
+
+pub one_error : {A : Type 0} (r : Result A CtxError) (e f : CtxError) → r ≡ Err e → r ≡ Err f → e ≡ f
+one_error r e f is there = let both : Err e ≡ Err f = sym is ∙ there in cc

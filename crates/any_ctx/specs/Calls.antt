@@ -1,13 +1,16 @@
 -- What a call that serves a request does to a context of any kind, by the step of its ledger.
-use Rattle.std.specs.Prelude.{◌≡◌, ◌↔◌, ◌-◌, ℕ, IsTrue, Some, Result, Ok}
+use Rattle.std.specs.Prelude.{◌≡◌, ◌↔◌, ◌-◌, ℕ, IsTrue, Some, Result, Ok, Err}
 use Rattle.addr_space.specs.declared.Addr.{Addr}
 use Rattle.addr_space.specs.Space.{Space, Asks, held}
 use Rattle.addr_space.specs.Live.{PutsAt, MovesAt}
 use Rattle.chunk_header.specs.declared.CtxError.{CtxError}
+use Rattle.chunk_header.specs.declared.CtxError.TheVariants.{WrongSize, Unsupported}
+use Rattle.bump_ctx.specs.Ledger as bump
 use Rattle.chunk_header.specs.Answers.{Taken, Resized}
 use Rattle.any_ctx.specs.Ledgers.{Ledger, Place, take, resize}
 use Rattle.any_ctx.specs.Contexts.{footprint, ledger, place_at}
 use Rattle.any_ctx.specs.declared.any.AnyCtx.{AnyCtx}
+use Rattle.any_ctx.specs.declared.any.AnyCtx.TheVariants.{AllocSet, Slab, Generation, Bump}
 
 -- what is left of the account of a context in a space
 abbrev pub left_of : AnyCtx → Space → ℕ
@@ -39,3 +42,15 @@ pub record Resizes (a b : AnyCtx) (was : Place) (size : ℕ) (from to : Addr) (s
   pub place : MovesAt (place_at a) (place_at b) from to answer.place
   pub asked : Asks (footprint a).account answer.asked s t
   pub stays : (to ≡ from) ↔ IsTrue answer.stays
+
+-- the request has another size than the chunks of a Slab, as the ledger's step says
+abbrev pub IsWrongSize : AnyCtx → Space → ℕ → Type 0
+IsWrongSize (Slab a) s size = take_in (Slab a) s size ≡ Err WrongSize
+IsWrongSize context s size = ⊥
+
+-- the chunk at a place can't have another size: a Slab's chunks have one, and a Bump's stay as they are
+abbrev pub IsUnsupported : AnyCtx → Space → Place → ℕ → Type 0
+IsUnsupported (AllocSet a) s place size = ⊥
+IsUnsupported (Slab a) s place size = resize_in (Slab a) s place size ≡ Err Unsupported
+IsUnsupported (Generation a) s place size = ⊥
+IsUnsupported (Bump a) s place size = bump.refusal size ≡ Unsupported

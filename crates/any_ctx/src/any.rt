@@ -8,7 +8,7 @@ ghost use Rattle.chunk_header.specs.Header.{AllHeaded, AllOfKind, TakesSpace};
 ghost use Rattle.any_ctx.specs.Ledgers.{Ledger, Place, OfSet, take, give, reset, stats, chunk_bytes, IsBump};
 ghost use Rattle.any_ctx.specs.Kinds.{first_size, IsSlabSize, created};
 ghost use Rattle.any_ctx.specs.Contexts.{footprint, ledger, place_at, kind_of};
-ghost use Rattle.any_ctx.specs.Calls.{take_in, Takes, resize_in, Resizes};
+ghost use Rattle.any_ctx.specs.Calls.{take_in, Takes, IsWrongSize, resize_in, Resizes, IsUnsupported};
 ghost use Rattle.alloc_set.specs.Ledger as set;
 
 use addr_space::{Addr, Space};
@@ -154,6 +154,7 @@ impl AnyCtx {
         ensures taken { IfOk result (λ at. Takes self.old self.new size at space.old space.new) }
         ensures refused { IfErr result (λ e. (e ≡ CtxError.Memory) ⊎ (take_in self.old space.old size ≡ Err e)) }
         ensures too_big { (result ≡ Err CtxError.TooBig) ↔ (1073741823 < size) }
+        ensures wrong_size { (result ≡ Err CtxError.WrongSize) ↔ IsWrongSize self.old space.old size }
 
         // The chunk was not live, and every other chunk keeps its size.
         ensures fresh { IfOk result (λ at. (footprint self.old).live at ≡ None) }
@@ -286,6 +287,7 @@ impl AnyCtx {
         ensures resized { IfOk result (λ to. IfSome (place_at self.old at) (λ place. Resizes self.old self.new place size at to space.old space.new)) }
         ensures refused { IfErr result (λ e. (e ≡ CtxError.Memory) ⊎ IfSome (place_at self.old at) (λ place. resize_in self.old space.old place size ≡ Err e)) }
         ensures too_big { (result ≡ Err CtxError.TooBig) ↔ (1073741823 < size) }
+        ensures unsupported { IfSome (place_at self.old at) (λ place. (result ≡ Err CtxError.Unsupported) ↔ IsUnsupported self.old space.old place size) }
 
         // Where the chunk is at another address, none was live there, and the old address has none. Its first bytes are
         // those that were known.

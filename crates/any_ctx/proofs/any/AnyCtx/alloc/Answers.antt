@@ -1,8 +1,8 @@
-use Rattle.std.proofs.Common.{◌≡◌, ◌⊎◌, ◌-◌, ℕ, IfOk, IfErr, Err, sym, subst, ap}
+use Rattle.std.proofs.Common.{◌≡◌, ◌⊎◌, ◌-◌, ℕ, IfOk, IfErr, Err, ◌↔◌, sym, subst, ap}
 use Rattle.addr_space.specs.Space.{held}
 use Rattle.addr_space.specs.Footprint.{Keeps}
 use Rattle.addr_space.proofs.Options.{if_ok}
-use Rattle.chunk_header.specs.declared.CtxError.TheVariants.{Memory}
+use Rattle.chunk_header.specs.declared.CtxError.TheVariants.{WrongSize, Memory}
 use Rattle.alloc_set.specs.State as set_state
 use Rattle.slab_ctx.specs.State as slab_state
 use Rattle.generation_ctx.specs.State as generation_state
@@ -15,9 +15,9 @@ use Rattle.any_ctx.specs.declared.any.AnyCtx.{AnyCtx}
 use Rattle.any_ctx.specs.declared.any.AnyCtx.TheVariants.{AllocSet, Slab, Generation, Bump}
 use Rattle.any_ctx.specs.Ledgers.{OfSet, OfSlab, OfGeneration, OfBump, InSet, InSlab, InGeneration, InBump, taken_as}
 use Rattle.any_ctx.specs.Contexts.{footprint}
-use Rattle.any_ctx.specs.Calls.{Takes, take_in}
+use Rattle.any_ctx.specs.Calls.{Takes, IsWrongSize, take_in}
 use Rattle.any_ctx.proofs.Steps.{Takes-set, Takes-slab, Takes-generation, Takes-bump}
-use Rattle.any_ctx.proofs.Refusals.{take_big-set, take_big-slab, take_big-generation, take_big-bump, refuses, refuses-slab}
+use Rattle.any_ctx.proofs.Refusals.{take_big-set, take_big-slab, take_big-generation, take_big-bump, refuses, refuses-slab, not_wrong, taken_err}
 use Rattle.any_ctx.proofs.any.AnyCtx.alloc.Goals as goal
 
 pub returns-in-AllocSet-clause-taken : goal.returns-in-AllocSet-clause-taken
@@ -87,3 +87,24 @@ returns-in-Bump-clause-refused c =
 pub returns-in-Bump-clause-keeps : goal.returns-in-Bump-clause-keeps
 returns-in-Bump-clause-keeps c =
     subst (λ (x : AnyCtx). Keeps (footprint x) (bump_state.footprint c.alloc-in-Bump.new.self) c.args.space.now c.alloc-in-Bump.new.space) (sym c.in-Bump.is) c.alloc-in-Bump.ensures.keeps
+
+pub returns-in-AllocSet-clause-wrong_size : goal.returns-in-AllocSet-clause-wrong_size
+returns-in-AllocSet-clause-wrong_size c =
+    subst (λ (x : AnyCtx). (c.alloc.result ≡ Err WrongSize) ↔ IsWrongSize x c.args.space.now c.args.size) (sym c.in-AllocSet.is) ((λ is. not_wrong c.alloc.result c.alloc.ensures.no_other is), (λ none. absurd none))
+
+pub returns-in-Generation-clause-wrong_size : goal.returns-in-Generation-clause-wrong_size
+returns-in-Generation-clause-wrong_size c =
+    subst (λ (x : AnyCtx). (c.alloc-in-Generation.result ≡ Err WrongSize) ↔ IsWrongSize x c.args.space.now c.args.size) (sym c.in-Generation.is) ((λ is. not_wrong c.alloc-in-Generation.result c.alloc-in-Generation.ensures.no_other is), (λ none. absurd none))
+
+pub returns-in-Bump-clause-wrong_size : goal.returns-in-Bump-clause-wrong_size
+returns-in-Bump-clause-wrong_size c =
+    subst (λ (x : AnyCtx). (c.alloc-in-Bump.result ≡ Err WrongSize) ↔ IsWrongSize x c.args.space.now c.args.size) (sym c.in-Bump.is) ((λ is. not_wrong c.alloc-in-Bump.result c.alloc-in-Bump.ensures.no_other is), (λ none. absurd none))
+
+pub returns-in-Slab-clause-wrong_size : goal.returns-in-Slab-clause-wrong_size
+returns-in-Slab-clause-wrong_size c =
+    let s = c.args.space.now in
+    let a = c.in-Slab.slab in
+    let left : ℕ = s.limit - held s a.layout.account in
+    let both = c.alloc-in-Slab.ensures.wrong_size in
+    subst (λ (x : AnyCtx). (c.alloc-in-Slab.result ≡ Err WrongSize) ↔ IsWrongSize x s c.args.size) (sym c.in-Slab.is)
+    ((λ is. ap (taken_as OfSlab InSlab) (both.0 is)), (λ is. both.1 (taken_err OfSlab InSlab (slab.take a.ledger left c.args.size) WrongSize is)))

@@ -6,18 +6,20 @@ use Rattle.chunk_header.specs.declared.CtxError.TheVariants.{TooBig, NoSpace, Un
 use Rattle.alloc_set.specs.State as set_state
 use Rattle.slab_ctx.specs.State as slab_state
 use Rattle.generation_ctx.specs.State as generation_state
+use Rattle.bump_ctx.specs.State as bump_state
+use Rattle.bump_ctx.specs.Ledger as bump
 use Rattle.any_ctx.specs.declared.any.AnyCtx.{AnyCtx}
-use Rattle.any_ctx.specs.declared.any.AnyCtx.TheVariants.{AllocSet, Slab, Generation}
+use Rattle.any_ctx.specs.declared.any.AnyCtx.TheVariants.{AllocSet, Slab, Generation, Bump}
 use Rattle.alloc_set.specs.Ledger as set
 use Rattle.generation_ctx.specs.Ledger as generation
 use Rattle.alloc_set.specs.Calls as set_calls
 use Rattle.slab_ctx.specs.Calls as slab_calls
 use Rattle.generation_ctx.specs.Calls as generation_calls
-use Rattle.any_ctx.specs.Ledgers.{Place, OfSet, OfSlab, OfGeneration, InSet, InSlab, InGeneration, resized_as}
+use Rattle.any_ctx.specs.Ledgers.{Place, OfSet, OfSlab, OfGeneration, InSet, InSlab, InGeneration, InBump, resized_as}
 use Rattle.any_ctx.specs.Contexts.{footprint, place_at}
-use Rattle.any_ctx.specs.Calls.{Resizes, resize_in}
+use Rattle.any_ctx.specs.Calls.{Resizes, IsUnsupported, resize_in}
 use Rattle.any_ctx.proofs.Steps.{Resizes-set, Resizes-slab, Resizes-generation, if_some, each_some}
-use Rattle.any_ctx.proofs.Refusals.{resize_big-set, resize_big-slab, resize_big-generation, refusal_cases, refuses_at, refuses_at-slab}
+use Rattle.any_ctx.proofs.Refusals.{resize_big-set, resize_big-slab, resize_big-generation, refusal_cases, refuses_at, refuses_at-slab, not_unsupported, resized_err, one_error}
 use Rattle.any_ctx.proofs.any.AnyCtx.realloc.Goals as goal
 
 pub returns-in-AllocSet-clause-resized : goal.returns-in-AllocSet-clause-resized
@@ -97,3 +99,34 @@ returns-in-Bump-clause-too_big c = (
     | inr other ↦ absurd (omega (arith, above, other.0))
   ],
 )
+
+pub returns-in-AllocSet-clause-unsupported : goal.returns-in-AllocSet-clause-unsupported
+returns-in-AllocSet-clause-unsupported c =
+    let s = c.args.space.now in
+    let a = c.in-AllocSet.set in
+    subst (λ (x : AnyCtx). IfSome (place_at x c.args.at) (λ p. (c.realloc.result ≡ Err Unsupported) ↔ IsUnsupported x s p c.args.size)) (sym c.in-AllocSet.is)
+    (each_some (λ (p : Place). (c.realloc.result ≡ Err Unsupported) ↔ IsUnsupported (AllocSet a) s p c.args.size) InSet (set_state.place_at a c.args.at) (λ was. ((λ is. not_unsupported c.realloc.result c.realloc.ensures.no_other is), (λ none. absurd none))))
+
+pub returns-in-Generation-clause-unsupported : goal.returns-in-Generation-clause-unsupported
+returns-in-Generation-clause-unsupported c =
+    let s = c.args.space.now in
+    let a = c.in-Generation.generation in
+    subst (λ (x : AnyCtx). IfSome (place_at x c.args.at) (λ p. (c.realloc-in-Generation.result ≡ Err Unsupported) ↔ IsUnsupported x s p c.args.size)) (sym c.in-Generation.is)
+    (each_some (λ (p : Place). (c.realloc-in-Generation.result ≡ Err Unsupported) ↔ IsUnsupported (Generation a) s p c.args.size) InGeneration (generation_state.place_at a c.args.at) (λ was. ((λ is. not_unsupported c.realloc-in-Generation.result c.realloc-in-Generation.ensures.no_other is), (λ none. absurd none))))
+
+pub returns-in-Slab-clause-unsupported : goal.returns-in-Slab-clause-unsupported
+returns-in-Slab-clause-unsupported c =
+    let s = c.args.space.now in
+    let a = c.in-Slab.slab in
+    subst (λ (x : AnyCtx). IfSome (place_at x c.args.at) (λ p. (c.realloc-in-Slab.result ≡ Err Unsupported) ↔ IsUnsupported x s p c.args.size)) (sym c.in-Slab.is)
+    (if_some (λ (was : ℕ). (c.realloc-in-Slab.result ≡ Err Unsupported) ↔ (slab_calls.resize_in a s was c.args.size ≡ Err Unsupported)) (λ (p : Place). (c.realloc-in-Slab.result ≡ Err Unsupported) ↔ IsUnsupported (Slab a) s p c.args.size) InSlab (slab_state.place_at a c.args.at)
+    (λ was h. ((λ is. ap (resized_as OfSlab InSlab) (h.0 is)), (λ is. h.1 (resized_err OfSlab InSlab (slab_calls.resize_in a s was c.args.size) Unsupported is)))) c.realloc-in-Slab.ensures.unsupported)
+
+pub returns-in-Bump-clause-unsupported : goal.returns-in-Bump-clause-unsupported
+returns-in-Bump-clause-unsupported c =
+    let s = c.args.space.now in
+    let a = c.in-Bump.bump in
+    let is = c.realloc-in-Bump.ensures.refused in
+    subst (λ (x : AnyCtx). IfSome (place_at x c.args.at) (λ p. (c.realloc-in-Bump.result ≡ Err Unsupported) ↔ IsUnsupported x s p c.args.size)) (sym c.in-Bump.is)
+    (each_some (λ (p : Place). (c.realloc-in-Bump.result ≡ Err Unsupported) ↔ IsUnsupported (Bump a) s p c.args.size) InBump (bump_state.place_at a c.args.at) (λ was. ((λ e. one_error c.realloc-in-Bump.result (bump.refusal c.args.size) Unsupported is e), (λ e. is ∙ ap Err e))))
+
