@@ -22,7 +22,7 @@ use addr_space::{Addr, Space};
 use any_ctx::AnyCtx;
 pub use both::{alloc_beside, free_beside, realloc_beside, reset_beside};
 use chunk_header::{CtxError, Stats};
-pub use two::two_kinds;
+pub use two::start;
 
 /// What a context reports once a chunk was taken, and once it was freed.
 #[derive(Clone, Copy, PartialEq, Eq, Debug)]
