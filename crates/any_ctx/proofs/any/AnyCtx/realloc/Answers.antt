@@ -129,4 +129,3 @@ returns-in-Bump-clause-unsupported c =
     let is = c.realloc-in-Bump.ensures.refused in
     subst (λ (x : AnyCtx). IfSome (place_at x c.args.at) (λ p. (c.realloc-in-Bump.result ≡ Err Unsupported) ↔ IsUnsupported x s p c.args.size)) (sym c.in-Bump.is)
     (each_some (λ (p : Place). (c.realloc-in-Bump.result ≡ Err Unsupported) ↔ IsUnsupported (Bump a) s p c.args.size) InBump (bump_state.place_at a c.args.at) (λ was. ((λ e. one_error c.realloc-in-Bump.result (bump.refusal c.args.size) Unsupported is e), (λ e. is ∙ ap Err e))))
-
