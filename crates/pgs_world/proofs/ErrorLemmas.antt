@@ -1,18 +1,23 @@
 -- How many ERROR events a transcript has: at most one for each line.
-use Rattle.std.proofs.Common.{◌≡◌, ℕ, ◌+◌, ◌≤◌, Bool, true, false, List, [], ◌∷◌, length, Option, Some, None, refl, ◌∙◌, ap, arith}
+use Rattle.std.proofs.Common.{◌≡◌, ℕ, ◌+◌, ◌≤◌, Bool, true, false, List, [], ◌∷◌, ◌++◌, map, length, Option, Some, None, refl, ◌∙◌, ap, arith}
 use Rattle.std.specs.Prelude.{fold, nat_lt, if◌then◌else◌}
 use Rattle.std.specs.Option.{option_map_or}
 use Rattle.pgs_step.specs.declared.ids.Item.{Item}
 use Rattle.pgs_step.specs.declared.errors.Error.{Error}
 use Rattle.pgs_step.specs.declared.events.What.{What}
 use Rattle.pgs_step.specs.declared.events.What.TheVariants as what
-use Rattle.flat_owners.specs.Owners.{Owner, items_of}
-use Rattle.flat_owners.specs.Steps.{release_of, releases_of}
+use Rattle.pgs_step.specs.declared.ids.Phase.{Phase}
+use Rattle.pgs_step.specs.declared.ids.Phase.TheVariants.{BeforeLocks, Locks, AfterLocks}
+use Rattle.forest.specs.Forest.{Empty, Node, at, children, parent_of}
+use Rattle.forest.specs.Walk.{order_at}
+use Rattle.owner_items.specs.Next.{release_order}
+use Rattle.owner_core.specs.Owners.{Owner, OwnerTree}
+use Rattle.owner_core.specs.Steps.{Step, release_of, releases_of, own_steps, steps_below, top_locks}
 use Rattle.pgs_command.specs.declared.commands.Command.{Command}
 use Rattle.pgs_command.specs.declared.commands.Command.TheVariants.{Nothing, Begin, Commit, Rollback, Pin}
-use Rattle.pgs_world.specs.Pins.{said, said-append}
+use Rattle.pgs_world.specs.Pins.{built_in_kinds, said, said-append}
 use Rattle.pgs_world.specs.Script.{command_of}
-use Rattle.pgs_world.specs.Session.{World, SessionState, LevelState, Ended, Done, Element, Refuse, Says, MakeLevel, MakeOwner, Enlarge, TakePin, CommitTop, Abort, Cleanup, does, does_all, then_done, fallible, is_call, level_made, owner_made, pinned_by, owner_of, release_events, gone_events, committed, aborted, cleaned_up, and_then, given_up, recovered, rolled_back, exited, idle_elements, block_elements, aborted_elements, command_elements, elements_of}
+use Rattle.pgs_world.specs.Session.{World, SessionState, LevelState, Ended, Done, Element, Refuse, Says, MakeLevel, MakeOwner, Enlarge, TakePin, CommitTop, Abort, Cleanup, does, does_all, then_done, fallible, is_call, level_made, owner_made, pinned_by, owner_of, after_items, after_locks, after_release, phase_events, release_events, discard_events, committed, aborted, cleaned_up, and_then, given_up, recovered, rolled_back, exited, idle_elements, block_elements, aborted_elements, command_elements, elements_of}
 use Rattle.pgs_world.specs.Transcript.{Course, turn, turn_of, after_line, after_turn, at_start, course_of, transcript, errors_in, is_error}
 use Rattle.pgs_world.specs.PrintingLaws.{errors_in-append}
 
@@ -27,29 +32,66 @@ releases_calm commit owner (item ∷ items) =
     ∙ errors_in-append (said (release_of commit owner item)) (said (releases_of commit owner items))
     ∙ let one = one_release commit owner item in let rest = releases_calm commit owner items in omega (arith, one, rest)
 
-release_calm : (commit : Bool) (owner : Option ℕ) (owners : List Owner) → errors_in (release_events commit owner owners) ≡ 0
-release_calm commit None owners = refl
-release_calm commit (Some n) owners = releases_calm commit n (items_of n owners)
+-- two stretches of steps that say no ERROR event
+both_steps : (ss ts : List Step) → errors_in (said ss) ≡ 0 → errors_in (said ts) ≡ 0 → errors_in (said (ss ++ ts)) ≡ 0
+both_steps ss ts h k = ap errors_in (said-append ss ts) ∙ errors_in-append (said ss) (said ts) ∙ omega (arith, h, k)
 
-gone_calm : (owner : Option ℕ) → errors_in (gone_events owner) ≡ 0
-gone_calm None = refl
-gone_calm (Some n) = refl
+own_calm : (phase : Phase) (commit : Bool) (n : ℕ) (owner : Owner) (locks : List Step) → errors_in (said locks) ≡ 0 → errors_in (said (own_steps built_in_kinds phase commit n owner locks)) ≡ 0
+own_calm Locks commit n owner locks h = h
+own_calm BeforeLocks commit n owner locks h = releases_calm commit n (release_order built_in_kinds BeforeLocks owner.items)
+own_calm AfterLocks commit n owner locks h = releases_calm commit n (release_order built_in_kinds AfterLocks owner.items)
+
+below_calm : (phase : Phase) (commit : Bool) (parent : ℕ) (owners : OwnerTree) → errors_in (said (steps_below built_in_kinds phase commit true parent owners)) ≡ 0
+below_calm phase commit parent Empty = refl
+below_calm phase commit parent (Node n owner below beside) =
+    both_steps (steps_below built_in_kinds phase commit true n below)
+    (own_steps built_in_kinds phase commit n owner [] ++ steps_below built_in_kinds phase commit true parent beside)
+    (below_calm phase commit n below)
+    (both_steps (own_steps built_in_kinds phase commit n owner []) (steps_below built_in_kinds phase commit true parent beside)
+    (own_calm phase commit n owner [] refl) (below_calm phase commit parent beside))
+
+at_calm : (phase : Phase) (commit : Bool) (n : ℕ) (below : OwnerTree) (parent : Option ℕ) (owner : Option Owner)
+    → errors_in (said (option_map_or (λ o. steps_below built_in_kinds phase commit true n below ++ own_steps built_in_kinds phase commit n o (top_locks true commit n parent)) owner [])) ≡ 0
+at_calm phase commit n below parent None = refl
+at_calm phase commit n below parent (Some owner) =
+    both_steps (steps_below built_in_kinds phase commit true n below) (own_steps built_in_kinds phase commit n owner (top_locks true commit n parent))
+    (below_calm phase commit n below) (own_calm phase commit n owner (top_locks true commit n parent) refl)
+
+phase_calm : (phase : Phase) (commit : Bool) (n : ℕ) (owners : OwnerTree) → errors_in (phase_events phase commit n owners) ≡ 0
+phase_calm phase commit n owners = at_calm phase commit n (children n owners) (parent_of n owners) (at n owners)
+
+release_calm : (commit : Bool) (owner : Option ℕ) (owners : OwnerTree) → errors_in (release_events commit owner owners) ≡ 0
+release_calm commit None owners = refl
+release_calm commit (Some n) owners =
+    let last : List What = phase_events AfterLocks commit n (after_locks n owners) in
+    let locks : List What = phase_events Locks commit n (after_items n owners) in
+    errors_in-append (phase_events BeforeLocks commit n owners) (locks ++ last)
+    ∙ omega (arith, errors_in-append locks last, phase_calm BeforeLocks commit n owners, phase_calm Locks commit n (after_items n owners), phase_calm AfterLocks commit n (after_locks n owners))
 
 -- an event in front that is no ERROR event
 in_front : (event : What) (events : List What) → is_error event ≡ false → errors_in (event ∷ events) ≡ errors_in events
 in_front event events h = errors_in-append (event ∷ []) events ∙ ap (λ (b : Bool). (0 + (if b then 1 else 0)) + errors_in events) h ∙ omega arith
 
+each_gone_calm : (numbers : List ℕ) → errors_in (map (λ n. what.OwnerGone n) numbers) ≡ 0
+each_gone_calm [] = refl
+each_gone_calm (n ∷ numbers) = in_front (what.OwnerGone n) (map (λ n. what.OwnerGone n) numbers) refl ∙ each_gone_calm numbers
+
+gone_calm : (owner : Option ℕ) (owners : OwnerTree) → errors_in (discard_events owner owners) ≡ 0
+gone_calm None owners = refl
+gone_calm (Some n) owners = each_gone_calm (order_at n owners)
+
 committed_calm : (s : SessionState) → errors_in (committed s).events ≡ 0
 committed_calm s =
     let owner : Option ℕ = owner_of s.level in
-    errors_in-append (what.CommitLevel 1 ∷ release_events true owner s.owners) (gone_events owner)
-    ∙ omega (arith, in_front (what.CommitLevel 1) (release_events true owner s.owners) refl, release_calm true owner s.owners, gone_calm owner)
+    let released : OwnerTree = after_release owner s.owners in
+    errors_in-append (what.CommitLevel 1 ∷ release_events true owner s.owners) (discard_events owner released)
+    ∙ omega (arith, in_front (what.CommitLevel 1) (release_events true owner s.owners) refl, release_calm true owner s.owners, gone_calm owner released)
 
 aborted_calm : (s : SessionState) → errors_in (aborted s).events ≡ 0
 aborted_calm s = in_front (what.AbortLevel 1) (release_events false (owner_of s.level) s.owners) refl ∙ release_calm false (owner_of s.level) s.owners
 
 cleaned_calm : (s : SessionState) → errors_in (cleaned_up s).events ≡ 0
-cleaned_calm s = in_front (what.CleanupLevel 1) (gone_events (owner_of s.level)) refl ∙ gone_calm (owner_of s.level)
+cleaned_calm s = in_front (what.CleanupLevel 1) (discard_events (owner_of s.level) s.owners) refl ∙ gone_calm (owner_of s.level) s.owners
 
 both_calm : (s : SessionState) → errors_in (and_then (aborted s) cleaned_up).events ≡ 0
 both_calm s = errors_in-append (aborted s).events (cleaned_up (aborted s).session).events ∙ omega (arith, aborted_calm s, cleaned_calm (aborted s).session)

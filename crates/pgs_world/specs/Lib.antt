@@ -3,6 +3,7 @@ pub mod Session
 pub mod Answers
 pub mod Pins
 pub mod Parts
+pub mod WorldCode
 pub mod Transcript
 pub mod Printing
 pub mod PrintingLaws

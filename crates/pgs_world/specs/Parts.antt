@@ -1,9 +1,12 @@
 -- How the parts that the code keeps stand for the state of a session.
-use Rattle.std.specs.Prelude.{◌≡◌, ℕ, ◌+◌, ◌<◌, ◌≤◌, ◌^◌, Bool, true, false, not, ◌&&◌, is_none, if◌then◌else◌, List, [], ◌∷◌, length, Option, Some, None, IsTrue}
+use Rattle.std.specs.Prelude.{◌≡◌, ℕ, ◌+◌, ◌<◌, ◌≤◌, ◌^◌, Bool, true, false, not, ◌&&◌, is_none, if◌then◌else◌, List, [], length, All, Option, Some, None}
 use Rattle.std.specs.Option.{option_map}
 use Rattle.pgs_step.specs.declared.ids.Item.{Item}
 use Rattle.pgs_step.specs.declared.ids.OwnerId.{OwnerId}
-use Rattle.flat_owners.specs.Owners.{OwnerTable, Owner, owners_of, items_of, has_owner, uses}
+use Rattle.pgs_step.specs.declared.ids.KindId.{KindId}
+use Rattle.forest.specs.Forest.{Empty, Node}
+use Rattle.owner_items.specs.ItemList.{uses}
+use Rattle.owner_core.specs.Owners.{OwnerTable, OwnerTree, owners_of, IsLive}
 use Rattle.pgs_world.specs.declared.session.Level.{Level}
 use Rattle.pgs_world.specs.declared.session.Standing.{Standing}
 use Rattle.pgs_world.specs.declared.session.Standing.TheVariants.{Idle, InBlock, Aborted}
@@ -20,21 +23,56 @@ world_of owners level calls = record {
   calls = calls;
 }
 
--- The owner of a level is the one owner that there is. Its release has begun where the level is aborted, and it holds nothing then.
-abbrev pub OwnsAlone : Option ℕ → Bool → List Item → List Owner → Type 0
-OwnsAlone None aborted items owners = (owners ≡ []) × (items ≡ [])
-OwnsAlone (Some n) aborted items owners = (owners ≡ record { number = n; begun = aborted; items = items } ∷ []) × (aborted ≡ true → items ≡ [])
+-- the owner of a level, if any
+abbrev pub owner_id : Option Level → Option OwnerId
+owner_id None = None
+owner_id (Some level) = level.owner
 
-abbrev pub OwnersAre : Option LevelState → List Item → List Owner → Type 0
-OwnersAre None items owners = (owners ≡ []) × (items ≡ [])
-OwnersAre (Some level) items owners = OwnsAlone level.owner level.aborted items owners
+abbrev pub has_aborted : Option Level → Bool
+has_aborted None = false
+has_aborted (Some level) = level.aborted
 
--- What holds of a session between any two of its steps: the pins are the items of its owner.
-pub record IsSound (world : World) (pins : List ℕ) : Type 0 where
+-- the number of an owner, if there is one
+abbrev pub number_in : Option OwnerId → Option ℕ
+number_in owner = option_map (λ id. id.number) owner
+
+-- an owner, if any, lies where its id says
+abbrev pub Lives : OwnerTable → Option OwnerId → Type 0
+Lives table None = Unit {0}
+Lives table (Some owner) = IsLive table owner
+
+-- one owner without a parent and without children
+abbrev pub alone : ℕ → Bool → List Item → OwnerTree
+alone n begun items = Node n (record { begun = begun; items = items }) Empty Empty
+
+-- the owner of this number is the only one and has these items, or there is none
+abbrev pub IsAlone : Option ℕ → Bool → List Item → OwnerTree → Type 0
+IsAlone None begun items owners = (owners ≡ Empty) × (items ≡ [])
+IsAlone (Some n) begun items owners = owners ≡ alone n begun items
+
+-- the item is a buffer pin
+abbrev pub IsPin : Item → Type 0
+IsPin item = item.kind.0 ≡ 1
+
+-- The owner, if any, is the only one and has these items. They are the session's pins.
+pub record Holds (table : OwnerTable) (pins : List ℕ) (owner : Option OwnerId) (begun : Bool) (items : List Item) : Type 0 where
+  pub lives : Lives table owner
+  pub is_alone : IsAlone (number_in owner) begun items (owners_of table)
+  pub are_pins : All IsPin items
+  pub pinned : (kind : KindId) (key : ℕ) → pins_counted pins kind key ≡ uses kind key items
+
+-- the owner, if any, holds the session's pins, whatever they are
+pub record HoldsPins (table : OwnerTable) (pins : List ℕ) (owner : Option OwnerId) : Type 0 where
+  pub begun : Bool
   pub items : List Item
-  pub owners_are : OwnersAre world.session.level items world.session.owners
-  pub pinned : (kind key : ℕ) → pins_counted pins kind key ≡ uses kind key items
-  pub few : length items < world.session.next_serial
+  pub holds : Holds table pins owner begun items
+
+-- What holds of a session between any two of its steps: the level's owner holds the session's pins, and none where the level is aborted.
+pub record IsSound (table : OwnerTable) (level : Option Level) (pins : List ℕ) : Type 0 where
+  pub items : List Item
+  pub holds : Holds table pins (owner_id level) (has_aborted level) items
+  pub released : has_aborted level ≡ true → items ≡ []
+  pub few : length items < table.next_serial
   pub buffers : length pins ≡ 1024
 
 -- what a command finds: no transaction, one that goes on, or an aborted one
@@ -74,19 +112,6 @@ IsInBlock (Some level) = level.aborted ≡ false
 abbrev pub IsAborted : Option LevelState → Type 0
 IsAborted None = ⊥
 IsAborted (Some level) = level.aborted ≡ true
-
-abbrev pub number_in : Option OwnerId → Option ℕ
-number_in owner = option_map (λ id. id.number) owner
-
--- what an owner, if any, holds
-abbrev pub held_by : Option ℕ → List Owner → List Item
-held_by None owners = []
-held_by (Some n) owners = items_of n owners
-
--- an owner, if any, is there
-abbrev pub IsLive : Option ℕ → List Owner → Type 0
-IsLive None owners = Unit {0}
-IsLive (Some n) owners = IsTrue (has_owner n owners)
 
 -- each count of the session can rise by n
 pub record HasRoom (n : ℕ) (world : World) : Type 0 where

@@ -2,16 +2,18 @@
 use Rattle.std.specs.Prelude.{ℕ, ◌+◌, ◌==◌, nat_lt, Bool, true, false, if◌then◌else◌, List, [], ◌∷◌, ◌++◌, Option, Some, None}
 use Rattle.std.specs.Option.{option_map_or}
 use Rattle.pgs_step.specs.declared.ids.Item.{Item}
+use Rattle.pgs_step.specs.declared.ids.Phase.{Phase}
 use Rattle.pgs_step.specs.declared.errors.Error.{Error}
 use Rattle.pgs_step.specs.declared.errors.Error.TheVariants.{SyntaxError, TransactionAborted, NoSuchBuffer, NoMemory}
 use Rattle.pgs_step.specs.declared.events.What.{What}
-use Rattle.pgs_step.specs.declared.events.What.TheVariants.{BeginLevel, CommitLevel, AbortLevel, CleanupLevel, Owner, OwnerGone, Acquire, AlreadyInTransaction, NotInTransaction, Exit}
+use Rattle.pgs_step.specs.declared.events.What.TheVariants.{BeginLevel, CommitLevel, AbortLevel, CleanupLevel, Owner, Acquire, AlreadyInTransaction, NotInTransaction, Exit}
 use Rattle.pgs_step.specs.declared.events.What.TheVariants as what
-use Rattle.flat_owners.specs.Owners as owners
-use Rattle.flat_owners.specs.Owners.{items_of, remembered, released, without}
-use Rattle.flat_owners.specs.Steps.{releases_of}
-use Rattle.pgs_step.specs.declared.ids.Phase.TheVariants.{BeforeLocks}
-use Rattle.pgs_world.specs.Pins.{said}
+use Rattle.pgs_step.specs.declared.ids.Phase.TheVariants.{BeforeLocks, Locks, AfterLocks}
+use Rattle.forest.specs.Forest.{Empty, removed}
+use Rattle.owner_core.specs.Owners.{OwnerTree, created, remembered}
+use Rattle.owner_core.specs.Released.{released}
+use Rattle.owner_core.specs.Steps.{release_steps, gone_events}
+use Rattle.pgs_world.specs.Pins.{built_in_kinds, said}
 use Rattle.pgs_command.specs.declared.commands.Command.{Command}
 use Rattle.pgs_command.specs.declared.commands.Command.TheVariants.{Nothing, Begin, Commit, Rollback, Pin}
 
@@ -20,10 +22,10 @@ pub record LevelState : Type 0 where
   pub owner : Option ℕ
   pub aborted : Bool
 
--- A session: its level, if any, its owners, the newest first, and the numbers that the next owner and the next item get.
+-- A session: its level, if any, its owners, and the numbers that the next owner and the next item get.
 pub record SessionState : Type 0 where
   pub level : Option LevelState
-  pub owners : List owners.Owner
+  pub owners : OwnerTree
   pub next_owner : ℕ
   pub next_serial : ℕ
 
@@ -34,7 +36,7 @@ pub record World : Type 0 where
 
 -- a session as it opens
 abbrev pub opening : World
-opening = record { session = record { level = None; owners = []; next_owner = 1; next_serial = 1 }; calls = 0 }
+opening = record { session = record { level = None; owners = Empty; next_owner = 1; next_serial = 1 }; calls = 0 }
 
 -- the parts of a command: its checks, its fallible steps, its ends and what it says
 pub data Element : Type 0 where
@@ -121,7 +123,7 @@ abbrev pub owner_made : SessionState → Ended
 owner_made session = record {
   session = record session {
     level = Some (record { owner = Some session.next_owner; aborted = false });
-    owners = record { number = session.next_owner; begun = false; items = [] } ∷ session.owners;
+    owners = created None session.next_owner session.owners;
     next_owner = session.next_owner + 1;
   };
   events = Owner session.next_owner ∷ [];
@@ -141,31 +143,44 @@ pinned_by (Some owner) buffer session =
       events = Acquire item owner ∷ [];
     }
 
--- the events of the release of all that an owner holds: of each item, the newest first
-abbrev pub release_events : Bool → Option ℕ → List owners.Owner → List What
-release_events commit None all = []
-release_events commit (Some owner) all = said (releases_of commit owner (items_of owner all))
+-- the owners once all of an owner was released that goes before the locks, and then once its locks were too
+abbrev pub after_items : ℕ → OwnerTree → OwnerTree
+after_items owner all = released built_in_kinds BeforeLocks owner all
 
--- the owners after that release
-abbrev pub after_release : Option ℕ → List owners.Owner → List owners.Owner
+abbrev pub after_locks : ℕ → OwnerTree → OwnerTree
+after_locks owner all = released built_in_kinds Locks owner (after_items owner all)
+
+-- the owners after the three phases of a release
+abbrev pub after_release : Option ℕ → OwnerTree → OwnerTree
 after_release None all = all
-after_release (Some owner) all = released BeforeLocks owner all
+after_release (Some owner) all = released built_in_kinds AfterLocks owner (after_locks owner all)
+
+-- what a phase of the release of a topmost owner says
+abbrev pub phase_events : Phase → Bool → ℕ → OwnerTree → List What
+phase_events phase commit owner all = said (release_steps built_in_kinds phase commit true owner all)
+
+-- the events of the release of all that an owner holds, in its three phases
+abbrev pub release_events : Bool → Option ℕ → OwnerTree → List What
+release_events commit None all = []
+release_events commit (Some owner) all =
+    phase_events BeforeLocks commit owner all
+    ++ (phase_events Locks commit owner (after_items owner all) ++ phase_events AfterLocks commit owner (after_locks owner all))
 
 -- an owner is discarded
-abbrev pub gone_events : Option ℕ → List What
-gone_events None = []
-gone_events (Some owner) = OwnerGone owner ∷ []
+abbrev pub discard_events : Option ℕ → OwnerTree → List What
+discard_events None all = []
+discard_events (Some owner) all = gone_events owner all
 
-abbrev pub after_gone : Option ℕ → List owners.Owner → List owners.Owner
+abbrev pub after_gone : Option ℕ → OwnerTree → OwnerTree
 after_gone None all = all
-after_gone (Some owner) all = without owner all
+after_gone (Some owner) all = removed owner all
 
 -- The level commits: all that its owner holds is released, each item with its warning, and the owner is discarded.
 abbrev pub committed : SessionState → Ended
 committed session =
     let owner = owner_of session.level in record {
       session = record session { level = None; owners = after_gone owner (after_release owner session.owners) };
-      events = CommitLevel 1 ∷ release_events true owner session.owners ++ gone_events owner;
+      events = CommitLevel 1 ∷ release_events true owner session.owners ++ discard_events owner (after_release owner session.owners);
     }
 
 -- The level aborts: all that its owner holds is released.
@@ -181,7 +196,7 @@ abbrev pub cleaned_up : SessionState → Ended
 cleaned_up session =
     let owner = owner_of session.level in record {
       session = record session { level = None; owners = after_gone owner session.owners };
-      events = CleanupLevel 1 ∷ gone_events owner;
+      events = CleanupLevel 1 ∷ discard_events owner session.owners;
     }
 
 -- an end never fails

@@ -1,14 +1,18 @@
 //! One session: its level, its owners and its pins, and what the elements of commands do to them.
-ghost use Rattle.std.specs.Prelude.{◌≡◌, ◌<◌, ◌≤◌, ◌+◌, ℕ, true, false, Some, None, [], ◌++◌, length, OnOk, IfOk, IfErr};
+ghost use Rattle.std.specs.Prelude.{◌≡◌, ◌<◌, ◌+◌, ℕ, Bool, true, false, List, Some, None, [], ◌++◌, length, OnOk, IfOk, IfErr};
 ghost use Rattle.std.specs.Option.{option_map};
 ghost use Rattle.pgs_step.specs.declared.errors.Error.TheVariants.{NoMemory};
-ghost use Rattle.flat_owners.specs.Owners.{owners_of, uses};
-ghost use Rattle.pgs_world.specs.Pins.{pins_counted};
-ghost use Rattle.pgs_world.specs.Session.{opening, level_made, owner_made, owner_of, pinned_by, release_events, after_release, gone_events, after_gone, committed, aborted, cleaned_up};
-ghost use Rattle.pgs_world.specs.Parts.{level_state, number_in, held_by, IsLive, standing_of, is_starting_in, IsOpen, IsLevel, IsAborted, HasRoom};
+ghost use Rattle.pgs_step.specs.declared.ids.KindId.{KindId as Kind};
+ghost use Rattle.pgs_step.specs.declared.ids.Item.{Item};
+ghost use Rattle.forest.specs.Forest.{Empty};
+ghost use Rattle.owner_core.specs.Owners.{owners_of};
+ghost use Rattle.owner_core.specs.Released.{released, left_of};
+ghost use Rattle.pgs_world.specs.Pins.{built_in_kinds, pins_counted};
+ghost use Rattle.pgs_world.specs.Session.{opening, level_made, owner_made, owner_of, pinned_by, release_events, after_release, phase_events, discard_events, after_gone, committed, aborted, cleaned_up};
+ghost use Rattle.pgs_world.specs.Parts.{level_state, number_in, owner_id, Lives, IsAlone, Holds, HoldsPins, standing_of, is_starting_in, IsOpen, IsLevel, IsAborted, HasRoom};
 
 use crate::pins::Pins;
-use flat_owners::Owners;
+use owner_core::{OwnerError, Owners};
 use pgs_step::{Emit, Error, KindId, OwnerId, Phase, What};
 use std::alloc::{AllocError, Global};
 use std::marker::Model;
@@ -42,11 +46,15 @@ impl Model for Session {
 
     ghost Value = { World };
 
+    ghost use Rattle.pgs_world.specs.WorldCode.{world_code};
+
+    ghost coded = { world_code };
+
     ghost use Rattle.pgs_world.specs.Parts.{world_of, IsSound};
 
     ghost view = { λ s. world_of s.owners s.level s.calls };
 
-    ghost invariant = { λ s. IsSound (world_of s.owners s.level s.calls) s.pins };
+    ghost invariant = { λ s. IsSound s.owners s.level s.pins };
 }
 
 impl Session {
@@ -116,7 +124,7 @@ impl Session {
         ensures silent { IfErr result (λ _. out.new ≡ out.old) }
     {
         self.calls += 1;
-        match self.owners.create(out) {
+        match self.owners.create(None, out) {
             Ok(owner) => {
                 self.level = Some(Level {
                     owner: Some(owner),
@@ -124,7 +132,8 @@ impl Session {
                 });
                 Ok(())
             }
-            Err(_) => Err(Error::NoMemory(self.calls)),
+            Err(OwnerError::Memory) => Err(Error::NoMemory(self.calls)),
+            Err(_) => unreachable!(),
         }
     }
 
@@ -143,8 +152,10 @@ impl Session {
             unreachable!();
         };
         self.calls += 1;
-        if self.owners.enlarge(owner).is_err() {
-            return Err(Error::NoMemory(self.calls));
+        match self.owners.enlarge(owner) {
+            Ok(()) => {}
+            Err(OwnerError::Memory) => return Err(Error::NoMemory(self.calls)),
+            Err(_) => unreachable!(),
         }
         self.calls += 1;
         self.pins.pin(buffer);
@@ -191,7 +202,8 @@ impl Session {
 
 /// The level's owner.
 fn owner_in(level: Option<Level>) -> Option<OwnerId>
-    ensures { option_map (λ id. id.number) result ≡ owner_of (option_map level_state level) }
+    ensures id { result ≡ owner_id level }
+    ensures number { number_in result ≡ owner_of (option_map level_state level) }
 {
     match level {
         None => None,
@@ -201,21 +213,21 @@ fn owner_in(level: Option<Level>) -> Option<OwnerId>
 
 /// Releases all that an owner holds with a warning, and discards the owner.
 fn close<E: Emit>(owners: &mut Owners, pins: &mut Pins, owner: Option<OwnerId>, out: &mut E)
-    requires live { IsLive (number_in owner) (owners_of owners.old) }
-    requires pinned { (kind key : ℕ) → uses kind key (held_by (number_in owner) (owners_of owners.old)) ≤ pins_counted pins.old kind key }
+    requires holds { HoldsPins owners.old pins.old owner }
     requires buffers { length pins.old ≡ 1024 }
     ensures owners { owners_of owners.new ≡ after_gone (number_in owner) (after_release (number_in owner) (owners_of owners.old)) }
+    ensures gone { owners_of owners.new ≡ Empty }
     ensures next_owner { owners.new.next_owner ≡ owners.old.next_owner }
     ensures next_serial { owners.new.next_serial ≡ owners.old.next_serial }
-    ensures pinned { (kind key : ℕ) → pins_counted pins.new kind key + uses kind key (held_by (number_in owner) (owners_of owners.old)) ≡ pins_counted pins.old kind key }
+    ensures unpinned { (kind : Kind) (key : ℕ) → pins_counted pins.new kind key ≡ 0 }
     ensures buffers { length pins.new ≡ 1024 }
-    ensures emitted { E.emits out.old (release_events true (number_in owner) (owners_of owners.old) ++ gone_events (number_in owner)) out.new }
+    ensures emitted { E.emits out.old (release_events true (number_in owner) (owners_of owners.old) ++ discard_events (number_in owner) (after_release (number_in owner) (owners_of owners.old))) out.new }
 {
     release_all(owners, pins, owner, true, out);
     discard(owners, owner, out);
 }
 
-/// Releases all that an owner holds. A buffer pin is the only kind, and is released before locks.
+/// Releases all that an owner holds.
 fn release_all<E: Emit>(
     owners: &mut Owners,
     pins: &mut Pins,
@@ -223,30 +235,73 @@ fn release_all<E: Emit>(
     commit: bool,
     out: &mut E,
 )
-    requires live { IsLive (number_in owner) (owners_of owners.old) }
-    requires pinned { (kind key : ℕ) → uses kind key (held_by (number_in owner) (owners_of owners.old)) ≤ pins_counted pins.old kind key }
+    requires holds { HoldsPins owners.old pins.old owner }
     requires buffers { length pins.old ≡ 1024 }
     ensures owners { owners_of owners.new ≡ after_release (number_in owner) (owners_of owners.old) }
+    ensures holds { Holds owners.new pins.new owner true [] }
     ensures next_owner { owners.new.next_owner ≡ owners.old.next_owner }
     ensures next_serial { owners.new.next_serial ≡ owners.old.next_serial }
-    ensures pinned { (kind key : ℕ) → pins_counted pins.new kind key + uses kind key (held_by (number_in owner) (owners_of owners.old)) ≡ pins_counted pins.old kind key }
     ensures buffers { length pins.new ≡ 1024 }
     ensures emitted { E.emits out.old (release_events commit (number_in owner) (owners_of owners.old)) out.new }
 {
     match owner {
         None => {}
-        Some(owner) => owners.release(owner, Phase::BeforeLocks, commit, true, pins, out),
+        Some(owner) => release_phases(owners, pins, owner, commit, out),
     }
+}
+
+/// Releases all that an owner holds, phase by phase.
+fn release_phases<E: Emit>(
+    owners: &mut Owners,
+    pins: &mut Pins,
+    owner: OwnerId,
+    commit: bool,
+    out: &mut E,
+)
+    requires holds { HoldsPins owners.old pins.old (Some owner) }
+    requires buffers { length pins.old ≡ 1024 }
+    ensures owners { owners_of owners.new ≡ after_release (Some owner.number) (owners_of owners.old) }
+    ensures holds { Holds owners.new pins.new (Some owner) true [] }
+    ensures next_owner { owners.new.next_owner ≡ owners.old.next_owner }
+    ensures next_serial { owners.new.next_serial ≡ owners.old.next_serial }
+    ensures buffers { length pins.new ≡ 1024 }
+    ensures emitted { E.emits out.old (release_events commit (Some owner.number) (owners_of owners.old)) out.new }
+{
+    release_phase(owners, pins, owner, Phase::BeforeLocks, commit, out);
+    release_phase(owners, pins, owner, Phase::Locks, commit, out);
+    release_phase(owners, pins, owner, Phase::AfterLocks, commit, out);
+}
+
+/// Releases a phase of the only owner.
+fn release_phase<E: Emit>(
+    owners: &mut Owners,
+    pins: &mut Pins,
+    owner: OwnerId,
+    phase: Phase,
+    commit: bool,
+    out: &mut E,
+)
+    requires holds { HoldsPins owners.old pins.old (Some owner) }
+    requires buffers { length pins.old ≡ 1024 }
+    ensures owners { owners_of owners.new ≡ released built_in_kinds phase owner.number (owners_of owners.old) }
+    ensures holds { (begun : Bool) (items : List Item) → Holds owners.old pins.old (Some owner) begun items → Holds owners.new pins.new (Some owner) true (left_of built_in_kinds phase items) }
+    ensures next_owner { owners.new.next_owner ≡ owners.old.next_owner }
+    ensures next_serial { owners.new.next_serial ≡ owners.old.next_serial }
+    ensures buffers { length pins.new ≡ 1024 }
+    ensures emitted { E.emits out.old (phase_events phase commit owner.number (owners_of owners.old)) out.new }
+{
+    owners.release(owner, phase, commit, true, pins, out);
 }
 
 /// Discards an owner that holds nothing.
 fn discard<E: Emit>(owners: &mut Owners, owner: Option<OwnerId>, out: &mut E)
-    requires live { IsLive (number_in owner) (owners_of owners.old) }
-    requires empty { held_by (number_in owner) (owners_of owners.old) ≡ [] }
+    requires live { Lives owners.old owner }
+    requires empty { IsAlone (number_in owner) true [] (owners_of owners.old) }
     ensures owners { owners_of owners.new ≡ after_gone (number_in owner) (owners_of owners.old) }
+    ensures gone { owners_of owners.new ≡ Empty }
     ensures next_owner { owners.new.next_owner ≡ owners.old.next_owner }
     ensures next_serial { owners.new.next_serial ≡ owners.old.next_serial }
-    ensures emitted { E.emits out.old (gone_events (number_in owner)) out.new }
+    ensures emitted { E.emits out.old (discard_events (number_in owner) (owners_of owners.old)) out.new }
 {
     match owner {
         None => {}

@@ -10,7 +10,7 @@ use Rattle.pgs_world.proofs.EndingLemmas.{Facts, Printed, printed_all, transcrip
 use Rattle.pgs_world.proofs.program.play.Goals as goal
 use Rattle.pgs_world.proofs.program.play.Given.{Over}
 
-module _ (g : Over) (c : goal.After-drop-session-inside-2 g) where
+module _ (g : Over) (c : goal.After-drop-session-inside-5 g) where
   calls_are : c.calls.result ≡ c.perform_lines-ended.new.session.calls
   calls_are = c.calls.ensures ∙ ap (λ (w : World). w.calls) c.exit.ensures.exited
 

@@ -1,3 +1,0 @@
-pub mod Owners
-pub mod Order
-pub mod Steps
