@@ -1,0 +1,83 @@
+//! The lines of a report on memory contexts: PostgreSQL's `MemoryContextStats`.
+#![tactic(auto)]
+
+ghost use Rattle.std.specs.Prelude.{◌≡◌, ◌+◌, ◌<◌, ◌^◌, min};
+ghost use Rattle.pgs_step.specs.declared.events.What.TheVariants.{ContextStats, GrandTotal};
+ghost use Rattle.context_report.specs.Lines.{counters_of, added, sum_of};
+
+use chunk_header::Stats;
+use pgs_step::{CtxId, Depth, MemoryCounters, Name, What};
+
+/// What the contexts of a report have together: PostgreSQL's `MemoryContextCounters` of `grand_totals`.
+#[derive(Clone, Copy, PartialEq, Eq, Debug)]
+pub struct Total {
+    /// The bytes of all blocks.
+    pub total: u64,
+    /// How many blocks.
+    pub blocks: u64,
+    /// The bytes that are free in blocks.
+    pub free: u64,
+    /// How many free chunks.
+    pub chunks: u64,
+}
+
+/// The line of a context that stands so many levels below the topmost one, of which the line keeps at most 100:
+/// `MemoryContextStatsPrint`.
+pub fn line(depth: u32, id: CtxId, name: &Name, stats: &Stats) -> What
+    ensures { result ≡ ContextStats (min depth 100) id.number name.now (counters_of stats.now) }
+{
+    What::ContextStats {
+        depth: Depth::new(depth),
+        context: id.number,
+        name: *name,
+        counters: MemoryCounters {
+            total: stats.total,
+            blocks: stats.blocks,
+            free: stats.free,
+            chunks: stats.chunks,
+        },
+    }
+}
+
+impl Total {
+    /// No context yet.
+    pub fn new() -> Total
+        ensures { result ≡ record { total = 0; blocks = 0; free = 0; chunks = 0 } }
+    {
+        Total {
+            total: 0,
+            blocks: 0,
+            free: 0,
+            chunks: 0,
+        }
+    }
+
+    /// Adds what one more context has.
+    pub fn add(&mut self, stats: &Stats)
+        requires total { self.old.total + stats.now.total < 2 ^ 63 }
+        requires blocks { self.old.blocks + stats.now.blocks < 2 ^ 63 }
+        requires free { self.old.free + stats.now.free < 2 ^ 63 }
+        requires chunks { self.old.chunks + stats.now.chunks < 2 ^ 63 }
+        ensures { self.new ≡ added self.old stats.now }
+    {
+        self.total += stats.total;
+        self.blocks += stats.blocks;
+        self.free += stats.free;
+        self.chunks += stats.chunks;
+    }
+
+    /// The last line of the report.
+    pub fn last(&self) -> What
+        ensures { result ≡ GrandTotal (sum_of self.now) }
+    {
+        What::GrandTotal(MemoryCounters {
+            total: self.total,
+            blocks: self.blocks,
+            free: self.free,
+            chunks: self.chunks,
+        })
+    }
+}
+
+#[cfg(test)]
+mod tests;

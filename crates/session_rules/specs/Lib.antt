@@ -1,0 +1,20 @@
+-- What contracts cite: what a session holds and counts, its surroundings, the elements of commands, what each does, and the transcript of a script.
+pub mod State
+pub mod Counts
+pub mod World
+pub mod Elements
+pub mod Lookup
+pub mod Checks
+pub mod Acts
+pub mod Releases
+pub mod Portals
+pub mod Ends
+pub mod Making
+pub mod Taking
+pub mod Works
+pub mod Commands
+pub mod Calls
+pub mod Parts
+pub mod Does
+pub mod Transcript
+pub mod Modes
