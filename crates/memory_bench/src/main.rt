@@ -1,16 +1,18 @@
 //! Takes and frees chunks of a memory context, so that the cost of a pair of calls can be counted.
 //!
-//! Each line of the standard input is `KIND SIZE LIVE PAIRS`, where KIND is `default`, `slab`, `generation` or
-//! `bump`: a new context takes LIVE chunks of SIZE bytes, which stay, and then PAIRS times one more, which is freed
-//! at once where the kind frees chunks. What the context holds then is printed.
+//! Each line of the standard input is `KIND SIZE LIVE PAIRS ORDER`, where KIND is `default`, `slab`, `generation` or
+//! `bump`, and ORDER `newest` or `oldest`: a new context takes LIVE chunks of SIZE bytes, and then PAIRS times one
+//! more, for which the newest or the oldest chunk is freed. A Bump frees none, so its ORDER is `newest`. What the
+//! context holds then is printed.
 #![tactic(auto)]
 
-ghost use Rattle.std.specs.Prelude.{IfSome, OnOk};
+ghost use Rattle.std.specs.Prelude.{◌≡◌, ◌<◌, IfSome, OnOk, length};
 ghost use Rattle.addr_space.specs.Footprint.{Agrees};
 ghost use Rattle.any_ctx.specs.Kinds.{IsSlabSize};
+ghost use Rattle.memory_bench.specs.Held.{AreLive};
 ghost use Rattle.any_ctx.specs.Contexts.{footprint};
 
-use addr_space::Space;
+use addr_space::{Addr, Space};
 use any_ctx::{AnyCtx, CtxKind};
 use anyhow::bail;
 use chunk_header::{CtxError, Stats};
@@ -29,6 +31,22 @@ fn kind_of(word: &str, size: u64) -> Option<CtxKind>
     }
 }
 
+/// Which chunk is freed.
+#[derive(Clone, Copy)]
+enum Order {
+    Newest,
+    Oldest,
+}
+
+/// The order that a word names.
+fn order_of(word: &str) -> Option<Order> {
+    match word {
+        "newest" => Some(Order::Newest),
+        "oldest" => Some(Order::Oldest),
+        _ => None,
+    }
+}
+
 /// What a line asks for.
 #[derive(Clone, Copy)]
 struct Plan {
@@ -36,6 +54,7 @@ struct Plan {
     size: u64,
     live: u64,
     pairs: u64,
+    order: Order,
 }
 
 impl Plan {
@@ -47,22 +66,50 @@ impl Plan {
         let size = words.next()?.parse().ok()?;
         let live = words.next()?.parse().ok()?;
         let pairs = words.next()?.parse().ok()?;
+        let order = order_of(words.next()?)?;
         let kind = kind_of(word, size)?;
         Some(Plan {
             kind,
             size,
             live,
             pairs,
+            order,
         })
     }
 
-    /// Takes the chunks that stay.
-    fn fill(self, context: &mut AnyCtx, space: &mut Space) -> Result<(), CtxError>
-        requires { Agrees (footprint context.old) space.old }
-        ensures { OnOk result (Agrees (footprint context.new) space.new) }
+    /// Takes one chunk more.
+    fn take_one(
+        self,
+        context: &mut AnyCtx,
+        space: &mut Space,
+        chunks: &mut Vec<Addr>,
+    ) -> Result<(), CtxError>
+        requires agrees { Agrees (footprint context.old) space.old }
+        requires held { AreLive (footprint context.old) self.size chunks.old.items }
+        ensures agrees { OnOk result (Agrees (footprint context.new) space.new) }
+        ensures held { OnOk result (AreLive (footprint context.new) self.size chunks.new.items) }
+    {
+        let at = context.alloc(space, self.size)?;
+        if chunks.push(at).is_err() {
+            return Err(CtxError::Memory);
+        }
+        Ok(())
+    }
+
+    /// Takes the first chunks.
+    fn fill(
+        self,
+        context: &mut AnyCtx,
+        space: &mut Space,
+        chunks: &mut Vec<Addr>,
+    ) -> Result<(), CtxError>
+        requires agrees { Agrees (footprint context.old) space.old }
+        requires held { AreLive (footprint context.old) self.size chunks.old.items }
+        ensures agrees { OnOk result (Agrees (footprint context.new) space.new) }
+        ensures held { OnOk result (AreLive (footprint context.new) self.size chunks.new.items) }
     {
         for _ in 0..self.live {
-            context.alloc(space, self.size)?;
+            self.take_one(context, space, chunks)?;
         }
         Ok(())
     }
@@ -79,6 +126,74 @@ impl Plan {
         }
     }
 
+    /// Takes chunks and frees each at once.
+    fn pairs(self, context: &mut AnyCtx, space: &mut Space) -> Result<(), CtxError>
+        requires { Agrees (footprint context.old) space.old }
+        ensures { OnOk result (Agrees (footprint context.new) space.new) }
+    {
+        for _ in 0..self.pairs {
+            self.pair(context, space)?;
+        }
+        Ok(())
+    }
+
+    /// Takes a chunk in the place of one that is freed.
+    fn turn(
+        self,
+        context: &mut AnyCtx,
+        space: &mut Space,
+        chunks: &mut Vec<Addr>,
+        index: usize,
+    ) -> Result<(), CtxError>
+        requires agrees { Agrees (footprint context.old) space.old }
+        requires held { AreLive (footprint context.old) self.size chunks.old.items }
+        requires within { index < length chunks.old.items }
+        ensures agrees { OnOk result (Agrees (footprint context.new) space.new) }
+        ensures held { OnOk result (AreLive (footprint context.new) self.size chunks.new.items) }
+        ensures long { length chunks.new.items ≡ length chunks.old.items }
+    {
+        let at = context.alloc(space, self.size)?;
+        let oldest = chunks[index];
+        chunks[index] = at;
+        context.free(space, oldest)
+    }
+
+    /// Takes chunks, each in the place of the oldest one.
+    fn turns(
+        self,
+        context: &mut AnyCtx,
+        space: &mut Space,
+        chunks: &mut Vec<Addr>,
+    ) -> Result<(), CtxError>
+        requires agrees { Agrees (footprint context.old) space.old }
+        requires held { AreLive (footprint context.old) self.size chunks.old.items }
+        ensures { OnOk result (Agrees (footprint context.new) space.new) }
+    {
+        let mut index = 0;
+        for _ in 0..self.pairs {
+            if index >= chunks.len() {
+                index = 0;
+            }
+            if index < chunks.len() {
+                self.turn(context, space, chunks, index)?;
+                index += 1;
+            }
+        }
+        Ok(())
+    }
+
+    /// Does what the line asks for in a new context.
+    fn work(self, alloc: Global, context: &mut AnyCtx, space: &mut Space) -> Result<(), CtxError>
+        requires agrees { Agrees (footprint context.old) space.old }
+    {
+        let mut chunks = Vec::new(alloc);
+        self.fill(context, space, &mut chunks)?;
+        match self.order {
+            Order::Newest => self.pairs(context, space),
+            Order::Oldest => self.turns(context, space, &mut chunks),
+        }
+    }
+
     fn run(self, alloc: Global) -> Result<Stats, CtxError>
         requires { IsSlabSize self.kind }
     {
@@ -86,10 +201,7 @@ impl Plan {
             return Err(CtxError::Memory);
         };
         let mut context = AnyCtx::create(alloc, &mut space, 0, 1, self.kind)?;
-        self.fill(&mut context, &mut space)?;
-        for _ in 0..self.pairs {
-            self.pair(&mut context, &mut space)?;
-        }
+        self.work(alloc, &mut context, &mut space)?;
         Ok(context.stats())
     }
 }
@@ -98,7 +210,7 @@ fn main(rt: HostRuntime) -> anyhow::Result<()> {
     for line in rt.lines(rt.alloc()) {
         let line = line?;
         let Some(plan) = Plan::parse(line.as_str()) else {
-            bail!("not KIND SIZE LIVE PAIRS: {line}");
+            bail!("not KIND SIZE LIVE PAIRS ORDER: {line}");
         };
         match plan.run(rt.alloc()) {
             Ok(stats) => println!(rt;

@@ -1,89 +1,194 @@
 -- Lemmas on the block that serves a request.
-use Rattle.std.proofs.Common.{◌≡◌, ℕ, zero, suc, ◌+◌, ◌-◌, ◌<◌, ◌≤◌, ◌++◌, List, [], ◌∷◌, length, map, take, Option, Some, None, option_map, refl, sym, ap, subst, ◌∙◌, arith}
-use Rattle.std.specs.Prelude.{slice_get}
-use Rattle.std.proofs.lemmas.List.{take_all}
+use Rattle.std.proofs.Common.{◌≡◌, ◌≢◌, ℕ, ◌+◌, ◌-◌, ◌<◌, ◌≤◌, ◌⊎◌, ◌==◌, nat_lt, if◌then◌else◌, Bool, true, false, List, [], ◌∷◌, map, Option, Some, None, option_map, refl, sym, ap, subst, ◌∙◌, inl, inr, arith}
+use Rattle.std.proofs.lemmas.Bool.{cases_lt}
+use Rattle.std.proofs.lemmas.Bool.Decides.{nat_tests}
+use Rattle.ctx_blocks.specs.Kept.{AreRising}
 use Rattle.ctx_blocks.specs.Layout.{Layout, block_at}
 use Rattle.ctx_blocks.specs.declared.parts.Block.{Block}
-use Rattle.slab_ctx.specs.Lives.{fullest}
-use Rattle.slab_ctx.specs.Ledger.{serving}
-use Rattle.slab_ctx.specs.State.{others, live_of, lives_of, blocks_of, serving_block}
-use Rattle.slab_ctx.specs.Counts.{first_with, IsBest, IsBestOf}
-use Rattle.slab_ctx.specs.Kept.{IsListed}
-use Rattle.slab_ctx.specs.Steps.{IsFound, IsSeen, IsNext, IsChosen}
-use Rattle.slab_ctx.specs.declared.books.Best.{Best}
-use Rattle.slab_ctx.proofs.Best.{worse, better}
-use Rattle.slab_ctx.proofs.Lives.{not-at}
+use Rattle.ctx_blocks.proofs.Numbered.{rising_above}
+use Rattle.slab_ctx.specs.declared.tree.Rank.{Rank}
+use Rattle.slab_ctx.specs.declared.tree.Entry.{Entry}
+use Rattle.slab_ctx.specs.declared.ranks.Ranks.{Ranks}
+use Rattle.slab_ctx.specs.Tree.{Leads}
+use Rattle.slab_ctx.specs.Ranks.{rank_at, entry_of}
+use Rattle.slab_ctx.specs.Order.{rank_from, rank_of, own_at, IsOrdered}
+use Rattle.slab_ctx.specs.Ledger.{SlabBlock, serving, fuller}
+use Rattle.slab_ctx.specs.State.{others, numbered_of, blocks_of, serving_block}
+use Rattle.slab_ctx.specs.Kept.{AreApart, IsListed}
+use Rattle.slab_ctx.specs.Steps.{IsChosen}
+use Rattle.slab_ctx.proofs.Lives.{find, eq_test, ne_test}
 use Rattle.slab_ctx.proofs.Listed.{find-other}
-use Rattle.slab_ctx.proofs.Numbered.{serving-none, serving_is}
 
-take_get : {X : Type 0} (es : List X) (i : ℕ) (x : X) → slice_get es i ≡ Some x → take (suc i) es ≡ take i es ++ x ∷ []
-take_get [] i x got = absurd (cc)
-take_get (e ∷ es) zero x got = let is : e ≡ x = cc in ap (λ y. y ∷ []) is
-take_get (e ∷ es) (suc i) x got = ap (λ ys. e ∷ ys) (take_get es i x got)
+abbrev Entries : Type 0
+Entries = List (ℕ × Block)
 
-module _ (l : Layout) (per count number : ℕ) (block : Block) (best : Best) (seen : IsSeen l per count best) (next : IsNext l count number block) (within : block.live ≤ per) where
-  more_taken : take (count + 1) (others l.blocks) ≡ take count (others l.blocks) ++ (number, block) ∷ []
-  more_taken = let e : count + 1 ≡ suc count = omega arith in ap (λ n. take n (others l.blocks)) e ∙ take_get (others l.blocks) count (number, block) next.entry
+-- each block of a list is found in it
+find_head : (e : ℕ × Block) (es : Entries) → find e.0 (e ∷ es) ≡ Some e.1
+find_head e es = ap (λ t. if t then Some e.1 else find e.0 es) (eq_test e.0)
 
-  -- it is not better
-  pub seen-worse : (1 ≤ per - block.live → best.fewest ≤ per - block.live) → IsSeen l per (count + 1) best
-  seen-worse more = record {
-    best_of = subst (λ es. IsBest per es best) (sym more_taken) (worse per (take count (others l.blocks)) number block best seen.best_of within more);
-    found = seen.found;
-  }
+find_tail : (e : ℕ × Block) (es : Entries) (region : ℕ) (block : Block) → find e.0 es ≡ None → find region es ≡ Some block → find region (e ∷ es) ≡ Some block
+find_tail e es region block alone found =
+    let differs : region ≢ e.0 = λ same. (let none : find region es ≡ None = ap (λ k. find k es) same ∙ alone in absurd (cc)) in
+    ap (λ t. if t then Some e.1 else find region es) (ne_test region e.0 differs) ∙ found
 
-  -- it is better
-  pub seen-better : (free : ℕ) → free ≡ per - block.live → 1 ≤ free → free < best.fewest → IsSeen l per (count + 1) (record { number = Some number; fewest = free })
-  seen-better free is some less =
-      let now = better per (take count (others l.blocks)) number block best seen.best_of within (omega (arith, is)) (omega (arith, is)) in
-      record {
-        best_of = subst (λ n. IsBestOf per (take (count + 1) (others l.blocks)) (Some number) n) (sym is) (subst (λ es. IsBestOf per es (Some number) (per - block.live)) (sym more_taken) now);
-        found = record { block = block; found = next.found; count = omega (arith, is); not_keeper = next.not_keeper };
-      }
+-- where no block has a free chunk none serves
+none_step : (e : ℕ × Block) (s : Option SlabBlock) (per : ℕ) (t : Bool) → nat_lt e.1.live per ≡ t → per ≤ e.1.live → s ≡ None → (if t then Some (fuller (numbered_of e) s) else s) ≡ None
+none_step e s per true test full is = absurd (let less : e.1.live < per = grind (arith, nat_tests) in omega (arith, less, full))
+none_step e s per false test full is = is
 
--- none is seen yet
-pub seen-none : (l : Layout) (per : ℕ) → IsSeen l per 0 (record { number = None; fewest = per + 1 })
-seen-none l per = record { best_of = (refl, refl); found = tt }
+pub serving-full : (per : ℕ) (es : Entries) → AreApart es → ((region : ℕ) (block : Block) → find region es ≡ Some block → per ≤ block.live) → serving per (map numbered_of es) ≡ None
+serving-full per [] apart full = refl
+serving-full per (e ∷ es) apart full =
+    none_step e (serving per (map numbered_of es)) per (nat_lt e.1.live per) refl (full e.0 e.1 (find_head e es))
+    (serving-full per es apart.1 (λ region block found. full region block (find_tail e es region block apart.0 found)))
 
--- all are seen
-module _ (l : Layout) (per : ℕ) where
-  pub none-free : (best : Best) → IsSeen l per (length (others l.blocks)) best → best.number ≡ None → fullest per (lives_of l) ≡ None
-  none-free best seen none =
-      let all = take_all (length (others l.blocks)) (others l.blocks) (omega arith) in
-      let is = subst (λ o. IsBestOf per (take (length (others l.blocks)) (others l.blocks)) o best.fewest) none seen.best_of in
-      ap (λ es. fullest per (map live_of es)) (sym all) ∙ is.0
+-- the block that serves has at most so many live chunks
+abbrev Below : ℕ → Option SlabBlock → Type 0
+Below most None = Unit {0}
+Below most (Some block) = block.live ≤ most
 
-  pub chosen-from : (best : Best) (number : ℕ) → IsSeen l per (length (others l.blocks)) best → best.number ≡ Some number → IsChosen l per number
-  chosen-from best number seen some =
-      let all = take_all (length (others l.blocks)) (others l.blocks) (omega arith) in
-      let is = subst (λ o. IsBestOf per (take (length (others l.blocks)) (others l.blocks)) o best.fewest) some seen.best_of in
-      let found = subst (λ o. IsFound l per o best.fewest) some seen.found in
-      record {
-        block = found.block;
-        found = found.found;
-        not_keeper = found.not_keeper;
-        greatest = ap (λ es. fullest per (map live_of es)) (sym all) ∙ is.0 ∙ ap Some (sym found.count);
-        first = ap (λ es. first_with found.block.live es) (sym all) ∙ ap (λ n. first_with n (take (length (others l.blocks)) (others l.blocks))) found.count ∙ is.1;
-        free = omega (arith, found.count, is.2, is.3);
-      }
+below_both : (most : ℕ) (e : ℕ × Block) (block : SlabBlock) (t : Bool) → e.1.live ≤ most → block.live ≤ most → Below most (Some (if t then block else numbered_of e))
+below_both most e block true head rest = rest
+below_both most e block false head rest = head
 
--- the next block
-pub next-from : (l : Layout) → IsListed l → (count number : ℕ) (block : Block) → slice_get l.blocks (count + 1) ≡ Some (number, block) → block_at l number ≡ Some block → IsNext l count number block
-next-from l listed count number block entry found =
-    let e : count + 1 ≡ suc count = omega arith in
-    let there : slice_get (others l.blocks) count ≡ Some (number, block) = sym (ap (λ es. slice_get es (suc count)) listed.shape) ∙ ap (slice_get l.blocks) (sym e) ∙ entry in
-    record { entry = there; found = found; not_keeper = not-at number block l.keeper (others l.blocks) count there listed.alone }
+below_step : (most per : ℕ) (e : ℕ × Block) (s : Option SlabBlock) (t : Bool) → nat_lt e.1.live per ≡ t → (e.1.live < per → e.1.live ≤ most) → Below most s → Below most (if t then Some (fuller (numbered_of e) s) else s)
+below_step most per e None true test head rest = head (grind (arith, nat_tests))
+below_step most per e (Some block) true test head rest = below_both most e block (nat_lt e.1.live block.live) (head (grind (arith, nat_tests))) rest
+below_step most per e s false test head rest = rest
 
-pub length-listed : (l : Layout) → IsListed l → length l.blocks ≡ length (others l.blocks) + 1
-length-listed l listed = ap length listed.shape ∙ omega arith
+serving_below : (per most : ℕ) (es : Entries) → AreApart es → ((region : ℕ) (block : Block) → find region es ≡ Some block → block.live < per → block.live ≤ most) → Below most (serving per (map numbered_of es))
+serving_below per most [] apart all = tt
+serving_below per most (e ∷ es) apart all =
+    below_step most per e (serving per (map numbered_of es)) (nat_lt e.1.live per) refl (all e.0 e.1 (find_head e es))
+    (serving_below per most es apart.1 (λ region block found. all region block (find_tail e es region block apart.0 found)))
 
--- the block that the ledger chooses
-serving_by : (l : Layout) (per : ℕ) (best : Best) (o : Option ℕ) → IsListed l → IsSeen l per (length (others l.blocks)) best → best.number ≡ o → serving per (blocks_of l) ≡ serving_block l o
-serving_by l per best None listed seen is = serving-none per (others l.blocks) (none-free l per best seen is)
-serving_by l per best (Some number) listed seen is =
-    let it = chosen-from l per best number seen is in
-    let there = find-other l listed number it.not_keeper ∙ it.found in
-    serving_is per number (others l.blocks) it.block it.free it.greatest it.first there ∙ sym (ap (option_map (λ (b : Block). record { number = b.number; live = b.live })) it.found)
+-- one block is at least as good as another one
+abbrev pub IsBetter : Block → Block → Type 0
+IsBetter a b = (b.live < a.live) ⊎ ((b.live ≡ a.live) × (a.number ≤ b.number))
 
-pub serving-seen : (l : Layout) (per count : ℕ) (best : Best) → IsListed l → count ≡ length (others l.blocks) → IsSeen l per count best → serving per (blocks_of l) ≡ serving_block l best.number
-serving-seen l per count best listed all seen = serving_by l per best best.number listed (rw (← all) seen) refl
+better_live : (a b : Block) → IsBetter a b → b.live ≤ a.live
+better_live a b (inl less) = omega (arith, less)
+better_live a b (inr same) = omega (arith, same.0)
+
+head_wins : (e : ℕ × Block) (s : Option SlabBlock) → Below e.1.live s → Some (fuller (numbered_of e) s) ≡ Some (numbered_of e)
+head_wins e None below = refl
+head_wins e (Some block) below =
+    let test : nat_lt e.1.live block.live ≡ false = grind (arith, nat_tests) in
+    ap (λ t. Some (if t then block else numbered_of e)) test
+
+head_loses : (e : ℕ × Block) (s : Option SlabBlock) (block : SlabBlock) (per : ℕ) (t : Bool) → nat_lt e.1.live per ≡ t → (e.1.live < per → e.1.live < block.live) → s ≡ Some block → (if t then Some (fuller (numbered_of e) s) else s) ≡ Some block
+head_loses e s block per true test less is =
+    let under : e.1.live < block.live = less (grind (arith, nat_tests)) in
+    let wins : nat_lt e.1.live block.live ≡ true = grind (arith, nat_tests) in
+    ap (λ o. Some (fuller (numbered_of e) o)) is ∙ ap (λ t. Some (if t then block else numbered_of e)) wins
+head_loses e s block per false test less is = is
+
+earlier : (e : ℕ × Block) (block : Block) → e.1.number < block.number → IsBetter block e.1 → e.1.live < block.live
+earlier e block before (inl less) = less
+earlier e block before (inr same) = absurd (omega (arith, before, same.1))
+
+-- the best block serves
+module _ (per : ℕ) (block : Block) (free : block.live < per) where
+  best_step : (most region : ℕ) (e : ℕ × Block) (es : Entries) (t : Bool) → AreRising (e.1.number + 1) most es → AreApart (e ∷ es)
+      → ((other : ℕ) (b : Block) → find other (e ∷ es) ≡ Some b → b.live < per → IsBetter block b)
+      → (find region es ≡ Some block → serving per (map numbered_of es) ≡ Some (record { number = block.number; live = block.live }))
+      → (if t then Some e.1 else find region es) ≡ Some block
+      → serving per (map numbered_of (e ∷ es)) ≡ Some (record { number = block.number; live = block.live })
+  best_step most region e es true rising apart best rest found =
+      let is : e.1 ≡ block = cc in
+      let under : e.1.live < per = subst (λ (x : Block). x.live < per) (sym is) free in
+      let test : nat_lt e.1.live per ≡ true = grind (arith, nat_tests) in
+      let live : e.1.live ≡ block.live = ap (λ (x : Block). x.live) is in
+      let below = serving_below per e.1.live es apart.1 (λ other b there less. omega (arith, live, better_live block b (best other b (find_tail e es other b apart.0 there) less))) in
+      ap (λ t. if t then Some (fuller (numbered_of e) (serving per (map numbered_of es))) else serving per (map numbered_of es)) test
+      ∙ head_wins e (serving per (map numbered_of es)) below
+      ∙ ap (λ (x : Block). Some (record { number = x.number; live = x.live })) is
+  best_step most region e es false rising apart best rest found =
+      let before : e.1.number < block.number = omega (arith, rising_above (e.1.number + 1) most region es block rising found) in
+      head_loses e (serving per (map numbered_of es)) (record { number = block.number; live = block.live }) per (nat_lt e.1.live per) refl
+      (λ less. earlier e block before (best e.0 e.1 (find_head e es) less)) (rest found)
+
+  pub serving-best : (least most region : ℕ) (es : Entries) → AreRising least most es → AreApart es → find region es ≡ Some block
+      → ((other : ℕ) (b : Block) → find other es ≡ Some b → b.live < per → IsBetter block b)
+      → serving per (map numbered_of es) ≡ Some (record { number = block.number; live = block.live })
+  serving-best least most region [] rising apart found best = absurd (cc)
+  serving-best least most region (e ∷ es) rising apart found best =
+      best_step most region e es (region == e.0) rising.2 apart best
+      (λ there. serving-best (e.1.number + 1) most region es rising.2 apart.1 there (λ other b is less. best other b (find_tail e es other b apart.0 is) less)) found
+
+-- the ranks say which block serves
+module _ (r : Ranks) (l : Layout) (per : ℕ) (ordered : IsOrdered r l per) (listed : IsListed l) where
+  -- a block that stands in the list has its rank
+  rank-found : (region : ℕ) (block : Block) → find region (others l.blocks) ≡ Some block → rank_at r.entries.entries region ≡ Some (rank_of per block)
+  rank-found region block found =
+      let differs : region ≢ l.keeper = λ same. (let none : find region (others l.blocks) ≡ None = ap (λ k. find k (others l.blocks)) same ∙ listed.alone in absurd (cc)) in
+      let own : own_at l region ≡ Some block =
+      ap (λ t. if t then None else block_at l region) (ne_test l.keeper region (λ e. differs (sym e)))
+      ∙ sym (find-other l listed region differs) ∙ found in
+      ordered.at region ∙ ap (option_map (rank_of per)) own
+
+  major_free : (number live : ℕ) → live < per → (rank_from per number live).major ≡ per - live
+  major_free number live less =
+      let test : nat_lt live per ≡ true = grind (arith, nat_tests) in
+      ap (λ t. if t then per - live else per + 1) test
+
+  major_full : (number live : ℕ) → per ≤ live → (rank_from per number live).major ≡ per + 1
+  major_full number live more =
+      let test : nat_lt live per ≡ false = grind (arith, nat_tests) in
+      ap (λ t. if t then per - live else per + 1) test
+
+  -- a key with a rank is a block
+  ranked_by : (region : ℕ) (rank : Rank) (t : Bool) (o : Option Block) → (l.keeper == region) ≡ t → block_at l region ≡ o → option_map (rank_of per) (if t then None else o) ≡ Some rank → (block : Block) × (block_at l region ≡ Some block) × (region ≢ l.keeper) × (rank_of per block ≡ rank)
+  ranked_by region rank true o test at is = absurd (cc)
+  ranked_by region rank false None test at is = absurd (cc)
+  ranked_by region rank false (Some block) test at is =
+      let same : rank_of per block ≡ rank = cc in
+      (block, at, (λ e. (let yes : (l.keeper == region) ≡ true = grind (arith, nat_tests, e) in absurd (cc))), same)
+
+  ranked_is : (region : ℕ) (rank : Rank) → rank_at r.entries.entries region ≡ Some rank → (block : Block) × (block_at l region ≡ Some block) × (region ≢ l.keeper) × (rank_of per block ≡ rank)
+  ranked_is region rank is = ranked_by region rank (l.keeper == region) (block_at l region) refl refl (sym (ordered.at region) ∙ is)
+
+  -- the least rank
+  module _ (e : Entry) (there : rank_at r.entries.entries e.key ≡ Some e.rank) (least : (key : ℕ) (rank : Rank) → rank_at r.entries.entries key ≡ Some rank → Leads (Some e) (Some (entry_of (key, rank)))) where
+    -- it is that of a block with a free chunk
+    module _ (few : e.rank.major ≤ per) where
+      live_under : (block : Block) → rank_of per block ≡ e.rank → block.live < per
+      live_under block is = elim (cases_lt block.live per) [
+        | inl less ↦ less
+        | inr more ↦ absurd (omega (arith, few, ap (λ (x : Rank). x.major) is, major_full block.number block.live more))
+      ]
+
+      pub chosen : IsChosen l per e.key
+      chosen = let it = ranked_is e.key e.rank there in record { block = it.0; found = it.1; not_keeper = it.2; free = live_under it.0 it.3 }
+
+      better_by : (block b : Block) → rank_of per block ≡ e.rank → block.live < per → b.live < per → (e.rank.major < (rank_of per b).major) ⊎ ((e.rank.major ≡ (rank_of per b).major) × (e.rank.minor ≤ b.number)) → IsBetter block b
+      better_by block b is free less (inl under) =
+          inl (omega (arith, under, ap (λ (x : Rank). x.major) is, major_free block.number block.live free, major_free b.number b.live less))
+      better_by block b is free less (inr same) =
+          inr (omega (arith, same.0, ap (λ (x : Rank). x.major) is, major_free block.number block.live free, major_free b.number b.live less), omega (arith, same.1, ap (λ (x : Rank). x.minor) is))
+
+      pub serving-chosen : serving per (blocks_of l) ≡ serving_block l (Some e.key)
+      serving-chosen =
+          let it = ranked_is e.key e.rank there in
+          let block = it.0 in
+          let free = live_under block it.3 in
+          serving-best per block free 1 l.last_number e.key (others l.blocks) listed.rising listed.apart (find-other l listed e.key it.2 ∙ it.1)
+          (λ other b found less. better_by block b it.3 free less (least other (rank_of per b) (rank-found other b found)))
+          ∙ sym (ap (option_map (λ (b : Block). record { number = b.number; live = b.live })) it.1)
+
+    -- no block has a free chunk
+    pub serving-none : per < e.rank.major → serving per (blocks_of l) ≡ None
+    serving-none many = serving-full per (others l.blocks) listed.apart (λ region block found. full block (least region (rank_of per block) (rank-found region block found)))
+      where
+        full : (block : Block) → (e.rank.major < (rank_of per block).major) ⊎ ((e.rank.major ≡ (rank_of per block).major) × (e.rank.minor ≤ block.number)) → per ≤ block.live
+        full block at_most = elim (cases_lt block.live per) [
+          | inr more ↦ omega arith
+          | inl less ↦ elim at_most [
+            | inl under ↦ absurd (omega (arith, under, many, major_free block.number block.live less))
+            | inr same ↦ absurd (omega (arith, same.0, many, major_free block.number block.live less))
+          ]
+        ]
+
+  -- there is no block
+  pub serving-empty : ((key : ℕ) (rank : Rank) → rank_at r.entries.entries key ≡ Some rank → Leads None (Some (entry_of (key, rank)))) → serving per (blocks_of l) ≡ None
+  serving-empty least = serving-full per (others l.blocks) listed.apart (λ region block found. absurd (least region (rank_of per block) (rank-found region block found)))

@@ -3,7 +3,9 @@ pub mod Slotted
 pub mod Taken
 pub mod Places
 pub mod Lives
-pub mod Best
+pub mod Trees
+pub mod Placed
+pub mod Ordered
 pub mod Full
 pub mod Listed
 pub mod Bounds

@@ -1,5 +1,5 @@
 -- Lemmas on the list of a Slab's blocks.
-use Rattle.std.proofs.Common.{◌≡◌, ◌≢◌, ℕ, ◌+◌, ◌<◌, ◌==◌, ◌++◌, if◌then◌else◌, List, [], ◌∷◌, length, map, Some, None, slice_index, slice_set, sum_by, unwrap_or, option_map, sym, ap, ◌∙◌, arith}
+use Rattle.std.proofs.Common.{◌≡◌, ◌≢◌, ℕ, ◌+◌, ◌<◌, ◌==◌, ◌++◌, if◌then◌else◌, Bool, true, false, refl, List, [], ◌∷◌, length, map, Some, None, slice_index, slice_set, sum_by, unwrap_or, option_map, sym, ap, ◌∙◌, arith}
 use Rattle.std.specs.Prelude.{remove}
 use Rattle.std.specs.Map.{values_of}
 use Rattle.std.proofs.lemmas.List.Sums.{sum_by-set, sum_by-remove}
@@ -12,9 +12,26 @@ use Rattle.slab_ctx.specs.Ledger.{with_live, without_number}
 use Rattle.slab_ctx.specs.State.{others, live_of, lives_of, numbered_of, blocks_of, place_in}
 use Rattle.slab_ctx.proofs.Numbered.{map_last, numbered_put, numbered_drop}
 use Rattle.slab_ctx.specs.Slots.{first_region}
-use Rattle.slab_ctx.specs.Kept.{IsListed}
+use Rattle.slab_ctx.specs.Kept.{IsListed, AreApart}
 use Rattle.chunk_header.proofs.Sums.{sum_by-insert}
-use Rattle.slab_ctx.proofs.Lives.{find, ne_test, lives-put, put-new, lives-new, alone-put, alone-drop, place-found, lives-drop}
+use Rattle.slab_ctx.proofs.Lives.{find, ne_test, ne_from, lives-put, put-new, lives-new, alone-put, alone-drop, place-found, lives-drop}
+
+-- blocks stay in different regions
+apart_put_step : (number : ℕ) (now : Block) (e : ℕ × Block) (es : List (ℕ × Block)) (t : Bool) → (number == e.0) ≡ t → AreApart (e ∷ es) → AreApart (with_block es number now) → AreApart (if t then (e.0, now) ∷ es else e ∷ with_block es number now)
+apart_put_step number now e es true test h rest = h
+apart_put_step number now e es false test h rest = (alone-put number now e.0 (ne_from number e.0 test) es h.0, rest)
+
+pub apart-put : (number : ℕ) (now : Block) (es : List (ℕ × Block)) → AreApart es → AreApart (with_block es number now)
+apart-put number now [] h = (refl, tt)
+apart-put number now (e ∷ es) h = apart_put_step number now e es (number == e.0) refl h (apart-put number now es h.1)
+
+apart_drop_step : (number : ℕ) (e : ℕ × Block) (es : List (ℕ × Block)) (t : Bool) → AreApart (e ∷ es) → AreApart (without_block es number) → AreApart (if t then es else e ∷ without_block es number)
+apart_drop_step number e es true h rest = h.1
+apart_drop_step number e es false h rest = (alone-drop number e.0 es h.0, rest)
+
+pub apart-drop : (number : ℕ) (es : List (ℕ × Block)) → AreApart es → AreApart (without_block es number)
+apart-drop number [] h = tt
+apart-drop number (e ∷ es) h = apart_drop_step number e es (number == e.0) h (apart-drop number es h.1)
 
 -- a context without blocks
 pub IsListed-none : (l : Layout) → l.blocks ≡ (l.keeper, first_region) ∷ [] → IsListed l
@@ -24,6 +41,7 @@ IsListed-none l blocks =
       shape = blocks ∙ ap (λ es. (l.keeper, first_region) ∷ es) (sym none);
       alone = ap (find l.keeper) none;
       rising = rw none tt;
+      apart = rw none tt;
     }
 
 pub total-none : (l : Layout) → l.blocks ≡ (l.keeper, first_region) ∷ [] → total l ≡ 200
@@ -50,13 +68,14 @@ module _ (l : Layout) (listed : IsListed l) (number : ℕ) (differs : number ≢
       ∙ ap (λ t. if t then others l.blocks else (l.keeper, first_region) ∷ without_block (others l.blocks) number) (ne_test number l.keeper differs)
 
   module _ (m : Layout) (same : SameContext l m) where
-    listed_by : (es : List (ℕ × Block)) → m.blocks ≡ (l.keeper, first_region) ∷ es → find l.keeper es ≡ None → AreRising 1 m.last_number es → IsListed m
-    listed_by es shape alone numbers =
+    listed_by : (es : List (ℕ × Block)) → m.blocks ≡ (l.keeper, first_region) ∷ es → find l.keeper es ≡ None → AreRising 1 m.last_number es → AreApart es → IsListed m
+    listed_by es shape alone numbers different =
         let rest : others m.blocks ≡ es = ap others shape in
         record {
           shape = shape ∙ ap (λ k. (k, first_region) ∷ es) (sym same.keeper) ∙ ap (λ xs. (m.keeper, first_region) ∷ xs) (sym rest);
           alone = ap (λ k. find k (others m.blocks)) same.keeper ∙ ap (find l.keeper) rest ∙ alone;
           rising = rw rest numbers;
+          apart = rw rest different;
         }
 
     module _ (now : Block) (puts : PutsBlock l m number now) where
@@ -65,7 +84,7 @@ module _ (l : Layout) (listed : IsListed l) (number : ℕ) (differs : number ≢
 
       -- a block is new, or another one
       pub IsListed-put : AreRising 1 m.last_number (with_block (others l.blocks) number now) → IsListed m
-      IsListed-put rising = listed_by (with_block (others l.blocks) number now) (puts.blocks ∙ put_shape now) (alone-put number now l.keeper differs (others l.blocks) listed.alone) rising
+      IsListed-put rising = listed_by (with_block (others l.blocks) number now) (puts.blocks ∙ put_shape now) (alone-put number now l.keeper differs (others l.blocks) listed.alone) rising (apart-put number now (others l.blocks) listed.apart)
 
       -- it has the next number, or that of the block before
       pub rising-added : block_at l number ≡ None → now.number ≡ l.last_number + 1 → m.last_number ≡ l.last_number + 1 → AreRising 1 m.last_number (with_block (others l.blocks) number now)
@@ -100,7 +119,7 @@ module _ (l : Layout) (listed : IsListed l) (number : ℕ) (differs : number ≢
     -- a block is given back
     module _ (drops : DropsBlock l m number) (b : Block) (found : block_at l number ≡ Some b) where
       pub IsListed-drop : m.last_number ≡ l.last_number → IsListed m
-      IsListed-drop last = listed_by (without_block (others l.blocks) number) (drops.blocks ∙ drop_shape) (alone-drop number l.keeper (others l.blocks) listed.alone) (rw last (rising_drop 1 l.last_number number (others l.blocks) listed.rising))
+      IsListed-drop last = listed_by (without_block (others l.blocks) number) (drops.blocks ∙ drop_shape) (alone-drop number l.keeper (others l.blocks) listed.alone) (rw last (rising_drop 1 l.last_number number (others l.blocks) listed.rising)) (apart-drop number (others l.blocks) listed.apart)
 
       pub blocks-dropped : blocks_of m ≡ without_number (blocks_of l) b.number
       blocks-dropped = ap (λ es. map numbered_of (others es)) (drops.blocks ∙ drop_shape) ∙ numbered_drop 1 l.last_number number (others l.blocks) b listed.rising (find-other ∙ found)
@@ -111,6 +130,9 @@ module _ (l : Layout) (listed : IsListed l) (number : ℕ) (differs : number ≢
   -- where it stands in the list
   pub place-live : (b : Block) → block_at l number ≡ Some b → (place_in (others l.blocks) number < length (lives_of l)) × (slice_index (lives_of l) (place_in (others l.blocks) number) ≡ b.live)
   place-live b found = place-found number b (others l.blocks) (find-other ∙ found)
+
+pub length-listed : (l : Layout) → IsListed l → length l.blocks ≡ length (others l.blocks) + 1
+length-listed l listed = ap length listed.shape ∙ omega arith
 
 -- sums, where one number becomes another one or goes
 pub sum-set : (f : ℕ → ℕ) (xs : List ℕ) (i x : ℕ) → i < length xs → sum_by f (slice_set xs i x) + f (slice_index xs i) ≡ sum_by f xs + f x
@@ -125,4 +147,5 @@ IsListed-same l m listed keeper last blocks = record {
   shape = blocks ∙ listed.shape ∙ ap (λ k. (k, first_region) ∷ others l.blocks) (sym keeper) ∙ ap (λ es. (m.keeper, first_region) ∷ others es) (sym blocks);
   alone = ap (λ k. find k (others m.blocks)) keeper ∙ ap (λ es. find l.keeper (others es)) blocks ∙ listed.alone;
   rising = rw (last, blocks) listed.rising;
+  apart = rw blocks listed.apart;
 }

@@ -14,7 +14,7 @@ find number es = lookup (λ n. number == n) es
 eq_from : (x y : ℕ) → (x == y) ≡ true → x ≡ y
 eq_from x y test = grind (arith, nat_tests)
 
-ne_from : (x y : ℕ) → (x == y) ≡ false → x ≢ y
+pub ne_from : (x y : ℕ) → (x == y) ≡ false → x ≢ y
 ne_from x y test = grind (arith, nat_tests)
 
 pub eq_test : (x : ℕ) → (x == x) ≡ true

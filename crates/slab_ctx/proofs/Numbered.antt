@@ -1,15 +1,12 @@
 -- The blocks of a Slab by their numbers: what is done to one by its region is done to it by its number.
-use Rattle.std.proofs.Common.{◌≡◌, ◌≢◌, ℕ, suc, ◌+◌, ◌-◌, ◌<◌, ◌≤◌, ◌==◌, ◌++◌, if◌then◌else◌, Bool, true, false, List, [], ◌∷◌, length, map, sum_by, max, nat_lt, Option, Some, None, refl, sym, ap, ◌∙◌, arith}
-use Rattle.std.specs.List.{find as first_of}
-use Rattle.std.proofs.lemmas.Bool.Decides.{nat_tests}
+use Rattle.std.proofs.Common.{◌≡◌, ℕ, suc, ◌+◌, ◌-◌, ◌<◌, ◌==◌, ◌++◌, if◌then◌else◌, Bool, true, false, List, [], ◌∷◌, length, map, sum_by, Some, refl, sym, ap, ◌∙◌, arith}
 use Rattle.std.proofs.lemmas.List.Sums.{sum_by-cons}
 use Rattle.ctx_blocks.specs.Kept.{AreRising}
 use Rattle.ctx_blocks.specs.Steps.{with_block, without_block}
 use Rattle.ctx_blocks.specs.declared.parts.Block.{Block}
 use Rattle.ctx_blocks.proofs.Numbered.{rising_above}
-use Rattle.slab_ctx.specs.Ledger.{SlabBlock, with_live, without_number, live_in, fuller, serving, is_empty, empties}
-use Rattle.slab_ctx.specs.Lives.{fullest, greater, free_in, empties as empties_of}
-use Rattle.slab_ctx.specs.Counts.{first_with}
+use Rattle.slab_ctx.specs.Ledger.{SlabBlock, with_live, without_number, live_in, is_empty, empties}
+use Rattle.slab_ctx.specs.Lives.{free_in, empties as empties_of}
 use Rattle.slab_ctx.specs.State.{live_of, numbered_of}
 use Rattle.slab_ctx.proofs.Lives.{find}
 
@@ -101,99 +98,6 @@ live_step region e es block false less rest is =
 pub live_is : (least most region : ℕ) (es : Entries) (block : Block) → AreRising least most es → find region es ≡ Some block → live_in (map numbered_of es) block.number ≡ block.live
 live_is least most region [] block h is = absurd (cc)
 live_is least most region (e ∷ es) block h is = live_step region e es block (region == e.0) (behind most region e es block h.2) (live_is (e.1.number + 1) most region es block h.2) is
-
--- the block that serves: none has a free chunk
-serve_none : (per live : ℕ) (f : Option ℕ) (s : Option SlabBlock) (b : Bool) (block : SlabBlock) → (f ≡ None → s ≡ None) → (if b then Some (greater live f) else f) ≡ None → (if b then Some (fuller block s) else s) ≡ None
-serve_none per live f s true block rest is = absurd (cc)
-serve_none per live f s false block rest is = rest is
-
-pub serving-none : (per : ℕ) (es : Entries) → fullest per (map live_of es) ≡ None → serving per (map numbered_of es) ≡ None
-serving-none per [] is = refl
-serving-none per (e ∷ es) is = serve_none per e.1.live (fullest per (map live_of es)) (serving per (map numbered_of es)) (nat_lt e.1.live per) (numbered_of e) (serving-none per es) is
-
--- of those with a free one the fewest are those of the earliest with the most live ones
-abbrev Serves : Option ℕ → Option SlabBlock → Type 0
-Serves None s = s ≡ None
-Serves (Some most) None = ⊥
-Serves (Some most) (Some block) = block.live ≡ most
-
-both_of : (e : ℕ × Block) (f : Option ℕ) (s : Option SlabBlock) → Serves f s → Serves (Some (greater e.1.live f)) (Some (fuller (numbered_of e) s))
-both_of e None s is = rw is refl
-both_of e (Some most) None is = absurd is
-both_of e (Some most) (Some block) is = (elim (nat_lt e.1.live block.live) as (λ t. nat_lt e.1.live block.live ≡ t → (if t then block else numbered_of e).live ≡ max e.1.live most) [
-  | true ↦ λ test. (let less : e.1.live < block.live = grind (arith, nat_tests) in omega (arith, is, less))
-  | false ↦ λ test. (let more : block.live ≤ e.1.live = grind (arith, nat_tests) in omega (arith, is, more))
-]) refl
-
-serves_step : (e : ℕ × Block) (f : Option ℕ) (s : Option SlabBlock) (b : Bool) → Serves f s → Serves (if b then Some (greater e.1.live f) else f) (if b then Some (fuller (numbered_of e) s) else s)
-serves_step e f s true is = both_of e f s is
-serves_step e f s false is = is
-
-serves : (per : ℕ) (es : Entries) → Serves (fullest per (map live_of es)) (serving per (map numbered_of es))
-serves per [] = refl
-serves per (e ∷ es) = serves_step e (fullest per (map live_of es)) (serving per (map numbered_of es)) (nat_lt e.1.live per) (serves per es)
-
--- the first of a list with so many live chunks
-abbrev pub first : ℕ → List SlabBlock → Option SlabBlock
-first live blocks = first_of (λ b. b.live == live) blocks
-
-here : (n m : ℕ) → n ≡ m → (n == m) ≡ true
-here n m same = grind (arith, same)
-
-apart : (n m : ℕ) → n ≢ m → (n == m) ≡ false
-apart n m differs = grind (arith, differs)
-
-chosen_more : (e : ℕ × Block) (rest : Option SlabBlock) (g most : ℕ) (block : SlabBlock) (t : Bool) → nat_lt e.1.live block.live ≡ t → block.live ≡ most → max e.1.live most ≡ g → (most ≡ g → Some block ≡ rest) → Some (if t then block else numbered_of e) ≡ (if e.1.live == g then Some (numbered_of e) else rest)
-chosen_more e rest g most block true test is greatest others =
-    let less : e.1.live < block.live = grind (arith, nat_tests) in
-    let same : most ≡ g = omega (arith, is, greatest, less) in
-    rw (apart e.1.live g (λ x. omega (arith, x, same, is, less))) (others same)
-chosen_more e rest g most block false test is greatest others =
-    let more : block.live ≤ e.1.live = grind (arith, nat_tests) in
-    let same : e.1.live ≡ g = omega (arith, is, greatest, more) in
-    rw (here e.1.live g same) refl
-
-chosen_by : (e : ℕ × Block) (rest : Option SlabBlock) (g : ℕ) (f : Option ℕ) (s : Option SlabBlock) → Serves f s → greater e.1.live f ≡ g → (f ≡ Some g → s ≡ rest) → Some (fuller (numbered_of e) s) ≡ (if e.1.live == g then Some (numbered_of e) else rest)
-chosen_by e rest g None s none greatest others = rw (none, here e.1.live g greatest) refl
-chosen_by e rest g (Some most) None is greatest others = absurd is
-chosen_by e rest g (Some most) (Some block) is greatest others = chosen_more e rest g most block (nat_lt e.1.live block.live) refl is greatest (λ same. others (ap Some same))
-
-chosen_step : (per g : ℕ) (e : ℕ × Block) (rest : Option SlabBlock) (f : Option ℕ) (s : Option SlabBlock) (b : Bool) → g < per → nat_lt e.1.live per ≡ b → Serves f s → (f ≡ Some g → s ≡ rest) → (if b then Some (greater e.1.live f) else f) ≡ Some g → (if b then Some (fuller (numbered_of e) s) else s) ≡ (if e.1.live == g then Some (numbered_of e) else rest)
-chosen_step per g e rest f s true free test is others greatest = let same : greater e.1.live f ≡ g = cc in chosen_by e rest g f s is same others
-chosen_step per g e rest f s false free test is others greatest =
-    let full : per ≤ e.1.live = grind (arith, nat_tests) in
-    rw (apart e.1.live g (λ x. omega (arith, x, full, free))) (others greatest)
-
-pub serving-first : (per g : ℕ) → g < per → (es : Entries) → fullest per (map live_of es) ≡ Some g → serving per (map numbered_of es) ≡ first g (map numbered_of es)
-serving-first per g free [] is = absurd (cc)
-serving-first per g free (e ∷ es) is =
-    chosen_step per g e (first g (map numbered_of es)) (fullest per (map live_of es)) (serving per (map numbered_of es)) (nat_lt e.1.live per) free refl (serves per es) (serving-first per g free es) is
-
--- it is the block of the first region with so many live chunks
-first_step : (g region : ℕ) (e : ℕ × Block) (es : Entries) (block : Block) (t u : Bool) → block.live ≡ g → (t ≡ true → e.1.live ≡ g) → (t ≡ false → e.1.live ≢ g) → (u ≡ false → region ≢ e.0)
-    → (first_with g es ≡ Some region → find region es ≡ Some block → first g (map numbered_of es) ≡ Some (numbered_of (region, block)))
-    → (if t then Some e.0 else first_with g es) ≡ Some region → (if u then Some e.1 else find region es) ≡ Some block
-    → (if t then Some (numbered_of e) else first g (map numbered_of es)) ≡ Some (numbered_of (region, block))
-first_step g region e es block true true live same differs other rest is found =
-    let it : e.1 ≡ block = cc in
-    ap (λ (x : Block). Some (numbered_of (e.0, x))) it
-first_step g region e es block true false live same differs other rest is found = let it : e.0 ≡ region = cc in absurd (other refl (sym it))
-first_step g region e es block false true live same differs other rest is found = let it : e.1 ≡ block = cc in absurd (differs refl (ap (λ (x : Block). x.live) it ∙ live))
-first_step g region e es block false false live same differs other rest is found = rest is found
-
-eq_from : (x y : ℕ) → (x == y) ≡ true → x ≡ y
-eq_from x y test = grind (arith, nat_tests)
-
-ne_from : (x y : ℕ) → (x == y) ≡ false → x ≢ y
-ne_from x y test = grind (arith, nat_tests)
-
-pub first_is : (g region : ℕ) (es : Entries) (block : Block) → block.live ≡ g → first_with g es ≡ Some region → find region es ≡ Some block → first g (map numbered_of es) ≡ Some (numbered_of (region, block))
-first_is g region [] block live is found = absurd (cc)
-first_is g region (e ∷ es) block live is found =
-    first_step g region e es block (e.1.live == g) (region == e.0) live (eq_from e.1.live g) (ne_from e.1.live g) (ne_from region e.0) (first_is g region es block live) is found
-
-pub serving_is : (per region : ℕ) (es : Entries) (block : Block) → block.live < per → fullest per (map live_of es) ≡ Some block.live → first_with block.live es ≡ Some region → find region es ≡ Some block → serving per (map numbered_of es) ≡ Some (record { number = block.number; live = block.live })
-serving_is per region es block free greatest is found = serving-first per block.live free es greatest ∙ first_is block.live region es block refl is found
 
 -- how many of them are empty
 pub empties_is : (es : Entries) → empties (map numbered_of es) ≡ empties_of (map live_of es)

@@ -4,6 +4,9 @@ pub mod Lives
 pub mod State
 pub mod Calls
 pub mod Slots
+pub mod Tree
+pub mod Ranks
+pub mod Order
 pub mod Counts
 pub mod Kept
 pub mod Steps

@@ -8,14 +8,15 @@ ghost use Rattle.ctx_blocks.specs.declared.parts.Block.{Block};
 ghost use Rattle.ctx_blocks.specs.Layout.{Layout, block_at, chunk_at, footprint as blocks_footprint};
 ghost use Rattle.ctx_blocks.specs.Steps.{PutsChunk, SameContext};
 ghost use Rattle.slab_ctx.specs.Ledger.{SlabBlock, stride, per_block, created, serving, is_empty, with_live, without_number, serve, take, give, resize, reset, stats};
-ghost use Rattle.slab_ctx.specs.Lives.{fullest};
+ghost use Rattle.slab_ctx.specs.Order.{rank_from};
 ghost use Rattle.slab_ctx.specs.State.{footprint, lives_of, blocks_of, serving_block};
 ghost use Rattle.ctx_blocks.specs.Numbered.{number_of, AreAmong};
 ghost use Rattle.chunk_header.specs.declared.Kind.TheVariants.{Slab};
 ghost use Rattle.slab_ctx.specs.Slots.{chunk_of};
-ghost use Rattle.slab_ctx.specs.Steps.{IsSeen, IsNext};
 
+use crate::ranks::Ranks;
 use crate::slots::{Slots, per_block, stride};
+use crate::tree::Rank;
 use addr_space::{Addr, Space};
 use chunk_header::{CtxError, LARGEST, Stats};
 use std::alloc::Global;
@@ -28,29 +29,23 @@ pub struct Books {
     pub empty: u64,
     // How many free chunks all blocks have.
     pub free: u64,
+    // Each block by its free chunks and its number: the least one serves.
+    pub ranks: Ranks,
 }
 
 // As many empty blocks as are kept.
 const MOST_EMPTY: u64 = 10;
 
-// A block with fewer free chunks than others, and how many those are, or one more than all where there is none.
-#[derive(Clone, Copy)]
-struct Best {
-    number: Option<u32>,
-    fewest: u32,
-}
-
-// The better of the best block so far and another one: the one with fewer free chunks, but at least one.
-fn better(best: Best, number: u32, free: u32) -> Best
-    ensures { (l : Layout) (per count : ℕ) (block : Block) → IsSeen l per count best → IsNext l count number block → block.live ≤ per → free ≡ per - block.live → IsSeen l per (count + 1) result }
+// The rank of a block by its number and its live chunks.
+fn rank(per: u32, number: u64, live: u32) -> Rank
+    requires { per ≤ 509 }
+    ensures { result ≡ rank_from per number live }
 {
-    if free > 0 && free < best.fewest {
-        return Best {
-            number: Some(number),
-            fewest: free,
-        };
+    let major = if live < per { per - live } else { per + 1 };
+    Rank {
+        major,
+        minor: number,
     }
-    best
 }
 
 // What a block with so many live chunks counts for among the empty ones.
@@ -91,6 +86,7 @@ impl Books {
             slots,
             empty: 0,
             free: 0,
+            ranks: Ranks::new(alloc),
         })
     }
 
@@ -120,20 +116,16 @@ impl Books {
     // The block with the fewest free chunks but at least one, the earliest of such ones.
     fn fullest(&self) -> Option<u32>
         requires { IsKept self.now }
-        ensures none { IfNone result (fullest (per_block self.now.slots.size) (lives_of self.now.slots.blocks) ≡ None) }
         ensures some { IfSome result (λ number. IsChosen self.now.slots.blocks (per_block self.now.slots.size) number) }
         ensures serving { serving (per_block self.now.slots.size) (blocks_of self.now.slots.blocks) ≡ serving_block self.now.slots.blocks result }
     {
-        let per_block = per_block(self.slots.size);
-        let mut best = Best {
-            number: None,
-            fewest: per_block + 1,
+        let Some(least) = self.ranks.least() else {
+            return None;
         };
-        for index in 0..self.slots.blocks.len() - 1 {
-            let (number, block) = self.slots.blocks.at(index + 1);
-            best = better(best, number, per_block - block.live);
+        if least.rank.major > per_block(self.slots.size) {
+            return None;
         }
-        best.number
+        Some(least.key)
     }
 
     // Takes a chunk of a block that has a free one.
@@ -156,9 +148,12 @@ impl Books {
         ensures moves { Moves (blocks_footprint self.old.slots.blocks) (blocks_footprint self.new.slots.blocks) space.old space.new }
         ensures keeps { Keeps (blocks_footprint self.old.slots.blocks) (blocks_footprint self.new.slots.blocks) space.old space.new }
     {
-        self.empty -= one_if_empty(self.slots.owned(number).live);
+        let block = self.slots.owned(number);
+        let live = block.live + 1;
+        self.ranks.put(number, rank(per_block(self.slots.size), block.number, live));
+        self.empty -= one_if_empty(block.live);
         self.free -= 1;
-        self.slots.take(space, number)
+        self.slots.take(space, number, block)
     }
 
     // Takes a block, for which room was made.
@@ -184,9 +179,15 @@ impl Books {
         ensures err { OnErr result (self.new.slots.blocks ≡ self.old.slots.blocks) }
         ensures err_space { OnErr result (space.new ≡ space.old) }
     {
+        if self.ranks.make_room().is_err() {
+            return Err(CtxError::Memory);
+        }
         let number = self.slots.add(space)?;
+        let per = per_block(self.slots.size);
+        let block = self.slots.owned(number);
+        self.ranks.put(number, rank(per, block.number, block.live));
         self.empty += 1;
-        self.free += u64::from(per_block(self.slots.size));
+        self.free += u64::from(per);
         Ok(number)
     }
 
@@ -247,8 +248,9 @@ impl Books {
     }
 
     // Gives a block back, where it has no live chunk and enough others are empty.
-    fn settle(&mut self, space: &mut Space, number: u32)
+    fn settle(&mut self, space: &mut Space, number: u32, live: u32)
         requires kept { (b : Block) × (block_at self.old.slots.blocks number ≡ Some b) × IsKeptBut self.old (is_empty b.live) }
+        requires live { (b : Block) → block_at self.old.slots.blocks number ≡ Some b → b.live ≡ live }
         requires agrees { Agrees (blocks_footprint self.old.slots.blocks) space.old }
         requires not_keeper { number ≢ self.old.slots.blocks.keeper }
         ensures kept { IsKept self.new }
@@ -261,7 +263,7 @@ impl Books {
         ensures moves { Moves (blocks_footprint self.old.slots.blocks) (blocks_footprint self.new.slots.blocks) space.old space.new }
         ensures keeps { Keeps (blocks_footprint self.old.slots.blocks) (blocks_footprint self.new.slots.blocks) space.old space.new }
     {
-        if self.slots.owned(number).live > 0 {
+        if live > 0 {
             return;
         }
         if self.empty < MOST_EMPTY {
@@ -269,6 +271,7 @@ impl Books {
             return;
         }
         self.slots.give(space, number);
+        self.ranks.remove(number);
         self.free -= u64::from(per_block(self.slots.size));
     }
 
@@ -285,9 +288,12 @@ impl Books {
         ensures moves { Moves (footprint (state_of self.old)) (footprint (state_of self.new)) space.old space.new }
         ensures keeps { Keeps (footprint (state_of self.old)) (footprint (state_of self.new)) space.old space.new }
     {
-        self.slots.remove(at);
+        let was = self.slots.remove(at);
+        let live = was.live - 1;
+        let per = per_block(self.slots.size);
+        self.ranks.put(at.region, rank(per, was.number, live));
         self.free += 1;
-        self.settle(space, at.region);
+        self.settle(space, at.region, live);
     }
 
     // Answers a request for another size of a live chunk.
@@ -320,6 +326,7 @@ impl Books {
         ensures moves { Moves (footprint (state_of self.old)) (footprint (state_of self.new)) space.old space.new }
     {
         self.slots.reset(space);
+        self.ranks.clear();
         self.empty = 0;
         self.free = 0;
     }
@@ -335,6 +342,7 @@ impl Books {
             slots,
             empty: _,
             free: _,
+            ranks: _,
         } = self;
         let Slots {
             blocks,

@@ -6,7 +6,9 @@ ghost use Rattle.addr_space.specs.declared.Addr.{Addr};
 ghost use Rattle.slab_ctx.specs.Ledger.{stats, take, give, reset, chunk_bytes};
 
 mod books;
+mod ranks;
 mod slots;
+mod tree;
 
 use addr_space::{Addr, Space};
 use books::Books;
@@ -17,6 +19,9 @@ use std::marker::Model;
 /// A context whose chunks all have one size: PostgreSQL's `SlabContext` (slab.c). It begins with a region of 200 bytes
 /// that has no chunk, and takes blocks of 8,192 bytes. Each request is served from the block with the fewest free
 /// chunks but at least one, the one taken earliest of such.
+///
+/// A call takes steps by the logarithm of the number of blocks; one that takes a block or gives one back may move as
+/// many records as there are blocks.
 #[derive(Drop)]
 pub struct SlabCtx {
     books: Books,

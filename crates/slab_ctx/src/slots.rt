@@ -231,11 +231,12 @@ impl Slots {
     }
 
     // Takes a chunk of a block that has a free one.
-    pub fn take(&mut self, space: &mut Space, number: u32) -> Addr
+    pub fn take(&mut self, space: &mut Space, number: u32, block: Block) -> Addr
         requires slots { HasSlots self.old }
         requires agrees { Agrees (footprint self.old.blocks) space.old }
         requires not_keeper { number ≢ self.old.blocks.keeper }
-        requires block { (b : Block) × (block_at self.old.blocks number ≡ Some b) × (b.live < per_block self.old.size) }
+        requires block { block_at self.old.blocks number ≡ Some block }
+        requires free { block.live < per_block self.old.size }
         requires spare { 1 ≤ self.old.blocks.spare_chunks }
         ensures slots { HasSlots self.new }
         ensures size { self.new.size ≡ self.old.size }
@@ -249,15 +250,14 @@ impl Slots {
         ensures moves { Moves (footprint self.old.blocks) (footprint self.new.blocks) space.old space.new }
         ensures keeps { Keeps (footprint self.old.blocks) (footprint self.new.blocks) space.old space.new }
     {
-        let freed = self.owned(number).freed;
-        if freed > 0 {
-            return self.reuse(space, number, freed - 1);
+        if block.freed > 0 {
+            return self.reuse(space, number, block.freed - 1);
         }
         self.cut(space, number)
     }
 
-    // Frees a live chunk: it is the last of its block's stack.
-    pub fn remove(&mut self, at: Addr)
+    // Frees a live chunk, the last of its block's stack from now on, and answers the block as it was.
+    pub fn remove(&mut self, at: Addr) -> Block
         requires slots { HasSlots self.old }
         requires chunk { (c : Chunk) × (chunk_at self.old.blocks at ≡ Some c) }
         ensures slots { HasSlots self.new }
@@ -266,13 +266,15 @@ impl Slots {
         ensures chunk { PutsChunk self.old.blocks self.new.blocks at None }
         ensures not_keeper { at.region ≢ self.old.blocks.keeper }
         ensures block { (b : Block) × (block_at self.old.blocks at.region ≡ Some b) × (1 ≤ b.live) × Counts self.old.blocks self.new.blocks at.region (b.live - 1) }
+        ensures was { block_at self.old.blocks at.region ≡ Some result }
         ensures last { self.new.blocks.last_number ≡ self.old.blocks.last_number }
         ensures moves { MovesStill self.old.blocks self.new.blocks }
     {
         self.blocks.laid();
-        let freed = self.owned(at.region).freed;
+        let block = self.owned(at.region);
         let _ = self.blocks.remove(at);
-        push(&mut self.stacks, at.region, freed, at.offset as u16);
+        push(&mut self.stacks, at.region, block.freed, at.offset as u16);
+        block
     }
 
     // Gives a block without live chunks back.

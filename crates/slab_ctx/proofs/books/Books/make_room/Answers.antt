@@ -1,8 +1,9 @@
-use Rattle.std.proofs.Common.{◌≡◌, ◌*◌, ◌+◌, sym, ap, ◌∙◌, length, arith}
+use Rattle.std.proofs.Common.{◌≡◌, ◌*◌, ◌+◌, sym, ap, ◌∙◌, length, refl, arith}
 use Rattle.ctx_blocks.specs.Layout.{Layout, total}
 use Rattle.ctx_blocks.specs.Steps.{SameContext}
 use Rattle.slab_ctx.specs.State.{lives_of}
-use Rattle.slab_ctx.specs.Lives.{empties, free_chunks}
+use Rattle.slab_ctx.proofs.Ordered.{order-kept}
+use Rattle.slab_ctx.specs.Lives.{empties, free_chunks, per_block}
 use Rattle.slab_ctx.proofs.Slotted.{IsSlotted-same}
 use Rattle.slab_ctx.proofs.Listed.{IsListed-same}
 use Rattle.slab_ctx.proofs.books.Books.make_room.Goals as goal
@@ -23,4 +24,5 @@ returns-clause-kept c =
       free = c.requires.free ∙ sym (ap (λ xs. free_chunks (record { size = size; lives = xs })) lives);
       bytes = bytes ∙ c.requires.bytes ∙ sym (ap (λ xs. 200 + 8192 * length xs) lives);
       most = omega (arith, bytes, c.requires.most);
+      order = order-kept c.args.self.now.ranks c.args.self.now.ranks l m (per_block size) (per_block size) c.requires.order c.requires.order.ranked refl same.keeper (ap (λ (x : Layout). x.blocks) is) refl;
     }

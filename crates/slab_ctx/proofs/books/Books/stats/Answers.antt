@@ -7,7 +7,7 @@ use Rattle.slab_ctx.specs.Kept.{ledger_of, IsKept}
 use Rattle.slab_ctx.specs.declared.books.Books.{Books}
 use Rattle.slab_ctx.proofs.Numbered.{count_is, free_is}
 use Rattle.slab_ctx.proofs.Bounds.{free-is, bytes-small}
-use Rattle.slab_ctx.proofs.Chosen.{length-listed}
+use Rattle.slab_ctx.proofs.Listed.{length-listed}
 use Rattle.slab_ctx.proofs.books.Books.stats.Goals as goal
 
 pub overflow_mul-result : goal.overflow_mul-result

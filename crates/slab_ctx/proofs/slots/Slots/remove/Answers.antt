@@ -8,8 +8,8 @@ use Rattle.addr_space.proofs.Options.{one_value}
 use Rattle.slab_ctx.proofs.Taken.{IsSlotted-removed}
 use Rattle.slab_ctx.proofs.slots.Slots.remove.Goals as goal
 
-pub owned-freed-requires : goal.owned-freed-requires
-owned-freed-requires c =
+pub owned-block-requires : goal.owned-block-requires
+owned-block-requires c =
     let chunk = c.requires.chunk.0 in
     let placed = c.laid.ensures.placed c.args.at chunk c.requires.chunk.1 in
     (placed.block, placed.owned)
@@ -26,8 +26,8 @@ push-requires c =
     let l = c.args.self.now.blocks in
     let chunk = c.requires.chunk.0 in
     let has = c.requires.chunk.1 in
-    let b = c.owned-freed.result in
-    let found = c.owned-freed.ensures in
+    let b = c.owned-block.result in
+    let found = c.owned-block.ensures in
     let differs = c.requires.slots.owned c.args.at chunk has in
     let filled = c.requires.slots.filled c.args.at.region b differs found in
     omega (arith, chunks-few l c.args.self.now.size c.args.self.now.stacks.entries c.requires.slots c.args.at.region differs b found, filled.long, c.laid.ensures.some c.args.at chunk b has found)
@@ -42,8 +42,8 @@ returns-clause-slots c =
     let at = c.args.at in
     let chunk = c.requires.chunk.0 in
     let has = c.requires.chunk.1 in
-    let b = c.owned-freed.result in
-    let found = c.owned-freed.ensures in
+    let b = c.owned-block.result in
+    let found = c.owned-block.ensures in
     let differs = c.requires.slots.owned at chunk has in
     let placed = c.laid.ensures.placed at chunk has in
     let is : placed.block ≡ b = one_value (block_at l at.region) placed.block b placed.owned found in
@@ -57,8 +57,8 @@ pub returns-clause-block : goal.returns-clause-block
 returns-clause-block c =
     let chunk = c.requires.chunk.0 in
     let has = c.requires.chunk.1 in
-    let b = c.owned-freed.result in
-    let found = c.owned-freed.ensures in (
+    let b = c.owned-block.result in
+    let found = c.owned-block.ensures in (
       b,
       found,
       c.laid.ensures.some c.args.at chunk b has found,
