@@ -4,12 +4,12 @@ use Rattle.std.specs.Prelude.{◌==◌, if◌then◌else◌}
 use Rattle.std.specs.Option.{option_map, option_map_or}
 use Rattle.std.specs.Result.{OnErr}
 use Rattle.std.proofs.Common.{Result, Ok, Err}
-use Rattle.std.proofs.lemmas.Bool.{cases_Bool}
+use Rattle.std.proofs.lemmas.Bool.{cases_Bool, ne_eqb}
 use Rattle.forest.specs.Forest.{Forest, Empty, Node, has, times, Once, size, at, children, put, removed, changed, moved}
 use Rattle.forest.specs.Walk.{order, order_at}
 use Rattle.forest.specs.Forest.{either}
 use Rattle.forest.proofs.Trees.{Apart, apart_of, Where, Here, Below, Beside, where_is, at_some, at_absent, has_at, changed_absent}
-use Rattle.forest.proofs.Mapped.{mapped-at, mapped-times, mapped-size, mapped-has, mapped-put, mapped-removed, mapped-changed, mapped-children, mapped-order}
+use Rattle.forest.proofs.Mapped.{mapped-at, mapped-times, mapped-size, mapped-has, mapped-put, mapped-removed, mapped-changed, mapped-children, mapped-order, at_changed_other}
 use Rattle.owner_core.specs.Owners.{Owner, OwnerTree, OwnerTable, Roomy, tree_of, entered, created}
 
 abbrev own : Roomy → Owner
@@ -86,3 +86,29 @@ pub room_back : (n : ℕ) (r new : Roomy) (table : OwnerTable) → Once table.ro
 room_back n r new table o h e =
     ap (λ (x : Roomy). record table { rooms = changed n (λ _. x) table.rooms }) e
     ∙ ap (λ (x : Forest Roomy). record table { rooms = x }) (changed_back n table.rooms r o h)
+
+-- the room of the other owners
+
+abbrev room_of : Option Roomy → ℕ
+room_of r = option_map_or (λ (x : Roomy). x.spare) r 0
+
+pub spare_other : (n m : ℕ) (new : Roomy) (rooms : Forest Roomy) → m ≢ n → option_map_or (λ (x : Roomy). x.spare) (at m (changed n (λ _. new) rooms)) 0 ≡ option_map_or (λ (x : Roomy). x.spare) (at m rooms) 0
+spare_other n m new rooms ne = ap room_of (at_changed_other m n (λ _. new) rooms ne)
+
+put_other : (p n m : ℕ) (new : Roomy) (rooms : Forest Roomy) → (n == m) ≡ false → at m (put p n new Empty rooms) ≡ at m rooms
+put_other p n m new Empty other = refl
+put_other p n m new (Node k a below beside) other =
+    elim (cases_Bool (k == m)) [
+      | inl y ↦ rw y refl
+      | inr y ↦ elim (cases_Bool (k == p)) [
+        | inl z ↦ rw (y, z, other, put_other p n m new beside other) refl
+        | inr z ↦ rw (y, z, put_other p n m new below other, put_other p n m new beside other) refl
+      ]
+    ]
+
+entered_other : (parent : Option ℕ) (n m : ℕ) (new : Roomy) (rooms : Forest Roomy) → (n == m) ≡ false → at m (entered parent n new rooms) ≡ at m rooms
+entered_other None n m new rooms other = rw other refl
+entered_other (Some p) n m new rooms other = put_other p n m new rooms other
+
+pub spare_entered : (parent : Option ℕ) (n m : ℕ) (new : Roomy) (rooms : Forest Roomy) → m ≢ n → option_map_or (λ (x : Roomy). x.spare) (at m (entered parent n new rooms)) 0 ≡ option_map_or (λ (x : Roomy). x.spare) (at m rooms) 0
+spare_entered parent n m new rooms ne = ap room_of (entered_other parent n m new rooms (ne_eqb n m (λ is. ne (sym is))))

@@ -63,7 +63,8 @@ impl Node {
     pub fn remember(&mut self, item: Item)
         requires spare { 1 ≤ self.old.spare }
         requires newest { All (λ other. other.serial < item.serial) self.old.owner.items }
-        ensures { self.new.owner ≡ record self.old.owner { items = item ∷ self.old.owner.items } }
+        ensures owner { self.new.owner ≡ record self.old.owner { items = item ∷ self.old.owner.items } }
+        ensures spare { self.old.spare ≤ self.new.spare + 1 }
     {
         self.items.remember(item);
     }

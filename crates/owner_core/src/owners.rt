@@ -81,6 +81,7 @@ impl Owners {
         ensures next_owner { OnOk result (self.new.next_owner ≡ self.old.next_owner + 1) }
         ensures next_serial { self.new.next_serial ≡ self.old.next_serial }
         ensures emits { OnOk result (E.emits out.old (made_event (option_map (λ p. p.number) parent) self.old.next_owner ∷ []) out.new) }
+        ensures others { (other : ℕ) → other ≢ self.old.next_owner → spare_of other self.new ≡ spare_of other self.old }
         ensures fresh { has self.old.next_owner (owners_of self.old) ≡ false }
         ensures too_many { (result ≡ Err OwnerError.TooMany) ↔ (MOST_OWNERS ≤ size (owners_of self.old)) }
         ensures refused { OnErr result (self.new ≡ self.old) }
@@ -105,6 +106,7 @@ impl Owners {
     pub fn enlarge(&mut self, owner: OwnerId) -> Result<(), OwnerError>
         requires live { IsLive self.old owner }
         ensures spare { OnOk result (1 ≤ spare_of owner.number self.new) }
+        ensures others { (other : ℕ) → other ≢ owner.number → spare_of other self.new ≡ spare_of other self.old }
         ensures owners { owners_of self.new ≡ owners_of self.old }
         ensures places { self.new.places ≡ self.old.places }
         ensures next_owner { self.new.next_owner ≡ self.old.next_owner }
@@ -134,6 +136,8 @@ impl Owners {
         requires spare { 1 ≤ spare_of owner.number self.old }
         requires not_begun { has_begun owner.number (owners_of self.old) ≡ false }
         requires serial { self.old.next_serial < 2 ^ 62 }
+        ensures spare { spare_of owner.number self.old ≤ spare_of owner.number self.new + 1 }
+        ensures others { (other : ℕ) → other ≢ owner.number → spare_of other self.new ≡ spare_of other self.old }
         ensures owners { owners_of self.new ≡ remembered owner.number (record { kind = kind; key = key; serial = self.old.next_serial }) (owners_of self.old) }
         ensures places { self.new.places ≡ self.old.places }
         ensures next_owner { self.new.next_owner ≡ self.old.next_owner }
@@ -166,6 +170,7 @@ impl Owners {
         requires live { IsLive self.old owner }
         ensures item { has_begun owner.number (owners_of self.old) ≡ false → result ≡ ok_or (find (is_of kind key) (items_of owner.number (owners_of self.old))) OwnerError.NotOwned }
         ensures releasing { has_begun owner.number (owners_of self.old) ≡ true → result ≡ Err OwnerError.Releasing }
+        ensures others { (other : ℕ) → other ≢ owner.number → spare_of other self.new ≡ spare_of other self.old }
         ensures owners { OnOk result (owners_of self.new ≡ forgotten owner.number kind key (owners_of self.old)) }
         ensures places { self.new.places ≡ self.old.places }
         ensures next_owner { self.new.next_owner ≡ self.old.next_owner }

@@ -93,3 +93,32 @@ fn what_is_forgotten_is_said(rt: HostRuntime) -> Result<(), Fail> {
     );
     Ok(())
 }
+
+#[test]
+fn a_pin_is_released_behind_its_warning(rt: HostRuntime) -> Result<(), Fail> {
+    let none: Vec<CountedKind> = Vec::new(rt.alloc());
+    let mut table = Pins {
+        kinds: KindShelf::new(rt.alloc(), none)?,
+        held: 1,
+    };
+    let mut out = EventList::new(rt.alloc(), 20)?;
+    let mut owners = Owners::new(rt.alloc());
+    let top = owners.create(None, &mut out)?;
+    owners.enlarge(top)?;
+    owners.remember(top, KindId::BUFFER_PIN, 7, &mut out);
+    owners.release(top, Phase::BeforeLocks, true, true, &mut table, &mut out);
+    let item = Item {
+        kind: KindId::BUFFER_PIN,
+        key: 7,
+        serial: 1,
+    };
+    let events = [
+        What::Owner(1),
+        What::Acquire { item, owner: 1 },
+        What::NotClosed { item, owner: 1 },
+        What::Release { item, owner: 1 },
+        What::DescriptorClosed(7),
+    ];
+    assert_eq!(rt; out.events(), events.as_slice());
+    Ok(())
+}

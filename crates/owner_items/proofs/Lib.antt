@@ -1,6 +1,10 @@
-pub mod KindRows
+pub mod Indexed
+pub mod Linked
 pub mod NewestFirst
-pub mod NextSoFar
 pub mod Order
-pub mod Taken
+pub mod Ordered
+pub mod Parts
+pub mod Released
+pub mod Sums
+pub mod TableSteps
 pub mod Uses

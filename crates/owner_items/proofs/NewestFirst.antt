@@ -7,19 +7,19 @@ use Rattle.pgs_step.specs.declared.ids.Item.{Item}
 use Rattle.owner_items.specs.ItemList.{without_newest}
 use Rattle.owner_items.specs.Newest.{IsNewest, NonePasses}
 
-find-append_some : (test : Item → Bool) (xs ys : List Item) (x : Item) → find test xs ≡ Some x → find test (xs ++ ys) ≡ Some x
+pub find-append_some : (test : Item → Bool) (xs ys : List Item) (x : Item) → find test xs ≡ Some x → find test (xs ++ ys) ≡ Some x
 find-append_some test [] ys x found = absurd cc
 find-append_some test (z ∷ zs) ys x found = grind (arith, find-append_some test zs ys x, found)
 
-find-append_none : (test : Item → Bool) (xs ys : List Item) → find test xs ≡ None → find test (xs ++ ys) ≡ find test ys
+pub find-append_none : (test : Item → Bool) (xs ys : List Item) → find test xs ≡ None → find test (xs ++ ys) ≡ find test ys
 find-append_none test [] ys none = refl
 find-append_none test (z ∷ zs) ys none = grind (arith, find-append_none test zs ys, none)
 
-without-append_some : (test : Item → Bool) (xs ys : List Item) (x : Item) → find test xs ≡ Some x → without_newest test (xs ++ ys) ≡ without_newest test xs ++ ys
+pub without-append_some : (test : Item → Bool) (xs ys : List Item) (x : Item) → find test xs ≡ Some x → without_newest test (xs ++ ys) ≡ without_newest test xs ++ ys
 without-append_some test [] ys x found = absurd cc
 without-append_some test (z ∷ zs) ys x found = grind (arith, without-append_some test zs ys x, found)
 
-without-append_none : (test : Item → Bool) (xs ys : List Item) → find test xs ≡ None → without_newest test (xs ++ ys) ≡ xs ++ without_newest test ys
+pub without-append_none : (test : Item → Bool) (xs ys : List Item) → find test xs ≡ None → without_newest test (xs ++ ys) ≡ xs ++ without_newest test ys
 without-append_none test [] ys none = refl
 without-append_none test (z ∷ zs) ys none = grind (arith, without-append_none test zs ys, none)
 

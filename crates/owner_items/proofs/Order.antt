@@ -1,15 +1,10 @@
 -- An item that is taken out of the items, which stand newest first.
-use Rattle.std.proofs.Common.{◌≡◌, ℕ, ◌<◌, ◌≤◌, zero, suc, Bool, true, false, not, cond, nat_le, ◌==◌, List, [], ◌∷◌, ◌++◌, length, reverse, get_or, filter, All, refl, sym, ◌∙◌, ap, append_assoc, arith}
-use Rattle.std.specs.List.{remove}
-use Rattle.std.proofs.lemmas.Grind.{reverse_onto}
-use Rattle.std.proofs.lemmas.List.{append-nil, get_or_default}
+use Rattle.std.proofs.Common.{◌≡◌, ℕ, ◌<◌, ◌≤◌, Bool, true, false, not, cond, nat_le, ◌==◌, List, [], ◌∷◌, ◌++◌, filter, All, refl, sym, ◌∙◌, ap, arith}
 use Rattle.std.proofs.lemmas.Bool.Decides.{nat_tests}
 use Rattle.std.proofs.lemmas.List.Elements.{All-nil, All-cons, All-head, All-tail}
-use Rattle.std.proofs.lemmas.List.Sorted.{All-permutation, IsPermutation-reverse}
 use Rattle.pgs_step.specs.declared.ids.Item.{Item}
 use Rattle.owner_items.specs.ItemList.{AreFalling, without_newest, without_serial}
 use Rattle.owner_items.specs.Next.{with_item, by_rank}
-use Rattle.owner_items.specs.Newest.{IsNext, NonePasses}
 
 -- the items of a phase in the order of their release
 abbrev pub order : (Item → Bool) → (Item → ℕ) → List Item → List Item
@@ -83,16 +78,16 @@ order-take test rank (y ∷ front) back x passes above least =
     in
     cases (test y) refl
 
-All-front : (P : Item → Type 0) (front back : List Item) → All P (front ++ back) → All P front
+pub All-front : (P : Item → Type 0) (front back : List Item) → All P (front ++ back) → All P front
 All-front P [] back all = All-nil P
 All-front P (x ∷ front) back all =
     All-cons P x front (All-head P x (front ++ back) all) (All-front P front back (All-tail P x (front ++ back) all))
 
-All-back : (P : Item → Type 0) (front back : List Item) → All P (front ++ back) → All P back
+pub All-back : (P : Item → Type 0) (front back : List Item) → All P (front ++ back) → All P back
 All-back P [] back all = all
 All-back P (x ∷ front) back all = All-back P front back (All-tail P x (front ++ back) all)
 
-All-both : (P : Item → Type 0) (front back : List Item) → All P front → All P back → All P (front ++ back)
+pub All-both : (P : Item → Type 0) (front back : List Item) → All P front → All P back → All P (front ++ back)
 All-both P [] back all also = also
 All-both P (x ∷ front) back all also =
     All-cons P x (front ++ back) (All-head P x front all) (All-both P front back (All-tail P x front all) also)
@@ -141,85 +136,12 @@ pub split-left :
 split-left test items item rest split passes =
     rw (split.without, split.whole) (left-less test split.front split.back item passes)
 
--- the item at a place of a list whose newest is the last
-pub take_out :
-    (xs : List Item) (place : ℕ) (x : Item) → place < length xs → x ≡ get_or xs place x →
-    IsSplit (reverse xs) x (reverse (remove xs place))
-take_out [] place x within is = absurd (omega arith)
-take_out (y ∷ ys) zero x within is =
-    record {
-      front = reverse ys;
-      back = [];
-      whole = reverse_onto ys y [] ∙ ap (λ z. reverse ys ++ z ∷ []) (sym is);
-      without = sym (append-nil (reverse ys));
-    }
-take_out (y ∷ ys) (suc place) x within is =
-    let below : place < length ys = omega arith in
-    let rest : IsSplit (reverse ys) x (reverse (remove ys place)) = take_out ys place x below is in
-    record {
-      front = rest.front;
-      back = rest.back ++ y ∷ [];
-      whole =
-          reverse_onto ys y []
-          ∙ (ap (λ z. z ++ y ∷ []) rest.whole ∙ append_assoc rest.front (x ∷ rest.back) (y ∷ []));
-      without =
-          reverse_onto (remove ys place) y []
-          ∙ (ap (λ z. z ++ y ∷ []) rest.without ∙ append_assoc rest.front rest.back (y ∷ []));
-    }
-
--- what is newer than it is released after it, and nothing older before it
-next_front :
-    (test : Item → Bool) (rank : Item → ℕ) (xs : List Item) (place : ℕ) (x : Item) (within : place < length xs)
-    (is : x ≡ get_or xs place x) →
-    ((k : ℕ) (d : Item) → place < k → k < length xs → test (get_or xs k d) ≡ true → rank x < rank (get_or xs k d)) →
-    All (λ z. test z ≡ true → rank x < rank z) (take_out xs place x within is).front
-unfolding take_out
-next_front test rank [] place x within is later = absurd (omega arith)
-next_front test rank (y ∷ ys) zero x within is later =
-    All-permutation (λ z. test z ≡ true → rank x < rank z) ys (reverse ys) (IsPermutation-reverse ys)
-    (λ k d below. later (suc k) d (omega arith) (omega arith))
-next_front test rank (y ∷ ys) (suc place) x within is later =
-    next_front test rank ys place x _ is (λ k d after below. later (suc k) d (omega arith) (omega arith))
-
-next_back :
-    (test : Item → Bool) (rank : Item → ℕ) (xs : List Item) (place : ℕ) (x : Item) (within : place < length xs)
-    (is : x ≡ get_or xs place x) →
-    ((k : ℕ) (d : Item) → k < length xs → test (get_or xs k d) ≡ true → rank x ≤ rank (get_or xs k d)) →
-    All (λ z. test z ≡ true → rank x ≤ rank z) (take_out xs place x within is).back
-unfolding take_out
-next_back test rank [] place x within is least = absurd (omega arith)
-next_back test rank (y ∷ ys) zero x within is least = All-nil (λ z. test z ≡ true → rank x ≤ rank z)
-next_back test rank (y ∷ ys) (suc place) x within is least =
-    All-both (λ z. test z ≡ true → rank x ≤ rank z) _ (y ∷ [])
-    (next_back test rank ys place x _ is (λ k d below. least (suc k) d (omega arith)))
-    (All-cons (λ z. test z ≡ true → rank x ≤ rank z) y [] (least 0 y (omega arith)) (All-nil (λ z. test z ≡ true → rank x ≤ rank z)))
-
 pub split-order :
     (test : Item → Bool) (rank : Item → ℕ) (items : List Item) (item : Item) (rest : List Item) →
     (split : IsSplit items item rest) → test item ≡ true → All (λ z. test z ≡ true → rank item < rank z) split.front →
     All (λ z. test z ≡ true → rank item ≤ rank z) split.back → order test rank items ≡ item ∷ order test rank rest
 split-order test rank items item rest split passes above least =
     rw (split.without, split.whole) (order-take test rank split.front split.back item passes above least)
-
-at_place : {Y : Type 0} (f : Item → Y) (xs : List Item) (place : ℕ) (x d : Item) → place < length xs → x ≡ get_or xs place x → f (get_or xs place d) ≡ f x
-at_place f xs place x d within is = ap f (get_or_default xs place d x within ∙ sym is)
-
-pub next_passes :
-    (test : Item → Bool) (rank : Item → ℕ) (xs : List Item) (place : ℕ) (x : Item) → IsNext test rank xs place →
-    x ≡ get_or xs place x → test x ≡ true
-next_passes test rank xs place x next is = sym (at_place test xs place x x next.within is) ∙ next.passes x
-
--- what is found next goes first, and the others after it
-pub order-next :
-    (test : Item → Bool) (rank : Item → ℕ) (xs : List Item) (place : ℕ) (x : Item) → IsNext test rank xs place →
-    x ≡ get_or xs place x → order test rank (reverse xs) ≡ x ∷ order test rank (reverse (remove xs place))
-order-next test rank xs place x next is =
-    split-order test rank (reverse xs) x (reverse (remove xs place)) (take_out xs place x next.within is)
-    (sym (at_place test xs place x x next.within is) ∙ next.passes x)
-    (next_front test rank xs place x next.within is
-    (λ k d after below yes. omega (arith, at_place rank xs place x d next.within is, next.later k d after below yes)))
-    (next_back test rank xs place x next.within is
-    (λ k d below yes. omega (arith, at_place rank xs place x d next.within is, next.least k d below yes)))
 
 pub order-none : (test : Item → Bool) (rank : Item → ℕ) (xs : List Item) → All (λ x. test x ≡ false) xs → order test rank xs ≡ []
 order-none test rank [] none = refl
@@ -247,12 +169,6 @@ falling-without test (x ∷ xs) falling =
 -- a list with an element is not empty
 pub not_both : {X : Type 0} (xs ys : List X) (x : X) → xs ≡ x ∷ ys → (true ≡ false → xs ≡ []) × (xs ≡ [] → true ≡ false)
 not_both xs ys x is = (λ wrong. absurd cc, λ none. absurd cc)
-
-pub order-nothing :
-    (test : Item → Bool) (rank : Item → ℕ) (xs : List Item) → NonePasses test xs → order test rank (reverse xs) ≡ []
-order-nothing test rank xs none =
-    order-none test rank (reverse xs)
-    (All-permutation (λ x. test x ≡ false) xs (reverse xs) (IsPermutation-reverse xs) none)
 
 -- where a phase has no item left, its items are those that it leaves
 pub nothing-left :

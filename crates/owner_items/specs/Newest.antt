@@ -1,5 +1,5 @@
 -- Places in a list of items whose newest is the last.
-use Rattle.std.specs.Prelude.{◌≡◌, ℕ, ◌<◌, ◌≤◌, Bool, true, false, List, length, slice_index_or, MatchOption, Option}
+use Rattle.std.specs.Prelude.{◌≡◌, ℕ, ◌<◌, Bool, true, false, List, length, slice_index_or, MatchOption, Option}
 use Rattle.pgs_step.specs.declared.ids.Item.{Item}
 
 -- the item at this place passes the test, and no later one does
@@ -15,17 +15,3 @@ NonePasses test items = (k : ℕ) (d : Item) → k < length items → test (slic
 -- the place of the newest item that passes the test, where one does
 abbrev pub FindsNewest : (Item → Bool) → List Item → Option ℕ → Type 0
 FindsNewest test items found = MatchOption found (NonePasses test items) (IsNewest test items)
-
--- of the items that pass the test the one at this place has the least rank, and is the newest that has it
-pub record IsNext (test : Item → Bool) (rank : Item → ℕ) (items : List Item) (place : ℕ) : Type 0 where
-  pub within : place < length items
-  pub passes : (d : Item) → test (slice_index_or items place d) ≡ true
-  pub least :
-      (k : ℕ) (d : Item) → k < length items → test (slice_index_or items k d) ≡ true →
-      rank (slice_index_or items place d) ≤ rank (slice_index_or items k d)
-  pub later :
-      (k : ℕ) (d : Item) → place < k → k < length items → test (slice_index_or items k d) ≡ true →
-      rank (slice_index_or items place d) < rank (slice_index_or items k d)
-
-abbrev pub FindsNext : (Item → Bool) → (Item → ℕ) → List Item → Option ℕ → Type 0
-FindsNext test rank items found = MatchOption found (NonePasses test items) (IsNext test rank items)

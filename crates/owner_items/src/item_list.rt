@@ -1,34 +1,34 @@
 ghost use Rattle.std.specs.Prelude.{◌≡◌, ◌+◌, ◌<◌, ◌≤◌, [], ◌∷◌, ◌++◌, ◌&&◌, ◌||◌, nat_le, length, find, All, OnOk, OnErr, IfSome, IfNone, IsNone, ◌↔◌};
 ghost use Rattle.std.specs.Option.{option_to_list};
 ghost use Rattle.owner_items.specs.ItemList.{AreFalling, is_of, without_newest, without_serial};
-ghost use Rattle.owner_items.specs.Newest.{FindsNewest, FindsNext};
 ghost use Rattle.owner_items.specs.Next.{is_of_phase, priority, release_order, items_left};
 ghost use Rattle.owner_kinds.specs.KindShelf.{table_of};
 ghost use Rattle.owner_kinds.specs.KindTable.{IsKind};
 
+use crate::held::Held;
 use owner_kinds::{ExtKind, KindShelf};
 use pgs_step::{Item, KindId, Phase};
 use std::alloc::{AllocError, Global};
 use std::marker::Model;
 
-/// The items that one owner remembers: the array and the hash table of PostgreSQL's `ResourceOwner`.
+/// The items that one owner remembers: an array of the newest 32 and a table of the others, as in PostgreSQL's
+/// `ResourceOwner`.
 ///
 /// Contracts see the list of the items, newest first. Their serials fall along it.
 #[derive(Drop)]
 pub struct Items {
-    // The newest is the last.
-    items: Vec<Item>,
+    held: Held,
 }
 
 impl Model for Items {
-    ghost use Rattle.std.specs.Prelude.{◌-◌, reverse, vec_len, vec_capacity};
-    ghost use Rattle.owner_items.specs.ItemList.{AreFalling, ItemList};
+    ghost use Rattle.owner_items.specs.ItemList.{ItemList};
+    ghost use Rattle.owner_items.specs.Held.{IsHeld, items_of, spare_of};
 
     ghost Value = { ItemList };
 
-    ghost view = { λ s. record { items = reverse s.items.items; spare = vec_capacity s.items - vec_len s.items } };
+    ghost view = { λ s. record { items = items_of s.held; spare = spare_of s.held } };
 
-    ghost invariant = { λ s. AreFalling (reverse s.items.items) };
+    ghost invariant = { λ s. IsHeld s.held };
 }
 
 impl Items {
@@ -37,7 +37,7 @@ impl Items {
         ensures { result.items ≡ [] }
     {
         Items {
-            items: Vec::new(alloc),
+            held: Held::new(alloc),
         }
     }
 
@@ -46,8 +46,7 @@ impl Items {
         ensures spare { result ≡ self.now.spare }
         ensures falling { AreFalling self.now.items }
     {
-        let items = &self.items;
-        items.capacity() - items.len()
+        self.held.spare()
     }
 
     /// How many items are remembered.
@@ -55,10 +54,10 @@ impl Items {
         ensures count { result ≡ length self.now.items }
         ensures falling { AreFalling self.now.items }
     {
-        self.items.len()
+        self.held.len()
     }
 
-    /// Makes room for one more item: `ResourceOwnerEnlarge`.
+    /// Makes room for one more item: `ResourceOwnerEnlarge`. Over many calls it takes constant time.
     pub fn enlarge(&mut self) -> Result<(), AllocError>
         ensures ok { OnOk result (1 ≤ self.new.spare) }
         ensures spare { self.old.spare ≤ self.new.spare }
@@ -66,7 +65,7 @@ impl Items {
         ensures err { OnErr result (self.new ≡ self.old) }
         ensures falling { AreFalling self.new.items }
     {
-        self.items.reserve(1)
+        self.held.enlarge()
     }
 
     /// Remembers an item, which is the newest then: `ResourceOwnerRemember`. It uses room that `enlarge` made.
@@ -77,12 +76,12 @@ impl Items {
         ensures spare { self.old.spare ≤ self.new.spare + 1 }
         ensures falling { AreFalling self.new.items }
     {
-        self.items.push_reserved(item);
+        self.held.remember(item);
     }
 
     /// Forgets the newest item of this kind and key: `ResourceOwnerForget`.
     ///
-    /// It looks from the newest item on, so one that was remembered late is found soon.
+    /// It takes constant time, but while the items are in the order of a release: then it looks at all of them.
     pub fn forget(&mut self, kind: KindId, key: u32) -> Option<Item>
         ensures newest { result ≡ find (is_of kind key) self.old.items }
         ensures rest { self.new.items ≡ without_newest (is_of kind key) self.old.items }
@@ -90,12 +89,14 @@ impl Items {
         ensures unchanged { IfNone result (self.new ≡ self.old) }
         ensures falling { AreFalling self.new.items }
     {
-        let place = newest_of(&self.items, kind, key)?;
-        Some(self.items.remove(place))
+        self.held.forget(kind, key)
     }
 
     /// Takes the item that is released next in this phase, if any is left: of those with the lowest
-    /// priority number the newest. It looks through all items, and takes no memory.
+    /// priority number the newest. It takes no memory.
+    ///
+    /// The first call of a phase that finds an item sorts all items; the others take constant time. Then
+    /// nothing is spare until `enlarge`.
     pub fn take_next<K: ExtKind>(&mut self, kinds: &KindShelf<K>, phase: Phase) -> Option<Item>
         requires { All (λ item. IsKind (table_of kinds.now) item.kind) self.old.items }
         ensures none { IsNone result ↔ (release_order (table_of kinds.now) phase self.old.items ≡ []) }
@@ -109,69 +110,6 @@ impl Items {
         ensures kinds { All (λ item. IsKind (table_of kinds.now) item.kind) self.new.items }
         ensures falling { AreFalling self.new.items }
     {
-        let place = next_of(&self.items, kinds, phase)?;
-        Some(self.items.remove(place))
+        self.held.take_next(kinds, phase)
     }
-}
-
-// The place of the newest item of this kind and key.
-fn newest_of(items: &[Item], kind: KindId, key: u32) -> Option<usize>
-    ensures { FindsNewest (is_of kind key) items.now result }
-{
-    for place in (0..items.len()).rev() {
-        if is_item_of(&items[place], kind, key) {
-            return Some(place);
-        }
-    }
-    None
-}
-
-fn is_item_of(item: &Item, kind: KindId, key: u32) -> bool
-    ensures { result ≡ is_of kind key item.now }
-{
-    item.kind.0 == kind.0 && item.key == key
-}
-
-// The place of the item that is released next in this phase.
-fn next_of<K: ExtKind>(items: &[Item], kinds: &KindShelf<K>, phase: Phase) -> Option<usize>
-    requires { All (λ item. IsKind (table_of kinds.now) item.kind) items.now }
-    ensures { FindsNext (is_of_phase (table_of kinds.now) phase) (priority (table_of kinds.now)) items.now result }
-{
-    let mut next = None;
-    let mut least = 0;
-    for (place, item) in items.iter().enumerate() {
-        if goes_before(item, kinds, phase, next.is_none(), least) {
-            next = Some(place);
-            least = priority_of_item(item, kinds);
-        }
-    }
-    next
-}
-
-// Whether the item is released before those older ones whose least priority number is this, if there are any.
-fn goes_before<K: ExtKind>(
-    item: &Item,
-    kinds: &KindShelf<K>,
-    phase: Phase,
-    first: bool,
-    least: u32,
-) -> bool
-    requires { IsKind (table_of kinds.now) item.now.kind }
-    ensures { result ≡ (is_of_phase (table_of kinds.now) phase item.now && (first || nat_le (priority (table_of kinds.now) item.now) least)) }
-{
-    is_item_of_phase(item, kinds, phase) && (first || priority_of_item(item, kinds) <= least)
-}
-
-fn is_item_of_phase<K: ExtKind>(item: &Item, kinds: &KindShelf<K>, phase: Phase) -> bool
-    requires { IsKind (table_of kinds.now) item.now.kind }
-    ensures { result ≡ is_of_phase (table_of kinds.now) phase item.now }
-{
-    kinds.phase(item.kind) == phase
-}
-
-fn priority_of_item<K: ExtKind>(item: &Item, kinds: &KindShelf<K>) -> u32
-    requires { IsKind (table_of kinds.now) item.now.kind }
-    ensures { result ≡ priority (table_of kinds.now) item.now }
-{
-    kinds.priority(item.kind)
 }

@@ -121,8 +121,17 @@ impl<K: ExtKind> KindShelf<K> {
         }
     }
 
+    /// When the items of the extension kinds are released, in their order.
+    pub fn rows(&self) -> &[KindRow]
+        ensures value { result.now ≡ (table_of self.now).rows }
+        ensures sound { IsSound (table_of self.now) }
+    {
+        &self.rows
+    }
+
+    /// When items of this kind are released, if there is such a kind.
     #[tactic(auto, unfolding(crate::specs::KindTable::row_of))]
-    fn row(&self, kind: KindId) -> Option<KindRow>
+    pub fn row(&self, kind: KindId) -> Option<KindRow>
         ensures row { result ≡ row_of (table_of self.now) kind }
         ensures sound { IsSound (table_of self.now) }
     {

@@ -8,6 +8,7 @@ mod kind_shelf;
 
 pub use counted_kind::CountedKind;
 pub use ext_kind::{ExtKind, KindError};
+pub use kind_row::KindRow;
 pub use kind_shelf::KindShelf;
 
 #[cfg(test)]

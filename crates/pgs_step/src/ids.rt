@@ -25,7 +25,7 @@ pub struct OwnerId {
 /// 1 to 8 are built in, in this order: buffer pin, relcache reference, catcache reference, catcache list
 /// reference, plan reference, tuple descriptor reference, snapshot reference, file. The extension kinds
 /// that the program is given are 16, 17 and so on, in the order in which it is given them.
-#[derive(Clone, Copy, Debug, PartialEq, Eq)]
+#[derive(Clone, Copy, Debug, Default, PartialEq, Eq)]
 pub struct KindId(pub u8);
 
 impl KindId {
@@ -59,7 +59,7 @@ pub enum Phase {
 
 /// A resource that an owner remembers: its kind, which of that kind it is, and its number in the order in
 /// which the session acquired its items, from 1.
-#[derive(Clone, Copy, Debug, PartialEq, Eq)]
+#[derive(Clone, Copy, Debug, Default, PartialEq, Eq)]
 pub struct Item {
     pub kind: KindId,
     pub key: u32,

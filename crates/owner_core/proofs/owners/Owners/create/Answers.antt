@@ -14,7 +14,7 @@ use Rattle.owner_core.specs.Owners.{Owner, OwnerTree, OwnerTable, Roomy, tree_of
 use Rattle.owner_core.specs.Released.{released, own_released}
 use Rattle.owner_core.specs.Sound.{IsSound}
 use Rattle.owner_core.proofs.Sounds.{once_of, fresh, newest, sound_created, sound_removed, sound_moved, sound_remembered, sound_forgotten, sound_released}
-use Rattle.owner_core.proofs.Tables.{at_tree, once_rooms, changed_to, changed_same, changed_back, tree_entered, tree_moved, tree_order}
+use Rattle.owner_core.proofs.Tables.{spare_entered, at_tree, once_rooms, changed_to, changed_same, changed_back, tree_entered, tree_moved, tree_order}
 use Rattle.owner_core.proofs.Releasing.{inside_tree}
 use Rattle.owner_core.proofs.owners.Owners.create.Goals as goal
 
@@ -64,3 +64,11 @@ returns-clause-too_many g c =
     let size_is : size (owners_of c.args.self.now) ≡ c.len.result =
     rw (← c.self.view_is) (mapped-size (λ (r : Roomy). r.owner) c.self.inside.nodes.forest ∙ sym c.len.ensures.value) in
     (λ e. absurd (cc e), λ h. absurd (omega arith))
+
+pub returns-clause-others : goal.returns-clause-others
+returns-clause-others g c other ne =
+    let parent : Option ℕ = option_map (λ p. p.number) c.args.parent in
+    ap (λ (x : Forest Roomy). option_map_or (λ (r : Roomy). r.spare) (at other x) 0) c.in-Some.ensures.forest
+    ∙ (spare_entered parent c.self.inside.next_owner other c.new.result c.self.inside.nodes.forest
+    (λ is. ne (is ∙ ap (λ (t : OwnerTable). t.next_owner) c.self.view_is))
+    ∙ ap (λ (t : OwnerTable). spare_of other t) c.self.view_is)

@@ -14,7 +14,7 @@ use Rattle.owner_core.specs.Owners.{Owner, OwnerTree, OwnerTable, Roomy, tree_of
 use Rattle.owner_core.specs.Released.{released, own_released}
 use Rattle.owner_core.specs.Sound.{IsSound}
 use Rattle.owner_core.proofs.Sounds.{once_of, fresh, newest, sound_created, sound_removed, sound_moved, sound_remembered, sound_forgotten, sound_released}
-use Rattle.owner_core.proofs.Tables.{at_tree, once_rooms, changed_to, changed_same, changed_back, tree_entered, tree_moved, tree_order, on_err, room_back}
+use Rattle.owner_core.proofs.Tables.{spare_other, at_tree, once_rooms, changed_to, changed_same, changed_back, tree_entered, tree_moved, tree_order, on_err, room_back}
 use Rattle.std.specs.Result.{OnOk, OnErr}
 use Rattle.owner_core.proofs.Releasing.{inside_tree}
 use Rattle.owner_core.proofs.owners.Owners.enlarge.Goals as goal
@@ -59,3 +59,9 @@ returns-clause-refused c =
     on_err c.enlarge.result _ _
     (λ e. room_back c.node_at.result.number c.get_mut.result.now c.enlarge.new.self table o c.get_mut.ensures.value e ∙ c.self.view_is)
     c.enlarge.ensures.refused
+
+pub returns-clause-others : goal.returns-clause-others
+returns-clause-others c other ne =
+    spare_other c.node_at.result.number other c.enlarge.new.self c.self.inside.nodes.forest
+    (λ is. ne (is ∙ ap (λ (x : NodeId). x.number) c.node_at.ensures))
+    ∙ ap (λ (t : OwnerTable). spare_of other t) c.self.view_is

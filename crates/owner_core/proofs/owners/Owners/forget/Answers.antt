@@ -14,7 +14,7 @@ use Rattle.owner_core.specs.Owners.{Owner, OwnerTree, OwnerTable, Roomy, tree_of
 use Rattle.owner_core.specs.Released.{released, own_released}
 use Rattle.owner_core.specs.Sound.{IsSound}
 use Rattle.owner_core.proofs.Sounds.{once_of, fresh, newest, sound_created, sound_removed, sound_moved, sound_remembered, sound_forgotten, sound_released}
-use Rattle.owner_core.proofs.Tables.{at_tree, once_rooms, changed_to, changed_same, changed_back, tree_entered, tree_moved, tree_order}
+use Rattle.owner_core.proofs.Tables.{spare_other, at_tree, once_rooms, changed_to, changed_same, changed_back, tree_entered, tree_moved, tree_order}
 use Rattle.owner_core.proofs.Releasing.{inside_tree}
 use Rattle.owner_core.proofs.owners.Owners.forget.Goals as goal
 use Rattle.owner_core.proofs.owners.Owners.forget.Given as given
@@ -103,3 +103,15 @@ returns-clause-owners g c =
     changed_to c.node_at.result.number (λ (x : Owner). record x { items = without_newest test x.items }) forest c.get_mut.result.now c.forget.new.self o c.get_mut.ensures.value c.in-Ok.ensures.rest
     ∙ ap (λ (x : NodeId). forgotten x.number c.args.kind c.args.key (tree_of forest)) c.node_at.ensures
     ∙ ap (λ (t : OwnerTable). forgotten c.args.owner.number c.args.kind c.args.key (owners_of t)) c.self.view_is
+
+pub returns-in-Err-clause-others : goal.returns-in-Err-clause-others
+returns-in-Err-clause-others g c other ne =
+    spare_other c.node_at.result.number other c.forget.new.self c.self.inside.nodes.forest
+    (λ is. ne (is ∙ ap (λ (x : NodeId). x.number) c.node_at.ensures))
+    ∙ ap (λ (t : OwnerTable). spare_of other t) c.self.view_is
+
+pub returns-clause-others : goal.returns-clause-others
+returns-clause-others g c other ne =
+    spare_other c.node_at.result.number other c.forget.new.self c.self.inside.nodes.forest
+    (λ is. ne (is ∙ ap (λ (x : NodeId). x.number) c.node_at.ensures))
+    ∙ ap (λ (t : OwnerTable). spare_of other t) c.self.view_is

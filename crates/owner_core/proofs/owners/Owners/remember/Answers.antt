@@ -14,7 +14,7 @@ use Rattle.owner_core.specs.Owners.{Owner, OwnerTree, OwnerTable, Roomy, tree_of
 use Rattle.owner_core.specs.Released.{released, own_released}
 use Rattle.owner_core.specs.Sound.{IsSound}
 use Rattle.owner_core.proofs.Sounds.{once_of, fresh, newest, sound_created, sound_removed, sound_moved, sound_remembered, sound_forgotten, sound_released}
-use Rattle.owner_core.proofs.Tables.{at_tree, once_rooms, changed_to, changed_same, changed_back, tree_entered, tree_moved, tree_order}
+use Rattle.owner_core.proofs.Tables.{spare_other, at_tree, once_rooms, changed_to, changed_same, changed_back, tree_entered, tree_moved, tree_order}
 use Rattle.owner_core.proofs.Releasing.{inside_tree}
 use Rattle.owner_core.proofs.owners.Owners.remember.Goals as goal
 
@@ -29,7 +29,7 @@ invariant_of-self g c =
     let o : Once forest = once_rooms forest (once_of _ _ _ c.self.invariant) in
     let item : Item = record { kind = c.args.kind; key = c.args.key; serial = c.self.inside.next_serial } in
     subst (λ (x : OwnerTree). IsSound x c.self.inside.next_owner (c.self.inside.next_serial + 1))
-    (sym (changed_to c.node_at.result.number (λ (x : Owner). record x { items = item ∷ x.items }) forest c.get_mut.result.now c.remember.new.self o c.get_mut.ensures.value c.remember.ensures))
+    (sym (changed_to c.node_at.result.number (λ (x : Owner). record x { items = item ∷ x.items }) forest c.get_mut.result.now c.remember.new.self o c.get_mut.ensures.value c.remember.ensures.owner))
     (sound_remembered c.node_at.result.number c.get_mut.result.now.owner item (tree_of forest) _ _ c.self.invariant (at_tree c.node_at.result.number forest c.get_mut.result.now c.get_mut.ensures.value) refl)
 
 pub returns-clause-owners : goal.returns-clause-owners
@@ -37,6 +37,24 @@ returns-clause-owners g c =
     let forest = c.self.inside.nodes.forest in
     let o : Once forest = once_rooms forest (once_of _ _ _ c.self.invariant) in
     let item : Item = record { kind = c.args.kind; key = c.args.key; serial = c.self.inside.next_serial } in
-    changed_to c.node_at.result.number (λ (x : Owner). record x { items = item ∷ x.items }) forest c.get_mut.result.now c.remember.new.self o c.get_mut.ensures.value c.remember.ensures
+    changed_to c.node_at.result.number (λ (x : Owner). record x { items = item ∷ x.items }) forest c.get_mut.result.now c.remember.new.self o c.get_mut.ensures.value c.remember.ensures.owner
     ∙ ap (λ (x : NodeId). remembered x.number item (tree_of forest)) c.node_at.ensures
     ∙ ap (λ (t : OwnerTable). remembered c.args.owner.number (record { kind = c.args.kind; key = c.args.key; serial = t.next_serial }) (owners_of t)) c.self.view_is
+
+pub returns-clause-others : goal.returns-clause-others
+returns-clause-others g c other ne =
+    spare_other c.node_at.result.number other c.remember.new.self c.self.inside.nodes.forest
+    (λ is. ne (is ∙ ap (λ (x : NodeId). x.number) c.node_at.ensures))
+    ∙ ap (λ (t : OwnerTable). spare_of other t) c.self.view_is
+
+pub returns-clause-spare : goal.returns-clause-spare
+returns-clause-spare g c =
+    let forest = c.self.inside.nodes.forest in
+    let now : spare_of c.args.owner.number c.args.self.now ≡ c.get_mut.result.now.spare =
+    ap (λ (t : OwnerTable). spare_of c.args.owner.number t) (sym c.self.view_is)
+    ∙ (ap (λ (x : NodeId). option_map_or (λ (r : Roomy). r.spare) (at x.number forest) 0) (sym c.node_at.ensures)
+    ∙ ap (λ (x : Option Roomy). option_map_or (λ (r : Roomy). r.spare) x 0) c.get_mut.ensures.value) in
+    let then : option_map_or (λ (r : Roomy). r.spare) (at c.args.owner.number (changed c.node_at.result.number (λ _. c.remember.new.self) forest)) 0 ≡ c.remember.new.self.spare =
+    ap (λ (x : NodeId). option_map_or (λ (r : Roomy). r.spare) (at x.number (changed c.node_at.result.number (λ _. c.remember.new.self) forest)) 0) (sym c.node_at.ensures)
+    ∙ ap (λ (x : Option Roomy). option_map_or (λ (r : Roomy). r.spare) x 0) (at_changed c.node_at.result.number (λ _. c.remember.new.self) forest c.get_mut.result.now c.get_mut.ensures.value) in
+    omega (arith, now, then, c.remember.ensures.spare)

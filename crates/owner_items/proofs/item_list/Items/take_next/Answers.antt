@@ -1,71 +1,67 @@
-use Rattle.std.proofs.Common.{◌≡◌, [], reverse, ap, subst, refl}
+use Rattle.std.proofs.Common.{◌≡◌, ◌∙◌, IfNone, ap, subst}
 use Rattle.owner_kinds.specs.KindTable.{IsKind}
 use Rattle.owner_kinds.specs.KindShelf.{table_of}
 use Rattle.owner_items.specs.ItemList.{AreFalling}
-use Rattle.owner_items.specs.Next.{is_of_phase, priority, release_order}
-use Rattle.owner_items.proofs.Order.{IsSplit, take_out, order-next, order-nothing, nothing-left, split-All, split-falling, split-rest, split-left, not_both, next_passes}
-use Rattle.owner_items.proofs.Taken.{all_oldest_first}
+use Rattle.owner_items.specs.Held.{items_of}
+use Rattle.owner_items.proofs.Released.{Takes, takes-none, takes-order, takes-rest, takes-left, takes-done, takes-All, none-map}
 use Rattle.owner_items.proofs.item_list.Items.take_next.Goals as goal
 
-pub next_of-requires : goal.next_of-requires
-next_of-requires g c =
-    rw c.deref.ensures.value
-    (all_oldest_first (λ item. IsKind (table_of c.args.kinds.now) item.kind) c.self.inside.items.items _
-    (ap (λ z. z.items) c.self.view_is) c.requires)
-
-nothing_here :
-    (g : _) (c : goal.After-from_residual g) → release_order (table_of c.args.kinds.now) c.args.phase c.args.self.now.items ≡ []
-nothing_here g c =
-    subst (λ z. release_order (table_of c.args.kinds.now) c.args.phase z.items ≡ []) c.self.view_is
-    (order-nothing (is_of_phase (table_of c.args.kinds.now) c.args.phase) (priority (table_of c.args.kinds.now)) c.self.inside.items.items
-    (rw c.deref.ensures.value at c.in_err-place.ensures))
-
-pub returns-in_err-place-clause-none : goal.returns-in_err-place-clause-none
-returns-in_err-place-clause-none g c = rw c.from_residual.ensures (λ _. nothing_here g c, λ _. refl)
-
-pub returns-in_err-place-clause-done : goal.returns-in_err-place-clause-done
-returns-in_err-place-clause-done g c =
-    rw c.from_residual.ensures
-    (nothing-left (is_of_phase (table_of c.args.kinds.now) c.args.phase) (priority (table_of c.args.kinds.now)) c.args.self.now.items
-    (nothing_here g c))
-
-split_here : (g : _) (c : goal.After-remove g) → IsSplit c.args.self.now.items c.remove.result (reverse c.remove.new.self.items)
-split_here g c =
-    rw (← c.self.view_is, c.remove.ensures.items)
-    (take_out c.self.inside.items.items c.in_ok-place.place c.remove.result
-    (rw c.deref.ensures.value at c.in_ok-place.ensures).within c.remove.ensures.value)
-
-falling_here : (g : _) (c : goal.After-remove g) → AreFalling c.args.self.now.items
-falling_here g c = subst (λ z. AreFalling z.items) c.self.view_is c.self.invariant
+pub returns-clause-none : goal.returns-clause-none
+returns-clause-none g c =
+    let is : items_of c.self.inside.held ≡ c.args.self.now.items = ap (λ z. z.items) c.self.view_is in
+    let takes : Takes (table_of c.args.kinds.now) c.args.phase c.args.self.now.items c.take_next.result (items_of c.take_next.new.self) =
+    subst (λ z. Takes (table_of c.args.kinds.now) c.args.phase z c.take_next.result (items_of c.take_next.new.self)) is c.take_next.ensures.next
+    in
+    takes-none (table_of c.args.kinds.now) c.args.phase c.args.self.now.items c.take_next.result (items_of c.take_next.new.self) takes
 
 pub returns-clause-order : goal.returns-clause-order
 returns-clause-order g c =
-    rw (← c.self.view_is, c.remove.ensures.items)
-    (order-next (is_of_phase (table_of c.args.kinds.now) c.args.phase) (priority (table_of c.args.kinds.now)) c.self.inside.items.items
-    c.in_ok-place.place c.remove.result (rw c.deref.ensures.value at c.in_ok-place.ensures) c.remove.ensures.value)
-
-pub returns-clause-none : goal.returns-clause-none
-returns-clause-none g c = not_both _ _ _ (returns-clause-order g c)
+    let is : items_of c.self.inside.held ≡ c.args.self.now.items = ap (λ z. z.items) c.self.view_is in
+    let takes : Takes (table_of c.args.kinds.now) c.args.phase c.args.self.now.items c.take_next.result (items_of c.take_next.new.self) =
+    subst (λ z. Takes (table_of c.args.kinds.now) c.args.phase z c.take_next.result (items_of c.take_next.new.self)) is c.take_next.ensures.next
+    in
+    let same : IfNone c.take_next.result (items_of c.take_next.new.self ≡ c.args.self.now.items) =
+    none-map c.take_next.result (λ e. ap items_of e ∙ is) c.take_next.ensures.unchanged
+    in
+    takes-order (table_of c.args.kinds.now) c.args.phase c.args.self.now.items c.take_next.result (items_of c.take_next.new.self) takes same
 
 pub returns-clause-rest : goal.returns-clause-rest
 returns-clause-rest g c =
-    split-rest c.args.self.now.items c.remove.result (reverse c.remove.new.self.items) (split_here g c) (falling_here g c)
+    let is : items_of c.self.inside.held ≡ c.args.self.now.items = ap (λ z. z.items) c.self.view_is in
+    let takes : Takes (table_of c.args.kinds.now) c.args.phase c.args.self.now.items c.take_next.result (items_of c.take_next.new.self) =
+    subst (λ z. Takes (table_of c.args.kinds.now) c.args.phase z c.take_next.result (items_of c.take_next.new.self)) is c.take_next.ensures.next
+    in
+    takes-rest (table_of c.args.kinds.now) c.args.phase c.args.self.now.items c.take_next.result (items_of c.take_next.new.self) takes (subst AreFalling is c.self.invariant.falling)
 
 pub returns-clause-left : goal.returns-clause-left
 returns-clause-left g c =
-    split-left (is_of_phase (table_of c.args.kinds.now) c.args.phase) c.args.self.now.items c.remove.result
-    (reverse c.remove.new.self.items) (split_here g c)
-    (next_passes (is_of_phase (table_of c.args.kinds.now) c.args.phase) (priority (table_of c.args.kinds.now)) c.self.inside.items.items
-    c.in_ok-place.place c.remove.result (rw c.deref.ensures.value at c.in_ok-place.ensures) c.remove.ensures.value)
+    let is : items_of c.self.inside.held ≡ c.args.self.now.items = ap (λ z. z.items) c.self.view_is in
+    let takes : Takes (table_of c.args.kinds.now) c.args.phase c.args.self.now.items c.take_next.result (items_of c.take_next.new.self) =
+    subst (λ z. Takes (table_of c.args.kinds.now) c.args.phase z c.take_next.result (items_of c.take_next.new.self)) is c.take_next.ensures.next
+    in
+    let same : IfNone c.take_next.result (items_of c.take_next.new.self ≡ c.args.self.now.items) =
+    none-map c.take_next.result (λ e. ap items_of e ∙ is) c.take_next.ensures.unchanged
+    in
+    takes-left (table_of c.args.kinds.now) c.args.phase c.args.self.now.items c.take_next.result (items_of c.take_next.new.self) takes same
+
+pub returns-clause-done : goal.returns-clause-done
+returns-clause-done g c =
+    let is : items_of c.self.inside.held ≡ c.args.self.now.items = ap (λ z. z.items) c.self.view_is in
+    let takes : Takes (table_of c.args.kinds.now) c.args.phase c.args.self.now.items c.take_next.result (items_of c.take_next.new.self) =
+    subst (λ z. Takes (table_of c.args.kinds.now) c.args.phase z c.take_next.result (items_of c.take_next.new.self)) is c.take_next.ensures.next
+    in
+    let same : IfNone c.take_next.result (items_of c.take_next.new.self ≡ c.args.self.now.items) =
+    none-map c.take_next.result (λ e. ap items_of e ∙ is) c.take_next.ensures.unchanged
+    in
+    takes-done (table_of c.args.kinds.now) c.args.phase c.args.self.now.items c.take_next.result (items_of c.take_next.new.self) takes same
 
 pub returns-clause-kinds : goal.returns-clause-kinds
 returns-clause-kinds g c =
-    split-All (λ item. IsKind (table_of c.args.kinds.now) item.kind) c.args.self.now.items c.remove.result
-    (reverse c.remove.new.self.items) (split_here g c) c.requires
-
-pub returns-clause-falling : goal.returns-clause-falling
-returns-clause-falling g c =
-    split-falling c.args.self.now.items c.remove.result (reverse c.remove.new.self.items) (split_here g c) (falling_here g c)
-
-pub invariant_of-self : goal.invariant_of-self
-invariant_of-self g c = returns-clause-falling g c
+    let is : items_of c.self.inside.held ≡ c.args.self.now.items = ap (λ z. z.items) c.self.view_is in
+    let takes : Takes (table_of c.args.kinds.now) c.args.phase c.args.self.now.items c.take_next.result (items_of c.take_next.new.self) =
+    subst (λ z. Takes (table_of c.args.kinds.now) c.args.phase z c.take_next.result (items_of c.take_next.new.self)) is c.take_next.ensures.next
+    in
+    let same : IfNone c.take_next.result (items_of c.take_next.new.self ≡ c.args.self.now.items) =
+    none-map c.take_next.result (λ e. ap items_of e ∙ is) c.take_next.ensures.unchanged
+    in
+    takes-All (λ item. IsKind (table_of c.args.kinds.now) item.kind) (table_of c.args.kinds.now) c.args.phase c.args.self.now.items c.take_next.result (items_of c.take_next.new.self) takes same c.requires

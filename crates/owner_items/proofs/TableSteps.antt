@@ -1,0 +1,134 @@
+-- What stays true of a table, as items come and go.
+use Rattle.std.proofs.Common.{◌≡◌, ℕ, ◌+◌, ◌-◌, ◌<◌, ◌≤◌, suc, Bool, true, false, cond, ◌&&◌, ◌==◌, List, [], ◌∷◌, ◌++◌, length, reverse, get_or, set, find, Option, Some, refl, sym, ◌∙◌, ap, subst, arith}
+use Rattle.pgs_step.specs.declared.ids.KindId.{KindId}
+use Rattle.pgs_step.specs.declared.ids.Item.{Item}
+use Rattle.owner_items.specs.declared.entry.Entry.{Entry}
+use Rattle.owner_items.specs.declared.index.Slot.{Slot}
+use Rattle.owner_items.specs.ItemList.{is_of, without_newest}
+use Rattle.owner_items.specs.Index.{IsIndex, number_in}
+use Rattle.owner_items.specs.Table.{live_items, newest_in, AreLinked, IsTable}
+use Rattle.owner_items.proofs.Linked.{forgotten, found_in, Found, forgotten-items, forgotten-linked, reverse-back, reverse-length, reverse-front, same_pair, is_of-kind, is_of-key}
+
+abbrev pub entry_of : Item → Option ℕ → Entry
+entry_of item older = record { item = item; older = older; live = true }
+
+pub push-table :
+    (entries : List Entry) (live : ℕ) (slots slots' : List Slot) (used used' : ℕ) (item : Item) (older : Option ℕ) →
+    IsTable entries live slots used → used + 1 < length slots → older ≡ number_in item.kind item.key slots →
+    IsIndex slots' used' → length slots' ≡ length slots → used' ≤ used + 1 →
+    ((other : KindId) (q : ℕ) →
+    number_in other q slots'
+    ≡ cond ((item.kind.0 == other.0) && (item.key == q)) (Some (length entries)) (number_in other q slots)) →
+    IsTable (entries ++ entry_of item older ∷ []) (live + 1) slots' used'
+push-table entries live slots slots' used used' item older table room is index same few numbers =
+    record {
+      linked =
+          rw (reverse-back entries (entry_of item older))
+          (λ _. is ∙ table.numbers item.kind item.key, table.linked);
+      indexed = index;
+      numbers =
+          λ other q.
+          rw (reverse-back entries (entry_of item older), reverse-length entries)
+          (numbers other q
+          ∙ ap (λ v. cond ((item.kind.0 == other.0) && (item.key == q)) (Some (length entries)) v) (table.numbers other q));
+      counted = rw (reverse-back entries (entry_of item older)) (omega (arith, table.counted));
+      roomy = λ some. omega arith;
+    }
+
+pub push-items :
+    (entries : List Entry) (item : Item) (older : Option ℕ) →
+    live_items (reverse (entries ++ entry_of item older ∷ [])) ≡ item ∷ live_items (reverse entries)
+push-items entries item older = rw (reverse-back entries (entry_of item older)) refl
+
+-- the item that the index leads to
+pub found_here :
+    (entries : List Entry) (live : ℕ) (slots : List Slot) (used : ℕ) (kind : KindId) (key n : ℕ) →
+    IsTable entries live slots used → Some n ≡ number_in kind key slots →
+    Found (is_of kind key) (reverse entries) n
+found_here entries live slots used kind key n table is =
+    found_in (is_of kind key) (reverse entries) n (sym (table.numbers kind key) ∙ sym is)
+
+reverse-twice : (xs : List Entry) → reverse (reverse xs) ≡ xs
+reverse-twice [] = refl
+reverse-twice (x ∷ xs) = ap reverse (reverse-front x xs) ∙ (reverse-back (reverse xs) x ∙ ap (λ z. x ∷ z) (reverse-twice xs))
+
+pub entry_here :
+    (entries : List Entry) (kind : KindId) (key n : ℕ) (e : Entry) → (found : Found (is_of kind key) (reverse entries) n) →
+    e ≡ get_or entries n e → e ≡ found.0
+entry_here entries kind key n e found is =
+    is ∙ subst (λ z. get_or z n e ≡ found.0) (reverse-twice entries) (found.1.here e)
+
+pub some_slots : (kind : KindId) (key n : ℕ) (slots : List Slot) → Some n ≡ number_in kind key slots → 0 < length slots
+some_slots kind key n [] is = absurd cc
+some_slots kind key n (s ∷ slots) is = omega arith
+
+pub after-forget :
+    (entries : List Entry) (kind : KindId) (key n : ℕ) (found : Found (is_of kind key) (reverse entries) n) →
+    reverse (set entries n (record found.0 { live = false })) ≡ forgotten (is_of kind key) (reverse entries)
+after-forget entries kind key n found =
+    ap reverse (subst (λ z. set z n (record found.0 { live = false }) ≡ reverse (forgotten (is_of kind key) (reverse entries))) (reverse-twice entries) found.1.after)
+    ∙ reverse-twice (forgotten (is_of kind key) (reverse entries))
+
+pub found-length : (test : Item → Bool) (xs : List Item) (x : Item) → find test xs ≡ Some x → length (without_newest test xs) + 1 ≡ length xs
+found-length test [] x found = absurd cc
+found-length test (y ∷ ys) x found =
+    let cases : (b : Bool) → test y ≡ b → cond b (Some y) (find test ys) ≡ Some x → length (cond b ys (y ∷ without_newest test ys)) + 1 ≡ suc (length ys) = elim [
+      | true ↦ λ is same. omega arith
+      | false ↦ λ is same. omega (arith, found-length test ys x same)
+    ] in
+    cases (test y) refl found
+
+pair_is_of : (kind other : KindId) (key q : ℕ) (x : Item) → is_of kind key x ≡ true → is_of other q x ≡ ((kind.0 == other.0) && (key == q))
+pair_is_of kind other key q x is =
+    ap (λ k. (k.0 == other.0) && (x.key == q)) (is_of-kind kind key x is)
+    ∙ ap (λ z. (kind.0 == other.0) && (z == q)) (is_of-key kind key x is)
+
+number_after :
+    (es : List Entry) (kind other : KindId) (key q n : ℕ) (found : Found (is_of kind key) es n) → AreLinked es → (old : Option ℕ) →
+    old ≡ newest_in (is_of other q) es →
+    cond ((kind.0 == other.0) && (key == q)) found.0.older old ≡ newest_in (is_of other q) (forgotten (is_of kind key) es)
+number_after es kind other key q n found linked old was =
+    let cases :
+    (b : Bool) → ((kind.0 == other.0) && (key == q)) ≡ b →
+    cond b found.0.older old ≡ newest_in (is_of other q) (forgotten (is_of kind key) es) =
+    elim [
+      | true ↦ λ same.
+          let that : is_of other q found.0.item ≡ true =
+          pair_is_of kind other key q found.0.item found.1.passes ∙ same
+          in
+          let tests : is_of kind key ≡ is_of other q =
+          sym (same_pair kind key found.0.item found.1.passes) ∙ same_pair other q found.0.item that
+          in
+          sym (found.1.next linked (same_pair kind key found.0.item found.1.passes))
+          ∙ ap (λ t. newest_in t (forgotten (is_of kind key) es)) tests
+      | false ↦ λ differ.
+          was
+          ∙ sym (found.1.unseen (is_of other q)
+          (λ y that. pair_is_of kind other key q y that ∙ differ))
+    ]
+    in
+    cases ((kind.0 == other.0) && (key == q)) refl
+
+pub forget-table :
+    (entries : List Entry) (live : ℕ) (slots slots' : List Slot) (used used' : ℕ) (kind : KindId) (key n : ℕ) →
+    (found : Found (is_of kind key) (reverse entries) n) → IsTable entries live slots used →
+    Some n ≡ number_in kind key slots → IsIndex slots' used' → length slots' ≡ length slots → used' ≡ used →
+    ((other : KindId) (q : ℕ) →
+    number_in other q slots' ≡ cond ((kind.0 == other.0) && (key == q)) found.0.older (number_in other q slots)) →
+    IsTable (set entries n (record found.0 { live = false })) (live - 1) slots' used'
+forget-table entries live slots slots' used used' kind key n found table is index same as_many numbers =
+    record {
+      linked =
+          rw (after-forget entries kind key n found)
+          (forgotten-linked kind key (reverse entries) n (sym (table.numbers kind key) ∙ sym is) table.linked);
+      indexed = index;
+      numbers =
+          λ other q.
+          rw (after-forget entries kind key n found)
+          (numbers other q
+          ∙ number_after (reverse entries) kind other key q n found table.linked (number_in other q slots) (table.numbers other q));
+      counted =
+          rw (after-forget entries kind key n found, forgotten-items (is_of kind key) (reverse entries))
+          (omega (arith, table.counted, found-length (is_of kind key) (live_items (reverse entries)) found.0.item found.1.first));
+      roomy = λ some. omega (arith, table.roomy);
+    }

@@ -1,0 +1,50 @@
+use Rattle.std.proofs.Common.{◌≡◌, ◌∙◌, sym, ap, Bool, true, ◌&&◌, ◌==◌, List, [], ◌∷◌, refl, arith}
+use lib.Pointwise.{pointwise}
+use denote.Enum.Bare.{sameb}
+use Rattle.std.proofs.lemmas.Bool.Decides.{nat_tests}
+use Rattle.pgs_step.specs.contracts.ids.Phase.{the_type}
+use Rattle.pgs_step.specs.declared.ids.Phase.{Phase}
+use Rattle.pgs_step.specs.declared.ids.Phase.TheVariants.{BeforeLocks, Locks, AfterLocks}
+use Rattle.owner_kinds.specs.declared.kind_row.KindRow.{KindRow}
+use Rattle.owner_kinds.specs.KindTable.{row}
+use Rattle.owner_items.proofs.Linked.{left-of, right-of}
+use Rattle.owner_items.proofs.ranking.Order.is_for.Goals as goal
+
+same_phases : (a b : Phase) → sameb the_type a b ≡ true → a ≡ b
+same_phases BeforeLocks BeforeLocks is = refl
+same_phases BeforeLocks Locks is = absurd cc
+same_phases BeforeLocks AfterLocks is = absurd cc
+same_phases Locks BeforeLocks is = absurd cc
+same_phases Locks Locks is = refl
+same_phases Locks AfterLocks is = absurd cc
+same_phases AfterLocks BeforeLocks is = absurd cc
+same_phases AfterLocks Locks is = absurd cc
+same_phases AfterLocks AfterLocks is = refl
+
+same_row : (x y : KindRow) → (sameb the_type x.phase y.phase && (x.priority == y.priority)) ≡ true → x ≡ y
+same_row x y is =
+    let phases : x.phase ≡ y.phase =
+    same_phases x.phase y.phase (left-of (sameb the_type x.phase y.phase) (x.priority == y.priority) is)
+    in
+    let priorities : x.priority ≡ y.priority =
+    grind (arith, nat_tests, right-of (sameb the_type x.phase y.phase) (x.priority == y.priority) is)
+    in
+    let first : row x.phase x.priority ≡ row y.phase x.priority = ap (λ p. row p x.priority) phases in
+    let second : row y.phase x.priority ≡ row y.phase y.priority = ap (λ n. row y.phase n) priorities in
+    first ∙ second
+
+same_rows :
+    (E : KindRow → KindRow → Bool) → ((x y : KindRow) → E x y ≡ true → x ≡ y) → (xs ys : List KindRow) → pointwise E xs ys ≡ true →
+    xs ≡ ys
+same_rows E same [] [] is = refl
+same_rows E same [] (y ∷ ys) is = absurd cc
+same_rows E same (x ∷ xs) [] is = absurd cc
+same_rows E same (x ∷ xs) (y ∷ ys) is =
+    ap (λ z. z ∷ xs) (same x y (left-of (E x y) (pointwise E xs ys) is))
+    ∙ ap (λ z. y ∷ z) (same_rows E same xs ys (right-of (E x y) (pointwise E xs ys) is))
+
+pub returns-then-eq-clause-rows : goal.returns-then-eq-clause-rows
+returns-then-eq-clause-rows g c that =
+    sym c.as_slice.ensures.value
+    ∙ (same_rows _ (λ x y is. same_row x y is) c.as_slice.result.now c.rows.result.now (sym c.eq-then-eq.ensures ∙ that)
+    ∙ c.rows.ensures.value)
