@@ -1,23 +1,22 @@
 -- What the calls of an arena make of its slots.
-use Rattle.std.proofs.Common.{◌≡◌, ◌≢◌, ◌⊎◌, ℕ, zero, suc, ◌+◌, ◌≤◌, Bool, true, false, Option, Some, None, List, [], ◌∷◌, set, is_some, count_by, get_or, subst, refl, sym, ap, ◌∙◌, inl, inr, arith, eqb, cond}
-use Rattle.std.specs.Prelude.{◌==◌, MatchOption, IfSome, IsSome}
-use Rattle.std.specs.Option.{option_map_or}
-use Rattle.std.proofs.lemmas.Bool.{cases_eq, cases_Bool, both_ways, false_from_ne_true, eq-eqb}
+use Rattle.std.proofs.Common.{◌≡◌, ◌≢◌, ℕ, zero, suc, ◌+◌, Bool, true, false, Option, Some, None, List, [], ◌∷◌, set, is_some, count_by, get_or, subst, refl, sym, ap, ◌∙◌, inl, inr, arith, cond}
+use Rattle.std.specs.Prelude.{◌==◌, IfSome}
+use Rattle.std.proofs.lemmas.Bool.{cases_Bool, both_ways, false_from_ne_true}
 use Rattle.std.proofs.lemmas.List.Sums.{sum_by-cons}
 use Rattle.slab.specs.Slab.{Slab, get, slab_len, ContainsKey, Updates, with_value}
 use Rattle.slab.proofs.SlabLemmas.{Updates-with_value}
 use Rattle.forest.specs.Forest.{Forest, Empty, Node, has, Once, size, at, first, children, is_root, parent_of, put, removed, changed, moved}
-use Rattle.forest.specs.Forested.{Forested, IsPlaced, Named}
-use Rattle.forest.specs.Links.{Entry, entry_of, linked, built, IsLinked, by_number, values, slots, forested, IsSound, seen}
+use Rattle.forest.specs.Forested.{Forested, IsPlaced}
+use Rattle.forest.specs.Links.{Entry, entry_of, linked, IsLinked, by_number, values, slots, forested, IsSound, seen}
 use Rattle.forest.specs.Edits.{Sets, SetsPrevious, Skips}
 use Rattle.forest.specs.declared.id.NodeId.{NodeId}
 use Rattle.forest.specs.declared.links.Linked.{Linked}
 use Rattle.forest.proofs.Trees
 use Rattle.forest.proofs.Trees.{has_first, first_child_other, once_put, once_front, once_removed, once_moved, size_put, size_removed, size_moved, removed_has, has_of_removed, left_apart, Moves, parent_stays, first_removed, has_changed, once_changed, size_changed, first_changed}
-use Rattle.forest.proofs.Linking.{Look, frame, relink, attach, detach, Past, Near, near, first_inside, differs, children_linked, child_is, head_is, cases_first, linked_changed}
-use Rattle.forest.proofs.Numbers.{Agree, has_by, times_by, size_by, empty_by, has_agreed, children_agreed, removed_agreed, put_agreed, at_agreed, agree_at, placed_has, valued, values_changed, slots_changed}
-use Rattle.forest.proofs.Neighbours.{Names, names_first, node_at, IsNode, node_is, placed_at, parent_root}
-use Rattle.forest.proofs.Seen.{seen_from, seen_is, Stands, stands_at}
+use Rattle.forest.proofs.Linking.{frame, relink, attach, detach, Past, Near, near, first_inside, differs, children_linked, child_is, head_is, cases_first, linked_changed}
+use Rattle.forest.proofs.Numbers.{Agree, has_agreed, children_agreed, removed_agreed, put_agreed, at_agreed, valued, values_changed, slots_changed}
+use Rattle.forest.proofs.Neighbours.{Names, node_at, IsNode, node_is, parent_root}
+use Rattle.forest.proofs.Seen.{seen_from, seen_is, vacant_is, Stands, stands_at}
 
 pub if_some : (o : Option ℕ) (P : ℕ → Type 0) → ((s : ℕ) → o ≡ Some s → P s) → IfSome o P
 if_some None P h = tt
@@ -50,7 +49,7 @@ module _ {T : Type 0} where
   pub sound_of : (nodes : Slab (Linked T)) (link : Option ℕ) (t : Forest (Entry T)) → Builds nodes link t → IsSound nodes link
   sound_of nodes link t b = record { tree = t; linked = b.linked; front = b.front; by_slot = b.by_slot; by_number = b.by_number; count = b.count }
 
-  pub seen_built : (nodes : Slab (Linked T)) (link : Option ℕ) (t : Forest (Entry T)) → Builds nodes link t → seen nodes link ≡ forested t
+  pub seen_built : (nodes : Slab (Linked T)) (link : Option ℕ) (t : Forest (Entry T)) → Builds nodes link t → seen nodes link ≡ forested nodes.vacant_key t
   seen_built nodes link t b = seen_from nodes link t b.linked b.front b.count
 
   -- a slot without a node is none of the forest's
@@ -410,4 +409,4 @@ module _ {T : Type 0} where
       let forest : values (changed v (valued w) s.tree) ≡ changed n (λ _. w) f.forest =
       values_changed v n w s.tree agree ∙ ap (λ (x : Forest T). changed n (λ _. w) x) (forest_is nodes link f s view) in
       let places : slots (changed v (valued w) s.tree) ≡ f.places = slots_changed v w s.tree ∙ places_are nodes link f s view in
-      seen_built _ _ _ (written nodes link v n w l s h agree g) ∙ rw (forest, places) refl
+      seen_built _ _ _ (written nodes link v n w l s h agree g) ∙ rw (forest, places, vacant_is nodes link f view) refl

@@ -5,4 +5,6 @@ pub mod Neighbours
 pub mod Seen
 pub mod Calls
 pub mod Walks
+pub mod Preorders
+pub mod Moved
 pub mod Mapped

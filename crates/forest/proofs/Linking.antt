@@ -1,12 +1,11 @@
 -- Forests by slots whose nodes are linked with their neighbours, and what writes of links make of them.
-use Rattle.std.proofs.Common.{◌≡◌, ◌≢◌, ◌⊎◌, ℕ, zero, suc, ◌+◌, ◌≤◌, Bool, true, false, Option, Some, None, refl, sym, ap, ◌∙◌, inl, inr, arith, eqb, cond}
-use Rattle.std.specs.Prelude.{◌==◌, ◌||◌, if◌then◌else◌}
-use Rattle.std.proofs.lemmas.Bool.{cases_eq, cases_Bool, eq-eqb, ne_eqb, eqb-false, or_parts, both_ways, or_right, or_left}
-use Rattle.slab.specs.Slab.{Slab, get}
-use Rattle.forest.specs.Forest.{Forest, Empty, Node, has, Once, size, at, first, children, put, removed, changed}
+use Rattle.std.proofs.Common.{◌≡◌, ◌≢◌, ◌⊎◌, ℕ, zero, suc, ◌≤◌, true, false, Option, Some, None, refl, sym, ap, ◌∙◌, inl, inr, arith}
+use Rattle.std.specs.Prelude.{◌==◌, ◌||◌}
+use Rattle.std.proofs.lemmas.Bool.{cases_eq, eq-eqb, eqb-false, or_parts, both_ways, or_right, or_left}
+use Rattle.forest.specs.Forest.{Forest, Empty, Node, has, Once, size, first, children, put, removed, changed}
 use Rattle.forest.specs.Links.{Entry, entry_of, linked, built, IsLinked}
 use Rattle.forest.specs.declared.links.Linked.{Linked}
-use Rattle.forest.proofs.Trees.{Apart, apart_of, Where, Here, Below, Beside, where_is, removed_absent, put_absent, changed_absent, children_absent, first_put, first_removed, first_changed, has_first, has_children, has_of_removed}
+use Rattle.forest.proofs.Trees.{Apart, apart_of, Here, Below, Beside, where_is, removed_absent, put_absent, changed_absent, first_put, first_removed, first_changed, has_first, has_children, has_of_removed}
 
 abbrev pub Look : Type 0 → Type 0
 Look T = ℕ → Option (Linked T)

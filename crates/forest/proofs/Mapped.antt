@@ -1,11 +1,11 @@
 -- Forests with other data.
-use Rattle.std.proofs.Common.{◌≡◌, ◌≢◌, ◌⊎◌, ℕ, ◌+◌, ◌≤◌, Bool, true, false, Option, Some, None, List, [], ◌∷◌, ◌++◌, refl, sym, ap, ◌∙◌, inl, inr, arith, eqb, cond, append_assoc}
-use Rattle.std.specs.Prelude.{◌==◌, ◌||◌, if◌then◌else◌}
-use Rattle.std.specs.Option.{option_map, option_map_or}
-use Rattle.std.proofs.lemmas.Bool.{cases_eq, cases_Bool, eq-eqb, ne_eqb, eqb-true, both_ways}
-use Rattle.forest.specs.Forest.{Forest, Empty, Node, either, has, times, Once, size, at, first, children, is_root, parent_of, put, removed, changed, moved, mapped, subtree, AllNodes}
-use Rattle.forest.specs.Walk.{order, order_at, lead, follows, after, todo, all_changed, swept}
-use Rattle.forest.proofs.Trees.{Apart, apart_of, Where, Here, Below, Beside, where_is, at_absent, at_some, has_at, changed_absent, children_absent, has_changed}
+use Rattle.std.proofs.Common.{◌≡◌, ◌≢◌, ℕ, true, false, Option, Some, None, refl, sym, ap, ◌∙◌, inl, inr}
+use Rattle.std.specs.Prelude.{◌==◌}
+use Rattle.std.specs.Option.{option_map}
+use Rattle.std.proofs.lemmas.Bool.{cases_Bool, ne_eqb, eqb-true}
+use Rattle.forest.specs.Forest.{Forest, Empty, Node, either, has, times, Once, size, at, children, is_root, parent_of, put, removed, changed, moved, mapped}
+use Rattle.forest.specs.Walk.{order, lead, follows}
+use Rattle.forest.proofs.Trees.{Apart, apart_of, at_absent, at_some, has_at, changed_absent, has_changed}
 
 module _ {A B : Type 0} (f : A → B) where
   pub mapped-has : (n : ℕ) (t : Forest A) → has n (mapped f t) ≡ has n t
@@ -87,6 +87,13 @@ module _ {A B : Type 0} (f : A → B) where
           | inr u ↦ rw (y, mapped-has n below, u) (mapped-children n beside)
         ]
       ]
+
+  pub mapped-moved : (n p : ℕ) (t : Forest A) → mapped f (moved n p t) ≡ moved n p (mapped f t)
+  mapped-moved n p t = go (at n t) refl
+    where
+      go : (o : Option A) → at n t ≡ o → mapped f (moved n p t) ≡ moved n p (mapped f t)
+      go None e = rw (e, mapped-at n t) (rw e refl)
+      go (Some a) e = rw (e, mapped-at n t) (rw e (mapped-put p n a (children n t) (removed n t) ∙ rw (mapped-children n t, mapped-removed n t) refl))
 
   pub mapped-root : (n : ℕ) (t : Forest A) → is_root n (mapped f t) ≡ is_root n t
   mapped-root n Empty = refl

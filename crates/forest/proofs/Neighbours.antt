@@ -1,11 +1,11 @@
 -- What the links of a node name.
-use Rattle.std.proofs.Common.{◌≡◌, ◌≢◌, ◌⊎◌, ℕ, ◌+◌, ◌≤◌, Bool, true, false, Option, Some, None, refl, sym, ap, ◌∙◌, inl, inr, arith, eqb, cond}
-use Rattle.std.specs.Prelude.{◌==◌, ◌||◌, if◌then◌else◌, MatchOption}
-use Rattle.std.proofs.lemmas.Bool.{cases_eq, cases_Bool, eq-eqb, ne_eqb, eqb-true, eqb-false, or_parts, or_cases, or_left, or_right, both_ways, false_from_ne_true}
-use Rattle.forest.specs.Forest.{Forest, Empty, Node, either, has, Once, at, first, children, next_of, is_root, parent_of}
-use Rattle.forest.specs.Links.{Entry, entry_of, linked, IsLinked, by_number, values, slots}
+use Rattle.std.proofs.Common.{◌≡◌, ◌⊎◌, ℕ, true, false, Option, Some, None, refl, sym, ap, ◌∙◌, inl, inr}
+use Rattle.std.specs.Prelude.{◌==◌, ◌||◌, MatchOption}
+use Rattle.std.proofs.lemmas.Bool.{cases_eq, cases_Bool, eq-eqb, ne_eqb, eqb-true, or_parts, or_cases, or_left, or_right, both_ways, false_from_ne_true}
+use Rattle.forest.specs.Forest.{Forest, Empty, Node, has, Once, at, first, children, next_of, is_root, parent_of}
+use Rattle.forest.specs.Links.{Entry, entry_of, linked, IsLinked, values, slots}
 use Rattle.forest.specs.declared.links.Linked.{Linked}
-use Rattle.forest.proofs.Trees.{Apart, apart_of, Where, Here, Below, Beside, where_is, at_some, at_absent, has_at, has_first}
+use Rattle.forest.proofs.Trees.{Apart, apart_of, Here, Below, Beside, where_is, at_absent, has_at}
 use Rattle.forest.proofs.Linking.{Look, in_below, in_beside, in_front}
 use Rattle.forest.proofs.Numbers.{Agree, has_by, has_agreed}
 

@@ -1,10 +1,10 @@
 -- A forest by slots and the same forest by numbers.
-use Rattle.std.proofs.Common.{◌≡◌, ◌≢◌, ◌⊎◌, ℕ, ◌+◌, ◌≤◌, Bool, true, false, Option, Some, None, refl, sym, ap, ◌∙◌, inl, inr, arith, eqb, cond}
-use Rattle.std.specs.Prelude.{◌==◌, ◌||◌, if◌then◌else◌}
-use Rattle.std.proofs.lemmas.Bool.{cases_eq, cases_Bool, eq-eqb, ne_eqb, eqb-true, eqb-false, or_parts, both_ways, false_from_ne_true}
-use Rattle.forest.specs.Forest.{Forest, Empty, Node, either, has, times, Once, size, at, first, children, put, removed, changed, moved}
+use Rattle.std.proofs.Common.{◌≡◌, ℕ, true, false, Some, None, refl, sym, ap, ◌∙◌, inl, inr, arith}
+use Rattle.std.specs.Prelude.{◌==◌, ◌||◌}
+use Rattle.std.proofs.lemmas.Bool.{cases_Bool, eq-eqb, eqb-true, or_parts, both_ways, false_from_ne_true}
+use Rattle.forest.specs.Forest.{Forest, Empty, Node, either, has, times, Once, size, at, children, put, removed, changed}
 use Rattle.forest.specs.Links.{Entry, by_number, values, slots}
-use Rattle.forest.proofs.Trees.{Apart, apart_of, Where, Here, Below, Beside, where_is, at_some, at_absent, has_at, times_some}
+use Rattle.forest.proofs.Trees.{Apart, apart_of, at_some, at_absent, has_at}
 
 module _ {T : Type 0} where
   -- the slot and the number name the same nodes

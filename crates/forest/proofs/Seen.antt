@@ -1,30 +1,34 @@
 -- What an arena is seen as, and what its calls make of it.
-use Rattle.std.proofs.Common.{◌≡◌, ◌≢◌, ◌⊎◌, ℕ, ◌+◌, ◌≤◌, Bool, true, false, Option, Some, None, List, count_by, is_some, get_or, subst, refl, sym, ap, ◌∙◌, inl, inr, arith, eqb, cond}
-use Rattle.std.specs.Prelude.{◌==◌, MatchOption, IfSome, IsSome, unwrap_or}
-use Rattle.std.proofs.lemmas.Bool.{cases_Bool, both_ways}
+use Rattle.std.proofs.Common.{◌≡◌, ℕ, true, Option, Some, None, List, count_by, is_some, get_or, subst, refl, sym, ap, ◌∙◌, arith}
+use Rattle.std.specs.Prelude.{IfSome, unwrap_or}
 use Rattle.slab.specs.Slab.{Slab, get, slab_len, ContainsKey}
-use Rattle.forest.specs.Forest.{Forest, Empty, Node, has, Once, size, at, first, children, next_of, is_root, parent_of, put, removed, changed, moved}
+use Rattle.forest.specs.Forest.{Forest, has, Once, size, at, first}
 use Rattle.forest.specs.Forested.{Forested, IsPlaced, Named}
-use Rattle.forest.specs.Links.{Entry, entry_of, linked, built, IsLinked, by_number, values, slots, forested, IsSound, seen}
+use Rattle.forest.specs.Links.{Entry, built, IsLinked, slots, forested, IsSound, seen}
 use Rattle.forest.specs.declared.id.NodeId.{NodeId}
 use Rattle.forest.specs.declared.links.Linked.{Linked}
-use Rattle.forest.proofs.Trees.{has_first}
-use Rattle.forest.proofs.Linking.{Look, built_is, near, first_inside}
-use Rattle.forest.proofs.Numbers.{Agree, has_by, size_by, has_agreed, children_agreed, removed_agreed, put_agreed, at_agreed, agree_at, placed_has}
-use Rattle.forest.proofs.Neighbours.{Names, names_first, node_at, IsNode, node_is, placed_at, parent_root}
+use Rattle.forest.proofs.Linking.{built_is}
+use Rattle.forest.proofs.Numbers.{Agree, has_agreed, agree_at, placed_has}
+use Rattle.forest.proofs.Neighbours.{Names, node_at, IsNode, node_is, placed_at}
 
 module _ {T : Type 0} where
-  pub seen_from : (nodes : Slab (Linked T)) (link : Option ℕ) (t : Forest (Entry T)) → IsLinked (get nodes) None None t → link ≡ first t → size t ≡ slab_len nodes → seen nodes link ≡ forested t
+  pub seen_from : (nodes : Slab (Linked T)) (link : Option ℕ) (t : Forest (Entry T)) → IsLinked (get nodes) None None t → link ≡ first t → size t ≡ slab_len nodes → seen nodes link ≡ forested nodes.vacant_key t
   unfolding seen
   seen_from nodes link t i front count =
-      ap forested (ap (built (slab_len nodes) (get nodes)) front ∙ built_is (get nodes) None None t (slab_len nodes) (omega arith) i)
+      ap (forested nodes.vacant_key) (ap (built (slab_len nodes) (get nodes)) front ∙ built_is (get nodes) None None t (slab_len nodes) (omega arith) i)
 
-  pub seen_is : (nodes : Slab (Linked T)) (link : Option ℕ) (s : IsSound nodes link) → seen nodes link ≡ forested s.tree
+  pub seen_is : (nodes : Slab (Linked T)) (link : Option ℕ) (s : IsSound nodes link) → seen nodes link ≡ forested nodes.vacant_key s.tree
   seen_is nodes link s = seen_from nodes link s.tree s.linked s.front s.count
 
-  pub seen_slots : (m n : Slab (Linked T)) (link : Option ℕ) → n.slots ≡ m.slots → seen n link ≡ seen m link
+  pub seen_slots : (m n : Slab (Linked T)) (link : Option ℕ) → n.slots ≡ m.slots → n.vacant_key ≡ m.vacant_key → seen n link ≡ seen m link
   unfolding seen
-  seen_slots m n link e = ap (λ (xs : List (Option (Linked T))). forested (built (count_by is_some xs) (λ k. get_or xs k None) link)) e
+  seen_slots m n link e v =
+      ap (λ (xs : List (Option (Linked T))). forested n.vacant_key (built (count_by is_some xs) (λ k. get_or xs k None) link)) e
+      ∙ ap (λ (k : ℕ). forested k (built (slab_len m) (get m) link)) v
+
+  pub vacant_is : (nodes : Slab (Linked T)) (link : Option ℕ) (f : Forested T) → seen nodes link ≡ f → nodes.vacant_key ≡ f.vacant
+  unfolding seen
+  vacant_is nodes link f v = ap (λ (g : Forested T). g.vacant) v
 
   pub sound_slots : (m n : Slab (Linked T)) (link : Option ℕ) → n.slots ≡ m.slots → IsSound m link → IsSound n link
   sound_slots m n link e s = record {
@@ -57,6 +61,15 @@ module _ {T : Type 0} where
         lies = node.1;
         is = node_is (get nodes) None None id.slot id.number node.0 s.tree s.by_slot agree stands s.linked node.1;
       }
+
+  pub is_there : (nodes : Slab (Linked T)) (link : Option ℕ) (f : Forested T) (id : NodeId) (s : IsSound nodes link) → seen nodes link ≡ f → IsPlaced f id → has id.number f.forest ≡ true
+  is_there nodes link f id s v placed =
+      let w = stands_at nodes link f id s v placed in
+      ap (λ (g : Forested T). has id.number g.forest) (sym v ∙ seen_is nodes link s)
+      ∙ has_agreed (λ x d. d.value) id.slot id.number s.tree w.agree ∙ w.stands
+
+  pub all_once : (nodes : Slab (Linked T)) (link : Option ℕ) (f : Forested T) (s : IsSound nodes link) → seen nodes link ≡ f → Once f.forest
+  all_once nodes link f s v = subst (λ (g : Forested T). Once g.forest) (sym (seen_is nodes link s) ∙ v) s.by_number
 
   pub contains : (nodes : Slab (Linked T)) (link : Option ℕ) (f : Forested T) (id : NodeId) (s : IsSound nodes link) → seen nodes link ≡ f → IsPlaced f id → ContainsKey nodes id.slot
   contains nodes link f id s v placed = let w : Stands nodes s.tree id = stands_at nodes link f id s v placed in rw w.lies refl

@@ -1,9 +1,8 @@
 -- Forests whose numbers stand once each.
-use Rattle.std.proofs.Common.{◌≡◌, ◌≢◌, ◌⊎◌, ℕ, ◌+◌, ◌≤◌, Bool, true, false, Option, Some, None, List, [], ◌∷◌, ◌++◌, refl, sym, ap, ◌∙◌, inl, inr, arith, eqb, cond}
+use Rattle.std.proofs.Common.{◌≡◌, ◌≢◌, ℕ, ◌+◌, ◌≤◌, true, false, Some, None, refl, sym, ap, ◌∙◌, inl, inr, arith}
 use Rattle.std.specs.Prelude.{◌==◌, ◌||◌, if◌then◌else◌}
-use Rattle.std.proofs.lemmas.Bool.{cases_eq, cases_Bool, eq-eqb, ne_eqb, eqb-true, eqb-false, or_parts, or_cases, or_from, both_ways, false_from_ne_true}
-use Rattle.std.proofs.lemmas.Bool.Decides.{nat_tests}
-use Rattle.forest.specs.Forest.{Forest, Empty, Node, either, has, times, Once, size, at, first, children, next_of, is_root, parent_of, put, removed, changed, moved}
+use Rattle.std.proofs.lemmas.Bool.{cases_eq, cases_Bool, eq-eqb, ne_eqb, eqb-true, or_parts, or_cases, both_ways, false_from_ne_true}
+use Rattle.forest.specs.Forest.{Forest, Empty, Node, has, times, Once, size, at, first, children, put, removed, changed}
 
 module _ {A : Type 0} where
   pub times_none : (n : ℕ) (t : Forest A) → has n t ≡ false → times n t ≡ 0

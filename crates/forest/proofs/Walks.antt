@@ -1,11 +1,11 @@
 -- What the walks of a forest come to.
-use Rattle.std.proofs.Common.{◌≡◌, ◌≢◌, ◌⊎◌, ℕ, ◌+◌, ◌≤◌, ◌<◌, Bool, true, false, Option, Some, None, List, [], ◌∷◌, ◌++◌, refl, sym, ap, ◌∙◌, inl, inr, arith, eqb, cond, append_assoc}
+use Rattle.std.proofs.Common.{◌≡◌, ◌≢◌, ◌⊎◌, ℕ, ◌<◌, true, false, Option, Some, None, List, [], ◌∷◌, ◌++◌, refl, sym, ap, ◌∙◌, inl, inr, arith, append_assoc}
 use Rattle.std.specs.Prelude.{◌==◌, ◌||◌, if◌then◌else◌, unwrap_or}
-use Rattle.std.proofs.lemmas.Bool.{cases_eq, cases_Bool, eq-eqb, ne_eqb, eqb-true, eqb-false, or_parts, or_left, or_right, both_ways, false_from_ne_true}
-use Rattle.forest.specs.Forest.{Forest, Empty, Node, has, times, Once, size, first, children, next_of, is_root, parent_of, removed, changed}
-use Rattle.forest.specs.Walk.{order, order_at, lead, follows, after, todo, all_changed, swept}
-use Rattle.forest.proofs.Trees.{Apart, apart_of, Where, Here, Below, Beside, where_is, removed_absent, children_absent, has_children, has_changed, changed_absent, has_first}
-use Rattle.forest.proofs.Neighbours.{root_has, root_absent, parent_absent, parent_root}
+use Rattle.std.proofs.lemmas.Bool.{cases_Bool, eq-eqb, ne_eqb, eqb-true, eqb-false, or_parts, or_left, or_right, both_ways}
+use Rattle.forest.specs.Forest.{Forest, Empty, Node, has, Once, size, first, children, next_of, is_root, parent_of, removed, changed}
+use Rattle.forest.specs.Walk.{order, lead, follows, after, todo}
+use Rattle.forest.proofs.Trees.{Apart, apart_of, Here, Below, Beside, where_is, removed_absent, has_children, has_changed, has_first}
+use Rattle.forest.proofs.Neighbours.{root_absent, parent_absent, parent_root}
 
 module _ {A : Type 0} where
   in_lower : (s k : ℕ) (a : A) (below beside : Forest A) → has s below ≡ true → has s (Node k a below beside) ≡ true

@@ -5,15 +5,17 @@ use Rattle.forest.specs.Forest.{Forest, at}
 use Rattle.forest.specs.Code.{forest_code}
 use Rattle.forest.specs.declared.id.NodeId.{NodeId}
 
--- a forest by numbers, and beside it the same forest with the slot of each node in place of its data
+-- a forest by numbers, beside it the same forest with the slot of each node in place of its data, and the slot that the
+-- next node gets
 pub record Forested (T : Type 0) : Type 0 where
   pub forest : Forest T
   pub places : Forest ℕ
+  pub vacant : ℕ
 
 abbrev pub forested_code : {T : Type 0} → Coded T → Coded (Forested T)
 forested_code {T} code =
-    code_by (Forest T × Forest ℕ) (coded× (forest_code code) (forest_code coded_ℕ))
-    (λ f. (f.forest, f.places)) (λ p. record { forest = p.0; places = p.1 }) (λ _. refl)
+    code_by (Forest T × (Forest ℕ × ℕ)) (coded× (forest_code code) (coded× (forest_code coded_ℕ) coded_ℕ))
+    (λ f. (f.forest, (f.places, f.vacant))) (λ p. record { forest = p.0; places = p.1.0; vacant = p.1.1 }) (λ _. refl)
 
 -- the node of this number lies at this slot
 abbrev pub IsPlaced : {T : Type 0} → Forested T → NodeId → Type 0

@@ -4,5 +4,6 @@ pub mod Forested
 pub mod Links
 pub mod Edits
 pub mod Walk
+pub mod Preorder
 pub mod LendsValue
 pub mod Lends

@@ -1,5 +1,5 @@
 -- What the slots of an arena stand for.
-use Rattle.std.specs.Prelude.{◌≡◌, ◌≢◌, ℕ, zero, suc, ◌+◌, ◌≤◌, ◌==◌, Bool, Option, Some, None, List}
+use Rattle.std.specs.Prelude.{◌≡◌, ℕ, zero, suc, Option, Some, None}
 use Rattle.std.specs.Option.{option_map_or}
 use Rattle.slab.specs.Slab.{Slab, get, slab_len}
 use Rattle.forest.specs.Forest.{Forest, Empty, Node, first, Once, size}
@@ -53,8 +53,8 @@ module _ {T : Type 0} where
   abbrev pub slots : Forest (Entry T) → Forest ℕ
   slots t = by_number (λ slot e. slot) t
 
-  abbrev pub forested : Forest (Entry T) → Forested T
-  forested t = record { forest = values t; places = slots t }
+  abbrev pub forested : ℕ → Forest (Entry T) → Forested T
+  forested vacant t = record { forest = values t; places = slots t; vacant = vacant }
 
   -- the slots hold the nodes of one forest, and nothing else
   pub record IsSound (nodes : Slab (Linked T)) (link : Option ℕ) : Type 0 where
@@ -65,6 +65,6 @@ module _ {T : Type 0} where
     pub by_number : Once (values tree)
     pub count : size tree ≡ slab_len nodes
 
-  -- the forest by numbers, and where each lies
+  -- the forest by numbers, where each lies, and where the next one will
   unfoldable pub seen : Slab (Linked T) → Option ℕ → Forested T
-  seen nodes link = forested (built (slab_len nodes) (get nodes) link)
+  seen nodes link = forested nodes.vacant_key (built (slab_len nodes) (get nodes) link)

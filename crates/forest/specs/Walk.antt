@@ -1,6 +1,6 @@
 -- Walks that come to each node behind its children, and to these from the first one on.
 use Rattle.std.specs.Prelude.{ℕ, ◌==◌, if◌then◌else◌, List, [], ◌∷◌, ◌++◌}
-use Rattle.forest.specs.Forest.{Forest, Empty, Node, has, children, changed}
+use Rattle.forest.specs.Forest.{Forest, Empty, Node, has, children}
 
 module _ {A : Type 0} where
   -- the numbers in the order of such a walk

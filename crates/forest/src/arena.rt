@@ -1,22 +1,27 @@
 //! A forest by links in one slab.
-ghost use Rattle.std.specs.Prelude.{◌≡◌, ◌≢◌, ℕ, ◌≤◌, true, false, Some, None, IfOk, OnErr, IfErr, IfSome};
+ghost use Rattle.std.specs.Prelude.{◌≡◌, ◌≢◌, ℕ, ◌≤◌, ◌^◌, true, false, ◌∷◌, Some, None, IfOk, OnErr, IfErr, IfSome};
 ghost use Rattle.std.specs.Option.{option_map, IfNone};
 ghost use Rattle.std.specs.Borrow.{sem};
 ghost use Rattle.slab.specs.Slab.{get, ContainsKey};
 ghost use Rattle.forest.specs.Forest.{Empty, Node, Once, has, size, at, first, children, next_of, parent_of, is_above, put, removed, moved};
 ghost use Rattle.forest.specs.Walk.{lead, follows};
+ghost use Rattle.forest.specs.Preorder.{preorder, level, from_node, behind_node, left_at, IsSpot};
 ghost use Rattle.forest.specs.Forested.{IsPlaced, Named};
 
-use crate::edits::{front_without, set_first_child, set_place, set_previous, skip, vacant_slot};
+use crate::edits::{
+    front_without, set_first_child, set_place, set_previous, skip, slot_at, vacant_slot,
+};
 use crate::id::NodeId;
 use crate::links::Linked;
+use crate::preorder::{Preorder, Spot};
 use slab::Slab;
 use std::alloc::{AllocFailed, Global};
 use std::marker::Model;
 
 /// A forest, kept by links. Each call takes the same time, however many nodes there are.
 ///
-/// Contracts see the forest by numbers, each of which stands once, and beside it where each number lies.
+/// Contracts see the forest by numbers, each of which stands once, beside it where each number lies, and where the
+/// next one will.
 #[derive(Drop)]
 pub struct LinkedForest<T> {
     nodes: Slab<Linked<T>>,
@@ -59,11 +64,21 @@ impl<T> LinkedForest<T> {
         self.nodes.len()
     }
 
+    /// The slot that the next node gets. There is none where all slots that can be named hold nodes; then no node can
+    /// be made.
+    pub fn next_slot(&self) -> Option<u32>
+        ensures some { IfSome result (λ slot. slot ≡ self.now.vacant) }
+        ensures none { IfNone result (2 ^ 32 ≤ self.now.vacant) }
+    {
+        slot_at(self.nodes.vacant_key())
+    }
+
     /// Makes a node without children that is the first root. Its number must be a new one. Where there is
     /// no memory the data comes back, and nothing changes.
     pub fn insert_root(&mut self, number: u64, value: T) -> Result<NodeId, AllocFailed<T>>
         requires { has number self.old.forest ≡ false }
         ensures number { IfOk result (λ id. id.number ≡ number) }
+        ensures slot { IfOk result (λ id. id.slot ≡ self.old.vacant) }
         ensures forest { IfOk result (λ id. self.new.forest ≡ Node number value Empty self.old.forest) }
         ensures places { IfOk result (λ id. self.new.places ≡ Node number id.slot Empty self.old.places) }
         ensures refused { OnErr result (self.new ≡ self.old) }
@@ -96,6 +111,7 @@ impl<T> LinkedForest<T> {
         requires parent { IsPlaced self.old parent }
         requires fresh { has number self.old.forest ≡ false }
         ensures number { IfOk result (λ id. id.number ≡ number) }
+        ensures slot { IfOk result (λ id. id.slot ≡ self.old.vacant) }
         ensures forest { IfOk result (λ id. self.new.forest ≡ put parent.number number value Empty self.old.forest) }
         ensures places { IfOk result (λ id. self.new.places ≡ put parent.number number id.slot Empty self.old.places) }
         ensures refused { OnErr result (self.new ≡ self.old) }
@@ -144,6 +160,7 @@ impl<T> LinkedForest<T> {
         requires apart { is_above id.number parent.number self.old.forest ≡ false }
         ensures forest { self.new.forest ≡ moved id.number parent.number self.old.forest }
         ensures places { self.new.places ≡ moved id.number parent.number self.old.places }
+        ensures stays { (other : ℕ) → at other self.new.places ≡ at other self.old.places }
     {
         let node = &self.nodes[id.slot as usize];
         let (previous, above, next) = (node.previous, node.parent, node.next);
@@ -186,6 +203,22 @@ impl<T> LinkedForest<T> {
         ensures { Named self.now result (parent_of id.number self.now.forest) }
     {
         named(&self.nodes, self.nodes[id.slot as usize].parent)
+    }
+
+    /// Whether the second node is below the first one, by a walk up from it.
+    pub fn is_above(&self, id: NodeId, other: NodeId) -> bool
+        requires { IsPlaced self.now other }
+        ensures { result ≡ is_above id.number other.number self.now.forest }
+    {
+        let _ = &self.nodes;
+        let mut last = other;
+        while let Some(parent) = self.parent(last) {
+            if parent.number == id.number {
+                return true;
+            }
+            last = parent;
+        }
+        false
     }
 
     /// The first child of a node that has one.
@@ -234,6 +267,54 @@ impl<T> LinkedForest<T> {
         match self.next_sibling(id) {
             Some(next) => self.first_leaf(next),
             None => self.parent(id).unwrap_or(top),
+        }
+    }
+
+    /// All nodes, each before its children, from the first root on.
+    pub fn preorder(&self) -> Preorder<'_, T>
+        ensures { result ≡ preorder 0 self.now.forest }
+    {
+        Preorder::new(self)
+    }
+
+    /// Where such a walk goes from a node: to its first child, or behind it.
+    pub(crate) fn onward(&self, spot: Spot) -> Option<Spot>
+        requires { IsSpot self.now spot }
+        ensures spot { IfSome result (IsSpot self.now) }
+        ensures left { (a : T) → at spot.id.number self.now.forest ≡ Some a → from_node 0 spot.id.number self.now.forest ≡ record { depth = spot.depth; number = spot.id.number; value = a } ∷ left_at self.now.forest result }
+    {
+        let _ = &self.nodes;
+        prove!(spot.depth < self.len());
+        match self.first_child(spot.id) {
+            Some(id) => Some(Spot {
+                id,
+                depth: spot.depth + 1,
+            }),
+            None => self.behind(spot),
+        }
+    }
+
+    /// Where such a walk goes behind a node and all below it: to the next sibling, or to that of the nearest node above
+    /// that has one.
+    fn behind(&self, spot: Spot) -> Option<Spot>
+        requires { IsSpot self.now spot }
+        ensures spot { IfSome result (IsSpot self.now) }
+        ensures left { behind_node 0 spot.id.number self.now.forest ≡ left_at self.now.forest result }
+    {
+        let _ = &self.nodes;
+        let mut last = spot;
+        loop {
+            if let Some(id) = self.next_sibling(last.id) {
+                return Some(Spot {
+                    id,
+                    depth: last.depth,
+                });
+            }
+            let id = self.parent(last.id)?;
+            last = Spot {
+                id,
+                depth: last.depth - 1,
+            };
         }
     }
 }

@@ -1,5 +1,6 @@
 //! Writes of links.
-ghost use Rattle.std.specs.Prelude.{◌≡◌, ◌≢◌, ℕ, Some, None, IfSome};
+ghost use Rattle.std.specs.Prelude.{◌≡◌, ◌≢◌, ◌≤◌, ◌^◌, ℕ, Some, None, IfSome};
+ghost use Rattle.std.specs.Option.{IfNone};
 ghost use Rattle.slab.specs.Slab.{get, slab_len, HasRoomFor, ContainsKey};
 ghost use Rattle.forest.specs.Edits.{Sets, SetsPrevious, Skips};
 
@@ -81,11 +82,20 @@ pub fn front_without(first: Option<u32>, slot: u32, next: Option<u32>) -> Option
 /// Makes room for one more node, and says in which slot it will lie.
 pub fn vacant_slot<T>(nodes: &mut Slab<Linked<T>>) -> Option<u32>
     ensures slots { nodes.new.slots ≡ nodes.old.slots }
+    ensures vacant { nodes.new.vacant_key ≡ nodes.old.vacant_key }
     ensures room { IfSome result (λ slot. HasRoomFor nodes.new 1) }
     ensures next { IfSome result (λ slot. nodes.new.vacant_key ≡ slot) }
 {
     if nodes.reserve(1).is_err() {
         return None;
     }
-    u32::try_from(nodes.vacant_key()).ok()
+    slot_at(nodes.vacant_key())
+}
+
+/// The slot of a key, where it is small enough to name one.
+pub fn slot_at(key: usize) -> Option<u32>
+    ensures some { IfSome result (λ slot. slot ≡ key) }
+    ensures none { IfNone result (2 ^ 32 ≤ key) }
+{
+    u32::try_from(key).ok()
 }

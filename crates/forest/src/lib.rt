@@ -8,9 +8,11 @@ mod arena;
 mod edits;
 mod id;
 mod links;
+mod preorder;
 
 pub use arena::LinkedForest;
 pub use id::NodeId;
+pub use preorder::{Preorder, Visit};
 
 #[cfg(test)]
 mod tests;

@@ -69,8 +69,39 @@ fn data_changes_and_leaves_go(rt: HostRuntime) -> Result<(), Fail> {
     assert_eq!(rt; *nodes.get(older), 21);
     nodes.move_to(older, newer);
     assert_eq!(rt; nodes.first_child(newer), Some(older));
+    assert!(rt; nodes.is_above(root, older));
+    assert!(rt; !nodes.is_above(older, newer));
     assert_eq!(rt; nodes.remove(older), 21);
     assert_eq!(rt; nodes.first_child(root), Some(newer));
     assert_eq!(rt; nodes.len(), 2);
+    Ok(())
+}
+
+#[test]
+fn next_slot_is_known_before(rt: HostRuntime) -> Result<(), Fail> {
+    let mut nodes = LinkedForest::new(rt.alloc());
+    let first = nodes.next_slot();
+    let root = nodes.insert_root(1, 10u32)?;
+    assert_eq!(rt; first, Some(root.slot));
+    let second = nodes.next_slot();
+    let child = nodes.insert_child(root, 2, 20)?;
+    assert_eq!(rt; second, Some(child.slot));
+    Ok(())
+}
+
+#[test]
+fn each_node_comes_before_its_children(rt: HostRuntime) -> Result<(), Fail> {
+    let Family {
+        mut nodes,
+        newer,
+        ..
+    } = make_family(rt.alloc())?;
+    nodes.insert_child(newer, 4, 40)?;
+    let mut walk = nodes.preorder();
+    for want in [(0, 1, 10), (1, 3, 30), (2, 4, 40), (1, 2, 20)] {
+        let visit = walk.next().ok_or("too few nodes")?;
+        assert_eq!(rt; (visit.depth, visit.id.number, *visit.value), want);
+    }
+    assert!(rt; walk.next().is_none());
     Ok(())
 }

@@ -1,10 +1,9 @@
-use Rattle.std.proofs.Common.{◌≡◌, ℕ, Option, Some, None, true, refl, sym, ap, ◌∙◌}
-use Rattle.forest.specs.Forest.{Forest, Once, has, children, next_of, parent_of}
-use Rattle.forest.specs.Walk.{lead, follows}
+use Rattle.std.proofs.Common.{refl, sym, ap, ◌∙◌}
+use Rattle.forest.specs.Forest.{Forest, has}
 use Rattle.forest.proofs.Calls.{forest_is}
 use Rattle.forest.proofs.Numbers.{has_agreed}
 use Rattle.forest.proofs.Seen.{stands_at}
-use Rattle.forest.proofs.Walks.{first_step, first_none}
+use Rattle.forest.proofs.Walks.{first_step}
 use Rattle.forest.proofs.arena.LinkedForest.first_leaf.Goals as goal
 
 pub loop-child-init : goal.loop-child-init

@@ -1,7 +1,5 @@
-use Rattle.std.proofs.Common.{◌≡◌, ℕ, Option, Some, None, true, refl, sym, ap, ◌∙◌}
-use Rattle.std.specs.Prelude.{unwrap_or}
-use Rattle.forest.specs.Forest.{Forest, Once, has, children, next_of, parent_of}
-use Rattle.forest.specs.Walk.{lead, follows}
+use Rattle.std.proofs.Common.{ap, ◌∙◌}
+use Rattle.forest.specs.Forest.{Once}
 use Rattle.forest.specs.declared.id.NodeId.{NodeId}
 use Rattle.forest.proofs.Calls.{forest_is}
 use Rattle.forest.proofs.Walks.{goes_beside, goes_over}

@@ -1,15 +1,12 @@
-use Rattle.std.proofs.Common.{◌≡◌, ℕ, Option, Some, None, refl, sym, ap, ◌∙◌}
-use Rattle.slab.specs.Slab.{Slab, get, ContainsKey, with_value}
-use Rattle.forest.specs.Forest.{Forest, at, changed}
-use Rattle.forest.specs.Forested.{Forested}
-use Rattle.forest.specs.Links.{entry_of, values}
-use Rattle.forest.specs.declared.links.Linked.{Linked}
-use Rattle.forest.proofs.Numbers.{at_agreed, valued, values_changed, slots_changed}
+use Rattle.std.proofs.Common.{Some, None, refl, sym, ap, ◌∙◌}
+use Rattle.slab.specs.Slab.{get}
+use Rattle.forest.specs.Forest.{Forest, at}
+use Rattle.forest.specs.Links.{entry_of}
+use Rattle.forest.proofs.Numbers.{at_agreed}
 use Rattle.forest.proofs.Neighbours.{node_is}
 use Rattle.forest.proofs.Seen.{stands_at, contains}
-use Rattle.forest.proofs.Calls.{Builds, sound_of, seen_built, written, seen_written, forest_is, places_are}
+use Rattle.forest.proofs.Calls.{sound_of, written, seen_written, forest_is}
 use Rattle.forest.proofs.arena.LinkedForest.get_mut.Goals as goal
-use Rattle.forest.proofs.arena.LinkedForest.get_mut.Given as given
 
 pub index_mut-requires : goal.index_mut-requires
 index_mut-requires g c = contains c.self.inside.nodes c.self.inside.first _ c.args.id c.self.invariant c.self.view_is c.requires

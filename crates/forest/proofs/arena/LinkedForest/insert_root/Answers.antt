@@ -1,16 +1,10 @@
-use Rattle.std.proofs.Common.{◌≡◌, ◌≢◌, ◌⊎◌, ℕ, Bool, true, false, Option, Some, None, refl, sym, ap, ◌∙◌, inl, inr, arith}
-use Rattle.std.specs.Prelude.{MatchOption, IfSome, IsSome}
-use Rattle.slab.specs.Slab.{Slab, get, slab_len, ContainsKey}
-use Rattle.forest.specs.Forest.{Forest, Empty, Node, has, Once, size, at, first, children, next_of, is_root, parent_of, put, removed, changed, moved}
-use Rattle.forest.specs.Forested.{Forested, IsPlaced, Named}
-use Rattle.forest.specs.Links.{Entry, entry_of, linked, IsLinked, values, slots, forested, IsSound, seen}
-use Rattle.forest.specs.declared.links.Linked.{Linked}
-use Rattle.forest.proofs.Trees.{children_absent, has_first}
-use Rattle.forest.proofs.Linking.{child_is, near, Near, first_inside}
-use Rattle.forest.proofs.Numbers.{Agree, has_agreed, children_agreed, removed_agreed, put_agreed, at_agreed, empty_by}
-use Rattle.forest.proofs.Neighbours.{Names, names_first, IsNode, node_is, parent_root}
-use Rattle.forest.proofs.Seen.{seen_from, seen_is, seen_slots, sound_slots, Stands, stands_at, contains, named_is}
-use Rattle.forest.proofs.Calls.{Builds, sound_of, seen_built, insert_front, insert_below, taken_out, moved_to, moved_agreed, forest_is, places_are, if_some, if_some_more, Neighbours, neighbours, Moving, moving, vacant, key_in, Entered, entered, entered_keys}
+use Rattle.std.proofs.Common.{ℕ, Some, sym, ap, ◌∙◌}
+use Rattle.slab.specs.Slab.{ContainsKey}
+use Rattle.forest.specs.Forest.{Forest, Empty, Node}
+use Rattle.forest.specs.Forested.{Forested}
+use Rattle.forest.proofs.Trees.{has_first}
+use Rattle.forest.proofs.Seen.{seen_slots, vacant_is, sound_slots}
+use Rattle.forest.proofs.Calls.{Builds, sound_of, seen_built, insert_front, forest_is, places_are, if_some, key_in, entered, entered_keys}
 use Rattle.forest.proofs.arena.LinkedForest.insert_root.Goals as goal
 use Rattle.forest.proofs.arena.LinkedForest.insert_root.Given as given
 
@@ -18,7 +12,7 @@ pub invariant_of-self : goal.invariant_of-self
 invariant_of-self g c = sound_slots c.self.inside.nodes c.vacant_slot.new.nodes c.self.inside.first c.vacant_slot.ensures.slots c.self.invariant
 
 pub returns-in_default-clause-refused : goal.returns-in_default-clause-refused
-returns-in_default-clause-refused g c = seen_slots c.self.inside.nodes c.vacant_slot.new.nodes c.self.inside.first c.vacant_slot.ensures.slots ∙ c.self.view_is
+returns-in_default-clause-refused g c = seen_slots c.self.inside.nodes c.vacant_slot.new.nodes c.self.inside.first c.vacant_slot.ensures.slots c.vacant_slot.ensures.vacant ∙ c.self.view_is
 
 pub set_previous-requires : goal.set_previous-requires
 set_previous-requires g c =
@@ -46,3 +40,7 @@ pub returns-clause-places : goal.returns-clause-places
 returns-clause-places g c =
     ap (λ (f : Forested g.row.T.Denot). f.places) (seen_built _ _ _ (made g c))
     ∙ ap (λ (f : Forest ℕ). Node c.args.number c.in-Some.slot Empty f) (places_are c.self.inside.nodes c.self.inside.first _ c.self.invariant c.self.view_is)
+
+pub returns-clause-slot : goal.returns-clause-slot
+returns-clause-slot g c =
+    sym c.in-Some.ensures.next ∙ c.vacant_slot.ensures.vacant ∙ vacant_is c.self.inside.nodes c.self.inside.first _ c.self.view_is

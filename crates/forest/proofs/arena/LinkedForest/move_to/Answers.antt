@@ -1,16 +1,13 @@
-use Rattle.std.proofs.Common.{◌≡◌, ◌≢◌, ◌⊎◌, ℕ, Bool, true, false, Option, Some, None, refl, sym, ap, ◌∙◌, inl, inr, arith}
-use Rattle.std.specs.Prelude.{MatchOption, IfSome, IsSome}
-use Rattle.slab.specs.Slab.{Slab, get, slab_len, ContainsKey}
-use Rattle.forest.specs.Forest.{Forest, Empty, Node, has, Once, size, at, first, children, next_of, is_root, parent_of, put, removed, changed, moved}
-use Rattle.forest.specs.Forested.{Forested, IsPlaced, Named}
-use Rattle.forest.specs.Links.{Entry, entry_of, linked, IsLinked, values, slots, forested, IsSound, seen}
-use Rattle.forest.specs.declared.links.Linked.{Linked}
-use Rattle.forest.proofs.Trees.{children_absent, has_first}
-use Rattle.forest.proofs.Linking.{child_is, near, Near, first_inside}
-use Rattle.forest.proofs.Numbers.{Agree, has_agreed, children_agreed, removed_agreed, put_agreed, at_agreed, empty_by}
-use Rattle.forest.proofs.Neighbours.{Names, names_first, IsNode, node_is, parent_root}
-use Rattle.forest.proofs.Seen.{seen_from, seen_is, seen_slots, sound_slots, Stands, stands_at, contains, named_is}
-use Rattle.forest.proofs.Calls.{Builds, sound_of, seen_built, insert_front, insert_below, taken_out, moved_to, moved_agreed, forest_is, places_are, if_some, if_some_more, Neighbours, neighbours, Moving, moving, vacant, key_in}
+use Rattle.std.proofs.Common.{◌≡◌, ℕ, refl, sym, ap, ◌∙◌}
+use Rattle.slab.specs.Slab.{ContainsKey}
+use Rattle.forest.specs.Forest.{Forest, Once, at, has, children, put, removed, moved}
+use Rattle.forest.specs.Forested.{Forested}
+use Rattle.forest.specs.Links.{entry_of, slots}
+use Rattle.forest.proofs.Trees.{Moves}
+use Rattle.forest.proofs.Numbers.{has_by, times_by, children_agreed}
+use Rattle.forest.proofs.Moved.{at_moved}
+use Rattle.forest.proofs.Seen.{contains}
+use Rattle.forest.proofs.Calls.{Builds, sound_of, seen_built, moved_to, moved_agreed, forest_is, places_are, if_some_more, neighbours, Moving, moving}
 use Rattle.forest.proofs.arena.LinkedForest.move_to.Goals as goal
 use Rattle.forest.proofs.arena.LinkedForest.move_to.Given as given
 
@@ -81,3 +78,25 @@ returns-clause-places g c =
     ap (λ (f : Forested g.row.T.Denot). f.places) (seen_built _ _ _ (made g c))
     ∙ moved_agreed (λ x d. x) c.args.id.slot c.args.id.number c.args.parent.slot c.args.parent.number (entry_of c.index-node.result.now) c.self.invariant.tree w.agree w.over w.entry
     ∙ ap (λ (f : Forest ℕ). moved c.args.id.number c.args.parent.number f) (places_are c.self.inside.nodes c.self.inside.first _ c.self.invariant c.self.view_is)
+
+pub returns-clause-stays : goal.returns-clause-stays
+returns-clause-stays g c other =
+    let w = known g c in
+    let s = c.self.invariant in
+    let n = c.args.id.number in
+    let p = c.args.parent.number in
+    let once : Once (slots s.tree) = record { once = λ m. rw (times_by (λ x d. x) m s.tree) (s.by_number.once m) } in
+    let moves : Moves n p (slots s.tree) = record {
+      node = has_by (λ x d. x) n s.tree ∙ w.numbers.node;
+      parent = has_by (λ x d. x) p s.tree ∙ w.numbers.parent;
+      other = w.numbers.other;
+      apart =
+          ap (λ (f : Forest ℕ). has p f) (sym (children_agreed (λ x d. x) c.args.id.slot n s.tree w.agree))
+          ∙ has_by (λ x d. x) p (children c.args.id.slot s.tree)
+          ∙ ap (λ (f : Forest g.row.T.Denot). has p f) (children_agreed (λ x d. d.value) c.args.id.slot n s.tree w.agree)
+          ∙ w.numbers.apart;
+    } in
+    ap (λ (f : Forested g.row.T.Denot). at other f.places) (seen_built _ _ _ (made g c))
+    ∙ ap (λ (f : Forest ℕ). at other f) (moved_agreed (λ x d. x) c.args.id.slot n c.args.parent.slot p (entry_of c.index-node.result.now) s.tree w.agree w.over w.entry)
+    ∙ at_moved other n p (slots s.tree) once moves
+    ∙ ap (λ (f : Forest ℕ). at other f) (places_are c.self.inside.nodes c.self.inside.first _ s c.self.view_is)
