@@ -209,6 +209,13 @@ move_row = refl
 moved_row : (gone 6 (reparented 7 6 with_w)).events ≡ Delete 7 ∷ Delete 6 ∷ []
 moved_row = refl
 
+-- it is the first of its new parent's children
+abbrev with_y : Contexts
+with_y = created 7 9 (codes "y") Default false with_x
+
+moved_first_row : (gone 6 (reparented 8 6 with_y)).events ≡ Delete 8 ∷ Delete 9 ∷ Delete 7 ∷ Delete 6 ∷ []
+moved_first_row = refl
+
 stays_row : reparented_events 7 1 with_w ≡ []
 stays_row = refl
 
@@ -228,6 +235,19 @@ zeros_row = refl
 range_row : put_refusal a 3 1 with_bytes ≡ Some Range
 unfolding set.take set.take_class set.take_own set.created set.chunk_limit set.limit_class set.class_of set.class_up_to set.cut_off set.reused set.from_new set.give set.resize set.resize_class set.resize_block
 range_row = refl
+
+-- the name of a chunk that was freed, and of one whose context went
+freed_name_row : alloc_refusal 7 1000000 (Some a) 100 (freed a (with_chunk 7 a 100 with_w)) ≡ None
+unfolding set.take set.take_class set.take_own set.created set.chunk_limit set.limit_class set.class_of set.class_up_to set.cut_off set.reused set.from_new set.give
+freed_name_row = refl
+
+gone_name_row : alloc_refusal 6 1000000 (Some a) 100 (gone 7 (with_chunk 7 a 100 with_w)).contexts ≡ None
+unfolding set.take set.take_class set.take_own set.created set.chunk_limit set.limit_class set.class_of set.class_up_to set.cut_off set.reused set.from_new
+gone_name_row = refl
+
+live_name_row : alloc_refusal 6 1000000 (Some a) 100 (with_chunk 7 a 100 with_w) ≡ Some Taken
+unfolding set.take set.take_class set.take_own set.created set.chunk_limit set.limit_class set.class_of set.class_up_to set.cut_off set.reused set.from_new
+live_name_row = refl
 
 -- names that are taken, and contexts that may not go
 taken_row : create_refusal 1000000 (codes "p") Default false with_p ≡ Some Taken

@@ -1,11 +1,11 @@
 -- Forests of which a node with all below it moves, and the nodes above a node.
-use Rattle.std.proofs.Common.{◌≡◌, ◌≢◌, ◌⊎◌, ℕ, ◌+◌, ◌≤◌, ◌<◌, Bool, true, false, Option, Some, None, refl, sym, ap, ◌∙◌, inl, inr, arith}
-use Rattle.std.specs.Prelude.{◌==◌, ◌||◌, if◌then◌else◌, unwrap_or}
+use Rattle.std.proofs.Common.{◌≡◌, ◌≢◌, ℕ, ◌+◌, Bool, true, false, Option, Some, None, refl, sym, ap, ◌∙◌, inl, inr, arith}
+use Rattle.std.specs.Prelude.{◌==◌, ◌||◌, unwrap_or}
 use Rattle.std.proofs.lemmas.Bool.{cases_eq, cases_Bool, eq-eqb, ne_eqb, eqb-true, both_ways, false_from_ne_true}
 use Rattle.forest.specs.Forest.{Forest, Empty, Node, either, has, Once, at, children, is_root, parent_of, is_above, put, removed, moved}
 use Rattle.forest.specs.Preorder.{level}
-use Rattle.forest.proofs.Trees.{Apart, apart_of, Where, Here, Below, Beside, where_is, at_absent, at_some, has_at, put_absent, removed_absent, children_absent, has_children, Moves, once_removed, parent_stays, removed_has, left_apart}
-use Rattle.forest.proofs.Neighbours.{root_has, root_absent, parent_absent}
+use Rattle.forest.proofs.Trees.{Apart, apart_of, Here, Below, Beside, where_is, at_absent, at_some, has_at, put_absent, removed_absent, children_absent, has_children, Moves, once_removed, parent_stays, removed_has, left_apart}
+use Rattle.forest.proofs.Neighbours.{root_has}
 use Rattle.forest.proofs.Walks.{children_in, once_children, parent_in}
 
 module _ {A : Type 0} where

@@ -161,6 +161,8 @@ impl<T> LinkedForest<T> {
         ensures forest { self.new.forest ≡ moved id.number parent.number self.old.forest }
         ensures places { self.new.places ≡ moved id.number parent.number self.old.places }
         ensures stays { (other : ℕ) → at other self.new.places ≡ at other self.old.places }
+        ensures node_stands { has id.number self.old.forest ≡ true }
+        ensures parent_stands { has parent.number self.old.forest ≡ true }
     {
         let node = &self.nodes[id.slot as usize];
         let (previous, above, next) = (node.previous, node.parent, node.next);

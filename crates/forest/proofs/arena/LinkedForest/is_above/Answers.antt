@@ -1,6 +1,4 @@
-use Rattle.std.proofs.Common.{◌≡◌, ◌≢◌, ◌+◌, ◌<◌, ℕ, true, false, Some, refl, sym, ap, ◌∙◌, arith}
-use Rattle.forest.specs.Forest.{Once, has, children, parent_of, is_above}
-use Rattle.forest.specs.Preorder.{level}
+use Rattle.std.proofs.Common.{◌≡◌, Some, refl, sym, ap, ◌∙◌, arith}
 use Rattle.forest.proofs.Seen.{all_once}
 use Rattle.forest.proofs.Moved.{below_parent, above_by_parent, above_none, level_up}
 use Rattle.forest.proofs.arena.LinkedForest.is_above.Goals as goal

@@ -1,4 +1,4 @@
-use Rattle.std.proofs.Common.{◌≡◌, ℕ, refl, sym, ap, ◌∙◌}
+use Rattle.std.proofs.Common.{ℕ, sym, ap, ◌∙◌}
 use Rattle.slab.specs.Slab.{ContainsKey}
 use Rattle.forest.specs.Forest.{Forest, Once, at, has, children, put, removed, moved}
 use Rattle.forest.specs.Forested.{Forested}
@@ -6,7 +6,7 @@ use Rattle.forest.specs.Links.{entry_of, slots}
 use Rattle.forest.proofs.Trees.{Moves}
 use Rattle.forest.proofs.Numbers.{has_by, times_by, children_agreed}
 use Rattle.forest.proofs.Moved.{at_moved}
-use Rattle.forest.proofs.Seen.{contains}
+use Rattle.forest.proofs.Seen.{contains, is_there}
 use Rattle.forest.proofs.Calls.{Builds, sound_of, seen_built, moved_to, moved_agreed, forest_is, places_are, if_some_more, neighbours, Moving, moving}
 use Rattle.forest.proofs.arena.LinkedForest.move_to.Goals as goal
 use Rattle.forest.proofs.arena.LinkedForest.move_to.Given as given
@@ -100,3 +100,9 @@ returns-clause-stays g c other =
     ∙ ap (λ (f : Forest ℕ). at other f) (moved_agreed (λ x d. x) c.args.id.slot n c.args.parent.slot p (entry_of c.index-node.result.now) s.tree w.agree w.over w.entry)
     ∙ at_moved other n p (slots s.tree) once moves
     ∙ ap (λ (f : Forest ℕ). at other f) (places_are c.self.inside.nodes c.self.inside.first _ s c.self.view_is)
+
+pub returns-clause-node_stands : goal.returns-clause-node_stands
+returns-clause-node_stands g c = is_there c.self.inside.nodes c.self.inside.first _ c.args.id c.self.invariant c.self.view_is c.requires.placed
+
+pub returns-clause-parent_stands : goal.returns-clause-parent_stands
+returns-clause-parent_stands g c = is_there c.self.inside.nodes c.self.inside.first _ c.args.parent c.self.invariant c.self.view_is c.requires.parent

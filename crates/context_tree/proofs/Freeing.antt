@@ -1,0 +1,225 @@
+-- A tree in which a chunk was freed.
+use Rattle.std.proofs.Common.{◌≡◌, ◌≢◌, ℕ, ◌+◌, ◌<◌, true, List, map, Option, Some, None, Ok, IsSome, unwrap_or, refl, sym, ap, ◌∙◌, subst, inl, inr, arith}
+use Rattle.std.specs.Prelude.{if◌then◌else◌}
+use Rattle.std.proofs.lemmas.Bool.{cases_eq, cases_Bool, both_ways}
+use Rattle.pgs_step.specs.declared.ids.CtxId.{CtxId}
+use Rattle.addr_space.specs.Space.{Space, byte_at, IsKnown}
+use Rattle.addr_space.specs.Footprint as foot
+use Rattle.addr_space.proofs.Addresses.{put_at-cases}
+use Rattle.forest.specs.Forest.{Forest, at, has, Once, changed, removed}
+use Rattle.forest.proofs.Trees.{has_at, at_some, has_of_removed, once_removed}
+use Rattle.any_ctx.specs.Ledgers.{Place, InSlab, give}
+use Rattle.any_ctx.specs.Contexts.{footprint, ledger, place_at}
+use Rattle.context_rules.specs.Contexts.{Chunk, Context}
+use Rattle.context_rules.specs.Chunks.{without, freed}
+use Rattle.context_tree.specs.declared.chunk_id.ChunkId.{ChunkId}
+use Rattle.context_tree.specs.declared.entry.Entry.{Entry}
+use Rattle.context_tree.specs.declared.tree.Own.{Own}
+use Rattle.context_tree.specs.Kept.{Kept}
+use Rattle.context_tree.specs.Soundness.{same, AreFlat, IsSoundContext, IsSound, IsChunk}
+use Rattle.context_tree.specs.State.{TreeState, chunk_of, entries, context_of, stands_for, Agrees, Moves}
+use Rattle.context_tree.specs.Chunking.{Freed}
+use Rattle.context_tree.specs.Lookup.{Leads}
+use Rattle.context_tree.proofs.Names.{same_is, is_same, named_not, named_so}
+use Rattle.context_tree.proofs.Steps.{Stepped, stands_by, moves_stepped, chunk_same}
+use Rattle.context_tree.proofs.Sounds.{step_at, step_here, step_other, sound_step}
+use Rattle.context_tree.proofs.Bytes.{in_live, bytes_same}
+use Rattle.context_tree.proofs.Removals.{flat_removed, other_than_removed, left_at, still_at, without_entries}
+
+module _ (k l : Kept) (n : ℕ) (s t : Space) (gone : Freed k l n s t) (sound : IsSoundContext k) (agrees : foot.Agrees (footprint k.memory) s) where
+  pub chunks_now : l.chunks ≡ removed n k.chunks
+  chunks_now = ap (λ (x : Kept). x.chunks) gone.now
+
+  -- an entry that is left
+  pub left : (c : ℕ) (e : Entry) → at c l.chunks ≡ Some e → (c ≢ n) × (at c k.chunks ≡ Some e)
+  left c e h = left_at c n e k.chunks sound.once sound.flat (ap (at c) (sym chunks_now) ∙ h)
+
+  elsewhere : (c : ℕ) (e : Entry) → c ≢ n → at c k.chunks ≡ Some e → e.at ≢ gone.entry.at
+  elsewhere c e ne h = sound.differ c n e gone.entry ne h gone.listed
+
+  live_left : (c : ℕ) (e : Entry) → c ≢ n → at c k.chunks ≡ Some e → (footprint l.memory).live e.at ≡ Some e.size
+  live_left c e ne h =
+      elim (put_at-cases (footprint k.memory).live (footprint l.memory).live gone.entry.at None gone.live e.at) [
+        | inl it ↦ absurd (elsewhere c e ne h it.0)
+        | inr it ↦ it.1 ∙ sound.live c e h
+      ]
+
+  place_left : (c : ℕ) (e : Entry) → c ≢ n → at c k.chunks ≡ Some e → place_at l.memory e.at ≡ place_at k.memory e.at
+  place_left c e ne h =
+      elim (put_at-cases (place_at k.memory) (place_at l.memory) gone.entry.at None gone.places e.at) [
+        | inl it ↦ absurd (elsewhere c e ne h it.0)
+        | inr it ↦ it.1
+      ]
+
+  pub sound_freed : IsSoundContext l
+  sound_freed = record {
+    flat = subst AreFlat (sym chunks_now) (flat_removed n k.chunks sound.flat);
+    once = subst Once (sym chunks_now) (once_removed n k.chunks sound.once (has_at n k.chunks gone.entry gone.listed));
+    numbers = λ c h.
+        let there : has c (removed n k.chunk_places) ≡ true = ap (λ (x : Kept). has c x.chunk_places) (sym gone.now) ∙ h in
+        let ne : c ≢ n = other_than_removed c n k.chunk_places there in
+        let some = at_some c k.chunks (sound.numbers c (has_of_removed c n k.chunk_places there)) in
+        ap (has c) chunks_now ∙ has_at c (removed n k.chunks) some.0 (still_at c n some.0 k.chunks sound.once sound.flat ne some.1);
+    live = λ c e h. let was = left c e h in live_left c e was.0 was.1;
+    placed = λ c e h. let was = left c e h in subst IsSome (sym (place_left c e was.0 was.1)) (sound.placed c e was.1);
+    known = λ c e h. sound.known c e (left c e h).1;
+    differ = λ b c d e differs h q. sound.differ b c d e differs (left b d h).1 (left c e q).1;
+    total = gone.total;
+  }
+
+  byte_left : (c : ℕ) (e : Entry) (i : ℕ) → c ≢ n → at c k.chunks ≡ Some e → i < e.known → byte_at t e.at.region (e.at.offset + i) ≡ byte_at s e.at.region (e.at.offset + i)
+  byte_left c e i ne h below =
+      let fit : i < e.size = omega (arith, below, sound.known c e h) in
+      gone.keeps e.at e.size e.size i (sound.live c e h) (live_left c e ne h) fit fit
+
+  pub known_freed : ((c : ℕ) (e : Entry) → at c k.chunks ≡ Some e → IsKnown s e.at e.known) → (c : ℕ) (e : Entry) → at c l.chunks ≡ Some e → IsKnown t e.at e.known
+  known_freed known c e h i below =
+      let was = left c e h in
+      subst IsSome (sym (byte_left c e i was.0 was.1 below)) (known c e was.1 i below)
+
+  chunk_left : (c : ℕ) (e : Entry) → c ≢ n → at c k.chunks ≡ Some e → chunk_of t l.memory e ≡ chunk_of s k.memory e
+  chunk_left c e ne h =
+      chunk_same s t k.memory l.memory e (place_left c e ne h)
+      (bytes_same s t e.at e.at e.known (in_live (footprint k.memory) s e.at e.size e.known agrees (sound.live c e h) (sound.known c e h))
+      (in_live (footprint l.memory) t e.at e.size e.known gone.moves.agrees (live_left c e ne h) (sound.known c e h)) (λ i below. byte_left c e i ne h below))
+
+  abbrev built : List Chunk → Context
+  built chunks = record {
+    name = k.name;
+    kind = k.kind;
+    protected = k.protected;
+    ledger = ledger l.memory;
+    used = k.used;
+    chunks = chunks;
+    hooks = k.hooks;
+  }
+
+  pub context_freed : (w : List ℕ) → gone.entry.name ≡ Some w → ((c : ℕ) (e : Entry) → c ≢ n → at c k.chunks ≡ Some e → e.name ≢ Some w)
+      → built (without w (map (chunk_of s k.memory) (entries k.chunks))) ≡ context_of t l
+  context_freed w named others =
+      sym (
+      ap (context_of t) gone.now
+      ∙ ap built (without_entries w (chunk_of s k.memory) (chunk_of t l.memory) k.chunks n gone.entry sound.once sound.flat gone.listed
+      (named_so s w gone.entry.name named) (λ d x ne h. named_not s w x.name (others d x ne h)) (λ d x ne h. chunk_left d x ne h))
+      )
+
+-- a map of names without one
+abbrev pub dropped : List ℕ → (List ℕ → Option ChunkId) → List ℕ → Option ChunkId
+dropped w find q = if same w q then None else find q
+
+module _ (kept : Forest Kept) (places : Forest ℕ) (find_context : List ℕ → Option CtxId) (find_chunk : List ℕ → Option ChunkId) (own : Own) (now : CtxId) (next next_entry : ℕ)
+    (sound : IsSound kept places find_context find_chunk own now next next_entry) (n c : ℕ) (k l : Kept) (s t : Space) (w : List ℕ) (here : at n kept ≡ Some k) (gone : Freed k l c s t)
+    (agrees : foot.Agrees (footprint k.memory) s) (named : gone.entry.name ≡ Some w) where
+  -- only this chunk has the name
+  only : (m d : ℕ) (j : Kept) (e : Entry) → at m kept ≡ Some j → at d j.chunks ≡ Some e → e.name ≡ Some w → (m ≡ n) × (d ≡ c)
+  only m d j e h q is =
+      let one = sound.chunk_names m d j e w h q is in
+      let two = sound.chunk_names n c k gone.entry w here gone.listed named in
+      let both : Some one.0 ≡ Some two.0 = sym one.1 ∙ two.1 in
+      let it : one.0 ≡ two.0 = cc in
+      (sym one.2 ∙ ap (λ (x : ChunkId). x.context.number) it ∙ two.2, sym one.3 ∙ ap (λ (x : ChunkId). x.entry.number) it ∙ two.3)
+
+  pub others_unnamed : (d : ℕ) (e : Entry) → d ≢ c → at d k.chunks ≡ Some e → e.name ≢ Some w
+  others_unnamed d e ne h is = ne (only n d k e here h is).1
+
+  stays : (word : List ℕ) (x : ChunkId) → (word ≡ w → ⊥) → find_chunk word ≡ Some x → IsChunk (changed n (λ _. l) kept) places word x
+  stays word x differs h =
+      let was : IsChunk kept places word x = sound.chunk_named word x h in
+      elim (cases_eq x.context.number n) [
+        | inl alike ↦
+            let one : Some was.context ≡ Some k = sym was.stands ∙ ap (λ (i : ℕ). at i kept) alike ∙ here in
+            let it : was.context ≡ k = cc in
+            let listed : at x.entry.number k.chunks ≡ Some was.entry = ap (λ (y : Kept). at x.entry.number y.chunks) (sym it) ∙ was.listed in
+            let ne : x.entry.number ≢ c = λ e.
+            let two : Some was.entry ≡ Some gone.entry = sym listed ∙ ap (λ (i : ℕ). at i k.chunks) e ∙ gone.listed in
+            let that : was.entry ≡ gone.entry = cc in
+            let names : Some word ≡ Some w = sym was.name ∙ ap (λ (y : Entry). y.name) that ∙ named in
+            differs cc in
+            let inside : IsSoundContext k = sound.each n k here in
+            record {
+              context = l;
+              entry = was.entry;
+              stands = step_here n k l kept here x.context.number alike;
+              placed = was.placed;
+              listed = ap (at x.entry.number) (chunks_now k l c s t gone inside agrees) ∙ still_at x.entry.number c was.entry k.chunks inside.once inside.flat ne listed;
+              entry_placed = ap (λ (y : Kept). at x.entry.number y.chunk_places) gone.now ∙ gone.stays x.entry.number ne ∙ ap (λ (y : Kept). at x.entry.number y.chunk_places) (sym it) ∙ was.entry_placed;
+              name = was.name;
+            }
+        | inr ne ↦ record {
+          context = was.context;
+          entry = was.entry;
+          stands = step_other n k l kept here x.context.number was.context ne was.stands;
+          placed = was.placed;
+          listed = was.listed;
+          entry_placed = was.entry_placed;
+          name = was.name;
+        }
+      ]
+
+  pub sound_free : (find_chunk2 : List ℕ → Option ChunkId) → ((q : List ℕ) → find_chunk2 q ≡ dropped w find_chunk q) → IsSound (changed n (λ _. l) kept) places find_context find_chunk2 own now next next_entry
+  sound_free find_chunk2 drops =
+      let inside : IsSoundContext k = sound.each n k here in
+      let finds : (word : List ℕ) (x : ChunkId) → (word ≡ w → ⊥) → find_chunk word ≡ Some x → find_chunk2 word ≡ Some x =
+      λ word x differs h. elim (cases_Bool (same w word)) [
+        | inl y ↦ absurd (differs (sym (same_is w word y)))
+        | inr out ↦ drops word ∙ rw out h
+      ] in
+      sound_step kept places find_context find_chunk own now next next_entry sound n k l here find_chunk2 next_entry
+      (ap (λ (x : Kept). x.name) gone.now) (ap (λ (x : Kept). x.protected) gone.now) (sound_freed k l c s t gone inside agrees) (omega arith)
+      (λ d h.
+      let some = at_some d l.chunks h in
+      let was = left k l c s t gone inside agrees d some.0 some.1 in
+      sound.given n d k here (has_at d k.chunks some.0 was.1))
+      (λ word x h. elim (cases_Bool (same w word)) [
+        | inl y ↦ let none : dropped w find_chunk word ≡ None = rw y refl in let is : dropped w find_chunk word ≡ Some x = sym (drops word) ∙ h in absurd (cc)
+        | inr out ↦
+            let is : find_chunk word ≡ Some x = (let z : dropped w find_chunk word ≡ Some x = sym (drops word) ∙ h in rw out at z) in
+            stays word x (λ e. both_ways (same w word) out (is_same w word (sym e))) is
+      ])
+      (λ m d j e word h q is. elim (step_at n k l kept here m j h) [
+        | inl it ↦
+            let was = left k l c s t gone inside agrees d e (ap (λ (x : Kept). at d x.chunks) (sym it.1) ∙ q) in
+            let there = sound.chunk_names n d k e word here was.1 is in
+            (there.0, finds word there.0 (λ z. was.0 (only n d k e here was.1 (is ∙ ap Some z)).1) there.1, there.2 ∙ sym it.0, there.3)
+        | inr it ↦
+            let there = sound.chunk_names m d j e word it.1 q is in
+            (there.0, finds word there.0 (λ z. it.0 (only m d j e it.1 q (is ∙ ap Some z)).0) there.1, there.2, there.3)
+      ])
+
+module _ (a : TreeState) (s t : Space) (w : List ℕ) (id : ChunkId) (k l : Kept) (agrees : Agrees a s) (once : Once a.kept) (each : (m : ℕ) (j : Kept) → at m a.kept ≡ Some j → IsSoundContext j)
+    (leads : Leads a w id) (here : at id.context.number a.kept ≡ Some k) (gone : Freed k l id.entry.number s t) where
+  stepped : Stepped a (record a { kept = changed id.context.number (λ _. l) a.kept }) s t id.context.number k l
+  stepped = record {
+    here = here;
+    changed = refl;
+    account = refl;
+    moves = gone.moves;
+    known = known_freed k l id.entry.number s t gone (each id.context.number k here) (agrees.each id.context.number k here) (λ c e h. agrees.known id.context.number c k e here h);
+    total = gone.total;
+  }
+
+  pub free_moves : Moves a (record a { kept = changed id.context.number (λ _. l) a.kept }) s t
+  free_moves = moves_stepped a (record a { kept = changed id.context.number (λ _. l) a.kept }) s t id.context.number k l agrees once each stepped
+
+  same_context : leads.chunk.context ≡ k
+  same_context = let one : Some leads.chunk.context ≡ Some k = sym leads.chunk.stands ∙ here in cc
+
+  same_entry : leads.chunk.entry ≡ gone.entry
+  same_entry =
+      let one : Some leads.chunk.entry ≡ Some gone.entry = sym leads.chunk.listed ∙ ap (λ (x : Kept). at id.entry.number x.chunks) same_context ∙ gone.listed in
+      cc
+
+  pub entry_named : gone.entry.name ≡ Some w
+  entry_named = ap (λ (x : Entry). x.name) (sym same_entry) ∙ leads.chunk.name
+
+  pub free_contexts : ((c : ℕ) (e : Entry) → c ≢ id.entry.number → at c k.chunks ≡ Some e → e.name ≢ Some w) → stands_for (record a { kept = changed id.context.number (λ _. l) a.kept }) t ≡ freed w (stands_for a s)
+  free_contexts others =
+      let gives : give (ledger leads.chunk.context.memory) (unwrap_or (place_at leads.chunk.context.memory leads.chunk.entry.at) (InSlab 0)) ≡ Ok (ledger l.memory) =
+      ap (λ (x : Kept). give (ledger x.memory) (unwrap_or (place_at x.memory leads.chunk.entry.at) (InSlab 0))) same_context
+      ∙ ap (λ (x : Entry). give (ledger k.memory) (unwrap_or (place_at k.memory x.at) (InSlab 0))) same_entry
+      ∙ ap (λ (o : Option Place). give (ledger k.memory) (unwrap_or o (InSlab 0))) gone.placed
+      ∙ gone.given in
+      stands_by a (record a { kept = changed id.context.number (λ _. l) a.kept }) s t id.context.number k l agrees once each stepped
+      (λ c. record c { ledger = ledger l.memory; chunks = without w c.chunks })
+      (context_freed k l id.entry.number s t gone (each id.context.number k here) (agrees.each id.context.number k here) w entry_named others)
+      ∙ sym (rw (leads.found s, gives) refl)

@@ -1,0 +1,320 @@
+-- A context more in a tree: what that makes of the tree, and of what it stands for.
+use Rattle.std.proofs.Common.{◌≡◌, ◌≢◌, ◌⊎◌, ℕ, ◌+◌, ◌<◌, ◌≤◌, Bool, true, false, List, Option, Some, None, IsSome, refl, sym, ap, ◌∙◌, subst, inl, inr, arith}
+use Rattle.std.specs.Prelude.{◌==◌, ◌||◌, if◌then◌else◌}
+use Rattle.pgs_step.specs.declared.ids.CtxId.{CtxId}
+use Rattle.std.proofs.lemmas.Bool.{cases_eq, cases_Bool, eq-eqb, ne_eqb, both_ways, or_parts, cases_lt, lt-ltb, le-ltb}
+use Rattle.addr_space.specs.Space.{Space}
+use Rattle.addr_space.specs.Footprint as foot
+use Rattle.addr_space.specs.Footprint.{Footprint, AreDisjoint, nothing}
+use Rattle.addr_space.proofs.Apart.{Agrees-other, Keeps-other, AreDisjoint-sym}
+use Rattle.addr_space.proofs.Contexts.{AreDisjoint-nothing, AreDisjoint-fresh, counted-own, counted-other, counted-nothing}
+use Rattle.addr_space.proofs.Options.{none_or_some}
+use Rattle.forest.specs.Forest.{Forest, Empty, Node, at, has, Once, size, times, put, mapped}
+use Rattle.forest.proofs.Trees.{Apart, apart_of, Here, Below, Beside, where_is, has_at, put_absent, at_absent, times_put, times_none, size_put}
+use Rattle.forest.proofs.Mapped.{mapped-put, mapped-once, mapped-has}
+use Rattle.any_ctx.specs.Ledgers.{stats}
+use Rattle.any_ctx.specs.Contexts.{footprint, ledger}
+use Rattle.context_rules.specs.Contexts.{Context, Contexts}
+use Rattle.context_tree.specs.declared.chunk_id.ChunkId.{ChunkId}
+use Rattle.context_tree.specs.declared.entry.Entry.{Entry}
+use Rattle.context_tree.specs.declared.tree.Own.{Own}
+use Rattle.context_tree.specs.Kept.{Kept}
+use Rattle.context_tree.specs.Soundness.{same, one_below, IsSoundContext, IsSound, IsNamed, IsChunk, IsOwn}
+use Rattle.context_tree.specs.State.{TreeState, context_of, stands_for, Agrees, total_of, Moves}
+use Rattle.context_tree.proofs.Names.{at_here, at_below, at_beside, same_is, is_same}
+use Rattle.context_tree.proofs.Steps.{context_stays}
+
+module _ {A : Type 0} (p n : ℕ) (a : A) where
+  -- the new node, and the others
+  pub at_grown_other : (m : ℕ) (t : Forest A) → m ≢ n → at m (put p n a Empty t) ≡ at m t
+  at_grown_other m Empty ne = refl
+  at_grown_other m (Node k b below beside) ne =
+      elim (cases_Bool (k == p)) [
+        | inl y ↦ rw (y, ne_eqb n m (λ z. ne (sym z)), at_grown_other m beside ne) refl
+        | inr y ↦ rw (y, at_grown_other m below ne, at_grown_other m beside ne) refl
+      ]
+
+  pub at_grown : (t : Forest A) → Once t → has p t ≡ true → has n t ≡ false → at n (put p n a Empty t) ≡ Some a
+  at_grown Empty o h fresh = absurd (cc)
+  at_grown (Node k b below beside) o h fresh =
+      let apart : Apart k below beside = apart_of k b below beside o in
+      let parts = or_parts (k == n) (has n below || has n beside) fresh in
+      let rest = or_parts (has n below) (has n beside) parts.1 in
+      elim (where_is p k b below beside o h) [
+        | Here e y u v ↦ rw (parts.0, y, eq-eqb n n refl) refl
+        | Below ne y u v ↦ rw (parts.0, y, at_grown below apart.once_below u rest.0) refl
+        | Beside ne y u v ↦ rw (parts.0, y, put_absent p n a Empty below u, at_absent n below rest.0, at_grown beside apart.once_beside v rest.1) refl
+      ]
+
+  pub grown_at : (t : Forest A) → Once t → has p t ≡ true → has n t ≡ false → (m : ℕ) (j : A) → at m (put p n a Empty t) ≡ Some j → ((m ≡ n) × (j ≡ a)) ⊎ ((m ≢ n) × (at m t ≡ Some j))
+  grown_at t o h fresh m j is =
+      elim (cases_eq m n) [
+        | inl same ↦
+            let one : Some a ≡ Some j = sym (at_grown t o h fresh) ∙ ap (λ (i : ℕ). at i (put p n a Empty t)) (sym same) ∙ is in
+            inl (same, cc)
+        | inr ne ↦ inr (ne, sym (at_grown_other m t ne) ∙ is)
+      ]
+
+-- what all have together then
+pub total_grown : (p n : ℕ) (c : Context) (t : Contexts) → Once t → has p t ≡ true → total_of (put p n c Empty t) ≡ total_of t + (stats c.ledger).total
+total_grown p n c Empty o h = absurd (cc)
+total_grown p n c (Node k b below beside) o h =
+    let apart : Apart k below beside = apart_of k b below beside o in
+    elim (where_is p k b below beside o h) [
+      | Here e y u v ↦ rw (y, put_absent p n c Empty beside v) (omega arith)
+      | Below ne y u v ↦ rw (y, put_absent p n c Empty beside v) (omega (arith, total_grown p n c below apart.once_below u))
+      | Beside ne y u v ↦ rw (y, put_absent p n c Empty below u) (omega (arith, total_grown p n c beside apart.once_beside v))
+    ]
+
+-- two functions that say the same of each node
+pub mapped_same : {A B : Type 0} (f g : A → B) (t : Forest A) → Once t → ((m : ℕ) (j : A) → at m t ≡ Some j → g j ≡ f j) → mapped g t ≡ mapped f t
+mapped_same f g Empty o same = refl
+mapped_same f g (Node m j below beside) o same =
+    let apart : Apart m below beside = apart_of m j below beside o in
+    rw (
+      same m j (at_here m j below beside),
+      mapped_same f g below apart.once_below (λ i k h. same i k (at_below m i j k below beside o h)),
+      mapped_same f g beside apart.once_beside (λ i k h. same i k (at_beside m i j k below beside o h)),
+    ) refl
+
+-- the tree has a context more, the first below another one, and it has no chunk
+pub record Grown (a b : TreeState) (s t : Space) (p n : ℕ) (l : Kept) (context : ℕ) : Type 0 where
+  pub parent : has p a.kept ≡ true
+  pub fresh : has n a.kept ≡ false
+  pub now : b.kept ≡ put p n l Empty a.kept
+  pub account : b.account ≡ a.account
+  pub moves : foot.Moves (nothing a.account context) (footprint l.memory) s t
+  pub chunks : l.chunks ≡ Empty
+  pub total : (footprint l.memory).total ≡ (stats (ledger l.memory)).total
+
+module _ (a b : TreeState) (s t : Space) (p n : ℕ) (l : Kept) (context : ℕ) (agrees : Agrees a s) (once : Once a.kept) (each : (m : ℕ) (j : Kept) → at m a.kept ≡ Some j → IsSoundContext j)
+    (grown : Grown a b s t p n l context) where
+  cases : (m : ℕ) (j : Kept) → at m b.kept ≡ Some j → ((m ≡ n) × (j ≡ l)) ⊎ ((m ≢ n) × (at m a.kept ≡ Some j))
+  cases m j h = grown_at p n l a.kept once grown.parent grown.fresh m j (ap (at m) (sym grown.now) ∙ h)
+
+  new_here : at n b.kept ≡ Some l
+  new_here = ap (at n) grown.now ∙ at_grown p n l a.kept once grown.parent grown.fresh
+
+  other_here : (m : ℕ) (j : Kept) → m ≢ n → at m a.kept ≡ Some j → at m b.kept ≡ Some j
+  other_here m j ne h = ap (at m) grown.now ∙ at_grown_other p n l m a.kept ne ∙ h
+
+  was : (m : ℕ) (j : Kept) → at m a.kept ≡ Some j → m ≢ n
+  was m j h same = both_ways (has n a.kept) grown.fresh (ap (λ (i : ℕ). has i a.kept) (sym same) ∙ has_at m a.kept j h)
+
+  mine : (footprint l.memory).account ≡ a.account
+  mine = grown.moves.account
+
+  pub agrees_grown : Agrees b t
+  agrees_grown = record {
+    account = omega (arith, agrees.account, grown.account, grown.moves.accounts);
+    each = λ m j h. elim (cases m j h) [
+      | inl it ↦ rw it.1 grown.moves.agrees
+      | inr it ↦ Agrees-other (nothing a.account context) (footprint l.memory) (footprint j.memory) s t grown.moves (AreDisjoint-nothing a.account context (footprint j.memory)) (agrees.each m j it.1)
+    ];
+    owned = λ m j h. elim (cases m j h) [
+      | inl it ↦ rw it.1 (mine ∙ sym grown.account)
+      | inr it ↦ agrees.owned m j it.1 ∙ sym grown.account
+    ];
+    apart = λ m i j j2 differ h h2. elim (cases m j h) [
+      | inl it ↦ elim (cases i j2 h2) [
+        | inl that ↦ absurd (differ (it.0 ∙ sym that.0))
+        | inr that ↦ rw it.1 (AreDisjoint-fresh a.account context (footprint l.memory) (footprint j2.memory) s t grown.moves (agrees.each i j2 that.1))
+      ]
+      | inr it ↦ elim (cases i j2 h2) [
+        | inl that ↦ rw that.1 (AreDisjoint-sym (footprint l.memory) (footprint j.memory) (AreDisjoint-fresh a.account context (footprint l.memory) (footprint j.memory) s t grown.moves (agrees.each m j it.1)))
+        | inr that ↦ agrees.apart m i j j2 differ it.1 that.1
+      ]
+    ];
+    known = λ m c j e h q. elim (cases m j h) [
+      | inl it ↦
+          let none : at c Empty ≡ Some e = ap (at c) (sym (ap (λ (x : Kept). x.chunks) it.1 ∙ grown.chunks)) ∙ q in
+          absurd (cc)
+      | inr it ↦ λ i below.
+          let fit : i < e.size = omega (arith, below, (each m j it.1).known c e q) in
+          let keeps = Keeps-other (nothing a.account context) (footprint l.memory) (footprint j.memory) s t grown.moves (AreDisjoint-nothing a.account context (footprint j.memory)) (agrees.each m j it.1)
+          e.at e.size e.size i ((each m j it.1).live c e q) ((each m j it.1).live c e q) fit fit in
+          subst IsSome (sym keeps) (agrees.known m c j e it.1 q i below)
+    ];
+  }
+
+  pub stands_grown : stands_for b t ≡ put p n (context_of t l) Empty (stands_for a s)
+  unfolding stands_for
+  stands_grown =
+      ap (mapped (context_of t)) grown.now
+      ∙ mapped-put (context_of t) p n l Empty a.kept
+      ∙ ap (put p n (context_of t l) Empty) (mapped_same (context_of s) (context_of t) a.kept once (λ m j h.
+      context_stays (nothing a.account context) (footprint l.memory) s t j grown.moves (AreDisjoint-nothing a.account context (footprint j.memory)) (agrees.each m j h) (each m j h)))
+
+  once_stands : Once (stands_for a s)
+  unfolding stands_for
+  once_stands = mapped-once (context_of s) a.kept once
+
+  parent_stands : has p (stands_for a s) ≡ true
+  unfolding stands_for
+  parent_stands = mapped-has (context_of s) p a.kept ∙ grown.parent
+
+  pub moves_grown : Moves a b s t
+  moves_grown = record {
+    agrees = agrees_grown;
+    account = grown.account;
+    outside = λ number region. (
+      λ out.
+          let now = (grown.moves.outside number region).0 (out.0, refl) in
+          (now.0, λ m j h. elim (cases m j h) [ inl it ↦ rw it.1 now.1 | inr it ↦ out.1 m j it.1 ]),
+      λ out.
+          let before = (grown.moves.outside number region).1 (out.0, out.1 n l new_here) in
+          (before.0, λ m j h. out.1 m j (other_here m j (was m j h) h)),
+    );
+    accounts = grown.moves.accounts;
+    limit = grown.moves.limit;
+    own =
+        let sum = total_grown p n (context_of t l) (stands_for a s) once_stands parent_stands in
+        omega (
+          arith,
+          sum,
+          ap total_of stands_grown,
+          grown.moves.held a.account,
+          counted-own (footprint l.memory) a.account mine,
+          counted-nothing a.account context a.account,
+          grown.total,
+        );
+    others = λ account differ.
+        omega (
+          arith,
+          grown.moves.held account,
+          counted-nothing a.account context account,
+          counted-other (footprint l.memory) account (λ e. differ (sym e ∙ mine)),
+        );
+  }
+
+-- a map of names with one more, where the context isn't protected
+abbrev pub entered_context : Bool → List ℕ → CtxId → (List ℕ → Option CtxId) → List ℕ → Option CtxId
+entered_context true name id find w = find w
+entered_context false name id find w = if same name w then Some id else find w
+
+one_more : (next m : ℕ) → one_below next m ≤ one_below (next + 1) m
+one_more next m =
+    elim (cases_lt m next) [
+      | inl h ↦ rw (lt-ltb m next h, lt-ltb m (next + 1) (omega arith)) (omega arith)
+      | inr h ↦ rw (le-ltb m next h) (omega arith)
+    ]
+
+one_now : (next : ℕ) → one_below (next + 1) next ≡ 1
+one_now next = rw (lt-ltb next (next + 1) (omega arith)) refl
+
+module _ (kept : Forest Kept) (places : Forest ℕ) (find_context : List ℕ → Option CtxId) (find_chunk : List ℕ → Option ChunkId) (own : Own) (now : CtxId) (next next_entry : ℕ)
+    (sound : IsSound kept places find_context find_chunk own now next next_entry) (once : Once kept) (once_places : Once places) (p slot : ℕ) (l : Kept)
+    (parent : has p kept ≡ true) (parent_placed : has p places ≡ true) (fresh : has next kept ≡ false) (unplaced : has next places ≡ false) (chunks : l.chunks ≡ Empty)
+    (free : l.protected ≡ false → find_context l.name ≡ None) (find2 : List ℕ → Option CtxId)
+    (enters : (w : List ℕ) → find2 w ≡ entered_context l.protected l.name (record { number = next; slot = slot }) find_context w) where
+  stands : (m : ℕ) (j : Kept) → m ≢ next → at m kept ≡ Some j → at m (put p next l Empty kept) ≡ Some j
+  stands m j ne h = at_grown_other p next l m kept ne ∙ h
+
+  lies : (m x : ℕ) → at m places ≡ Some x → at m (put p next slot Empty places) ≡ Some x
+  lies m x h =
+      let ne : m ≢ next = λ same. both_ways (has next places) unplaced (ap (λ (i : ℕ). has i places) (sym same) ∙ has_at m places x h) in
+      at_grown_other p next slot m places ne ∙ h
+
+  old : (m : ℕ) (j : Kept) → at m kept ≡ Some j → m ≢ next
+  old m j h same = both_ways (has next kept) fresh (ap (λ (i : ℕ). has i kept) (sym same) ∙ has_at m kept j h)
+
+  named_by : (b : Bool) → l.protected ≡ b → (w : List ℕ) (id : CtxId) → entered_context b l.name (record { number = next; slot = slot }) find_context w ≡ Some id
+      → IsNamed (put p next l Empty kept) (put p next slot Empty places) w id
+  named_by true is w id h =
+      let x : IsNamed kept places w id = sound.named w id h in
+      record {
+        context = x.context;
+        stands = stands id.number x.context (old id.number x.context x.stands) x.stands;
+        placed = lies id.number id.slot x.placed;
+        findable = x.findable;
+        name = x.name;
+      }
+  named_by false is w id h =
+      elim (cases_Bool (same l.name w)) [
+        | inl y ↦
+            let one : Some (record { number = next; slot = slot }) ≡ Some id = rw y at h in
+            let it : (record { number = next; slot = slot }) ≡ id = cc in
+            subst (λ (z : CtxId). IsNamed (put p next l Empty kept) (put p next slot Empty places) w z) it (record {
+              context = l;
+              stands = at_grown p next l kept once parent fresh;
+              placed = at_grown p next slot places once_places parent_placed unplaced;
+              findable = is;
+              name = same_is l.name w y;
+            })
+        | inr out ↦
+            let there : find_context w ≡ Some id = rw out at h in
+            let x : IsNamed kept places w id = sound.named w id there in
+            record {
+              context = x.context;
+              stands = stands id.number x.context (old id.number x.context x.stands) x.stands;
+              placed = lies id.number id.slot x.placed;
+              findable = x.findable;
+              name = x.name;
+            }
+      ]
+
+  finds_old : (b : Bool) → l.protected ≡ b → (w : List ℕ) (id : CtxId) → find_context w ≡ Some id → entered_context b l.name (record { number = next; slot = slot }) find_context w ≡ Some id
+  finds_old true is w id h = h
+  finds_old false is w id h =
+      elim (cases_Bool (same l.name w)) [
+        | inl y ↦ absurd (none_or_some (find_context w) id (ap find_context (sym (same_is l.name w y)) ∙ free is) h)
+        | inr out ↦ rw out h
+      ]
+
+  finds_new : (b : Bool) → l.protected ≡ b → b ≡ false → entered_context b l.name (record { number = next; slot = slot }) find_context l.name ≡ Some (record { number = next; slot = slot })
+  finds_new true is clash = absurd (cc)
+  finds_new false is clash = rw (is_same l.name l.name refl) refl
+
+  pub sound_grown : size kept < 65536 → IsSoundContext l → IsOwn (put p next slot Empty places) 1 own.top → IsOwn (put p next slot Empty places) 3 own.cache → IsOwn (put p next slot Empty places) 4 own.portals
+      → IsOwn (put p next slot Empty places) 5 own.abort → IsSound (put p next l Empty kept) (put p next slot Empty places) find2 find_chunk own now (next + 1) next_entry
+  sound_grown few inside top cache portals abort = record {
+    numbers = λ m.
+        let sum = times_put m p next l Empty kept once parent in
+        elim (cases_eq next m) [
+          | inl alike ↦
+              let none : times m kept ≡ 0 = times_none m kept (ap (λ (i : ℕ). has i kept) (sym alike) ∙ fresh) in
+              let full : one_below (next + 1) m ≡ 1 = ap (one_below (next + 1)) (sym alike) ∙ one_now next in
+              rw (sum, eq-eqb next m alike, none, full) (omega arith)
+          | inr ne ↦ rw (sum, ne_eqb next m ne) (omega (arith, sound.numbers m, one_more next m))
+        ];
+    few = omega (arith, few, size_put p next l Empty kept once parent);
+    each = λ m j h. elim (grown_at p next l kept once parent fresh m j h) [ inl it ↦ rw it.1 inside | inr it ↦ sound.each m j it.1 ];
+    given = λ m c j h q. elim (grown_at p next l kept once parent fresh m j h) [
+      | inl it ↦ let none : has {A = Entry} c Empty ≡ true = ap (has c) (sym (ap (λ (x : Kept). x.chunks) it.1 ∙ chunks)) ∙ q in absurd (cc)
+      | inr it ↦ sound.given m c j it.1 q
+    ];
+    named = λ word id h. named_by l.protected refl word id (sym (enters word) ∙ h);
+    names = λ m j h findable. elim (grown_at p next l kept once parent fresh m j h) [
+      | inl it ↦
+          let seen : l.protected ≡ false = ap (λ (x : Kept). x.protected) (sym it.1) ∙ findable in
+          (record { number = next; slot = slot }, ap find2 (ap (λ (x : Kept). x.name) it.1) ∙ enters l.name ∙ finds_new l.protected refl seen, sym it.0)
+      | inr it ↦
+          let there = sound.names m j it.1 findable in
+          (there.0, enters j.name ∙ finds_old l.protected refl j.name there.0 there.1, there.2)
+    ];
+    chunk_named = λ word id h.
+        let x : IsChunk kept places word id = sound.chunk_named word id h in
+        record {
+          context = x.context;
+          entry = x.entry;
+          stands = stands id.context.number x.context (old id.context.number x.context x.stands) x.stands;
+          placed = lies id.context.number id.context.slot x.placed;
+          listed = x.listed;
+          entry_placed = x.entry_placed;
+          name = x.name;
+        };
+    chunk_names = λ m c j e word h q is. elim (grown_at p next l kept once parent fresh m j h) [
+      | inl it ↦
+          let none : at c Empty ≡ Some e = ap (at c) (sym (ap (λ (x : Kept). x.chunks) it.1 ∙ chunks)) ∙ q in
+          absurd (cc)
+      | inr it ↦ sound.chunk_names m c j e word it.1 q is
+    ];
+    top = top;
+    cache = cache;
+    portals = portals;
+    abort = abort;
+    current = elim sound.current [
+      | inl empty ↦ let gone : has {A = Kept} p Empty ≡ true = ap (has p) (sym empty) ∙ parent in absurd (cc)
+      | inr there ↦ inr (lies now.number now.slot there)
+    ];
+  }

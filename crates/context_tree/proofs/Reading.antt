@@ -1,0 +1,40 @@
+-- What a tree stands for, read one context at a time.
+use Rattle.std.proofs.Common.{◌≡◌, ℕ, Bool, true, false, Option, Some, None, refl, sym, ap, ◌∙◌}
+use Rattle.std.specs.Prelude.{not, is_some, MatchOption}
+use Rattle.std.specs.Option.{option_map}
+use Rattle.forest.specs.declared.id.NodeId.{NodeId}
+use Rattle.addr_space.specs.Space.{Space}
+use Rattle.forest.specs.Forest.{Forest, Empty, Node, at, children, first, mapped, size}
+use Rattle.forest.proofs.Mapped.{mapped-at, mapped-size, mapped-children}
+use Rattle.context_rules.specs.Contexts.{is_nothing}
+use Rattle.context_tree.specs.Kept.{Kept}
+use Rattle.context_tree.specs.State.{TreeState, context_of, stands_for}
+
+pub stands_size : (tree : TreeState) (s : Space) → size (stands_for tree s) ≡ size tree.kept
+unfolding stands_for
+stands_size tree s = mapped-size (context_of s) tree.kept
+
+pub stands_at : (tree : TreeState) (s : Space) (n : ℕ) (k : Kept) → at n tree.kept ≡ Some k → at n (stands_for tree s) ≡ Some (context_of s k)
+unfolding stands_for
+stands_at tree s n k h = mapped-at (context_of s) n tree.kept ∙ ap (option_map (context_of s)) h
+
+pub stands_children : (tree : TreeState) (s : Space) (n : ℕ) → children n (stands_for tree s) ≡ mapped (context_of s) (children n tree.kept)
+unfolding stands_for
+stands_children tree s n = sym (mapped-children (context_of s) n tree.kept)
+
+-- a forest without a first node has none
+pub nothing_first : (s : Space) (t : Forest Kept) → first t ≡ None → is_nothing (mapped (context_of s) t) ≡ true
+nothing_first s Empty h = refl
+nothing_first s (Node n k below beside) h = absurd (cc h)
+
+pub something_first : (s : Space) (t : Forest Kept) (n : ℕ) → first t ≡ Some n → is_nothing (mapped (context_of s) t) ≡ false
+something_first s Empty n h = absurd (cc h)
+something_first s (Node m k below beside) n h = refl
+
+-- a link to the first node tells whether there is one
+pub first_told : (s : Space) (t : Forest Kept) (id : Option NodeId) (P : NodeId → Type 0) (none : Bool) → MatchOption id (first t ≡ None) (λ (i : NodeId). (first t ≡ Some i.number) × P i)
+    → is_some id ≡ not none → none ≡ is_nothing (mapped (context_of s) t)
+first_told s t None P true h e = sym (nothing_first s t h)
+first_told s t None P false h e = absurd (cc e)
+first_told s t (Some i) P true h e = absurd (cc e)
+first_told s t (Some i) P false h e = sym (something_first s t i.number h.0)

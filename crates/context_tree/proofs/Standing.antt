@@ -1,0 +1,96 @@
+-- What is known of the chunk that a name leads to.
+use Rattle.std.proofs.Common.{◌≡◌, true, false, ℕ, ◌+◌, ◌^◌, ◌<◌, ◌≤◌, List, length, map, take, drop, Option, Some, None, IsSome, refl, sym, ap, ◌∙◌, subst, arith}
+use Rattle.std.specs.Prelude.{nat_lt}
+use Rattle.std.specs.Option.{IfSome}
+use Rattle.std.proofs.lemmas.Bool.{le-ltb, lt-ltb}
+use Rattle.addr_space.specs.declared.Addr.{Addr}
+use Rattle.addr_space.specs.Space.{Space, region_at, bytes_of, byte_at, part, IsInside, IsKnown, HasBytes}
+use Rattle.addr_space.specs.Footprint as foot
+use Rattle.addr_space.specs.Footprint.{Footprint}
+use Rattle.addr_space.proofs.Contexts.{ends_small, IsInside-live_part}
+use Rattle.any_ctx.specs.Contexts.{footprint, ledger}
+use Rattle.context_rules.specs.declared.errors.TreeError.TheVariants.{Range}
+use Rattle.context_rules.specs.Contexts as rules
+use Rattle.context_rules.specs.Contexts.{Found, found}
+use Rattle.context_rules.specs.Chunks.{shown}
+use Rattle.context_rules.specs.Refusals.{bytes_refusal}
+use Rattle.context_tree.specs.declared.chunk_id.ChunkId.{ChunkId}
+use Rattle.context_tree.specs.declared.entry.Entry.{Entry}
+use Rattle.context_tree.specs.State.{TreeState, bytes_at, chunk_of, stands_for, Agrees}
+use Rattle.context_tree.specs.Lookup.{Leads}
+use Rattle.context_tree.proofs.Bytes.{IsIn, in_live, length-bytes_at, has_known, part_read}
+
+-- the chunk in its context and in the space
+pub record Stands (tree : TreeState) (word : List ℕ) (e : Entry) (s : Space) : Type 0 where
+  pub footprint : Footprint
+  pub found : Found
+  pub agrees : foot.Agrees footprint s
+  pub live : footprint.live e.at ≡ Some e.size
+  pub fits : e.known ≤ e.size
+  pub ends : e.at.offset + e.size ≤ 2 ^ 31
+  pub inside : IsIn s e.at e.known
+  pub known : IsKnown s e.at e.known
+  pub is : rules.found word (stands_for tree s) ≡ Some found
+  pub bytes : found.chunk.known ≡ bytes_at s e.at e.known
+
+pub stands : (tree : TreeState) (word : List ℕ) (e : Entry) (s : Space) → Agrees tree s → ((id : ChunkId) × (leads : Leads tree word id) × (leads.chunk.entry ≡ e)) → Stands tree word e s
+stands tree word e s agrees led =
+    let id = led.0 in
+    let leads : Leads tree word id = led.1 in
+    let k = leads.chunk.context in
+    let here = leads.chunk.stands in
+    let lists = leads.chunk.listed in
+    let each : foot.Agrees (footprint k.memory) s = agrees.each id.context.number k here in
+    subst (λ (x : Entry). Stands tree word x s) led.2 (record {
+      footprint = footprint k.memory;
+      found = record { context = id.context.number; ledger = ledger k.memory; chunk = chunk_of s k.memory leads.chunk.entry };
+      agrees = each;
+      live = leads.sound.live id.entry.number leads.chunk.entry lists;
+      fits = leads.sound.known id.entry.number leads.chunk.entry lists;
+      ends = ends_small (footprint k.memory) s leads.chunk.entry.at leads.chunk.entry.size each (leads.sound.live id.entry.number leads.chunk.entry lists);
+      inside = in_live (footprint k.memory) s leads.chunk.entry.at leads.chunk.entry.size leads.chunk.entry.known each (leads.sound.live id.entry.number leads.chunk.entry lists) (leads.sound.known id.entry.number leads.chunk.entry lists);
+      known = agrees.known id.context.number id.entry.number k leads.chunk.entry here lists;
+      is = leads.found s;
+      bytes = refl;
+    })
+
+module _ (tree : TreeState) (word : List ℕ) (e : Entry) (s : Space) (x : Stands tree word e s) where
+  pub known_long : length x.found.chunk.known ≡ e.known
+  known_long = ap length x.bytes ∙ length-bytes_at s e.at e.known x.inside
+
+  pub bytes_served : (place n : ℕ) → place + n ≤ e.known → None ≡ bytes_refusal word place n (stands_for tree s)
+  bytes_served place n fits =
+      let test : nat_lt (length x.found.chunk.known) (place + n) ≡ false = le-ltb (length x.found.chunk.known) (place + n) (omega (arith, known_long, fits)) in
+      rw (x.is, test) refl
+
+  pub bytes_range : (place n : ℕ) → (place + n ≤ e.known → ⊥) → Some Range ≡ bytes_refusal word place n (stands_for tree s)
+  bytes_range place n over =
+      let more : e.known < place + n = omega (arith, over) in
+      let test : nat_lt (length x.found.chunk.known) (place + n) ≡ true = lt-ltb (length x.found.chunk.known) (place + n) (omega (arith, known_long, more)) in
+      rw (x.is, test) refl
+
+  -- a place in the chunk
+  abbrev pub IsAt : Addr → ℕ → Type 0
+  IsAt at place = at ≡ record { region = e.at.region; offset = e.at.offset + place }
+
+  pub inside_at : (at : Addr) (place n : ℕ) → IsAt at place → place + n ≤ e.size → IsInside s at n
+  inside_at at place n is fits =
+      IsInside-live_part x.footprint s e.at at e.size n x.agrees x.live (ap (λ (a : Addr). a.region) is) (omega (arith, ap (λ (a : Addr). a.offset) is, fits))
+
+  pub known_at : (at : Addr) (place n : ℕ) → IsAt at place → place + n ≤ e.known → IsKnown s at n
+  known_at at place n is fits k below =
+      let sums : e.at.offset + place + k ≡ e.at.offset + (place + k) = omega arith in
+      let there : byte_at s at.region (at.offset + k) ≡ byte_at s e.at.region (e.at.offset + (place + k)) =
+      ap (λ (a : Addr). byte_at s a.region (a.offset + k)) is ∙ ap (byte_at s e.at.region) sums in
+      subst IsSome (sym there) (x.known (place + k) (omega (arith, below, fits)))
+
+  pub bytes_shown : (at : Addr) (place n : ℕ) (out : List ℕ) → IsAt at place → place + n ≤ e.known → map Some out ≡ part (bytes_of (region_at s at.region)) at.offset n → out ≡ shown word place n (stands_for tree s)
+  bytes_shown at place n out is fits reads =
+      let there : map Some out ≡ part (bytes_of (region_at s e.at.region)) (e.at.offset + place) n = reads ∙ ap (λ (a : Addr). part (bytes_of (region_at s a.region)) a.offset n) is in
+      let read : out ≡ take n (drop place x.found.chunk.known) = part_read s e.at e.known place n out there fits x.inside ∙ ap (λ (k : List ℕ). take n (drop place k)) (sym x.bytes) in
+      rw x.is read
+
+  pub place_has : IfSome (found word (stands_for tree s)) (λ f. HasBytes s e.at f.chunk.known)
+  place_has =
+      subst (λ (o : Option Found). IfSome o (λ f. HasBytes s e.at f.chunk.known)) (sym x.is)
+      (subst (λ (k : List ℕ). HasBytes s e.at k) (sym x.bytes) (has_known s e.at e.known x.inside x.known))

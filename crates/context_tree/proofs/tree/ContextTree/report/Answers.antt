@@ -1,0 +1,23 @@
+use Rattle.std.proofs.Common.{◌≡◌, refl, sym, ap, ◌∙◌, subst}
+use Rattle.addr_space.specs.Space.{Space}
+use Rattle.forest.specs.Forest.{mapped}
+use Rattle.context_rules.specs.Contexts.{Contexts}
+use Rattle.context_rules.specs.Reports as reports
+use Rattle.context_tree.specs.State.{TreeState, context_of, stands_for}
+use Rattle.context_tree.proofs.tree.ContextTree.report.Goals as goal
+
+stands : (tree : TreeState) (s : Space) → stands_for tree s ≡ mapped (context_of s) tree.kept
+unfolding stands_for
+stands tree s = refl
+
+pub report_all-requires : goal.report_all-requires
+report_all-requires g c = (
+  c.requires.0,
+  subst (λ (t : Contexts). reports.IsCountable t)
+      (stands _ c.requires.0 ∙ ap (λ (t : TreeState). mapped (context_of c.requires.0) t.kept) (sym c.self.view_is)) c.requires.1,
+)
+
+pub returns : goal.returns
+returns g c s =
+    subst (λ (t : Contexts). g.E.Emit.emits c.args.out.now (reports.report t) c.report_all.new.out)
+    (ap (λ (t : TreeState). mapped (context_of s) t.kept) c.self.view_is ∙ sym (stands _ s)) (c.report_all.ensures s)
