@@ -1,9 +1,10 @@
 -- The outcome of a script, from how its reading ended and what was printed.
-use Rattle.std.proofs.Common.{◌≡◌, ℕ, ◌^◌, ◌<◌, Bool, true, false, List, [], ◌∷◌, ◌++◌, length, take, Option, Some, None, ◌⊎◌, inl, inr, refl, sym, ◌∙◌, ap, subst, arith, append-nil, length-append}
+use Rattle.std.proofs.Common.{◌≡◌, ℕ, ◌+◌, ◌^◌, ◌<◌, ◌≤◌, Bool, true, false, List, [], ◌∷◌, ◌++◌, length, take, Option, Some, None, ◌⊎◌, inl, inr, refl, sym, ◌∙◌, ap, subst, arith, append-nil, length-append}
 use Rattle.std.specs.Prelude.{nat_lt, ◌==◌, if◌then◌else◌, ◌↔◌}
 use Rattle.std.proofs.lemmas.Bool.Decides.{nat_tests}
 use Rattle.std.proofs.Math.Seq.{take-append_seam}
-use Rattle.std.specs.Io.KnownBytes.{append_known}
+use Rattle.std.proofs.lemmas.List.{take_all}
+use Rattle.std.specs.Io.KnownBytes.{append_known, IsAtEnd}
 use Rattle.pgs_io.specs.Faults.{HasRisen}
 use Rattle.pgs_io.specs.Lines.{lines_of, ended_lines, onto_first, onto_ended, newline}
 use Rattle.pgs_step.specs.declared.events.What.{What}
@@ -14,9 +15,9 @@ use Rattle.pgs_world.specs.Answers.{Fits}
 use Rattle.pgs_world.specs.Transcript.{Course, course_of, transcript, errors_in, text_of_transcript, EndsAt}
 use Rattle.pgs_step.specs.Text.{texts_of}
 use Rattle.pgs_world.specs.Printing.{Gathering, Prints, Moves, GoesOn, FailsWithin}
-use Rattle.pgs_world.specs.Outcome.{HasGiven, refused_call, IsWhole, IsWanted, IsCutOff, IsTooLong, IsUnwritten}
+use Rattle.pgs_world.specs.Outcome.{most_bytes, HasGiven, AreWhole, refused_call, IsWhole, IsWanted, IsCutOff, IsTooLong, IsUnwritten}
 use Rattle.pgs_world.specs.Ending.{outcome_of, status_of}
-use Rattle.pgs_world.specs.Loop.{EndIs, CourseAt, is_wanted, OnUnwritten}
+use Rattle.pgs_world.specs.Loop.{EndIs, AreFront, CourseAt, is_wanted, OnUnwritten}
 use Rattle.pgs_world.proofs.CourseLemmas.{course_of-stopped}
 
 -- What a sink and the counts show once these events were printed and handed on.
@@ -103,19 +104,61 @@ a_fit calls end.Unwritten = (None, tt)
 pub record Front (lines : List (List ℕ)) (left left' : Option (List ℕ)) : Type 0 where
   pub given : List ℕ
   pub given_is : HasGiven given left left'
+  pub short : length given ≤ most_bytes + 1
+  pub whole : AreWhole (length lines) given left'
   pub more : List (List ℕ)
   pub front : lines_of given ≡ lines ++ more
 
+-- without a byte too many, all that was given counts
+whole_among : (n : ℕ) (bytes : List ℕ) (left' : Option (List ℕ)) → length bytes ≤ most_bytes → (n ≤ length (ended_lines bytes)) ⊎ IsAtEnd left' → AreWhole n bytes left'
+whole_among n bytes left' short (inl few) = inl (rw (take_all most_bytes bytes short) few)
+whole_among n bytes left' short (inr ended) = inr (short, ended)
+
+-- the first bytes are those in front of the others
+first_bytes : (n : ℕ) (bytes over : List ℕ) → length bytes ≡ n → take n (bytes ++ over) ≡ bytes
+first_bytes n bytes over full = ap (λ (k : ℕ). take k (bytes ++ over)) (sym full) ∙ take-append_seam bytes over
+
+of_front : (bytes : List ℕ) (lines : List (List ℕ)) (left left' : Option (List ℕ)) → AreFront bytes lines left left' → Front lines left left'
+of_front bytes lines left left' h = record {
+  given = bytes;
+  given_is = h.given;
+  short = omega (arith, h.short);
+  whole = whole_among (length lines) bytes left' h.short h.whole;
+  more = h.more;
+  front = h.front;
+}
+
 front_of : (e : End) (bytes : List ℕ) (lines : List (List ℕ)) (left left' : Option (List ℕ)) → EndIs e bytes lines left left' → Front lines left left'
-front_of end.Whole bytes lines left left' h = record { given = bytes; given_is = h.0; more = []; front = sym h.3 ∙ sym (append-nil lines) }
-front_of end.Wanted bytes lines left left' h = record { given = bytes; given_is = h.given; more = h.more; front = h.front }
-front_of end.Unwritten bytes lines left left' h = record { given = bytes; given_is = h.given; more = h.more; front = h.front }
+front_of end.Whole bytes lines left left' h = record {
+  given = bytes;
+  given_is = h.0;
+  short = omega (arith, h.2);
+  whole = inr (h.2, h.1);
+  more = [];
+  front = sym h.3 ∙ sym (append-nil lines);
+}
+front_of end.Wanted bytes lines left left' h = of_front bytes lines left left' h
+front_of end.Unwritten bytes lines left left' h = of_front bytes lines left left' h
 front_of end.SourceFault bytes lines left left' h =
     let f = ended_front bytes [] in
-    record { given = bytes; given_is = h.0; more = f.0; front = ap lines_of (sym (append-nil bytes)) ∙ f.1 ∙ ap (λ (z : List (List ℕ)). z ++ f.0) (sym h.2) }
+    record {
+      given = bytes;
+      given_is = h.0;
+      short = omega (arith, h.1);
+      whole = whole_among (length lines) bytes left' h.1 (inl (omega (arith, ap length h.2)));
+      more = f.0;
+      front = ap lines_of (sym (append-nil bytes)) ∙ f.1 ∙ ap (λ (z : List (List ℕ)). z ++ f.0) (sym h.2);
+    }
 front_of end.TooLong bytes lines left left' h =
     let f = ended_front bytes (h.0 ∷ []) in
-    record { given = bytes ++ h.0 ∷ []; given_is = h.1; more = f.0; front = f.1 ∙ ap (λ (z : List (List ℕ)). z ++ f.0) (sym h.3) }
+    record {
+      given = bytes ++ h.0 ∷ [];
+      given_is = h.1;
+      short = omega (arith, h.2, length-append bytes (h.0 ∷ []));
+      whole = inl (rw (first_bytes most_bytes bytes (h.0 ∷ []) h.2) (omega (arith, ap length h.3)));
+      more = f.0;
+      front = f.1 ∙ ap (λ (z : List (List ℕ)). z ++ f.0) (sym h.3);
+    }
 
 first_lines : (n : ℕ) (lines more all : List (List ℕ)) → n ≡ length lines → all ≡ lines ++ more → take n all ≡ lines
 first_lines n lines more all c e = ap (λ (k : ℕ). take k all) c ∙ ap (take (length lines)) e ∙ take-append_seam lines more
@@ -186,6 +229,7 @@ module _ (n calls errors : ℕ) (left left' written written' : Option (List ℕ)
         bytes = f.bytes;
         given = f.how.given;
         short = f.how.short;
+        whole_lines = whole_among n f.bytes left' f.how.short (rw f.count f.how.whole);
         defined = record { wanted = ap (λ (c : Course). c.wanted) course ∙ at.wanted; line_is = ap (λ (c : Course). c.performed) course ∙ at.line_is };
         text = told.text refl;
         errors = told.errors_are;
@@ -244,6 +288,8 @@ module _ (n calls errors : ℕ) (left left' written written' : Option (List ℕ)
       record {
         bytes = front.given;
         given = front.given_is;
+        short = front.short;
+        whole_lines = rw f.count front.whole;
         read = omega (arith, f.count, ap length front.front, length-append f.lines front.more);
         front = part.0;
         rest = part.1;

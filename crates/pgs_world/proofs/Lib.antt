@@ -4,6 +4,7 @@ pub mod CourseLemmas
 pub mod ElementLemmas
 pub mod EndingLemmas
 pub mod ErrorLemmas
+pub mod HalfLines
 pub mod LoopLemmas
 pub mod OwnerLemmas
 pub mod TurnLemmas

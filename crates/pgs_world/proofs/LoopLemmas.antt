@@ -1,10 +1,10 @@
 -- The reading loop: where it stands, and how it ends.
-use Rattle.std.proofs.Common.{◌≡◌, ℕ, ◌+◌, ◌^◌, ◌<◌, ◌≤◌, Bool, true, false, List, [], ◌∷◌, ◌++◌, length, Option, Some, None, refl, sym, ◌∙◌, ap, arith, length-append, append-nil}
+use Rattle.std.proofs.Common.{◌≡◌, ℕ, ◌+◌, ◌^◌, ◌<◌, ◌≤◌, Bool, true, false, List, [], ◌∷◌, ◌++◌, length, Option, Some, None, inl, inr, refl, sym, ◌∙◌, ap, subst, arith, length-append, append-nil}
 use Rattle.std.specs.Prelude.{unwrap_or, IfSome}
-use Rattle.std.specs.Io.KnownBytes.{prepend_known}
-use Rattle.pgs_io.specs.Lines.{text_of, newline}
-use Rattle.pgs_io.specs.Reading.{Reading, GivesLine, GivesLast, MeetsEnd, MeetsFault, MeetsLimit}
-use Rattle.pgs_io.proofs.ReadingLemmas.{HasRead-start, HasRead-line, HasRead-now, HasRead-end, HasRead-last, HasRead-fault, HasRead-too_much}
+use Rattle.pgs_io.specs.Lines.{text_of, newline, lines_of, ended_lines}
+use Rattle.pgs_io.specs.Reading.{Reading, HasRead, GivesLine, GivesLast, MeetsEnd, MeetsFault, MeetsLimit}
+use Rattle.pgs_io.proofs.ReadingLemmas.{HasRead-start, HasRead-line, HasRead-end, HasRead-last, HasRead-fault, HasRead-too_much}
+use Rattle.pgs_io.proofs.LineLemmas.{lines_of-text, ended_lines-text}
 use Rattle.pgs_step.specs.declared.events.What.{What}
 use Rattle.pgs_world.specs.declared.performing.End.{End}
 use Rattle.pgs_world.specs.declared.performing.End.TheVariants as end
@@ -54,6 +54,18 @@ text_of-long (line ∷ lines) = omega (arith, length-append line (newline ∷ te
 pub few_lines : (start now : Option (List ℕ)) (reader : Reading) (world : World) (emitted : List What → Type 0) (lines : List (List ℕ)) → Stands start now reader world emitted lines → length lines ≤ 2 ^ 24
 few_lines start now reader world emitted lines s = omega (arith, s.read.counted, ap length s.read.bytes, length-append (text_of lines) reader.pending, text_of-long lines)
 
+-- the lines that were given are the first ones of what was taken, and their newlines are among it
+front_taken : (start now : Option (List ℕ)) (reader : Reading) (lines : List (List ℕ)) → (h : HasRead most_bytes start now reader lines) → AreFront h.taken lines start now
+front_taken start now reader lines h =
+    let ended = ap ended_lines h.bytes ∙ ended_lines-text lines reader.pending h.no_newline in
+    record {
+      given = h.from_source;
+      short = omega (arith, h.counted);
+      more = lines_of reader.pending;
+      front = ap lines_of h.bytes ∙ lines_of-text lines reader.pending h.no_newline;
+      whole = inl (omega (arith, ap length ended, length-append lines (ended_lines reader.pending)));
+    }
+
 pub has_room : (start now : Option (List ℕ)) (reader : Reading) (world : World) (emitted : List What → Type 0) (lines : List (List ℕ)) → Stands start now reader world emitted lines → HasRoom 4 world
 has_room start now reader world emitted lines s =
     let few : length lines ≤ 2 ^ 24 = few_lines start now reader world emitted lines s in
@@ -97,13 +109,13 @@ module _ (start before after : Option (List ℕ)) (reader reader' : Reading) (wo
 
   pub ends-unwritten : after ≡ before → Performs (record { end = end.Unwritten; lines = n }) start after world emitted'
   ends-unwritten same =
-      let read = HasRead-now most_bytes start before reader lines s.read in record {
-        bytes = read.0;
+      record {
+        bytes = s.read.taken;
         lines = lines;
         courses = CoursesAre-weaker false lines world emitted emitted' leads s.courses;
         called = λ e. absurd (cc);
         count = count;
-        how = record { given = read.1.from_source ∙ ap (prepend_known read.0) (sym same); short = read.1.within; more = read.2.0; front = read.2.1 };
+        how = subst (AreFront s.read.taken lines start) (sym same) (front_taken start before reader lines s.read);
       }
 
 -- The ends behind a line.
@@ -125,13 +137,13 @@ module _ (start before after : Option (List ℕ)) (reader reader' : Reading) (ol
       → (is_wanted e ≡ true → old.calls < new.calls)
       → Performs (record { end = e; lines = n + 1 }) start after new emitted'
   ends-line g e failed h turns counted =
-      let read = HasRead-now most_bytes start after reader' (lines ++ g.line ∷ []) (HasRead-line most_bytes start before after reader reader' kept long lines s.read g) in record {
-        bytes = read.0;
+      let read = HasRead-line most_bytes start before after reader reader' kept long lines s.read g in record {
+        bytes = read.taken;
         lines = lines ++ g.line ∷ [];
         courses = CoursesAre-line lines g.line old new emitted during emitted' (is_wanted e) s.courses turns rise counted joins;
         called = λ h. omega (arith, counted h);
         count = more g.line;
-        how = front_of g.line e failed h read.0 (record { given = read.1.from_source; short = read.1.within; more = read.2.0; front = read.2.1 });
+        how = front_of g.line e failed h read.taken (front_taken start after reader' (lines ++ g.line ∷ []) read);
       }
 
   pub ends-last : (g : GivesLast before after reader reader' kept long)
@@ -158,7 +170,7 @@ module _ (start before after : Option (List ℕ)) (reader reader' : Reading) (ol
         courses = CoursesAre-line lines g.line old new emitted during emitted' (is_wanted e) s.courses turns rise counted joins;
         called = λ h. omega (arith, counted h);
         count = more g.line;
-        how = front_of g.line e failed h read.0 (record { given = read.1.from_source; short = read.1.within; more = []; front = read.2 ∙ sym (append-nil (lines ++ g.line ∷ [])) });
+        how = front_of g.line e failed h read.0 (record { given = read.1.from_source; short = read.1.within; more = []; front = read.2 ∙ sym (append-nil (lines ++ g.line ∷ [])); whole = inr read.3 });
       }
 
   pub ends-last_any : (g : GivesLast before after reader reader' kept long) (r : Option End) (failed : Bool) → IfSome r (λ e. IsLineEnd e failed)

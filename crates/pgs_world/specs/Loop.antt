@@ -1,5 +1,5 @@
 -- Where the reading loop stands, and how it ends.
-use Rattle.std.specs.Prelude.{◌≡◌, ℕ, ◌+◌, ◌*◌, ◌<◌, ◌≤◌, Bool, true, false, List, [], ◌∷◌, ◌++◌, length, Option, Some, None}
+use Rattle.std.specs.Prelude.{◌≡◌, ℕ, ◌+◌, ◌*◌, ◌<◌, ◌≤◌, ◌⊎◌, Bool, true, false, List, [], ◌∷◌, ◌++◌, length, Option, Some, None}
 use Rattle.std.specs.Io.KnownBytes.{IsAtEnd}
 use Rattle.pgs_io.specs.Lines.{lines_of, ended_lines}
 use Rattle.pgs_io.specs.Reading.{Reading, HasRead}
@@ -49,12 +49,13 @@ pub record Stands (start now : Option (List ℕ)) (reader : Reading) (world : Wo
   pub between : IsBetweenLines world.session.level
   pub bounded : IsBounded (length lines) world
 
--- the bytes that were given have these lines, and perhaps more
+-- The bytes that were given have these lines, and perhaps more. Each has its newline among them, or the source is at its end.
 pub record AreFront (bytes : List ℕ) (lines : List (List ℕ)) (before after : Option (List ℕ)) : Type 0 where
   pub given : HasGiven bytes before after
   pub short : length bytes ≤ most_bytes
   pub more : List (List ℕ)
   pub front : lines_of bytes ≡ lines ++ more
+  pub whole : (length lines ≤ length (ended_lines bytes)) ⊎ IsAtEnd after
 
 -- the bytes that were given, by how the loop ended
 abbrev pub EndIs : End → List ℕ → List (List ℕ) → Option (List ℕ) → Option (List ℕ) → Type 0

@@ -1,5 +1,5 @@
 -- What a run did, by its status.
-use Rattle.std.specs.Prelude.{◌≡◌, ℕ, ◌^◌, ◌<◌, ◌≤◌, ◌↔◌, List, [], ◌∷◌, ◌++◌, length, take, codes, Option, Some, None, ◌==◌, if◌then◌else◌}
+use Rattle.std.specs.Prelude.{◌≡◌, ℕ, ◌+◌, ◌^◌, ◌<◌, ◌≤◌, ◌↔◌, ◌⊎◌, List, [], ◌∷◌, ◌++◌, length, take, codes, Option, Some, None, ◌==◌, if◌then◌else◌}
 use Rattle.std.specs.Io.KnownBytes.{prepend_known, append_known, IsAtEnd}
 use Rattle.pgs_io.specs.Lines.{lines_of, ended_lines}
 use Rattle.pgs_world.specs.declared.program.Outcome.{Outcome}
@@ -36,11 +36,16 @@ pub record IsWhole (outcome : Outcome) (left left' written written' : Option (Li
 abbrev pub CountsErrors : Outcome → Option (List ℕ) → Type 0
 CountsErrors outcome left = (bytes : List ℕ) → left ≡ Some bytes → outcome.errors ≡ errors_in (transcript None (lines_of bytes))
 
+-- So many lines were given whole: the newline of each is among the bytes, or the source was at its end behind them. A byte past the most of a script is no part of a line.
+abbrev pub AreWhole : ℕ → List ℕ → Option (List ℕ) → Type 0
+AreWhole lines bytes left = (lines ≤ length (ended_lines (take most_bytes bytes))) ⊎ ((length bytes ≤ most_bytes) × IsAtEnd left)
+
 -- Status 5 with a call: the transcript in which that call was refused, recovered from and followed by the session's end.
 pub record IsWanted (outcome : Outcome) (left left' written written' : Option (List ℕ)) : Type 0 where
   pub bytes : List ℕ
   pub given : HasGiven bytes left left'
   pub short : length bytes ≤ most_bytes
+  pub whole_lines : AreWhole outcome.lines bytes left'
   pub defined : EndsAt outcome.call (lines_of bytes) outcome.lines
   pub text : HasWritten (Some outcome.call) (lines_of bytes) written written'
   pub errors : outcome.errors ≡ errors_in (transcript (Some outcome.call) (lines_of bytes))
@@ -72,6 +77,8 @@ refused_call call = if call == 0 then None else Some call
 pub record IsUnwritten (outcome : Outcome) (left left' written written' : Option (List ℕ)) : Type 0 where
   pub bytes : List ℕ
   pub given : HasGiven bytes left left'
+  pub short : length bytes ≤ most_bytes + 1
+  pub whole_lines : AreWhole outcome.lines bytes left'
   pub read : outcome.lines ≤ length (lines_of bytes)
   pub front : List ℕ
   pub rest : List ℕ

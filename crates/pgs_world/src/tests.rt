@@ -11,10 +11,11 @@ const PINNED: &str = "1 begin level 1\n1 owner o1\n1 ok\n1 acquire buffer pin 7 
 const ROLLED_BACK: &str =
     "1 abort level 1\n1 release buffer pin 7 #1 o1\n1 cleanup level 1\n1 owner o1 gone\n";
 
-/// What a run left: its outcome and the bytes that were written.
+/// What a run left: its outcome, how many bytes were not read, and those that were written.
 #[derive(Drop)]
 struct Played {
     outcome: Outcome,
+    unread: usize,
     written: Vec<u8>,
 }
 
@@ -34,7 +35,11 @@ fn play(
     let mut sink = MemSink::new(alloc, 4096, vec![in alloc; bad_write]?)?;
     let outcome = run(alloc, &words, &mut source, &mut sink);
     let written = Vec::from_slice(alloc, sink.written())?;
-    Ok(Played { outcome, written })
+    Ok(Played {
+        outcome,
+        unread: source.unread().len(),
+        written,
+    })
 }
 
 /// The two texts, one behind the other.
@@ -140,14 +145,15 @@ fn each_read_fails_in_turn(rt: HostRuntime) -> Result<(), Fail> {
     Ok(())
 }
 
+/// Each line is answered before the next byte is read, and nothing is read once a write has failed.
 #[test]
 fn each_write_fails_in_turn(rt: HostRuntime) -> Result<(), Fail> {
     let whole = play(rt.alloc(), b"begin\npin 7\ncommit\n", 1, 0, 0)?;
-    for (call, lines) in [(1, 1), (2, 2), (3, 3), (4, 3)] {
+    for (call, lines, unread) in [(1, 1, 13), (2, 2, 7), (3, 3, 0), (4, 3, 0)] {
         let played = play(rt.alloc(), b"begin\npin 7\ncommit\n", 1, 0, call)?;
         assert_eq!(rt;
-            (played.outcome.status, played.outcome.lines),
-            (4, lines),
+            (played.outcome.status, played.outcome.lines, played.unread),
+            (4, lines, unread),
             "write {call}"
         );
         assert!(rt;
@@ -155,6 +161,28 @@ fn each_write_fails_in_turn(rt: HostRuntime) -> Result<(), Fail> {
             "write {call}"
         );
     }
+    Ok(())
+}
+
+/// All events come from one read. They are handed on where fewer than 512 of 8,192 bytes are left, which comes
+/// first at the `ok` of pin 216.
+#[test]
+fn a_first_write_that_fails_behind_many_lines(rt: HostRuntime) -> Result<(), Fail> {
+    let mut script = Vec::from_slice(rt.alloc(), b"begin\n")?;
+    for _ in 0..400 {
+        script.extend_from_slice(b"pin 7\n")?;
+    }
+    let played = play(rt.alloc(), &script, 4096, 0, 1)?;
+    assert_eq!(rt;
+        played.outcome,
+        Outcome {
+            status: 4,
+            call: 0,
+            errors: 0,
+            lines: 217
+        }
+    );
+    assert!(rt; played.written.is_empty());
     Ok(())
 }
 
