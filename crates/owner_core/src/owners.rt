@@ -102,7 +102,8 @@ impl Owners {
 
     /// Makes room for one more item of the owner, which `remember` then needs: `ResourceOwnerEnlarge`.
     ///
-    /// `Releasing` comes where the owner's release has begun, `Memory` where memory is refused.
+    /// `Releasing` comes where the owner's release has begun, `Memory` where memory is refused, or where
+    /// the owner has more than 2^40 items and their table has to be made anew.
     pub fn enlarge(&mut self, owner: OwnerId) -> Result<(), OwnerError>
         requires live { IsLive self.old owner }
         ensures spare { OnOk result (1 ≤ spare_of owner.number self.new) }

@@ -58,6 +58,9 @@ impl Items {
     }
 
     /// Makes room for one more item: `ResourceOwnerEnlarge`. Over many calls it takes constant time.
+    ///
+    /// The error comes where memory is refused. It also comes where the table of the older items has to be
+    /// made anew and has more than 2^40 of them, which no memory holds.
     pub fn enlarge(&mut self) -> Result<(), AllocError>
         ensures ok { OnOk result (1 ≤ self.new.spare) }
         ensures spare { self.old.spare ≤ self.new.spare }
