@@ -5,3 +5,17 @@ pub mod RowsOfContexts
 pub mod RowsOfResources
 pub mod RowsOfPortals
 pub mod RowsOfRuns
+pub mod Forests
+pub mod Guarded
+pub mod Sums
+pub mod ContextsKept
+pub mod HooksKept
+pub mod Swept
+pub mod Releasing
+pub mod LevelsKept
+pub mod EndsStand
+pub mod StepsStand
+pub mod NamesStand
+pub mod Standings
+pub mod TurnStands
+pub mod OpeningStands

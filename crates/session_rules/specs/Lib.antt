@@ -18,3 +18,5 @@ pub mod Parts
 pub mod Does
 pub mod Transcript
 pub mod Modes
+pub mod Guarded
+pub mod Standing

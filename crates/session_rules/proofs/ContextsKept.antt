@@ -1,0 +1,288 @@
+-- What the calls on contexts keep of them.
+use Rattle.std.proofs.Common.{◌≡◌, ◌≢◌, ℕ, ◌+◌, ◌≤◌, ◌<◌, Bool, true, false, Option, Some, None, List, refl, sym, ap, ◌∙◌, inl, inr, arith}
+use Rattle.std.specs.Prelude.{◌==◌}
+use Rattle.std.specs.Option.{option_map_or}
+use Rattle.std.proofs.lemmas.Bool.{cases_eq, eq-eqb, both_ways, false_from_ne_true, or_parts}
+use Rattle.forest.specs.Forest.{Empty, has, times, Once, at, children, parent_of, is_above, removed, changed, moved, with_children}
+use Rattle.forest.proofs.Trees.{times_some, has_some, at_some, has_of_removed, Moves, once_put, once_changed, times_moved, has_changed}
+use Rattle.forest.proofs.Moved.{above_by_parent, above_none, at_moved}
+use Rattle.forest.proofs.Mapped.{parent_changed, at_changed, at_changed_other}
+use Rattle.any_ctx.specs.declared.any.CtxKind.{CtxKind}
+use Rattle.context_rules.specs.Contexts.{Context, Contexts, new_context, is_protected, is_empty, is_child, created, placed_under, reparented}
+use Rattle.context_rules.specs.Ends as ends
+use Rattle.context_rules.specs.Ends.{emptied}
+use Rattle.context_rules.specs.Refusals.{is_within}
+use Rattle.session_rules.specs.State.{abort_context, top_context}
+use Rattle.session_rules.specs.Guarded.{AreGuarded}
+use Rattle.session_rules.specs.Standing.{IsFresh, IsOfSession, AreContexts}
+use Rattle.session_rules.proofs.Forests.{parent_left, at_left, once_left, times_emptied, once_emptied, at_emptied, parent_emptied, has_put_other, at_put_other, parent_put_other, at_put, children_put, parent_put}
+use Rattle.session_rules.proofs.Guarded.{all_removed, all_emptied, all_put, all_changed, all_moved, guarded_removed, guarded_emptied, guarded_put, guarded_put_own, guarded_changed, guarded_moved, own_apart, own_has, rooted_removed, rooted_emptied, rooted_put, rooted_changed, rooted_moved, top_own, top_parent, all_gone}
+
+-- whether a context is one of the session's own
+abbrev pub own : Context → Bool
+own c = c.protected
+
+-- a protected context stands as it stood
+pub record IsSame (m : ℕ) (t u : Contexts) : Type 0 where
+  pub protected : is_protected m u ≡ true
+  pub parent : parent_of m u ≡ parent_of m t
+
+-- each protected context does
+abbrev pub Stay : Contexts → Contexts → Type 0
+Stay t u = (m : ℕ) → is_protected m t ≡ true → IsSame m t u
+
+pub stay_same : (t : Contexts) → Stay t t
+stay_same t m prot = record { protected = prot; parent = refl }
+
+pub stay_on : (t u v : Contexts) → Stay t u → Stay u v → Stay t v
+stay_on t u v a b m prot =
+    let x : IsSame m t u = a m prot in
+    let y : IsSame m u v = b m x.protected in
+    record { protected = y.protected; parent = y.parent ∙ x.parent }
+
+-- the session's own contexts do
+pub own_stay : (t u : Contexts) → ((m : ℕ) → 1 < m → m ≤ abort_context → IsOfSession m t) → Stay t u → (m : ℕ) → 1 < m → m ≤ abort_context → IsOfSession m u
+own_stay t u h stay m l b =
+    let x : IsOfSession m t = h m l b in
+    let y : IsSame m t u = stay m x.protected in
+    record { protected = y.protected; parent = y.parent ∙ x.parent }
+
+-- two forests that have the same at a number
+same_own : (m : ℕ) (t u : Contexts) → at m u ≡ at m t → is_protected m t ≡ true → is_protected m u ≡ true
+same_own m t u e prot = ap (λ (o : Option Context). option_map_or own o false) e ∙ prot
+
+pub protected_has : (m : ℕ) (t : Contexts) → is_protected m t ≡ true → has m t ≡ true
+protected_has m t prot = own_has own m t prot
+
+module _ (t : Contexts) (next : ℕ) (h : AreContexts t next) where
+  pub top_protected : is_protected top_context t ≡ true
+  top_protected = top_own own top_context t h.rooted
+
+  pub is_unused : has next t ≡ false
+  is_unused = false_from_ne_true (has next t) (λ e. omega (arith, h.below next e))
+
+  -- a protected context isn't an unprotected one, nor below it
+  pub apart : (m n : ℕ) → is_protected n t ≡ false → is_protected m t ≡ true → (m ≢ n) × (has m (children n t) ≡ false)
+  apart m n free prot = own_apart own m n t h.once h.guarded free prot
+
+  -- contexts 1 to 5 aren't below a context of a greater number
+  pub own_outside : (m n : ℕ) → 1 < m → m ≤ abort_context → abort_context < n → (m ≢ n) × (has m (children n t) ≡ false)
+  own_outside m n l b g = (
+    λ e. omega (arith, e, b, g),
+    above_by_parent m top_context n t h.once (h.own m l b).parent (λ e. omega (arith, e, g)) ∙ above_none top_context n t h.once (top_parent own top_context t h.once h.rooted),
+  )
+
+  pub same_removed : (m n : ℕ) → (m ≢ n) × (has m (children n t) ≡ false) → is_protected m t ≡ true → IsSame m t (removed n t)
+  same_removed m n w prot = record {
+    protected = same_own m t (removed n t) (at_left m n t h.once w.0 w.1) prot;
+    parent = parent_left m n t h.once w.0 w.1;
+  }
+
+  contexts_removed : (n : ℕ) → n ≢ top_context → ((m : ℕ) → 1 < m → m ≤ abort_context → (m ≢ n) × (has m (children n t) ≡ false)) → AreContexts (removed n t) next
+  contexts_removed n ne out = record {
+    rooted = rooted_removed own top_context n t ne h.rooted;
+    guarded = guarded_removed own n t h.guarded;
+    once = once_left n t h.once;
+    below = λ m u. h.below m (has_of_removed m n t u);
+    room = h.room;
+    own = λ m l b.
+        let x : IsOfSession m t = h.own m l b in
+        let y : IsSame m t (removed n t) = same_removed m n (out m l b) x.protected in
+        record { protected = y.protected; parent = y.parent ∙ x.parent };
+    fresh = all_removed IsFresh n t h.fresh;
+  }
+
+  -- an unprotected context goes
+  pub stay_gone : (n : ℕ) → is_protected n t ≡ false → Stay t (removed n t)
+  stay_gone n free m prot = same_removed m n (apart m n free prot) prot
+
+  pub contexts_gone : (n : ℕ) → is_protected n t ≡ false → AreContexts (removed n t) next
+  contexts_gone n free =
+      contexts_removed n (λ e. both_ways (is_protected n t) free (ap (λ (x : ℕ). is_protected x t) e ∙ top_protected))
+      (λ m l b. apart m n free (h.own m l b).protected)
+
+  -- the context of a level goes
+  pub contexts_level_gone : (n : ℕ) → abort_context < n → AreContexts (removed n t) next
+  contexts_level_gone n g = contexts_removed n (λ e. omega (arith, e, g)) (λ m l b. own_outside m n l b g)
+
+  -- all below an unprotected context goes
+  pub stay_children_gone : (n : ℕ) → is_protected n t ≡ false → Stay t (with_children n Empty t)
+  stay_children_gone n free m prot =
+      let w = apart m n free prot in record {
+        protected = same_own m t (with_children n Empty t) (at_emptied m n t h.once w.1) prot;
+        parent = parent_emptied m n t h.once w.1;
+      }
+
+  pub contexts_children_gone : (n : ℕ) → is_protected n t ≡ false → AreContexts (with_children n Empty t) next
+  contexts_children_gone n free = record {
+    rooted = rooted_emptied own top_context n t h.rooted;
+    guarded = guarded_emptied own n t h.guarded;
+    once = once_emptied n t h.once;
+    below = λ m u. h.below m (has_some m t (omega (arith, times_emptied m n t h.once, times_some m (with_children n Empty t) u)));
+    room = h.room;
+    own = own_stay t (with_children n Empty t) h.own (stay_children_gone n free);
+    fresh = all_emptied IsFresh n t h.fresh;
+  }
+
+  -- the data of a context changes
+  pub stay_changed : (n : ℕ) (f : Context → Context) → ((c : Context) → (f c).protected ≡ c.protected) → Stay t (changed n f t)
+  stay_changed n f keeps m prot = record {
+    protected = elim (cases_eq m n) [
+      | inl e ↦
+          let w = at_some m t (protected_has m t prot) in
+          let was : w.0.protected ≡ true = rw w.1 at prot in
+          let now : at m (changed n f t) ≡ Some (f w.0) = rw (← e) (at_changed m f t w.0 w.1) in
+          ap (λ (o : Option Context). option_map_or own o false) now ∙ keeps w.0 ∙ was
+      | inr ne ↦ same_own m t (changed n f t) (at_changed_other m n f t ne) prot
+    ];
+    parent = parent_changed m n f t;
+  }
+
+  pub contexts_changed : (n : ℕ) (f : Context → Context) → ((c : Context) → (f c).protected ≡ c.protected) → ((c : Context) → IsFresh c → IsFresh (f c)) → AreContexts (changed n f t) next
+  contexts_changed n f keeps fresh = record {
+    rooted = rooted_changed own top_context n f t keeps h.rooted;
+    guarded = guarded_changed own n f t keeps h.guarded;
+    once = once_changed n f t h.once;
+    below = λ m u. h.below m (sym (has_changed m n f t) ∙ u);
+    room = h.room;
+    own = own_stay t (changed n f t) h.own (stay_changed n f keeps);
+    fresh = all_changed IsFresh n f t fresh h.fresh;
+  }
+
+  -- a context is reset alone
+  pub stay_alone : (n : ℕ) → Stay t (ends.cleared_alone n t).contexts
+  stay_alone n = go (at n t)
+    where
+      by_use : (c : Context) (b : Bool) → c.used ≡ b → Stay t (ends.reset_of n t c).contexts
+      by_use c true e = rw e (stay_changed n emptied (λ c. refl))
+      by_use c false e = rw e (stay_same t)
+
+      go : (o : Option Context) → Stay t (option_map_or (ends.reset_of n t) o (ends.unchanged t)).contexts
+      go None = stay_same t
+      go (Some c) = by_use c c.used refl
+
+  pub contexts_alone : (n : ℕ) → AreContexts (ends.cleared_alone n t).contexts next
+  contexts_alone n = go (at n t)
+    where
+      by_use : (c : Context) (b : Bool) → c.used ≡ b → AreContexts (ends.reset_of n t c).contexts next
+      by_use c true e = rw e (contexts_changed n emptied (λ c. refl) (λ c _ _. (refl, refl)))
+      by_use c false e = rw e h
+
+      go : (o : Option Context) → AreContexts (option_map_or (ends.reset_of n t) o (ends.unchanged t)).contexts next
+      go None = h
+      go (Some c) = by_use c c.used refl
+
+  pub has_alone : (m n : ℕ) → has m (ends.cleared_alone n t).contexts ≡ has m t
+  has_alone m n = go (at n t)
+    where
+      by_use : (c : Context) (b : Bool) → c.used ≡ b → has m (ends.reset_of n t c).contexts ≡ has m t
+      by_use c true e = rw e (has_changed m n emptied t)
+      by_use c false e = rw e refl
+
+      go : (o : Option Context) → has m (option_map_or (ends.reset_of n t) o (ends.unchanged t)).contexts ≡ has m t
+      go None = refl
+      go (Some c) = by_use c c.used refl
+
+  -- a context is made
+  pub stay_created : (p : ℕ) (name : List ℕ) (kind : CtxKind) (b : Bool) → Stay t (created p next name kind b t)
+  stay_created p name kind b m prot =
+      let ne : m ≢ next = λ e. omega (arith, e, h.below m (protected_has m t prot)) in
+      record {
+        protected = same_own m t (created p next name kind b t) (at_put_other m p next (new_context name kind b) Empty t ne refl) prot;
+        parent = parent_put_other m p next (new_context name kind b) Empty t ne refl;
+      }
+
+  guarded_created : (p : ℕ) (name : List ℕ) (kind : CtxKind) (b : Bool) → (b ≡ true → is_protected p t ≡ true) → AreGuarded own (created p next name kind b t)
+  guarded_created p name kind true needs = guarded_put_own own p next (new_context name kind true) t h.once (needs refl) h.guarded
+  guarded_created p name kind false needs = guarded_put own p next (new_context name kind false) Empty t refl tt h.guarded
+
+  pub contexts_created : (p : ℕ) (name : List ℕ) (kind : CtxKind) (b : Bool) → has p t ≡ true → (b ≡ true → is_protected p t ≡ true) → AreContexts (created p next name kind b t) (next + 1)
+  contexts_created p name kind b there needs = record {
+    rooted = rooted_put own top_context p next (new_context name kind b) Empty t h.rooted;
+    guarded = guarded_created p name kind b needs;
+    once = once_put p next (new_context name kind b) t h.once there is_unused;
+    below = λ m u. elim (cases_eq m next) [
+      | inl e ↦ omega (arith, e)
+      | inr ne ↦ omega (arith, h.below m (sym (has_put_other m p next (new_context name kind b) Empty t ne refl) ∙ u))
+    ];
+    room = omega (arith, h.room);
+    own = own_stay t (created p next name kind b t) h.own (stay_created p name kind b);
+    fresh = all_put IsFresh p next (new_context name kind b) Empty t (λ _. (refl, refl)) tt h.fresh;
+  }
+
+  pub has_created : (m p : ℕ) (name : List ℕ) (kind : CtxKind) (b : Bool) → has m t ≡ true → has m (created p next name kind b t) ≡ true
+  has_created m p name kind b there =
+      has_put_other m p next (new_context name kind b) Empty t (λ e. omega (arith, e, h.below m there)) refl ∙ there
+
+  -- the one that is made
+  pub new_protected : (p : ℕ) (name : List ℕ) (kind : CtxKind) → has p t ≡ true → is_protected next (created p next name kind true t) ≡ true
+  new_protected p name kind there = ap (λ (o : Option Context). option_map_or own o false) (at_put p next (new_context name kind true) Empty t h.once there is_unused)
+
+  pub new_parent : (p : ℕ) (name : List ℕ) (kind : CtxKind) (b : Bool) → has p t ≡ true → parent_of next (created p next name kind b t) ≡ Some p
+  new_parent p name kind b there = parent_put p next (new_context name kind b) Empty t h.once there is_unused
+
+  pub new_empty : (p : ℕ) (name : List ℕ) (kind : CtxKind) (b : Bool) → has p t ≡ true → is_empty next (created p next name kind b t) ≡ true
+  new_empty p name kind b there =
+      rw (at_put p next (new_context name kind b) Empty t h.once there is_unused, children_put p next (new_context name kind b) Empty t h.once there is_unused) refl
+
+  -- an unprotected context moves
+  moves_by : (n p : ℕ) → has n t ≡ true → has p t ≡ true → is_within n p t ≡ false → Moves n p t
+  moves_by n p node there out =
+      let w = or_parts (p == n) (is_above n p t) out in
+      record {
+        node = node;
+        parent = there;
+        other = λ e. both_ways (p == n) w.0 (eq-eqb p n e);
+        apart = w.1;
+      }
+
+  stay_swapped : (n p : ℕ) → Moves n p t → is_protected n t ≡ false → Stay t (moved n p t)
+  stay_swapped n p w free m prot =
+      let out = apart m n free prot in
+      let a = at_some n t w.node in
+      record {
+        protected = same_own m t (moved n p t) (at_moved m n p t h.once w) prot;
+        parent = rw a.1 (parent_put_other m p n a.0 (children n t) (removed n t) out.0 out.1 ∙ parent_left m n t h.once out.0 out.1);
+      }
+
+  has_swapped : (m n p : ℕ) → Moves n p t → times m (moved n p t) ≡ times m t
+  has_swapped m n p w = let a = at_some n t w.node in rw a.1 (times_moved m n p a.0 t h.once w)
+
+  once_swapped : (n p : ℕ) → Moves n p t → Once (moved n p t)
+  once_swapped n p w = record { once = λ m. omega (arith, has_swapped m n p w, h.once.once m) }
+
+  contexts_swapped : (n p : ℕ) → Moves n p t → is_protected n t ≡ false → AreContexts (moved n p t) next
+  contexts_swapped n p w free = record {
+    rooted = rooted_moved own top_context n p t (λ e. both_ways (is_protected n t) free (ap (λ (x : ℕ). is_protected x t) e ∙ top_protected)) h.rooted;
+    guarded = guarded_moved own n p t h.guarded free;
+    once = once_swapped n p w;
+    below = λ m u. h.below m (has_some m t (omega (arith, has_swapped m n p w, times_some m (moved n p t) u)));
+    room = h.room;
+    own = own_stay t (moved n p t) h.own (stay_swapped n p w free);
+    fresh = all_moved IsFresh n p t h.fresh;
+  }
+
+  pub stay_reparented : (n p : ℕ) → has n t ≡ true → has p t ≡ true → is_protected n t ≡ false → is_within n p t ≡ false → Stay t (reparented n p t)
+  stay_reparented n p node there free out = go (is_child n p t)
+    where
+      go : (b : Bool) → Stay t (placed_under b n p t)
+      go true = stay_same t
+      go false = stay_swapped n p (moves_by n p node there out) free
+
+  pub contexts_reparented : (n p : ℕ) → has n t ≡ true → has p t ≡ true → is_protected n t ≡ false → is_within n p t ≡ false → AreContexts (reparented n p t) next
+  contexts_reparented n p node there free out = go (is_child n p t)
+    where
+      go : (b : Bool) → AreContexts (placed_under b n p t) next
+      go true = h
+      go false = contexts_swapped n p (moves_by n p node there out) free
+
+  pub has_reparented : (m n p : ℕ) → has n t ≡ true → has p t ≡ true → is_within n p t ≡ false → has m t ≡ true → has m (reparented n p t) ≡ true
+  has_reparented m n p node there out prot = go (is_child n p t)
+    where
+      go : (b : Bool) → has m (placed_under b n p t) ≡ true
+      go true = prot
+      go false = has_some m (moved n p t) (omega (arith, has_swapped m n p (moves_by n p node there out), times_some m t prot))
+
+  -- nothing is left without the topmost context
+  pub nothing_left : removed top_context t ≡ Empty
+  nothing_left = all_gone own top_context t h.rooted

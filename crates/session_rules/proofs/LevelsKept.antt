@@ -1,0 +1,222 @@
+-- What levels and their owners keep where the deepest level goes, is released or is made.
+use Rattle.std.proofs.Common.{◌≡◌, ◌≢◌, ◌⊎◌, ℕ, ◌<◌, true, false, Option, Some, None, List, [], ◌∷◌, refl, sym, ap, ◌∙◌, subst, inl, inr, arith}
+use Rattle.std.specs.Prelude.{is_some}
+use Rattle.std.specs.Option.{option_map_or}
+use Rattle.std.proofs.lemmas.Bool.{cases_eq, cases_Bool, both_ways}
+use Rattle.forest.specs.Forest.{has, Once, at, children, parent_of, is_above, removed, AllNodes}
+use Rattle.forest.specs.Walk.{swept}
+use Rattle.forest.proofs.Trees.{at_absent, has_of_removed, left_apart}
+use Rattle.forest.proofs.Moved.{above_by_parent, above_none}
+use Rattle.context_rules.specs.Contexts.{Contexts, is_protected}
+use Rattle.owner_core.specs.Owners.{Owner, OwnerTree, AllAt, HoldsNothing, has_begun}
+use Rattle.owner_core.proofs.Sounds.{once_of, sound_removed}
+use Rattle.session_rules.specs.State.{LevelState, abort_context, first_of, owner_of, top_context}
+use Rattle.session_rules.specs.Making.{level_parent}
+use Rattle.session_rules.specs.Standing.{AreContexts, AreLevels, AreOuter, AreOwners, HasItems, IsContextOf, IsOwner, IsOwnerOf, IsReleased}
+use Rattle.session_rules.proofs.Forests.{at_left}
+use Rattle.session_rules.proofs.Guarded.{all_removed, top_parent}
+use Rattle.session_rules.proofs.ContextsKept.{IsSame, own as own_context}
+use Rattle.session_rules.proofs.Swept.{has_swept, parent_swept, below_swept, at_swept_other, all_swept, swept_all}
+use Rattle.session_rules.proofs.Releasing.{HasSwept, swept_by, holds_nothing, still_items, still_sound}
+
+-- what is there
+pub is_there : (o : Option ℕ) → is_some o ≡ true → (n : ℕ) × (o ≡ Some n)
+is_there None h = absurd (cc h)
+is_there (Some n) h = (n, refl)
+
+pub one_value : (o : Option ℕ) (m n : ℕ) → o ≡ Some m → o ≡ Some n → m ≡ n
+one_value o m n a b = let z : Some m ≡ Some n = sym a ∙ b in cc z
+
+pub no_value : (o : Option ℕ) (n : ℕ) → o ≡ None → o ≡ Some n → ⊥
+no_value o n a b = let z : None ≡ Some n = sym a ∙ b in cc z
+
+-- the context of one of the levels
+abbrev pub IsContext : ℕ → List LevelState → Type 0
+IsContext n [] = ⊥
+IsContext n (level ∷ levels) = (level.context ≡ Some n) ⊎ IsContext n levels
+
+first_owner : (levels : List LevelState) (n : ℕ) → owner_of (first_of levels) ≡ Some n → IsOwner n levels
+first_owner [] n e = absurd (no_value None n refl e)
+first_owner (level ∷ levels) n e = inl e
+
+-- an owner stands as it stood
+pub record IsStill (m : ℕ) (t u : OwnerTree) : Type 0 where
+  pub there : has m u ≡ true
+  pub parent : parent_of m u ≡ parent_of m t
+
+-- levels whose contexts and owners stand as they stood
+pub levels_stay : (levels : List LevelState) (t u : Contexts) (x y : OwnerTree) → ((m : ℕ) → IsContext m levels → is_protected m t ≡ true → IsSame m t u)
+    → ((m : ℕ) → IsOwner m levels → has m x ≡ true → IsStill m x y) → AreLevels levels t x → AreLevels levels u y
+levels_stay [] t u x y a b h = tt
+levels_stay (level ∷ levels) t u x y a b h = (
+  record {
+    context = λ n e.
+        let c : IsContextOf n levels t = h.0.context n e in
+        let s : IsSame n t u = a n (inl e) c.protected in
+        record { protected = s.protected; parent = s.parent ∙ c.parent; newer = c.newer; own = c.own };
+    owner = λ n e.
+        let o : IsOwnerOf n levels x = h.0.owner n e in
+        let s : IsStill n x y = b n (inl e) o.there in
+        record { there = s.there; parent = s.parent ∙ o.parent; newer = o.newer };
+    implicit = h.0.implicit;
+  },
+  levels_stay levels t u x y (λ m i. a m (inr i)) (λ m i. b m (inr i)) h.1,
+)
+
+-- the parent of a context of the levels is one of theirs or the topmost one
+context_above : (levels : List LevelState) → AreOuter levels → (P : Type 0) → (level_parent (first_of levels) ≡ top_context → P) → (IsContext (level_parent (first_of levels)) levels → P) → P
+context_above [] h P top one = top refl
+context_above (level ∷ levels) h P top one =
+    let c = is_there level.context h.0.made.context in
+    one (inl (c.1 ∙ ap Some (sym (ap (λ (o : Option ℕ). option_map_or (λ n. n) o top_context) c.1))))
+
+-- the contexts of the levels above aren't within a newer context
+pub outer_contexts : (levels : List LevelState) (t : Contexts) (x : OwnerTree) (next p : ℕ) → AreContexts t next → AreLevels levels t x → AreOuter levels → abort_context < p → level_parent (first_of levels) < p
+    → (m : ℕ) → IsContext m levels → (m < p) × (has m (children p t) ≡ false)
+outer_contexts [] t x next p h l o g above m i = absurd i
+outer_contexts (level ∷ levels) t x next p h l o g above m i =
+    let c = is_there level.context o.0.made.context in
+    let is : level_parent (first_of (level ∷ levels)) ≡ c.0 = ap (λ (o : Option ℕ). option_map_or (λ n. n) o top_context) c.1 in
+    let own : IsContextOf c.0 levels t = l.0.context c.0 c.1 in
+    let up : level_parent (first_of levels) < p = omega (arith, own.newer, above, is) in
+    elim i [
+      | inl e ↦
+          let same : m ≡ c.0 = one_value level.context m c.0 e c.1 in
+          let less : m < p = omega (arith, same, above, is) in
+          let parent : parent_of m t ≡ Some (level_parent (first_of levels)) = ap (λ (n : ℕ). parent_of n t) same ∙ own.parent in
+          let ne : level_parent (first_of levels) ≢ p = λ z. omega (arith, z, up) in
+          let chain : is_above p m t ≡ is_above p (level_parent (first_of levels)) t = above_by_parent m (level_parent (first_of levels)) p t h.once parent ne in (
+            less,
+            context_above levels o.2 (has m (children p t) ≡ false)
+                (λ top. chain ∙ ap (λ (n : ℕ). is_above p n t) top ∙ above_none top_context p t h.once (top_parent own_context top_context t h.once h.rooted))
+                (λ one. chain ∙ (outer_contexts levels t x next p h l.1 o.2 g up (level_parent (first_of levels)) one).1),
+          )
+      | inr j ↦ outer_contexts levels t x next p h l.1 o.2 g up m j
+    ]
+
+-- the owners of the levels above aren't within a newer owner
+pub outer_owners : (levels : List LevelState) (t : Contexts) (x : OwnerTree) (p : ℕ) → Once x → AreLevels levels t x → AreOuter levels → ((q : ℕ) → owner_of (first_of levels) ≡ Some q → q < p)
+    → (m : ℕ) → IsOwner m levels → (m < p) × (has m (children p x) ≡ false)
+outer_owners [] t x p once l o above m i = absurd i
+outer_owners (level ∷ levels) t x p once l o above m i =
+    let c = is_there level.owner o.0.made.owner in
+    let less : c.0 < p = above c.0 c.1 in
+    let own : IsOwnerOf c.0 levels x = l.0.owner c.0 c.1 in
+    let up : (q : ℕ) → owner_of (first_of levels) ≡ Some q → q < p = λ q e. omega (arith, less, own.newer q e) in
+    elim i [
+      | inl e ↦
+          let same : m ≡ c.0 = one_value level.owner m c.0 e c.1 in
+          (omega (arith, same, less), ap (λ (n : ℕ). has n (children p x)) same ∙ go c.0 own (owner_of (first_of levels)) refl up (λ q j. (outer_owners levels t x p once l.1 o.2 up q j).1))
+      | inr j ↦ outer_owners levels t x p once l.1 o.2 up m j
+    ]
+  where
+    go : (n : ℕ) → IsOwnerOf n levels x → (parent : Option ℕ) → owner_of (first_of levels) ≡ parent → ((q : ℕ) → owner_of (first_of levels) ≡ Some q → q < p)
+        → ((q : ℕ) → IsOwner q levels → has q (children p x) ≡ false) → has n (children p x) ≡ false
+    go n own None e up rest = above_none n p x once (own.parent ∙ e)
+    go n own (Some q) e up rest = above_by_parent n q p x once (own.parent ∙ e) (λ z. omega (arith, z, up q e)) ∙ rest q (first_owner levels q e)
+
+pub begun_has : (n : ℕ) (owners : OwnerTree) → has_begun n owners ≡ true → has n owners ≡ true
+begun_has n owners u = elim (cases_Bool (has n owners)) [
+  | inl y ↦ y
+  | inr y ↦ let z : option_map_or (λ (owner : Owner). owner.begun) None false ≡ true = rw (at_absent n owners y) at u in absurd (cc z)
+]
+
+-- without the deepest level's owner
+abbrev pub without_owner : Option ℕ → OwnerTree → OwnerTree
+without_owner None owners = owners
+without_owner (Some p) owners = removed p owners
+
+pub owners_without : (level : LevelState) (levels : List LevelState) (owners : OwnerTree) (a b : ℕ) (o : Option ℕ) → level.owner ≡ o → ((p : ℕ) → level.owner ≡ Some p → has p owners ≡ true)
+    → AreOwners owners a b (level ∷ levels) → AreOwners (without_owner o owners) a b levels
+owners_without level levels owners a b None e there h = record {
+  sound = h.sound;
+  each = λ n u. elim (h.each n u) [
+    | inl i ↦ elim i [ inl q ↦ absurd (no_value level.owner n e q) | inr j ↦ inl j ]
+    | inr r ↦ absurd (no_value level.owner r.owner e r.is)
+  ];
+  begun = λ n u. let r = h.begun n u in absurd (no_value level.owner r.owner e r.is);
+  items = h.items;
+}
+owners_without level levels owners a b (Some p) e there h =
+    let once : Once owners = once_of owners a b h.sound in
+    let here : has p owners ≡ true = there p e in
+    let outside : (n : ℕ) → has n (removed p owners) ≡ true → IsReleased level n owners → ⊥ = λ n u r.
+    let w = left_apart n p owners once here u in
+    let same : r.owner ≡ p = one_value level.owner r.owner p r.is e in
+    elim r.within [
+      | inl q ↦ w.0 (q ∙ same)
+      | inr q ↦ both_ways (has n (children p owners)) w.1 (ap (λ (m : ℕ). has n (children m owners)) (sym same) ∙ q)
+    ]
+    in
+    record {
+      sound = sound_removed p owners a b h.sound;
+      each = λ n u. elim (h.each n (has_of_removed n p owners u)) [
+        | inl i ↦ elim i [
+          | inl q ↦ absurd ((left_apart n p owners once here u).0 (one_value level.owner n p q e))
+          | inr j ↦ inl j
+        ]
+        | inr r ↦ absurd (outside n u r)
+      ];
+      begun = λ n u.
+          let left : has n (removed p owners) ≡ true = begun_has n (removed p owners) u in
+          let w = left_apart n p owners once here left in
+          let was : has_begun n owners ≡ true = ap (λ (o : Option Owner). option_map_or (λ owner. owner.begun) o false) (sym (at_left n p owners once w.0 w.1)) ∙ u in
+          absurd (outside n left (h.begun n was));
+      items = all_removed HasItems p owners h.items;
+    }
+
+-- what a release leaves of the deepest level's owner
+abbrev pub HasLeft : Option ℕ → OwnerTree → OwnerTree → Type 0
+HasLeft None owners now = now ≡ owners
+HasLeft (Some p) owners now = HasSwept p owners now
+
+-- the deepest level is aborted
+pub owners_aborted : (level : LevelState) (levels : List LevelState) (owners now : OwnerTree) (a b : ℕ) (o : Option ℕ) → level.owner ≡ o → level.aborted ≡ false → HasLeft o owners now
+    → AreOwners owners a b (level ∷ levels) → AreOwners now a b (record level { aborted = true } ∷ levels)
+owners_aborted level levels owners now a b None e active left h =
+    subst (λ (z : OwnerTree). AreOwners z a b (record level { aborted = true } ∷ levels)) (sym left) (record {
+      sound = h.sound;
+      each = λ n u. elim (h.each n u) [ inl i ↦ inl i | inr r ↦ absurd (both_ways level.aborted active r.aborted) ];
+      begun = λ n u. let r = h.begun n u in absurd (both_ways level.aborted active r.aborted);
+      items = h.items;
+    })
+owners_aborted level levels owners now a b (Some p) e active left h =
+    let once : Once owners = once_of owners a b h.sound in
+    let f : Owner → Owner = swept_by left.first left.second left.third in
+    let is : now ≡ swept f p owners = left.is in
+    record {
+      sound = still_sound p owners now a b left h.sound;
+      each = λ n u. elim (h.each n (sym (ap (has n) is ∙ has_swept f n p owners) ∙ u)) [
+        | inl i ↦ inl i
+        | inr r ↦ absurd (both_ways level.aborted active r.aborted)
+      ];
+      begun = λ n u.
+          let u2 : has_begun n (swept f p owners) ≡ true = ap (has_begun n) (sym is) ∙ u in
+          elim (cases_eq n p) [
+            | inl q ↦ record { aborted = refl; owner = p; is = e; within = inl q }
+            | inr ne ↦ elim (cases_Bool (has n (children p owners))) [
+              | inl y ↦ record { aborted = refl; owner = p; is = e; within = inr (ap (λ (z : OwnerTree). has n (children p z)) is ∙ below_swept f n p owners ∙ y) }
+              | inr y ↦
+                  let was : has_begun n owners ≡ true = ap (λ (x : Option Owner). option_map_or (λ owner. owner.begun) x false) (sym (at_swept_other f n p owners once ne y)) ∙ u2 in
+                  let r = h.begun n was in
+                  absurd (both_ways level.aborted active r.aborted)
+            ]
+          ];
+      items = rw is (all_swept f HasItems p owners (still_items left.first left.second left.third) h.items);
+    }
+
+-- its owner and all below that hold nothing
+pub left_nothing : (p : ℕ) (owners now : OwnerTree) → HasSwept p owners now → AllNodes HasItems owners → AllAt HoldsNothing p now
+left_nothing p owners now left items =
+    let f : Owner → Owner = swept_by left.first left.second left.third in
+    rw left.is (swept_all f HasItems HoldsNothing (holds_nothing left.first left.second left.third) p owners items)
+
+-- a release leaves the owners where they are
+pub left_still : (o : Option ℕ) (owners now : OwnerTree) → HasLeft o owners now → (m : ℕ) → has m owners ≡ true → IsStill m owners now
+left_still None owners now left m there = record { there = ap (has m) left ∙ there; parent = ap (parent_of m) left }
+left_still (Some p) owners now left m there =
+    let f : Owner → Owner = swept_by left.first left.second left.third in
+    record {
+      there = ap (has m) left.is ∙ has_swept f m p owners ∙ there;
+      parent = ap (parent_of m) left.is ∙ parent_swept f m p owners;
+    }

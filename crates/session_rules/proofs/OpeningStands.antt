@@ -1,0 +1,67 @@
+-- A session that opens stands.
+use Rattle.std.proofs.Common.{◌≡◌, ℕ, zero, suc, ◌≤◌, ◌<◌, true, refl, arith}
+use Rattle.std.proofs.lemmas.Bool.Decides.{nat_tests}
+use Rattle.forest.specs.Forest.{Once, has}
+use Rattle.reset_callbacks.specs.Hook.{AreDistinct}
+use Rattle.reset_callbacks.specs.ShelfState as shelf
+use Rattle.context_rules.specs.Opening as contexts
+use Rattle.session_rules.specs.State.{abort_context, opening}
+use Rattle.session_rules.specs.World.{Around}
+use Rattle.session_rules.specs.Standing.{AreContexts, IsOfSession, StandsBetweenLines}
+
+first_once : Once contexts.opening
+first_once = record { once = λ n. grind (arith, nat_tests) }
+
+first_below : (n : ℕ) → has n contexts.opening ≡ true → n < 6
+first_below n h = grind (arith, nat_tests)
+
+first_own : (n : ℕ) → 1 < n → n ≤ abort_context → IsOfSession n contexts.opening
+first_own zero l u = absurd (omega arith)
+first_own (suc zero) l u = absurd (omega arith)
+first_own (suc (suc zero)) l u = record { protected = refl; parent = refl }
+first_own (suc (suc (suc zero))) l u = record { protected = refl; parent = refl }
+first_own (suc (suc (suc (suc zero)))) l u = record { protected = refl; parent = refl }
+first_own (suc (suc (suc (suc (suc zero))))) l u = record { protected = refl; parent = refl }
+first_own (suc (suc (suc (suc (suc (suc n)))))) l u = absurd (omega arith)
+
+first_contexts : AreContexts contexts.opening 6
+first_contexts = record {
+  rooted = (refl, refl, refl);
+  guarded = (
+    λ f. absurd (cc f),
+    (λ f. absurd (cc f), tt, (λ f. absurd (cc f), tt, (λ f. absurd (cc f), tt, (λ f. absurd (cc f), tt, tt)))),
+    tt,
+  );
+  once = first_once;
+  below = first_below;
+  room = omega arith;
+  own = first_own;
+  fresh = (
+    λ _. (refl, refl),
+    (λ _. (refl, refl), tt, (λ _. (refl, refl), tt, (λ _. (refl, refl), tt, (λ _. (refl, refl), tt, tt)))),
+    tt,
+  );
+}
+
+-- A session that opens stands, where the hooks of the shelf differ.
+pub opening_stands : (around : Around) → AreDistinct (shelf.held around.shelf) → StandsBetweenLines (record { session = opening; around = around })
+unfolding opening
+opening_stands around differ = record {
+  stands = record {
+    contexts = first_contexts;
+    current = refl;
+    hooks = record { out = omega arith; words = differ };
+    levels = tt;
+    fit = refl;
+    owners = record {
+      sound = record { numbers = λ n. omega arith; serials = λ n. omega arith; few = omega arith };
+      each = λ n u. absurd (cc u);
+      begun = λ n u. absurd (cc u);
+      items = tt;
+    };
+    portals = refl;
+    plans = refl;
+    snapshots = refl;
+  };
+  open_levels = tt;
+}

@@ -1,0 +1,549 @@
+-- Commands lead from a session between two lines to one between two lines.
+use Rattle.std.proofs.Common.{◌≡◌, ℕ, ◌+◌, ◌≤◌, ◌<◌, Bool, true, false, Option, Some, None, List, [], ◌∷◌, ◌++◌, refl, sym, ap, ◌∙◌, subst, arith}
+use Rattle.std.specs.Prelude.{zero, suc, ◌-◌, ◌&&◌, not, length, replicate, nat_lt, if◌then◌else◌}
+use Rattle.std.specs.Option.{option_map_or}
+use Rattle.std.proofs.lemmas.Bool.{le-ltb, ltb-true}
+use Rattle.pgs_step.specs.declared.errors.Error.{Error}
+use Rattle.pgs_step.specs.declared.errors.Error.TheVariants as error
+use Rattle.pgs_step.specs.declared.events.What.{What}
+use Rattle.pgs_step.specs.declared.events.What.TheVariants as what
+use Rattle.pgs_command.specs.declared.commands.Command.{Command}
+use Rattle.pgs_command.specs.declared.commands.Command.TheVariants as command
+use Rattle.session_rules.specs.State.{LevelState, SessionState, buffer_pin, is_aborted}
+use Rattle.session_rules.specs.World.{Scene, Moment}
+use Rattle.session_rules.specs.Elements as element
+use Rattle.session_rules.specs.Elements.{Check, Element, InCurrent, LevelContext, OfLevel, Text}
+use Rattle.session_rules.specs.Acts.{Ended, nothing}
+use Rattle.forest.specs.Forest.{size}
+use Rattle.session_rules.specs.Lookup.{is_named}
+use Rattle.session_rules.specs.Parts.{level_stands}
+use Rattle.session_rules.specs.Checks.{failure, unless}
+use Rattle.session_rules.specs.Calls.{Done, fallible, refused_call, unless_refused}
+use Rattle.session_rules.specs.Making.{level_made, new_context_made, new_owner_made}
+use Rattle.session_rules.specs.Does.{does, does_all, then_done}
+use Rattle.session_rules.specs.Commands.{at_savepoint, begin, commit, committed_to, elements_of, in_transaction, is_end, refused, rollback, rolled_back_to, save, savepoint, start, then_ok, unaborted}
+use Rattle.session_rules.specs.Works.{work_of}
+use Rattle.session_rules.specs.Transcript.{line_elements, turn, turn_of}
+use Rattle.session_rules.specs.Standing.{AreOpen, AreOuter, FitLevels, IsActive, IsOpen, Stands, StandsBetweenLines}
+use Rattle.session_rules.proofs.EndsStand.{Leaves, outer_open, recovered_stands}
+use Rattle.session_rules.proofs.StepsStand.{IsWorking, Works, abort_stands, alloc_works, below_limit, cleanup_stands, commit_stands, enlarge_works, free_works, level_context_stands, level_made_stands, level_owner_stands, level_stands_stands, merge_stands, nothing_works, own_refusal, put_works, realloc_works, settled_as}
+use Rattle.session_rules.proofs.NamesStand.{delete_children_works, delete_works, make_script_context_works, pin_works, register_works, reparent_works, reset_only_works, reset_works, switch_works}
+
+-- What some elements led to: whatever refused them the session stands, and where nothing did, more is known of it.
+pub record Leads (Q : Scene → Type 0) (done : Done) : Type 0 where
+  pub stands : Stands done.moment.scene
+  pub passed : done.refusal ≡ None → Q done.moment.scene
+
+module _ (w : Option ℕ) (P Q : Scene → Type 0) where
+  -- elements in order
+  pub leads_on : (x : Element) (xs : List Element) (moment : Moment) → Leads P (does w x moment) → ((m : Moment) → P m.scene → Leads Q (does_all w xs m)) → Leads Q (does_all w (x ∷ xs) moment)
+  unfolding does_all
+  leads_on x xs moment first next = go (does w x moment).refusal refl
+    where
+      go : (r : Option Error) → (does w x moment).refusal ≡ r → Leads Q (then_done (does w x moment) r (does_all w xs))
+      go None e =
+          let k : Leads Q (does_all w xs (does w x moment).moment) = next (does w x moment).moment (first.passed e) in
+          record { stands = k.stands; passed = k.passed }
+      go (Some r) e = record { stands = first.stands; passed = λ none. let z : Some r ≡ None = sym e ∙ none in absurd (cc z) }
+
+  pub leads_both : (xs ys : List Element) (moment : Moment) → Leads P (does_all w xs moment) → ((m : Moment) → P m.scene → Leads Q (does_all w ys m)) → Leads Q (does_all w (xs ++ ys) moment)
+  unfolding does_all
+  leads_both [] ys moment first next = next moment (first.passed refl)
+  leads_both (x ∷ xs) ys moment first next = go (does w x moment).refusal refl first (λ k. leads_both xs ys (does w x moment).moment k next)
+    where
+      go : (r : Option Error) → (does w x moment).refusal ≡ r → Leads P (then_done (does w x moment) r (does_all w xs))
+          → (Leads P (does_all w xs (does w x moment).moment) → Leads Q (does_all w (xs ++ ys) (does w x moment).moment)) → Leads Q (then_done (does w x moment) r (does_all w (xs ++ ys)))
+      go None e k rest =
+          let m : Leads Q (does_all w (xs ++ ys) (does w x moment).moment) = rest (record { stands = k.stands; passed = k.passed }) in
+          record { stands = m.stands; passed = m.passed }
+      go (Some r) e k rest = record { stands = k.stands; passed = λ none. let z : Some r ≡ None = sym e ∙ none in absurd (cc z) }
+
+pub leads_nowhere : (w : Option ℕ) (Q : Scene → Type 0) (moment : Moment) → Stands moment.scene → Q moment.scene → Leads Q (does_all w [] moment)
+unfolding does_all
+leads_nowhere w Q moment h q = record { stands = h; passed = λ _. q }
+
+-- A turn.
+pub turn_leads : (w : Option ℕ) (command : Option Command) (moment : Moment) → Leads StandsBetweenLines (does_all w (line_elements command moment.scene.session) moment) → StandsBetweenLines (turn w command moment).moment.scene
+unfolding turn
+turn_leads w command moment k =
+    go (does_all w (line_elements command moment.scene.session) moment).refusal refl
+  where
+    go : (r : Option Error) → (does_all w (line_elements command moment.scene.session) moment).refusal ≡ r → StandsBetweenLines (turn_of (does_all w (line_elements command moment.scene.session) moment) r).moment.scene
+    go None e = k.passed e
+    go (Some error) e = recovered_stands error (does_all w (line_elements command moment.scene.session) moment).moment.scene k.stands
+
+-- a fallible step
+fallible_leads : (Q : Scene → Type 0) (w : Option ℕ) (moment : Moment) (own : Option Error) (act : Scene → Ended) → Stands moment.scene → ((z : Scene) → Q z → Stands z) → (own ≡ None → Q (act moment.scene).scene)
+    → Leads Q (fallible w moment own act)
+fallible_leads Q w moment own act before so behind =
+    go (refused_call w moment.fail (moment.calls + 1) own) (own_refusal w moment.fail (moment.calls + 1) own)
+  where
+    go : (r : Option Error) → (r ≡ None → own ≡ None) → Leads Q (unless_refused r (record moment { calls = moment.calls + 1 }) act)
+    go None h = let q : Q (act moment.scene).scene = behind (h refl) in record { stands = so (act moment.scene).scene q; passed = λ _. q }
+    go (Some r) h = record { stands = before; passed = λ e. absurd (cc e) }
+
+-- a session that stands, with these levels
+pub record At (levels : List LevelState) (scene : Scene) : Type 0 where
+  pub stands : Stands scene
+  pub are : scene.session.levels ≡ levels
+
+working_at : (levels : List LevelState) (scene : Scene) → IsWorking levels → At levels scene → IsWorking scene.session.levels
+working_at levels scene h at = subst IsWorking (sym at.are) h
+
+-- a check, and what is done behind it
+check_leads : (Q : Scene → Type 0) (w : Option ℕ) (check : Check) (moment : Moment) → Stands moment.scene → (failure check moment.scene ≡ None → Q moment.scene) → Leads Q (does w (element.Checks check) moment)
+unfolding does
+check_leads Q w check moment h so = go (failure check moment.scene) refl
+  where
+    go : (r : Option Error) → failure check moment.scene ≡ r → Leads Q (unless_refused r moment nothing)
+    go None e = record { stands = h; passed = λ _. so e }
+    go (Some r) e = record { stands = h; passed = λ none. absurd (cc none) }
+
+module _ (w : Option ℕ) (levels : List LevelState) (Q : Scene → Type 0) where
+  behind_check : (check : Check) (xs : List Element) (moment : Moment) → At levels moment.scene → ((m : Moment) → At levels m.scene → failure check m.scene ≡ None → Leads Q (does_all w xs m))
+      → Leads Q (does_all w (element.Checks check ∷ xs) moment)
+  behind_check check xs moment at next =
+      leads_on w (λ z. At levels z × (failure check z ≡ None)) Q (element.Checks check) xs moment
+      (check_leads (λ z. At levels z × (failure check z ≡ None)) w check moment at.stands (λ e. (at, e)))
+      (λ m p. next m p.0 p.1)
+
+  behind_work : (x : Element) (xs : List Element) (moment : Moment) → At levels moment.scene → Works moment.scene (does w x moment).moment.scene → ((m : Moment) → At levels m.scene → Leads Q (does_all w xs m))
+      → Leads Q (does_all w (x ∷ xs) moment)
+  behind_work x xs moment at works next =
+      leads_on w (At levels) Q x xs moment (record { stands = works.stands; passed = λ _. record { stands = works.stands; are = works.levels ∙ at.are } }) next
+
+nothing_more : (w : Option ℕ) (levels : List LevelState) (moment : Moment) → At levels moment.scene → Leads (At levels) (does_all w [] moment)
+nothing_more w levels moment at = leads_nowhere w (At levels) moment at.stands at
+
+says_works : (w : Option ℕ) (event : What) (moment : Moment) → Stands moment.scene → Works moment.scene (does w (element.Says event) moment).moment.scene
+unfolding does
+says_works w event moment h = nothing_works moment.scene h
+
+report_works : (w : Option ℕ) (moment : Moment) → Stands moment.scene → Works moment.scene (does w element.Report moment).moment.scene
+unfolding does
+report_works w moment h = nothing_works moment.scene h
+
+show_works : (w : Option ℕ) (name : Text) (from n : ℕ) (moment : Moment) → Stands moment.scene → Works moment.scene (does w (element.Show name from n) moment).moment.scene
+unfolding does
+show_works w name from n moment h = nothing_works moment.scene h
+
+-- there is a buffer
+is_buffer : (buffer : ℕ) (b : Bool) (error : Error) → nat_lt buffer 1024 ≡ b → unless b error ≡ None → buffer < 1024
+is_buffer buffer true error e h = ltb-true buffer 1024 e
+is_buffer buffer false error e h = absurd (cc h)
+
+-- the commands on contexts, chunks and pins, and `raise`
+abbrev pub IsWork : Command → Type 0
+IsWork command.Raise = Unit {0}
+IsWork command.Report = Unit {0}
+IsWork (command.Context name parent kind) = Unit {0}
+IsWork (command.Switch name) = Unit {0}
+IsWork (command.OnReset name) = Unit {0}
+IsWork (command.Reset name) = Unit {0}
+IsWork (command.ResetOnly name) = Unit {0}
+IsWork (command.Delete name) = Unit {0}
+IsWork (command.DeleteChildren name) = Unit {0}
+IsWork (command.Reparent name parent) = Unit {0}
+IsWork (command.Alloc chunk size) = Unit {0}
+IsWork (command.AllocZeroed chunk size) = Unit {0}
+IsWork (command.Realloc chunk size) = Unit {0}
+IsWork (command.Free chunk) = Unit {0}
+IsWork (command.Put chunk place bytes) = Unit {0}
+IsWork (command.Show chunk place length) = Unit {0}
+IsWork (command.Pin buffer) = Unit {0}
+IsWork other = ⊥
+
+-- the same and those on transactions
+abbrev pub IsHere : Command → Type 0
+IsHere command.Nothing = Unit {0}
+IsHere command.Begin = Unit {0}
+IsHere command.Commit = Unit {0}
+IsHere command.Rollback = Unit {0}
+IsHere (command.Savepoint name) = Unit {0}
+IsHere (command.Release name) = Unit {0}
+IsHere (command.RollbackTo name) = Unit {0}
+IsHere other = IsWork other
+
+module _ (w : Option ℕ) (levels : List LevelState) (active : IsWorking levels) where
+  pub work_leads : (c : Command) (session : SessionState) → IsWork c → (moment : Moment) → At levels moment.scene → Leads (At levels) (does_all w (work_of c session) moment)
+  work_leads command.Raise session is moment at = behind_check w levels (At levels) (element.Refuse error.Raised) [] moment at (λ m k _. nothing_more w levels m k)
+  work_leads command.Report session is moment at = behind_work w levels (At levels) element.Report [] moment at (report_works w moment at.stands) (λ m k. nothing_more w levels m k)
+  work_leads (command.Context name parent kind) session is moment at =
+      behind_check w levels (At levels) (element.ContextIsNew name) _ moment at
+      (λ m k _. behind_check w levels (At levels) (element.IsContext parent) _ m k
+      (λ m k _. behind_work w levels (At levels) _ [] m k (make_script_context_works w m k.stands (working_at levels m.scene active k) name parent _) (λ m k. nothing_more w levels m k)))
+  work_leads (command.Switch name) session is moment at =
+      behind_check w levels (At levels) (element.IsContext name) _ moment at
+      (λ m k _. behind_work w levels (At levels) (element.Switch name) [] m k (switch_works w m k.stands (working_at levels m.scene active k) name) (λ m k. nothing_more w levels m k))
+  work_leads (command.OnReset name) session is moment at =
+      behind_check w levels (At levels) (element.IsContext name) _ moment at
+      (λ m k _. behind_work w levels (At levels) (element.Register name) [] m k (register_works w m k.stands (working_at levels m.scene active k) name) (λ m k. nothing_more w levels m k))
+  work_leads (command.Reset name) session is moment at =
+      behind_check w levels (At levels) (element.IsContext name) _ moment at
+      (λ m k _. behind_check w levels (At levels) (element.MayReset name) _ m k
+      (λ m k ok. behind_work w levels (At levels) (element.Reset name) [] m k (reset_works w m k.stands (working_at levels m.scene active k) name ok) (λ m k. nothing_more w levels m k)))
+  work_leads (command.ResetOnly name) session is moment at =
+      behind_check w levels (At levels) (element.IsContext name) _ moment at
+      (λ m k _. behind_check w levels (At levels) (element.MayResetOnly name) _ m k
+      (λ m k ok. behind_work w levels (At levels) (element.ResetOnly name) [] m k (reset_only_works w m k.stands (working_at levels m.scene active k) name) (λ m k. nothing_more w levels m k)))
+  work_leads (command.Delete name) session is moment at =
+      behind_check w levels (At levels) (element.IsContext name) _ moment at
+      (λ m k _. behind_check w levels (At levels) (element.MayDelete name) _ m k
+      (λ m k ok. behind_work w levels (At levels) (element.Delete name) [] m k (delete_works w m k.stands (working_at levels m.scene active k) name ok) (λ m k. nothing_more w levels m k)))
+  work_leads (command.DeleteChildren name) session is moment at =
+      behind_check w levels (At levels) (element.IsContext name) _ moment at
+      (λ m k _. behind_check w levels (At levels) (element.MayReset name) _ m k
+      (λ m k ok. behind_work w levels (At levels) (element.DeleteChildren name) [] m k (delete_children_works w m k.stands (working_at levels m.scene active k) name ok) (λ m k. nothing_more w levels m k)))
+  work_leads (command.Reparent name parent) session is moment at =
+      behind_check w levels (At levels) (element.IsContext name) _ moment at
+      (λ m k _. behind_check w levels (At levels) (element.IsContext parent) _ m k
+      (λ m k _. behind_check w levels (At levels) (element.MayMove name parent) _ m k
+      (λ m k ok. behind_work w levels (At levels) (element.Reparent name parent) [] m k (reparent_works w m k.stands (working_at levels m.scene active k) name parent ok) (λ m k. nothing_more w levels m k))))
+  work_leads (command.Alloc chunk size) session is moment at =
+      behind_check w levels (At levels) (element.ChunkIsNew chunk) _ moment at
+      (λ m k _. behind_work w levels (At levels) (element.Alloc InCurrent (Some chunk) size false) [] m k (alloc_works w m k.stands (working_at levels m.scene active k) (Some chunk) size false) (λ m k. nothing_more w levels m k))
+  work_leads (command.AllocZeroed chunk size) session is moment at =
+      behind_check w levels (At levels) (element.ChunkIsNew chunk) _ moment at
+      (λ m k _. behind_work w levels (At levels) (element.Alloc InCurrent (Some chunk) size true) [] m k (alloc_works w m k.stands (working_at levels m.scene active k) (Some chunk) size true) (λ m k. nothing_more w levels m k))
+  work_leads (command.Realloc chunk size) session is moment at =
+      behind_check w levels (At levels) (element.IsChunk chunk) _ moment at
+      (λ m k _. behind_work w levels (At levels) (element.Realloc chunk size) [] m k (realloc_works w m k.stands (working_at levels m.scene active k) chunk size) (λ m k. nothing_more w levels m k))
+  work_leads (command.Free chunk) session is moment at =
+      behind_check w levels (At levels) (element.MayFree chunk) _ moment at
+      (λ m k _. behind_work w levels (At levels) (element.FreeChunk chunk) [] m k (free_works w m k.stands (working_at levels m.scene active k) chunk) (λ m k. nothing_more w levels m k))
+  work_leads (command.Put chunk place bytes) session is moment at =
+      behind_check w levels (At levels) (element.MayPut chunk place (length bytes)) _ moment at
+      (λ m k _. behind_work w levels (At levels) (element.Put chunk place bytes) [] m k (put_works w m k.stands (working_at levels m.scene active k) chunk place bytes) (λ m k. nothing_more w levels m k))
+  work_leads (command.Show chunk place n) session is moment at =
+      behind_check w levels (At levels) (element.MayShow chunk place n) _ moment at
+      (λ m k _. behind_work w levels (At levels) (element.Show chunk place n) [] m k (show_works w chunk place n m k.stands) (λ m k. nothing_more w levels m k))
+  work_leads (command.Pin buffer) session is moment at =
+      behind_check w levels (At levels) (element.IsBuffer buffer) _ moment at
+      (λ m k ok. behind_work w levels (At levels) (element.Enlarge OfLevel) _ m k (enlarge_works w m k.stands)
+      (λ m k. behind_work w levels (At levels) (element.Take OfLevel buffer_pin buffer) [] m k
+      (pin_works w m k.stands (working_at levels m.scene active k) buffer (is_buffer buffer (nat_lt buffer 1024) error.NoSuchBuffer refl ok)) (λ m k. nothing_more w levels m k)))
+  work_leads other session is moment at = absurd is
+
+-- a level as it is being begun
+abbrev begun : Option Text → Bool → Option ℕ → Option ℕ → Bool → LevelState
+begun name implicit c o starting =
+    record { name = name; context = c; owner = o; implicit = implicit; aborted = false; starting = starting }
+
+record HasContext (name : Option Text) (implicit : Bool) (outer : List LevelState) (scene : Scene) : Type 0 where
+  stands : Stands scene
+  context : ℕ
+  levels : scene.session.levels ≡ begun name implicit (Some context) None true ∷ outer
+
+record HasOwner (name : Option Text) (implicit : Bool) (outer : List LevelState) (scene : Scene) : Type 0 where
+  stands : Stands scene
+  context : ℕ
+  owner : ℕ
+  levels : scene.session.levels ≡ begun name implicit (Some context) (Some owner) true ∷ outer
+
+pub record HasBegun (name : Option Text) (implicit : Bool) (outer : List LevelState) (scene : Scene) : Type 0 where
+  pub stands : Stands scene
+  pub context : ℕ
+  pub owner : ℕ
+  pub levels : scene.session.levels ≡ begun name implicit (Some context) (Some owner) false ∷ outer
+
+module _ (w : Option ℕ) (name : Option Text) (implicit : Bool) (levels : List LevelState) where
+  level_leads : (moment : Moment) → At levels moment.scene → AreOuter levels → (implicit ≡ true → levels ≡ []) → Leads (At (begun name implicit None None true ∷ levels)) (does w (element.MakeLevel name implicit) moment)
+  unfolding does
+  level_leads moment at outer alone =
+      fallible_leads (At (begun name implicit None None true ∷ levels)) w moment _ (level_made name implicit) at.stands (λ z q. q.stands)
+      (λ _. record {
+        stands = level_made_stands name implicit moment.scene at.stands (subst AreOuter (sym at.are) outer) (λ e. at.are ∙ alone e);
+        are = ap (λ (ls : List LevelState). begun name implicit None None true ∷ ls) at.are;
+      })
+
+  context_leads : (moment : Moment) → At (begun name implicit None None true ∷ levels) moment.scene → Leads (HasContext name implicit levels) (does w (element.MakeContext LevelContext) moment)
+  unfolding does
+  context_leads moment at =
+      fallible_leads (HasContext name implicit levels) w moment _ (new_context_made LevelContext) at.stands (λ z q. q.stands)
+      (λ _. settled_as (λ (z : Scene). HasContext name implicit levels (new_context_made LevelContext z).scene) moment.scene (begun name implicit None None true ∷ levels) at.stands at.are
+      (λ k. record {
+        stands = level_context_stands (begun name implicit None None true) levels moment.scene refl refl k;
+        context = moment.scene.session.next_context;
+        levels = refl;
+      }))
+
+  owner_leads : (moment : Moment) → HasContext name implicit levels moment.scene → Leads (HasOwner name implicit levels) (does w (element.MakeOwner OfLevel) moment)
+  unfolding does
+  owner_leads moment at =
+      fallible_leads (HasOwner name implicit levels) w moment _ (new_owner_made OfLevel) at.stands (λ z q. q.stands)
+      (λ free. settled_as (λ (z : Scene). HasOwner name implicit levels (new_owner_made OfLevel z).scene) moment.scene (begun name implicit (Some at.context) None true ∷ levels) at.stands at.levels
+      (λ k. record {
+        stands = level_owner_stands (begun name implicit (Some at.context) None true) levels moment.scene refl refl (below_limit 65536 (size moment.scene.session.owners) free) k;
+        context = at.context;
+        owner = moment.scene.session.next_owner;
+        levels = refl;
+      }))
+
+  stands_leads : (moment : Moment) → HasOwner name implicit levels moment.scene → Leads (HasBegun name implicit levels) (does w element.LevelStands moment)
+  unfolding does
+  stands_leads moment at =
+      let x : HasBegun name implicit levels (level_stands moment.scene).scene =
+      settled_as (λ (z : Scene). HasBegun name implicit levels (level_stands z).scene) moment.scene (begun name implicit (Some at.context) (Some at.owner) true ∷ levels) at.stands at.levels
+      (λ k. record {
+        stands = level_stands_stands (begun name implicit (Some at.context) (Some at.owner) true) levels moment.scene refl (record { context = refl; owner = refl }) k;
+        context = at.context;
+        owner = at.owner;
+        levels = refl;
+      }) in
+      record { stands = x.stands; passed = λ _. x }
+
+  -- a level is begun
+  pub start_leads : (moment : Moment) → At levels moment.scene → AreOuter levels → (implicit ≡ true → levels ≡ []) → Leads (HasBegun name implicit levels) (does_all w (start name implicit) moment)
+  start_leads moment at outer alone =
+      leads_on w (At (begun name implicit None None true ∷ levels)) (HasBegun name implicit levels) _ _ moment (level_leads moment at outer alone)
+      (λ m k. leads_on w (HasContext name implicit levels) (HasBegun name implicit levels) _ _ m (context_leads m k)
+      (λ m k. leads_on w (HasOwner name implicit levels) (HasBegun name implicit levels) _ _ m (owner_leads m k)
+      (λ m k. leads_on w (HasBegun name implicit levels) (HasBegun name implicit levels) _ _ m (stands_leads m k)
+      (λ m k. leads_nowhere w (HasBegun name implicit levels) m k.stands k))))
+
+begun_active : (name : Option Text) (implicit : Bool) (c o : ℕ) → IsActive (begun name implicit (Some c) (Some o) false)
+begun_active name implicit c o = record { made = record { context = refl; owner = refl }; started = refl; unaborted = refl }
+
+-- a block was begun
+begun_between : (name : Option Text) (levels : List LevelState) (scene : Scene) → AreOuter levels → HasBegun name false levels scene → StandsBetweenLines scene
+begun_between name levels scene outer h = record {
+  stands = h.stands;
+  open_levels = subst AreOpen (sym h.levels) (record { started = refl; block = refl }, outer_open levels outer);
+}
+
+-- what is known between two lines of the levels
+outer_of : (scene : Scene) (level : LevelState) (levels : List LevelState) → Stands scene → scene.session.levels ≡ level ∷ levels → AreOuter levels
+outer_of scene level levels h is =
+    (subst (λ (ls : List LevelState). FitLevels ls scene.session.contexts scene.session.owners scene.session.current) is h.fit).1
+
+open_of : (scene : Scene) (level : LevelState) (levels : List LevelState) → StandsBetweenLines scene → scene.session.levels ≡ level ∷ levels → IsOpen level
+open_of scene level levels h is = (subst AreOpen is h.open_levels).0
+
+active_of : (scene : Scene) (level : LevelState) (levels : List LevelState) → StandsBetweenLines scene → scene.session.levels ≡ level ∷ levels → level.aborted ≡ false → IsActive level
+active_of scene level levels h is unaborted =
+    let open_level : IsOpen level = open_of scene level levels h is in
+    record {
+      made = (subst (λ (ls : List LevelState). FitLevels ls scene.session.contexts scene.session.owners scene.session.current) is h.stands.fit).0.made open_level.started;
+      started = open_level.started;
+      unaborted = unaborted;
+    }
+
+only_left : (b : Bool) → (b && true) ≡ false → b ≡ false
+only_left true e = e
+only_left false e = refl
+
+says_leads : (w : Option ℕ) (event : What) (moment : Moment) → StandsBetweenLines moment.scene → Leads StandsBetweenLines (does w (element.Says event) moment)
+unfolding does
+says_leads w event moment h = record { stands = h.stands; passed = λ _. h }
+
+module _ (w : Option ℕ) where
+  abbrev Between : Done → Type 0
+  Between done = Leads StandsBetweenLines done
+
+  between_says : (event : What) (xs : List Element) (moment : Moment) → StandsBetweenLines moment.scene → ((m : Moment) → StandsBetweenLines m.scene → Between (does_all w xs m)) → Between (does_all w (element.Says event ∷ xs) moment)
+  between_says event xs moment h next = leads_on w StandsBetweenLines StandsBetweenLines (element.Says event) xs moment (says_leads w event moment h) next
+
+  between_nothing : (moment : Moment) → StandsBetweenLines moment.scene → Between (does_all w [] moment)
+  between_nothing moment h = leads_nowhere w StandsBetweenLines moment h.stands h
+
+  then_ok_leads : (xs : List Element) (moment : Moment) → Between (does_all w xs moment) → Between (does_all w (then_ok xs) moment)
+  then_ok_leads xs moment first =
+      leads_both w StandsBetweenLines StandsBetweenLines xs _ moment first (λ m k. between_says what.Ok [] m k (λ m k. between_nothing m k))
+
+  refused_leads : (Q : Scene → Type 0) (error : Error) (moment : Moment) → Stands moment.scene → Leads Q (does_all w (refused error) moment)
+  refused_leads Q error moment h =
+      leads_on w (λ z. ⊥) Q (element.Checks (element.Refuse error)) [] moment (check_leads (λ z. ⊥) w (element.Refuse error) moment h (λ e. cc e)) (λ m no. absurd no)
+
+  -- what an end leads to
+  end_leads : (levels : List LevelState) (done : Done) → Leaves levels done.moment.scene → Leads (Leaves levels) done
+  end_leads levels done h = record { stands = h.between.stands; passed = λ _. h }
+
+  end_nothing : (levels : List LevelState) (moment : Moment) → Leaves levels moment.scene → Leads (Leaves levels) (does_all w [] moment)
+  end_nothing levels moment h = leads_nowhere w (Leaves levels) moment h.between.stands h
+
+  -- a level is rolled back
+  level_rolled : (level : LevelState) (levels : List LevelState) (moment : Moment) → Leaves (level ∷ levels) moment.scene
+      → Leads (Leaves levels) (does_all w (if level.aborted then element.Cleanup ∷ [] else element.Abort ∷ element.Cleanup ∷ []) moment)
+  level_rolled level levels moment h = go level.aborted refl
+    where
+      cleans : (old : LevelState) (m : Moment) → Leaves (old ∷ levels) m.scene → Leads (Leaves levels) (does_all w (element.Cleanup ∷ []) m)
+      cleans old m l =
+          leads_on w (Leaves levels) (Leaves levels) element.Cleanup [] m
+          (end_leads levels (does w element.Cleanup m) (cleanup_stands w m l.between.stands old levels l.are)) (λ m k. end_nothing levels m k)
+
+      go : (b : Bool) → level.aborted ≡ b → Leads (Leaves levels) (does_all w (if b then element.Cleanup ∷ [] else element.Abort ∷ element.Cleanup ∷ []) moment)
+      go true e = cleans level moment h
+      go false e =
+          leads_on w (Leaves (record level { aborted = true } ∷ levels)) (Leaves levels) element.Abort (element.Cleanup ∷ []) moment
+          (end_leads (record level { aborted = true } ∷ levels) (does w element.Abort moment)
+          (abort_stands w moment h.between.stands level levels h.are e (open_of moment.scene level levels h.between h.are)))
+          (λ m k. cleans (record level { aborted = true }) m k)
+
+  -- Levels are rolled back, and those that are left are outer ones.
+  abbrev IsOuter : Scene → Type 0
+  IsOuter scene = StandsBetweenLines scene × AreOuter scene.session.levels
+
+  outer_rolled : (n : ℕ) (levels : List LevelState) (moment : Moment) → Leaves levels moment.scene → AreOuter levels → Leads IsOuter (does_all w (rolled_back_to n levels) moment)
+  outer_rolled n [] moment h o = leads_nowhere w IsOuter moment h.between.stands (h.between, subst AreOuter (sym h.are) o)
+  outer_rolled n (level ∷ levels) moment h o = go (nat_lt (length levels + 1) n) (λ m k. outer_rolled n levels m k o.2)
+    where
+      go : (b : Bool) → ((m : Moment) → Leaves levels m.scene → Leads IsOuter (does_all w (rolled_back_to n levels) m))
+          → Leads IsOuter (does_all w (if b then [] else (if level.aborted then element.Cleanup ∷ [] else element.Abort ∷ element.Cleanup ∷ []) ++ rolled_back_to n levels) moment)
+      go true rest = leads_nowhere w IsOuter moment h.between.stands (h.between, subst AreOuter (sym h.are) o)
+      go false rest = leads_both w (Leaves levels) IsOuter _ (rolled_back_to n levels) moment (level_rolled level levels moment h) rest
+
+  rolled_leads : (n : ℕ) (level : LevelState) (levels : List LevelState) (moment : Moment) → Leaves (level ∷ levels) moment.scene → n ≤ length levels + 1 → Leads IsOuter (does_all w (rolled_back_to n (level ∷ levels)) moment)
+  rolled_leads n level levels moment h small = go (nat_lt (length levels + 1) n) (le-ltb (length levels + 1) n small)
+    where
+      go : (b : Bool) → b ≡ false → Leads IsOuter (does_all w (if b then [] else (if level.aborted then element.Cleanup ∷ [] else element.Abort ∷ element.Cleanup ∷ []) ++ rolled_back_to n levels) moment)
+      go true e = absurd (cc e)
+      go false e =
+          leads_both w (Leaves levels) IsOuter _ (rolled_back_to n levels) moment (level_rolled level levels moment h)
+          (λ m k. outer_rolled n levels m k (outer_of moment.scene level levels h.between.stands h.are))
+
+  all_rolled_leads : (n : ℕ) (level : LevelState) (levels : List LevelState) (moment : Moment) → Leaves (level ∷ levels) moment.scene → n ≤ length levels + 1 → Between (does_all w (rolled_back_to n (level ∷ levels)) moment)
+  all_rolled_leads n level levels moment h small =
+      let k : Leads IsOuter (does_all w (rolled_back_to n (level ∷ levels)) moment) = rolled_leads n level levels moment h small in
+      record { stands = k.stands; passed = λ e. (k.passed e).0 }
+
+  -- levels are merged into those above them
+  record HasMerged (n : ℕ) (scene : Scene) : Type 0 where
+    levels : List LevelState
+    leaves : Leaves levels scene
+    many : length levels ≡ n
+
+  merges_leads : (k n : ℕ) (levels : List LevelState) (moment : Moment) → Leaves levels moment.scene → length levels ≡ n + k → Leads (HasMerged n) (does_all w (replicate k element.Subcommit) moment)
+  merges_leads zero n levels moment h e = leads_nowhere w (HasMerged n) moment h.between.stands (record { levels = levels; leaves = h; many = omega (arith, e) })
+  merges_leads (suc k) n [] moment h e = absurd (omega (arith, e))
+  merges_leads (suc k) n (level ∷ levels) moment h e =
+      leads_on w (Leaves levels) (HasMerged n) element.Subcommit (replicate k element.Subcommit) moment
+      (end_leads levels (does w element.Subcommit moment) (merge_stands w moment h.between.stands level levels h.are))
+      (λ m l. merges_leads k n levels m l (omega (arith, e)))
+
+  -- level 1 commits
+  top_leads : (moment : Moment) → HasMerged 1 moment.scene → Between (does_all w (element.CommitTop ∷ []) moment)
+  top_leads moment h = go h.levels h.leaves h.many
+    where
+      go : (levels : List LevelState) → Leaves levels moment.scene → length levels ≡ 1 → Between (does_all w (element.CommitTop ∷ []) moment)
+      go [] l e = absurd (omega (arith, e))
+      go (level ∷ []) l e =
+          leads_on w (Leaves []) StandsBetweenLines element.CommitTop [] moment (end_leads [] (does w element.CommitTop moment) (commit_stands w moment l.between.stands level l.are))
+          (λ m k. between_nothing m k.between)
+      go (level ∷ (other ∷ levels)) l e = absurd (omega (arith, e))
+
+  commit_leads : (levels : List LevelState) (moment : Moment) → Leaves levels moment.scene → Between (does_all w (commit levels) moment)
+  commit_leads [] moment h = between_says what.NotInTransaction [] moment h.between (λ m k. between_nothing m k)
+  commit_leads (level ∷ levels) moment h = go level.aborted
+    where
+      go : (b : Bool) → Between (does_all w (if b then rolled_back_to 1 (level ∷ levels) else committed_to 2 (level ∷ levels) ++ (element.CommitTop ∷ [])) moment)
+      go true = all_rolled_leads 1 level levels moment h (omega arith)
+      go false =
+          leads_both w (HasMerged 1) StandsBetweenLines (committed_to 2 (level ∷ levels)) (element.CommitTop ∷ []) moment
+          (merges_leads (length (level ∷ levels) + 1 - 2) 1 (level ∷ levels) moment h (omega arith)) top_leads
+
+  rollback_leads : (levels : List LevelState) (moment : Moment) → Leaves levels moment.scene → Between (does_all w (rollback levels) moment)
+  rollback_leads [] moment h = between_says what.NotInTransaction [] moment h.between (λ m k. between_nothing m k)
+  rollback_leads (level ∷ levels) moment h = all_rolled_leads 1 level levels moment h (omega arith)
+
+  -- a savepoint is that of a level that there is
+  savepoint_bound : (name : Text) (levels : List LevelState) (n : ℕ) → savepoint name levels ≡ Some n → (1 ≤ n) × (n ≤ length levels)
+  savepoint_bound name [] n e = absurd (cc e)
+  savepoint_bound name (level ∷ levels) n e = go (nat_lt 0 (length levels) && is_named name level) e (λ q. savepoint_bound name levels n q)
+    where
+      go : (b : Bool) → (if b then Some (length levels + 1) else savepoint name levels) ≡ Some n → (savepoint name levels ≡ Some n → (1 ≤ n) × (n ≤ length levels))
+          → (1 ≤ n) × (n ≤ length (level ∷ levels))
+      go true e rest = let same : length levels + 1 ≡ n = cc e in (omega (arith, same), omega (arith, same))
+      go false e rest = let b = rest e in (b.0, omega (arith, b.1))
+
+  at_savepoint_leads : (name : Text) (levels : List LevelState) (go_on : ℕ → List Element) (moment : Moment) → Leaves levels moment.scene
+      → ((n : ℕ) → 1 ≤ n → n ≤ length levels → Between (does_all w (go_on n) moment)) → Between (does_all w (at_savepoint name levels go_on) moment)
+  at_savepoint_leads name [] go_on moment h next = refused_leads StandsBetweenLines error.NoTransactionBlock moment h.between.stands
+  at_savepoint_leads name (level ∷ levels) go_on moment h next = go (savepoint name (level ∷ levels)) refl
+    where
+      go : (o : Option ℕ) → savepoint name (level ∷ levels) ≡ o → Between (does_all w (option_map_or go_on o (refused error.NoSuchSavepoint)) moment)
+      go None e = refused_leads StandsBetweenLines error.NoSuchSavepoint moment h.between.stands
+      go (Some n) e = let b = savepoint_bound name (level ∷ levels) n e in next n b.0 b.1
+
+  release_leads : (n : ℕ) (levels : List LevelState) (moment : Moment) → Leaves levels moment.scene → 1 ≤ n → n ≤ length levels → Between (does_all w (committed_to n levels) moment)
+  release_leads n levels moment h low high =
+      let k : Leads (HasMerged (n - 1)) (does_all w (committed_to n levels) moment) = merges_leads (length levels + 1 - n) (n - 1) levels moment h (omega (arith, low, high)) in
+      record { stands = k.stands; passed = λ e. (k.passed e).leaves.between }
+
+  -- a block or a savepoint is begun
+  block_leads : (name : Option Text) (levels : List LevelState) (moment : Moment) → Stands moment.scene → moment.scene.session.levels ≡ levels → AreOuter levels → Between (does_all w (start name false) moment)
+  block_leads name levels moment h is outer =
+      let k : Leads (HasBegun name false levels) (does_all w (start name false) moment) = start_leads w name false levels moment (record { stands = h; are = is }) outer (λ e. absurd (cc e)) in
+      record { stands = k.stands; passed = λ e. begun_between name levels _ outer (k.passed e) }
+
+  back_leads : (name : Text) (n : ℕ) (levels : List LevelState) (moment : Moment) → Leaves levels moment.scene → 1 ≤ n → n ≤ length levels → Between (does_all w (rolled_back_to n levels ++ start (Some name) false) moment)
+  back_leads name n [] moment h low high = absurd (omega (arith, low, high))
+  back_leads name n (level ∷ levels) moment h low high =
+      leads_both w IsOuter StandsBetweenLines (rolled_back_to n (level ∷ levels)) (start (Some name) false) moment (rolled_leads n level levels moment h (omega (arith, high)))
+      (λ m k. block_leads (Some name) m.scene.session.levels m k.0.stands refl k.1)
+
+  begin_leads : (levels : List LevelState) (moment : Moment) → Leaves levels moment.scene → Between (does_all w (begin levels) moment)
+  begin_leads [] moment h = block_leads None [] moment h.between.stands h.are tt
+  begin_leads (level ∷ levels) moment h = between_says what.AlreadyInTransaction [] moment h.between (λ m k. between_nothing m k)
+
+  save_leads : (name : Text) (levels : List LevelState) (moment : Moment) → Leaves levels moment.scene → is_aborted levels ≡ false → Between (does_all w (save name levels) moment)
+  save_leads name [] moment h active = refused_leads StandsBetweenLines error.NoTransactionBlock moment h.between.stands
+  save_leads name (level ∷ levels) moment h active =
+      block_leads (Some name) (level ∷ levels) moment h.between.stands h.are
+      (active_of moment.scene level levels h.between h.are active, open_of moment.scene level levels h.between h.are, outer_of moment.scene level levels h.between.stands h.are)
+
+  -- what a command does in a level, and the level that is begun for it alone
+  work_between : (levels : List LevelState) (work : List Element) (moment : Moment) → Leaves levels moment.scene → is_aborted levels ≡ false
+      → ((ls : List LevelState) → IsWorking ls → (m : Moment) → At ls m.scene → Leads (At ls) (does_all w work m)) → Between (does_all w (in_transaction levels work) moment)
+  work_between [] work moment h active does_work =
+      leads_both w (HasBegun None true []) StandsBetweenLines (start None true) _ moment
+      (start_leads w None true [] moment (record { stands = h.between.stands; are = h.are }) tt (λ _. refl))
+      (λ m b.
+      leads_both w (At (begun None true (Some b.context) (Some b.owner) false ∷ [])) StandsBetweenLines work _ m
+      (does_work (begun None true (Some b.context) (Some b.owner) false ∷ []) (begun_active None true b.context b.owner) m (record { stands = b.stands; are = b.levels }))
+      (λ m k.
+      leads_on w (Leaves []) StandsBetweenLines element.CommitTop _ m
+      (end_leads [] (does w element.CommitTop m) (commit_stands w m k.stands (begun None true (Some b.context) (Some b.owner) false) k.are))
+      (λ m l. between_says what.Ok [] m l.between (λ m k. between_nothing m k))))
+  work_between (level ∷ levels) work moment h active does_work =
+      leads_both w (At (level ∷ levels)) StandsBetweenLines work _ moment
+      (does_work (level ∷ levels) (active_of moment.scene level levels h.between h.are active) moment (record { stands = h.between.stands; are = h.are }))
+      (λ m k. between_says what.Ok [] m
+      (record { stands = k.stands; open_levels = subst AreOpen (sym k.are) (subst AreOpen h.are h.between.open_levels) })
+      (λ m k. between_nothing m k))
+
+  -- each command in a transaction that isn't aborted, and each end in one that is
+  unaborted_leads : (c : Command) (moment : Moment) → IsHere c → StandsBetweenLines moment.scene → (is_aborted moment.scene.session.levels && not (is_end c)) ≡ false
+      → Between (does_all w (unaborted c moment.scene.session) moment)
+  unaborted_leads command.Nothing moment is h active = between_nothing moment h
+  unaborted_leads command.Begin moment is h active = then_ok_leads _ moment (begin_leads moment.scene.session.levels moment (record { between = h; are = refl }))
+  unaborted_leads command.Commit moment is h active = then_ok_leads _ moment (commit_leads moment.scene.session.levels moment (record { between = h; are = refl }))
+  unaborted_leads command.Rollback moment is h active = then_ok_leads _ moment (rollback_leads moment.scene.session.levels moment (record { between = h; are = refl }))
+  unaborted_leads (command.Savepoint name) moment is h active =
+      then_ok_leads _ moment (save_leads name moment.scene.session.levels moment (record { between = h; are = refl }) (only_left (is_aborted moment.scene.session.levels) active))
+  unaborted_leads (command.Release name) moment is h active =
+      then_ok_leads _ moment
+      (at_savepoint_leads name moment.scene.session.levels (λ n. committed_to n moment.scene.session.levels) moment (record { between = h; are = refl })
+      (λ n low high. release_leads n moment.scene.session.levels moment (record { between = h; are = refl }) low high))
+  unaborted_leads (command.RollbackTo name) moment is h active =
+      then_ok_leads _ moment
+      (at_savepoint_leads name moment.scene.session.levels (λ n. rolled_back_to n moment.scene.session.levels ++ start (Some name) false) moment (record { between = h; are = refl })
+      (λ n low high. back_leads name n moment.scene.session.levels moment (record { between = h; are = refl }) low high))
+  unaborted_leads other moment is h active =
+      work_between moment.scene.session.levels (work_of other moment.scene.session) moment (record { between = h; are = refl }) (only_left (is_aborted moment.scene.session.levels) active)
+      (λ ls working m k. work_leads w ls working other moment.scene.session is m k)
+
+  command_leads : (c : Command) (moment : Moment) → IsHere c → StandsBetweenLines moment.scene → Between (does_all w (elements_of c moment.scene.session) moment)
+  unfolding elements_of
+  command_leads c moment is h = go (is_aborted moment.scene.session.levels && not (is_end c)) refl
+    where
+      go : (b : Bool) → (is_aborted moment.scene.session.levels && not (is_end c)) ≡ b
+          → Between (does_all w (elim b as (λ _. List Element) [ true ↦ refused error.TransactionAborted | false ↦ unaborted c moment.scene.session ]) moment)
+      go true e = refused_leads StandsBetweenLines error.TransactionAborted moment h.stands
+      go false e = unaborted_leads c moment is h e
+
+  -- A line leads from a session between two lines to one between two lines: a bad one, and one of these commands.
+  pub bad_line_stands : (moment : Moment) → StandsBetweenLines moment.scene → StandsBetweenLines (turn w None moment).moment.scene
+  bad_line_stands moment h = turn_leads w None moment (refused_leads StandsBetweenLines error.SyntaxError moment h.stands)
+
+  pub turn_stands : (c : Command) (moment : Moment) → IsHere c → StandsBetweenLines moment.scene → StandsBetweenLines (turn w (Some c) moment).moment.scene
+  turn_stands c moment is h = turn_leads w (Some c) moment (command_leads c moment is h)
