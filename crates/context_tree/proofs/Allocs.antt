@@ -47,6 +47,7 @@ module _ (kept : Forest Kept) (places : Forest ℕ) (find_context : List ℕ →
   sound_names find_chunk2 alike = record {
     numbers = sound.numbers;
     few = sound.few;
+    lies = sound.lies;
     each = sound.each;
     given = sound.given;
     named = sound.named;

@@ -10,7 +10,7 @@ use Rattle.addr_space.proofs.Apart.{Agrees-other, Keeps-other, AreDisjoint-sym}
 use Rattle.addr_space.proofs.Contexts.{AreDisjoint-nothing, AreDisjoint-fresh, counted-own, counted-other, counted-nothing}
 use Rattle.addr_space.proofs.Options.{none_or_some}
 use Rattle.forest.specs.Forest.{Forest, Empty, Node, at, has, Once, size, times, put, mapped}
-use Rattle.forest.proofs.Trees.{Apart, apart_of, Here, Below, Beside, where_is, has_at, put_absent, at_absent, times_put, times_none, size_put}
+use Rattle.forest.proofs.Trees.{Apart, apart_of, Here, Below, Beside, where_is, has_at, at_some, has_none, put_absent, at_absent, times_put, times_none, size_put}
 use Rattle.forest.proofs.Mapped.{mapped-put, mapped-once, mapped-has}
 use Rattle.any_ctx.specs.Ledgers.{stats}
 use Rattle.any_ctx.specs.Contexts.{footprint, ledger}
@@ -19,6 +19,7 @@ use Rattle.context_tree.specs.declared.chunk_id.ChunkId.{ChunkId}
 use Rattle.context_tree.specs.declared.entry.Entry.{Entry}
 use Rattle.context_tree.specs.declared.tree.Own.{Own}
 use Rattle.context_tree.specs.Kept.{Kept}
+use Rattle.context_tree.specs.Making.{entered_context}
 use Rattle.context_tree.specs.Soundness.{same, one_below, IsSoundContext, IsSound, IsNamed, IsChunk, IsOwn}
 use Rattle.context_tree.specs.State.{TreeState, context_of, stands_for, Agrees, total_of, Moves}
 use Rattle.context_tree.proofs.Names.{at_here, at_below, at_beside, same_is, is_same}
@@ -32,6 +33,22 @@ module _ {A : Type 0} (p n : ℕ) (a : A) where
       elim (cases_Bool (k == p)) [
         | inl y ↦ rw (y, ne_eqb n m (λ z. ne (sym z)), at_grown_other m beside ne) refl
         | inr y ↦ rw (y, at_grown_other m below ne, at_grown_other m beside ne) refl
+      ]
+
+  -- where only so much is known of the forest
+  pub at_put_new : (t : Forest A) → has p t ≡ true → has n t ≡ false → at n (put p n a Empty t) ≡ Some a
+  at_put_new Empty h fresh = absurd (cc)
+  at_put_new (Node k b below beside) h fresh =
+      let parts = or_parts (k == n) (has n below || has n beside) fresh in
+      let rest = or_parts (has n below) (has n beside) parts.1 in
+      elim (cases_Bool (k == p)) [
+        | inl y ↦ rw (parts.0, y, eq-eqb n n refl) refl
+        | inr out ↦ elim (cases_Bool (has p below)) [
+          | inl u ↦ rw (parts.0, out, at_put_new below u rest.0) refl
+          | inr v ↦
+              let w : has p beside ≡ true = rw (out, v) at h in
+              rw (parts.0, out, put_absent p n a Empty below v, at_absent n below rest.0, at_put_new beside w rest.1) refl
+        ]
       ]
 
   pub at_grown : (t : Forest A) → Once t → has p t ≡ true → has n t ≡ false → at n (put p n a Empty t) ≡ Some a
@@ -187,11 +204,6 @@ module _ (a b : TreeState) (s t : Space) (p n : ℕ) (l : Kept) (context : ℕ) 
         );
   }
 
--- a map of names with one more, where the context isn't protected
-abbrev pub entered_context : Bool → List ℕ → CtxId → (List ℕ → Option CtxId) → List ℕ → Option CtxId
-entered_context true name id find w = find w
-entered_context false name id find w = if same name w then Some id else find w
-
 one_more : (next m : ℕ) → one_below next m ≤ one_below (next + 1) m
 one_more next m =
     elim (cases_lt m next) [
@@ -202,8 +214,67 @@ one_more next m =
 one_now : (next : ℕ) → one_below (next + 1) next ≡ 1
 one_now next = rw (lt-ltb next (next + 1) (omega arith)) refl
 
+none_now : (next : ℕ) → one_below next next ≡ 0
+none_now next = rw (le-ltb next next (omega arith)) refl
+
 module _ (kept : Forest Kept) (places : Forest ℕ) (find_context : List ℕ → Option CtxId) (find_chunk : List ℕ → Option ChunkId) (own : Own) (now : CtxId) (next next_entry : ℕ)
-    (sound : IsSound kept places find_context find_chunk own now next next_entry) (once : Once kept) (once_places : Once places) (p slot : ℕ) (l : Kept)
+    (sound : IsSound kept places find_context find_chunk own now next next_entry) where
+  -- the next context's number is new
+  pub next_fresh : has next kept ≡ false
+  next_fresh = has_none next kept (omega (arith, sound.numbers next, none_now next))
+
+  pub next_unplaced : has next places ≡ false
+  next_unplaced =
+      elim (cases_Bool (has next places)) [
+        | inl y ↦ absurd (both_ways (has next kept) next_fresh (sound.lies next y))
+        | inr out ↦ out
+      ]
+
+  -- another map of names that says the same
+  pub sound_found : (find2 : List ℕ → Option CtxId) → ((w : List ℕ) → find2 w ≡ find_context w) → IsSound kept places find2 find_chunk own now next next_entry
+  sound_found find2 alike = record {
+    numbers = sound.numbers;
+    few = sound.few;
+    lies = sound.lies;
+    each = sound.each;
+    given = sound.given;
+    named = λ word id h. sound.named word id (sym (alike word) ∙ h);
+    names = λ m j h findable.
+        let there = sound.names m j h findable in
+        (there.0, alike j.name ∙ there.1, there.2);
+    chunk_named = sound.chunk_named;
+    chunk_names = sound.chunk_names;
+    top = sound.top;
+    cache = sound.cache;
+    portals = sound.portals;
+    abort = sound.abort;
+    current = sound.current;
+  }
+
+module _ (places : Forest ℕ) (next p slot : ℕ) (parent_placed : has p places ≡ true) (unplaced : has next places ≡ false) where
+  -- one of the session's own contexts, once this one is noted
+  pub own_grown : (m : ℕ) (x y : CtxId) → IsOwn places m x → y ≡ (if next == m then record { number = next; slot = slot } else x) → IsOwn (put p next slot Empty places) m y
+  own_grown m x y was is =
+      elim (cases_eq next m) [
+        | inl alike ↦
+            let it : y ≡ record { number = next; slot = slot } = rw (eq-eqb next m alike) at is in
+            subst (λ (z : CtxId). IsOwn (put p next slot Empty places) m z) (sym it) (record {
+              number = alike;
+              placed = λ h. ap (λ (i : ℕ). at i (put p next slot Empty places)) (sym alike) ∙ at_put_new p next slot places parent_placed unplaced;
+            })
+        | inr ne ↦
+            let it : y ≡ x = rw (ne_eqb next m ne) at is in
+            let still : at m (put p next slot Empty places) ≡ at m places = at_grown_other p next slot m places (λ e. ne (sym e)) in
+            subst (λ (z : CtxId). IsOwn (put p next slot Empty places) m z) (sym it) (record {
+              number = was.number;
+              placed = λ h.
+                  let there = at_some m (put p next slot Empty places) h in
+                  still ∙ was.placed (has_at m places there.0 (sym still ∙ there.1));
+            })
+      ]
+
+module _ (kept : Forest Kept) (places : Forest ℕ) (find_context : List ℕ → Option CtxId) (find_chunk : List ℕ → Option ChunkId) (own : Own) (now : CtxId) (next next_entry : ℕ)
+    (sound : IsSound kept places find_context find_chunk own now next next_entry) (once : Once kept) (p slot : ℕ) (l : Kept)
     (parent : has p kept ≡ true) (parent_placed : has p places ≡ true) (fresh : has next kept ≡ false) (unplaced : has next places ≡ false) (chunks : l.chunks ≡ Empty)
     (free : l.protected ≡ false → find_context l.name ≡ None) (find2 : List ℕ → Option CtxId)
     (enters : (w : List ℕ) → find2 w ≡ entered_context l.protected l.name (record { number = next; slot = slot }) find_context w) where
@@ -237,7 +308,7 @@ module _ (kept : Forest Kept) (places : Forest ℕ) (find_context : List ℕ →
             subst (λ (z : CtxId). IsNamed (put p next l Empty kept) (put p next slot Empty places) w z) it (record {
               context = l;
               stands = at_grown p next l kept once parent fresh;
-              placed = at_grown p next slot places once_places parent_placed unplaced;
+              placed = at_put_new p next slot places parent_placed unplaced;
               findable = is;
               name = same_is l.name w y;
             })
@@ -265,9 +336,20 @@ module _ (kept : Forest Kept) (places : Forest ℕ) (find_context : List ℕ →
   finds_new true is clash = absurd (cc)
   finds_new false is clash = rw (is_same l.name l.name refl) refl
 
-  pub sound_grown : size kept < 65536 → IsSoundContext l → IsOwn (put p next slot Empty places) 1 own.top → IsOwn (put p next slot Empty places) 3 own.cache → IsOwn (put p next slot Empty places) 4 own.portals
-      → IsOwn (put p next slot Empty places) 5 own.abort → IsSound (put p next l Empty kept) (put p next slot Empty places) find2 find_chunk own now (next + 1) next_entry
-  sound_grown few inside top cache portals abort = record {
+  lies_now : (m : ℕ) → has m (put p next slot Empty places) ≡ true → has m (put p next l Empty kept) ≡ true
+  lies_now m h =
+      elim (cases_eq m next) [
+        | inl alike ↦ has_at m (put p next l Empty kept) l (ap (λ (i : ℕ). at i (put p next l Empty kept)) alike ∙ at_grown p next l kept once parent fresh)
+        | inr ne ↦
+            let there = at_some m (put p next slot Empty places) h in
+            let was = at_some m kept (sound.lies m (has_at m places there.0 (sym (at_grown_other p next slot m places ne) ∙ there.1))) in
+            has_at m (put p next l Empty kept) was.0 (stands m was.0 ne was.1)
+      ]
+
+  pub sound_grown : (own2 : Own) → size kept < 65536 → IsSoundContext l → IsOwn (put p next slot Empty places) 1 own2.top → IsOwn (put p next slot Empty places) 3 own2.cache
+      → IsOwn (put p next slot Empty places) 4 own2.portals → IsOwn (put p next slot Empty places) 5 own2.abort
+      → IsSound (put p next l Empty kept) (put p next slot Empty places) find2 find_chunk own2 now (next + 1) next_entry
+  sound_grown own2 few inside top cache portals abort = record {
     numbers = λ m.
         let sum = times_put m p next l Empty kept once parent in
         elim (cases_eq next m) [
@@ -278,6 +360,7 @@ module _ (kept : Forest Kept) (places : Forest ℕ) (find_context : List ℕ →
           | inr ne ↦ rw (sum, ne_eqb next m ne) (omega (arith, sound.numbers m, one_more next m))
         ];
     few = omega (arith, few, size_put p next l Empty kept once parent);
+    lies = lies_now;
     each = λ m j h. elim (grown_at p next l kept once parent fresh m j h) [ inl it ↦ rw it.1 inside | inr it ↦ sound.each m j it.1 ];
     given = λ m c j h q. elim (grown_at p next l kept once parent fresh m j h) [
       | inl it ↦ let none : has {A = Entry} c Empty ≡ true = ap (has c) (sym (ap (λ (x : Kept). x.chunks) it.1 ∙ chunks)) ∙ q in absurd (cc)

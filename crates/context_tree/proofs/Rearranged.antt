@@ -38,6 +38,10 @@ module _ (kept kept2 : Forest Kept) (places places2 : Forest ℕ) (same : (m : �
   sound_rearranged find_context find_chunk own now next next_entry often many sound = record {
     numbers = λ m. rw (often m) (sound.numbers m);
     few = rw many sound.few;
+    lies = λ m h.
+        let there = at_some m places2 h in
+        let was = at_some m kept (sound.lies m (has_at m places there.0 (sym (lies m) ∙ there.1))) in
+        has_at m kept2 was.0 (same m ∙ was.1);
     each = λ m k h. sound.each m k (sym (same m) ∙ h);
     given = λ m c k h q. sound.given m c k (sym (same m) ∙ h) q;
     named = λ word id h.

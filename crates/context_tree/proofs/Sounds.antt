@@ -5,7 +5,7 @@ use Rattle.std.proofs.lemmas.Bool.{cases_eq, cases_Bool, eq-eqb, ne_eqb}
 use Rattle.pgs_step.specs.declared.ids.CtxId.{CtxId}
 use Rattle.addr_space.proofs.Options.{from_map}
 use Rattle.forest.specs.Forest.{Forest, Empty, Node, either, at, has, Once, changed}
-use Rattle.forest.proofs.Trees.{Apart, apart_of, has_at, at_absent, at_some, times_changed, size_changed, changed_absent}
+use Rattle.forest.proofs.Trees.{Apart, apart_of, has_at, at_absent, at_some, times_changed, size_changed, changed_absent, has_changed}
 use Rattle.forest.proofs.Mapped.{at_changed, at_changed_other}
 use Rattle.context_tree.specs.declared.chunk_id.ChunkId.{ChunkId}
 use Rattle.context_tree.specs.declared.entry.Entry.{Entry}
@@ -70,6 +70,7 @@ module _ (kept : Forest Kept) (places : Forest ℕ) (find_context : List ℕ →
   sound_step find_chunk2 more name protected inside greater given chunk_named chunk_names = record {
     numbers = λ m. rw (times_changed m n (λ _. l) kept) (sound.numbers m);
     few = rw (size_changed n (λ _. l) kept) sound.few;
+    lies = λ m h. has_changed m n (λ _. l) kept ∙ sound.lies m h;
     each = λ m j h. elim (step_at n k l kept here m j h) [ inl it ↦ rw it.1 inside | inr it ↦ sound.each m j it.1 ];
     given = λ m c j h q. elim (step_at n k l kept here m j h) [
       | inl it ↦ given c (ap (λ (x : Kept). has c x.chunks) (sym it.1) ∙ q)

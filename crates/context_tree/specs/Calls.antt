@@ -14,7 +14,7 @@ pub record Did (ended : Ended) (a b : TreeState) (s t : Space) (x y : ShelfState
   pub hooks : HooksFit ended.contexts y
   pub moves : Moves a b s t
   pub asked : Asks a.account 0 s t
-  pub stays : (n : ℕ) → has n b.places ≡ true → place_of b n ≡ place_of a n
+  pub stays : (n : ℕ) → has n ended.contexts ≡ true → place_of b n ≡ place_of a n
   pub current : b.current ≡ a.current
   pub next : b.next ≡ a.next
 

@@ -7,3 +7,5 @@ pub mod Calls
 pub mod Soundness
 pub mod Lookup
 pub mod Chunking
+pub mod Making
+pub mod Ending

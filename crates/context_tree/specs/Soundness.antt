@@ -59,11 +59,13 @@ abbrev pub one_below : ℕ → ℕ → ℕ
 one_below next n = (if nat_lt n next then 1 else 0)
 
 -- Numbers are given once, and at most 65,536 contexts live; each is sound, and its entries have numbers that were given.
+-- Only contexts that are there have places.
 -- A name leads to its context or its chunk, and each that may be found is found. The current context is there, as long
 -- as any is.
 pub record IsSound (kept : Forest Kept) (places : Forest ℕ) (find_context : List ℕ → Option CtxId) (find_chunk : List ℕ → Option ChunkId) (own : Own) (now : CtxId) (next next_entry : ℕ) : Type 0 where
   pub numbers : (n : ℕ) → times n kept ≤ one_below next n
   pub few : size kept ≤ 65536
+  pub lies : (n : ℕ) → has n places ≡ true → has n kept ≡ true
   pub each : (n : ℕ) (k : Kept) → at n kept ≡ Some k → IsSoundContext k
   pub given : (n c : ℕ) (k : Kept) → at n kept ≡ Some k → has c k.chunks ≡ true → c < next_entry
   pub named : (word : List ℕ) (id : CtxId) → find_context word ≡ Some id → IsNamed kept places word id

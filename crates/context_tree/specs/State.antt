@@ -26,6 +26,10 @@ pub record TreeState : Type 0 where
   pub current : CtxId
   pub next : ℕ
 
+-- no context yet, for an account
+abbrev pub no_contexts : ℕ → TreeState
+no_contexts account = record { kept = Empty; places = Empty; account = account; current = record { number = 1; slot = 0 }; next = 1 }
+
 -- the context is there, at this slot
 abbrev pub IsLive : TreeState → CtxId → Type 0
 IsLive tree id = at id.number tree.places ≡ Some id.slot

@@ -3,7 +3,9 @@
 
 mod chunk_id;
 mod chunk_names;
+mod ending;
 mod entry;
+mod making;
 mod name_key;
 mod node;
 mod reporting;

@@ -1,5 +1,6 @@
 //! A context, as the tree keeps it.
-ghost use Rattle.std.specs.Prelude.{◌≡◌, [], ◌≢◌, ◌⊎◌, ◌∷◌, true, false, Some, OnOk, OnErr, IfOk, IfErr, unwrap_or, nat_lt, ◌||◌, ◌+◌, length};
+ghost use Rattle.std.specs.Prelude.{◌≡◌, [], ◌≢◌, ◌⊎◌, ◌∷◌, true, false, Some, OnOk, OnErr, IfOk, IfErr, unwrap_or, nat_lt, ◌||◌, ◌+◌, ◌++◌, ◌≤◌, length};
+ghost use Rattle.std.specs.HashMap.{get};
 ghost use Rattle.addr_space.specs.Footprint.{Agrees};
 ghost use Rattle.any_ctx.specs.Contexts.{footprint, ledger, place_at};
 ghost use Rattle.any_ctx.specs.Calls.{take_in};
@@ -8,19 +9,27 @@ ghost use Rattle.context_rules.specs.Refusals.{refusal, where_so};
 ghost use Rattle.any_ctx.specs.Ledgers.{give, resize, InSlab};
 ghost use Rattle.addr_space.specs.Space.{Asks, IsKnown, held};
 ghost use Rattle.context_tree.specs.declared.entry.Entry.{Entry as Chunk};
-ghost use Rattle.context_tree.specs.Soundness.{IsSoundContext};
+ghost use Rattle.reset_callbacks.specs.Hook.{AreDistinct};
+ghost use Rattle.reset_callbacks.specs.ShelfState.{held as on_shelf};
+ghost use Rattle.context_rules.specs.Ends.{callbacks};
+ghost use Rattle.context_tree.specs.Soundness.{same, IsSoundContext};
 ghost use Rattle.context_tree.specs.Chunking.{Took, Freed, Written, Refitted};
+ghost use Rattle.context_tree.specs.Ending.{Cleared, Gone};
 ghost use Rattle.forest.specs.Forest.{at, has};
 
+use crate::chunk_id::ChunkId;
+use crate::ending::{forget_all, run_all};
 use crate::entry::Entry;
+use crate::name_key::NameKey;
 use crate::zeros::write_zeros;
 use addr_space::{Addr, Space};
 use any_ctx::{AnyCtx, CtxKind};
 use chunk_header::CtxError;
 use context_rules::TreeError;
 use forest::{LinkedForest, NodeId};
-use pgs_step::Name;
-use reset_callbacks::{Pending, ResetHook};
+use pgs_step::{Emit, Name, What};
+use reset_callbacks::{Pending, ResetHook, Shelf};
+use std::collections::HashMap;
 use std::marker::Model;
 
 /// A context, with its allocator, its chunks and the hooks that wait on it.
@@ -216,10 +225,61 @@ impl<H: ResetHook> Node<H> {
             Err(error) => Err(told(error)),
         }
     }
+
+    /// Resets the context: its hooks run, the newest first, and its chunks go, with their names.
+    pub fn reset<E: Emit>(
+        &mut self,
+        space: &mut Space,
+        shelf: &mut Shelf<H>,
+        names: &mut HashMap<NameKey, ChunkId>,
+        number: u64,
+        out: &mut E,
+    )
+        requires agrees { Agrees (footprint self.old.memory) space.old }
+        requires sound { IsSoundContext self.old }
+        requires count { length self.old.hooks ≤ shelf.old.out }
+        requires words { AreDistinct (self.old.hooks ++ on_shelf shelf.old) }
+        ensures cleared { Cleared self.old self.new space.old space.new shelf.old shelf.new (get same names.old) (get same names.new) }
+        ensures emits { E.emits out.old (callbacks number self.old.hooks ++ What.Reset number ∷ []) out.new }
+    {
+        run_all(&mut self.callbacks, shelf, number, out);
+        forget_all(&mut self.chunks, names);
+        self.memory.reset(space);
+        let _ = self.memory.stats();
+        self.used = false;
+        out.emit(What::Reset(number));
+    }
+
+    /// The context goes: its hooks run, the newest first, its chunks go, with their names, and its blocks are given back.
+    pub fn end<E: Emit>(
+        self,
+        space: &mut Space,
+        shelf: &mut Shelf<H>,
+        names: &mut HashMap<NameKey, ChunkId>,
+        number: u64,
+        out: &mut E,
+    )
+        requires agrees { Agrees (footprint self.memory) space.old }
+        requires sound { IsSoundContext self }
+        requires count { length self.hooks ≤ shelf.old.out }
+        requires words { AreDistinct (self.hooks ++ on_shelf shelf.old) }
+        ensures went { Gone self space.old space.new shelf.old shelf.new (get same names.old) (get same names.new) }
+        ensures emits { E.emits out.old (callbacks number self.hooks) out.new }
+    {
+        let Node {
+            memory,
+            mut chunks,
+            mut callbacks,
+            ..
+        } = self;
+        run_all(&mut callbacks, shelf, number, out);
+        forget_all(&mut chunks, names);
+        memory.discard(space);
+    }
 }
 
 /// An allocator's refusal, as the tree tells it.
-fn told(error: CtxError) -> TreeError
+pub fn told(error: CtxError) -> TreeError
     ensures { (result ≡ TreeError.Memory) ⊎ ((error ≢ CtxError.Memory) × (result ≡ TreeError.Ctx error)) }
 {
     match error {

@@ -52,7 +52,7 @@ fn levels(depth: usize) -> u32
 }
 
 /// The context that lies at a node.
-fn context_at(id: NodeId) -> CtxId
+pub fn context_at(id: NodeId) -> CtxId
     ensures { result ≡ record { number = id.number; slot = id.slot } }
 {
     CtxId {

@@ -1,0 +1,293 @@
+-- A tree in which a context was made, and one in which none was.
+use Rattle.std.proofs.Common.{◌≡◌, ◌≢◌, ◌⊎◌, ℕ, ◌+◌, ◌-◌, ◌<◌, ◌≤◌, Bool, true, false, List, [], ◌∷◌, map, get_or, Option, Some, None, IsSome, refl, sym, ap, ◌∙◌, subst, inl, inr, arith}
+use Rattle.std.specs.Prelude.{not, ◌&&◌, unwrap_or, if◌then◌else◌, ◌==◌}
+use Rattle.std.specs.Option.{option_map}
+use Rattle.std.proofs.lemmas.Bool.{cases_Bool, cases_lt, le-ltb}
+use Rattle.addr_space.specs.declared.Addr.{Addr}
+use Rattle.addr_space.specs.Space.{Space, Region, region_at, bytes_of, part, accounts, held, Asks, IsKnown}
+use Rattle.addr_space.specs.Footprint as foot
+use Rattle.addr_space.specs.Footprint.{Footprint, nothing}
+use Rattle.addr_space.proofs.Contexts.{counted-nothing}
+use Rattle.addr_space.proofs.Options.{option_cases, none_or_some}
+use Rattle.pgs_step.specs.declared.ids.CtxId.{CtxId}
+use Rattle.forest.specs.declared.id.NodeId.{NodeId}
+use Rattle.forest.specs.Forest.{Forest, Empty, Node, at, has, Once, size, put, mapped}
+use Rattle.forest.specs.Forested.{Forested}
+use Rattle.forest.proofs.Mapped.{mapped-has}
+use Rattle.any_ctx.specs.Ledgers.{Ledger}
+use Rattle.any_ctx.specs.Kinds.{first_size}
+use Rattle.any_ctx.specs.Contexts.{footprint, ledger}
+use Rattle.any_ctx.specs.declared.any.CtxKind.{CtxKind}
+use Rattle.context_rules.specs.Names.{is_reserved}
+use Rattle.context_rules.specs.Contexts.{Context, Contexts, new_context, created, context_named}
+use Rattle.context_rules.specs.Refusals.{create_refusal, is_taken, first_of, where_so}
+use Rattle.context_rules.specs.declared.errors.TreeError.{TreeError}
+use Rattle.context_rules.specs.declared.errors.TreeError.TheVariants.{Memory, Taken, TooMany}
+use Rattle.context_tree.specs.declared.chunk_id.ChunkId.{ChunkId}
+use Rattle.context_tree.specs.declared.entry.Entry.{Entry}
+use Rattle.context_tree.specs.declared.making.NewContext.{NewContext}
+use Rattle.context_tree.specs.declared.tree.Own.{Own}
+use Rattle.context_tree.specs.Kept.{Kept}
+use Rattle.context_tree.specs.Soundness.{IsSound, IsSoundContext, IsOwn}
+use Rattle.context_tree.specs.State.{TreeState, bytes_at, chunk_of, entries, context_of, stands_for, Agrees, Moves, SameRegions, left_of, IsLive, place_of, total_of}
+use Rattle.context_tree.specs.Making.{Made, Grew, CameBack, Added, entered_context, room_refusal}
+use Rattle.context_tree.proofs.Names.{once_of, find_named, some_or_none}
+use Rattle.context_tree.proofs.Reading.{stands_size}
+use Rattle.context_tree.proofs.Steps.{chunk_same, context_same}
+use Rattle.context_tree.proofs.Growing.{Grown, agrees_grown, stands_grown, moves_grown, at_put_new, at_grown_other, next_fresh, next_unplaced, own_grown, sound_grown}
+use Rattle.context_tree.proofs.Opening.{sound_made}
+
+-- two functions that say the same of everything
+pub map_all : {A B : Type 0} (f g : A → B) → ((x : A) → g x ≡ f x) → (xs : List A) → map g xs ≡ map f xs
+map_all f g same [] = refl
+map_all f g same (x ∷ xs) = rw (same x, map_all f g same xs) refl
+
+pub mapped_all : {A B : Type 0} (f g : A → B) → ((x : A) → g x ≡ f x) → (t : Forest A) → mapped g t ≡ mapped f t
+mapped_all f g same Empty = refl
+mapped_all f g same (Node n a below beside) = rw (same a, mapped_all f g same below, mapped_all f g same beside) refl
+
+module _ (s t : Space) (same : SameRegions s t) where
+  context_still : (k : Kept) → context_of t k ≡ context_of s k
+  context_still k =
+      context_same s t k (map_all (chunk_of s k.memory) (chunk_of t k.memory) (λ e.
+      chunk_same s t k.memory k.memory e refl
+      (ap (λ (r : Option Region). map (λ (byte : Option ℕ). unwrap_or byte 0) (part (bytes_of r) e.at.offset e.known)) (same.regions e.at.region))) (entries k.chunks))
+
+  -- a tree stands for the same in a space with the same regions
+  pub stands_still : (a : TreeState) → stands_for a t ≡ stands_for a s
+  unfolding stands_for
+  stands_still a = mapped_all (context_of s) (context_of t) context_still a.kept
+
+  byte_still : (number offset : ℕ) → get_or (bytes_of (region_at t number)) offset None ≡ get_or (bytes_of (region_at s number)) offset None
+  byte_still number offset = ap (λ (r : Option Region). get_or (bytes_of r) offset None) (same.regions number)
+
+  foot_still : (f : Footprint) → foot.Agrees f s → foot.Agrees f t
+  foot_still f agrees = record {
+    sound = agrees.sound;
+    account = omega (arith, agrees.account, same.accounts);
+    regions = λ number len owns.
+        let has = agrees.regions number len owns in
+        (has.0, same.regions number ∙ has.1, has.2, has.3);
+    marks = λ at bytes marked k below. byte_still at.region (at.offset + k) ∙ agrees.marks at bytes marked k below;
+  }
+
+  pub agrees_still : (a : TreeState) → Agrees a s → Agrees a t
+  agrees_still a agrees = record {
+    account = omega (arith, agrees.account, same.accounts);
+    each = λ n k h. foot_still (footprint k.memory) (agrees.each n k h);
+    owned = agrees.owned;
+    apart = agrees.apart;
+    known = λ n c k e h q i below. subst IsSome (sym (byte_still e.at.region (e.at.offset + i))) (agrees.known n c k e h q i below);
+  }
+
+module _ (account : ℕ) (s t : Space) (back : CameBack account s t) where
+  pub regions_back : SameRegions s t
+  regions_back = record {
+    regions = λ number. elim (option_cases (region_at s number)) [
+      | inl none ↦ elim (option_cases (region_at t number)) [
+        | inl gone ↦ gone ∙ sym none
+        | inr some ↦
+            let was = (back.moves.outside number some.0).1 (some.1, refl) in
+            absurd (none_or_some (region_at s number) some.0 none was.0)
+      ]
+      | inr some ↦
+          let now = (back.moves.outside number some.0).0 (some.1, refl) in
+          now.0 ∙ sym some.1
+    ];
+    limit = back.moves.limit;
+    accounts = back.moves.accounts;
+  }
+
+  held_back : (other : ℕ) → held t other ≡ held s other
+  held_back other = omega (arith, back.moves.held other, counted-nothing account back.slot other)
+
+  -- the tree stays as it is
+  pub tree_came_back : (a : TreeState) → Agrees a s → Moves a a s t
+  tree_came_back a agrees = record {
+    agrees = agrees_still s t regions_back a agrees;
+    account = refl;
+    outside = λ number region. (
+      λ out. (regions_back.regions number ∙ out.0, out.1),
+      λ out. (sym (regions_back.regions number) ∙ out.0, out.1),
+    );
+    accounts = back.moves.accounts;
+    limit = back.moves.limit;
+    own = omega (arith, held_back a.account, ap total_of (stands_still s t regions_back a));
+    others = λ other differ. held_back other;
+  }
+
+-- a name that isn't taken, and one that is
+pub untaken : (protected : Bool) (name : List ℕ) (contexts : Contexts) → (protected ≡ false → (is_reserved name ≡ false) × (context_named name contexts ≡ None)) → (not protected && is_taken name contexts) ≡ false
+untaken true name contexts free = refl
+untaken false name contexts free = let it = free refl in rw (it.0, it.1) refl
+
+pub taken_name : (name : List ℕ) (contexts : Contexts) → (is_reserved name ≡ true) ⊎ IsSome (context_named name contexts) → is_taken name contexts ≡ true
+taken_name name contexts why = elim why [
+  | inl reserved ↦ rw reserved refl
+  | inr some ↦
+      elim (cases_Bool (is_reserved name)) [
+        | inl y ↦ rw y refl
+        | inr n ↦ elim (option_cases (context_named name contexts)) [
+          | inl none ↦ let clash : IsSome {T = ℕ} None = subst IsSome none some in absurd (cc)
+          | inr is ↦ rw (n, is.1) refl
+        ]
+      ]
+]
+
+-- as many as live leave room
+pub few_of : (many left : ℕ) (kind : CtxKind) → room_refusal many left kind ≡ None → many < 65536
+few_of many left kind served =
+    elim (cases_lt many 65536) [
+      | inl below ↦ below
+      | inr above ↦ let clash : Some TooMany ≡ None = rw (le-ltb many 65536 above) at served in absurd (cc)
+    ]
+
+-- the tree over an arena
+abbrev pub tree_of : Forested Kept → ℕ → CtxId → ℕ → TreeState
+tree_of f account current next = record { kept = f.forest; places = f.places; account = account; current = current; next = next }
+
+module _ (f : Forested Kept) (account : ℕ) (current : CtxId) (next : ℕ) (find_context : List ℕ → Option CtxId) (find_chunk : List ℕ → Option ChunkId) (own : Own) (next_entry : ℕ)
+    (sound : IsSound f.forest f.places find_context find_chunk own current next next_entry) (s : Space) where
+  a : TreeState
+  a = tree_of f account current next
+
+  named_so : (name : List ℕ) → option_map (λ (id : CtxId). id.number) (find_context name) ≡ context_named name (stands_for (tree_of f account current next) s)
+  unfolding stands_for
+  named_so name = find_named f.forest f.places find_context find_chunk own current next next_entry sound s name
+
+  -- a name that isn't found isn't taken
+  pub free_name : (protected : Bool) (name : List ℕ) → (protected ≡ false → (is_reserved name ≡ false) × (find_context name ≡ None))
+      → (not protected && is_taken name (stands_for (tree_of f account current next) s)) ≡ false
+  free_name protected name free =
+      untaken protected name (stands_for (tree_of f account current next) s)
+      (λ is. let it = free is in (it.0, sym (named_so name) ∙ ap (option_map (λ (id : CtxId). id.number)) it.1))
+
+  found_some : (name : List ℕ) → IsSome (find_context name) → IsSome (context_named name (stands_for (tree_of f account current next) s))
+  found_some name some = elim (option_cases (find_context name)) [
+    | inl none ↦ let clash : IsSome {T = CtxId} None = subst IsSome none some in absurd (cc)
+    | inr is ↦
+        let there : context_named name (stands_for (tree_of f account current next) s) ≡ Some is.0.number =
+        sym (named_so name) ∙ ap (option_map (λ (id : CtxId). id.number)) is.1 in
+        rw there refl
+  ]
+
+  -- why the call is refused
+  pub name_refused : (protected : Bool) (name : List ℕ) (kind : CtxKind) (e : TreeError)
+      → (e ≡ Memory) ⊎ ((e ≡ Taken) × (protected ≡ false) × ((is_reserved name ≡ true) ⊎ IsSome (find_context name)))
+      → (e ≡ Memory) ⊎ (create_refusal (left_of (tree_of f account current next) s) name kind protected (stands_for (tree_of f account current next) s) ≡ Some e)
+  name_refused protected name kind e why = elim why [
+    | inl memory ↦ inl memory
+    | inr told ↦
+        let stood : is_taken name (stands_for (tree_of f account current next) s) ≡ true = taken_name name (stands_for (tree_of f account current next) s) (elim told.2 [
+          | inl reserved ↦ inl reserved
+          | inr some ↦ inr (found_some name some)
+        ]) in
+        inr (rw (told.1, stood) (ap Some (sym told.0)))
+  ]
+
+  many : size (stands_for (tree_of f account current next) s) ≡ size f.forest
+  many = stands_size (tree_of f account current next) s
+
+  answer_is : (protected : Bool) (name : List ℕ) (kind : CtxKind) (answer : Option TreeError) → (protected ≡ false → (is_reserved name ≡ false) × (find_context name ≡ None))
+      → room_refusal (size f.forest) (s.limit - held s account) kind ≡ answer
+      → create_refusal (left_of (tree_of f account current next) s) name kind protected (stands_for (tree_of f account current next) s) ≡ answer
+  answer_is protected name kind answer free room = rw (free_name protected name free, many) room
+
+  pub room_refused : (protected : Bool) (name : List ℕ) (kind : CtxKind) (e : TreeError) → (protected ≡ false → (is_reserved name ≡ false) × (find_context name ≡ None))
+      → (e ≡ Memory) ⊎ (room_refusal (size f.forest) (s.limit - held s account) kind ≡ Some e)
+      → (e ≡ Memory) ⊎ (create_refusal (left_of (tree_of f account current next) s) name kind protected (stands_for (tree_of f account current next) s) ≡ Some e)
+  room_refused protected name kind e free why = elim why [
+    | inl memory ↦ inl memory
+    | inr told ↦ inr (answer_is protected name kind (Some e) free told)
+  ]
+
+  module _ (g : Forested Kept) (new : NewContext) (p : ℕ) (id : NodeId) (t : Space) (grew : Grew f g new (Some p) id account s t) (numbered : new.number ≡ next) (agrees : Agrees (tree_of f account current next) s)
+      (placed : has p f.places ≡ true) where
+    once : Once f.forest
+    once = once_of f.forest f.places find_context find_chunk own current next next_entry sound s []
+
+    fresh : has next f.forest ≡ false
+    fresh = next_fresh f.forest f.places find_context find_chunk own current next next_entry sound
+
+    unplaced : has next f.places ≡ false
+    unplaced = next_unplaced f.forest f.places find_context find_chunk own current next next_entry sound
+
+    pub grown : Grown (tree_of f account current next) (tree_of g account current (next + 1)) s t p next grew.context id.slot
+    grown = record {
+      parent = sound.lies p placed;
+      fresh = fresh;
+      now = grew.forest ∙ ap (λ (n : ℕ). put p n grew.context Empty f.forest) numbered;
+      account = refl;
+      moves = grew.made.moves;
+      chunks = ap (λ (k : Kept). k.chunks) grew.made.now;
+      total = grew.made.total;
+    }
+
+    pub places_now : g.places ≡ put p next id.slot Empty f.places
+    places_now = grew.places ∙ ap (λ (n : ℕ). put p n id.slot Empty f.places) numbered
+
+    abbrev bare : Ledger → Context
+    bare x = record {
+      name = new.name;
+      kind = new.kind;
+      protected = new.protected;
+      ledger = x;
+      used = false;
+      chunks = [];
+      hooks = [];
+    }
+
+    context_is : context_of t grew.context ≡ new_context new.name new.kind new.protected
+    context_is = ap (context_of t) grew.made.now ∙ ap bare grew.made.new_ledger
+
+    pub added_moves : Moves (tree_of f account current next) (tree_of g account current (next + 1)) s t
+    added_moves = moves_grown (tree_of f account current next) (tree_of g account current (next + 1)) s t p next grew.context id.slot agrees once sound.each grown
+
+    -- what `create` says of it
+    pub added : (new.protected ≡ false → (is_reserved new.name ≡ false) × (find_context new.name ≡ None))
+        → Added (tree_of f account current next) (tree_of g account current (next + 1)) p new.name new.kind new.protected (record { number = id.number; slot = id.slot }) s t
+    added free = record {
+      number = grew.number ∙ numbered;
+      contexts = stands_grown (tree_of f account current next) (tree_of g account current (next + 1)) s t p next grew.context id.slot agrees once sound.each grown
+          ∙ ap (λ (c : Context). put p next c Empty (stands_for (tree_of f account current next) s)) context_is;
+      places = grew.places ∙ ap (λ (n : ℕ). put p n id.slot Empty f.places) (sym grew.number);
+      live = ap (λ (n : ℕ). at n g.places) (grew.number ∙ numbered) ∙ ap (at next) places_now ∙ at_put_new p next id.slot f.places placed unplaced;
+      stays = λ n ne. ap (at n) places_now ∙ at_grown_other p next id.slot n f.places ne;
+      current = refl;
+      next = refl;
+      asked = grew.made.asked;
+      served = answer_is new.protected new.name new.kind None free grew.served;
+    }
+
+    noted : (m : ℕ) (x y made : CtxId) → made ≡ record { number = next; slot = id.slot } → IsOwn f.places m x → y ≡ (if made.number == m then made else x) → IsOwn (put p next id.slot Empty f.places) m y
+    noted m x y made is was noting =
+        own_grown f.places next p id.slot placed unplaced m x y was (subst (λ (z : CtxId). y ≡ (if z.number == m then z else x)) is noting)
+
+    -- the tree is sound then
+    pub sound_added : (find2 : List ℕ → Option CtxId) (own2 : Own) (made : CtxId) → made ≡ record { number = next; slot = id.slot }
+        → ((w : List ℕ) → find2 w ≡ entered_context new.protected new.name made find_context w) → (new.protected ≡ false → find_context new.name ≡ None)
+        → own2.top ≡ (if made.number == 1 then made else own.top) → own2.cache ≡ (if made.number == 3 then made else own.cache)
+        → own2.portals ≡ (if made.number == 4 then made else own.portals) → own2.abort ≡ (if made.number == 5 then made else own.abort)
+        → IsSound g.forest g.places find2 find_chunk own2 current (next + 1) next_entry
+    sound_added find2 own2 made is enters free top cache portals abort =
+        let l : Kept = grew.context in
+        let inside : IsSoundContext l = sound_made new l account id.slot s t grew.made in
+        let name : l.name ≡ new.name = ap (λ (k : Kept). k.name) grew.made.now in
+        let prot : l.protected ≡ new.protected = ap (λ (k : Kept). k.protected) grew.made.now in
+        let entered : (w : List ℕ) → find2 w ≡ entered_context l.protected l.name (record { number = next; slot = id.slot }) find_context w =
+        λ w. enters w ∙ ap (λ (z : CtxId). entered_context new.protected new.name z find_context w) is
+        ∙ ap (λ (b : Bool). entered_context b new.name (record { number = next; slot = id.slot }) find_context w) (sym prot)
+        ∙ ap (λ (x : List ℕ). entered_context l.protected x (record { number = next; slot = id.slot }) find_context w) (sym name) in
+        let unnamed : l.protected ≡ false → find_context l.name ≡ None = λ h. ap find_context name ∙ free (sym prot ∙ h) in
+        let grows : IsSound (put p next l Empty f.forest) (put p next id.slot Empty f.places) find2 find_chunk own2 current (next + 1) next_entry =
+        sound_grown f.forest f.places find_context find_chunk own current next next_entry sound once p id.slot l (sound.lies p placed) placed fresh unplaced
+        (ap (λ (k : Kept). k.chunks) grew.made.now) unnamed find2 entered own2 (few_of (size f.forest) (s.limit - held s account) new.kind grew.served) inside
+        (noted 1 own.top own2.top made is sound.top top) (noted 3 own.cache own2.cache made is sound.cache cache)
+        (noted 4 own.portals own2.portals made is sound.portals portals) (noted 5 own.abort own2.abort made is sound.abort abort) in
+        subst (λ (x : Forest ℕ). IsSound g.forest x find2 find_chunk own2 current (next + 1) next_entry) (sym places_now)
+        (subst (λ (x : Forest Kept). IsSound x (put p next id.slot Empty f.places) find2 find_chunk own2 current (next + 1) next_entry) (sym grown.now) grows)
+
+  -- the next context's number is new
+  pub fresh_stands : has next (stands_for (tree_of f account current next) s) ≡ false
+  unfolding stands_for
+  fresh_stands = mapped-has (context_of s) next f.forest ∙ next_fresh f.forest f.places find_context find_chunk own current next next_entry sound

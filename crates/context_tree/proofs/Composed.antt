@@ -1,0 +1,81 @@
+-- Calls that end contexts, one after the other.
+use Rattle.std.proofs.Common.{◌≡◌, ◌≢◌, ℕ, ◌+◌, ◌-◌, ◌<◌, true, false, Option, Some, None, List, [], ◌∷◌, ◌++◌, length, map, refl, sym, ap, ◌∙◌, inl, inr, subst, arith, append_assoc}
+use Rattle.std.proofs.lemmas.List.{append-nil, map-append, length-append}
+use Rattle.pgs_step.specs.declared.events.What.{What}
+use Rattle.addr_space.specs.Space.{Space, held}
+use Rattle.forest.specs.Forest.{has, at}
+use Rattle.forest.proofs.Trees.{at_some, has_at}
+use Rattle.reset_callbacks.specs.Hook.{Hook, ran}
+use Rattle.reset_callbacks.specs.ShelfState.{ShelfState}
+use Rattle.context_rules.specs.Contexts.{Contexts}
+use Rattle.context_rules.specs.Ends.{Ended, and_then, unchanged, handed_in}
+use Rattle.context_tree.specs.State.{TreeState, place_of, stands_for, total_of, Agrees, Moves, HooksFit}
+use Rattle.context_tree.specs.Calls.{Did}
+use Rattle.context_tree.proofs.Allocs.{tree_none}
+
+-- the same contexts, events and hooks
+pub ended_same : (e f : Ended) → e.contexts ≡ f.contexts → e.events ≡ f.events → e.hooks ≡ f.hooks → e ≡ f
+ended_same e f contexts events hooks =
+    ap (λ (x : Contexts). record e { contexts = x }) contexts
+    ∙ ap (λ (x : List What). record e { contexts = f.contexts; events = x }) events
+    ∙ ap (λ (x : List Hook). record e { contexts = f.contexts; events = f.events; hooks = x }) hooks
+
+pub then_assoc : (d e f : Ended) → and_then (and_then d e) f ≡ and_then d (and_then e f)
+then_assoc d e f =
+    ended_same (and_then (and_then d e) f) (and_then d (and_then e f)) refl (append_assoc d.events e.events f.events) (append_assoc d.hooks e.hooks f.hooks)
+
+-- hooks that are handed in after others
+handed_more : (xs ys : List Hook) (x : ShelfState) → handed_in ys (handed_in xs x) ≡ handed_in (xs ++ ys) x
+handed_more xs ys x =
+    let spent : (x.spent ++ map ran xs) ++ map ran ys ≡ x.spent ++ map ran (xs ++ ys) =
+    append_assoc x.spent (map ran xs) (map ran ys) ∙ ap (λ (hooks : List Hook). x.spent ++ hooks) (sym (map-append ran xs ys)) in
+    let out : x.out - length xs - length ys ≡ x.out - length (xs ++ ys) = omega (arith, length-append xs ys) in
+    ap (λ (hooks : List Hook). record x { spent = hooks; out = x.out - length xs - length ys }) spent
+    ∙ ap (λ (n : ℕ). record x { spent = x.spent ++ map ran (xs ++ ys); out = n }) out
+
+-- two moves of a tree and its space
+pub tree_more : (a b c : TreeState) (s t u : Space) → Moves a b s t → Moves b c t u → Moves a c s u
+tree_more a b c s t u first second =
+    let own : held u a.account + total_of (stands_for b t) ≡ held t a.account + total_of (stands_for c u) =
+    subst (λ (n : ℕ). held u n + total_of (stands_for b t) ≡ held t n + total_of (stands_for c u)) first.account second.own in
+    record {
+      agrees = second.agrees;
+      account = second.account ∙ first.account;
+      outside = λ number region. (
+        λ out. (second.outside number region).0 ((first.outside number region).0 out),
+        λ out. (first.outside number region).1 ((second.outside number region).1 out),
+      );
+      accounts = second.accounts ∙ first.accounts;
+      limit = second.limit ∙ first.limit;
+      own = omega (arith, first.own, own);
+      others = λ account ne. second.others account (λ e. ne (e ∙ first.account)) ∙ first.others account ne;
+    }
+
+-- two calls, where the second one makes no context
+pub did_more : (e f : Ended) (a b c : TreeState) (s t u : Space) (x y z : ShelfState) → ((n : ℕ) → has n f.contexts ≡ true → has n e.contexts ≡ true)
+    → Did e a b s t x y → Did f b c t u y z → Did (and_then e f) a c s u x z
+did_more e f a b c s t u x y z fewer first second = record {
+  contexts = second.contexts;
+  shelf = second.shelf ∙ ap (handed_in f.hooks) first.shelf ∙ handed_more e.hooks f.hooks x;
+  hooks = second.hooks;
+  moves = tree_more a b c s t u first.moves second.moves;
+  asked = second.asked ∙ first.asked;
+  stays = λ n h. second.stays n h ∙ first.stays n (fewer n h);
+  current = second.current ∙ first.current;
+  next = second.next ∙ first.next;
+}
+
+-- no call
+pub did_none : (a : TreeState) (s : Space) (x : ShelfState) → Agrees a s → HooksFit (stands_for a s) x → Did (unchanged (stands_for a s)) a a s s x x
+did_none a s x agrees hooks = record {
+  contexts = refl;
+  shelf =
+      let out : x.out ≡ x.out - 0 = omega arith in
+      ap (λ (hooks : List Hook). record x { spent = hooks }) (sym (append-nil x.spent)) ∙ ap (λ (n : ℕ). record x { spent = x.spent ++ []; out = n }) out;
+  hooks = hooks;
+  moves = tree_none a s agrees;
+  asked = refl;
+  stays = λ n h. refl;
+  current = refl;
+  next = refl;
+}

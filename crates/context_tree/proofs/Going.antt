@@ -1,0 +1,149 @@
+-- Contexts that go one by one, each behind all that is below it.
+use Rattle.std.proofs.Common.{◌≡◌, ◌≢◌, ◌⊎◌, ℕ, ◌<◌, true, false, Option, Some, None, List, [], ◌∷◌, ◌++◌, refl, sym, ap, ◌∙◌, inl, inr, arith, append_assoc}
+use Rattle.std.specs.Option.{option_map_or}
+use Rattle.std.proofs.lemmas.Bool.{cases_Bool, both_ways, false_from_ne_true}
+use Rattle.std.proofs.lemmas.List.{append-nil}
+use Rattle.pgs_step.specs.declared.events.What.{What}
+use Rattle.pgs_step.specs.declared.events.What.TheVariants.{Delete}
+use Rattle.addr_space.specs.Space.{Space}
+use Rattle.forest.specs.Forest.{Forest, Empty, Node, has, Once, size, at, children, is_above, removed, with_children, subtree}
+use Rattle.forest.specs.Walk.{lead, follows}
+use Rattle.forest.proofs.Trees.{first_child_other, once_removed, size_removed, has_children, children_absent, removed_has, has_of_removed, at_some, at_absent}
+use Rattle.forest.proofs.Walks.{once_children, lead_in, lead_removed, lead_leaf, lead_end, children_removed, above_stays, children_in}
+use Rattle.forest.proofs.Mapped.{mapped-has, mapped-children, mapped-lead, mapped-follows, mapped-once, mapped-size}
+use Rattle.reset_callbacks.specs.Hook.{Hook}
+use Rattle.context_rules.specs.Contexts.{Context, Contexts}
+use Rattle.context_rules.specs.Ends.{Ended, and_then, gone, children_gone, gone_events, callbacks, waiting}
+use Rattle.context_tree.specs.Kept.{Kept}
+use Rattle.context_tree.specs.State.{TreeState, context_of, stands_for}
+use Rattle.context_tree.proofs.Composed.{ended_same}
+use Rattle.context_tree.proofs.Fewer.{told, told_first, at_with, bare_with, removed_with, with_bare, with_removed}
+
+-- what is said of a context that goes
+abbrev last_words : ℕ → Context → List What
+last_words n c = callbacks n c.hooks ++ Delete n ∷ []
+
+events_told : (t : Contexts) → gone_events t ≡ told last_words t
+events_told Empty = refl
+events_told (Node n c below beside) =
+    rw (events_told below, events_told beside)
+    (ap (λ (xs : List What). told last_words below ++ xs) (sym (append_assoc (callbacks n c.hooks) (Delete n ∷ []) (told last_words beside))))
+
+abbrev own_hooks : ℕ → Context → List Hook
+own_hooks n c = c.hooks
+
+hooks_told : (t : Contexts) → waiting t ≡ told own_hooks t
+hooks_told Empty = refl
+hooks_told (Node n c below beside) = rw (hooks_told below, hooks_told beside) refl
+
+-- one turn of the walk through all that is below a context: the first one of them goes
+pub record Turn (n m next : ℕ) (t : Contexts) : Type 0 where
+  pub inside : has m (children n t) ≡ true
+  pub leaf : children m t ≡ Empty
+  pub first : next ≡ lead n (children n (removed m t))
+  pub rest : and_then (gone m t) (children_gone n (removed m t)) ≡ children_gone n t
+  pub once : Once (removed m t)
+  pub above : has n (removed m t) ≡ true
+  pub stands : has next (removed m t) ≡ true
+  pub smaller : size (removed m t) < size t
+
+rest_of : (n m : ℕ) (t : Contexts) → Once t → m ≡ lead n (children n t) → has m (children n t) ≡ true → and_then (gone m t) (children_gone n (removed m t)) ≡ children_gone n t
+rest_of n m t o e h =
+    ended_same (and_then (gone m t) (children_gone n (removed m t))) (children_gone n t)
+    (with_removed m n Empty t o h)
+    (ap (λ (xs : List What). xs ++ gone_events (children n (removed m t))) (events_told (subtree m t))
+    ∙ ap (λ (xs : List What). told last_words (subtree m t) ++ xs) (events_told (children n (removed m t)))
+    ∙ sym (told_first last_words n m t o e h) ∙ sym (events_told (children n t)))
+    (ap (λ (xs : List Hook). xs ++ waiting (children n (removed m t))) (hooks_told (subtree m t))
+    ∙ ap (λ (xs : List Hook). told own_hooks (subtree m t) ++ xs) (hooks_told (children n (removed m t)))
+    ∙ sym (told_first own_hooks n m t o e h) ∙ sym (hooks_told (children n t)))
+
+pub turn : (n m next : ℕ) (t : Contexts) → Once t → has n t ≡ true → m ≡ lead n (children n t) → m ≢ n → next ≡ follows m n (children n t) → Turn n m next t
+turn n m next t o stands e ne q =
+    let low : Contexts = children n t in
+    let ol : Once low = once_children n t o in
+    let i : has (lead n low) low ≡ true = elim (lead_in n low) [ inl z ↦ absurd (ne (e ∙ z)) | inr h ↦ h ] in
+    let inside : has m low ≡ true = ap (λ (x : ℕ). has x low) e ∙ i in
+    let there : has m t ≡ true = has_children m n t o inside in
+    let lower : children n (removed m t) ≡ removed m low = children_removed m n t o inside in
+    let once : Once (removed m t) = once_removed m t o there in
+    let above : has n (removed m t) ≡ true = above_stays m n t o inside in
+    let first : next ≡ lead n (children n (removed m t)) =
+    q ∙ ap (λ (x : ℕ). follows x n low) e ∙ lead_removed n low ol i ∙ ap (λ (x : ℕ). lead n (removed x low)) (sym e) ∙ ap (λ (x : Contexts). lead n x) (sym lower) in
+    record {
+      inside = inside;
+      leaf = sym (children_in m n t o inside) ∙ ap (λ (x : ℕ). children x low) e ∙ lead_leaf n low ol i;
+      first = first;
+      rest = rest_of n m t o e inside;
+      once = once;
+      above = above;
+      stands = elim (lead_in n (children n (removed m t))) [
+        | inl z ↦ ap (λ (x : ℕ). has x (removed m t)) (first ∙ z) ∙ above
+        | inr h ↦ ap (λ (x : ℕ). has x (removed m t)) first ∙ has_children (lead n (children n (removed m t))) n (removed m t) once h
+      ];
+      smaller = let s = size_removed m t o there in omega (arith, s);
+    }
+
+-- a context that isn't below another one isn't the one that goes, and isn't below that other one afterwards
+pub other_goes : (n m c : ℕ) (t : Contexts) → has m (children n t) ≡ true → is_above n c t ≡ false → c ≢ m
+other_goes n m c t h out e = both_ways (has c (children n t)) out (ap (λ (x : ℕ). has x (children n t)) e ∙ h)
+
+pub still_apart : (n m c : ℕ) (t : Contexts) → Once t → has m (children n t) ≡ true → is_above n c t ≡ false → is_above n c (removed m t) ≡ false
+still_apart n m c t o h out =
+    false_from_ne_true (has c (children n (removed m t)))
+    (λ y. both_ways (has c (children n t)) out
+    (has_of_removed c m (children n t) (ap (λ (x : Contexts). has c x) (sym (children_removed m n t o h)) ∙ y)))
+
+-- the end of the walk: nothing is below the context
+pub all_gone : (e : Ended) (n m : ℕ) → Once e.contexts → has n e.contexts ≡ true → m ≡ lead n (children n e.contexts) → m ≡ n → and_then e (children_gone n e.contexts) ≡ e
+all_gone e n m o stands is z =
+    let none : children n e.contexts ≡ Empty = lead_end n (children n e.contexts) (first_child_other n e.contexts o stands) (sym is ∙ z) in
+    ended_same (and_then e (children_gone n e.contexts)) e
+    (with_bare n e.contexts o none)
+    (ap (λ (x : Contexts). e.events ++ gone_events x) none ∙ append-nil e.events)
+    (ap (λ (x : Contexts). e.hooks ++ waiting x) none ∙ append-nil e.hooks)
+
+-- a context goes once all below it is gone
+pub gone_last : (n : ℕ) (t : Contexts) → and_then (children_gone n t) (gone n (with_children n Empty t)) ≡ gone n t
+gone_last n t = go (at n t) refl
+  where
+    lone : (o : Option Context) → at n t ≡ o → subtree n (with_children n Empty t) ≡ option_map_or (λ c. Node n c Empty Empty) o Empty
+    lone o e =
+        ap (λ (x : Option Context). option_map_or (λ c. Node n c (children n (with_children n Empty t)) Empty) x Empty) (at_with n Empty t ∙ e)
+        ∙ ap (λ (x : Contexts). option_map_or (λ c. Node n c x Empty) o Empty) (bare_with n t)
+
+    whole : (o : Option Context) → at n t ≡ o → subtree n t ≡ option_map_or (λ c. Node n c (children n t) Empty) o Empty
+    whole o e = ap (λ (x : Option Context). option_map_or (λ c. Node n c (children n t) Empty) x Empty) e
+
+    go : (o : Option Context) → at n t ≡ o → and_then (children_gone n t) (gone n (with_children n Empty t)) ≡ gone n t
+    go None e =
+        let out : has n t ≡ false = false_from_ne_true (has n t) (λ h. let there = at_some n t h in absurd (cc (there.1, e))) in
+        let none : children n t ≡ Empty = children_absent n t out in
+        ended_same (and_then (children_gone n t) (gone n (with_children n Empty t))) (gone n t) (removed_with n Empty t)
+        (ap (λ (x : Contexts). gone_events (children n t) ++ gone_events x) (lone None e)
+        ∙ ap (λ (x : Contexts). gone_events x ++ []) none ∙ sym (ap gone_events (whole None e)))
+        (ap (λ (x : Contexts). waiting (children n t) ++ waiting x) (lone None e)
+        ∙ ap (λ (x : Contexts). waiting x ++ []) none ∙ sym (ap waiting (whole None e)))
+    go (Some c) e =
+        ended_same (and_then (children_gone n t) (gone n (with_children n Empty t))) (gone n t) (removed_with n Empty t)
+        (ap (λ (x : Contexts). gone_events (children n t) ++ gone_events x) (lone (Some c) e) ∙ sym (ap gone_events (whole (Some c) e)))
+        (ap (λ (x : Contexts). waiting (children n t) ++ waiting x) (lone (Some c) e) ∙ sym (ap waiting (whole (Some c) e)))
+
+-- what the walk goes by
+module _ (tree : TreeState) (s : Space) where
+  pub once_stands : Once tree.kept → Once (stands_for tree s)
+  unfolding stands_for
+  once_stands o = mapped-once (context_of s) tree.kept o
+
+  pub has_stands : (n : ℕ) → has n (stands_for tree s) ≡ has n tree.kept
+  unfolding stands_for
+  has_stands n = mapped-has (context_of s) n tree.kept
+
+  pub lead_stands : (n : ℕ) → lead n (children n (stands_for tree s)) ≡ lead n (children n tree.kept)
+  unfolding stands_for
+  lead_stands n = ap (λ (x : Contexts). lead n x) (sym (mapped-children (context_of s) n tree.kept)) ∙ mapped-lead (context_of s) n (children n tree.kept)
+
+  pub follows_stands : (m n : ℕ) → follows m n (children n (stands_for tree s)) ≡ follows m n (children n tree.kept)
+  unfolding stands_for
+  follows_stands m n =
+      ap (λ (x : Contexts). follows m n x) (sym (mapped-children (context_of s) n tree.kept)) ∙ mapped-follows (context_of s) m n (children n tree.kept)

@@ -1,0 +1,226 @@
+-- A tree of the topmost context alone, and one of all that a session begins with.
+use Rattle.std.proofs.Common.{◌≡◌, ◌≢◌, ℕ, ◌+◌, ◌<◌, ◌≤◌, Bool, true, false, List, [], Option, Some, None, refl, sym, ap, ◌∙◌, subst, inl, inr, arith}
+use Rattle.std.specs.Prelude.{codes}
+use Rattle.std.proofs.lemmas.Bool.{cases_eq, eq-eqb, ne_eqb}
+use Rattle.addr_space.specs.Space.{Space, Region, accounts, region_at}
+use Rattle.addr_space.specs.Footprint as foot
+use Rattle.addr_space.specs.Footprint.{nothing}
+use Rattle.addr_space.proofs.Options.{option_cases, none_or_some}
+use Rattle.addr_space.proofs.Contexts.{counted-own, counted-other, counted-nothing}
+use Rattle.pgs_step.specs.declared.ids.CtxId.{CtxId}
+use Rattle.forest.specs.declared.id.NodeId.{NodeId}
+use Rattle.forest.specs.Forest.{Forest, Empty, Node, at, has, Once, mapped}
+use Rattle.forest.specs.Forested.{Forested}
+use Rattle.any_ctx.specs.Ledgers.{Ledger, stats}
+use Rattle.any_ctx.specs.Contexts.{footprint, ledger}
+use Rattle.any_ctx.specs.declared.any.CtxKind.TheVariants.{Default, Error, Abort}
+use Rattle.any_ctx.specs.declared.any.CtxKind.{CtxKind}
+use Rattle.any_ctx.specs.Kinds as kinds
+use Rattle.context_rules.specs.Contexts.{Context, Contexts, new_context, created}
+use Rattle.context_rules.specs.Opening.{topmost}
+use Rattle.context_tree.specs.declared.chunk_id.ChunkId.{ChunkId}
+use Rattle.context_tree.specs.declared.entry.Entry.{Entry}
+use Rattle.context_tree.specs.declared.making.NewContext.{NewContext}
+use Rattle.context_tree.specs.declared.tree.Own.{Own}
+use Rattle.context_tree.specs.Kept.{Kept}
+use Rattle.context_tree.specs.Soundness.{AreFlat, IsSoundContext, IsSound, IsOwn}
+use Rattle.context_tree.specs.State.{TreeState, context_of, stands_for, no_contexts, Agrees, Moves, SameRegions}
+use Rattle.context_tree.specs.Making.{Made, Grew, opened}
+
+-- the only context of a forest
+only : {A : Type 0} (n m : ℕ) (a b : A) → at m (Node n a Empty Empty) ≡ Some b → (n ≡ m) × (b ≡ a)
+only n m a b h =
+    elim (cases_eq n m) [
+      | inl same ↦ let it : Some a ≡ Some b = rw (eq-eqb n m same) at h in (same, cc)
+      | inr ne ↦ let none : None ≡ Some b = rw (ne_eqb n m ne) at h in absurd (cc)
+    ]
+
+own_later : (slot n : ℕ) (id : CtxId) → id.number ≡ n → 1 ≢ n → IsOwn (Node 1 slot Empty Empty) n id
+own_later slot n id number later = record {
+  number = number;
+  placed = λ h. let none : false ≡ true = rw (ne_eqb 1 n later) at h in absurd (cc);
+}
+
+pub sound_topmost : (k : Kept) (slot next_entry : ℕ) (find_context : List ℕ → Option CtxId) (find_chunk : List ℕ → Option ChunkId) (own : Own) (now : CtxId) → k.chunks ≡ Empty → k.protected ≡ true → IsSoundContext k
+    → ((w : List ℕ) → find_context w ≡ None) → ((w : List ℕ) → find_chunk w ≡ None) → own.top ≡ record { number = 1; slot = slot } → own.cache.number ≡ 3 → own.portals.number ≡ 4 → own.abort.number ≡ 5
+    → now ≡ record { number = 1; slot = slot } → IsSound (Node 1 k Empty Empty) (Node 1 slot Empty Empty) find_context find_chunk own now 2 next_entry
+sound_topmost k slot next_entry find_context find_chunk own now chunks protected inside no_name no_chunk top cache portals abort current = record {
+  numbers = λ n. elim (cases_eq 1 n) [
+    | inl same ↦ rw (sym same) (omega arith)
+    | inr ne ↦ rw (ne_eqb 1 n ne) (omega arith)
+  ];
+  few = omega arith;
+  lies = λ n h. h;
+  each = λ n j h. rw (only 1 n k j h).1 inside;
+  given = λ n c j h q.
+      let none : has {A = Entry} c Empty ≡ true = ap (has c) (sym (ap (λ (x : Kept). x.chunks) (only 1 n k j h).1 ∙ chunks)) ∙ q in
+      absurd (cc);
+  named = λ word id h. let none : None ≡ Some id = sym (no_name word) ∙ h in absurd (cc);
+  names = λ n j h findable.
+      let clash : true ≡ false = sym protected ∙ ap (λ (x : Kept). x.protected) (sym (only 1 n k j h).1) ∙ findable in
+      absurd (cc);
+  chunk_named = λ word id h. let none : None ≡ Some id = sym (no_chunk word) ∙ h in absurd (cc);
+  chunk_names = λ n c j e word h q is.
+      let none : at c Empty ≡ Some e = ap (at c) (sym (ap (λ (x : Kept). x.chunks) (only 1 n k j h).1 ∙ chunks)) ∙ q in
+      absurd (cc);
+  top = record {
+    number = ap (λ (x : CtxId). x.number) top;
+    placed = λ h. ap Some (sym (ap (λ (x : CtxId). x.slot) top));
+  };
+  cache = own_later slot 3 own.cache cache (omega arith);
+  portals = own_later slot 4 own.portals portals (omega arith);
+  abort = own_later slot 5 own.abort abort (omega arith);
+  current = inr (rw current refl);
+}
+
+-- what a context that was just made is like
+pub sound_made : (new : NewContext) (k : Kept) (account slot : ℕ) (s t : Space) → Made new k account slot s t → IsSoundContext k
+sound_made new k account slot s t made =
+    subst (λ (x : Kept). IsSoundContext x) (sym made.now) (record {
+      flat = tt;
+      once = record { once = λ n. omega arith };
+      numbers = λ c h. absurd (cc);
+      live = λ c e h. absurd (cc);
+      placed = λ c e h. absurd (cc);
+      known = λ c e h. absurd (cc);
+      differ = λ b c d e ne h q. absurd (cc);
+      total = made.total;
+    })
+
+module _ (account slot : ℕ) (k : Kept) (places : Forest ℕ) (now : CtxId) (next : ℕ) (s t : Space) (moves : foot.Moves (nothing account slot) (footprint k.memory) s t) (chunks : k.chunks ≡ Empty)
+    (total : (footprint k.memory).total ≡ (stats (ledger k.memory)).total) where
+  pub topmost_moves : Moves (no_contexts account) (record { kept = Node 1 k Empty Empty; places = places; account = account; current = now; next = next }) s t
+  unfolding stands_for
+  topmost_moves = record {
+    agrees = record {
+      account = omega (arith, moves.agrees.account, moves.account);
+      each = λ n j h. rw (only 1 n k j h).1 moves.agrees;
+      owned = λ n j h. rw (only 1 n k j h).1 moves.account;
+      apart = λ m n i j differ h q. absurd (differ (sym (only 1 m k i h).0 ∙ (only 1 n k j q).0));
+      known = λ n c j e h q.
+          let none : at c Empty ≡ Some e = ap (at c) (sym (ap (λ (x : Kept). x.chunks) (only 1 n k j h).1 ∙ chunks)) ∙ q in
+          absurd (cc);
+    };
+    account = refl;
+    outside = λ number region. (
+      λ out.
+          let now_there = (moves.outside number region).0 (out.0, refl) in
+          (now_there.0, λ n j h. rw (only 1 n k j h).1 now_there.1),
+      λ out.
+          let before = (moves.outside number region).1 (out.0, out.1 1 k refl) in
+          (before.0, λ n j h. absurd (cc)),
+    );
+    accounts = moves.accounts;
+    limit = moves.limit;
+    own =
+        omega (
+          arith,
+          moves.held account,
+          counted-own (footprint k.memory) account moves.account,
+          counted-nothing account slot account,
+          total,
+        );
+    others = λ other differ.
+        omega (
+          arith,
+          moves.held other,
+          counted-nothing account slot other,
+          counted-other (footprint k.memory) other (λ e. differ (sym e ∙ moves.account)),
+        );
+  }
+
+-- the four below it, one after the other
+pub opened_is : (x0 x1 x2 x3 x4 : Contexts) (n0 n1 n2 n3 : ℕ) → n0 ≡ 2 → n1 ≡ n0 + 1 → n2 ≡ n1 + 1 → n3 ≡ n2 + 1
+    → x1 ≡ created 1 n0 (codes "ErrorContext") Error true x0 → x2 ≡ created 1 n1 (codes "CacheMemoryContext") Default true x1
+    → x3 ≡ created 1 n2 (codes "TopPortalContext") Default true x2 → x4 ≡ created 1 n3 (codes "TransactionAbortContext") Abort true x3 → x4 ≡ opened x0
+opened_is x0 x1 x2 x3 x4 n0 n1 n2 n3 two a b c one second third fourth =
+    let three : n1 ≡ 3 = omega (arith, two, a) in
+    let four : n2 ≡ 4 = omega (arith, three, b) in
+    let five : n3 ≡ 5 = omega (arith, four, c) in
+    fourth
+    ∙ ap (λ (n : ℕ). created 1 n (codes "TransactionAbortContext") Abort true x3) five
+    ∙ ap (created 1 5 (codes "TransactionAbortContext") Abort true) (
+    third
+    ∙ ap (λ (n : ℕ). created 1 n (codes "TopPortalContext") Default true x2) four
+    ∙ ap (created 1 4 (codes "TopPortalContext") Default true) (
+    second
+    ∙ ap (λ (n : ℕ). created 1 n (codes "CacheMemoryContext") Default true x1) three
+    ∙ ap (created 1 3 (codes "CacheMemoryContext") Default true) (one ∙ ap (λ (n : ℕ). created 1 n (codes "ErrorContext") Error true x0) two)
+    )
+    )
+
+module _ (f g : Forested Kept) (new : NewContext) (id : NodeId) (account : ℕ) (s t : Space) (grew : Grew f g new None id account s t) (empty : f.forest ≡ Empty) (nowhere : f.places ≡ Empty)
+    (numbered : new.number ≡ 1) (named : new.name ≡ codes "TopMemoryContext") (kind : new.kind ≡ Default) (protected : new.protected ≡ true) (made : CtxId)
+    (is : made ≡ record { number = id.number; slot = id.slot }) where
+  kept_now : g.forest ≡ Node 1 grew.context Empty Empty
+  kept_now =
+      grew.forest ∙ ap (λ (n : ℕ). Node n grew.context Empty f.forest) numbered ∙ ap (λ (x : Forest Kept). Node 1 grew.context Empty x) empty
+
+  places_now : g.places ≡ Node 1 id.slot Empty Empty
+  places_now =
+      grew.places ∙ ap (λ (n : ℕ). Node n id.slot Empty f.places) numbered ∙ ap (λ (x : Forest ℕ). Node 1 id.slot Empty x) nowhere
+
+  made_now : made ≡ record { number = 1; slot = id.slot }
+  made_now = is ∙ ap (λ (n : ℕ). record { number = n; slot = id.slot }) (grew.number ∙ numbered)
+
+  no_chunk : grew.context.chunks ≡ Empty
+  no_chunk = ap (λ (k : Kept). k.chunks) grew.made.now
+
+  pub topmost_sound : (find_context : List ℕ → Option CtxId) (find_chunk : List ℕ → Option ChunkId) (own : Own) (next_entry : ℕ) → ((w : List ℕ) → find_context w ≡ None) → ((w : List ℕ) → find_chunk w ≡ None)
+      → own.top ≡ made → own.cache.number ≡ 3 → own.portals.number ≡ 4 → own.abort.number ≡ 5 → IsSound g.forest g.places find_context find_chunk own made 2 next_entry
+  topmost_sound find_context find_chunk own next_entry no_name no_named top cache portals abort =
+      subst (λ (x : Forest ℕ). IsSound g.forest x find_context find_chunk own made 2 next_entry) (sym places_now)
+      (subst (λ (x : Forest Kept). IsSound x (Node 1 id.slot Empty Empty) find_context find_chunk own made 2 next_entry) (sym kept_now)
+      (sound_topmost grew.context id.slot next_entry find_context find_chunk own made no_chunk (ap (λ (k : Kept). k.protected) grew.made.now ∙ protected)
+      (sound_made new grew.context account id.slot s t grew.made) no_name no_named (top ∙ made_now) cache portals abort made_now))
+
+  pub topmost_moved : Moves (no_contexts account) (record { kept = g.forest; places = g.places; account = account; current = made; next = 2 }) s t
+  topmost_moved =
+      subst (λ (x : Forest Kept). Moves (no_contexts account) (record { kept = x; places = g.places; account = account; current = made; next = 2 }) s t) (sym kept_now)
+      (topmost_moves account id.slot grew.context g.places made 2 s t grew.made.moves no_chunk grew.made.total)
+
+  pub topmost_live : at made.number g.places ≡ Some made.slot
+  topmost_live =
+      subst (λ (z : CtxId). at z.number g.places ≡ Some z.slot) (sym made_now)
+      (subst (λ (x : Forest ℕ). at 1 x ≡ Some id.slot) (sym places_now) refl)
+
+  abbrev bare_context : List ℕ → CtxKind → Bool → Ledger → Context
+  bare_context name kind protected ledger = record {
+    name = name;
+    kind = kind;
+    protected = protected;
+    ledger = ledger;
+    used = false;
+    chunks = [];
+    hooks = [];
+  }
+
+  context_now : context_of t grew.context ≡ new_context (codes "TopMemoryContext") Default true
+  context_now =
+      ap (context_of t) grew.made.now
+      ∙ ap (bare_context new.name new.kind new.protected) grew.made.new_ledger
+      ∙ ap (λ (name : List ℕ). bare_context name new.kind new.protected (kinds.created new.kind)) named
+      ∙ ap (λ (k : CtxKind). bare_context (codes "TopMemoryContext") k new.protected (kinds.created k)) kind
+      ∙ ap (λ (b : Bool). bare_context (codes "TopMemoryContext") Default b (kinds.created Default)) protected
+
+  pub topmost_stands : stands_for (record { kept = g.forest; places = g.places; account = account; current = made; next = 2 }) t ≡ topmost
+  unfolding stands_for
+  topmost_stands = ap (mapped (context_of t)) kept_now ∙ ap (λ (c : Context). Node 1 c Empty Empty) context_now
+
+-- where nothing was made at the end, the space has the regions that it had
+pub regions_same : (a b : ℕ) (s t : Space) → Moves (no_contexts a) (no_contexts b) s t → SameRegions s t
+regions_same a b s t moves = record {
+  regions = λ number. elim (option_cases (region_at s number)) [
+    | inl none ↦ elim (option_cases (region_at t number)) [
+      | inl gone ↦ gone ∙ sym none
+      | inr some ↦
+          let was = (moves.outside number some.0).1 (some.1, λ n k h. absurd (cc)) in
+          absurd (none_or_some (region_at s number) some.0 none was.0)
+    ]
+    | inr some ↦
+        let now = (moves.outside number some.0).0 (some.1, λ n k h. absurd (cc)) in
+        now.0 ∙ sym some.1
+  ];
+  limit = moves.limit;
+  accounts = moves.accounts;
+}

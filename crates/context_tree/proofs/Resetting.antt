@@ -1,0 +1,127 @@
+-- A tree in which a context was reset.
+use Rattle.std.proofs.Common.{◌≡◌, ◌≤◌, ℕ, true, false, List, [], ◌∷◌, ◌++◌, length, Option, Some, refl, sym, ap, ◌∙◌, subst, arith}
+use Rattle.std.specs.Option.{option_map}
+use Rattle.addr_space.specs.Space.{Space}
+use Rattle.forest.specs.Forest.{Empty, at, has, Once, changed}
+use Rattle.forest.proofs.Mapped.{mapped-at, mapped-once}
+use Rattle.reset_callbacks.specs.Hook.{AreDistinct}
+use Rattle.reset_callbacks.specs.ShelfState.{ShelfState, held}
+use Rattle.any_ctx.specs.Ledgers.{Ledger}
+use Rattle.context_rules.specs.Ends.{waiting, callbacks, emptied, unchanged, cleared_alone}
+use Rattle.pgs_step.specs.declared.events.What.TheVariants.{Reset}
+use Rattle.context_tree.specs.declared.chunk_id.ChunkId.{ChunkId}
+use Rattle.context_tree.specs.declared.entry.Entry.{Entry}
+use Rattle.context_tree.specs.Kept.{Kept}
+use Rattle.context_tree.specs.Soundness.{AreFlat, IsSoundContext}
+use Rattle.context_tree.specs.State.{TreeState, context_of, stands_for, Agrees, HooksFit}
+use Rattle.context_tree.specs.Calls.{Did}
+use Rattle.context_tree.specs.Ending.{Cleared}
+use Rattle.context_tree.proofs.Steps.{Stepped, stands_by, moves_stepped}
+use Rattle.context_tree.proofs.Allocs.{tree_none}
+use Rattle.context_tree.proofs.Handing.{Parted, parted_changed, fits_one, words_one, fits_left, words_left, handed_none}
+
+module _ (a : TreeState) (s : Space) (n : ℕ) (k : Kept) (once : Once a.kept) (here : at n a.kept ≡ Some k) where
+  pub stands_here : at n (stands_for a s) ≡ Some (context_of s k)
+  unfolding stands_for
+  stands_here = mapped-at (context_of s) n a.kept ∙ ap (option_map (context_of s)) here
+
+  pub stands_once : Once (stands_for a s)
+  unfolding stands_for
+  stands_once = mapped-once (context_of s) a.kept once
+
+  parts : Parted (waiting (stands_for a s)) k.hooks (waiting (changed n emptied (stands_for a s)))
+  parts = parted_changed n (context_of s k) (stands_for a s) stands_once stands_here
+
+  -- the hooks of one context fit the shelf
+  pub fits_of : (x : ShelfState) → HooksFit (stands_for a s) x → length k.hooks ≤ x.out
+  fits_of x hooks = fits_one (waiting (stands_for a s)) k.hooks (waiting (changed n emptied (stands_for a s))) x parts hooks.out hooks.words
+
+  pub words_of : (x : ShelfState) → HooksFit (stands_for a s) x → AreDistinct (k.hooks ++ held x)
+  words_of x hooks = words_one (waiting (stands_for a s)) k.hooks (waiting (changed n emptied (stands_for a s))) x parts hooks.out hooks.words
+
+  -- what a reset of the context is
+  pub cleared_used : k.used ≡ true → cleared_alone n (stands_for a s) ≡ record { contexts = changed n emptied (stands_for a s); events = callbacks n k.hooks ++ Reset n ∷ []; hooks = k.hooks }
+  cleared_used used = rw (stands_here, used) refl
+
+  pub cleared_unused : k.used ≡ false → cleared_alone n (stands_for a s) ≡ unchanged (stands_for a s)
+  cleared_unused used = rw (stands_here, used) refl
+
+-- nothing happens to a context that wasn't used
+pub did_unchanged : (a : TreeState) (s : Space) (x : ShelfState) → Agrees a s → HooksFit (stands_for a s) x → Did (unchanged (stands_for a s)) a a s s x x
+did_unchanged a s x agrees hooks = record {
+  contexts = refl;
+  shelf = handed_none x;
+  hooks = hooks;
+  moves = tree_none a s agrees;
+  asked = refl;
+  stays = λ m h. refl;
+  current = refl;
+  next = refl;
+}
+
+module _ (a : TreeState) (s t : Space) (x y : ShelfState) (n : ℕ) (k l : Kept) (find left : List ℕ → Option ChunkId) (once : Once a.kept) (here : at n a.kept ≡ Some k)
+    (cleared : Cleared k l s t x y find left) where
+  pub no_chunks : l.chunks ≡ Empty
+  no_chunks = ap (λ (z : Kept). z.chunks) cleared.now
+
+  none_listed : (P : Type 0) (c : ℕ) (e : Entry) → at c l.chunks ≡ Some e → P
+  none_listed P c e h = let none : at c Empty ≡ Some e = ap (at c) (sym no_chunks) ∙ h in absurd (cc)
+
+  pub sound_emptied : IsSoundContext l
+  sound_emptied = record {
+    flat = subst AreFlat (sym no_chunks) tt;
+    once = subst Once (sym no_chunks) (record { once = λ m. omega arith });
+    numbers = λ c h. let none : has {A = ℕ} c Empty ≡ true = ap (λ (z : Kept). has c z.chunk_places) (sym cleared.now) ∙ h in absurd (cc);
+    live = λ c e h. none_listed _ c e h;
+    placed = λ c e h. none_listed _ c e h;
+    known = λ c e h. none_listed _ c e h;
+    differ = λ b c d e differs h q. none_listed _ b d h;
+    total = cleared.total;
+  }
+
+  module _ (agrees : Agrees a s) (each : (m : ℕ) (j : Kept) → at m a.kept ≡ Some j → IsSoundContext j) where
+    abbrev after : TreeState
+    after = record a { kept = changed n (λ _. l) a.kept }
+
+    stepped : Stepped a after s t n k l
+    stepped = record {
+      here = here;
+      changed = refl;
+      account = refl;
+      moves = cleared.moves;
+      known = λ c e h. none_listed _ c e h;
+      total = cleared.total;
+    }
+
+    emptied_is : emptied (context_of s k) ≡ context_of t l
+    emptied_is =
+        sym (
+        ap (context_of t) cleared.now
+        ∙ ap (λ (z : Ledger). record {
+          name = k.name;
+          kind = k.kind;
+          protected = k.protected;
+          ledger = z;
+          used = false;
+          chunks = [];
+          hooks = [];
+        }) cleared.renewed
+        )
+
+    pub did_clear : k.used ≡ true → HooksFit (stands_for a s) x → Did (cleared_alone n (stands_for a s)) a after s t x y
+    did_clear used hooks =
+        let parts : Parted (waiting (stands_for a s)) k.hooks (waiting (changed n emptied (stands_for a s))) =
+        parted_changed n (context_of s k) (stands_for a s) (stands_once a s n k once here) (stands_here a s n k once here) in
+        rw (stands_here a s n k once here, used) (record {
+          contexts = stands_by a after s t n k l agrees once each stepped emptied emptied_is;
+          shelf = cleared.shelf;
+          hooks = rw cleared.shelf (record {
+            out = fits_left (waiting (stands_for a s)) k.hooks (waiting (changed n emptied (stands_for a s))) x parts hooks.out hooks.words;
+            words = words_left (waiting (stands_for a s)) k.hooks (waiting (changed n emptied (stands_for a s))) x parts hooks.out hooks.words;
+          });
+          moves = moves_stepped a after s t n k l agrees once each stepped;
+          asked = cleared.asked;
+          stays = λ m h. refl;
+          current = refl;
+          next = refl;
+        })

@@ -1,0 +1,48 @@
+-- Whether there is room for a context, and a space to which all came back.
+use Rattle.std.proofs.Common.{◌≡◌, ℕ, ◌+◌, ◌-◌, ◌<◌, ◌≤◌, Option, Some, None, refl, subst, arith}
+use Rattle.std.proofs.lemmas.Bool.{lt-ltb, le-ltb}
+use Rattle.addr_space.specs.Space.{Space, accounts, held}
+use Rattle.addr_space.specs.Footprint as foot
+use Rattle.addr_space.specs.Footprint.{Footprint, nothing}
+use Rattle.addr_space.proofs.Steps.{Agrees-nothing, Moves-none, Moves-more}
+use Rattle.any_ctx.specs.Kinds.{first_size}
+use Rattle.any_ctx.specs.Contexts.{footprint}
+use Rattle.any_ctx.specs.declared.any.CtxKind.{CtxKind}
+use Rattle.any_ctx.specs.declared.any.CtxKind.TheVariants.{Default, Small, Error, Abort, Slab, Generation, Bump}
+use Rattle.chunk_header.specs.declared.CtxError.TheVariants.{NoSpace}
+use Rattle.context_rules.specs.declared.errors.TreeError.TheVariants.{TooMany, Ctx}
+use Rattle.context_tree.specs.declared.making.NewContext.{NewContext}
+use Rattle.context_tree.specs.Kept.{Kept}
+use Rattle.context_tree.specs.Making.{Made, CameBack, room_refusal}
+
+first_some : (kind : CtxKind) → 0 < first_size kind
+first_some Default = omega arith
+first_some Small = omega arith
+first_some Error = omega arith
+first_some Abort = omega arith
+first_some (Slab size) = omega arith
+first_some Generation = omega arith
+first_some Bump = omega arith
+
+pub too_many : (many left : ℕ) (kind : CtxKind) → 65536 ≤ many → room_refusal many left kind ≡ Some TooMany
+too_many many left kind above = rw (le-ltb many 65536 above) refl
+
+pub no_room : (many held limit : ℕ) (kind : CtxKind) → many < 65536 → limit < held + first_size kind → room_refusal many (limit - held) kind ≡ Some (Ctx NoSpace)
+no_room many held limit kind few short =
+    rw (lt-ltb many 65536 few, lt-ltb (limit - held) (first_size kind) (omega (arith, short, first_some kind))) refl
+
+pub has_room : (many held limit : ℕ) (kind : CtxKind) → many < 65536 → held + first_size kind ≤ limit → room_refusal many (limit - held) kind ≡ None
+has_room many held limit kind few fits =
+    rw (lt-ltb many 65536 few, le-ltb (limit - held) (first_size kind) (omega (arith, fits))) refl
+
+pub never_left : (account : ℕ) (s : Space) → account < accounts s → CameBack account s s
+never_left account s below = record { slot = 0; moves = Moves-none (nothing account 0) s (Agrees-nothing account 0 s below) }
+
+pub given_back : (new : NewContext) (k : Kept) (account slot : ℕ) (s t u : Space) → Made new k account slot s t
+    → foot.Moves (footprint k.memory) (nothing (footprint k.memory).account (footprint k.memory).context) t u → CameBack account s u
+given_back new k account slot s t u made gives = record {
+  slot = slot;
+  moves = Moves-more (nothing account slot) (footprint k.memory) (nothing account slot) s t u made.moves
+      (subst (λ (a : ℕ). foot.Moves (footprint k.memory) (nothing a slot) t u) made.moves.account
+      (subst (λ (c : ℕ). foot.Moves (footprint k.memory) (nothing (footprint k.memory).account c) t u) made.moves.context gives));
+}

@@ -1,0 +1,18 @@
+-- What is left agrees with the space, and what was given back made it move.
+use Rattle.std.proofs.Common.{◌≡◌, ℕ, Some}
+use Rattle.forest.specs.Forest.{at, size}
+use Rattle.context_tree.specs.Kept.{Kept}
+use Rattle.context_tree.specs.Soundness.{IsSoundContext}
+use Rattle.context_tree.specs.State.{Agrees, Moves}
+use Rattle.context_tree.specs.Making.{bare}
+use Rattle.context_tree.proofs.making.give_all_back.Given as goal
+
+abbrev pub invariant-loop-root : goal.invariant-loop-root
+invariant-loop-root g l = record {
+  agrees : (account : ℕ) × Agrees (bare account l.nodes.forest) l.space;
+  each : (n : ℕ) (k : Kept) → at n l.nodes.forest ≡ Some k → IsSoundContext k;
+  moves : (account : ℕ) → Agrees (bare account l.initial.nodes.forest) l.initial.space → Moves (bare account l.initial.nodes.forest) (bare account l.nodes.forest) l.initial.space l.space;
+}
+
+abbrev pub decreases-loop-root : goal.decreases-loop-root
+decreases-loop-root g l = size l.nodes.forest

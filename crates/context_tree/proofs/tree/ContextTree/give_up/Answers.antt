@@ -1,0 +1,17 @@
+use Rattle.std.proofs.Common.{sym, subst}
+use Rattle.context_tree.specs.State.{TreeState, no_contexts, Agrees, Moves}
+use Rattle.context_tree.proofs.Adding.{tree_of}
+use Rattle.context_tree.proofs.Emptying.{agrees_bare, moves_bare}
+use Rattle.context_tree.proofs.tree.ContextTree.give_up.Goals as goal
+
+pub give_all_back-requires-clause-agrees : goal.give_all_back-requires-clause-agrees
+give_all_back-requires-clause-agrees g c =
+    let a : TreeState = tree_of c.self.inside.nodes c.self.inside.account c.self.inside.current c.self.inside.next in
+    (c.self.inside.account, agrees_bare a c.args.space.now (subst (λ (x : TreeState). Agrees x c.args.space.now) (sym c.self.view_is) c.requires))
+
+pub returns : goal.returns
+returns g c =
+    let a : TreeState = tree_of c.self.inside.nodes c.self.inside.account c.self.inside.current c.self.inside.next in
+    subst (λ (x : TreeState). Moves x (no_contexts x.account) c.args.space.now c.give_all_back.new.space) c.self.view_is
+    (moves_bare a (no_contexts c.self.inside.account) c.args.space.now c.give_all_back.new.space
+    (c.give_all_back.ensures c.self.inside.account (agrees_bare a c.args.space.now (subst (λ (x : TreeState). Agrees x c.args.space.now) (sym c.self.view_is) c.requires))))

@@ -1,0 +1,32 @@
+use Rattle.std.proofs.Common.{◌≡◌, ℕ, Result, Err, OnErr, sym, ap, ◌∙◌, subst}
+use Rattle.std.proofs.lemmas.Result.{err_from_is_err_and}
+use Rattle.addr_space.specs.Space.{Asks}
+use Rattle.addr_space.proofs.Asked.{Asks-more}
+use Rattle.context_rules.specs.declared.errors.TreeError.{TreeError}
+use Rattle.context_tree.specs.State.{TreeState, no_contexts, Moves, SameRegions}
+use Rattle.context_tree.proofs.Adding.{regions_back}
+use Rattle.context_tree.proofs.Emptying.{tree_more}
+use Rattle.context_tree.proofs.Opening.{regions_same}
+use Rattle.context_tree.proofs.tree.ContextTree.new.Goals as goal
+
+pub returns-in_err-tree-clause-err_space : goal.returns-in_err-tree-clause-err_space
+returns-in_err-tree-clause-err_space g c =
+    let e : TreeError = c.in_err-tree.field-0.0 in
+    let p : c.from_residual.result ≡ Err e = (let q = err_from_is_err_and c.from_residual.result c.from_residual.ensures.1 in cc) in
+    subst (λ r. OnErr r (SameRegions c.args.space.now c.topmost.new.space)) (sym p) (regions_back c.args.account c.args.space.now c.topmost.new.space c.in_err-tree.ensures.err_space)
+
+pub returns-in-Ok-clause-moves : goal.returns-in-Ok-clause-moves
+returns-in-Ok-clause-moves g c =
+    tree_more (no_contexts c.args.account) c.in_ok-tree.tree c.open.new.self c.args.space.now c.topmost.new.space c.open.new.space c.in_ok-tree.ensures.moves c.open.ensures.moves
+
+pub returns-in-Ok-clause-asked : goal.returns-in-Ok-clause-asked
+returns-in-Ok-clause-asked g c =
+    Asks-more c.args.account 8192 57344 c.args.space.now c.topmost.new.space c.open.new.space c.in_ok-tree.ensures.asked
+    (subst (λ (a : ℕ). Asks a 57344 c.topmost.new.space c.open.new.space) c.in_ok-tree.ensures.account c.in-Ok.ensures.asked)
+
+pub returns-in-Err-clause-err_space : goal.returns-in-Err-clause-err_space
+returns-in-Err-clause-err_space g c =
+    regions_same c.args.account c.open.new.self.account c.args.space.now c.give_up.new.space
+    (tree_more (no_contexts c.args.account) c.open.new.self (no_contexts c.open.new.self.account) c.args.space.now c.open.new.space c.give_up.new.space
+    (tree_more (no_contexts c.args.account) c.in_ok-tree.tree c.open.new.self c.args.space.now c.topmost.new.space c.open.new.space c.in_ok-tree.ensures.moves c.open.ensures.moves)
+    c.give_up.ensures)
