@@ -4,5 +4,7 @@ pub mod Walking
 pub mod Releasing
 pub mod Gone
 pub mod Sounds
+pub mod Placed
+pub mod Swept
 pub mod Tables
 pub mod Rows

@@ -11,6 +11,7 @@ use Rattle.forest.specs.Forest.{either}
 use Rattle.forest.proofs.Trees.{Apart, apart_of, Where, Here, Below, Beside, where_is, at_some, at_absent, has_at, changed_absent}
 use Rattle.forest.proofs.Mapped.{mapped-at, mapped-times, mapped-size, mapped-has, mapped-put, mapped-removed, mapped-changed, mapped-children, mapped-order, at_changed_other}
 use Rattle.owner_core.specs.Owners.{Owner, OwnerTree, OwnerTable, Roomy, tree_of, entered, created}
+use Rattle.owner_core.proofs.Placed.{entered_other}
 
 abbrev own : Roomy → Owner
 own r = r.owner
@@ -95,20 +96,5 @@ room_of r = option_map_or (λ (x : Roomy). x.spare) r 0
 pub spare_other : (n m : ℕ) (new : Roomy) (rooms : Forest Roomy) → m ≢ n → option_map_or (λ (x : Roomy). x.spare) (at m (changed n (λ _. new) rooms)) 0 ≡ option_map_or (λ (x : Roomy). x.spare) (at m rooms) 0
 spare_other n m new rooms ne = ap room_of (at_changed_other m n (λ _. new) rooms ne)
 
-put_other : (p n m : ℕ) (new : Roomy) (rooms : Forest Roomy) → (n == m) ≡ false → at m (put p n new Empty rooms) ≡ at m rooms
-put_other p n m new Empty other = refl
-put_other p n m new (Node k a below beside) other =
-    elim (cases_Bool (k == m)) [
-      | inl y ↦ rw y refl
-      | inr y ↦ elim (cases_Bool (k == p)) [
-        | inl z ↦ rw (y, z, other, put_other p n m new beside other) refl
-        | inr z ↦ rw (y, z, put_other p n m new below other, put_other p n m new beside other) refl
-      ]
-    ]
-
-entered_other : (parent : Option ℕ) (n m : ℕ) (new : Roomy) (rooms : Forest Roomy) → (n == m) ≡ false → at m (entered parent n new rooms) ≡ at m rooms
-entered_other None n m new rooms other = rw other refl
-entered_other (Some p) n m new rooms other = put_other p n m new rooms other
-
 pub spare_entered : (parent : Option ℕ) (n m : ℕ) (new : Roomy) (rooms : Forest Roomy) → m ≢ n → option_map_or (λ (x : Roomy). x.spare) (at m (entered parent n new rooms)) 0 ≡ option_map_or (λ (x : Roomy). x.spare) (at m rooms) 0
-spare_entered parent n m new rooms ne = ap room_of (entered_other parent n m new rooms (ne_eqb n m (λ is. ne (sym is))))
+spare_entered parent n m new rooms ne = ap room_of (entered_other n m new (ne_eqb n m (λ is. ne (sym is))) parent rooms)

@@ -1,6 +1,6 @@
 -- What holds of a session's owners at all times.
-use Rattle.std.specs.Prelude.{◌≡◌, ℕ, ◌+◌, ◌≤◌, ◌==◌, nat_lt, if◌then◌else◌, count_by}
-use Rattle.forest.specs.Forest.{Forest, Empty, Node, times, size}
+use Rattle.std.specs.Prelude.{◌≡◌, ℕ, ◌+◌, ◌<◌, ◌≤◌, ◌==◌, nat_lt, true, if◌then◌else◌, count_by}
+use Rattle.forest.specs.Forest.{Forest, Empty, Node, has, times, size}
 use Rattle.owner_core.specs.Owners.{Owner, OwnerTree, OwnerTable, owners_of}
 
 -- 1 for what is below, and 0 for the rest
@@ -25,3 +25,7 @@ pub record IsSound (owners : OwnerTree) (next_owner next_serial : ℕ) : Type 0 
 
 abbrev pub IsSoundTable : OwnerTable → Type 0
 IsSoundTable table = IsSound (owners_of table) table.next_owner table.next_serial
+
+-- what lies somewhere has a number that was given
+abbrev pub AreGiven : ℕ → Forest ℕ → Type 0
+AreGiven next_owner places = (n : ℕ) → has n places ≡ true → n < next_owner

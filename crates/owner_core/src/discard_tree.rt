@@ -13,6 +13,7 @@ use pgs_step::{Emit, What};
 pub fn discard_tree<E: Emit>(nodes: &mut LinkedForest<Node>, owner: NodeId, out: &mut E)
     requires { IsPlaced nodes.old owner }
     ensures rooms { nodes.new.forest ≡ removed owner.number nodes.old.forest }
+    ensures none_new { (other : ℕ) → has other nodes.new.places ≡ true → has other nodes.old.places ≡ true }
     ensures stays { (other : ℕ) → has other (removed owner.number nodes.old.forest) ≡ true → at other nodes.new.places ≡ at other nodes.old.places }
     ensures emits { E.emits out.old (map (λ n. OwnerGone n) (order_at owner.number nodes.old.forest)) out.new }
 {

@@ -38,7 +38,7 @@ pub struct Owners {
 
 impl Model for Owners {
     ghost use Rattle.owner_core.specs.Owners.{OwnerTable, tree_of};
-    ghost use Rattle.owner_core.specs.Sound.{IsSound};
+    ghost use Rattle.owner_core.specs.Sound.{IsSound, AreGiven};
 
     ghost Value = { OwnerTable };
 
@@ -48,7 +48,7 @@ impl Model for Owners {
 
     ghost view = { λ o. record { rooms = o.nodes.forest; places = o.nodes.places; next_owner = o.next_owner; next_serial = o.next_serial } };
 
-    ghost invariant = { λ o. IsSound (tree_of o.nodes.forest) o.next_owner o.next_serial };
+    ghost invariant = { λ o. IsSound (tree_of o.nodes.forest) o.next_owner o.next_serial × AreGiven o.next_owner o.nodes.places };
 }
 
 impl Owners {
@@ -76,6 +76,9 @@ impl Owners {
         requires room { self.old.next_owner < 2 ^ 62 }
         requires parent { IfSome parent (IsLive self.old) }
         ensures number { IfOk result (λ owner. owner.number ≡ self.old.next_owner) }
+        ensures live { IfOk result (IsLive self.new) }
+        ensures stays { OnOk result ((other : OwnerId) → IsLive self.old other → IsLive self.new other) }
+        ensures older { (other : OwnerId) → IsLive self.old other → other.number < self.old.next_owner }
         ensures owners { OnOk result (owners_of self.new ≡ created (option_map (λ p. p.number) parent) self.old.next_owner (owners_of self.old)) }
         ensures places { IfOk result (λ owner. self.new.places ≡ entered (option_map (λ p. p.number) parent) owner.number owner.slot self.old.places) }
         ensures next_owner { OnOk result (self.new.next_owner ≡ self.old.next_owner + 1) }
@@ -200,6 +203,7 @@ impl Owners {
         requires apart { is_above owner.number parent.number (owners_of self.old) ≡ false }
         ensures owners { owners_of self.new ≡ moved owner.number parent.number (owners_of self.old) }
         ensures places { self.new.places ≡ moved owner.number parent.number self.old.places }
+        ensures stays { (other : OwnerId) → IsLive self.old other → IsLive self.new other }
         ensures next_owner { self.new.next_owner ≡ self.old.next_owner }
         ensures next_serial { self.new.next_serial ≡ self.old.next_serial }
         ensures emits { E.emits out.old (What.MoveOwner owner.number parent.number ∷ []) out.new }

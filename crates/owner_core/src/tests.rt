@@ -2,9 +2,10 @@ ghost use Rattle.std.specs.Prelude.{◌≡◌, ◌↔◌, ℕ, ◌+◌, ◌<◌,
 ghost use Rattle.std.specs.Option.{option_map};
 ghost use Rattle.forest.specs.Forest.{Empty, parent_of, AllNodes};
 ghost use Rattle.owner_kinds.specs.KindShelf.{table_of};
-ghost use Rattle.owner_kinds.specs.KindTable.{IsBuiltIn};
+ghost use Rattle.owner_kinds.specs.KindTable.{KindTable, IsBuiltIn};
 ghost use Rattle.owner_items.specs.ItemList.{uses};
-ghost use Rattle.owner_core.specs.Owners.{owners_of, IsLive, created, entered, HoldsNothing};
+ghost use Rattle.owner_core.specs.Owners.{owners_of, IsLive, created, entered, AllAt, HoldsNothing};
+ghost use Rattle.owner_core.specs.Released.{released};
 
 use crate::{OwnerError, Owners, Release};
 use owner_items::Items;
@@ -165,6 +166,9 @@ impl Session {
         requires room { self.old.next_owner < 2 ^ 62 }
         requires parent { IfSome parent (IsLive self.old) }
         ensures number { IfOk result (λ owner. owner.number ≡ self.old.next_owner) }
+        ensures live { IfOk result (IsLive self.new) }
+        ensures stays { OnOk result ((other : OwnerId) → IsLive self.old other → IsLive self.new other) }
+        ensures parents { OnOk result ((other : OwnerId) → IsLive self.old other → parent_of other.number (owners_of self.new) ≡ parent_of other.number (owners_of self.old)) }
         ensures owners { OnOk result (owners_of self.new ≡ created (option_map (λ p. p.number) parent) self.old.next_owner (owners_of self.old)) }
         ensures places { IfOk result (λ owner. self.new.places ≡ entered (option_map (λ p. p.number) parent) owner.number owner.slot self.old.places) }
         ensures next_owner { OnOk result (self.new.next_owner ≡ self.old.next_owner + 1) }
@@ -195,10 +199,18 @@ impl Session {
         requires top { (top ≡ true) ↔ (parent_of owner.number (owners_of self.old) ≡ None) }
         ensures parents { (n : ℕ) → parent_of n (owners_of self.new) ≡ parent_of n (owners_of self.old) }
         ensures places { self.new.places ≡ self.old.places }
-        ensures empty { AllNodes HoldsNothing (owners_of self.old) → AllNodes HoldsNothing (owners_of self.new) }
+        ensures built_in { AllNodes (λ o. All (λ item. IsBuiltIn item.kind) o.items) (owners_of self.old) }
+        ensures owners { (kinds : KindTable) × (owners_of self.new ≡ released kinds phase owner.number (owners_of self.old)) }
     {
         self.owners
             .release(owner, phase, commit, top, &mut self.table, &mut self.out);
+    }
+
+    fn discard(&mut self, owner: OwnerId)
+        requires live { IsLive self.old owner }
+        requires empty { AllAt HoldsNothing owner.number (owners_of self.old) }
+    {
+        self.owners.discard(owner, &mut self.out);
     }
 }
 
@@ -269,10 +281,11 @@ fn fill(
     Ok(())
 }
 
-/// All three phases.
+/// All three phases, which leave nothing.
 fn release_phases(session: &mut Session, owner: OwnerId, commit: bool, top: bool)
     requires live { IsLive session.old owner }
     requires top { (top ≡ true) ↔ (parent_of owner.number (owners_of session.old) ≡ None) }
+    ensures empty { AllAt HoldsNothing owner.number (owners_of session.new) }
     ensures places { session.new.places ≡ session.old.places }
     ensures parents { (n : ℕ) → parent_of n (owners_of session.new) ≡ parent_of n (owners_of session.old) }
 {
@@ -467,6 +480,57 @@ fn the_newest_of_5000_pins_goes_first(rt: HostRuntime) -> Result<(), Fail> {
         let item = item(KindId::BUFFER_PIN, 7, 5_000 - place as u64);
         let release = What::Release { item, owner: 1 };
         assert_eq!(rt; events.get(5_001 + 2 * place).copied(), Some(release));
+    }
+    Ok(())
+}
+
+/// So many owners, each the child of the one before it and the first that of `owner`; answers the last.
+fn deepen(session: &mut Session, owner: OwnerId, times: u32) -> Result<OwnerId, OwnerError>
+    requires live { IsLive session.old owner }
+    requires room { session.old.next_owner < 2 ^ 61 }
+    ensures live { IfOk result (IsLive session.new) }
+    ensures stays { OnOk result ((other : OwnerId) → IsLive session.old other → IsLive session.new other) }
+    ensures parents { OnOk result ((other : OwnerId) → IsLive session.old other → parent_of other.number (owners_of session.new) ≡ parent_of other.number (owners_of session.old)) }
+{
+    let mut last = owner;
+    let mut made = 0;
+    while made < times {
+        last = session.create(Some(last))?;
+        made += 1;
+    }
+    Ok(last)
+}
+
+#[test]
+fn chain_of_1001_owners(rt: HostRuntime) -> Result<(), Fail> {
+    let mut session = Session::new(rt.alloc(), 4_000)?;
+    let top = session.create(None)?;
+    let second = session.create(Some(top))?;
+    let last = deepen(&mut session, second, 999)?;
+    session.hold(top, KindId::BUFFER_PIN, 7)?;
+    session.hold(last, KindId::BUFFER_PIN, 8)?;
+    session.hold(last, KindId::FILE, 5)?;
+    release_phases(&mut session, second, true, false);
+    release_phases(&mut session, top, true, true);
+    session.discard(top);
+    let events = session.events();
+    assert_eq!(rt; events.len(), 3_015);
+    let pin = item(KindId::BUFFER_PIN, 8, 2);
+    let before = What::Release {
+        item: pin,
+        owner: 1_001,
+    };
+    assert_eq!(rt; events.get(1_005).copied(), Some(before));
+    for step in 0..1_000 {
+        let from = 1_001 - step as u64;
+        assert_eq!(rt;
+            events.get(1_007 + step).copied(),
+            Some(passed(from, from - 1))
+        );
+    }
+    for step in 0..1_001 {
+        let gone = What::OwnerGone(1_001 - step as u64);
+        assert_eq!(rt; events.get(2_014 + step).copied(), Some(gone));
     }
     Ok(())
 }

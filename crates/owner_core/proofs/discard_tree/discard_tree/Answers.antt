@@ -5,7 +5,7 @@ use Rattle.pgs_step.specs.declared.events.What.{What}
 use Rattle.pgs_step.specs.declared.events.What.TheVariants.{OwnerGone}
 use Rattle.forest.specs.Forest.{Forest, Once, has, at, size, children, removed}
 use Rattle.forest.specs.Walk.{lead, follows, order_at}
-use Rattle.forest.proofs.Trees.{removed_has}
+use Rattle.forest.proofs.Trees.{removed_has, has_of_removed}
 use Rattle.owner_core.specs.Owners.{Roomy}
 use Rattle.owner_core.proofs.Gone.{Takes, takes, bare, order_bare, stays_apart}
 use Rattle.owner_core.proofs.discard_tree.discard_tree.Goals as goal
@@ -20,6 +20,7 @@ loop-current-init g c = record {
   first = c.first_leaf-current.ensures.number;
   rooms = refl;
   stays = λ other h. refl;
+  none_new = λ other h. h;
   done = ([], g.met.E.Emit.emits_none _, refl);
 }
 
@@ -71,6 +72,7 @@ loop-current-preserved g c =
       rooms = ap (λ (x : Forest Roomy). removed n0 x) forest ∙ w.left ∙ inv.rooms;
       stays = λ other h.
           c.remove.ensures.stays other (stays_apart other n0 cur t inv.once inv.stands w.inside (ap (λ (x : Forest Roomy). has other x) inv.rooms ∙ h)) ∙ inv.stays other h;
+      none_new = λ other h. inv.none_new other (has_of_removed other cur c.loop-current.nodes.places (ap (λ (x : Forest ℕ). has other x) (sym c.remove.ensures.places) ∙ h));
       done = (
         so_far.0 ++ OwnerGone cur ∷ [],
         g.met.E.Emit.emits_more _ _ _ _ _ _ so_far.1 c.emit.ensures.emitted refl,
@@ -95,6 +97,11 @@ returns-clause-stays g c other h =
     (λ e. both_ways (has n0 (removed n0 t)) (removed_has n0 t inv.once inv.stands)
     (ap (λ (m : ℕ). has m (removed n0 t)) (sym e) ∙ ap (λ (x : Forest Roomy). has other x) inv.rooms ∙ h))
     ∙ inv.stays other h
+
+pub returns-clause-none_new : goal.returns-clause-none_new
+returns-clause-none_new g c other h =
+    c.loop-current.invariant.none_new other
+    (has_of_removed other c.args.owner.number c.loop-current.nodes.places (ap (λ (x : Forest ℕ). has other x) (sym c.remove-2.ensures.places) ∙ h))
 
 pub returns-clause-emits : goal.returns-clause-emits
 returns-clause-emits g c =

@@ -16,6 +16,7 @@ invariant-loop-current g l = record {
   first : l.current.number ≡ lead l.owner.number (children l.owner.number l.nodes.forest);
   rooms : removed l.owner.number l.nodes.forest ≡ removed l.owner.number l.initial.nodes.forest;
   stays : (other : ℕ) → has other (removed l.owner.number l.initial.nodes.forest) ≡ true → at other l.nodes.places ≡ at other l.initial.nodes.places;
+  none_new : (other : ℕ) → has other l.nodes.places ≡ true → has other l.initial.nodes.places ≡ true;
   done : (events : List What) × g.E.Emit.emits l.initial.out events l.out
       × (events ++ map (λ n. OwnerGone n) (order_at l.owner.number l.nodes.forest) ≡ map (λ n. OwnerGone n) (order_at l.owner.number l.initial.nodes.forest));
 }

@@ -1,4 +1,4 @@
-use Rattle.std.proofs.Common.{◌≡◌, ◌≢◌, ℕ, ◌+◌, ◌≤◌, Bool, true, false, Option, Some, None, Ok, Err, List, [], ◌∷◌, ◌++◌, map, refl, sym, ap, ◌∙◌, subst, arith, rules}
+use Rattle.std.proofs.Common.{◌≡◌, ◌≢◌, ℕ, ◌+◌, ◌≤◌, Bool, true, false, Option, Some, None, Ok, Err, List, [], ◌∷◌, ◌++◌, map, refl, sym, ap, ◌∙◌, subst, IfSome, arith, rules}
 use Rattle.std.specs.Option.{option_map, option_map_or}
 use Rattle.pgs_step.specs.declared.ids.Item.{Item}
 use Rattle.pgs_step.specs.declared.events.What.{What}
@@ -10,16 +10,17 @@ use Rattle.forest.proofs.Trees.{at_some}
 use Rattle.forest.proofs.Mapped.{mapped-size, mapped-has, mapped-removed, at_changed}
 use Rattle.owner_kinds.specs.KindTable.{KindTable}
 use Rattle.owner_items.specs.ItemList.{is_of, without_newest}
-use Rattle.owner_core.specs.Owners.{Owner, OwnerTree, OwnerTable, Roomy, tree_of, owners_of, has_begun, items_of, spare_of, created, entered, remembered, forgotten}
+use Rattle.owner_core.specs.Owners.{Owner, OwnerTree, OwnerTable, Roomy, IsLive, tree_of, owners_of, has_begun, items_of, spare_of, created, entered, remembered, forgotten}
 use Rattle.owner_core.specs.Released.{released, own_released}
-use Rattle.owner_core.specs.Sound.{IsSound}
+use Rattle.owner_core.specs.Sound.{IsSound, AreGiven}
 use Rattle.owner_core.proofs.Sounds.{once_of, fresh, newest, sound_created, sound_removed, sound_moved, sound_remembered, sound_forgotten, sound_released}
+use Rattle.owner_core.proofs.Placed.{given_entered, live_entered, stays_entered, older_than}
 use Rattle.owner_core.proofs.Tables.{spare_entered, at_tree, once_rooms, changed_to, changed_same, changed_back, tree_entered, tree_moved, tree_order}
 use Rattle.owner_core.proofs.Releasing.{inside_tree}
 use Rattle.owner_core.proofs.owners.Owners.create.Goals as goal
 
 pub returns-then-len-ge-MOST_OWNERS-clause-fresh : goal.returns-then-len-ge-MOST_OWNERS-clause-fresh
-returns-then-len-ge-MOST_OWNERS-clause-fresh g c = rw (← c.self.view_is) (fresh _ _ _ c.self.invariant)
+returns-then-len-ge-MOST_OWNERS-clause-fresh g c = rw (← c.self.view_is) (fresh _ _ _ c.self.invariant.0)
 
 pub returns-then-len-ge-MOST_OWNERS-clause-too_many : goal.returns-then-len-ge-MOST_OWNERS-clause-too_many
 returns-then-len-ge-MOST_OWNERS-clause-too_many g c =
@@ -28,10 +29,10 @@ returns-then-len-ge-MOST_OWNERS-clause-too_many g c =
     (λ _. omega arith, λ _. refl)
 
 pub insert-requires-clause-fresh : goal.insert-requires-clause-fresh
-insert-requires-clause-fresh g c = sym (mapped-has (λ (r : Roomy). r.owner) c.self.inside.next_owner c.self.inside.nodes.forest) ∙ fresh _ _ _ c.self.invariant
+insert-requires-clause-fresh g c = sym (mapped-has (λ (r : Roomy). r.owner) c.self.inside.next_owner c.self.inside.nodes.forest) ∙ fresh _ _ _ c.self.invariant.0
 
 pub returns-in_default-clause-fresh : goal.returns-in_default-clause-fresh
-returns-in_default-clause-fresh g c = rw (← c.self.view_is) (fresh _ _ _ c.self.invariant)
+returns-in_default-clause-fresh g c = rw (← c.self.view_is) (fresh _ _ _ c.self.invariant.0)
 
 pub returns-in_default-clause-too_many : goal.returns-in_default-clause-too_many
 returns-in_default-clause-too_many g c =
@@ -43,10 +44,13 @@ pub invariant_of-self-2 : goal.invariant_of-self-2
 invariant_of-self-2 g c =
     let forest = c.self.inside.nodes.forest in
     let parent : Option ℕ = option_map (λ p. p.number) c.args.parent in
-    let few : size (tree_of forest) ≡ c.len.result = mapped-size (λ (r : Roomy). r.owner) forest ∙ sym c.len.ensures.value in
-    subst (λ (x : OwnerTree). IsSound x (c.self.inside.next_owner + 1) c.self.inside.next_serial)
-    (sym (ap (λ (x : Forest Roomy). tree_of x) c.in-Some.ensures.forest ∙ tree_entered parent c.self.inside.next_owner c.new.result forest c.new.ensures))
-    (sound_created parent (tree_of forest) _ _ c.self.invariant (omega arith))
+    let few : size (tree_of forest) ≡ c.len.result = mapped-size (λ (r : Roomy). r.owner) forest ∙ sym c.len.ensures.value in (
+      subst (λ (x : OwnerTree). IsSound x (c.self.inside.next_owner + 1) c.self.inside.next_serial)
+          (sym (ap (λ (x : Forest Roomy). tree_of x) c.in-Some.ensures.forest ∙ tree_entered parent c.self.inside.next_owner c.new.result forest c.new.ensures))
+          (sound_created parent (tree_of forest) _ _ c.self.invariant.0 (omega arith)),
+      subst (λ (x : Forest ℕ). AreGiven (c.self.inside.next_owner + 1) x) (sym c.in-Some.ensures.places)
+          (given_entered parent c.self.inside.next_owner _ c.self.inside.nodes.places c.self.invariant.1),
+    )
 
 pub returns-clause-owners : goal.returns-clause-owners
 returns-clause-owners g c =
@@ -57,7 +61,7 @@ returns-clause-owners g c =
     ∙ ap (λ (t : OwnerTable). created parent t.next_owner (owners_of t)) c.self.view_is
 
 pub returns-clause-fresh : goal.returns-clause-fresh
-returns-clause-fresh g c = rw (← c.self.view_is) (fresh _ _ _ c.self.invariant)
+returns-clause-fresh g c = rw (← c.self.view_is) (fresh _ _ _ c.self.invariant.0)
 
 pub returns-clause-too_many : goal.returns-clause-too_many
 returns-clause-too_many g c =
@@ -72,3 +76,22 @@ returns-clause-others g c other ne =
     ∙ (spare_entered parent c.self.inside.next_owner other c.new.result c.self.inside.nodes.forest
     (λ is. ne (is ∙ ap (λ (t : OwnerTable). t.next_owner) c.self.view_is))
     ∙ ap (λ (t : OwnerTable). spare_of other t) c.self.view_is)
+
+pub returns-then-len-ge-MOST_OWNERS-clause-older : goal.returns-then-len-ge-MOST_OWNERS-clause-older
+returns-then-len-ge-MOST_OWNERS-clause-older g c = rw (← c.self.view_is) (older_than c.self.inside.next_owner c.self.inside.nodes.places c.self.invariant.1)
+
+pub returns-in_default-clause-older : goal.returns-in_default-clause-older
+returns-in_default-clause-older g c = rw (← c.self.view_is) (older_than c.self.inside.next_owner c.self.inside.nodes.places c.self.invariant.1)
+
+pub returns-clause-older : goal.returns-clause-older
+returns-clause-older g c = rw (← c.self.view_is) (older_than c.self.inside.next_owner c.self.inside.nodes.places c.self.invariant.1)
+
+pub returns-clause-live : goal.returns-clause-live
+returns-clause-live g c =
+    live_entered c.args.parent _ _ _ _ _ c.self.invariant.1
+    (subst (λ (t : OwnerTable). IfSome c.args.parent (IsLive t)) (sym c.self.view_is) c.requires.parent)
+    c.in-Some.ensures.number c.in-Some.ensures.places
+
+pub returns-clause-stays : goal.returns-clause-stays
+returns-clause-stays g c other live =
+    stays_entered _ _ _ _ _ c.self.invariant.1 c.in-Some.ensures.places other (subst (λ (t : OwnerTable). IsLive t other) (sym c.self.view_is) live)

@@ -20,10 +20,12 @@ use Rattle.owner_core.proofs.owners.Owners.discard.Goals as goal
 
 pub invariant_of-self : goal.invariant_of-self
 invariant_of-self g c =
-    let forest = c.self.inside.nodes.forest in
-    subst (λ (x : OwnerTree). IsSound x c.self.inside.next_owner c.self.inside.next_serial)
-    (sym (ap (λ (x : Forest Roomy). tree_of x) c.discard_tree.ensures.rooms ∙ mapped-removed (λ (r : Roomy). r.owner) c.node_at.result.number forest))
-    (sound_removed c.node_at.result.number (tree_of forest) _ _ c.self.invariant)
+    let forest = c.self.inside.nodes.forest in (
+      subst (λ (x : OwnerTree). IsSound x c.self.inside.next_owner c.self.inside.next_serial)
+          (sym (ap (λ (x : Forest Roomy). tree_of x) c.discard_tree.ensures.rooms ∙ mapped-removed (λ (r : Roomy). r.owner) c.node_at.result.number forest))
+          (sound_removed c.node_at.result.number (tree_of forest) _ _ c.self.invariant.0),
+      λ m h. c.self.invariant.1 m (c.discard_tree.ensures.none_new m h),
+    )
 
 pub returns-clause-owners : goal.returns-clause-owners
 returns-clause-owners g c =

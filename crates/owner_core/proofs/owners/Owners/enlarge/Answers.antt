@@ -22,9 +22,11 @@ use Rattle.owner_core.proofs.owners.Owners.enlarge.Goals as goal
 pub invariant_of-self : goal.invariant_of-self
 invariant_of-self c =
     let forest = c.self.inside.nodes.forest in
-    let o : Once forest = once_rooms forest (once_of _ _ _ c.self.invariant) in
-    subst (λ (x : OwnerTree). IsSound x c.self.inside.next_owner c.self.inside.next_serial)
-    (sym (changed_same c.node_at.result.number forest c.get_mut.result.now c.enlarge.new.self o c.get_mut.ensures.value c.enlarge.ensures.owner)) c.self.invariant
+    let o : Once forest = once_rooms forest (once_of _ _ _ c.self.invariant.0) in (
+      subst (λ (x : OwnerTree). IsSound x c.self.inside.next_owner c.self.inside.next_serial)
+          (sym (changed_same c.node_at.result.number forest c.get_mut.result.now c.enlarge.new.self o c.get_mut.ensures.value c.enlarge.ensures.owner)) c.self.invariant.0,
+      c.self.invariant.1,
+    )
 
 pub returns-clause-spare : goal.returns-clause-spare
 returns-clause-spare c =
@@ -38,7 +40,7 @@ returns-clause-spare c =
 pub returns-clause-owners : goal.returns-clause-owners
 returns-clause-owners c =
     let forest = c.self.inside.nodes.forest in
-    let o : Once forest = once_rooms forest (once_of _ _ _ c.self.invariant) in
+    let o : Once forest = once_rooms forest (once_of _ _ _ c.self.invariant.0) in
     changed_same c.node_at.result.number forest c.get_mut.result.now c.enlarge.new.self o c.get_mut.ensures.value c.enlarge.ensures.owner
     ∙ ap (λ (t : OwnerTable). owners_of t) c.self.view_is
 
@@ -54,7 +56,7 @@ returns-clause-releasing c =
 pub returns-clause-refused : goal.returns-clause-refused
 returns-clause-refused c =
     let forest = c.self.inside.nodes.forest in
-    let o : Once forest = once_rooms forest (once_of _ _ _ c.self.invariant) in
+    let o : Once forest = once_rooms forest (once_of _ _ _ c.self.invariant.0) in
     let table : OwnerTable = record { rooms = forest; places = c.self.inside.nodes.places; next_owner = c.self.inside.next_owner; next_serial = c.self.inside.next_serial } in
     on_err c.enlarge.result _ _
     (λ e. room_back c.node_at.result.number c.get_mut.result.now c.enlarge.new.self table o c.get_mut.ensures.value e ∙ c.self.view_is)

@@ -27,9 +27,11 @@ use Rattle.owner_core.specs.declared.errors.OwnerError.TheVariants.{NotOwned}
 pub invariant_of-self : goal.invariant_of-self
 invariant_of-self g c =
     let forest = c.self.inside.nodes.forest in
-    let o : Once forest = once_rooms forest (once_of _ _ _ c.self.invariant) in
-    subst (λ (x : OwnerTree). IsSound x c.self.inside.next_owner c.self.inside.next_serial)
-    (sym (changed_same c.node_at.result.number forest c.get_mut.result.now c.forget.new.self o c.get_mut.ensures.value (ap (λ (r : Roomy). r.owner) c.in-Err.ensures.refused))) c.self.invariant
+    let o : Once forest = once_rooms forest (once_of _ _ _ c.self.invariant.0) in (
+      subst (λ (x : OwnerTree). IsSound x c.self.inside.next_owner c.self.inside.next_serial)
+          (sym (changed_same c.node_at.result.number forest c.get_mut.result.now c.forget.new.self o c.get_mut.ensures.value (ap (λ (r : Roomy). r.owner) c.in-Err.ensures.refused))) c.self.invariant.0,
+      c.self.invariant.1,
+    )
 
 pub returns-in-Err-clause-item : goal.returns-in-Err-clause-item
 returns-in-Err-clause-item g c h =
@@ -58,18 +60,20 @@ returns-in-Err-clause-releasing g c h =
 pub returns-in-Err-clause-refused : goal.returns-in-Err-clause-refused
 returns-in-Err-clause-refused g c =
     let forest = c.self.inside.nodes.forest in
-    let o : Once forest = once_rooms forest (once_of _ _ _ c.self.invariant) in
+    let o : Once forest = once_rooms forest (once_of _ _ _ c.self.invariant.0) in
     let table : OwnerTable = record { rooms = forest; places = c.self.inside.nodes.places; next_owner = c.self.inside.next_owner; next_serial = c.self.inside.next_serial } in
     room_back c.node_at.result.number c.get_mut.result.now c.forget.new.self table o c.get_mut.ensures.value c.in-Err.ensures.refused ∙ c.self.view_is
 
 pub invariant_of-self-2 : goal.invariant_of-self-2
 invariant_of-self-2 g c =
     let forest = c.self.inside.nodes.forest in
-    let o : Once forest = once_rooms forest (once_of _ _ _ c.self.invariant) in
-    let test = is_of c.args.kind c.args.key in
-    subst (λ (x : OwnerTree). IsSound x c.self.inside.next_owner c.self.inside.next_serial)
-    (sym (changed_to c.node_at.result.number (λ (x : Owner). record x { items = without_newest test x.items }) forest c.get_mut.result.now c.forget.new.self o c.get_mut.ensures.value c.in-Ok.ensures.rest))
-    (sound_forgotten c.node_at.result.number c.get_mut.result.now.owner test (tree_of forest) _ _ c.self.invariant (at_tree c.node_at.result.number forest c.get_mut.result.now c.get_mut.ensures.value))
+    let o : Once forest = once_rooms forest (once_of _ _ _ c.self.invariant.0) in
+    let test = is_of c.args.kind c.args.key in (
+      subst (λ (x : OwnerTree). IsSound x c.self.inside.next_owner c.self.inside.next_serial)
+          (sym (changed_to c.node_at.result.number (λ (x : Owner). record x { items = without_newest test x.items }) forest c.get_mut.result.now c.forget.new.self o c.get_mut.ensures.value c.in-Ok.ensures.rest))
+          (sound_forgotten c.node_at.result.number c.get_mut.result.now.owner test (tree_of forest) _ _ c.self.invariant.0 (at_tree c.node_at.result.number forest c.get_mut.result.now c.get_mut.ensures.value)),
+      c.self.invariant.1,
+    )
 
 pub returns-clause-item : goal.returns-clause-item
 returns-clause-item g c h =
@@ -98,7 +102,7 @@ returns-clause-releasing g c h =
 pub returns-clause-owners : goal.returns-clause-owners
 returns-clause-owners g c =
     let forest = c.self.inside.nodes.forest in
-    let o : Once forest = once_rooms forest (once_of _ _ _ c.self.invariant) in
+    let o : Once forest = once_rooms forest (once_of _ _ _ c.self.invariant.0) in
     let test = is_of c.args.kind c.args.key in
     changed_to c.node_at.result.number (λ (x : Owner). record x { items = without_newest test x.items }) forest c.get_mut.result.now c.forget.new.self o c.get_mut.ensures.value c.in-Ok.ensures.rest
     ∙ ap (λ (x : NodeId). forgotten x.number c.args.kind c.args.key (tree_of forest)) c.node_at.ensures

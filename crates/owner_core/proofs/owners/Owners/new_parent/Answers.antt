@@ -16,6 +16,7 @@ use Rattle.owner_core.specs.Sound.{IsSound}
 use Rattle.owner_core.proofs.Sounds.{once_of, fresh, newest, sound_created, sound_removed, sound_moved, sound_remembered, sound_forgotten, sound_released}
 use Rattle.owner_core.proofs.Tables.{at_tree, once_rooms, changed_to, changed_same, changed_back, tree_entered, tree_moved, tree_order}
 use Rattle.owner_core.proofs.Releasing.{inside_tree}
+use Rattle.owner_core.proofs.Placed.{has_same}
 use Rattle.owner_core.proofs.owners.Owners.new_parent.Goals as goal
 
 pub move_to-requires-clause-apart : goal.move_to-requires-clause-apart
@@ -28,10 +29,12 @@ move_to-requires-clause-apart g c =
 
 pub invariant_of-self : goal.invariant_of-self
 invariant_of-self g c =
-    let forest = c.self.inside.nodes.forest in
-    subst (λ (x : OwnerTree). IsSound x c.self.inside.next_owner c.self.inside.next_serial)
-    (sym (ap (λ (x : Forest Roomy). tree_of x) c.move_to.ensures.forest ∙ tree_moved c.node_at.result.number c.node_at-2.result.number forest))
-    (sound_moved c.node_at.result.number c.node_at-2.result.number (tree_of forest) _ _ c.self.invariant)
+    let forest = c.self.inside.nodes.forest in (
+      subst (λ (x : OwnerTree). IsSound x c.self.inside.next_owner c.self.inside.next_serial)
+          (sym (ap (λ (x : Forest Roomy). tree_of x) c.move_to.ensures.forest ∙ tree_moved c.node_at.result.number c.node_at-2.result.number forest))
+          (sound_moved c.node_at.result.number c.node_at-2.result.number (tree_of forest) _ _ c.self.invariant.0),
+      λ m h. c.self.invariant.1 m (has_same m c.move_to.new.self.places c.self.inside.nodes.places (c.move_to.ensures.stays m) h),
+    )
 
 pub returns-clause-owners : goal.returns-clause-owners
 returns-clause-owners g c =

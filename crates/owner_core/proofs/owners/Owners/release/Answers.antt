@@ -12,7 +12,7 @@ use Rattle.owner_kinds.specs.KindTable.{KindTable}
 use Rattle.owner_items.specs.ItemList.{is_of, without_newest}
 use Rattle.owner_core.specs.Owners.{Owner, OwnerTree, OwnerTable, Roomy, tree_of, owners_of, has_begun, items_of, spare_of, created, entered, remembered, forgotten}
 use Rattle.owner_core.specs.Released.{released, own_released}
-use Rattle.owner_core.specs.Sound.{IsSound}
+use Rattle.owner_core.specs.Sound.{IsSound, AreGiven}
 use Rattle.owner_core.proofs.Sounds.{once_of, fresh, newest, sound_created, sound_removed, sound_moved, sound_remembered, sound_forgotten, sound_released}
 use Rattle.owner_core.proofs.Tables.{at_tree, once_rooms, changed_to, changed_same, changed_back, tree_entered, tree_moved, tree_order}
 use Rattle.owner_core.proofs.Releasing.{inside_tree}
@@ -21,6 +21,8 @@ use Rattle.owner_core.proofs.owners.Owners.release.Goals as goal
 pub invariant_of-self : goal.invariant_of-self
 invariant_of-self g c =
     let forest = c.self.inside.nodes.forest in
-    let tbl = g.R.Release.kind_table c.args.table.now in
-    subst (λ (x : OwnerTree). IsSound x c.self.inside.next_owner c.self.inside.next_serial) (sym c.release_tree.ensures.owners)
-    (sound_released tbl c.args.phase c.node_at.result.number (tree_of forest) _ _ c.self.invariant)
+    let tbl = g.R.Release.kind_table c.args.table.now in (
+      subst (λ (x : OwnerTree). IsSound x c.self.inside.next_owner c.self.inside.next_serial) (sym c.release_tree.ensures.owners)
+          (sound_released tbl c.args.phase c.node_at.result.number (tree_of forest) _ _ c.self.invariant.0),
+      subst (λ (x : Forest ℕ). AreGiven c.self.inside.next_owner x) (sym c.release_tree.ensures.places) c.self.invariant.1,
+    )

@@ -21,21 +21,23 @@ use Rattle.owner_core.proofs.owners.Owners.remember.Goals as goal
 pub remember-requires-clause-newest : goal.remember-requires-clause-newest
 remember-requires-clause-newest g c =
     let forest = c.self.inside.nodes.forest in
-    newest c.node_at.result.number c.get_mut.result.now.owner (tree_of forest) _ _ c.self.invariant (at_tree c.node_at.result.number forest c.get_mut.result.now c.get_mut.ensures.value)
+    newest c.node_at.result.number c.get_mut.result.now.owner (tree_of forest) _ _ c.self.invariant.0 (at_tree c.node_at.result.number forest c.get_mut.result.now c.get_mut.ensures.value)
 
 pub invariant_of-self : goal.invariant_of-self
 invariant_of-self g c =
     let forest = c.self.inside.nodes.forest in
-    let o : Once forest = once_rooms forest (once_of _ _ _ c.self.invariant) in
-    let item : Item = record { kind = c.args.kind; key = c.args.key; serial = c.self.inside.next_serial } in
-    subst (λ (x : OwnerTree). IsSound x c.self.inside.next_owner (c.self.inside.next_serial + 1))
-    (sym (changed_to c.node_at.result.number (λ (x : Owner). record x { items = item ∷ x.items }) forest c.get_mut.result.now c.remember.new.self o c.get_mut.ensures.value c.remember.ensures.owner))
-    (sound_remembered c.node_at.result.number c.get_mut.result.now.owner item (tree_of forest) _ _ c.self.invariant (at_tree c.node_at.result.number forest c.get_mut.result.now c.get_mut.ensures.value) refl)
+    let o : Once forest = once_rooms forest (once_of _ _ _ c.self.invariant.0) in
+    let item : Item = record { kind = c.args.kind; key = c.args.key; serial = c.self.inside.next_serial } in (
+      subst (λ (x : OwnerTree). IsSound x c.self.inside.next_owner (c.self.inside.next_serial + 1))
+          (sym (changed_to c.node_at.result.number (λ (x : Owner). record x { items = item ∷ x.items }) forest c.get_mut.result.now c.remember.new.self o c.get_mut.ensures.value c.remember.ensures.owner))
+          (sound_remembered c.node_at.result.number c.get_mut.result.now.owner item (tree_of forest) _ _ c.self.invariant.0 (at_tree c.node_at.result.number forest c.get_mut.result.now c.get_mut.ensures.value) refl),
+      c.self.invariant.1,
+    )
 
 pub returns-clause-owners : goal.returns-clause-owners
 returns-clause-owners g c =
     let forest = c.self.inside.nodes.forest in
-    let o : Once forest = once_rooms forest (once_of _ _ _ c.self.invariant) in
+    let o : Once forest = once_rooms forest (once_of _ _ _ c.self.invariant.0) in
     let item : Item = record { kind = c.args.kind; key = c.args.key; serial = c.self.inside.next_serial } in
     changed_to c.node_at.result.number (λ (x : Owner). record x { items = item ∷ x.items }) forest c.get_mut.result.now c.remember.new.self o c.get_mut.ensures.value c.remember.ensures.owner
     ∙ ap (λ (x : NodeId). remembered x.number item (tree_of forest)) c.node_at.ensures

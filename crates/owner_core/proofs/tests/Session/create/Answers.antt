@@ -1,14 +1,15 @@
 -- A new owner holds nothing.
-use Rattle.std.proofs.Common.{◌≡◌, ℕ, ◌+◌, ◌≤◌, Bool, true, false, Option, Some, None, List, [], ◌∷◌, All, refl, sym, ap, ◌∙◌, subst, inl, inr, arith}
+use Rattle.std.proofs.Common.{◌≡◌, ℕ, ◌+◌, ◌<◌, ◌≤◌, Bool, true, false, Option, Some, None, List, [], ◌∷◌, All, refl, sym, ap, ◌∙◌, subst, inl, inr, arith}
 use Rattle.std.specs.Prelude.{◌==◌}
 use Rattle.std.specs.Option.{option_map}
-use Rattle.std.proofs.lemmas.Bool.{cases_Bool}
+use Rattle.std.proofs.lemmas.Bool.{cases_Bool, ne_eqb}
 use Rattle.std.proofs.lemmas.List.Elements.{All-nil}
 use Rattle.pgs_step.specs.declared.ids.Item.{Item}
 use Rattle.pgs_step.specs.declared.ids.KindId.{KindId}
-use Rattle.forest.specs.Forest.{Forest, Empty, Node, put, AllNodes}
+use Rattle.forest.specs.Forest.{Forest, Empty, Node, parent_of, put, AllNodes}
 use Rattle.owner_kinds.specs.KindTable.{IsBuiltIn}
 use Rattle.owner_core.specs.Owners.{Owner, OwnerTree, owners_of, held, created}
+use Rattle.owner_core.proofs.Placed.{parent_entered}
 use Rattle.owner_core.proofs.tests.Session.create.Goals as goal
 
 abbrev none : Owner
@@ -50,3 +51,11 @@ invariant_of-self-2 c =
       c.self.invariant.2,
       c.self.invariant.3 ∙ sym c.create.ensures.next_serial,
     )
+
+pub returns-clause-parents : goal.returns-clause-parents
+returns-clause-parents c =
+    rw (← c.self.view_is) (λ other live.
+    let n : ℕ = c.self.inside.owners.next_owner in
+    let older : other.number < n = c.create.ensures.older other live in
+    ap (λ (t : OwnerTree). parent_of other.number t) c.in_ok-owner.ensures.owners
+    ∙ parent_entered n other.number none (ne_eqb n other.number (λ e. omega (arith, e, older))) (option_map (λ p. p.number) c.args.parent) (owners_of c.self.inside.owners))

@@ -7,62 +7,15 @@ use Rattle.pgs_step.specs.declared.ids.Item.{Item}
 use Rattle.pgs_step.specs.declared.ids.KindId.{KindId}
 use Rattle.pgs_step.specs.declared.ids.Phase.{Phase}
 use Rattle.pgs_step.specs.declared.ids.Phase.TheVariants.{BeforeLocks, Locks, AfterLocks}
-use Rattle.forest.specs.Forest.{Forest, Empty, Node, either, has, at, is_root, children, parent_of, AllNodes}
-use Rattle.forest.specs.Walk.{all_changed, swept}
+use Rattle.forest.specs.Forest.{Forest, Empty, Node, either, has, at, children, parent_of, AllNodes}
 use Rattle.forest.proofs.Trees.{at_some, at_absent}
 use Rattle.owner_kinds.specs.KindShelf.{table_of}
 use Rattle.owner_kinds.specs.KindTable.{KindTable, IsBuiltIn, IsKind}
 use Rattle.owner_items.specs.ItemList.{uses}
-use Rattle.owner_core.specs.Owners.{Owner, OwnerTree, owners_of, held, subtree_of, HoldsNothing}
+use Rattle.owner_core.specs.Owners.{Owner, OwnerTree, owners_of, held, subtree_of}
 use Rattle.owner_core.specs.Released.{left_of, own_released}
+use Rattle.owner_core.proofs.Swept.{all_below, all_swept, parent_swept}
 use Rattle.owner_core.proofs.tests.Session.release.Goals as goal
-
-module _ (P : Owner → Type 0) where
-  all_one : (n : ℕ) (a : Owner) (t : OwnerTree) → AllNodes P t → at n t ≡ Some a → P a
-  all_one n a Empty all h = absurd (cc)
-  all_one n a (Node k b below beside) all h =
-      elim (cases_Bool (k == n)) [
-        | inl y ↦ let same : b ≡ a = let w : Some b ≡ Some a = rw y at h in cc in subst P same all.0
-        | inr y ↦ elim (cases_Bool (has n below)) [
-          | inl u ↦
-              let w = at_some n below u in
-              let r : at n below ≡ Some a = let z : either (at n below) (at n beside) ≡ Some a = rw y at h in w.1 ∙ (rw w.1 at z) in
-              all_one n a below all.1 r
-          | inr u ↦ all_one n a beside all.2 (rw (y, at_absent n below u) at h)
-        ]
-      ]
-
-  all_children : (n : ℕ) (t : OwnerTree) → AllNodes P t → AllNodes P (children n t)
-  all_children n Empty all = tt
-  all_children n (Node k b below beside) all =
-      elim (cases_Bool (k == n)) [
-        | inl y ↦ rw y all.1
-        | inr y ↦ elim (cases_Bool (has n below)) [
-          | inl u ↦ rw (y, u) (all_children n below all.1)
-          | inr u ↦ rw (y, u) (all_children n beside all.2)
-        ]
-      ]
-
-  -- what holds of all owners holds of those from one on
-  pub all_below : (n : ℕ) (t : OwnerTree) → AllNodes P t → AllNodes P (subtree_of n t)
-  all_below n t all =
-      elim (cases_Bool (has n t)) [
-        | inl h ↦ let w = at_some n t h in rw w.1 (all_one n w.0 t all w.1, all_children n t all, tt)
-        | inr h ↦ rw (at_absent n t h) tt
-      ]
-
-  module _ (f : Owner → Owner) (keeps : (a : Owner) → P a → P (f a)) where
-    all_all : (t : OwnerTree) → AllNodes P t → AllNodes P (all_changed f t)
-    all_all Empty all = tt
-    all_all (Node k b below beside) all = (keeps b all.0, all_all below all.1, all_all beside all.2)
-
-    all_swept : (n : ℕ) (t : OwnerTree) → AllNodes P t → AllNodes P (swept f n t)
-    all_swept n Empty all = tt
-    all_swept n (Node k b below beside) all =
-        elim (cases_Bool (k == n)) [
-          | inl y ↦ rw y (keeps b all.0, all_all below all.1, all_swept n beside all.2)
-          | inr y ↦ rw y (all.0, all_swept n below all.1, all_swept n beside all.2)
-        ]
 
 all_more : (P Q : Owner → Type 0) → ((a : Owner) → P a → Q a) → (t : OwnerTree) → AllNodes P t → AllNodes Q t
 all_more P Q f Empty all = tt
@@ -95,53 +48,10 @@ module _ (kind : KindId) (key : ℕ) where
         | inr h ↦ rw (at_absent n t h) (omega arith)
       ]
 
--- a phase leaves the tree of owners
-module _ (m : ℕ) (f : Owner → Owner) where
-  has_all : (t : OwnerTree) → has m (all_changed f t) ≡ has m t
-  has_all Empty = refl
-  has_all (Node k b below beside) = rw (has_all below, has_all beside) refl
-
-  root_all : (t : OwnerTree) → is_root m (all_changed f t) ≡ is_root m t
-  root_all Empty = refl
-  root_all (Node k b below beside) = rw (root_all beside) refl
-
-  parent_all : (t : OwnerTree) → parent_of m (all_changed f t) ≡ parent_of m t
-  parent_all Empty = refl
-  parent_all (Node k b below beside) = rw (root_all below, has_all below, parent_all below, parent_all beside) refl
-
-  has_swept : (n : ℕ) (t : OwnerTree) → has m (swept f n t) ≡ has m t
-  has_swept n Empty = refl
-  has_swept n (Node k b below beside) =
-      elim (cases_Bool (k == n)) [
-        | inl y ↦ rw (y, has_all below, has_swept n beside) refl
-        | inr y ↦ rw (y, has_swept n below, has_swept n beside) refl
-      ]
-
-  root_swept : (n : ℕ) (t : OwnerTree) → is_root m (swept f n t) ≡ is_root m t
-  root_swept n Empty = refl
-  root_swept n (Node k b below beside) =
-      elim (cases_Bool (k == n)) [
-        | inl y ↦ rw (y, root_swept n beside) refl
-        | inr y ↦ rw (y, root_swept n beside) refl
-      ]
-
-  parent_swept : (n : ℕ) (t : OwnerTree) → parent_of m (swept f n t) ≡ parent_of m t
-  parent_swept n Empty = refl
-  parent_swept n (Node k b below beside) =
-      elim (cases_Bool (k == n)) [
-        | inl y ↦ rw (y, root_all below, has_all below, parent_all below, parent_swept n beside) refl
-        | inr y ↦ rw (y, root_swept n below, has_swept n below, parent_swept n below, parent_swept n beside) refl
-      ]
-
 left_all : (Q : Item → Type 0) (kinds : KindTable) (phase : Phase) (items : List Item) → All Q items → All Q (left_of kinds phase items)
 left_all Q kinds BeforeLocks items h = All-filter _ Q items h
 left_all Q kinds Locks items h = h
 left_all Q kinds AfterLocks items h = All-filter _ Q items h
-
-left_none : (kinds : KindTable) (phase : Phase) (items : List Item) → items ≡ [] → left_of kinds phase items ≡ []
-left_none kinds BeforeLocks items h = rw h refl
-left_none kinds Locks items h = h
-left_none kinds AfterLocks items h = rw h refl
 
 pub release-requires-clause-kinds : goal.release-requires-clause-kinds
 release-requires-clause-kinds c =
@@ -170,9 +80,8 @@ returns-clause-parents c n =
     (ap (λ (t : OwnerTree). parent_of n t) c.release.ensures.owners
     ∙ parent_swept n (own_released (table_of c.self.inside.table.kinds) c.args.phase) c.args.owner.number (owners_of c.self.inside.owners))
 
-pub returns-clause-empty : goal.returns-clause-empty
-returns-clause-empty c =
-    rw (← c.self.view_is) (λ all.
-    subst (AllNodes HoldsNothing) (sym c.release.ensures.owners)
-    (all_swept HoldsNothing (own_released (table_of c.self.inside.table.kinds) c.args.phase)
-    (λ o h. left_none (table_of c.self.inside.table.kinds) c.args.phase o.items h) c.args.owner.number (owners_of c.self.inside.owners) all))
+pub returns-clause-built_in : goal.returns-clause-built_in
+returns-clause-built_in c = rw (← c.self.view_is) c.self.invariant.1
+
+pub returns-clause-owners : goal.returns-clause-owners
+returns-clause-owners c = (table_of c.self.inside.table.kinds, rw (← c.self.view_is) c.release.ensures.owners)

@@ -1,0 +1,116 @@
+-- Where owners lie once one more is made.
+use Rattle.std.proofs.Common.{◌≡◌, ℕ, ◌+◌, ◌<◌, ◌≤◌, Bool, true, false, Option, Some, None, IfSome, refl, sym, ap, ◌∙◌, inl, inr, arith}
+use Rattle.std.specs.Prelude.{◌==◌, ◌||◌}
+use Rattle.std.specs.Option.{option_map}
+use Rattle.std.proofs.lemmas.Bool.{cases_Bool, cases_eq, eq-eqb, ne_eqb, or_parts, false_from_ne_true}
+use Rattle.forest.specs.Forest.{Forest, Empty, Node, either, has, at, is_root, parent_of, put}
+use Rattle.forest.proofs.Trees.{at_absent, at_some, has_at, put_absent}
+use Rattle.pgs_step.specs.declared.ids.OwnerId.{OwnerId}
+use Rattle.owner_core.specs.Owners.{entered}
+use Rattle.owner_core.specs.Sound.{AreGiven}
+
+module _ {A : Type 0} where
+  at_put : (p n : ℕ) (a : A) (t : Forest A) → has p t ≡ true → has n t ≡ false → at n (put p n a Empty t) ≡ Some a
+  at_put p n a Empty h u = absurd (cc)
+  at_put p n a (Node k b below beside) h u =
+      let w = or_parts (k == n) (has n below || has n beside) u in
+      let v = or_parts (has n below) (has n beside) w.1 in
+      elim (cases_Bool (k == p)) [
+        | inl y ↦ rw (w.0, y, eq-eqb n n refl) refl
+        | inr y ↦ elim (cases_Bool (has p below)) [
+          | inl x ↦ rw (w.0, y, at_put p n a below x v.0) refl
+          | inr x ↦
+              let z : has p beside ≡ true = rw (y, x) at h in
+              rw (w.0, y, put_absent p n a Empty below x, at_absent n below v.0, at_put p n a beside z v.1) refl
+        ]
+      ]
+
+  -- a new node lies where it was put
+  pub at_entered : (parent : Option ℕ) (n : ℕ) (a : A) (t : Forest A) → IfSome parent (λ p. has p t ≡ true) → has n t ≡ false → at n (entered parent n a t) ≡ Some a
+  at_entered None n a t h u = rw (eq-eqb n n refl) refl
+  at_entered (Some p) n a t h u = at_put p n a t h u
+
+  module _ (n m : ℕ) (a : A) (other : (n == m) ≡ false) where
+    put_other : (p : ℕ) (t : Forest A) → at m (put p n a Empty t) ≡ at m t
+    put_other p Empty = refl
+    put_other p (Node k b below beside) =
+        elim (cases_Bool (k == m)) [
+          | inl y ↦ rw y refl
+          | inr y ↦ elim (cases_Bool (k == p)) [
+            | inl z ↦ rw (y, z, other, put_other p beside) refl
+            | inr z ↦ rw (y, z, put_other p below, put_other p beside) refl
+          ]
+        ]
+
+    has_put : (p : ℕ) (t : Forest A) → has m (put p n a Empty t) ≡ has m t
+    has_put p Empty = refl
+    has_put p (Node k b below beside) =
+        elim (cases_Bool (k == p)) [
+          | inl y ↦ rw (y, other, has_put p beside) refl
+          | inr y ↦ rw (y, has_put p below, has_put p beside) refl
+        ]
+
+    root_put : (p : ℕ) (t : Forest A) → is_root m (put p n a Empty t) ≡ is_root m t
+    root_put p Empty = refl
+    root_put p (Node k b below beside) = rw (root_put p beside) refl
+
+    parent_put : (p : ℕ) (t : Forest A) → parent_of m (put p n a Empty t) ≡ parent_of m t
+    parent_put p Empty = refl
+    parent_put p (Node k b below beside) =
+        elim (cases_Bool (k == p)) [
+          | inl y ↦ rw (y, other, parent_put p beside) refl
+          | inr y ↦ rw (y, root_put p below, has_put p below, parent_put p below, parent_put p beside) refl
+        ]
+
+    -- the others stay as they are
+    pub entered_other : (parent : Option ℕ) (t : Forest A) → at m (entered parent n a t) ≡ at m t
+    entered_other None t = rw other refl
+    entered_other (Some p) t = put_other p t
+
+    pub has_entered : (parent : Option ℕ) (t : Forest A) → has m (entered parent n a t) ≡ has m t
+    has_entered None t = rw other refl
+    has_entered (Some p) t = has_put p t
+
+    pub parent_entered : (parent : Option ℕ) (t : Forest A) → parent_of m (entered parent n a t) ≡ parent_of m t
+    parent_entered None t = refl
+    parent_entered (Some p) t = parent_put p t
+
+  pub has_same : (m : ℕ) (t u : Forest A) → at m t ≡ at m u → has m t ≡ true → has m u ≡ true
+  has_same m t u e h = let w = at_some m t h in has_at m u w.0 (sym e ∙ w.1)
+
+-- an owner that lies somewhere is older than the next one
+pub older_than : (next : ℕ) (places : Forest ℕ) → AreGiven next places → (other : OwnerId) → at other.number places ≡ Some other.slot → other.number < next
+older_than next places given other lies = given other.number (has_at other.number places other.slot lies)
+
+pub given_entered : (parent : Option ℕ) (next slot : ℕ) (places : Forest ℕ) → AreGiven next places → AreGiven (next + 1) (entered parent next slot places)
+given_entered parent next slot places given m h =
+    elim (cases_eq next m) [
+      | inl e ↦ omega (arith, e)
+      | inr ne ↦
+          let before : m < next = given m (sym (has_entered next m slot (ne_eqb next m ne) parent places) ∙ h) in
+          omega (arith, before)
+    ]
+
+-- what lies below the next number is none of the next number
+unused : (next : ℕ) (places : Forest ℕ) → AreGiven next places → has next places ≡ false
+unused next places given = false_from_ne_true (has next places) (λ h. let before : next < next = given next h in omega (arith, before))
+
+parent_lies : (parent : Option OwnerId) (places : Forest ℕ) → IfSome parent (λ p. at p.number places ≡ Some p.slot) → IfSome (option_map (λ (p : OwnerId). p.number) parent) (λ p. has p places ≡ true)
+parent_lies None places lies = tt
+parent_lies (Some p) places lies = has_at p.number places p.slot lies
+
+pub live_entered :
+    (parent : Option OwnerId) (next slot n : ℕ) (places new : Forest ℕ) → AreGiven next places →
+    IfSome parent (λ p. at p.number places ≡ Some p.slot) → n ≡ next → new ≡ entered (option_map (λ (p : OwnerId). p.number) parent) next slot places →
+    at n new ≡ Some slot
+live_entered parent next slot n places new given lies is entered_is =
+    ap (λ (m : ℕ). at m new) is ∙ ap (λ (x : Forest ℕ). at next x) entered_is
+    ∙ at_entered (option_map (λ (p : OwnerId). p.number) parent) next slot places (parent_lies parent places lies) (unused next places given)
+
+pub stays_entered :
+    (parent : Option ℕ) (next slot : ℕ) (places new : Forest ℕ) → AreGiven next places → new ≡ entered parent next slot places →
+    (other : OwnerId) → at other.number places ≡ Some other.slot → at other.number new ≡ Some other.slot
+stays_entered parent next slot places new given entered_is other lies =
+    let older : other.number < next = older_than next places given other lies in
+    ap (λ (x : Forest ℕ). at other.number x) entered_is
+    ∙ entered_other next other.number slot (ne_eqb next other.number (λ e. omega (arith, e, older))) parent places ∙ lies
