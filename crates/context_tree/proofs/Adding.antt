@@ -1,10 +1,9 @@
 -- A tree in which a context was made, and one in which none was.
-use Rattle.std.proofs.Common.{◌≡◌, ◌≢◌, ◌⊎◌, ℕ, ◌+◌, ◌-◌, ◌<◌, ◌≤◌, Bool, true, false, List, [], ◌∷◌, map, get_or, Option, Some, None, IsSome, refl, sym, ap, ◌∙◌, subst, inl, inr, arith}
+use Rattle.std.proofs.Common.{◌≡◌, ◌⊎◌, ℕ, ◌+◌, ◌-◌, ◌<◌, Bool, true, false, List, [], ◌∷◌, map, get_or, Option, Some, None, IsSome, refl, sym, ap, ◌∙◌, subst, inl, inr, arith}
 use Rattle.std.specs.Prelude.{not, ◌&&◌, unwrap_or, if◌then◌else◌, ◌==◌}
 use Rattle.std.specs.Option.{option_map}
 use Rattle.std.proofs.lemmas.Bool.{cases_Bool, cases_lt, le-ltb}
-use Rattle.addr_space.specs.declared.Addr.{Addr}
-use Rattle.addr_space.specs.Space.{Space, Region, region_at, bytes_of, part, accounts, held, Asks, IsKnown}
+use Rattle.addr_space.specs.Space.{Space, Region, region_at, bytes_of, part, held}
 use Rattle.addr_space.specs.Footprint as foot
 use Rattle.addr_space.specs.Footprint.{Footprint, nothing}
 use Rattle.addr_space.proofs.Contexts.{counted-nothing}
@@ -15,27 +14,28 @@ use Rattle.forest.specs.Forest.{Forest, Empty, Node, at, has, Once, size, put, m
 use Rattle.forest.specs.Forested.{Forested}
 use Rattle.forest.proofs.Mapped.{mapped-has}
 use Rattle.any_ctx.specs.Ledgers.{Ledger}
-use Rattle.any_ctx.specs.Kinds.{first_size}
-use Rattle.any_ctx.specs.Contexts.{footprint, ledger}
+use Rattle.any_ctx.specs.Contexts.{footprint}
 use Rattle.any_ctx.specs.declared.any.CtxKind.{CtxKind}
 use Rattle.context_rules.specs.Names.{is_reserved}
-use Rattle.context_rules.specs.Contexts.{Context, Contexts, new_context, created, context_named}
-use Rattle.context_rules.specs.Refusals.{create_refusal, is_taken, first_of, where_so}
+use Rattle.context_rules.specs.Contexts.{Context, Contexts, new_context, context_named}
+use Rattle.context_rules.specs.Refusals.{create_refusal, is_taken}
 use Rattle.context_rules.specs.declared.errors.TreeError.{TreeError}
 use Rattle.context_rules.specs.declared.errors.TreeError.TheVariants.{Memory, Taken, TooMany}
-use Rattle.context_tree.specs.declared.chunk_id.ChunkId.{ChunkId}
-use Rattle.context_tree.specs.declared.entry.Entry.{Entry}
-use Rattle.context_tree.specs.declared.making.NewContext.{NewContext}
+use Rattle.context_node.specs.declared.chunk_id.ChunkId.{ChunkId}
+use Rattle.context_node.specs.declared.making.NewContext.{NewContext}
 use Rattle.context_tree.specs.declared.tree.Own.{Own}
-use Rattle.context_tree.specs.Kept.{Kept}
-use Rattle.context_tree.specs.Soundness.{IsSound, IsSoundContext, IsOwn}
-use Rattle.context_tree.specs.State.{TreeState, bytes_at, chunk_of, entries, context_of, stands_for, Agrees, Moves, SameRegions, left_of, IsLive, place_of, total_of}
-use Rattle.context_tree.specs.Making.{Made, Grew, CameBack, Added, entered_context, room_refusal}
-use Rattle.context_tree.proofs.Names.{once_of, find_named, some_or_none}
+use Rattle.context_node.specs.Kept.{Kept}
+use Rattle.context_node.specs.Soundness.{IsSoundContext}
+use Rattle.context_tree.specs.Soundness.{IsSound, IsOwn}
+use Rattle.context_node.specs.State.{chunk_of, entries, context_of}
+use Rattle.context_tree.specs.State.{TreeState, stands_for, Agrees, Moves, SameRegions, left_of, total_of}
+use Rattle.context_node.specs.Making.{entered_context}
+use Rattle.context_tree.specs.Making.{Grew, CameBack, Added, room_refusal}
+use Rattle.context_tree.proofs.Names.{once_of, find_named}
 use Rattle.context_tree.proofs.Reading.{stands_size}
-use Rattle.context_tree.proofs.Steps.{chunk_same, context_same}
-use Rattle.context_tree.proofs.Growing.{Grown, agrees_grown, stands_grown, moves_grown, at_put_new, at_grown_other, next_fresh, next_unplaced, own_grown, sound_grown}
-use Rattle.context_tree.proofs.Opening.{sound_made}
+use Rattle.context_node.proofs.Steps.{chunk_same, context_same}
+use Rattle.context_tree.proofs.Growing.{Grown, stands_grown, moves_grown, at_put_new, at_grown_other, next_fresh, next_unplaced, own_grown, sound_grown}
+use Rattle.context_node.proofs.Made.{sound_made}
 
 -- two functions that say the same of everything
 pub map_all : {A B : Type 0} (f g : A → B) → ((x : A) → g x ≡ f x) → (xs : List A) → map g xs ≡ map f xs

@@ -16,17 +16,21 @@ use Rattle.context_rules.specs.declared.errors.TreeError.{TreeError}
 use Rattle.context_rules.specs.declared.errors.TreeError.TheVariants.{Taken, Memory}
 use Rattle.context_rules.specs.Chunks.{served, asked, allocated, with_chunk}
 use Rattle.context_rules.specs.Refusals.{refusal, is_chunk, alloc_refusal}
-use Rattle.context_tree.specs.declared.chunk_id.ChunkId.{ChunkId}
-use Rattle.context_tree.specs.declared.entry.Entry.{Entry}
+use Rattle.context_node.specs.declared.chunk_id.ChunkId.{ChunkId}
+use Rattle.context_node.specs.declared.entry.Entry.{Entry}
 use Rattle.context_tree.specs.declared.tree.Own.{Own}
-use Rattle.context_tree.specs.Kept.{Kept}
-use Rattle.context_tree.specs.Soundness.{same, IsSoundContext, IsSound, IsChunk}
-use Rattle.context_tree.specs.State.{TreeState, context_of, stands_for, Agrees, Moves, left_of}
-use Rattle.context_tree.specs.Chunking.{Took, taken_entry, entered}
-use Rattle.context_tree.proofs.Names.{at_here, same_is, is_same, find_found, find_nothing, some_or_none}
+use Rattle.context_node.specs.Kept.{Kept}
+use Rattle.context_node.specs.Soundness.{same, IsSoundContext}
+use Rattle.context_tree.specs.Soundness.{IsSound, IsChunk}
+use Rattle.context_node.specs.State.{context_of}
+use Rattle.context_tree.specs.State.{TreeState, stands_for, Agrees, Moves, left_of}
+use Rattle.context_node.specs.Chunking.{Took, taken_entry, entered}
+use Rattle.context_node.proofs.Names.{at_here, same_is, is_same, some_or_none}
+use Rattle.context_tree.proofs.Names.{find_found, find_nothing}
 use Rattle.context_tree.proofs.Steps.{Stepped, stands_by, moves_stepped}
-use Rattle.context_tree.proofs.Sounds.{step_at, step_here, step_other, sound_step}
-use Rattle.context_tree.proofs.Taking.{entry_cases, front_other, chunks_now, sound_took, known_took, context_took}
+use Rattle.context_node.proofs.Sounds.{step_at, step_here, step_other}
+use Rattle.context_tree.proofs.Sounds.{sound_step}
+use Rattle.context_node.proofs.Taking.{entry_cases, front_other, chunks_now, sound_took, known_took, context_took}
 
 -- nothing happens
 pub tree_none : (a : TreeState) (s : Space) → Agrees a s → Moves a a s s
@@ -48,6 +52,7 @@ module _ (kept : Forest Kept) (places : Forest ℕ) (find_context : List ℕ →
     numbers = sound.numbers;
     few = sound.few;
     lies = sound.lies;
+    there = sound.there;
     each = sound.each;
     given = sound.given;
     named = sound.named;

@@ -1,15 +1,14 @@
 -- Calls that end contexts, one after the other.
-use Rattle.std.proofs.Common.{◌≡◌, ◌≢◌, ℕ, ◌+◌, ◌-◌, ◌<◌, true, false, Option, Some, None, List, [], ◌∷◌, ◌++◌, length, map, refl, sym, ap, ◌∙◌, inl, inr, subst, arith, append_assoc}
+use Rattle.std.proofs.Common.{◌≡◌, ℕ, ◌+◌, ◌-◌, true, List, [], ◌++◌, length, map, refl, sym, ap, ◌∙◌, subst, arith, append_assoc}
 use Rattle.std.proofs.lemmas.List.{append-nil, map-append, length-append}
 use Rattle.pgs_step.specs.declared.events.What.{What}
 use Rattle.addr_space.specs.Space.{Space, held}
-use Rattle.forest.specs.Forest.{has, at}
-use Rattle.forest.proofs.Trees.{at_some, has_at}
+use Rattle.forest.specs.Forest.{has}
 use Rattle.reset_callbacks.specs.Hook.{Hook, ran}
 use Rattle.reset_callbacks.specs.ShelfState.{ShelfState}
 use Rattle.context_rules.specs.Contexts.{Contexts}
 use Rattle.context_rules.specs.Ends.{Ended, and_then, unchanged, handed_in}
-use Rattle.context_tree.specs.State.{TreeState, place_of, stands_for, total_of, Agrees, Moves, HooksFit}
+use Rattle.context_tree.specs.State.{TreeState, stands_for, total_of, Agrees, Moves, HooksFit}
 use Rattle.context_tree.specs.Calls.{Did}
 use Rattle.context_tree.proofs.Allocs.{tree_none}
 

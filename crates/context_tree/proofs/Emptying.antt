@@ -1,8 +1,8 @@
 -- A tree whose contexts are given back one after the other, each without children, and one step after another.
-use Rattle.std.proofs.Common.{◌≡◌, ◌≢◌, ◌⊎◌, ℕ, ◌+◌, ◌<◌, true, false, Option, Some, None, IsSome, refl, sym, ap, ◌∙◌, subst, inl, inr, arith}
+use Rattle.std.proofs.Common.{◌≡◌, ◌≢◌, ℕ, ◌+◌, ◌<◌, true, Some, None, IsSome, refl, sym, ap, ◌∙◌, subst, inl, inr, arith}
 use Rattle.std.specs.Option.{option_map}
-use Rattle.std.proofs.lemmas.Bool.{cases_eq, eq-eqb, ne_eqb}
-use Rattle.addr_space.specs.Space.{Space, Region, held, accounts, IsKnown}
+use Rattle.std.proofs.lemmas.Bool.{cases_eq}
+use Rattle.addr_space.specs.Space.{Space, held}
 use Rattle.addr_space.specs.Footprint as foot
 use Rattle.addr_space.specs.Footprint.{AreDisjoint, nothing}
 use Rattle.addr_space.proofs.Apart.{Agrees-other, Keeps-other}
@@ -15,11 +15,12 @@ use Rattle.forest.proofs.Mapped.{mapped-removed, mapped-children, mapped-once, m
 use Rattle.any_ctx.specs.Ledgers.{stats}
 use Rattle.any_ctx.specs.Contexts.{footprint, ledger}
 use Rattle.context_rules.specs.Contexts.{Context, Contexts}
-use Rattle.context_tree.specs.Kept.{Kept}
-use Rattle.context_tree.specs.Soundness.{IsSoundContext}
-use Rattle.context_tree.specs.State.{TreeState, context_of, stands_for, Agrees, total_of, Moves}
+use Rattle.context_node.specs.Kept.{Kept}
+use Rattle.context_node.specs.Soundness.{IsSoundContext}
+use Rattle.context_node.specs.State.{context_of}
+use Rattle.context_tree.specs.State.{TreeState, stands_for, Agrees, total_of, Moves}
 use Rattle.context_tree.specs.Making.{bare}
-use Rattle.context_tree.proofs.Steps.{context_stays}
+use Rattle.context_node.proofs.Steps.{context_stays}
 use Rattle.context_tree.proofs.Growing.{mapped_same}
 
 -- one step after another

@@ -1,11 +1,11 @@
 -- Forests of which nodes go, and what is said of each.
-use Rattle.std.proofs.Common.{◌≡◌, ◌≢◌, ℕ, true, false, Option, Some, None, List, [], ◌∷◌, ◌++◌, refl, sym, ap, ◌∙◌, inl, inr, append_assoc}
-use Rattle.std.specs.Prelude.{◌==◌, ◌||◌, if◌then◌else◌}
+use Rattle.std.proofs.Common.{◌≡◌, ◌≢◌, ℕ, true, false, Option, Some, List, [], ◌++◌, refl, sym, ap, ◌∙◌, inl, inr, append_assoc}
+use Rattle.std.specs.Prelude.{◌==◌, ◌||◌}
 use Rattle.std.specs.Option.{option_map_or}
 use Rattle.std.proofs.lemmas.Bool.{cases_Bool, eq-eqb, ne_eqb, eqb-true, or_parts, both_ways}
-use Rattle.forest.specs.Forest.{Forest, Empty, Node, either, has, Once, at, children, removed, with_children, subtree}
+use Rattle.forest.specs.Forest.{Forest, Empty, Node, has, Once, at, children, removed, with_children, subtree}
 use Rattle.forest.specs.Walk.{lead}
-use Rattle.forest.proofs.Trees.{Apart, apart_of, at_absent, at_some, removed_absent, has_children}
+use Rattle.forest.proofs.Trees.{Apart, apart_of, at_some, removed_absent, has_children}
 use Rattle.forest.proofs.Walks.{lead_of_node, once_children, children_in, children_removed}
 use Rattle.forest.proofs.Moved.{at_children}
 

@@ -7,15 +7,18 @@ use Rattle.pgs_step.specs.declared.ids.CtxId.{CtxId}
 use Rattle.addr_space.proofs.Options.{none_or_some}
 use Rattle.forest.specs.Forest.{Forest, Empty, Node, at, has, children, changed, removed, Once}
 use Rattle.forest.proofs.Trees.{Apart, apart_of, has_at, at_some, has_of_removed, times_removed, size_removed}
-use Rattle.context_tree.specs.declared.chunk_id.ChunkId.{ChunkId}
-use Rattle.context_tree.specs.declared.entry.Entry.{Entry}
+use Rattle.context_node.specs.declared.chunk_id.ChunkId.{ChunkId}
+use Rattle.context_node.specs.declared.entry.Entry.{Entry}
 use Rattle.context_tree.specs.declared.tree.Own.{Own}
-use Rattle.context_tree.specs.Kept.{Kept}
-use Rattle.context_tree.specs.Soundness.{same, IsSoundContext, IsSound, IsNamed, IsChunk, IsOwn}
-use Rattle.context_tree.specs.Ending.{is_named, left_names, without_context}
-use Rattle.context_tree.proofs.Names.{at_here, at_below, at_beside, one_at, below_or_beside, same_is, is_same, once_of}
-use Rattle.context_tree.proofs.Sounds.{step_at, step_other, sound_step}
-use Rattle.context_tree.proofs.Removals.{other_than_removed}
+use Rattle.context_node.specs.Kept.{Kept}
+use Rattle.context_node.specs.Soundness.{same, IsSoundContext}
+use Rattle.context_tree.specs.Soundness.{IsSound, IsNamed, IsChunk, IsOwn}
+use Rattle.context_node.specs.Ending.{is_named, left_names, without_context}
+use Rattle.context_node.proofs.Names.{at_here, at_below, at_beside, one_at, below_or_beside, same_is, is_same}
+use Rattle.context_tree.proofs.Names.{once_of}
+use Rattle.context_node.proofs.Sounds.{step_at, step_other}
+use Rattle.context_tree.proofs.Sounds.{sound_step}
+use Rattle.context_node.proofs.Removals.{other_than_removed}
 use Rattle.context_tree.proofs.Shrinking.{left_at, still_at}
 
 module _ (w : List ℕ) where
@@ -178,6 +181,9 @@ module _ (kept : Forest Kept) (places : Forest ℕ) (find_context : List ℕ →
       lies = λ m h.
           let there = at_some m kept (sound.lies m (has_of_removed m n places h)) in
           has_at m (removed n kept) there.0 (still m there.0 (other_than_removed m n places h) there.1);
+      there = λ m h.
+          let place = at_some m places (sound.there m (has_of_removed m n kept h)) in
+          has_at m (removed n places) place.0 (stays m (other_than_removed m n kept h) ∙ place.1);
       each = λ m j h. sound.each m j (was m j h).1;
       given = λ m c j h q. sound.given m c j (was m j h).1 q;
       named = λ word id h.

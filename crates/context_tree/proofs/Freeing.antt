@@ -1,107 +1,30 @@
 -- A tree in which a chunk was freed.
-use Rattle.std.proofs.Common.{◌≡◌, ◌≢◌, ℕ, ◌+◌, ◌<◌, true, List, map, Option, Some, None, Ok, IsSome, unwrap_or, refl, sym, ap, ◌∙◌, subst, inl, inr, arith}
+use Rattle.std.proofs.Common.{◌≡◌, ◌≢◌, ℕ, List, Option, Some, None, Ok, unwrap_or, refl, sym, ap, ◌∙◌, inl, inr, arith}
 use Rattle.std.specs.Prelude.{if◌then◌else◌}
 use Rattle.std.proofs.lemmas.Bool.{cases_eq, cases_Bool, both_ways}
 use Rattle.pgs_step.specs.declared.ids.CtxId.{CtxId}
-use Rattle.addr_space.specs.Space.{Space, byte_at, IsKnown}
+use Rattle.addr_space.specs.Space.{Space}
 use Rattle.addr_space.specs.Footprint as foot
-use Rattle.addr_space.proofs.Addresses.{put_at-cases}
-use Rattle.forest.specs.Forest.{Forest, at, has, Once, changed, removed}
-use Rattle.forest.proofs.Trees.{has_at, at_some, has_of_removed, once_removed}
+use Rattle.forest.specs.Forest.{Forest, at, Once, changed}
+use Rattle.forest.proofs.Trees.{has_at, at_some}
 use Rattle.any_ctx.specs.Ledgers.{Place, InSlab, give}
 use Rattle.any_ctx.specs.Contexts.{footprint, ledger, place_at}
-use Rattle.context_rules.specs.Contexts.{Chunk, Context}
 use Rattle.context_rules.specs.Chunks.{without, freed}
-use Rattle.context_tree.specs.declared.chunk_id.ChunkId.{ChunkId}
-use Rattle.context_tree.specs.declared.entry.Entry.{Entry}
+use Rattle.context_node.specs.declared.chunk_id.ChunkId.{ChunkId}
+use Rattle.context_node.specs.declared.entry.Entry.{Entry}
 use Rattle.context_tree.specs.declared.tree.Own.{Own}
-use Rattle.context_tree.specs.Kept.{Kept}
-use Rattle.context_tree.specs.Soundness.{same, AreFlat, IsSoundContext, IsSound, IsChunk}
-use Rattle.context_tree.specs.State.{TreeState, chunk_of, entries, context_of, stands_for, Agrees, Moves}
-use Rattle.context_tree.specs.Chunking.{Freed}
+use Rattle.context_node.specs.Kept.{Kept}
+use Rattle.context_node.specs.Soundness.{same, IsSoundContext}
+use Rattle.context_tree.specs.Soundness.{IsSound, IsChunk}
+use Rattle.context_tree.specs.State.{TreeState, stands_for, Agrees, Moves}
+use Rattle.context_node.specs.Chunking.{Freed}
 use Rattle.context_tree.specs.Lookup.{Leads}
-use Rattle.context_tree.proofs.Names.{same_is, is_same, named_not, named_so}
-use Rattle.context_tree.proofs.Steps.{Stepped, stands_by, moves_stepped, chunk_same}
-use Rattle.context_tree.proofs.Sounds.{step_at, step_here, step_other, sound_step}
-use Rattle.context_tree.proofs.Bytes.{in_live, bytes_same}
-use Rattle.context_tree.proofs.Removals.{flat_removed, other_than_removed, left_at, still_at, without_entries}
-
-module _ (k l : Kept) (n : ℕ) (s t : Space) (gone : Freed k l n s t) (sound : IsSoundContext k) (agrees : foot.Agrees (footprint k.memory) s) where
-  pub chunks_now : l.chunks ≡ removed n k.chunks
-  chunks_now = ap (λ (x : Kept). x.chunks) gone.now
-
-  -- an entry that is left
-  pub left : (c : ℕ) (e : Entry) → at c l.chunks ≡ Some e → (c ≢ n) × (at c k.chunks ≡ Some e)
-  left c e h = left_at c n e k.chunks sound.once sound.flat (ap (at c) (sym chunks_now) ∙ h)
-
-  elsewhere : (c : ℕ) (e : Entry) → c ≢ n → at c k.chunks ≡ Some e → e.at ≢ gone.entry.at
-  elsewhere c e ne h = sound.differ c n e gone.entry ne h gone.listed
-
-  live_left : (c : ℕ) (e : Entry) → c ≢ n → at c k.chunks ≡ Some e → (footprint l.memory).live e.at ≡ Some e.size
-  live_left c e ne h =
-      elim (put_at-cases (footprint k.memory).live (footprint l.memory).live gone.entry.at None gone.live e.at) [
-        | inl it ↦ absurd (elsewhere c e ne h it.0)
-        | inr it ↦ it.1 ∙ sound.live c e h
-      ]
-
-  place_left : (c : ℕ) (e : Entry) → c ≢ n → at c k.chunks ≡ Some e → place_at l.memory e.at ≡ place_at k.memory e.at
-  place_left c e ne h =
-      elim (put_at-cases (place_at k.memory) (place_at l.memory) gone.entry.at None gone.places e.at) [
-        | inl it ↦ absurd (elsewhere c e ne h it.0)
-        | inr it ↦ it.1
-      ]
-
-  pub sound_freed : IsSoundContext l
-  sound_freed = record {
-    flat = subst AreFlat (sym chunks_now) (flat_removed n k.chunks sound.flat);
-    once = subst Once (sym chunks_now) (once_removed n k.chunks sound.once (has_at n k.chunks gone.entry gone.listed));
-    numbers = λ c h.
-        let there : has c (removed n k.chunk_places) ≡ true = ap (λ (x : Kept). has c x.chunk_places) (sym gone.now) ∙ h in
-        let ne : c ≢ n = other_than_removed c n k.chunk_places there in
-        let some = at_some c k.chunks (sound.numbers c (has_of_removed c n k.chunk_places there)) in
-        ap (has c) chunks_now ∙ has_at c (removed n k.chunks) some.0 (still_at c n some.0 k.chunks sound.once sound.flat ne some.1);
-    live = λ c e h. let was = left c e h in live_left c e was.0 was.1;
-    placed = λ c e h. let was = left c e h in subst IsSome (sym (place_left c e was.0 was.1)) (sound.placed c e was.1);
-    known = λ c e h. sound.known c e (left c e h).1;
-    differ = λ b c d e differs h q. sound.differ b c d e differs (left b d h).1 (left c e q).1;
-    total = gone.total;
-  }
-
-  byte_left : (c : ℕ) (e : Entry) (i : ℕ) → c ≢ n → at c k.chunks ≡ Some e → i < e.known → byte_at t e.at.region (e.at.offset + i) ≡ byte_at s e.at.region (e.at.offset + i)
-  byte_left c e i ne h below =
-      let fit : i < e.size = omega (arith, below, sound.known c e h) in
-      gone.keeps e.at e.size e.size i (sound.live c e h) (live_left c e ne h) fit fit
-
-  pub known_freed : ((c : ℕ) (e : Entry) → at c k.chunks ≡ Some e → IsKnown s e.at e.known) → (c : ℕ) (e : Entry) → at c l.chunks ≡ Some e → IsKnown t e.at e.known
-  known_freed known c e h i below =
-      let was = left c e h in
-      subst IsSome (sym (byte_left c e i was.0 was.1 below)) (known c e was.1 i below)
-
-  chunk_left : (c : ℕ) (e : Entry) → c ≢ n → at c k.chunks ≡ Some e → chunk_of t l.memory e ≡ chunk_of s k.memory e
-  chunk_left c e ne h =
-      chunk_same s t k.memory l.memory e (place_left c e ne h)
-      (bytes_same s t e.at e.at e.known (in_live (footprint k.memory) s e.at e.size e.known agrees (sound.live c e h) (sound.known c e h))
-      (in_live (footprint l.memory) t e.at e.size e.known gone.moves.agrees (live_left c e ne h) (sound.known c e h)) (λ i below. byte_left c e i ne h below))
-
-  abbrev built : List Chunk → Context
-  built chunks = record {
-    name = k.name;
-    kind = k.kind;
-    protected = k.protected;
-    ledger = ledger l.memory;
-    used = k.used;
-    chunks = chunks;
-    hooks = k.hooks;
-  }
-
-  pub context_freed : (w : List ℕ) → gone.entry.name ≡ Some w → ((c : ℕ) (e : Entry) → c ≢ n → at c k.chunks ≡ Some e → e.name ≢ Some w)
-      → built (without w (map (chunk_of s k.memory) (entries k.chunks))) ≡ context_of t l
-  context_freed w named others =
-      sym (
-      ap (context_of t) gone.now
-      ∙ ap built (without_entries w (chunk_of s k.memory) (chunk_of t l.memory) k.chunks n gone.entry sound.once sound.flat gone.listed
-      (named_so s w gone.entry.name named) (λ d x ne h. named_not s w x.name (others d x ne h)) (λ d x ne h. chunk_left d x ne h))
-      )
+use Rattle.context_node.proofs.Names.{same_is, is_same}
+use Rattle.context_tree.proofs.Steps.{Stepped, stands_by, moves_stepped}
+use Rattle.context_node.proofs.Sounds.{step_at, step_here, step_other}
+use Rattle.context_tree.proofs.Sounds.{sound_step}
+use Rattle.context_node.proofs.Removals.{still_at}
+use Rattle.context_node.proofs.Freeing.{chunks_now, left, sound_freed, known_freed, context_freed}
 
 -- a map of names without one
 abbrev pub dropped : List ℕ → (List ℕ → Option ChunkId) → List ℕ → Option ChunkId

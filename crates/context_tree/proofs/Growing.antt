@@ -15,15 +15,17 @@ use Rattle.forest.proofs.Mapped.{mapped-put, mapped-once, mapped-has}
 use Rattle.any_ctx.specs.Ledgers.{stats}
 use Rattle.any_ctx.specs.Contexts.{footprint, ledger}
 use Rattle.context_rules.specs.Contexts.{Context, Contexts}
-use Rattle.context_tree.specs.declared.chunk_id.ChunkId.{ChunkId}
-use Rattle.context_tree.specs.declared.entry.Entry.{Entry}
+use Rattle.context_node.specs.declared.chunk_id.ChunkId.{ChunkId}
+use Rattle.context_node.specs.declared.entry.Entry.{Entry}
 use Rattle.context_tree.specs.declared.tree.Own.{Own}
-use Rattle.context_tree.specs.Kept.{Kept}
-use Rattle.context_tree.specs.Making.{entered_context}
-use Rattle.context_tree.specs.Soundness.{same, one_below, IsSoundContext, IsSound, IsNamed, IsChunk, IsOwn}
-use Rattle.context_tree.specs.State.{TreeState, context_of, stands_for, Agrees, total_of, Moves}
-use Rattle.context_tree.proofs.Names.{at_here, at_below, at_beside, same_is, is_same}
-use Rattle.context_tree.proofs.Steps.{context_stays}
+use Rattle.context_node.specs.Kept.{Kept}
+use Rattle.context_node.specs.Making.{entered_context}
+use Rattle.context_node.specs.Soundness.{same, IsSoundContext}
+use Rattle.context_tree.specs.Soundness.{one_below, IsSound, IsNamed, IsChunk, IsOwn}
+use Rattle.context_node.specs.State.{context_of}
+use Rattle.context_tree.specs.State.{TreeState, stands_for, Agrees, total_of, Moves}
+use Rattle.context_node.proofs.Names.{at_here, at_below, at_beside, same_is, is_same}
+use Rattle.context_node.proofs.Steps.{context_stays}
 
 module _ {A : Type 0} (p n : ℕ) (a : A) where
   -- the new node, and the others
@@ -236,6 +238,7 @@ module _ (kept : Forest Kept) (places : Forest ℕ) (find_context : List ℕ →
     numbers = sound.numbers;
     few = sound.few;
     lies = sound.lies;
+    there = sound.there;
     each = sound.each;
     given = sound.given;
     named = λ word id h. sound.named word id (sym (alike word) ∙ h);
@@ -346,6 +349,16 @@ module _ (kept : Forest Kept) (places : Forest ℕ) (find_context : List ℕ →
             has_at m (put p next l Empty kept) was.0 (stands m was.0 ne was.1)
       ]
 
+  there_now : (m : ℕ) → has m (put p next l Empty kept) ≡ true → has m (put p next slot Empty places) ≡ true
+  there_now m h =
+      elim (cases_eq m next) [
+        | inl alike ↦ has_at m (put p next slot Empty places) slot (ap (λ (i : ℕ). at i (put p next slot Empty places)) alike ∙ at_put_new p next slot places parent_placed unplaced)
+        | inr ne ↦
+            let stood = at_some m (put p next l Empty kept) h in
+            let place = at_some m places (sound.there m (has_at m kept stood.0 (sym (at_grown_other p next l m kept ne) ∙ stood.1))) in
+            has_at m (put p next slot Empty places) place.0 (at_grown_other p next slot m places ne ∙ place.1)
+      ]
+
   pub sound_grown : (own2 : Own) → size kept < 65536 → IsSoundContext l → IsOwn (put p next slot Empty places) 1 own2.top → IsOwn (put p next slot Empty places) 3 own2.cache
       → IsOwn (put p next slot Empty places) 4 own2.portals → IsOwn (put p next slot Empty places) 5 own2.abort
       → IsSound (put p next l Empty kept) (put p next slot Empty places) find2 find_chunk own2 now (next + 1) next_entry
@@ -361,6 +374,7 @@ module _ (kept : Forest Kept) (places : Forest ℕ) (find_context : List ℕ →
         ];
     few = omega (arith, few, size_put p next l Empty kept once parent);
     lies = lies_now;
+    there = there_now;
     each = λ m j h. elim (grown_at p next l kept once parent fresh m j h) [ inl it ↦ rw it.1 inside | inr it ↦ sound.each m j it.1 ];
     given = λ m c j h q. elim (grown_at p next l kept once parent fresh m j h) [
       | inl it ↦ let none : has {A = Entry} c Empty ≡ true = ap (has c) (sym (ap (λ (x : Kept). x.chunks) it.1 ∙ chunks)) ∙ q in absurd (cc)

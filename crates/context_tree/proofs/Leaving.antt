@@ -3,18 +3,19 @@ use Rattle.std.proofs.Common.{◌≡◌, ◌≢◌, ℕ, List, [], ◌∷◌, �
 use Rattle.std.proofs.lemmas.List.{append-nil}
 use Rattle.pgs_step.specs.declared.events.What.TheVariants.{Delete}
 use Rattle.addr_space.specs.Space.{Space}
-use Rattle.forest.specs.Forest.{Forest, Empty, Node, at, has, children, removed, subtree, Once, mapped}
+use Rattle.forest.specs.Forest.{Forest, Empty, Node, at, children, removed, subtree, Once, mapped}
 use Rattle.forest.proofs.Mapped.{mapped-children, mapped-removed}
 use Rattle.reset_callbacks.specs.Hook.{Hook}
 use Rattle.reset_callbacks.specs.ShelfState.{ShelfState}
 use Rattle.context_rules.specs.Ends.{waiting, callbacks, gone_events, gone, handed_in}
-use Rattle.context_tree.specs.declared.chunk_id.ChunkId.{ChunkId}
-use Rattle.context_tree.specs.Kept.{Kept}
-use Rattle.context_tree.specs.Soundness.{IsSoundContext}
-use Rattle.context_tree.specs.State.{TreeState, context_of, stands_for, Agrees, HooksFit}
+use Rattle.context_node.specs.declared.chunk_id.ChunkId.{ChunkId}
+use Rattle.context_node.specs.Kept.{Kept}
+use Rattle.context_node.specs.Soundness.{IsSoundContext}
+use Rattle.context_node.specs.State.{context_of}
+use Rattle.context_tree.specs.State.{TreeState, stands_for, Agrees, HooksFit}
 use Rattle.context_tree.specs.Calls.{Did}
-use Rattle.context_tree.specs.Ending.{Gone}
-use Rattle.context_tree.proofs.Removals.{other_than_removed}
+use Rattle.context_node.specs.Ending.{Gone}
+use Rattle.context_node.proofs.Removals.{other_than_removed}
 use Rattle.context_tree.proofs.Shrinking.{Shrunk, stands_shrunk, moves_shrunk, leaf_stands}
 use Rattle.context_tree.proofs.Resetting.{stands_here, stands_once}
 use Rattle.context_tree.proofs.Handing.{Parted, parted_removed, fits_left, words_left}

@@ -4,19 +4,13 @@ pub mod Steps
 pub mod Sounds
 pub mod Waiting
 pub mod Telling
-pub mod Bytes
 pub mod Leading
 pub mod Standing
 pub mod Rearranged
-pub mod Fronts
-pub mod Taking
 pub mod Allocs
-pub mod Removals
 pub mod Freeing
-pub mod Changes
 pub mod Writing
 pub mod Refitting
-pub mod Zeroing
 pub mod Growing
 pub mod Fewer
 pub mod Composed
@@ -29,7 +23,6 @@ pub mod Shrinking
 pub mod Forgetting
 pub mod Resetting
 pub mod Leaving
-pub mod Entries
 pub mod Emptying
 pub mod Beside
 pub mod Placing

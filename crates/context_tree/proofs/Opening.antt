@@ -1,15 +1,15 @@
 -- A tree of the topmost context alone, and one of all that a session begins with.
-use Rattle.std.proofs.Common.{◌≡◌, ◌≢◌, ℕ, ◌+◌, ◌<◌, ◌≤◌, Bool, true, false, List, [], Option, Some, None, refl, sym, ap, ◌∙◌, subst, inl, inr, arith}
+use Rattle.std.proofs.Common.{◌≡◌, ◌≢◌, ℕ, ◌+◌, Bool, true, false, List, [], Option, Some, None, refl, sym, ap, ◌∙◌, subst, inl, inr, arith}
 use Rattle.std.specs.Prelude.{codes}
 use Rattle.std.proofs.lemmas.Bool.{cases_eq, eq-eqb, ne_eqb}
-use Rattle.addr_space.specs.Space.{Space, Region, accounts, region_at}
+use Rattle.addr_space.specs.Space.{Space, region_at}
 use Rattle.addr_space.specs.Footprint as foot
 use Rattle.addr_space.specs.Footprint.{nothing}
 use Rattle.addr_space.proofs.Options.{option_cases, none_or_some}
 use Rattle.addr_space.proofs.Contexts.{counted-own, counted-other, counted-nothing}
 use Rattle.pgs_step.specs.declared.ids.CtxId.{CtxId}
 use Rattle.forest.specs.declared.id.NodeId.{NodeId}
-use Rattle.forest.specs.Forest.{Forest, Empty, Node, at, has, Once, mapped}
+use Rattle.forest.specs.Forest.{Forest, Empty, Node, at, has, mapped}
 use Rattle.forest.specs.Forested.{Forested}
 use Rattle.any_ctx.specs.Ledgers.{Ledger, stats}
 use Rattle.any_ctx.specs.Contexts.{footprint, ledger}
@@ -17,15 +17,18 @@ use Rattle.any_ctx.specs.declared.any.CtxKind.TheVariants.{Default, Error, Abort
 use Rattle.any_ctx.specs.declared.any.CtxKind.{CtxKind}
 use Rattle.any_ctx.specs.Kinds as kinds
 use Rattle.context_rules.specs.Contexts.{Context, Contexts, new_context, created}
-use Rattle.context_rules.specs.Opening.{topmost}
-use Rattle.context_tree.specs.declared.chunk_id.ChunkId.{ChunkId}
-use Rattle.context_tree.specs.declared.entry.Entry.{Entry}
-use Rattle.context_tree.specs.declared.making.NewContext.{NewContext}
+use Rattle.context_rules.specs.Opening.{topmost, opening}
+use Rattle.context_node.specs.declared.chunk_id.ChunkId.{ChunkId}
+use Rattle.context_node.specs.declared.entry.Entry.{Entry}
+use Rattle.context_node.specs.declared.making.NewContext.{NewContext}
 use Rattle.context_tree.specs.declared.tree.Own.{Own}
-use Rattle.context_tree.specs.Kept.{Kept}
-use Rattle.context_tree.specs.Soundness.{AreFlat, IsSoundContext, IsSound, IsOwn}
-use Rattle.context_tree.specs.State.{TreeState, context_of, stands_for, no_contexts, Agrees, Moves, SameRegions}
-use Rattle.context_tree.specs.Making.{Made, Grew, opened}
+use Rattle.context_node.specs.Kept.{Kept}
+use Rattle.context_node.specs.Soundness.{IsSoundContext}
+use Rattle.context_tree.specs.Soundness.{IsSound, IsOwn}
+use Rattle.context_node.specs.State.{context_of}
+use Rattle.context_tree.specs.State.{stands_for, no_contexts, Moves, SameRegions}
+use Rattle.context_tree.specs.Making.{Grew}
+use Rattle.context_node.proofs.Made.{sound_made}
 
 -- the only context of a forest
 only : {A : Type 0} (n m : ℕ) (a b : A) → at m (Node n a Empty Empty) ≡ Some b → (n ≡ m) × (b ≡ a)
@@ -51,6 +54,7 @@ sound_topmost k slot next_entry find_context find_chunk own now chunks protected
   ];
   few = omega arith;
   lies = λ n h. h;
+  there = λ n h. h;
   each = λ n j h. rw (only 1 n k j h).1 inside;
   given = λ n c j h q.
       let none : has {A = Entry} c Empty ≡ true = ap (has c) (sym (ap (λ (x : Kept). x.chunks) (only 1 n k j h).1 ∙ chunks)) ∙ q in
@@ -72,20 +76,6 @@ sound_topmost k slot next_entry find_context find_chunk own now chunks protected
   abort = own_later slot 5 own.abort abort (omega arith);
   current = inr (rw current refl);
 }
-
--- what a context that was just made is like
-pub sound_made : (new : NewContext) (k : Kept) (account slot : ℕ) (s t : Space) → Made new k account slot s t → IsSoundContext k
-sound_made new k account slot s t made =
-    subst (λ (x : Kept). IsSoundContext x) (sym made.now) (record {
-      flat = tt;
-      once = record { once = λ n. omega arith };
-      numbers = λ c h. absurd (cc);
-      live = λ c e h. absurd (cc);
-      placed = λ c e h. absurd (cc);
-      known = λ c e h. absurd (cc);
-      differ = λ b c d e ne h q. absurd (cc);
-      total = made.total;
-    })
 
 module _ (account slot : ℕ) (k : Kept) (places : Forest ℕ) (now : CtxId) (next : ℕ) (s t : Space) (moves : foot.Moves (nothing account slot) (footprint k.memory) s t) (chunks : k.chunks ≡ Empty)
     (total : (footprint k.memory).total ≡ (stats (ledger k.memory)).total) where
@@ -130,10 +120,10 @@ module _ (account slot : ℕ) (k : Kept) (places : Forest ℕ) (now : CtxId) (ne
   }
 
 -- the four below it, one after the other
-pub opened_is : (x0 x1 x2 x3 x4 : Contexts) (n0 n1 n2 n3 : ℕ) → n0 ≡ 2 → n1 ≡ n0 + 1 → n2 ≡ n1 + 1 → n3 ≡ n2 + 1
+pub opened_is : (x0 x1 x2 x3 x4 : Contexts) (n0 n1 n2 n3 : ℕ) → x0 ≡ topmost → n0 ≡ 2 → n1 ≡ n0 + 1 → n2 ≡ n1 + 1 → n3 ≡ n2 + 1
     → x1 ≡ created 1 n0 (codes "ErrorContext") Error true x0 → x2 ≡ created 1 n1 (codes "CacheMemoryContext") Default true x1
-    → x3 ≡ created 1 n2 (codes "TopPortalContext") Default true x2 → x4 ≡ created 1 n3 (codes "TransactionAbortContext") Abort true x3 → x4 ≡ opened x0
-opened_is x0 x1 x2 x3 x4 n0 n1 n2 n3 two a b c one second third fourth =
+    → x3 ≡ created 1 n2 (codes "TopPortalContext") Default true x2 → x4 ≡ created 1 n3 (codes "TransactionAbortContext") Abort true x3 → x4 ≡ opening
+opened_is x0 x1 x2 x3 x4 n0 n1 n2 n3 zero two a b c one second third fourth =
     let three : n1 ≡ 3 = omega (arith, two, a) in
     let four : n2 ≡ 4 = omega (arith, three, b) in
     let five : n3 ≡ 5 = omega (arith, four, c) in
@@ -145,7 +135,11 @@ opened_is x0 x1 x2 x3 x4 n0 n1 n2 n3 two a b c one second third fourth =
     ∙ ap (created 1 4 (codes "TopPortalContext") Default true) (
     second
     ∙ ap (λ (n : ℕ). created 1 n (codes "CacheMemoryContext") Default true x1) three
-    ∙ ap (created 1 3 (codes "CacheMemoryContext") Default true) (one ∙ ap (λ (n : ℕ). created 1 n (codes "ErrorContext") Error true x0) two)
+    ∙ ap (created 1 3 (codes "CacheMemoryContext") Default true) (
+    one
+    ∙ ap (λ (n : ℕ). created 1 n (codes "ErrorContext") Error true x0) two
+    ∙ ap (created 1 2 (codes "ErrorContext") Error true) zero
+    )
     )
     )
 

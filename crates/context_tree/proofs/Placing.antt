@@ -3,20 +3,20 @@ use Rattle.std.proofs.Common.{◌≡◌, ◌≢◌, ℕ, ◌+◌, ◌≤◌, Lis
 use Rattle.std.specs.Prelude.{max}
 use Rattle.addr_space.specs.Space.{Space, Changes, region_at, overwritten}
 use Rattle.forest.specs.Forest.{Forest, at, Once, changed}
-use Rattle.any_ctx.specs.Contexts.{footprint}
 use Rattle.context_rules.specs.Chunks.{written}
 use Rattle.pgs_step.specs.declared.ids.CtxId.{CtxId}
-use Rattle.context_tree.specs.declared.chunk_id.ChunkId.{ChunkId}
-use Rattle.context_tree.specs.declared.entry.Entry.{Entry}
-use Rattle.context_tree.specs.Kept.{Kept}
+use Rattle.context_node.specs.declared.chunk_id.ChunkId.{ChunkId}
+use Rattle.context_node.specs.declared.entry.Entry.{Entry}
+use Rattle.context_node.specs.Kept.{Kept}
 use Rattle.context_tree.specs.declared.tree.Own.{Own}
-use Rattle.context_tree.specs.Soundness.{IsSoundContext, IsSound}
+use Rattle.context_node.specs.Soundness.{IsSoundContext}
+use Rattle.context_tree.specs.Soundness.{IsSound}
 use Rattle.context_tree.specs.State.{TreeState, stands_for, Agrees, Moves}
-use Rattle.context_tree.specs.Chunking.{Written}
+use Rattle.context_node.specs.Chunking.{Written}
 use Rattle.context_tree.specs.Lookup.{Leads}
 use Rattle.context_tree.proofs.Names.{once_of}
 use Rattle.context_tree.proofs.Sounds.{tree_back, changed_back, one_named}
-use Rattle.context_tree.proofs.Writing.{put_moves, put_contexts, entry_named}
+use Rattle.context_tree.proofs.Writing.{put_moves, put_contexts}
 
 module _ (a : TreeState) (s t : Space) (w : List ℕ) (id : ChunkId) (place : ℕ) (bytes : List ℕ) (agrees : Agrees a s) (once : Once a.kept)
     (each : (m : ℕ) (j : Kept) → at m a.kept ≡ Some j → IsSoundContext j) (leads : Leads a w id)

@@ -3,16 +3,31 @@ use Rattle.std.proofs.Common.{◌≡◌, ℕ, Bool, true, false, Option, Some, N
 use Rattle.std.specs.Prelude.{not, is_some, MatchOption}
 use Rattle.std.specs.Option.{option_map}
 use Rattle.forest.specs.declared.id.NodeId.{NodeId}
+use Rattle.pgs_step.specs.declared.ids.CtxId.{CtxId}
 use Rattle.addr_space.specs.Space.{Space}
-use Rattle.forest.specs.Forest.{Forest, Empty, Node, at, children, first, mapped, size}
-use Rattle.forest.proofs.Mapped.{mapped-at, mapped-size, mapped-children}
+use Rattle.forest.specs.Forest.{Forest, Empty, Node, Once, at, has, children, first, mapped, size}
+use Rattle.forest.proofs.Mapped.{mapped-at, mapped-has, mapped-once, mapped-size, mapped-children}
 use Rattle.context_rules.specs.Contexts.{is_nothing}
-use Rattle.context_tree.specs.Kept.{Kept}
-use Rattle.context_tree.specs.State.{TreeState, context_of, stands_for}
+use Rattle.context_node.specs.Kept.{Kept}
+use Rattle.context_node.specs.State.{context_of}
+use Rattle.context_tree.specs.Soundness.{IsOwn}
+use Rattle.context_tree.specs.State.{TreeState, IsLive, stands_for}
 
 pub stands_size : (tree : TreeState) (s : Space) → size (stands_for tree s) ≡ size tree.kept
 unfolding stands_for
 stands_size tree s = mapped-size (context_of s) tree.kept
+
+pub stands_once : (tree : TreeState) (s : Space) → Once tree.kept → Once (stands_for tree s)
+unfolding stands_for
+stands_once tree s once = mapped-once (context_of s) tree.kept once
+
+pub stands_has : (tree : TreeState) (s : Space) (n : ℕ) → has n (stands_for tree s) ≡ has n tree.kept
+unfolding stands_for
+stands_has tree s n = mapped-has (context_of s) n tree.kept
+
+-- one of the session's own contexts that is there lives
+pub own_lives : (tree : TreeState) (s : Space) (n : ℕ) (id : CtxId) → IsOwn tree.places n id → has n tree.kept ≡ has n tree.places → has n (stands_for tree s) ≡ true → IsLive tree id
+own_lives tree s n id own lies h = ap (λ (i : ℕ). at i tree.places) own.number ∙ own.placed (sym lies ∙ sym (stands_has tree s n) ∙ h)
 
 pub stands_at : (tree : TreeState) (s : Space) (n : ℕ) (k : Kept) → at n tree.kept ≡ Some k → at n (stands_for tree s) ≡ Some (context_of s k)
 unfolding stands_for

@@ -12,11 +12,12 @@ use Rattle.pgs_step.specs.declared.ids.CtxId.{CtxId}
 use Rattle.any_ctx.specs.Ledgers.{stats}
 use Rattle.context_rules.specs.Contexts.{Context, Contexts, is_child}
 use Rattle.context_rules.specs.Refusals.{is_within}
-use Rattle.context_tree.specs.declared.chunk_id.ChunkId.{ChunkId}
+use Rattle.context_node.specs.declared.chunk_id.ChunkId.{ChunkId}
 use Rattle.context_tree.specs.declared.tree.Own.{Own}
-use Rattle.context_tree.specs.Kept.{Kept}
+use Rattle.context_node.specs.Kept.{Kept}
 use Rattle.context_tree.specs.Soundness.{IsSound, IsNamed, IsChunk, IsOwn}
-use Rattle.context_tree.specs.State.{TreeState, context_of, stands_for, Agrees, Moves, total_of}
+use Rattle.context_node.specs.State.{context_of}
+use Rattle.context_tree.specs.State.{TreeState, stands_for, Agrees, Moves, total_of}
 
 module _ (kept kept2 : Forest Kept) (places places2 : Forest ℕ) (same : (m : ℕ) → at m kept2 ≡ at m kept) (lies : (m : ℕ) → at m places2 ≡ at m places) where
   own_stays : (n : ℕ) (id : CtxId) → IsOwn places n id → IsOwn places2 n id
@@ -42,6 +43,10 @@ module _ (kept kept2 : Forest Kept) (places places2 : Forest ℕ) (same : (m : �
         let there = at_some m places2 h in
         let was = at_some m kept (sound.lies m (has_at m places there.0 (sym (lies m) ∙ there.1))) in
         has_at m kept2 was.0 (same m ∙ was.1);
+    there = λ m h.
+        let stood = at_some m kept2 h in
+        let place = at_some m places (sound.there m (has_at m kept stood.0 (sym (same m) ∙ stood.1))) in
+        has_at m places2 place.0 (lies m ∙ place.1);
     each = λ m k h. sound.each m k (sym (same m) ∙ h);
     given = λ m c k h q. sound.given m c k (sym (same m) ∙ h) q;
     named = λ word id h.

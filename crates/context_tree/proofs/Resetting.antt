@@ -9,16 +9,18 @@ use Rattle.reset_callbacks.specs.ShelfState.{ShelfState, held}
 use Rattle.any_ctx.specs.Ledgers.{Ledger}
 use Rattle.context_rules.specs.Ends.{waiting, callbacks, emptied, unchanged, cleared_alone}
 use Rattle.pgs_step.specs.declared.events.What.TheVariants.{Reset}
-use Rattle.context_tree.specs.declared.chunk_id.ChunkId.{ChunkId}
-use Rattle.context_tree.specs.declared.entry.Entry.{Entry}
-use Rattle.context_tree.specs.Kept.{Kept}
-use Rattle.context_tree.specs.Soundness.{AreFlat, IsSoundContext}
-use Rattle.context_tree.specs.State.{TreeState, context_of, stands_for, Agrees, HooksFit}
+use Rattle.context_node.specs.declared.chunk_id.ChunkId.{ChunkId}
+use Rattle.context_node.specs.declared.entry.Entry.{Entry}
+use Rattle.context_node.specs.Kept.{Kept}
+use Rattle.context_node.specs.Soundness.{AreFlat, IsSoundContext}
+use Rattle.context_node.specs.State.{context_of}
+use Rattle.context_tree.specs.State.{TreeState, stands_for, Agrees, HooksFit}
 use Rattle.context_tree.specs.Calls.{Did}
-use Rattle.context_tree.specs.Ending.{Cleared}
+use Rattle.context_node.specs.Ending.{Cleared}
 use Rattle.context_tree.proofs.Steps.{Stepped, stands_by, moves_stepped}
 use Rattle.context_tree.proofs.Allocs.{tree_none}
-use Rattle.context_tree.proofs.Handing.{Parted, parted_changed, fits_one, words_one, fits_left, words_left, handed_none}
+use Rattle.context_node.proofs.Handing.{handed_none}
+use Rattle.context_tree.proofs.Handing.{Parted, parted_changed, fits_one, words_one, fits_left, words_left}
 
 module _ (a : TreeState) (s : Space) (n : ℕ) (k : Kept) (once : Once a.kept) (here : at n a.kept ≡ Some k) where
   pub stands_here : at n (stands_for a s) ≡ Some (context_of s k)

@@ -1,5 +1,5 @@
 -- Whether there is room for a context, and a space to which all came back.
-use Rattle.std.proofs.Common.{◌≡◌, ℕ, ◌+◌, ◌-◌, ◌<◌, ◌≤◌, Option, Some, None, refl, subst, arith}
+use Rattle.std.proofs.Common.{◌≡◌, ℕ, ◌+◌, ◌-◌, ◌<◌, ◌≤◌, Some, None, refl, subst, arith}
 use Rattle.std.proofs.lemmas.Bool.{lt-ltb, le-ltb}
 use Rattle.addr_space.specs.Space.{Space, accounts, held}
 use Rattle.addr_space.specs.Footprint as foot
@@ -11,9 +11,10 @@ use Rattle.any_ctx.specs.declared.any.CtxKind.{CtxKind}
 use Rattle.any_ctx.specs.declared.any.CtxKind.TheVariants.{Default, Small, Error, Abort, Slab, Generation, Bump}
 use Rattle.chunk_header.specs.declared.CtxError.TheVariants.{NoSpace}
 use Rattle.context_rules.specs.declared.errors.TreeError.TheVariants.{TooMany, Ctx}
-use Rattle.context_tree.specs.declared.making.NewContext.{NewContext}
-use Rattle.context_tree.specs.Kept.{Kept}
-use Rattle.context_tree.specs.Making.{Made, CameBack, room_refusal}
+use Rattle.context_node.specs.declared.making.NewContext.{NewContext}
+use Rattle.context_node.specs.Kept.{Kept}
+use Rattle.context_node.specs.Making.{Made}
+use Rattle.context_tree.specs.Making.{CameBack, room_refusal}
 
 first_some : (kind : CtxKind) → 0 < first_size kind
 first_some Default = omega arith

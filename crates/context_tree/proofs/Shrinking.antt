@@ -11,15 +11,16 @@ use Rattle.forest.specs.Forest.{Forest, Empty, Node, either, at, children, remov
 use Rattle.forest.proofs.Trees.{Apart, apart_of, Here, Below, Beside, where_is, has_at, at_absent, at_some, removed_absent, at_removed, once_removed}
 use Rattle.forest.proofs.Mapped.{mapped-removed, mapped-once, mapped-at, mapped-children}
 use Rattle.any_ctx.specs.Ledgers.{stats}
-use Rattle.any_ctx.specs.Contexts.{footprint, ledger}
+use Rattle.any_ctx.specs.Contexts.{footprint}
 use Rattle.context_rules.specs.Contexts.{Context, Contexts}
-use Rattle.context_tree.specs.declared.entry.Entry.{Entry}
-use Rattle.context_tree.specs.Kept.{Kept}
-use Rattle.context_tree.specs.Soundness.{IsSoundContext}
-use Rattle.context_tree.specs.State.{TreeState, context_of, stands_for, Agrees, total_of, Moves}
-use Rattle.context_tree.proofs.Steps.{context_stays}
+use Rattle.context_node.specs.declared.entry.Entry.{Entry}
+use Rattle.context_node.specs.Kept.{Kept}
+use Rattle.context_node.specs.Soundness.{IsSoundContext}
+use Rattle.context_node.specs.State.{context_of}
+use Rattle.context_tree.specs.State.{TreeState, stands_for, Agrees, total_of, Moves}
+use Rattle.context_node.proofs.Steps.{context_stays}
 use Rattle.context_tree.proofs.Growing.{mapped_same}
-use Rattle.context_tree.proofs.Removals.{other_than_removed}
+use Rattle.context_node.proofs.Removals.{other_than_removed}
 
 module _ {A : Type 0} (n : ℕ) (t : Forest A) (once : Once t) (leaf : children n t ≡ Empty) where
   -- what is left where a node without children goes

@@ -1,36 +1,19 @@
 -- What calls keep of a tree's soundness.
-use Rattle.std.proofs.Common.{◌≡◌, ◌≢◌, ◌⊎◌, ℕ, ◌<◌, ◌≤◌, true, List, Option, Some, refl, sym, ap, ◌∙◌, inl, inr, arith}
+use Rattle.std.proofs.Common.{◌≡◌, ◌≢◌, ℕ, ◌<◌, ◌≤◌, true, List, Option, Some, refl, sym, ap, ◌∙◌, inl, inr, arith}
 use Rattle.std.specs.Option.{option_map}
 use Rattle.std.proofs.lemmas.Bool.{cases_eq, cases_Bool, eq-eqb, ne_eqb}
 use Rattle.pgs_step.specs.declared.ids.CtxId.{CtxId}
 use Rattle.addr_space.proofs.Options.{from_map}
 use Rattle.forest.specs.Forest.{Forest, Empty, Node, either, at, has, Once, changed}
 use Rattle.forest.proofs.Trees.{Apart, apart_of, has_at, at_absent, at_some, times_changed, size_changed, changed_absent, has_changed}
-use Rattle.forest.proofs.Mapped.{at_changed, at_changed_other}
-use Rattle.context_tree.specs.declared.chunk_id.ChunkId.{ChunkId}
-use Rattle.context_tree.specs.declared.entry.Entry.{Entry}
+use Rattle.context_node.specs.declared.chunk_id.ChunkId.{ChunkId}
+use Rattle.context_node.specs.declared.entry.Entry.{Entry}
 use Rattle.context_tree.specs.declared.tree.Own.{Own}
-use Rattle.context_tree.specs.Kept.{Kept}
-use Rattle.context_tree.specs.Soundness.{IsSoundContext, IsSound, IsNamed, IsChunk}
+use Rattle.context_node.specs.Kept.{Kept}
+use Rattle.context_node.specs.Soundness.{IsSoundContext}
+use Rattle.context_tree.specs.Soundness.{IsSound, IsNamed, IsChunk}
 use Rattle.context_tree.specs.State.{TreeState}
-
-module _ {A : Type 0} (n : ℕ) (k l : A) (t : Forest A) (here : at n t ≡ Some k) where
-  -- what lies at a number once one node changed
-  pub step_at : (m : ℕ) (j : A) → at m (changed n (λ _. l) t) ≡ Some j → ((m ≡ n) × (j ≡ l)) ⊎ ((m ≢ n) × (at m t ≡ Some j))
-  step_at m j there =
-      elim (cases_eq m n) [
-        | inl same ↦
-            let two : at n (changed n (λ _. l) t) ≡ Some j = ap (λ (i : ℕ). at i (changed n (λ _. l) t)) (sym same) ∙ there in
-            let one : Some l ≡ Some j = sym (at_changed n (λ _. l) t k here) ∙ two in
-            inl (same, cc)
-        | inr ne ↦ inr (ne, sym (at_changed_other m n (λ _. l) t ne) ∙ there)
-      ]
-
-  pub step_here : (m : ℕ) → m ≡ n → at m (changed n (λ _. l) t) ≡ Some l
-  step_here m same = ap (λ (i : ℕ). at i (changed n (λ _. l) t)) same ∙ at_changed n (λ _. l) t k here
-
-  pub step_other : (m : ℕ) (j : A) → m ≢ n → at m t ≡ Some j → at m (changed n (λ _. l) t) ≡ Some j
-  step_other m j ne h = at_changed_other m n (λ _. l) t ne ∙ h
+use Rattle.context_node.proofs.Sounds.{step_at, step_here, step_other}
 
 -- a node that becomes what it is
 pub changed_back : {A : Type 0} (n : ℕ) (a : A) (t : Forest A) → Once t → at n t ≡ Some a → changed n (λ _. a) t ≡ t
@@ -71,6 +54,7 @@ module _ (kept : Forest Kept) (places : Forest ℕ) (find_context : List ℕ →
     numbers = λ m. rw (times_changed m n (λ _. l) kept) (sound.numbers m);
     few = rw (size_changed n (λ _. l) kept) sound.few;
     lies = λ m h. has_changed m n (λ _. l) kept ∙ sound.lies m h;
+    there = λ m h. sound.there m (sym (has_changed m n (λ _. l) kept) ∙ h);
     each = λ m j h. elim (step_at n k l kept here m j h) [ inl it ↦ rw it.1 inside | inr it ↦ sound.each m j it.1 ];
     given = λ m c j h q. elim (step_at n k l kept here m j h) [
       | inl it ↦ given c (ap (λ (x : Kept). has c x.chunks) (sym it.1) ∙ q)

@@ -14,11 +14,12 @@ use Rattle.context_rules.specs.Contexts as rules
 use Rattle.context_rules.specs.Contexts.{Found, found}
 use Rattle.context_rules.specs.Chunks.{shown}
 use Rattle.context_rules.specs.Refusals.{bytes_refusal}
-use Rattle.context_tree.specs.declared.chunk_id.ChunkId.{ChunkId}
-use Rattle.context_tree.specs.declared.entry.Entry.{Entry}
-use Rattle.context_tree.specs.State.{TreeState, bytes_at, chunk_of, stands_for, Agrees}
+use Rattle.context_node.specs.declared.chunk_id.ChunkId.{ChunkId}
+use Rattle.context_node.specs.declared.entry.Entry.{Entry}
+use Rattle.context_node.specs.State.{bytes_at, chunk_of}
+use Rattle.context_tree.specs.State.{TreeState, stands_for, Agrees}
 use Rattle.context_tree.specs.Lookup.{Leads}
-use Rattle.context_tree.proofs.Bytes.{IsIn, in_live, length-bytes_at, has_known, part_read}
+use Rattle.context_node.proofs.Bytes.{IsIn, in_live, length-bytes_at, has_known, part_read}
 
 -- the chunk in its context and in the space
 pub record Stands (tree : TreeState) (word : List ℕ) (e : Entry) (s : Space) : Type 0 where

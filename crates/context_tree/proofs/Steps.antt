@@ -1,71 +1,25 @@
 -- One context of a tree moves: what that makes of the tree, and of what it stands for.
-use Rattle.std.proofs.Common.{◌≡◌, ◌≢◌, ◌⊎◌, ℕ, ◌+◌, ◌<◌, List, map, Option, Some, None, IsSome, refl, sym, ap, ◌∙◌, subst, inl, inr, arith}
-use Rattle.std.specs.Prelude.{unwrap_or}
+use Rattle.std.proofs.Common.{◌≡◌, ◌≢◌, ◌⊎◌, ℕ, ◌+◌, ◌<◌, Some, IsSome, refl, sym, ap, ◌∙◌, subst, inl, inr, arith}
 use Rattle.std.specs.Option.{option_map}
 use Rattle.std.proofs.lemmas.Bool.{cases_eq, eq-eqb, ne_eqb}
-use Rattle.addr_space.specs.Space.{Region, Space, region_at, bytes_of, part, IsKnown}
+use Rattle.addr_space.specs.Space.{Space, IsKnown}
 use Rattle.addr_space.specs.Footprint as foot
-use Rattle.addr_space.specs.Footprint.{Footprint, AreDisjoint, counted}
-use Rattle.addr_space.proofs.Options.{option_cases}
+use Rattle.addr_space.specs.Footprint.{AreDisjoint}
 use Rattle.addr_space.proofs.Apart.{Agrees-other, Keeps-other, AreDisjoint-other, AreDisjoint-sym}
 use Rattle.addr_space.proofs.Contexts.{counted-own, counted-other}
 use Rattle.forest.specs.Forest.{Forest, Empty, Node, either, at, Once, changed, mapped}
 use Rattle.forest.proofs.Trees.{Apart, apart_of, Here, Below, Beside, where_is, has_at, at_absent, at_some, changed_absent}
 use Rattle.forest.proofs.Mapped.{at_changed, at_changed_other, mapped-at, mapped-once}
 use Rattle.any_ctx.specs.Ledgers.{stats}
-use Rattle.any_ctx.specs.Contexts.{footprint, ledger, place_at}
-use Rattle.any_ctx.specs.declared.any.AnyCtx.{AnyCtx}
-use Rattle.context_rules.specs.Contexts.{Chunk, Context, Contexts}
-use Rattle.context_tree.specs.declared.entry.Entry.{Entry}
-use Rattle.context_tree.specs.Kept.{Kept}
-use Rattle.context_tree.specs.Soundness.{IsSoundContext}
-use Rattle.context_tree.specs.State.{TreeState, chunk_of, entries, context_of, bytes_at, stands_for, Agrees, total_of, Moves}
-use Rattle.context_tree.proofs.Names.{at_here, at_below, at_beside}
-
--- a region of a context that is apart from one that moves stays as it is
-pub region_stays : (f g other : Footprint) (s t : Space) → foot.Moves f g s t → AreDisjoint f other → foot.Agrees other s → (number len : ℕ) → other.region number ≡ Some len
-    → region_at t number ≡ region_at s number
-region_stays f g other s t moves disjoint agrees number len owns =
-    let has = agrees.regions number len owns in
-    let none : f.region number ≡ None = elim (option_cases (f.region number)) [
-      | inl without ↦ without
-      | inr owned ↦ let clash = disjoint number owned.0 owned.1 in absurd (cc)
-    ] in
-    let now = (moves.outside number has.0).0 (has.1, none) in
-    now.0 ∙ sym has.1
-
--- entries of which two functions say the same
-pub entries_same : {B : Type 0} (f g : Entry → B) (u : Forest Entry) → Once u → ((c : ℕ) (e : Entry) → at c u ≡ Some e → f e ≡ g e) → map f (entries u) ≡ map g (entries u)
-entries_same f g Empty o same = refl
-entries_same f g (Node c e below beside) o same =
-    let apart : Apart c below beside = apart_of c e below beside o in
-    rw (same c e (at_here c e below beside), entries_same f g beside apart.once_beside (λ d x h. same d x (at_beside c d e x below beside o h))) refl
-
-pub chunk_same : (s t : Space) (a b : AnyCtx) (e : Entry) → place_at b e.at ≡ place_at a e.at → bytes_at t e.at e.known ≡ bytes_at s e.at e.known → chunk_of t b e ≡ chunk_of s a e
-chunk_same s t a b e places bytes = rw (places, bytes) refl
-
--- a context with other chunks
-pub context_same : (s t : Space) (j : Kept) → map (chunk_of t j.memory) (entries j.chunks) ≡ map (chunk_of s j.memory) (entries j.chunks) → context_of t j ≡ context_of s j
-context_same s t j same =
-    ap (λ (chunks : List Chunk). record {
-      name = j.name;
-      kind = j.kind;
-      protected = j.protected;
-      ledger = ledger j.memory;
-      used = j.used;
-      chunks = chunks;
-      hooks = j.hooks;
-    }) same
-
--- a context that is apart from one that moves stands for the same
-pub context_stays : (f g : Footprint) (s t : Space) (j : Kept) → foot.Moves f g s t → AreDisjoint f (footprint j.memory) → foot.Agrees (footprint j.memory) s → IsSoundContext j
-    → context_of t j ≡ context_of s j
-context_stays f g s t j moves disjoint agrees sound =
-    context_same s t j (entries_same (chunk_of t j.memory) (chunk_of s j.memory) j.chunks sound.once (λ c e h.
-    let within = agrees.sound.live_inside e.at e.size (sound.live c e h) in
-    chunk_same s t j.memory j.memory e refl
-    (ap (λ (r : Option Region). map (λ (byte : Option ℕ). unwrap_or byte 0) (part (bytes_of r) e.at.offset e.known))
-    (region_stays f g (footprint j.memory) s t moves disjoint agrees e.at.region within.0 within.1))))
+use Rattle.any_ctx.specs.Contexts.{footprint, ledger}
+use Rattle.context_rules.specs.Contexts.{Context, Contexts}
+use Rattle.context_node.specs.declared.entry.Entry.{Entry}
+use Rattle.context_node.specs.Kept.{Kept}
+use Rattle.context_node.specs.Soundness.{IsSoundContext}
+use Rattle.context_node.specs.State.{context_of}
+use Rattle.context_tree.specs.State.{TreeState, stands_for, Agrees, total_of, Moves}
+use Rattle.context_node.proofs.Names.{at_here, at_below, at_beside}
+use Rattle.context_node.proofs.Steps.{context_stays}
 
 module _ {A B : Type 0} (f g : A → B) (n : ℕ) (l : A) where
   -- where one node changes, and of all others two functions say the same

@@ -10,8 +10,8 @@ use Rattle.any_ctx.specs.Contexts.{ledger}
 use Rattle.context_report.specs.Lines.{line_of, added, no_total}
 use Rattle.context_report.specs.declared.Total.{Total}
 use Rattle.context_rules.specs.Reports.{lines, summed, IsCountable}
-use Rattle.context_tree.specs.Kept.{Kept}
-use Rattle.context_tree.specs.State.{context_of}
+use Rattle.context_node.specs.Kept.{Kept}
+use Rattle.context_node.specs.State.{context_of}
 
 -- the line of a context that a walk comes to
 abbrev pub told : Visited Kept → What

@@ -1,38 +1,22 @@
 -- A context on which one more hook waits, or which stayed as it was.
-use Rattle.std.proofs.Common.{◌≡◌, ℕ, Bool, List, Some, Result, Ok, Err, OnOk, sym, ap, ◌∙◌, subst}
+use Rattle.std.proofs.Common.{◌≡◌, ℕ, Some, Result, Ok, Err, OnOk, sym, ap, ◌∙◌}
 use Rattle.addr_space.specs.Space.{Space}
 use Rattle.addr_space.proofs.Steps.{Moves-none}
 use Rattle.forest.specs.Forest.{at, Once, changed, mapped}
 use Rattle.forest.proofs.Mapped.{mapped-changed}
-use Rattle.reset_callbacks.specs.Hook.{Hook}
 use Rattle.any_ctx.specs.Contexts.{footprint}
 use Rattle.context_rules.specs.Contexts.{Context}
-use Rattle.context_tree.specs.Kept.{Kept}
-use Rattle.context_tree.specs.Soundness.{IsSoundContext}
-use Rattle.context_tree.specs.State.{TreeState, context_of, stands_for, Agrees, Moves}
+use Rattle.context_node.specs.Kept.{Kept}
+use Rattle.context_node.specs.Soundness.{IsSoundContext}
+use Rattle.context_node.specs.State.{context_of}
+use Rattle.context_tree.specs.State.{TreeState, stands_for, Agrees, Moves}
 use Rattle.context_tree.proofs.Steps.{moves_stepped}
+use Rattle.context_node.proofs.Waiting.{SameChunks}
 
 -- what holds of a call that was answered
 pub on_answer : {A E P Q : Type 0} (r : Result A E) → (P → Q) → OnOk r P → OnOk r Q
 on_answer (Ok a) all holds = all holds
 on_answer (Err e) all holds = holds
-
--- the context is the same, but for being used and its hooks
-abbrev pub SameChunks : Kept → Kept → Type 0
-SameChunks k l = (used : Bool) × (hooks : List Hook) × (l ≡ record k { used = used; hooks = hooks })
-
-pub same_sound : (k l : Kept) → SameChunks k l → IsSoundContext k → IsSoundContext l
-same_sound k l same sound =
-    subst IsSoundContext (sym same.2) (record {
-      flat = sound.flat;
-      once = sound.once;
-      numbers = sound.numbers;
-      live = sound.live;
-      placed = sound.placed;
-      known = sound.known;
-      differ = sound.differ;
-      total = sound.total;
-    })
 
 module _ (a b : TreeState) (s : Space) (n : ℕ) (k l : Kept) (here : at n a.kept ≡ Some k) (now : b.kept ≡ changed n (λ _. l) a.kept) (once : Once a.kept) where
   pub stands_still : (f : Context → Context) → f (context_of s k) ≡ context_of s l → stands_for b s ≡ changed n f (stands_for a s)

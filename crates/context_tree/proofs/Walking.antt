@@ -1,9 +1,9 @@
 -- The walk in which all below a context goes.
-use Rattle.std.proofs.Common.{◌≡◌, ◌≢◌, ℕ, ◌<◌, true, false, Some, List, [], ◌∷◌, ◌++◌, refl, sym, ap, ◌∙◌, subst}
+use Rattle.std.proofs.Common.{◌≡◌, ◌≢◌, true, false, Some, refl, sym, ap, ◌∙◌, subst}
 use Rattle.addr_space.specs.Space.{Space}
 use Rattle.pgs_step.specs.declared.ids.CtxId.{CtxId}
 use Rattle.forest.specs.declared.id.NodeId.{NodeId}
-use Rattle.forest.specs.Forest.{Forest, has, at, Once, size, children, is_above, removed}
+use Rattle.forest.specs.Forest.{has, at, Once, children, is_above, removed}
 use Rattle.forest.specs.Walk.{lead, follows}
 use Rattle.forest.proofs.Trees.{has_of_removed}
 use Rattle.reset_callbacks.specs.ShelfState.{ShelfState}

@@ -1,207 +1,24 @@
 -- A tree in which bytes were written in a chunk.
-use Rattle.std.proofs.Common.{◌≡◌, ◌≢◌, ◌⊎◌, ℕ, ◌+◌, ◌-◌, ◌<◌, ◌≤◌, false, List, ◌++◌, length, map, get_or, take, drop, Some, None, IsSome, refl, sym, ap, ◌∙◌, subst, inl, inr, arith}
-use Rattle.std.specs.Prelude.{max, nat_lt, ◌||◌}
-use Rattle.std.proofs.lemmas.Bool.{cases_lt, le-ltb}
-use Rattle.std.proofs.lemmas.List.{length-append, length-take, length-drop, get_or-take, get_or-drop, get_or_append_left, get_or-append_right, append_assoc}
-use Rattle.addr_space.specs.declared.Addr.{Addr}
-use Rattle.addr_space.specs.Space.{Space, byte_at, IsKnown, HasBytes}
-use Rattle.addr_space.specs.Footprint as foot
-use Rattle.addr_space.specs.Footprint.{Footprint, HasRegion, WritesInside}
-use Rattle.addr_space.proofs.Apart.{Moves-inside, KeepsBut-inside}
-use Rattle.addr_space.proofs.Written.{HasBytes-written, byte_at-apart}
-use Rattle.forest.specs.Forest.{at as entry_at, has, Once, changed}
-use Rattle.forest.proofs.Trees.{once_changed, has_changed}
-use Rattle.any_ctx.specs.Contexts.{footprint, ledger}
-use Rattle.context_rules.specs.Contexts.{Chunk, Context}
+use Rattle.std.proofs.Common.{◌≡◌, ◌≢◌, ℕ, ◌+◌, false, List, length, Some, None, refl, sym, ap, ◌∙◌, arith}
+use Rattle.std.specs.Prelude.{nat_lt, ◌||◌}
+use Rattle.std.proofs.lemmas.Bool.{le-ltb}
+use Rattle.addr_space.specs.Space.{Space}
+use Rattle.forest.specs.Forest.{at as entry_at, Once, changed}
+use Rattle.any_ctx.specs.Contexts.{footprint}
 use Rattle.context_rules.specs.Chunks.{with_changed, written_over, written}
 use Rattle.context_rules.specs.declared.errors.TreeError.TheVariants.{Range}
 use Rattle.context_rules.specs.Refusals.{put_refusal, where_so}
-use Rattle.context_tree.specs.declared.chunk_id.ChunkId.{ChunkId}
-use Rattle.context_tree.specs.declared.entry.Entry.{Entry}
-use Rattle.context_tree.specs.Kept.{Kept}
-use Rattle.context_tree.specs.Soundness.{AreFlat, IsSoundContext}
-use Rattle.context_tree.specs.State.{TreeState, bytes_at, chunk_of, entries, context_of, stands_for, Agrees, Moves}
-use Rattle.context_tree.specs.Chunking.{Written}
+use Rattle.context_node.specs.declared.chunk_id.ChunkId.{ChunkId}
+use Rattle.context_node.specs.declared.entry.Entry.{Entry}
+use Rattle.context_node.specs.Kept.{Kept}
+use Rattle.context_node.specs.Soundness.{IsSoundContext}
+use Rattle.context_node.specs.State.{bytes_at}
+use Rattle.context_tree.specs.State.{TreeState, stands_for, Agrees, Moves}
+use Rattle.context_node.specs.Chunking.{Written}
 use Rattle.context_tree.specs.Lookup.{Leads}
-use Rattle.context_tree.proofs.Names.{named_not, named_so}
-use Rattle.context_tree.proofs.Steps.{Stepped, stands_by, moves_stepped, chunk_same}
-use Rattle.context_tree.proofs.Sounds.{step_at}
-use Rattle.context_tree.proofs.Bytes.{IsIn, in_live, length-bytes_at, has_known, known_has, bytes_are, bytes_same}
-use Rattle.context_tree.proofs.Changes.{flat_changed, changed_entries}
-
-module _ (place : ℕ) (bytes known : List ℕ) (within : place ≤ length known) where
-  front : length (take place known) ≡ place
-  front = simp length-take (omega arith)
-
-  pub over_long : length (written_over place bytes known) ≡ max (length known) (place + length bytes)
-  over_long = simp (length-append, length-take, length-drop) (omega arith)
-
-  pub over_before : (i : ℕ) → i < place → get_or (written_over place bytes known) i 0 ≡ get_or known i 0
-  over_before i below =
-      let short : i < length (take place known) = omega (arith, front, below) in
-      ap (λ (xs : List ℕ). get_or xs i 0) (append_assoc (take place known) bytes (drop (place + length bytes) known)) ∙ get_or_append_left (take place known) (bytes ++ drop (place + length bytes) known) 0 i short ∙ get_or-take place known i 0 below
-
-  pub over_in : (i : ℕ) → place ≤ i → i < place + length bytes → get_or (written_over place bytes known) i 0 ≡ get_or bytes (i - place) 0
-  over_in i above below =
-      let short : i - place < length bytes = omega arith in
-      ap (λ (xs : List ℕ). get_or xs i 0) (append_assoc (take place known) bytes (drop (place + length bytes) known)) ∙ get_or-append_right (take place known) (bytes ++ drop (place + length bytes) known) place i 0 front above ∙ get_or_append_left bytes (drop (place + length bytes) known) 0 (i - place) short
-
-  pub over_behind : (i : ℕ) → place + length bytes ≤ i → get_or (written_over place bytes known) i 0 ≡ get_or known i 0
-  over_behind i above =
-      let low : place ≤ i = omega arith in
-      let more : length bytes ≤ i - place = omega arith in
-      let there : place + length bytes + (i - place - length bytes) ≡ i = omega arith in
-      ap (λ (xs : List ℕ). get_or xs i 0) (append_assoc (take place known) bytes (drop (place + length bytes) known)) ∙ get_or-append_right (take place known) (bytes ++ drop (place + length bytes) known) place i 0 front low
-      ∙ get_or-append_right bytes (drop (place + length bytes) known) (length bytes) (i - place) 0 refl more
-      ∙ get_or-drop (place + length bytes) known (i - place - length bytes) 0
-      ∙ ap (λ (j : ℕ). get_or known j 0) there
-
-module _ (k l : Kept) (n place : ℕ) (bytes : List ℕ) (s t : Space) (wrote : Written k l n place bytes s t) (sound : IsSoundContext k) (agrees : foot.Agrees (footprint k.memory) s)
-    (known : (c : ℕ) (e : Entry) → entry_at c k.chunks ≡ Some e → IsKnown s e.at e.known) where
-  live : (footprint k.memory).live wrote.entry.at ≡ Some wrote.entry.size
-  live = sound.live n wrote.entry wrote.listed
-
-  inside : WritesInside (footprint k.memory) s t wrote.entry.at (record { region = wrote.entry.at.region; offset = wrote.entry.at.offset + place }) wrote.entry.size bytes
-  inside = record {
-    live = live;
-    region = refl;
-    first = omega arith;
-    last = omega (arith, wrote.fits);
-    writes = wrote.writes;
-  }
-
-  chunks_now : l.chunks ≡ changed n (λ _. record wrote.entry { known = max wrote.entry.known (place + length bytes) }) k.chunks
-  chunks_now = ap (λ (x : Kept). x.chunks) wrote.now
-
-  cases : (c : ℕ) (e : Entry) → entry_at c l.chunks ≡ Some e
-      → ((c ≡ n) × (e ≡ record wrote.entry { known = max wrote.entry.known (place + length bytes) })) ⊎ ((c ≢ n) × (entry_at c k.chunks ≡ Some e))
-  cases c e h = step_at n wrote.entry (record wrote.entry { known = max wrote.entry.known (place + length bytes) }) k.chunks wrote.listed c e (ap (entry_at c) (sym chunks_now) ∙ h)
-
-  -- the bytes of the chunk then
-  was_in : IsIn s wrote.entry.at wrote.entry.known
-  was_in = in_live (footprint k.memory) s wrote.entry.at wrote.entry.size wrote.entry.known agrees live (sound.known n wrote.entry wrote.listed)
-
-  old_long : length (bytes_at s wrote.entry.at wrote.entry.known) ≡ wrote.entry.known
-  old_long = length-bytes_at s wrote.entry.at wrote.entry.known was_in
-
-  reaches : place ≤ length (bytes_at s wrote.entry.at wrote.entry.known)
-  reaches = omega (arith, old_long, wrote.within)
-
-  over : length (written_over place bytes (bytes_at s wrote.entry.at wrote.entry.known)) ≡ max wrote.entry.known (place + length bytes)
-  over = over_long place bytes (bytes_at s wrote.entry.at wrote.entry.known) reaches ∙ ap (λ (m : ℕ). max m (place + length bytes)) old_long
-
-  least : max wrote.entry.known (place + length bytes) ≤ wrote.entry.size
-  least = omega (arith, wrote.fits, sound.known n wrote.entry wrote.listed)
-
-  now_in : IsIn t wrote.entry.at (max wrote.entry.known (place + length bytes))
-  now_in = in_live (footprint k.memory) t wrote.entry.at wrote.entry.size (max wrote.entry.known (place + length bytes))
-      (Moves-inside (footprint k.memory) s t wrote.entry.at (record { region = wrote.entry.at.region; offset = wrote.entry.at.offset + place }) wrote.entry.size bytes agrees inside).agrees live least
-
-  has_now : HasBytes t wrote.entry.at (written_over place bytes (bytes_at s wrote.entry.at wrote.entry.known))
-  has_now i below =
-      let w = agrees.sound.live_inside wrote.entry.at wrote.entry.size live in
-      let target : HasRegion s wrote.entry.at.region (footprint k.memory).account w.0 = agrees.regions wrote.entry.at.region w.0 w.1 in
-      let room : wrote.entry.at.offset + place + length bytes ≤ length target.0.bytes = omega (arith, wrote.fits, w.2, target.3) in
-      let to : Addr = record { region = wrote.entry.at.region; offset = wrote.entry.at.offset + place } in
-      let kept : (i < place) ⊎ (place + length bytes ≤ i) → byte_at t wrote.entry.at.region (wrote.entry.at.offset + i) ≡ byte_at s wrote.entry.at.region (wrote.entry.at.offset + i) =
-      λ out. byte_at-apart s t to bytes target.0 target.1 room wrote.writes wrote.entry.at.region (wrote.entry.at.offset + i)
-      (λ same. elim out [ inl before ↦ inl (omega arith) | inr after ↦ inr (omega arith) ]) in
-      let stood : i < wrote.entry.known → byte_at s wrote.entry.at.region (wrote.entry.at.offset + i) ≡ Some (get_or (bytes_at s wrote.entry.at wrote.entry.known) i 0) =
-      λ short. has_known s wrote.entry.at wrote.entry.known was_in (known n wrote.entry wrote.listed) i (omega (arith, old_long, short)) in
-      elim (cases_lt i place) [
-        | inl before ↦ kept (inl before) ∙ stood (omega (arith, wrote.within)) ∙ ap Some (sym (over_before place bytes (bytes_at s wrote.entry.at wrote.entry.known) reaches i before))
-        | inr after ↦ elim (cases_lt i (place + length bytes)) [
-          | inl among ↦
-              let short : i - place < length bytes = omega arith in
-              let sums : wrote.entry.at.offset + place + (i - place) ≡ wrote.entry.at.offset + i = omega arith in
-              ap (byte_at t wrote.entry.at.region) (sym sums) ∙ HasBytes-written s t to bytes target.0 target.1 room wrote.writes (i - place) short
-              ∙ ap Some (sym (over_in place bytes (bytes_at s wrote.entry.at wrote.entry.known) reaches i after among))
-          | inr behind ↦
-              let short : i < wrote.entry.known = omega (arith, over, below) in
-              kept (inr behind) ∙ stood short ∙ ap Some (sym (over_behind place bytes (bytes_at s wrote.entry.at wrote.entry.known) reaches i behind))
-        ]
-      ]
-
-  bytes_now : bytes_at t wrote.entry.at (max wrote.entry.known (place + length bytes)) ≡ written_over place bytes (bytes_at s wrote.entry.at wrote.entry.known)
-  bytes_now =
-      ap (bytes_at t wrote.entry.at) (sym over) ∙ bytes_are t wrote.entry.at (written_over place bytes (bytes_at s wrote.entry.at wrote.entry.known)) (subst (IsIn t wrote.entry.at) (sym over) now_in) has_now
-
-  -- every other chunk stays
-  byte_other : (c : ℕ) (e : Entry) (i : ℕ) → c ≢ n → entry_at c k.chunks ≡ Some e → i < e.known → byte_at t e.at.region (e.at.offset + i) ≡ byte_at s e.at.region (e.at.offset + i)
-  byte_other c e i ne h below =
-      let fit : i < e.size = omega (arith, below, sound.known c e h) in
-      KeepsBut-inside (footprint k.memory) s t wrote.entry.at (record { region = wrote.entry.at.region; offset = wrote.entry.at.offset + place }) wrote.entry.size bytes agrees inside
-      e.at e.size e.size i (sound.differ c n e wrote.entry ne h wrote.listed) (sound.live c e h) (sound.live c e h) fit fit
-
-  pub moves_now : foot.Moves (footprint k.memory) (footprint l.memory) s t
-  moves_now =
-      subst (λ (x : Kept). foot.Moves (footprint k.memory) (footprint x.memory) s t) (sym wrote.now)
-      (Moves-inside (footprint k.memory) s t wrote.entry.at (record { region = wrote.entry.at.region; offset = wrote.entry.at.offset + place }) wrote.entry.size bytes agrees inside)
-
-  pub sound_written : IsSoundContext l
-  sound_written =
-      let y : Entry = record wrote.entry { known = max wrote.entry.known (place + length bytes) } in
-      let memory : l.memory ≡ k.memory = ap (λ (x : Kept). x.memory) wrote.now in
-      record {
-        flat = subst AreFlat (sym chunks_now) (flat_changed n (λ _. y) k.chunks sound.flat);
-        once = subst Once (sym chunks_now) (once_changed n (λ _. y) k.chunks sound.once);
-        numbers = λ c h.
-            ap (has c) chunks_now ∙ has_changed c n (λ _. y) k.chunks ∙ sound.numbers c (ap (λ (x : Kept). has c x.chunk_places) (sym wrote.now) ∙ h);
-        live = λ c e h. rw memory (elim (cases c e h) [ inl it ↦ rw it.1 live | inr it ↦ sound.live c e it.1 ]);
-        placed = λ c e h. rw memory (elim (cases c e h) [ inl it ↦ rw it.1 (sound.placed n wrote.entry wrote.listed) | inr it ↦ sound.placed c e it.1 ]);
-        known = λ c e h. elim (cases c e h) [ inl it ↦ rw it.1 least | inr it ↦ sound.known c e it.1 ];
-        differ = λ b c d e differs h q same. elim (cases b d h) [
-          | inl one ↦ elim (cases c e q) [
-            | inl two ↦ differs (one.0 ∙ sym two.0)
-            | inr two ↦ sound.differ c n e wrote.entry two.0 two.1 wrote.listed (sym same ∙ ap (λ (x : Entry). x.at) one.1)
-          ]
-          | inr one ↦ elim (cases c e q) [
-            | inl two ↦ sound.differ b n d wrote.entry one.0 one.1 wrote.listed (same ∙ ap (λ (x : Entry). x.at) two.1)
-            | inr two ↦ sound.differ b c d e differs one.1 two.1 same
-          ]
-        ];
-        total = rw memory sound.total;
-      }
-
-  pub known_written : (c : ℕ) (e : Entry) → entry_at c l.chunks ≡ Some e → IsKnown t e.at e.known
-  known_written c e h =
-      elim (cases c e h) [
-        | inl it ↦ rw it.1 (subst (IsKnown t wrote.entry.at) over (known_has t wrote.entry.at (written_over place bytes (bytes_at s wrote.entry.at wrote.entry.known)) has_now))
-        | inr it ↦ λ i below. subst IsSome (sym (byte_other c e i it.0 it.1 below)) (known c e it.1 i below)
-      ]
-
-  chunk_other : (c : ℕ) (e : Entry) → c ≢ n → entry_at c k.chunks ≡ Some e → chunk_of t k.memory e ≡ chunk_of s k.memory e
-  chunk_other c e ne h =
-      chunk_same s t k.memory k.memory e refl
-      (bytes_same s t e.at e.at e.known (in_live (footprint k.memory) s e.at e.size e.known agrees (sound.live c e h) (sound.known c e h))
-      (in_live (footprint k.memory) t e.at e.size e.known
-      (Moves-inside (footprint k.memory) s t wrote.entry.at (record { region = wrote.entry.at.region; offset = wrote.entry.at.offset + place }) wrote.entry.size bytes agrees inside).agrees
-      (sound.live c e h) (sound.known c e h)) (λ i below. byte_other c e i ne h below))
-
-  abbrev built : List Chunk → Context
-  built chunks = record {
-    name = k.name;
-    kind = k.kind;
-    protected = k.protected;
-    ledger = ledger k.memory;
-    used = k.used;
-    chunks = chunks;
-    hooks = k.hooks;
-  }
-
-  abbrev put_in : Chunk → Chunk
-  put_in chunk = record chunk { known = written_over place bytes chunk.known }
-
-  pub context_written : (w : List ℕ) → wrote.entry.name ≡ Some w → ((c : ℕ) (e : Entry) → c ≢ n → entry_at c k.chunks ≡ Some e → e.name ≢ Some w)
-      → built (with_changed w put_in (map (chunk_of s k.memory) (entries k.chunks))) ≡ context_of t l
-  context_written w named others =
-      let y : Entry = record wrote.entry { known = max wrote.entry.known (place + length bytes) } in
-      sym (
-      ap (context_of t) wrote.now
-      ∙ ap built (changed_entries w put_in (chunk_of s k.memory) (chunk_of t k.memory) k.chunks n wrote.entry y sound.once sound.flat wrote.listed
-      (named_so s w wrote.entry.name named) (λ d x ne h. named_not s w x.name (others d x ne h)) (λ d x ne h. chunk_other d x ne h)
-      (ap (λ (bs : List ℕ). record (chunk_of s k.memory wrote.entry) { known = bs }) bytes_now))
-      )
+use Rattle.context_tree.proofs.Steps.{Stepped, stands_by, moves_stepped}
+use Rattle.context_node.proofs.Bytes.{in_live, length-bytes_at}
+use Rattle.context_node.proofs.Writing.{moves_now, sound_written, known_written, context_written}
 
 module _ (a : TreeState) (s t : Space) (w : List ℕ) (id : ChunkId) (k l : Kept) (place : ℕ) (bytes : List ℕ) (agrees : Agrees a s) (once : Once a.kept)
     (each : (m : ℕ) (j : Kept) → entry_at m a.kept ≡ Some j → IsSoundContext j) (leads : Leads a w id) (here : entry_at id.context.number a.kept ≡ Some k) where

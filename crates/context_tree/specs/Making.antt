@@ -1,5 +1,5 @@
 -- What the making of a context does.
-use Rattle.std.specs.Prelude.{◌≡◌, ◌≢◌, ℕ, ◌+◌, ◌-◌, ◌≤◌, Bool, true, false, not, nat_lt, List, [], Option, Some, None, if◌then◌else◌, codes}
+use Rattle.std.specs.Prelude.{◌≡◌, ◌≢◌, ℕ, ◌+◌, ◌-◌, Bool, not, nat_lt, List, Option, Some, None}
 use Rattle.pgs_step.specs.declared.ids.CtxId.{CtxId}
 use Rattle.addr_space.specs.Space.{Space, held, Asks}
 use Rattle.addr_space.specs.Footprint as foot
@@ -7,52 +7,21 @@ use Rattle.addr_space.specs.Footprint.{nothing}
 use Rattle.forest.specs.declared.id.NodeId.{NodeId}
 use Rattle.forest.specs.Forest.{Forest, Empty, Node, put, size}
 use Rattle.forest.specs.Forested.{Forested}
-use Rattle.any_ctx.specs.Ledgers.{stats}
-use Rattle.any_ctx.specs.Kinds.{first_size, created}
-use Rattle.any_ctx.specs.Contexts.{footprint, ledger}
-use Rattle.any_ctx.specs.declared.any.AnyCtx.{AnyCtx}
+use Rattle.any_ctx.specs.Kinds.{first_size}
 use Rattle.any_ctx.specs.declared.any.CtxKind.{CtxKind}
-use Rattle.any_ctx.specs.declared.any.CtxKind.TheVariants.{Default, Error, Abort}
 use Rattle.context_rules.specs.Contexts as rules
 use Rattle.context_rules.specs.Refusals.{first_of, where_so, create_refusal}
 use Rattle.context_rules.specs.declared.errors.TreeError.{TreeError}
 use Rattle.context_rules.specs.declared.errors.TreeError.TheVariants.{TooMany, Ctx}
 use Rattle.chunk_header.specs.declared.CtxError.TheVariants.{NoSpace}
-use Rattle.context_tree.specs.declared.making.NewContext.{NewContext}
-use Rattle.context_tree.specs.Kept.{Kept}
-use Rattle.context_tree.specs.Soundness.{same}
-use Rattle.context_tree.specs.State.{TreeState, IsLive, place_of, stands_for, Moves, left_of}
-
--- a map of names with one more, where the context isn't protected
-abbrev pub entered_context : Bool → List ℕ → CtxId → (List ℕ → Option CtxId) → List ℕ → Option CtxId
-entered_context true name id find w = find w
-entered_context false name id find w = if same name w then Some id else find w
+use Rattle.context_node.specs.declared.making.NewContext.{NewContext}
+use Rattle.context_node.specs.Kept.{Kept}
+use Rattle.context_tree.specs.State.{TreeState, IsLive, place_of, stands_for, left_of}
+use Rattle.context_node.specs.Making.{Made}
 
 -- why no context of that kind can be made, its name aside, where so many live and so much is left of the account
 abbrev pub room_refusal : ℕ → ℕ → CtxKind → Option TreeError
 room_refusal many left kind = first_of (where_so (not (nat_lt many 65536)) TooMany) (where_so (nat_lt left (first_size kind)) (Ctx NoSpace))
-
--- a context as it is made, with its memory
-abbrev pub made_with : NewContext → AnyCtx → Kept
-made_with new memory = record {
-  name = new.name;
-  kind = new.kind;
-  protected = new.protected;
-  used = false;
-  memory = memory;
-  chunks = Empty;
-  chunk_places = Empty;
-  hooks = [];
-}
-
--- a context was made for an account; its blocks keep this number, and nothing else happened to the space
-pub record Made (new : NewContext) (k : Kept) (account slot : ℕ) (s t : Space) : Type 0 where
-  pub now : k ≡ made_with new k.memory
-  pub new_ledger : ledger k.memory ≡ created new.kind
-  pub total : (footprint k.memory).total ≡ (stats (ledger k.memory)).total
-  pub moves : foot.Moves (nothing account slot) (footprint k.memory) s t
-  pub asked : Asks account (first_size new.kind) s t
-  pub fits : held s account + first_size new.kind ≤ s.limit
 
 -- a forest with a node more: the first child of the one of a number, or the first root
 abbrev pub entered_at : {A : Type 0} → Option ℕ → ℕ → A → Forest A → Forest A
@@ -88,10 +57,3 @@ pub record Added (a b : TreeState) (p : ℕ) (name : List ℕ) (kind : CtxKind) 
 -- a tree of which only the contexts are known, and their account
 abbrev pub bare : ℕ → Forest Kept → TreeState
 bare account kept = record { kept = kept; places = Empty; account = account; current = record { number = 1; slot = 0 }; next = 1 }
-
--- the session's own contexts below the topmost one are made
-abbrev pub opened : rules.Contexts → rules.Contexts
-opened contexts =
-    rules.created 1 5 (codes "TransactionAbortContext") Abort true
-    (rules.created 1 4 (codes "TopPortalContext") Default true
-    (rules.created 1 3 (codes "CacheMemoryContext") Default true (rules.created 1 2 (codes "ErrorContext") Error true contexts)))

@@ -1,35 +1,12 @@
 -- What holds of a tree of contexts at all times, whatever the space.
-use Rattle.std.specs.Prelude.{◌≡◌, ◌≢◌, ◌⊎◌, ℕ, ◌<◌, ◌≤◌, ◌==◌, nat_lt, if◌then◌else◌, Bool, true, false, List, Option, Some, IsSome}
-use lib.Pointwise.{pointwise}
+use Rattle.std.specs.Prelude.{◌≡◌, ◌⊎◌, ℕ, ◌<◌, ◌≤◌, nat_lt, if◌then◌else◌, true, false, List, Option, Some}
 use Rattle.pgs_step.specs.declared.ids.CtxId.{CtxId}
-use Rattle.forest.specs.Forest.{Forest, Empty, Node, Once, has, times, at, size}
-use Rattle.any_ctx.specs.Ledgers.{stats}
-use Rattle.any_ctx.specs.Contexts.{footprint, ledger, place_at}
-use Rattle.context_tree.specs.declared.chunk_id.ChunkId.{ChunkId}
-use Rattle.context_tree.specs.declared.entry.Entry.{Entry}
+use Rattle.forest.specs.Forest.{Forest, Empty, has, times, at, size}
+use Rattle.context_node.specs.declared.chunk_id.ChunkId.{ChunkId}
+use Rattle.context_node.specs.declared.entry.Entry.{Entry}
 use Rattle.context_tree.specs.declared.tree.Own.{Own}
-use Rattle.context_tree.specs.Kept.{Kept}
-
--- whether two names are one, as maps compare them
-abbrev pub same : List ℕ → List ℕ → Bool
-same = pointwise ◌==◌
-
--- no entry is below another one
-abbrev pub AreFlat : Forest Entry → Type 0
-AreFlat Empty = Unit {0}
-AreFlat (Node n e below beside) = (below ≡ Empty) × AreFlat beside
-
--- each chunk that is kept is live, known no further than its size, and no two of one context have one number or one
--- address
-pub record IsSoundContext (k : Kept) : Type 0 where
-  pub flat : AreFlat k.chunks
-  pub once : Once k.chunks
-  pub numbers : (c : ℕ) → has c k.chunk_places ≡ true → has c k.chunks ≡ true
-  pub live : (c : ℕ) (e : Entry) → at c k.chunks ≡ Some e → (footprint k.memory).live e.at ≡ Some e.size
-  pub placed : (c : ℕ) (e : Entry) → at c k.chunks ≡ Some e → IsSome (place_at k.memory e.at)
-  pub known : (c : ℕ) (e : Entry) → at c k.chunks ≡ Some e → e.known ≤ e.size
-  pub differ : (b c : ℕ) (d e : Entry) → b ≢ c → at b k.chunks ≡ Some d → at c k.chunks ≡ Some e → d.at ≢ e.at
-  pub total : (footprint k.memory).total ≡ (stats (ledger k.memory)).total
+use Rattle.context_node.specs.Kept.{Kept}
+use Rattle.context_node.specs.Soundness.{IsSoundContext}
 
 -- the context of this number has a chunk of this name among its entries
 pub record IsChunk (kept : Forest Kept) (places : Forest ℕ) (word : List ℕ) (id : ChunkId) : Type 0 where
@@ -59,13 +36,14 @@ abbrev pub one_below : ℕ → ℕ → ℕ
 one_below next n = (if nat_lt n next then 1 else 0)
 
 -- Numbers are given once, and at most 65,536 contexts live; each is sound, and its entries have numbers that were given.
--- Only contexts that are there have places.
+-- The contexts that are there have places, and only they.
 -- A name leads to its context or its chunk, and each that may be found is found. The current context is there, as long
 -- as any is.
 pub record IsSound (kept : Forest Kept) (places : Forest ℕ) (find_context : List ℕ → Option CtxId) (find_chunk : List ℕ → Option ChunkId) (own : Own) (now : CtxId) (next next_entry : ℕ) : Type 0 where
   pub numbers : (n : ℕ) → times n kept ≤ one_below next n
   pub few : size kept ≤ 65536
   pub lies : (n : ℕ) → has n places ≡ true → has n kept ≡ true
+  pub there : (n : ℕ) → has n kept ≡ true → has n places ≡ true
   pub each : (n : ℕ) (k : Kept) → at n kept ≡ Some k → IsSoundContext k
   pub given : (n c : ℕ) (k : Kept) → at n kept ≡ Some k → has c k.chunks ≡ true → c < next_entry
   pub named : (word : List ℕ) (id : CtxId) → find_context word ≡ Some id → IsNamed kept places word id

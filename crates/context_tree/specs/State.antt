@@ -1,21 +1,20 @@
 -- What a tree of contexts is seen as, and what it stands for in a space.
-use Rattle.std.specs.Prelude.{◌≡◌, ◌≢◌, ◌↔◌, ℕ, ◌+◌, ◌-◌, ◌<◌, ◌≤◌, List, [], ◌∷◌, ◌++◌, length, map, Option, Some, None, Result, Ok, Err, unwrap_or}
+use Rattle.std.specs.Prelude.{◌≡◌, ◌≢◌, ◌↔◌, ℕ, ◌+◌, ◌-◌, ◌<◌, ◌≤◌, ◌++◌, length, Option, Some, None, Result, Ok, Err}
 use Rattle.pgs_step.specs.declared.ids.CtxId.{CtxId}
-use Rattle.addr_space.specs.declared.Addr.{Addr}
-use Rattle.addr_space.specs.Space.{Space, Region, accounts, held, region_at, bytes_of, part, IsKnown}
+use Rattle.addr_space.specs.Space.{Space, Region, accounts, held, region_at, IsKnown}
 use Rattle.addr_space.specs.Footprint as foot
 use Rattle.forest.specs.Forest.{Forest, Empty, Node, at, mapped}
 use Rattle.reset_callbacks.specs.Hook.{AreDistinct}
 use Rattle.reset_callbacks.specs.ShelfState as shelf
 use Rattle.reset_callbacks.specs.ShelfState.{ShelfState}
-use Rattle.any_ctx.specs.Ledgers.{InSlab, stats}
-use Rattle.any_ctx.specs.Contexts.{footprint, ledger, place_at}
-use Rattle.any_ctx.specs.declared.any.AnyCtx.{AnyCtx}
-use Rattle.context_rules.specs.Contexts.{Chunk, Context, Contexts}
+use Rattle.any_ctx.specs.Ledgers.{stats}
+use Rattle.any_ctx.specs.Contexts.{footprint}
+use Rattle.context_rules.specs.Contexts.{Contexts}
 use Rattle.context_rules.specs.Ends.{waiting}
 use Rattle.context_rules.specs.declared.errors.TreeError.{TreeError}
-use Rattle.context_tree.specs.declared.entry.Entry.{Entry}
-use Rattle.context_tree.specs.Kept.{Kept}
+use Rattle.context_node.specs.declared.entry.Entry.{Entry}
+use Rattle.context_node.specs.Kept.{Kept}
+use Rattle.context_node.specs.State.{context_of}
 
 -- the contexts as the tree keeps them, by their numbers; where each lies; the account that they count for; the current
 -- context; and the number that the next one gets
@@ -37,36 +36,6 @@ IsLive tree id = at id.number tree.places ≡ Some id.slot
 -- where the context of that number lies
 abbrev pub place_of : TreeState → ℕ → Option ℕ
 place_of tree n = at n tree.places
-
--- so many bytes of a space from an address on
-abbrev pub bytes_at : Space → Addr → ℕ → List ℕ
-bytes_at s at n = map (λ byte. unwrap_or byte 0) (part (bytes_of (region_at s at.region)) at.offset n)
-
--- a chunk in a space: what is known of it is what the space has at its address
-abbrev pub chunk_of : Space → AnyCtx → Entry → Chunk
-chunk_of s memory e = record {
-  name = e.name;
-  size = e.size;
-  place = unwrap_or (place_at memory e.at) (InSlab 0);
-  known = bytes_at s e.at e.known;
-}
-
--- the entries of a forest without children, from the first on
-abbrev pub entries : Forest Entry → List Entry
-entries Empty = []
-entries (Node n e below beside) = e ∷ entries beside
-
--- a context in a space
-abbrev pub context_of : Space → Kept → Context
-context_of s k = record {
-  name = k.name;
-  kind = k.kind;
-  protected = k.protected;
-  ledger = ledger k.memory;
-  used = k.used;
-  chunks = map (chunk_of s k.memory) (entries k.chunks);
-  hooks = k.hooks;
-}
 
 -- the contexts that a tree and a space stand for
 unfoldable pub stands_for : TreeState → Space → Contexts

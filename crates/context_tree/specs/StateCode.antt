@@ -3,8 +3,8 @@ use Rattle.std.specs.Prelude.{ℕ, refl}
 use Rattle.std.specs.Coded.{Coded, code_by, coded×, coded_ℕ}
 use Rattle.forest.specs.Forest.{Forest}
 use Rattle.forest.specs.Code.{forest_code}
-use Rattle.context_tree.specs.Kept.{Kept}
-use Rattle.context_tree.specs.Code.{kept_code}
+use Rattle.context_node.specs.Kept.{Kept}
+use Rattle.context_node.specs.Code.{kept_code}
 use Rattle.context_tree.specs.State.{TreeState}
 
 abbrev pub tree_code : Coded TreeState

@@ -1,115 +1,21 @@
 //! The making of a context.
-ghost use Rattle.std.specs.Prelude.{◌≡◌, ◌⊎◌, ℕ, ◌+◌, ◌-◌, ◌<◌, List, true, false, None, Some, IsSome, IfOk, IfErr, IfSome, OnOk, OnErr};
+ghost use Rattle.std.specs.Prelude.{◌≡◌, ◌⊎◌, ℕ, ◌-◌, ◌<◌, false, Some, IfOk, IfErr, IfSome, OnOk, OnErr};
 ghost use Rattle.std.specs.Option.{option_map};
-ghost use Rattle.std.specs.HashMap.{get, spare};
-ghost use Rattle.addr_space.specs.Space.{accounts, held, Asks};
-ghost use Rattle.addr_space.specs.Footprint.{Agrees, Moves, nothing};
+ghost use Rattle.addr_space.specs.Space.{accounts, held};
 ghost use Rattle.forest.specs.Forest.{at, has, size};
 ghost use Rattle.forest.specs.Forested.{IsPlaced};
-ghost use Rattle.any_ctx.specs.Contexts.{footprint};
-ghost use Rattle.any_ctx.specs.Kinds.{first_size, IsSlabSize};
-ghost use Rattle.context_rules.specs.Names as rules;
-ghost use Rattle.context_tree.specs.Soundness.{same, IsSoundContext};
-ghost use Rattle.pgs_step.specs.Name.{IsName};
-ghost use Rattle.context_tree.specs.Kept.{Kept};
+ghost use Rattle.any_ctx.specs.Kinds.{IsSlabSize};
+ghost use Rattle.context_node.specs.Soundness.{IsSoundContext};
+ghost use Rattle.context_node.specs.Kept.{Kept};
 ghost use Rattle.context_tree.specs.State.{no_contexts, Agrees as Agreeing, Moves as AllMoves};
-ghost use Rattle.context_tree.specs.Making.{bare, Made, Grew, CameBack, room_refusal, entered_at, entered_context};
+ghost use Rattle.context_tree.specs.Making.{bare, Grew, CameBack, room_refusal, entered_at};
 
-use crate::name_key::NameKey;
-use crate::node::{Node, told};
 use addr_space::Space;
-use any_ctx::{AnyCtx, CtxKind};
-use chunk_header::CtxError;
-use context_rules::{MOST_CONTEXTS, TreeError, is_reserved};
+use context_node::{NewContext, Node, give_back, make_node};
+use context_rules::{MOST_CONTEXTS, TreeError};
 use forest::{LinkedForest, NodeId};
-use pgs_step::{CtxId, Name};
-use reset_callbacks::{Pending, ResetHook};
+use reset_callbacks::ResetHook;
 use std::alloc::{AllocFailed, Global};
-use std::collections::HashMap;
-
-/// A context to be made.
-#[derive(Drop)]
-pub struct NewContext {
-    pub number: u64,
-    pub name: Name,
-    pub kind: CtxKind,
-    /// Whether it is one of the session's own.
-    pub protected: bool,
-}
-
-/// Makes room for the name of one more context, unless that is protected. `Taken` comes where the name is kept for
-/// sessions or stands.
-pub fn room_for_name(
-    names: &mut HashMap<NameKey, CtxId>,
-    name: &Name,
-    protected: bool,
-) -> Result<(), TreeError>
-    ensures names { (w : List ℕ) → get same names.new w ≡ get same names.old w }
-    ensures room { OnOk result (protected ≡ false → 0 < spare names.new) }
-    ensures free { OnOk result (protected ≡ false → (rules.is_reserved name.now ≡ false) × (get same names.old name.now ≡ None)) }
-    ensures refused { IfErr result (λ e. (e ≡ TreeError.Memory) ⊎ ((e ≡ TreeError.Taken) × (protected ≡ false) × ((rules.is_reserved name.now ≡ true) ⊎ IsSome (get same names.old name.now)))) }
-{
-    if protected {
-        return Ok(());
-    }
-    if is_reserved(name) || names.contains_key(&NameKey::new(name)) {
-        return Err(TreeError::Taken);
-    }
-    match names.reserve(1) {
-        Ok(()) => Ok(()),
-        Err(_) => Err(TreeError::Memory),
-    }
-}
-
-/// Writes where the context of a name is, unless it is protected, in room that was made.
-pub fn enter_context(names: &mut HashMap<NameKey, CtxId>, name: Name, protected: bool, id: CtxId)
-    requires { protected ≡ false → 0 < spare names.old }
-    ensures { (w : List ℕ) → get same names.new w ≡ entered_context protected name id (get same names.old) w }
-{
-    if !protected {
-        let _ = names.insert(NameKey { name }, id);
-    }
-}
-
-/// A context that holds nothing yet, with its first block or region, for the slot that it will get.
-fn make_node<H: ResetHook>(
-    alloc: Global,
-    space: &mut Space,
-    account: u8,
-    slot: u32,
-    new: &NewContext,
-) -> Result<Node<H>, TreeError>
-    requires account { account < accounts space.old }
-    requires slab { IsSlabSize new.now.kind }
-    ensures made { IfOk result (λ k. Made new.now k account slot space.old space.new) }
-    ensures refused { IfErr result (λ e. (e ≡ TreeError.Memory) ⊎ ((e ≡ TreeError.Ctx CtxError.NoSpace) × (space.old.limit < held space.old account + first_size new.now.kind))) }
-    ensures err_space { OnErr result (space.new ≡ space.old) }
-{
-    match AnyCtx::create(alloc, space, account, slot, new.kind) {
-        Ok(memory) => {
-            let _ = memory.stats();
-            Ok(Node {
-                name: new.name,
-                kind: new.kind,
-                protected: new.protected,
-                used: false,
-                memory,
-                chunks: LinkedForest::new(alloc),
-                callbacks: Pending::new(alloc),
-            })
-        }
-        Err(error) => Err(told(error)),
-    }
-}
-
-/// Gives the blocks of a context back, of which nothing was used.
-fn give_back<H: ResetHook>(node: Node<H>, space: &mut Space)
-    requires { Agrees (footprint node.memory) space.old }
-    ensures { Moves (footprint node.memory) (nothing (footprint node.memory).account (footprint node.memory).context) space.old space.new }
-{
-    let Node { memory, .. } = node;
-    memory.discard(space);
-}
 
 /// Puts a context in, the first child of another one, or as the topmost one.
 fn insert<H: ResetHook>(
@@ -178,16 +84,5 @@ pub fn give_all_back<H: ResetHook>(nodes: &mut LinkedForest<Node<H>>, space: &mu
         let leaf = nodes.first_leaf(root);
         let node = nodes.remove(leaf);
         give_back(node, space);
-    }
-}
-
-/// The name of one of a session's own contexts.
-pub fn own_name(word: &[u8]) -> Name
-    requires { IsName word.now }
-    ensures { result ≡ word.now }
-{
-    match Name::new(word) {
-        Some(name) => name,
-        None => unreachable!(),
     }
 }

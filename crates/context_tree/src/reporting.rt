@@ -6,9 +6,9 @@ ghost use Rattle.any_ctx.specs.Ledgers.{stats};
 ghost use Rattle.any_ctx.specs.Contexts.{ledger};
 ghost use Rattle.context_report.specs.Lines.{line_of, added};
 ghost use Rattle.context_rules.specs.Reports as reports;
-ghost use Rattle.context_tree.specs.State.{context_of};
+ghost use Rattle.context_node.specs.State.{context_of};
 
-use crate::node::Node;
+use context_node::Node;
 use context_report::{Total, line};
 use forest::{LinkedForest, NodeId, Visit};
 use pgs_step::{CtxId, Emit};
@@ -38,9 +38,9 @@ fn report_one<H: ResetHook, E: Emit>(visit: &Visit<'_, Node<H>>, total: &mut Tot
     ensures emits { E.emits out.old (line_of visit.now.depth visit.now.id.number visit.now.value.now.name (stats (ledger visit.now.value.now.memory)) ∷ []) out.new }
 {
     let node = visit.value;
-    let stats = node.memory.stats();
+    let stats = node.stats();
     let context = context_at(visit.id);
-    out.emit(line(levels(visit.depth), context, &node.name, &stats));
+    out.emit(line(levels(visit.depth), context, &node.name(), &stats));
     total.add(&stats);
 }
 

@@ -1,9 +1,9 @@
 //! The memory contexts of a session.
-ghost use Rattle.std.specs.Prelude.{◌≡◌, ◌≢◌, ◌⊎◌, ℕ, ◌<◌, ◌+◌, ◌≤◌, ◌^◌, ◌==◌, ◌&&◌, if◌then◌else◌, List, [], map, length, true, false, Some, None, Ok, Err, IfOk, IfErr, IfSome, IsSome, OnOk, OnErr};
+ghost use Rattle.std.specs.Prelude.{◌≡◌, ◌≢◌, ◌⊎◌, ℕ, ◌<◌, ◌+◌, ◌≤◌, ◌^◌, ◌==◌, if◌then◌else◌, List, [], map, length, true, false, Some, None, IfOk, IfErr, IfSome, IsSome, OnOk, OnErr};
 ghost use Rattle.std.specs.Option.{option_map};
 ghost use Rattle.addr_space.specs.Space.{Space, accounts, held, Asks, HasBytes, Changes, region_at, overwritten};
 ghost use Rattle.pgs_step.specs.Name.{IsName};
-ghost use Rattle.forest.specs.Forest.{Empty, has, size, put, children, removed, is_above};
+ghost use Rattle.forest.specs.Forest.{Empty, Once, has, size, put, children, removed, is_above};
 ghost use Rattle.context_rules.specs.Contexts as rules;
 ghost use Rattle.context_rules.specs.Contexts.{is_protected, found, context_named, is_child};
 ghost use Rattle.context_rules.specs.Ends.{gone, children_gone, cleared, cleared_alone};
@@ -15,21 +15,19 @@ ghost use Rattle.context_rules.specs.Reports as reports;
 ghost use Rattle.context_tree.specs.Calls.{Did, DidNothing};
 ghost use Rattle.context_tree.specs.State.{TreeState, IsLive, place_of, stands_for, no_contexts, Agrees, Moves, left_of, SameRegions, StaysPut, HooksFit, error_of};
 ghost use Rattle.context_tree.specs.Lookup.{Leads};
-ghost use Rattle.context_tree.specs.Making.{Added, CameBack, opened};
-ghost use Rattle.context_tree.specs.declared.chunk_id.ChunkId.{ChunkId as Id};
+ghost use Rattle.context_tree.specs.Making.{Added, CameBack};
+ghost use Rattle.context_node.specs.declared.chunk_id.ChunkId.{ChunkId as Id};
 
-use crate::chunk_id::ChunkId;
-use crate::chunk_names::{enter, make_room};
-use crate::ending::forget_context;
-use crate::entry::Entry;
-use crate::making::{NewContext, enter_context, give_all_back, grow, own_name, room_for_name};
-use crate::name_key::NameKey;
-use crate::node::Node;
+use crate::making::{give_all_back, grow};
 use crate::reporting::{context_at, report_all};
 use addr_space::{Addr, Space};
-use any_ctx::{AnyCtx, CtxKind};
+use any_ctx::CtxKind;
 use chunk_header::CtxError;
-use context_rules::{MOST_CONTEXTS, TreeError, is_reserved};
+use context_node::{
+    ChunkId, Entry, NewContext, Node, enter_chunk, enter_context, forget_context, own_name,
+    room_for_chunk, room_for_name,
+};
+use context_rules::TreeError;
 use forest::{LinkedForest, NodeId};
 use pgs_step::{CtxId, Emit, Name, What};
 use reset_callbacks::{ResetHook, Shelf};
@@ -53,8 +51,8 @@ struct Own {
 pub struct ContextTree<H: ResetHook> {
     alloc: Global,
     nodes: LinkedForest<Node<H>>,
-    names: HashMap<NameKey, CtxId>,
-    chunk_names: HashMap<NameKey, ChunkId>,
+    names: HashMap<Name, CtxId>,
+    chunk_names: HashMap<Name, ChunkId>,
     account: u8,
     own: Own,
     current: CtxId,
@@ -74,7 +72,8 @@ impl<H: ResetHook> Model for ContextTree<H> {
     ghost view = { λ t. record { kept = t.nodes.forest; places = t.nodes.places; account = t.account; current = t.current; next = t.next } };
 
     ghost use Rattle.std.specs.HashMap.{get};
-    ghost use Rattle.context_tree.specs.Soundness.{same, IsSound};
+    ghost use Rattle.context_node.specs.Soundness.{same};
+    ghost use Rattle.context_tree.specs.Soundness.{IsSound};
 
     ghost invariant = { λ t. IsSound t.nodes.forest t.nodes.places (get same t.names) (get same t.chunk_names) t.own t.current t.next t.next_entry };
 }
@@ -182,7 +181,8 @@ impl<H: ResetHook> ContextTree<H> {
         requires live { IsLive self.old self.old.current }
         requires top { self.old.current.number ≡ 1 }
         requires next { self.old.next ≡ 2 }
-        ensures contexts { OnOk result (stands_for self.new space.new ≡ opened (stands_for self.old space.old)) }
+        requires contexts { stands_for self.old space.old ≡ topmost }
+        ensures contexts { OnOk result (stands_for self.new space.new ≡ opening) }
         ensures live { OnOk result (IsLive self.new self.new.current) }
         ensures current { self.new.current ≡ self.old.current }
         ensures next { OnOk result (self.new.next ≡ 6) }
@@ -318,13 +318,14 @@ impl<H: ResetHook> ContextTree<H> {
         ensures some { (s : Space) → option_map (λ id. id.number) result ≡ context_named name.now (stands_for self.now s) }
         ensures live { IfSome result (IsLive self.now) }
     {
-        self.names.get(&NameKey::new(name)).copied()
+        self.names.get(name).copied()
     }
 
     /// The topmost context: `TopMemoryContext`.
     pub fn top(&self) -> CtxId
         ensures number { result.number ≡ 1 }
         ensures live { has 1 self.now.places ≡ true → IsLive self.now result }
+        ensures stands { (s : Space) → has 1 (stands_for self.now s) ≡ true → IsLive self.now result }
     {
         self.own.top
     }
@@ -333,6 +334,7 @@ impl<H: ResetHook> ContextTree<H> {
     pub fn cache(&self) -> CtxId
         ensures number { result.number ≡ 3 }
         ensures live { has 3 self.now.places ≡ true → IsLive self.now result }
+        ensures stands { (s : Space) → has 3 (stands_for self.now s) ≡ true → IsLive self.now result }
     {
         self.own.cache
     }
@@ -341,6 +343,7 @@ impl<H: ResetHook> ContextTree<H> {
     pub fn portals(&self) -> CtxId
         ensures number { result.number ≡ 4 }
         ensures live { has 4 self.now.places ≡ true → IsLive self.now result }
+        ensures stands { (s : Space) → has 4 (stands_for self.now s) ≡ true → IsLive self.now result }
     {
         self.own.portals
     }
@@ -349,6 +352,7 @@ impl<H: ResetHook> ContextTree<H> {
     pub fn abort_context(&self) -> CtxId
         ensures number { result.number ≡ 5 }
         ensures live { has 5 self.now.places ≡ true → IsLive self.now result }
+        ensures stands { (s : Space) → has 5 (stands_for self.now s) ≡ true → IsLive self.now result }
     {
         self.own.abort
     }
@@ -375,7 +379,7 @@ impl<H: ResetHook> ContextTree<H> {
         ensures err { OnErr result (self.new ≡ self.old) }
         ensures err_space { OnErr result (space.new ≡ space.old) }
     {
-        make_room(&mut self.chunk_names, &chunk)?;
+        room_for_chunk(&mut self.chunk_names, &chunk)?;
         let number = self.next_entry;
         let Some(next) = number.checked_add(1) else {
             return Err(TreeError::Memory);
@@ -383,7 +387,7 @@ impl<H: ResetHook> ContextTree<H> {
         let node = self.nodes.get_mut(node_at(at));
         let entry = node.alloc(space, number, chunk, size)?;
         self.next_entry = next;
-        enter(&mut self.chunk_names, chunk, ChunkId { context: at, entry });
+        enter_chunk(&mut self.chunk_names, chunk, ChunkId { context: at, entry });
         Ok(())
     }
 
@@ -406,7 +410,7 @@ impl<H: ResetHook> ContextTree<H> {
         ensures err { OnErr result (self.new ≡ self.old) }
         ensures err_space { OnErr result (space.new ≡ space.old) }
     {
-        make_room(&mut self.chunk_names, &chunk)?;
+        room_for_chunk(&mut self.chunk_names, &chunk)?;
         let number = self.next_entry;
         let Some(next) = number.checked_add(1) else {
             return Err(TreeError::Memory);
@@ -414,7 +418,7 @@ impl<H: ResetHook> ContextTree<H> {
         let node = self.nodes.get_mut(node_at(at));
         let entry = node.alloc0(space, number, chunk, size)?;
         self.next_entry = next;
-        enter(&mut self.chunk_names, chunk, ChunkId { context: at, entry });
+        enter_chunk(&mut self.chunk_names, chunk, ChunkId { context: at, entry });
         Ok(())
     }
 
@@ -460,7 +464,7 @@ impl<H: ResetHook> ContextTree<H> {
         self.nodes
             .get_mut(node_at(id.context))
             .free(space, id.entry)?;
-        let _ = self.chunk_names.remove(&NameKey::new(chunk));
+        let _ = self.chunk_names.remove(chunk);
         Ok(())
     }
 
@@ -537,7 +541,7 @@ impl<H: ResetHook> ContextTree<H> {
         ensures none { result ≡ None → (s : Space) → found name.now (stands_for self.now s) ≡ None }
         ensures some { IfSome result (Leads self.now name.now) }
     {
-        self.chunk_names.get(&NameKey::new(name)).copied()
+        self.chunk_names.get(name).copied()
     }
 
     /// The chunk of a name.
@@ -622,7 +626,7 @@ impl<H: ResetHook> ContextTree<H> {
         ensures emits { E.emits out.old (cleared_alone at.number (stands_for self.old space.old)).events out.new }
     {
         let node = self.nodes.get_mut(node_at(at));
-        if node.used {
+        if node.is_used() {
             node.reset(space, shelf, &mut self.chunk_names, at.number, out);
         }
     }
@@ -739,7 +743,7 @@ impl<H: ResetHook> ContextTree<H> {
         ensures emits { E.emits out.old (gone at.number (stands_for self.old space.old)).events out.new }
     {
         let node = self.nodes.remove(node_at(at));
-        forget_context(&mut self.names, node.protected, &node.name);
+        forget_context(&mut self.names, node.is_protected(), &node.name());
         node.end(space, shelf, &mut self.chunk_names, at.number, out);
         out.emit(What::Delete(at.number));
     }
@@ -849,7 +853,7 @@ impl<H: ResetHook> ContextTree<H> {
         requires { IsLive self.now at }
         ensures { (s : Space) → result ≡ is_protected at.number (stands_for self.now s) }
     {
-        self.nodes.get(node_at(at)).protected
+        self.nodes.get(node_at(at)).is_protected()
     }
 
     /// Whether a context has no child and wasn't used since it was made or reset: `MemoryContextIsEmpty`.
@@ -857,7 +861,7 @@ impl<H: ResetHook> ContextTree<H> {
         requires { IsLive self.now at }
         ensures { (s : Space) → result ≡ rules.is_empty at.number (stands_for self.now s) }
     {
-        !self.nodes.get(node_at(at)).used && self.nodes.first_child(node_at(at)).is_none()
+        !self.nodes.get(node_at(at)).is_used() && self.nodes.first_child(node_at(at)).is_none()
     }
 
     /// Makes a context the current one: `MemoryContextSwitchTo`.
@@ -875,11 +879,19 @@ impl<H: ResetHook> ContextTree<H> {
         self.current
     }
 
-    /// How many contexts live.
+    /// How many contexts live. No two of them have one number.
     pub fn count(&self) -> u64
-        ensures { (s : Space) → result ≡ size (stands_for self.now s) }
+        ensures value { (s : Space) → result ≡ size (stands_for self.now s) }
+        ensures once { (s : Space) → Once (stands_for self.now s) }
     {
         self.nodes.len() as u64
+    }
+
+    /// The law by which a caller knows which contexts are there: those that have a place. A caller names it and cites it.
+    pub fn lies(&self)
+        ensures { (n : ℕ) (s : Space) → has n (stands_for self.now s) ≡ has n self.now.places }
+    {
+        let _ = &self.nodes;
     }
 
     /// The laws by which a caller keeps this tree while another one, of another account, changes in the same space. A caller

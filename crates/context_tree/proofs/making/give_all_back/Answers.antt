@@ -1,7 +1,7 @@
 use Rattle.std.proofs.Common.{◌≡◌, ℕ, Some, ap, ◌∙◌, subst, arith}
 use Rattle.forest.specs.Forest.{Forest, Empty, at, children, size}
 use Rattle.forest.proofs.Trees.{has_at, size_removed}
-use Rattle.context_tree.specs.Kept.{Kept}
+use Rattle.context_node.specs.Kept.{Kept}
 use Rattle.context_tree.specs.State.{Moves}
 use Rattle.context_tree.specs.Making.{bare}
 use Rattle.context_tree.proofs.Allocs.{tree_none}

@@ -1,8 +1,8 @@
 -- What is left agrees with the space, and what was given back made it move.
 use Rattle.std.proofs.Common.{◌≡◌, ℕ, Some}
 use Rattle.forest.specs.Forest.{at, size}
-use Rattle.context_tree.specs.Kept.{Kept}
-use Rattle.context_tree.specs.Soundness.{IsSoundContext}
+use Rattle.context_node.specs.Kept.{Kept}
+use Rattle.context_node.specs.Soundness.{IsSoundContext}
 use Rattle.context_tree.specs.State.{Agrees, Moves}
 use Rattle.context_tree.specs.Making.{bare}
 use Rattle.context_tree.proofs.making.give_all_back.Given as goal

@@ -8,7 +8,7 @@ use Rattle.forest.specs.Forest.{size}
 use Rattle.any_ctx.specs.Contexts.{footprint}
 use Rattle.context_rules.specs.declared.errors.TreeError.{TreeError}
 use Rattle.context_rules.specs.declared.errors.TreeError.TheVariants.{Memory}
-use Rattle.context_tree.specs.Kept.{Kept}
+use Rattle.context_node.specs.Kept.{Kept}
 use Rattle.context_tree.specs.Making.{room_refusal}
 use Rattle.context_tree.proofs.Rooms.{no_room, given_back}
 use Rattle.context_tree.proofs.making.grow.Goals as goal

@@ -6,8 +6,8 @@ use Rattle.forest.specs.Preorder.{Visited}
 use Rattle.context_report.specs.Lines.{no_total}
 use Rattle.context_report.specs.declared.Total.{Total}
 use Rattle.context_rules.specs.Reports.{summed, lines}
-use Rattle.context_tree.specs.Kept.{Kept}
-use Rattle.context_tree.specs.State.{context_of}
+use Rattle.context_node.specs.Kept.{Kept}
+use Rattle.context_node.specs.State.{context_of}
 use Rattle.context_tree.proofs.Telling.{told, all_added, lines_told, summed_added, fits_next}
 use Rattle.context_tree.proofs.reporting.report_all.Goals as goal
 

@@ -1,19 +1,19 @@
-use Rattle.std.proofs.Common.{◌≡◌, ℕ, ◌+◌, ◌<◌, ◌⊎◌, true, false, List, Option, Some, None, Result, Err, IfErr, refl, sym, ap, ◌∙◌, subst}
+use Rattle.std.proofs.Common.{◌≡◌, ℕ, ◌+◌, ◌<◌, ◌⊎◌, true, false, Some, Result, Err, IfErr, refl, sym, ap, ◌∙◌, subst}
 use Rattle.std.proofs.lemmas.Result.{err_from_is_err_and}
 use Rattle.std.specs.HashMap.{get}
-use Rattle.addr_space.specs.Space.{Space, held, accounts}
+use Rattle.addr_space.specs.Space.{Space, accounts}
 use Rattle.pgs_step.specs.declared.ids.CtxId.{CtxId}
 use Rattle.forest.specs.declared.id.NodeId.{NodeId}
-use Rattle.forest.specs.Forest.{Forest, at, has, size}
+use Rattle.forest.specs.Forest.{at, has}
 use Rattle.forest.specs.Forested.{Forested}
 use Rattle.forest.proofs.Trees.{has_at}
-use Rattle.context_rules.specs.Names.{is_reserved}
 use Rattle.context_rules.specs.Refusals.{create_refusal}
 use Rattle.context_rules.specs.declared.errors.TreeError.{TreeError}
 use Rattle.context_rules.specs.declared.errors.TreeError.TheVariants.{Memory}
-use Rattle.context_tree.specs.declared.making.NewContext.{NewContext}
-use Rattle.context_tree.specs.Kept.{Kept}
-use Rattle.context_tree.specs.Soundness.{same, IsSound}
+use Rattle.context_node.specs.declared.making.NewContext.{NewContext}
+use Rattle.context_node.specs.Kept.{Kept}
+use Rattle.context_node.specs.Soundness.{same}
+use Rattle.context_tree.specs.Soundness.{IsSound}
 use Rattle.context_tree.specs.State.{TreeState, stands_for, Agrees, Moves, SameRegions, left_of}
 use Rattle.context_tree.specs.Making.{Grew, Added}
 use Rattle.context_tree.proofs.Allocs.{tree_none}

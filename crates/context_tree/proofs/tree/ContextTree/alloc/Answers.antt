@@ -8,10 +8,11 @@ use Rattle.context_rules.specs.Chunks.{asked, allocated}
 use Rattle.context_rules.specs.Refusals.{is_chunk, alloc_refusal}
 use Rattle.context_rules.specs.declared.errors.TreeError.{TreeError}
 use Rattle.context_rules.specs.declared.errors.TreeError.TheVariants.{Memory}
-use Rattle.context_tree.specs.declared.chunk_id.ChunkId.{ChunkId}
-use Rattle.context_tree.specs.Kept.{Kept}
-use Rattle.context_tree.specs.Soundness.{same, IsSound}
-use Rattle.context_tree.specs.Chunking.{entered}
+use Rattle.context_node.specs.declared.chunk_id.ChunkId.{ChunkId}
+use Rattle.context_node.specs.Kept.{Kept}
+use Rattle.context_node.specs.Soundness.{same}
+use Rattle.context_tree.specs.Soundness.{IsSound}
+use Rattle.context_node.specs.Chunking.{entered}
 use Rattle.context_tree.specs.State.{TreeState, stands_for, Agrees, Moves, left_of}
 use Rattle.context_tree.proofs.Names.{once_of}
 use Rattle.context_tree.proofs.Sounds.{tree_back, changed_back}
@@ -19,24 +20,24 @@ use Rattle.context_tree.proofs.Allocs.{tree_none, sound_names, entry_fresh, entr
 use Rattle.context_tree.proofs.tree.ContextTree.alloc.Goals as goal
 
 pub invariant_of-self : goal.invariant_of-self
-invariant_of-self g c = sound_names _ _ _ _ _ _ _ _ c.self.invariant _ c.make_room.ensures.names
+invariant_of-self g c = sound_names _ _ _ _ _ _ _ _ c.self.invariant _ c.room_for_chunk.ensures.names
 
-pub returns-in_err-make_room-clause-moves : goal.returns-in_err-make_room-clause-moves
-returns-in_err-make_room-clause-moves g c =
+pub returns-in_err-room_for_chunk-clause-moves : goal.returns-in_err-room_for_chunk-clause-moves
+returns-in_err-room_for_chunk-clause-moves g c =
     let a : TreeState = record { kept = c.self.inside.nodes.forest; places = c.self.inside.nodes.places; account = c.self.inside.account; current = c.self.inside.current; next = c.self.inside.next } in
     subst (λ (x : TreeState). Moves x a c.args.space.now c.args.space.now) c.self.view_is
     (tree_none a c.args.space.now (subst (λ (x : TreeState). Agrees x c.args.space.now) (sym c.self.view_is) c.requires.agrees))
 
-pub returns-in_err-make_room-clause-refused : goal.returns-in_err-make_room-clause-refused
-returns-in_err-make_room-clause-refused g c =
+pub returns-in_err-room_for_chunk-clause-refused : goal.returns-in_err-room_for_chunk-clause-refused
+returns-in_err-room_for_chunk-clause-refused g c =
     let a : TreeState = record { kept = c.self.inside.nodes.forest; places = c.self.inside.nodes.places; account = c.self.inside.account; current = c.self.inside.current; next = c.self.inside.next } in
-    let p : c.from_residual.result ≡ Err c.in_err-make_room.field-0.0 = (let q = err_from_is_err_and c.from_residual.result c.from_residual.ensures.1 in cc) in
+    let p : c.from_residual.result ≡ Err c.in_err-room_for_chunk.field-0.0 = (let q = err_from_is_err_and c.from_residual.result c.from_residual.ensures.1 in cc) in
     subst (λ (r : Result (Unit {0}) TreeError). IfErr r (λ e. (e ≡ Memory) ⊎ (alloc_refusal c.args.at.number (left_of c.args.self.now c.args.space.now) c.args.chunk c.args.size (stands_for c.args.self.now c.args.space.now) ≡ Some e))) (sym p)
-    (subst (λ (x : TreeState). (c.in_err-make_room.field-0.0 ≡ Memory) ⊎ (alloc_refusal c.args.at.number (left_of x c.args.space.now) c.args.chunk c.args.size (stands_for x c.args.space.now) ≡ Some c.in_err-make_room.field-0.0)) c.self.view_is
-    (alloc_taken a _ _ _ _ c.self.invariant c.args.space.now c.args.at.number (left_of a c.args.space.now) c.args.size c.args.chunk c.in_err-make_room.field-0.0 c.in_err-make_room.ensures.refused))
+    (subst (λ (x : TreeState). (c.in_err-room_for_chunk.field-0.0 ≡ Memory) ⊎ (alloc_refusal c.args.at.number (left_of x c.args.space.now) c.args.chunk c.args.size (stands_for x c.args.space.now) ≡ Some c.in_err-room_for_chunk.field-0.0)) c.self.view_is
+    (alloc_taken a _ _ _ _ c.self.invariant c.args.space.now c.args.at.number (left_of a c.args.space.now) c.args.size c.args.chunk c.in_err-room_for_chunk.field-0.0 c.in_err-room_for_chunk.ensures.refused))
 
 pub invariant_of-self-in_default : goal.invariant_of-self-in_default
-invariant_of-self-in_default g c = sound_names _ _ _ _ _ _ _ _ c.self.invariant _ c.make_room.ensures.names
+invariant_of-self-in_default g c = sound_names _ _ _ _ _ _ _ _ c.self.invariant _ c.room_for_chunk.ensures.names
 
 pub returns-in_default-clause-moves : goal.returns-in_default-clause-moves
 returns-in_default-clause-moves g c =
@@ -57,8 +58,8 @@ invariant_of-self-in_err-entry g c =
     let back : changed c.node_at.result.number (λ _. c.alloc.new.self) c.self.inside.nodes.forest ≡ c.self.inside.nodes.forest =
     ap (λ (x : Kept). changed c.node_at.result.number (λ _. x) c.self.inside.nodes.forest) c.in_err-entry.ensures.err
     ∙ changed_back c.node_at.result.number c.get_mut-node.result.now c.self.inside.nodes.forest o c.get_mut-node.ensures.value in
-    subst (λ (x : Forest Kept). IsSound x c.self.inside.nodes.places (get same c.self.inside.names) (get same c.make_room.new.names) c.self.inside.own c.self.inside.current c.self.inside.next c.self.inside.next_entry)
-    (sym back) (sound_names _ _ _ _ _ _ _ _ c.self.invariant _ c.make_room.ensures.names)
+    subst (λ (x : Forest Kept). IsSound x c.self.inside.nodes.places (get same c.self.inside.names) (get same c.room_for_chunk.new.names) c.self.inside.own c.self.inside.current c.self.inside.next c.self.inside.next_entry)
+    (sym back) (sound_names _ _ _ _ _ _ _ _ c.self.invariant _ c.room_for_chunk.ensures.names)
 
 pub returns-in_err-entry-clause-moves : goal.returns-in_err-entry-clause-moves
 returns-in_err-entry-clause-moves g c =
@@ -87,7 +88,7 @@ returns-in_err-entry-clause-refused g c =
     let o : Once a.kept = once_of _ _ _ _ _ _ _ _ c.self.invariant c.args.space.now [] in
     let b : TreeState = record a { kept = changed n (λ _. l) a.kept } in
     let p : c.from_residual-in_err-entry.result ≡ Err c.in_err-entry.field-0.0 = (let q = err_from_is_err_and c.from_residual-in_err-entry.result c.from_residual-in_err-entry.ensures.1 in cc) in
-    let free : is_chunk c.args.chunk (stands_for a c.args.space.now) ≡ false = unnamed a _ _ _ _ c.self.invariant c.args.space.now c.args.chunk c.in_ok-make_room.ensures.unnamed in
+    let free : is_chunk c.args.chunk (stands_for a c.args.space.now) ≡ false = unnamed a _ _ _ _ c.self.invariant c.args.space.now c.args.chunk c.in_ok-room_for_chunk.ensures.unnamed in
     subst (λ (r : Result (Unit {0}) TreeError). IfErr r (λ e. (e ≡ Memory) ⊎ (alloc_refusal c.args.at.number (left_of c.args.self.now c.args.space.now) c.args.chunk c.args.size (stands_for c.args.self.now c.args.space.now) ≡ Some e))) (sym p)
     (subst (λ (x : TreeState). (c.in_err-entry.field-0.0 ≡ Memory) ⊎ (alloc_refusal c.args.at.number (left_of x c.args.space.now) c.args.chunk c.args.size (stands_for x c.args.space.now) ≡ Some c.in_err-entry.field-0.0)) c.self.view_is
     (subst (λ (i : ℕ). (c.in_err-entry.field-0.0 ≡ Memory) ⊎ (alloc_refusal i (left_of a c.args.space.now) c.args.chunk c.args.size (stands_for a c.args.space.now) ≡ Some c.in_err-entry.field-0.0)) nn
@@ -117,15 +118,15 @@ invariant_of-self-2 g c =
     let o : Once a.kept = once_of _ _ _ _ _ _ _ _ c.self.invariant c.args.space.now [] in
     let b : TreeState = record a { kept = changed n (λ _. l) a.kept } in
     let slot = c.in_ok-entry.entry.slot in
-    let G : List ℕ → Option ChunkId = get same c.make_room.new.names in
+    let G : List ℕ → Option ChunkId = get same c.room_for_chunk.new.names in
     let placed : at n a.places ≡ Some c.args.at.slot = ap (λ (i : ℕ). at i a.places) nn ∙ ap (λ (t : TreeState). at c.args.at.number t.places) c.self.view_is ∙ c.requires.live in
-    subst (λ (i : ℕ). IsSound b.kept a.places (get same c.self.inside.names) (get same c.enter.new.names) c.self.inside.own a.current a.next i) (sym c.in-Some.ensures.1)
+    subst (λ (i : ℕ). IsSound b.kept a.places (get same c.self.inside.names) (get same c.enter_chunk.new.names) c.self.inside.own a.current a.next i) (sym c.in-Some.ensures.1)
     (sound_alloc a.kept a.places (get same c.self.inside.names) G c.self.inside.own a.current a.next c.self.inside.next_entry
-    (sound_names _ _ _ _ _ _ _ _ c.self.invariant _ c.make_room.ensures.names)
+    (sound_names _ _ _ _ _ _ _ _ c.self.invariant _ c.room_for_chunk.ensures.names)
     n c.args.at.slot slot k l c.args.chunk c.args.size [] c.args.space.now c.alloc.new.space c.get_mut-node.ensures.value placed c.in_ok-entry.ensures.took (agrees.each n k c.get_mut-node.ensures.value)
-    (λ w h. c.make_room.ensures.names w ∙ c.in_ok-make_room.ensures.unnamed w h)
-    (get same c.enter.new.names)
-    (λ w. c.enter.ensures w
+    (λ w h. c.room_for_chunk.ensures.names w ∙ c.in_ok-room_for_chunk.ensures.unnamed w h)
+    (get same c.enter_chunk.new.names)
+    (λ w. c.enter_chunk.ensures w
     ∙ ap (λ (i : ℕ). entered c.args.chunk (record { context = c.args.at; entry = record { number = i; slot = slot } }) G w) c.in_ok-entry.ensures.number
     ∙ ap (λ (i : ℕ). entered c.args.chunk (record { context = record { number = i; slot = c.args.at.slot }; entry = record { number = c.self.inside.next_entry; slot = slot } }) G w) (sym nn)))
 
@@ -192,7 +193,7 @@ returns-clause-served g c =
     let slot = c.in_ok-entry.entry.slot in
     let here = c.get_mut-node.ensures.value in
     let fresh : has c.self.inside.next_entry k.chunks ≡ false = entry_fresh _ _ _ _ _ _ _ _ c.self.invariant n k here in
-    let free : is_chunk c.args.chunk (stands_for a c.args.space.now) ≡ false = unnamed a _ _ _ _ c.self.invariant c.args.space.now c.args.chunk c.in_ok-make_room.ensures.unnamed in
+    let free : is_chunk c.args.chunk (stands_for a c.args.space.now) ≡ false = unnamed a _ _ _ _ c.self.invariant c.args.space.now c.args.chunk c.in_ok-room_for_chunk.ensures.unnamed in
     subst (λ (x : TreeState). alloc_refusal c.args.at.number (left_of x c.args.space.now) c.args.chunk c.args.size (stands_for x c.args.space.now) ≡ None) c.self.view_is
     (subst (λ (i : ℕ). alloc_refusal i (left_of a c.args.space.now) c.args.chunk c.args.size (stands_for a c.args.space.now) ≡ None) nn
     (alloc_served a c.args.space.now n k agrees here l c.self.inside.next_entry slot c.args.chunk c.args.size [] c.alloc.new.space o c.self.invariant.each c.in_ok-entry.ensures.took fresh free))

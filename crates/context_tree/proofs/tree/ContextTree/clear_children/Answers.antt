@@ -1,5 +1,5 @@
 -- Each turn takes out the first of what is left.
-use Rattle.std.proofs.Common.{◌≡◌, ◌≢◌, ◌<◌, ℕ, true, Some, List, ◌++◌, arith, ap, refl, sym, ◌∙◌, subst, inl}
+use Rattle.std.proofs.Common.{◌≡◌, ◌≢◌, true, Some, List, ◌++◌, arith, ap, refl, sym, ◌∙◌, subst, inl}
 use Rattle.pgs_step.specs.declared.events.What.{What}
 use Rattle.forest.specs.declared.id.NodeId.{NodeId}
 use Rattle.forest.specs.Forest.{Forest, Once, has, at, size, children, removed}
@@ -7,14 +7,13 @@ use Rattle.forest.specs.Walk.{lead, follows}
 use Rattle.context_rules.specs.Contexts.{Contexts}
 use Rattle.context_rules.specs.Ends.{Ended, and_then, unchanged, gone}
 use Rattle.context_tree.specs.Calls.{Did}
-use Rattle.context_tree.specs.Kept.{Kept}
+use Rattle.context_node.specs.Kept.{Kept}
 use Rattle.context_tree.specs.State.{TreeState, stands_for}
 use Rattle.pgs_step.specs.declared.ids.CtxId.{CtxId}
 use Rattle.context_tree.proofs.Rearranged.{above_stands}
 use Rattle.context_tree.proofs.Going.{once_stands, has_stands, lead_stands, follows_stands}
 use Rattle.context_tree.proofs.Walking.{left_first, left_hooks, left_turn, left_next, left_other, left_end, left_did}
 use Rattle.context_tree.proofs.tree.ContextTree.clear_children.Goals as goal
-use Rattle.context_tree.proofs.tree.ContextTree.clear_children.Given as given
 
 pub loop-leaf-init : goal.loop-leaf-init
 loop-leaf-init g c =

@@ -1,5 +1,4 @@
 -- What was done and what is left of the walk.
-use Rattle.std.proofs.Common.{◌≡◌}
 use Rattle.forest.specs.Forest.{size}
 use Rattle.context_rules.specs.Ends.{Ended}
 use Rattle.context_tree.specs.State.{stands_for}

@@ -1,11 +1,12 @@
-use Rattle.std.proofs.Common.{◌≡◌, ℕ, true, false, List, [], Some, refl, sym, ap, ◌∙◌, subst}
+use Rattle.std.proofs.Common.{◌≡◌, ℕ, List, [], Some, refl, sym, ap, ◌∙◌, subst}
 use Rattle.std.specs.HashMap.{get}
 use Rattle.pgs_step.specs.declared.events.What.{What}
 use Rattle.forest.specs.declared.id.NodeId.{NodeId}
 use Rattle.forest.specs.Forest.{Forest, at, changed, Once}
 use Rattle.context_rules.specs.Ends.{Ended, cleared_alone}
-use Rattle.context_tree.specs.Kept.{Kept}
-use Rattle.context_tree.specs.Soundness.{same, IsSound}
+use Rattle.context_node.specs.Kept.{Kept}
+use Rattle.context_node.specs.Soundness.{same}
+use Rattle.context_tree.specs.Soundness.{IsSound}
 use Rattle.context_tree.specs.State.{TreeState, stands_for, Agrees, HooksFit}
 use Rattle.context_tree.specs.Calls.{Did}
 use Rattle.context_tree.proofs.Names.{once_of}
@@ -76,8 +77,8 @@ invariant_of-self g c =
     (sound_emptied a s c.reset.new.space c.args.shelf.now c.reset.new.shelf n node l (get same c.self.inside.chunk_names) (get same c.reset.new.names) once here cleared)
     (no_chunks a s c.reset.new.space c.args.shelf.now c.reset.new.shelf n node l (get same c.self.inside.chunk_names) (get same c.reset.new.names) once here cleared))
 
-pub returns-then-node-clause-did : goal.returns-then-node-clause-did
-returns-then-node-clause-did g c =
+pub returns-then-is_used-clause-did : goal.returns-then-is_used-clause-did
+returns-then-is_used-clause-did g c =
     let a : TreeState = record { kept = c.self.inside.nodes.forest; places = c.self.inside.nodes.places; account = c.self.inside.account; current = c.self.inside.current; next = c.self.inside.next } in
     let s = c.args.space.now in
     let n = c.args.at.number in
@@ -91,10 +92,10 @@ returns-then-node-clause-did g c =
     let l : Kept = c.reset.new.self in
     subst (λ (x : TreeState). Did (cleared_alone n (stands_for x s)) x (record a { kept = changed c.node_at.result.number (λ _. l) a.kept }) s c.reset.new.space c.args.shelf.now c.reset.new.shelf) c.self.view_is
     (subst (λ (i : ℕ). Did (cleared_alone n (stands_for a s)) a (record a { kept = changed i (λ _. l) a.kept }) s c.reset.new.space c.args.shelf.now c.reset.new.shelf) (sym nn)
-    (did_clear a s c.reset.new.space c.args.shelf.now c.reset.new.shelf n node l (get same c.self.inside.chunk_names) (get same c.reset.new.names) once here cleared agrees c.self.invariant.each (ap (λ (x : Kept). x.used) (sym c.node.view_is) ∙ c.if-node.true) hooks))
+    (did_clear a s c.reset.new.space c.args.shelf.now c.reset.new.shelf n node l (get same c.self.inside.chunk_names) (get same c.reset.new.names) once here cleared agrees c.self.invariant.each (sym c.is_used.ensures ∙ c.if-is_used.true) hooks))
 
-pub returns-then-node-clause-emits : goal.returns-then-node-clause-emits
-returns-then-node-clause-emits g c =
+pub returns-then-is_used-clause-emits : goal.returns-then-is_used-clause-emits
+returns-then-is_used-clause-emits g c =
     let a : TreeState = record { kept = c.self.inside.nodes.forest; places = c.self.inside.nodes.places; account = c.self.inside.account; current = c.self.inside.current; next = c.self.inside.next } in
     let s = c.args.space.now in
     let n = c.args.at.number in
@@ -103,11 +104,11 @@ returns-then-node-clause-emits g c =
     let here : at n a.kept ≡ Some node = ap (λ (i : ℕ). at i a.kept) (sym nn) ∙ c.get_mut-node.ensures.value in
     let once : Once a.kept = once_of _ _ _ _ _ _ _ _ c.self.invariant s [] in
     subst (λ (x : List What). g.E.Emit.emits c.args.out.now x c.reset.new.out)
-    (sym (ap (λ (x : Ended). x.events) (cleared_used a s n node once here (ap (λ (x : Kept). x.used) (sym c.node.view_is) ∙ c.if-node.true))) ∙ ap (λ (x : TreeState). (cleared_alone n (stands_for x s)).events) c.self.view_is)
+    (sym (ap (λ (x : Ended). x.events) (cleared_used a s n node once here (sym c.is_used.ensures ∙ c.if-is_used.true))) ∙ ap (λ (x : TreeState). (cleared_alone n (stands_for x s)).events) c.self.view_is)
     c.reset.ensures.emits
 
-pub invariant_of-self-else-node : goal.invariant_of-self-else-node
-invariant_of-self-else-node g c =
+pub invariant_of-self-else-is_used : goal.invariant_of-self-else-is_used
+invariant_of-self-else-is_used g c =
     let a : TreeState = record { kept = c.self.inside.nodes.forest; places = c.self.inside.nodes.places; account = c.self.inside.account; current = c.self.inside.current; next = c.self.inside.next } in
     let s = c.args.space.now in
     let n = c.args.at.number in
@@ -118,8 +119,8 @@ invariant_of-self-else-node g c =
     subst (λ (x : Forest Kept). IsSound x a.places (get same c.self.inside.names) (get same c.self.inside.chunk_names) c.self.inside.own a.current a.next c.self.inside.next_entry)
     (sym (changed_back c.node_at.result.number node a.kept once c.get_mut-node.ensures.value)) c.self.invariant
 
-pub returns-else-node-clause-did : goal.returns-else-node-clause-did
-returns-else-node-clause-did g c =
+pub returns-else-is_used-clause-did : goal.returns-else-is_used-clause-did
+returns-else-is_used-clause-did g c =
     let a : TreeState = record { kept = c.self.inside.nodes.forest; places = c.self.inside.nodes.places; account = c.self.inside.account; current = c.self.inside.current; next = c.self.inside.next } in
     let s = c.args.space.now in
     let n = c.args.at.number in
@@ -132,10 +133,10 @@ returns-else-node-clause-did g c =
     let same_tree : record a { kept = changed c.node_at.result.number (λ _. node) a.kept } ≡ a = tree_back a c.node_at.result.number node node c.get_mut-node.ensures.value once refl in
     subst (λ (x : TreeState). Did (cleared_alone n (stands_for x s)) x (record a { kept = changed c.node_at.result.number (λ _. node) a.kept }) s s c.args.shelf.now c.args.shelf.now) c.self.view_is
     (subst (λ (x : TreeState). Did (cleared_alone n (stands_for a s)) a x s s c.args.shelf.now c.args.shelf.now) (sym same_tree)
-    (subst (λ (x : Ended). Did x a a s s c.args.shelf.now c.args.shelf.now) (sym (cleared_unused a s n node once here (ap (λ (x : Kept). x.used) (sym c.node.view_is) ∙ c.if-node.false))) (did_unchanged a s c.args.shelf.now agrees hooks)))
+    (subst (λ (x : Ended). Did x a a s s c.args.shelf.now c.args.shelf.now) (sym (cleared_unused a s n node once here (sym c.is_used.ensures ∙ c.if-is_used.false))) (did_unchanged a s c.args.shelf.now agrees hooks)))
 
-pub returns-else-node-clause-emits : goal.returns-else-node-clause-emits
-returns-else-node-clause-emits g c =
+pub returns-else-is_used-clause-emits : goal.returns-else-is_used-clause-emits
+returns-else-is_used-clause-emits g c =
     let a : TreeState = record { kept = c.self.inside.nodes.forest; places = c.self.inside.nodes.places; account = c.self.inside.account; current = c.self.inside.current; next = c.self.inside.next } in
     let s = c.args.space.now in
     let n = c.args.at.number in
@@ -144,5 +145,5 @@ returns-else-node-clause-emits g c =
     let here : at n a.kept ≡ Some node = ap (λ (i : ℕ). at i a.kept) (sym nn) ∙ c.get_mut-node.ensures.value in
     let once : Once a.kept = once_of _ _ _ _ _ _ _ _ c.self.invariant s [] in
     subst (λ (x : List What). g.E.Emit.emits c.args.out.now x c.args.out.now)
-    (sym (ap (λ (x : Ended). x.events) (cleared_unused a s n node once here (ap (λ (x : Kept). x.used) (sym c.node.view_is) ∙ c.if-node.false))) ∙ ap (λ (x : TreeState). (cleared_alone n (stands_for x s)).events) c.self.view_is)
+    (sym (ap (λ (x : Ended). x.events) (cleared_unused a s n node once here (sym c.is_used.ensures ∙ c.if-is_used.false))) ∙ ap (λ (x : TreeState). (cleared_alone n (stands_for x s)).events) c.self.view_is)
     (g.met.E.Emit.emits_none c.args.out.now)

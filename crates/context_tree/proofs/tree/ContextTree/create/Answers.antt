@@ -1,4 +1,4 @@
-use Rattle.std.proofs.Common.{◌≡◌, ◌⊎◌, ℕ, [], ◌∷◌, Some, Result, Err, IfErr, sym, ap, ◌∙◌, subst}
+use Rattle.std.proofs.Common.{◌≡◌, ◌⊎◌, ℕ, [], ◌∷◌, Some, Result, Err, IfErr, sym, ap, subst}
 use Rattle.std.proofs.lemmas.Result.{err_from_is_err_and}
 use Rattle.pgs_step.specs.declared.ids.CtxId.{CtxId}
 use Rattle.pgs_step.specs.declared.events.What.TheVariants.{Create}

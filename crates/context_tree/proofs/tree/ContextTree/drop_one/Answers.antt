@@ -1,13 +1,13 @@
-use Rattle.std.proofs.Common.{◌≡◌, ◌≢◌, ◌⊎◌, ℕ, [], Some, refl, sym, ap, ◌∙◌, subst, inl, inr}
+use Rattle.std.proofs.Common.{◌≡◌, ◌≢◌, ◌⊎◌, ℕ, Bool, List, [], Some, refl, sym, ap, ◌∙◌, subst, inl, inr}
 use Rattle.std.specs.HashMap.{get}
 use Rattle.forest.specs.declared.id.NodeId.{NodeId}
 use Rattle.forest.specs.Forest.{Empty, at, children, removed, subtree, Once}
 use Rattle.context_rules.specs.Ends.{gone, gone_events}
-use Rattle.context_tree.specs.Kept.{Kept}
-use Rattle.context_tree.specs.Soundness.{same}
+use Rattle.context_node.specs.Kept.{Kept}
+use Rattle.context_node.specs.Soundness.{same}
 use Rattle.context_tree.specs.State.{TreeState, stands_for, Agrees, HooksFit}
 use Rattle.context_tree.specs.Calls.{Did}
-use Rattle.context_tree.specs.Ending.{without_context}
+use Rattle.context_node.specs.Ending.{without_context}
 use Rattle.context_tree.proofs.Names.{once_of}
 use Rattle.context_tree.proofs.Forgetting.{sound_went}
 use Rattle.context_tree.proofs.Resetting.{fits_of, words_of}
@@ -79,7 +79,7 @@ invariant_of-self g c =
     ] in
     sound_went a.kept a.places (get same c.self.inside.names) (get same c.self.inside.chunk_names) c.self.inside.own a.current a.next c.self.inside.next_entry c.self.invariant n node here
     (get same c.end.new.names) c.end.ensures.went.names (leaf_kept a s n alone) (λ m ne. ap (at m) (sym placed) ∙ stays m ne) (get same c.forget_context.new.names)
-    (λ w. c.forget_context.ensures w ∙ ap (λ (x : Kept). without_context x.protected x.name (get same c.self.inside.names) w) c.node.view_is)
+    (λ w. c.forget_context.ensures w ∙ ap (λ (b : Bool). without_context b c.name.result (get same c.self.inside.names) w) c.is_protected.ensures ∙ ap (λ (name : List ℕ). without_context node.protected name (get same c.self.inside.names) w) c.name.ensures)
     c.remove-node.new.self.forest c.remove-node.new.self.places kept placed apart
 
 pub returns-clause-did : goal.returns-clause-did

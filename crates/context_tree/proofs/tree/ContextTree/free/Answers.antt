@@ -1,5 +1,4 @@
-use Rattle.std.proofs.Common.{◌≡◌, ℕ, List, [], Some, None, Result, Err, OnErr, sym, ap, ◌∙◌, subst}
-use Rattle.std.specs.Prelude.{if◌then◌else◌}
+use Rattle.std.proofs.Common.{◌≡◌, ℕ, [], Some, Result, Err, OnErr, sym, ap, ◌∙◌, subst}
 use Rattle.std.proofs.lemmas.Result.{err_from_is_err_and}
 use Rattle.std.specs.HashMap.{get}
 use Rattle.addr_space.specs.Space.{Space}
@@ -7,8 +6,9 @@ use Rattle.forest.specs.declared.id.NodeId.{NodeId}
 use Rattle.forest.specs.Forest.{Forest, at, Once, changed}
 use Rattle.context_rules.specs.Chunks.{freed}
 use Rattle.context_rules.specs.declared.errors.TreeError.{TreeError}
-use Rattle.context_tree.specs.Kept.{Kept}
-use Rattle.context_tree.specs.Soundness.{same, IsSound}
+use Rattle.context_node.specs.Kept.{Kept}
+use Rattle.context_node.specs.Soundness.{same}
+use Rattle.context_tree.specs.Soundness.{IsSound}
 use Rattle.context_tree.specs.State.{TreeState, stands_for, Agrees, Moves}
 use Rattle.context_tree.specs.Lookup.{Leads}
 use Rattle.context_tree.proofs.Names.{once_of}
@@ -66,7 +66,7 @@ invariant_of-self-2 g c =
     (agrees.each id.context.number c.get_mut.result.now here)
     (entry_named a c.args.space.now c.free.new.space c.args.chunk.now id c.get_mut.result.now c.free.new.self agrees o c.self.invariant.each leads here c.in_ok-free.ensures.freed)
     (get same c.remove.new.self)
-    (λ q. c.remove.ensures.updates.0 q ∙ ap (λ (w : List ℕ). if same w q then None else get same c.self.inside.chunk_names q) c.new.ensures))
+    (λ q. c.remove.ensures.updates.0 q))
 
 pub returns-clause-contexts : goal.returns-clause-contexts
 returns-clause-contexts g c =

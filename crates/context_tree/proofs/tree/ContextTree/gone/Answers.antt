@@ -2,7 +2,7 @@
 use Rattle.std.proofs.Common.{[], ap, subst}
 use Rattle.forest.specs.Forest.{Forest, Once}
 use Rattle.context_rules.specs.Ends.{Ended}
-use Rattle.context_tree.specs.Kept.{Kept}
+use Rattle.context_node.specs.Kept.{Kept}
 use Rattle.context_tree.specs.State.{TreeState}
 use Rattle.context_tree.proofs.Names.{once_of}
 use Rattle.context_tree.proofs.Going.{once_stands}

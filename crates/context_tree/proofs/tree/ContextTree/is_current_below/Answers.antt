@@ -1,8 +1,8 @@
 -- The current context lies where the tree says, since the tree isn't empty.
-use Rattle.std.proofs.Common.{◌≡◌, ℕ, false, Option, Some, None, sym, ap, ◌∙◌, subst, inl, inr}
+use Rattle.std.proofs.Common.{◌≡◌, Some, None, sym, ap, ◌∙◌, subst, inl, inr}
 use Rattle.forest.specs.declared.id.NodeId.{NodeId}
-use Rattle.forest.specs.Forest.{Forest, Empty, has, at, first, children, is_above}
-use Rattle.context_tree.specs.Kept.{Kept}
+use Rattle.forest.specs.Forest.{Forest, has, at, first, children, is_above}
+use Rattle.context_node.specs.Kept.{Kept}
 use Rattle.context_tree.specs.State.{TreeState}
 use Rattle.context_tree.proofs.Rearranged.{above_stands}
 use Rattle.context_tree.proofs.Alone.{none_first}

@@ -1,9 +1,9 @@
-use Rattle.std.proofs.Common.{◌≡◌, ℕ, Result, Err, OnErr, sym, ap, ◌∙◌, subst}
+use Rattle.std.proofs.Common.{◌≡◌, ℕ, Err, OnErr, sym, subst}
 use Rattle.std.proofs.lemmas.Result.{err_from_is_err_and}
 use Rattle.addr_space.specs.Space.{Asks}
 use Rattle.addr_space.proofs.Asked.{Asks-more}
 use Rattle.context_rules.specs.declared.errors.TreeError.{TreeError}
-use Rattle.context_tree.specs.State.{TreeState, no_contexts, Moves, SameRegions}
+use Rattle.context_tree.specs.State.{no_contexts, SameRegions}
 use Rattle.context_tree.proofs.Adding.{regions_back}
 use Rattle.context_tree.proofs.Emptying.{tree_more}
 use Rattle.context_tree.proofs.Opening.{regions_same}

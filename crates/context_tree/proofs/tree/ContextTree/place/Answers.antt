@@ -2,7 +2,7 @@ use Rattle.std.proofs.Common.{◌≡◌, ◌+◌, ◌≤◌, length, Option, sym
 use Rattle.std.specs.Option.{IfSome}
 use Rattle.context_rules.specs.Contexts.{Found}
 use Rattle.context_rules.specs.Chunks.{written}
-use Rattle.context_tree.specs.declared.chunk_id.ChunkId.{ChunkId}
+use Rattle.context_node.specs.declared.chunk_id.ChunkId.{ChunkId}
 use Rattle.context_tree.specs.State.{TreeState, stands_for, Agrees, Moves}
 use Rattle.context_tree.specs.Lookup.{Leads}
 use Rattle.context_tree.proofs.Standing.{Stands, stands, place_has, known_long}

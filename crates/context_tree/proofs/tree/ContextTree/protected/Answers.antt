@@ -3,8 +3,8 @@ use Rattle.std.specs.Option.{option_map_or}
 use Rattle.forest.specs.declared.id.NodeId.{NodeId}
 use Rattle.forest.specs.Forest.{at}
 use Rattle.context_rules.specs.Contexts.{Context}
-use Rattle.context_tree.specs.Kept.{Kept}
-use Rattle.context_tree.specs.State.{TreeState, context_of, stands_for}
+use Rattle.context_node.specs.State.{context_of}
+use Rattle.context_tree.specs.State.{TreeState, stands_for}
 use Rattle.context_tree.proofs.Reading.{stands_at}
 use Rattle.context_tree.proofs.tree.ContextTree.protected.Goals as goal
 
@@ -13,4 +13,4 @@ returns g c s =
     let lies : at c.args.at.number (stands_for c.args.self.now s) ≡ Some (context_of s c.get.result.now) =
     stands_at c.args.self.now s c.args.at.number c.get.result.now
     (ap (λ (t : TreeState). at c.args.at.number t.kept) (sym c.self.view_is) ∙ ap (λ (x : NodeId). at x.number c.self.inside.nodes.forest) (sym c.node_at.ensures) ∙ c.get.ensures) in
-    ap (λ (k : Kept). k.protected) c.behind-self.view_is ∙ ap (λ (o : Option Context). option_map_or (λ x. x.protected) o false) (sym lies)
+    c.is_protected.ensures ∙ ap (λ (o : Option Context). option_map_or (λ x. x.protected) o false) (sym lies)

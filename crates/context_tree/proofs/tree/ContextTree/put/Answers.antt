@@ -9,16 +9,18 @@ use Rattle.forest.specs.Forest.{Forest, at, Once, changed}
 use Rattle.context_rules.specs.Chunks.{written}
 use Rattle.context_rules.specs.Refusals.{put_refusal}
 use Rattle.context_rules.specs.declared.errors.TreeError.{TreeError}
-use Rattle.context_tree.specs.declared.entry.Entry.{Entry}
-use Rattle.context_tree.specs.Kept.{Kept}
-use Rattle.context_tree.specs.Soundness.{same, IsSound}
+use Rattle.context_node.specs.declared.entry.Entry.{Entry}
+use Rattle.context_node.specs.Kept.{Kept}
+use Rattle.context_node.specs.Soundness.{same}
+use Rattle.context_tree.specs.Soundness.{IsSound}
 use Rattle.context_tree.specs.State.{TreeState, stands_for, Agrees, Moves, error_of}
 use Rattle.context_tree.specs.Lookup.{Leads}
 use Rattle.context_tree.proofs.Names.{once_of}
 use Rattle.context_tree.proofs.Sounds.{tree_back, changed_back, sound_same, one_named}
 use Rattle.context_tree.proofs.Allocs.{tree_none}
-use Rattle.context_tree.proofs.Changes.{names_changed}
-use Rattle.context_tree.proofs.Writing.{sound_written, put_moves, put_contexts, put_served, put_told, leads_entry, entry_named}
+use Rattle.context_node.proofs.Changes.{names_changed}
+use Rattle.context_node.proofs.Writing.{sound_written}
+use Rattle.context_tree.proofs.Writing.{put_moves, put_contexts, put_served, put_told, leads_entry, entry_named}
 use Rattle.context_tree.proofs.tree.ContextTree.put.Goals as goal
 
 pub put-requires-clause-agrees : goal.put-requires-clause-agrees

@@ -8,16 +8,18 @@ use Rattle.forest.specs.declared.id.NodeId.{NodeId}
 use Rattle.forest.specs.Forest.{Forest, at, Once, changed}
 use Rattle.context_rules.specs.Chunks.{resized}
 use Rattle.context_rules.specs.declared.errors.TreeError.{TreeError}
-use Rattle.context_tree.specs.declared.entry.Entry.{Entry}
-use Rattle.context_tree.specs.Kept.{Kept}
-use Rattle.context_tree.specs.Soundness.{same, IsSound}
+use Rattle.context_node.specs.declared.entry.Entry.{Entry}
+use Rattle.context_node.specs.Kept.{Kept}
+use Rattle.context_node.specs.Soundness.{same}
+use Rattle.context_tree.specs.Soundness.{IsSound}
 use Rattle.context_tree.specs.State.{TreeState, stands_for, Agrees, Moves}
 use Rattle.context_tree.specs.Lookup.{Leads}
 use Rattle.context_tree.proofs.Names.{once_of}
 use Rattle.context_tree.proofs.Sounds.{tree_back, changed_back, sound_same, one_named}
 use Rattle.context_tree.proofs.Allocs.{tree_none}
-use Rattle.context_tree.proofs.Changes.{names_changed}
-use Rattle.context_tree.proofs.Refitting.{sound_refitted, realloc_moves, realloc_contexts, entry_named}
+use Rattle.context_node.proofs.Changes.{names_changed}
+use Rattle.context_node.proofs.Refitting.{sound_refitted}
+use Rattle.context_tree.proofs.Refitting.{realloc_moves, realloc_contexts, entry_named}
 use Rattle.context_tree.proofs.tree.ContextTree.realloc.Goals as goal
 
 pub realloc-requires-clause-agrees : goal.realloc-requires-clause-agrees

@@ -3,7 +3,7 @@ use Rattle.std.specs.HashMap.{get}
 use Rattle.std.specs.Map.{lookup}
 use Rattle.any_ctx.specs.declared.any.CtxKind.TheVariants.{Default}
 use Rattle.context_tree.specs.declared.tree.Own.{Own}
-use Rattle.context_tree.specs.Soundness.{same}
+use Rattle.context_node.specs.Soundness.{same}
 use Rattle.context_tree.proofs.Opening.{topmost_sound, topmost_moved, topmost_stands}
 use Rattle.context_tree.proofs.tree.ContextTree.topmost.Goals as goal
 

@@ -1,0 +1,16 @@
+pub mod Names
+pub mod Steps
+pub mod Sounds
+pub mod Waiting
+pub mod Bytes
+pub mod Fronts
+pub mod Taking
+pub mod Removals
+pub mod Freeing
+pub mod Changes
+pub mod Writing
+pub mod Refitting
+pub mod Zeroing
+pub mod Handing
+pub mod Entries
+pub mod Made

@@ -1,0 +1,167 @@
+-- A context in which a chunk got another size.
+use Rattle.std.proofs.Common.{◌≡◌, ◌≢◌, ◌⊎◌, ℕ, ◌+◌, ◌<◌, ◌≤◌, List, length, map, take, Option, Some, None, IsSome, unwrap_or, refl, sym, ap, ◌∙◌, subst, inl, inr, arith}
+use Rattle.std.specs.Prelude.{min, if◌then◌else◌}
+use Rattle.std.proofs.lemmas.Grind.{same_number_lists}
+use Rattle.std.proofs.lemmas.List.{length-take, get_or-take}
+use Rattle.addr_space.specs.declared.Addr.{Addr}
+use Rattle.addr_space.specs.Space.{Space, byte_at, IsKnown}
+use Rattle.addr_space.specs.Footprint as foot
+use Rattle.addr_space.specs.Live.{same_addr}
+use Rattle.addr_space.proofs.Addresses.{same_addr-cases}
+use Rattle.addr_space.proofs.Options.{none_or_some}
+use Rattle.forest.specs.Forest.{at, has, Once, changed}
+use Rattle.forest.proofs.Trees.{once_changed, has_changed}
+use Rattle.any_ctx.specs.Ledgers.{Ledger, Place, InSlab}
+use Rattle.any_ctx.specs.Contexts.{footprint, place_at}
+use Rattle.context_rules.specs.Contexts.{Chunk, Context}
+use Rattle.context_rules.specs.Chunks.{with_changed, with_size}
+use Rattle.context_node.specs.declared.entry.Entry.{Entry}
+use Rattle.context_node.specs.Kept.{Kept}
+use Rattle.context_node.specs.Soundness.{AreFlat, IsSoundContext}
+use Rattle.context_node.specs.State.{bytes_at, chunk_of, entries, context_of}
+use Rattle.context_node.specs.Chunking.{Refitted}
+use Rattle.context_node.proofs.Names.{named_not, named_so}
+use Rattle.context_node.proofs.Steps.{chunk_same}
+use Rattle.context_node.proofs.Sounds.{step_at}
+use Rattle.context_node.proofs.Bytes.{IsIn, in_live, length-bytes_at, get-bytes_at, bytes_same}
+use Rattle.context_node.proofs.Changes.{flat_changed, changed_entries}
+
+-- the first of so many bytes
+pub cut_bytes : (s : Space) (a : Addr) (known size : ℕ) → IsIn s a known → take size (bytes_at s a known) ≡ bytes_at s a (min known size)
+cut_bytes s a known size inside =
+    let long : length (bytes_at s a known) ≡ known = length-bytes_at s a known inside in
+    let less : IsIn s a (min known size) = omega (arith, inside) in
+    let one : length (take size (bytes_at s a known)) ≡ min known size = simp length-take (omega (arith, long)) in
+    same_number_lists (take size (bytes_at s a known)) (bytes_at s a (min known size)) (one ∙ sym (length-bytes_at s a (min known size) less))
+    (λ i below.
+    let short : i < min known size = omega (arith, one, below) in
+    let first : i < size = omega (arith, short) in
+    let second : i < known = omega (arith, short) in
+    get_or-take size (bytes_at s a known) i 0 first ∙ get-bytes_at s a known i inside second ∙ sym (get-bytes_at s a (min known size) i less short))
+
+module _ (k l : Kept) (n size : ℕ) (s t : Space) (fit : Refitted k l n size s t) (sound : IsSoundContext k) (agrees : foot.Agrees (footprint k.memory) s) where
+  abbrev now_entry : Entry
+  now_entry = record fit.entry { at = fit.to; size = size; known = min fit.entry.known size }
+
+  chunks_now : l.chunks ≡ changed n (λ _. now_entry) k.chunks
+  chunks_now = ap (λ (x : Kept). x.chunks) fit.now
+
+  cases : (c : ℕ) (e : Entry) → at c l.chunks ≡ Some e → ((c ≡ n) × (e ≡ now_entry)) ⊎ ((c ≢ n) × (at c k.chunks ≡ Some e))
+  cases c e h = step_at n fit.entry now_entry k.chunks fit.listed c e (ap (at c) (sym chunks_now) ∙ h)
+
+  -- another chunk is neither where this one was nor where it is
+  was_elsewhere : (c : ℕ) (e : Entry) → c ≢ n → at c k.chunks ≡ Some e → e.at ≢ fit.entry.at
+  was_elsewhere c e ne h = sound.differ c n e fit.entry ne h fit.listed
+
+  is_elsewhere : (c : ℕ) (e : Entry) → c ≢ n → at c k.chunks ≡ Some e → e.at ≢ fit.to
+  is_elsewhere c e ne h same =
+      elim (same_addr-cases fit.to fit.entry.at) [
+        | inl one ↦ was_elsewhere c e ne h (same ∙ one.0)
+        | inr two ↦ none_or_some ((footprint k.memory).live fit.to) e.size (fit.fresh two.0) (ap (footprint k.memory).live (sym same) ∙ sound.live c e h)
+      ]
+
+  apart : {X : Type 0} (f g : Addr → Option X) (x : X) → ((other : Addr) → g other ≡ (if same_addr fit.to other then Some x else (if same_addr fit.entry.at other then None else f other)))
+      → (c : ℕ) (e : Entry) → c ≢ n → at c k.chunks ≡ Some e → g e.at ≡ f e.at
+  apart f g x moved c e ne h =
+      elim (same_addr-cases fit.to e.at) [
+        | inl one ↦ absurd (is_elsewhere c e ne h (sym one.0))
+        | inr one ↦ elim (same_addr-cases fit.entry.at e.at) [
+          | inl two ↦ absurd (was_elsewhere c e ne h (sym two.0))
+          | inr two ↦ moved e.at ∙ rw (one.1, two.1) refl
+        ]
+      ]
+
+  lands : {X : Type 0} (f g : Addr → Option X) (x : X) → ((other : Addr) → g other ≡ (if same_addr fit.to other then Some x else (if same_addr fit.entry.at other then None else f other))) → g fit.to ≡ Some x
+  lands f g x moved =
+      elim (same_addr-cases fit.to fit.to) [
+        | inl one ↦ moved fit.to ∙ rw one.1 refl
+        | inr one ↦ absurd (one.0 refl)
+      ]
+
+  live_now : (footprint l.memory).live fit.to ≡ Some size
+  live_now = lands (footprint k.memory).live (footprint l.memory).live size fit.live
+
+  live_other : (c : ℕ) (e : Entry) → c ≢ n → at c k.chunks ≡ Some e → (footprint l.memory).live e.at ≡ Some e.size
+  live_other c e ne h = apart (footprint k.memory).live (footprint l.memory).live size fit.live c e ne h ∙ sound.live c e h
+
+  place_now : place_at l.memory fit.to ≡ Some fit.resizes.answer.place
+  place_now = lands (place_at k.memory) (place_at l.memory) fit.resizes.answer.place fit.resizes.place
+
+  place_other : (c : ℕ) (e : Entry) → c ≢ n → at c k.chunks ≡ Some e → place_at l.memory e.at ≡ place_at k.memory e.at
+  place_other c e ne h = apart (place_at k.memory) (place_at l.memory) fit.resizes.answer.place fit.resizes.place c e ne h
+
+  pub sound_refitted : IsSoundContext l
+  sound_refitted = record {
+    flat = subst AreFlat (sym chunks_now) (flat_changed n (λ _. now_entry) k.chunks sound.flat);
+    once = subst Once (sym chunks_now) (once_changed n (λ _. now_entry) k.chunks sound.once);
+    numbers = λ c h. ap (has c) chunks_now ∙ has_changed c n (λ _. now_entry) k.chunks ∙ sound.numbers c (ap (λ (x : Kept). has c x.chunk_places) (sym fit.now) ∙ h);
+    live = λ c e h. elim (cases c e h) [ inl it ↦ rw it.1 live_now | inr it ↦ live_other c e it.0 it.1 ];
+    placed = λ c e h. elim (cases c e h) [
+      | inl it ↦ rw it.1 (subst IsSome (sym place_now) refl)
+      | inr it ↦ subst IsSome (sym (place_other c e it.0 it.1)) (sound.placed c e it.1)
+    ];
+    known = λ c e h. elim (cases c e h) [ inl it ↦ rw it.1 (omega arith) | inr it ↦ sound.known c e it.1 ];
+    differ = λ b c d e differs h q same. elim (cases b d h) [
+      | inl one ↦ elim (cases c e q) [
+        | inl two ↦ differs (one.0 ∙ sym two.0)
+        | inr two ↦ is_elsewhere c e two.0 two.1 (sym same ∙ ap (λ (x : Entry). x.at) one.1)
+      ]
+      | inr one ↦ elim (cases c e q) [
+        | inl two ↦ is_elsewhere b d one.0 one.1 (same ∙ ap (λ (x : Entry). x.at) two.1)
+        | inr two ↦ sound.differ b c d e differs one.1 two.1 same
+      ]
+    ];
+    total = fit.total;
+  }
+
+  byte_other : (c : ℕ) (e : Entry) (i : ℕ) → c ≢ n → at c k.chunks ≡ Some e → i < e.known → byte_at t e.at.region (e.at.offset + i) ≡ byte_at s e.at.region (e.at.offset + i)
+  byte_other c e i ne h below =
+      let within : i < e.size = omega (arith, below, sound.known c e h) in
+      fit.keeps e.at e.size e.size i (was_elsewhere c e ne h) (sound.live c e h) (live_other c e ne h) within within
+
+  pub known_refitted : ((c : ℕ) (e : Entry) → at c k.chunks ≡ Some e → IsKnown s e.at e.known) → (c : ℕ) (e : Entry) → at c l.chunks ≡ Some e → IsKnown t e.at e.known
+  known_refitted known c e h =
+      elim (cases c e h) [
+        | inl it ↦ rw it.1 fit.known
+        | inr it ↦ λ i below. subst IsSome (sym (byte_other c e i it.0 it.1 below)) (known c e it.1 i below)
+      ]
+
+  chunk_other : (c : ℕ) (e : Entry) → c ≢ n → at c k.chunks ≡ Some e → chunk_of t l.memory e ≡ chunk_of s k.memory e
+  chunk_other c e ne h =
+      chunk_same s t k.memory l.memory e (place_other c e ne h)
+      (bytes_same s t e.at e.at e.known (in_live (footprint k.memory) s e.at e.size e.known agrees (sound.live c e h) (sound.known c e h))
+      (in_live (footprint l.memory) t e.at e.size e.known fit.moves.agrees (live_other c e ne h) (sound.known c e h)) (λ i below. byte_other c e i ne h below))
+
+  bytes_now : bytes_at t fit.to (min fit.entry.known size) ≡ take size (bytes_at s fit.entry.at fit.entry.known)
+  bytes_now =
+      let was : IsIn s fit.entry.at fit.entry.known = in_live (footprint k.memory) s fit.entry.at fit.entry.size fit.entry.known agrees (sound.live n fit.entry fit.listed) (sound.known n fit.entry fit.listed) in
+      let part : IsIn s fit.entry.at (min fit.entry.known size) = omega (arith, was) in
+      let less : min fit.entry.known size ≤ size = omega arith in
+      let is : IsIn t fit.to (min fit.entry.known size) = in_live (footprint l.memory) t fit.to size (min fit.entry.known size) fit.moves.agrees live_now less in
+      bytes_same s t fit.entry.at fit.to (min fit.entry.known size) part is fit.bytes ∙ sym (cut_bytes s fit.entry.at fit.entry.known size was)
+
+  abbrev built : Ledger → List Chunk → Context
+  built led chunks = record {
+    name = k.name;
+    kind = k.kind;
+    protected = k.protected;
+    ledger = led;
+    used = k.used;
+    chunks = chunks;
+    hooks = k.hooks;
+  }
+
+  chunk_now : chunk_of t l.memory now_entry ≡ with_size size fit.resizes.answer.place (chunk_of s k.memory fit.entry)
+  chunk_now =
+      ap (λ (o : Option Place). record { name = fit.entry.name; size = size; place = unwrap_or o (InSlab 0); known = bytes_at t fit.to (min fit.entry.known size) }) place_now
+      ∙ ap (λ (bs : List ℕ). record { name = fit.entry.name; size = size; place = fit.resizes.answer.place; known = bs }) bytes_now
+
+  pub context_refitted : (w : List ℕ) → fit.entry.name ≡ Some w → ((c : ℕ) (e : Entry) → c ≢ n → at c k.chunks ≡ Some e → e.name ≢ Some w)
+      → built fit.resizes.answer.ledger (with_changed w (with_size size fit.resizes.answer.place) (map (chunk_of s k.memory) (entries k.chunks))) ≡ context_of t l
+  context_refitted w named others =
+      sym (
+      ap (context_of t) fit.now
+      ∙ ap (λ (x : Ledger). built x (map (chunk_of t l.memory) (entries (changed n (λ _. now_entry) k.chunks)))) fit.resizes.ledger
+      ∙ ap (built fit.resizes.answer.ledger) (changed_entries w (with_size size fit.resizes.answer.place) (chunk_of s k.memory) (chunk_of t l.memory) k.chunks n fit.entry now_entry sound.once sound.flat fit.listed
+      (named_so s w fit.entry.name named) (λ d x ne h. named_not s w x.name (others d x ne h)) (λ d x ne h. chunk_other d x ne h) chunk_now)
+      )

@@ -1,0 +1,142 @@
+-- A context once a chunk was taken in it.
+use Rattle.std.proofs.Common.{◌≡◌, ◌≢◌, ◌⊎◌, ℕ, ◌+◌, ◌<◌, true, false, List, ◌∷◌, length, map, Option, Some, IsSome, refl, sym, ap, ◌∙◌, subst, inl, inr, arith}
+use Rattle.std.proofs.lemmas.Bool.{cases_eq, eq-eqb, ne_eqb}
+use Rattle.addr_space.specs.Space.{Space, byte_at, IsKnown}
+use Rattle.addr_space.specs.Footprint as foot
+use Rattle.addr_space.proofs.Addresses.{put_at-cases}
+use Rattle.addr_space.proofs.Options.{none_or_some}
+use Rattle.forest.specs.Forest.{Forest, Empty, Node, at, has, Once}
+use Rattle.forest.proofs.Trees.{once_front}
+use Rattle.any_ctx.specs.Ledgers.{Ledger}
+use Rattle.any_ctx.specs.Contexts.{footprint, place_at}
+use Rattle.context_rules.specs.Contexts.{Chunk, Context}
+use Rattle.context_rules.specs.Chunks.{with_chunk}
+use Rattle.context_node.specs.declared.entry.Entry.{Entry}
+use Rattle.context_node.specs.Kept.{Kept}
+use Rattle.context_node.specs.Soundness.{AreFlat, IsSoundContext}
+use Rattle.context_node.specs.State.{chunk_of, entries, context_of}
+use Rattle.context_node.specs.Chunking.{Took, taken_entry}
+use Rattle.context_node.proofs.Names.{one_at}
+use Rattle.context_node.proofs.Steps.{entries_same, chunk_same}
+use Rattle.context_node.proofs.Bytes.{in_live, bytes_same, bytes_are, known_has}
+
+-- what lies at a number among entries with one more in front
+pub front_cases : {A : Type 0} (n c : ℕ) (a e : A) (old : Forest A) → at c (Node n a Empty old) ≡ Some e → ((c ≡ n) × (a ≡ e)) ⊎ ((c ≢ n) × (at c old ≡ Some e))
+front_cases n c a e old h =
+    elim (cases_eq c n) [
+      | inl same ↦ inl (same, one_at n a e Empty old (ap (λ (i : ℕ). at i (Node n a Empty old)) (sym same) ∙ h))
+      | inr ne ↦ inr (ne, (let there : at c old ≡ Some e = rw (ne_eqb n c (λ z. ne (sym z))) at h in there))
+    ]
+
+pub front_other : {A : Type 0} (n c : ℕ) (a e : A) (old : Forest A) → c ≢ n → at c old ≡ Some e → at c (Node n a Empty old) ≡ Some e
+front_other n c a e old ne h = rw (ne_eqb n c (λ z. ne (sym z))) h
+
+pub front_has : {A B : Type 0} (n c : ℕ) (a : A) (b : B) (old : Forest A) (others : Forest B) → (has c others ≡ true → has c old ≡ true) → has c (Node n b Empty others) ≡ true → has c (Node n a Empty old) ≡ true
+front_has n c a b old others all h =
+    elim (cases_eq n c) [
+      | inl same ↦ rw (eq-eqb n c same) refl
+      | inr ne ↦ rw (ne_eqb n c ne) (all (rw (ne_eqb n c ne) at h))
+    ]
+
+module _ (k l : Kept) (number slot : ℕ) (name : Option (List ℕ)) (size : ℕ) (known : List ℕ) (s t : Space) (took : Took k l number slot name size known s t) (sound : IsSoundContext k)
+    (agrees : foot.Agrees (footprint k.memory) s) (fresh : has number k.chunks ≡ false) where
+  pub chunks_now : l.chunks ≡ Node number (taken_entry name took.at size (length known)) Empty k.chunks
+  chunks_now = ap (λ (x : Kept). x.chunks) took.now
+
+  pub entry_cases : (c : ℕ) (e : Entry) → at c l.chunks ≡ Some e → ((c ≡ number) × (taken_entry name took.at size (length known) ≡ e)) ⊎ ((c ≢ number) × (at c k.chunks ≡ Some e))
+  entry_cases c e h = front_cases number c (taken_entry name took.at size (length known)) e k.chunks (ap (at c) (sym chunks_now) ∙ h)
+
+  -- an older chunk is elsewhere
+  elsewhere : (c : ℕ) (e : Entry) → at c k.chunks ≡ Some e → e.at ≢ took.at
+  elsewhere c e h same = none_or_some ((footprint k.memory).live took.at) e.size took.fresh (ap (footprint k.memory).live (sym same) ∙ sound.live c e h)
+
+  pub live_new : (footprint l.memory).live took.at ≡ Some size
+  live_new = elim (put_at-cases (footprint k.memory).live (footprint l.memory).live took.at (Some size) took.live took.at) [ inl it ↦ it.1 | inr it ↦ absurd (it.0 refl) ]
+
+  live_old : (c : ℕ) (e : Entry) → at c k.chunks ≡ Some e → (footprint l.memory).live e.at ≡ Some e.size
+  live_old c e h =
+      elim (put_at-cases (footprint k.memory).live (footprint l.memory).live took.at (Some size) took.live e.at) [
+        | inl it ↦ absurd (elsewhere c e h it.0)
+        | inr it ↦ it.1 ∙ sound.live c e h
+      ]
+
+  place_new : place_at l.memory took.at ≡ Some took.takes.answer.place
+  place_new = elim (put_at-cases (place_at k.memory) (place_at l.memory) took.at (Some took.takes.answer.place) took.takes.place took.at) [ inl it ↦ it.1 | inr it ↦ absurd (it.0 refl) ]
+
+  place_old : (c : ℕ) (e : Entry) → at c k.chunks ≡ Some e → place_at l.memory e.at ≡ place_at k.memory e.at
+  place_old c e h =
+      elim (put_at-cases (place_at k.memory) (place_at l.memory) took.at (Some took.takes.answer.place) took.takes.place e.at) [
+        | inl it ↦ absurd (elsewhere c e h it.0)
+        | inr it ↦ it.1
+      ]
+
+  pub sound_took : IsSoundContext l
+  sound_took = record {
+    flat = subst AreFlat (sym chunks_now) (refl, sound.flat);
+    once = subst Once (sym chunks_now) (once_front number (taken_entry name took.at size (length known)) k.chunks sound.once fresh);
+    numbers = λ c h.
+        ap (has c) chunks_now ∙ front_has number c (taken_entry name took.at size (length known)) slot k.chunks k.chunk_places (sound.numbers c) (ap (has c) (sym (ap (λ (x : Kept). x.chunk_places) took.now)) ∙ h);
+    live = λ c e h. elim (entry_cases c e h) [
+      | inl it ↦ rw (← it.1) live_new
+      | inr it ↦ live_old c e it.1
+    ];
+    placed = λ c e h. elim (entry_cases c e h) [
+      | inl it ↦ rw (← it.1) (subst IsSome (sym place_new) refl)
+      | inr it ↦ subst IsSome (sym (place_old c e it.1)) (sound.placed c e it.1)
+    ];
+    known = λ c e h. elim (entry_cases c e h) [
+      | inl it ↦ rw (← it.1) took.fits
+      | inr it ↦ sound.known c e it.1
+    ];
+    differ = λ b c d e differs h q same. elim (entry_cases b d h) [
+      | inl one ↦ elim (entry_cases c e q) [
+        | inl two ↦ differs (one.0 ∙ sym two.0)
+        | inr two ↦ elsewhere c e two.1 (sym same ∙ ap (λ (x : Entry). x.at) (sym one.1))
+      ]
+      | inr one ↦ elim (entry_cases c e q) [
+        | inl two ↦ elsewhere b d one.1 (same ∙ ap (λ (x : Entry). x.at) (sym two.1))
+        | inr two ↦ sound.differ b c d e differs one.1 two.1 same
+      ]
+    ];
+    total = took.total;
+  }
+
+  -- the bytes of an older chunk stay
+  byte_old : (c : ℕ) (e : Entry) (i : ℕ) → at c k.chunks ≡ Some e → i < e.known → byte_at t e.at.region (e.at.offset + i) ≡ byte_at s e.at.region (e.at.offset + i)
+  byte_old c e i h below =
+      let fit : i < e.size = omega (arith, below, sound.known c e h) in
+      took.keeps e.at e.size e.size i (sound.live c e h) (live_old c e h) fit fit
+
+  pub known_took : ((c : ℕ) (e : Entry) → at c k.chunks ≡ Some e → IsKnown s e.at e.known) → (c : ℕ) (e : Entry) → at c l.chunks ≡ Some e → IsKnown t e.at e.known
+  known_took knows c e h =
+      elim (entry_cases c e h) [
+        | inl it ↦ rw (← it.1) (known_has t took.at known took.has)
+        | inr it ↦ λ i below. subst IsSome (sym (byte_old c e i it.1 below)) (knows c e it.1 i below)
+      ]
+
+  abbrev built : Ledger → List Chunk → Context
+  built led chunks = record {
+    name = k.name;
+    kind = k.kind;
+    protected = k.protected;
+    ledger = led;
+    used = true;
+    chunks = chunks;
+    hooks = k.hooks;
+  }
+
+  pub context_took : with_chunk name size known took.takes.answer (context_of s k) ≡ context_of t l
+  context_took =
+      let olds : map (chunk_of t l.memory) (entries k.chunks) ≡ map (chunk_of s k.memory) (entries k.chunks) =
+      entries_same (chunk_of t l.memory) (chunk_of s k.memory) k.chunks sound.once (λ c e h.
+      chunk_same s t k.memory l.memory e (place_old c e h)
+      (bytes_same s t e.at e.at e.known (in_live (footprint k.memory) s e.at e.size e.known agrees (sound.live c e h) (sound.known c e h))
+      (in_live (footprint l.memory) t e.at e.size e.known took.moves.agrees (live_old c e h) (sound.known c e h)) (λ i below. byte_old c e i h below))) in
+      let first : chunk_of t l.memory (taken_entry name took.at size (length known)) ≡ record { name = name; size = size; place = took.takes.answer.place; known = known } =
+      rw (place_new, bytes_are t took.at known (in_live (footprint l.memory) t took.at size (length known) took.moves.agrees live_new took.fits) took.has) refl in
+      sym (
+      ap (context_of t) took.now
+      ∙ ap (λ (x : Ledger). built x (chunk_of t l.memory (taken_entry name took.at size (length known)) ∷ map (chunk_of t l.memory) (entries k.chunks))) took.takes.ledger
+      ∙ ap (λ (x : Chunk). built took.takes.answer.ledger (x ∷ map (chunk_of t l.memory) (entries k.chunks))) first
+      ∙ ap (λ (x : List Chunk). built took.takes.answer.ledger (record { name = name; size = size; place = took.takes.answer.place; known = known } ∷ x)) olds
+      )

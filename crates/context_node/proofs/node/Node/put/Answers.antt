@@ -1,0 +1,45 @@
+use Rattle.std.proofs.Common.{◌≡◌, ℕ, length, map, Some, sym, ap, ◌∙◌, subst, arith}
+use Rattle.addr_space.specs.declared.Addr.{Addr}
+use Rattle.addr_space.specs.Space.{Changes, region_at, overwritten}
+use Rattle.addr_space.proofs.Contexts.{ends_small, IsInside-live_part}
+use Rattle.forest.specs.Forest.{at, changed}
+use Rattle.any_ctx.specs.Contexts.{footprint}
+use Rattle.context_node.specs.declared.entry.Entry.{Entry}
+use Rattle.context_node.specs.Kept.{Kept}
+use Rattle.context_node.proofs.node.Node.put.Goals as goal
+
+pub room_at-requires : goal.room_at-requires
+room_at-requires g c =
+    let ends = ends_small (footprint c.args.self.now.memory) c.args.space.now c.entry-chunk.result.at c.entry-chunk.result.size c.requires.agrees (c.requires.sound.live c.args.entry.number c.entry-chunk.result c.entry-chunk.ensures) in
+    omega (arith, ends)
+
+pub write-requires : goal.write-requires
+write-requires g c =
+    IsInside-live_part (footprint c.args.self.now.memory) c.args.space.now c.entry-chunk.result.at c.in-Some.at c.entry-chunk.result.size (length c.args.bytes.now) c.requires.agrees
+    (c.requires.sound.live c.args.entry.number c.entry-chunk.result c.entry-chunk.ensures) (ap (λ (a : Addr). a.region) c.in-Some.ensures.1)
+    (omega (arith, ap (λ (a : Addr). a.offset) c.in-Some.ensures.1, c.in-Some.ensures.0.1))
+
+pub returns-clause-written : goal.returns-clause-written
+returns-clause-written g c =
+    let k : Kept = record {
+      name = c.self.inside.name;
+      kind = c.self.inside.kind;
+      protected = c.self.inside.protected;
+      used = c.self.inside.used;
+      memory = c.self.inside.memory;
+      chunks = c.self.inside.chunks.forest;
+      chunk_places = c.self.inside.chunks.places;
+      hooks = c.self.inside.callbacks;
+    } in
+    let lists : at c.args.entry.number k.chunks ≡ Some c.entry-chunk.result = ap (λ (x : Kept). at c.args.entry.number x.chunks) c.self.view_is ∙ c.entry-chunk.ensures in
+    let one : Some c.get_mut.result.now ≡ Some c.entry-chunk.result = sym c.get_mut.ensures.value ∙ lists in
+    let it : c.get_mut.result.now ≡ c.entry-chunk.result = cc in
+    rw (← c.self.view_is) (record {
+      entry = c.entry-chunk.result;
+      listed = lists;
+      within = c.in-Some.ensures.0.0;
+      fits = c.in-Some.ensures.0.1;
+      now = ap (λ (x : Entry). record k { chunks = changed c.args.entry.number (λ _. record x { known = c.max.result }) k.chunks }) it
+          ∙ ap (λ (m : ℕ). record k { chunks = changed c.args.entry.number (λ _. record c.entry-chunk.result { known = m }) k.chunks }) c.max.ensures;
+      writes = subst (λ (a : Addr). Changes c.args.space.now c.write.new.self a.region (overwritten (region_at c.args.space.now a.region) a.offset (map Some c.args.bytes.now))) c.in-Some.ensures.1 c.write.ensures.changes;
+    })

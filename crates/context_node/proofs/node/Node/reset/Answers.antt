@@ -1,0 +1,34 @@
+use Rattle.std.proofs.Common.{◌∷◌, [], ◌++◌, ap, ◌∙◌}
+use Rattle.chunk_header.specs.declared.Stats.{Stats}
+use Rattle.pgs_step.specs.declared.events.What.TheVariants.{Reset}
+use Rattle.context_rules.specs.Ends.{callbacks}
+use Rattle.context_node.specs.Kept.{Kept}
+use Rattle.context_node.proofs.Entries.{kept_cleared}
+use Rattle.context_node.proofs.node.Node.reset.Goals as goal
+
+pub returns-clause-cleared : goal.returns-clause-cleared
+returns-clause-cleared g c =
+    let k : Kept = record {
+      name = c.self.inside.name;
+      kind = c.self.inside.kind;
+      protected = c.self.inside.protected;
+      used = c.self.inside.used;
+      memory = c.self.inside.memory;
+      chunks = c.self.inside.chunks.forest;
+      chunk_places = c.self.inside.chunks.places;
+      hooks = c.self.inside.callbacks;
+    } in
+    rw (← c.self.view_is) (record {
+      now = kept_cleared k c.reset.new.self _ _ _ c.forget_all.ensures.none c.forget_all.ensures.nowhere c.run_all.ensures.none;
+      renewed = c.reset.ensures.ledger;
+      moves = c.reset.ensures.moves;
+      asked = c.reset.ensures.asked;
+      total = c.stats.ensures.total ∙ ap (λ (x : Stats). x.total) c.stats.ensures.stats;
+      shelf = c.run_all.ensures.shelf;
+      names = c.forget_all.ensures.names;
+    })
+
+pub returns-clause-emits : goal.returns-clause-emits
+returns-clause-emits g c =
+    g.met.E.Emit.emits_more _ _ _ _ _ _ c.run_all.ensures.emits c.emit.ensures.emitted
+    (ap (λ (z : Kept). callbacks c.args.number z.hooks ++ Reset c.args.number ∷ []) c.self.view_is)

@@ -1,0 +1,17 @@
+//! One memory context of a session: its allocator, its chunks with their names, and the hooks that wait on it.
+#![tactic(auto)]
+
+mod chunk_id;
+mod chunk_names;
+mod ending;
+mod entry;
+mod making;
+mod node;
+mod zeros;
+
+pub use chunk_id::ChunkId;
+pub use chunk_names::{enter_chunk, room_for_chunk};
+pub use ending::forget_context;
+pub use entry::Entry;
+pub use making::{NewContext, enter_context, give_back, make_node, own_name, room_for_name};
+pub use node::Node;

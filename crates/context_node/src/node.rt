@@ -1,0 +1,316 @@
+//! One memory context.
+ghost use Rattle.std.specs.Prelude.{◌≡◌, [], ◌≢◌, ◌⊎◌, ◌∷◌, true, false, Some, OnOk, OnErr, IfOk, IfErr, unwrap_or, nat_lt, ◌||◌, ◌+◌, ◌++◌, ◌≤◌, length};
+ghost use Rattle.std.specs.HashMap.{get};
+ghost use Rattle.addr_space.specs.Footprint.{Agrees};
+ghost use Rattle.any_ctx.specs.Contexts.{footprint, ledger, place_at};
+ghost use Rattle.any_ctx.specs.Calls.{take_in};
+ghost use Rattle.context_rules.specs.Chunks.{zeros};
+ghost use Rattle.context_rules.specs.Refusals.{refusal, where_so};
+ghost use Rattle.any_ctx.specs.Ledgers.{give, resize, stats, InSlab};
+ghost use Rattle.addr_space.specs.Space.{Asks, IsKnown, held};
+ghost use Rattle.context_node.specs.declared.entry.Entry.{Entry as Chunk};
+ghost use Rattle.reset_callbacks.specs.Hook.{AreDistinct};
+ghost use Rattle.reset_callbacks.specs.ShelfState.{held as on_shelf};
+ghost use Rattle.context_rules.specs.Ends.{callbacks};
+ghost use Rattle.context_node.specs.Soundness.{same, IsSoundContext};
+ghost use Rattle.context_node.specs.Chunking.{Took, Freed, Written, Refitted};
+ghost use Rattle.context_node.specs.Ending.{Cleared, Gone};
+ghost use Rattle.forest.specs.Forest.{at, has};
+
+use crate::chunk_id::ChunkId;
+use crate::ending::{forget_all, run_all};
+use crate::entry::Entry;
+use crate::zeros::write_zeros;
+use addr_space::{Addr, Space};
+use any_ctx::{AnyCtx, CtxKind};
+use chunk_header::{CtxError, Stats};
+use context_rules::TreeError;
+use forest::{LinkedForest, NodeId};
+use pgs_step::{Emit, Name, What};
+use reset_callbacks::{Pending, ResetHook, Shelf};
+use std::collections::HashMap;
+use std::marker::Model;
+
+/// A context, with its allocator, its chunks and the hooks that wait on it.
+#[derive(Drop)]
+pub struct Node<H: ResetHook> {
+    pub(crate) name: Name,
+    pub(crate) kind: CtxKind,
+    pub(crate) protected: bool,
+    pub(crate) used: bool,
+    pub(crate) memory: AnyCtx,
+    pub(crate) chunks: LinkedForest<Entry>,
+    pub(crate) callbacks: Pending<H>,
+}
+
+impl<H: ResetHook> Model for Node<H> {
+    ghost use Rattle.context_node.specs.Kept.{Kept};
+
+    ghost Value = { Kept };
+
+    ghost use Rattle.context_node.specs.Code.{kept_code};
+
+    ghost coded = { kept_code };
+
+    ghost view = { λ n. record {
+      name = n.name;
+      kind = n.kind;
+      protected = n.protected;
+      used = n.used;
+      memory = n.memory;
+      chunks = n.chunks.forest;
+      chunk_places = n.chunks.places;
+      hooks = n.callbacks;
+    } };
+}
+
+impl<H: ResetHook> Node<H> {
+    /// Its name.
+    pub fn name(&self) -> Name
+        ensures { result ≡ self.now.name }
+    {
+        self.name
+    }
+
+    /// Whether it is one of the session's own.
+    pub fn is_protected(&self) -> bool
+        ensures { result ≡ self.now.protected }
+    {
+        self.protected
+    }
+
+    /// Whether something was done with it since it was made or reset.
+    pub fn is_used(&self) -> bool
+        ensures { result ≡ self.now.used }
+    {
+        self.used
+    }
+
+    /// What it holds, as its allocator counts.
+    pub fn stats(&self) -> Stats
+        ensures { result ≡ stats (ledger self.now.memory) }
+    {
+        self.memory.stats()
+    }
+
+    /// A hook waits, as the newest, or is handed back for want of memory.
+    pub fn register(&mut self, hook: H) -> Result<(), H>
+        ensures ok { OnOk result (self.new ≡ record self.old { used = true; hooks = H.hook_meaning hook ∷ self.old.hooks }) }
+        ensures handed_back { IfErr result (λ back. back ≡ hook) }
+        ensures err { OnErr result (self.new ≡ self.old) }
+    {
+        self.callbacks.push(hook)?;
+        self.used = true;
+        Ok(())
+    }
+
+    /// A chunk.
+    pub fn entry(&self, entry: NodeId) -> Entry
+        requires { at entry.number self.now.chunk_places ≡ Some entry.slot }
+        ensures { at entry.number self.now.chunks ≡ Some result }
+    {
+        *self.chunks.get(entry)
+    }
+
+    /// Takes a chunk, whose bytes aren't known; its entry is the first one. `Ctx` comes with the allocator's refusal.
+    pub fn alloc(
+        &mut self,
+        space: &mut Space,
+        number: u64,
+        name: Option<Name>,
+        size: u64,
+    ) -> Result<NodeId, TreeError>
+        requires agrees { Agrees (footprint self.old.memory) space.old }
+        requires fresh { has number self.old.chunks ≡ false }
+        requires unplaced { has number self.old.chunk_places ≡ false }
+        ensures number { IfOk result (λ id. id.number ≡ number) }
+        ensures took { IfOk result (λ id. Took self.old self.new number id.slot name size [] space.old space.new) }
+        ensures refused { IfErr result (λ e. (e ≡ TreeError.Memory) ⊎ (refusal (take_in self.old.memory space.old size) ≡ Some e)) }
+        ensures err { OnErr result (self.new ≡ self.old) }
+        ensures err_space { OnErr result (space.new ≡ space.old) }
+    {
+        let nowhere = Addr {
+            region: 0,
+            offset: 0,
+        };
+        let entry = Entry {
+            name,
+            at: nowhere,
+            size,
+            known: 0,
+        };
+        let Ok(id) = self.chunks.insert_root(number, entry) else {
+            return Err(TreeError::Memory);
+        };
+        match self.memory.alloc(space, size) {
+            Ok(at) => {
+                self.chunks.get_mut(id).at = at;
+                self.used = true;
+                let _ = self.memory.stats();
+                Ok(id)
+            }
+            Err(error) => {
+                self.chunks.remove(id);
+                Err(told(error))
+            }
+        }
+    }
+
+    /// Takes a chunk, whose bytes are all known and 0, likewise.
+    pub fn alloc0(
+        &mut self,
+        space: &mut Space,
+        number: u64,
+        name: Option<Name>,
+        size: u64,
+    ) -> Result<NodeId, TreeError>
+        requires agrees { Agrees (footprint self.old.memory) space.old }
+        requires fresh { has number self.old.chunks ≡ false }
+        requires unplaced { has number self.old.chunk_places ≡ false }
+        ensures number { IfOk result (λ id. id.number ≡ number) }
+        ensures took { IfOk result (λ id. Took self.old self.new number id.slot name size (zeros size) space.old space.new) }
+        ensures refused { IfErr result (λ e. (e ≡ TreeError.Memory) ⊎ (refusal (take_in self.old.memory space.old size) ≡ Some e)) }
+        ensures err { OnErr result (self.new ≡ self.old) }
+        ensures err_space { OnErr result (space.new ≡ space.old) }
+    {
+        let id = self.alloc(space, number, name, size)?;
+        let at = self.chunks.get(id).at;
+        write_zeros(space, at, size);
+        self.chunks.get_mut(id).known = size;
+        Ok(id)
+    }
+
+    /// Frees a chunk. `Ctx(Unsupported)` comes in a Bump.
+    pub fn free(&mut self, space: &mut Space, entry: NodeId) -> Result<(), TreeError>
+        requires agrees { Agrees (footprint self.old.memory) space.old }
+        requires sound { IsSoundContext self.old }
+        requires placed { at entry.number self.old.chunk_places ≡ Some entry.slot }
+        ensures freed { OnOk result (Freed self.old self.new entry.number space.old space.new) }
+        ensures refused { IfErr result (λ e. (c : Chunk) → at entry.number self.old.chunks ≡ Some c → refusal (give (ledger self.old.memory) (unwrap_or (place_at self.old.memory c.at) (InSlab 0))) ≡ Some e) }
+        ensures asked { Asks (footprint self.old.memory).account 0 space.old space.new }
+        ensures err { OnErr result (self.new ≡ self.old) }
+        ensures err_space { OnErr result (space.new ≡ space.old) }
+    {
+        let at = self.chunks.get(entry).at;
+        if let Err(error) = self.memory.free(space, at) {
+            return Err(TreeError::Ctx(error));
+        }
+        self.chunks.remove(entry);
+        let _ = self.memory.stats();
+        Ok(())
+    }
+
+    /// Writes bytes into a chunk, from a place on. `Range` comes where the place is behind the known bytes, or the bytes
+    /// would end behind the chunk.
+    pub fn put(
+        &mut self,
+        space: &mut Space,
+        entry: NodeId,
+        place: u64,
+        bytes: &[u8],
+    ) -> Result<(), TreeError>
+        requires agrees { Agrees (footprint self.old.memory) space.old }
+        requires sound { IsSoundContext self.old }
+        requires placed { at entry.number self.old.chunk_places ≡ Some entry.slot }
+        ensures written { OnOk result (Written self.old self.new entry.number place bytes.now space.old space.new) }
+        ensures taken { space.new.taken ≡ space.old.taken }
+        ensures refused { IfErr result (λ e. (c : Chunk) → at entry.number self.old.chunks ≡ Some c → where_so (nat_lt c.known place || nat_lt c.size (place + length bytes.now)) TreeError.Range ≡ Some e) }
+        ensures err { OnErr result (self.new ≡ self.old) }
+        ensures err_space { OnErr result (space.new ≡ space.old) }
+    {
+        let chunk = self.entry(entry);
+        let Some(at) = chunk.room_at(place, bytes.len()) else {
+            return Err(TreeError::Range);
+        };
+        space.write(at, bytes);
+        self.chunks.get_mut(entry).known = chunk.known.max(place + bytes.len() as u64);
+        Ok(())
+    }
+
+    /// Gives a chunk another size, and keeps its known bytes as far as that goes. `Ctx` comes with the allocator's
+    /// refusal.
+    pub fn realloc(&mut self, space: &mut Space, entry: NodeId, size: u64) -> Result<(), TreeError>
+        requires agrees { Agrees (footprint self.old.memory) space.old }
+        requires sound { IsSoundContext self.old }
+        requires placed { at entry.number self.old.chunk_places ≡ Some entry.slot }
+        requires known { (c : Chunk) → at entry.number self.old.chunks ≡ Some c → IsKnown space.old c.at c.known }
+        ensures refitted { OnOk result (Refitted self.old self.new entry.number size space.old space.new) }
+        ensures refused { IfErr result (λ e. (e ≡ TreeError.Memory) ⊎ ((c : Chunk) → at entry.number self.old.chunks ≡ Some c → refusal (resize (ledger self.old.memory) (held space.old (footprint self.old.memory).account) space.old.limit (unwrap_or (place_at self.old.memory c.at) (InSlab 0)) size) ≡ Some e)) }
+        ensures err { OnErr result (self.new ≡ self.old) }
+        ensures err_space { OnErr result (space.new ≡ space.old) }
+    {
+        let chunk = self.entry(entry);
+        match self.memory.realloc(space, chunk.at, chunk.known, size) {
+            Ok(to) => {
+                let kept = self.chunks.get_mut(entry);
+                kept.at = to;
+                kept.size = size;
+                kept.known = chunk.known.min(size);
+                let _ = self.memory.stats();
+                Ok(())
+            }
+            Err(error) => Err(told(error)),
+        }
+    }
+
+    /// Resets the context: its hooks run, the newest first, and its chunks go, with their names.
+    pub fn reset<E: Emit>(
+        &mut self,
+        space: &mut Space,
+        shelf: &mut Shelf<H>,
+        names: &mut HashMap<Name, ChunkId>,
+        number: u64,
+        out: &mut E,
+    )
+        requires agrees { Agrees (footprint self.old.memory) space.old }
+        requires sound { IsSoundContext self.old }
+        requires count { length self.old.hooks ≤ shelf.old.out }
+        requires words { AreDistinct (self.old.hooks ++ on_shelf shelf.old) }
+        ensures cleared { Cleared self.old self.new space.old space.new shelf.old shelf.new (get same names.old) (get same names.new) }
+        ensures emits { E.emits out.old (callbacks number self.old.hooks ++ What.Reset number ∷ []) out.new }
+    {
+        run_all(&mut self.callbacks, shelf, number, out);
+        forget_all(&mut self.chunks, names);
+        self.memory.reset(space);
+        let _ = self.memory.stats();
+        self.used = false;
+        out.emit(What::Reset(number));
+    }
+
+    /// The context goes: its hooks run, the newest first, its chunks go, with their names, and its blocks are given back.
+    pub fn end<E: Emit>(
+        self,
+        space: &mut Space,
+        shelf: &mut Shelf<H>,
+        names: &mut HashMap<Name, ChunkId>,
+        number: u64,
+        out: &mut E,
+    )
+        requires agrees { Agrees (footprint self.memory) space.old }
+        requires sound { IsSoundContext self }
+        requires count { length self.hooks ≤ shelf.old.out }
+        requires words { AreDistinct (self.hooks ++ on_shelf shelf.old) }
+        ensures went { Gone self space.old space.new shelf.old shelf.new (get same names.old) (get same names.new) }
+        ensures emits { E.emits out.old (callbacks number self.hooks) out.new }
+    {
+        let Node {
+            memory,
+            mut chunks,
+            mut callbacks,
+            ..
+        } = self;
+        run_all(&mut callbacks, shelf, number, out);
+        forget_all(&mut chunks, names);
+        memory.discard(space);
+    }
+}
+
+/// An allocator's refusal, as callers are told it.
+pub fn told(error: CtxError) -> TreeError
+    ensures { (result ≡ TreeError.Memory) ⊎ ((error ≢ CtxError.Memory) × (result ≡ TreeError.Ctx error)) }
+{
+    match error {
+        CtxError::Memory => TreeError::Memory,
+        other => TreeError::Ctx(other),
+    }
+}

@@ -1,0 +1,13 @@
+use Rattle.std.proofs.Common.{◌≡◌, true, [], sym, subst}
+use Rattle.forest.specs.Forest.{has}
+use Rattle.context_tree.specs.State.{TreeState, IsLive, stands_for}
+use Rattle.context_tree.proofs.Names.{placed_as}
+use Rattle.context_tree.proofs.Reading.{own_lives}
+use Rattle.context_tree.proofs.tree.ContextTree.top.Goals as goal
+
+pub returns-clause-stands : goal.returns-clause-stands
+returns-clause-stands g c s h =
+    let a : TreeState = record { kept = c.self.inside.nodes.forest; places = c.self.inside.nodes.places; account = c.self.inside.account; current = c.self.inside.current; next = c.self.inside.next } in
+    subst (λ (x : TreeState). IsLive x c.self.inside.own.top) c.self.view_is
+    (own_lives a s 1 c.self.inside.own.top c.self.invariant.top (placed_as _ _ _ _ _ _ _ _ c.self.invariant s [] 1)
+    (subst (λ (x : TreeState). has 1 (stands_for x s) ≡ true) (sym c.self.view_is) h))
