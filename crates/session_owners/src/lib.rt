@@ -1,0 +1,11 @@
+//! The resource owners of one session, and the tables that count what they hold, as one value. Each call is told
+//! in the terms of the session's rules: which of its acts it is.
+#![tactic(auto)]
+
+mod pins;
+mod resources;
+
+pub use resources::Resources;
+
+#[cfg(test)]
+mod tests;

@@ -1,0 +1,190 @@
+//! The owners of a session together with the table of what they hold.
+ghost use Rattle.std.specs.Prelude.{◌≡◌, ◌↔◌, ◌≢◌, ℕ, ◌+◌, ◌<◌, ◌≤◌, ◌^◌, true, false, ◌∷◌, IfOk, IfSome, OnOk, OnErr, None};
+ghost use Rattle.std.specs.Option.{option_map};
+ghost use Rattle.forest.specs.Forest.{Empty, has, at, size, parent_of, removed, AllNodes};
+ghost use Rattle.owner_core.specs.Owners.{owners_of, IsLive, has_begun, spare_of, created, entered, remembered, AllAt, HoldsNothing};
+ghost use Rattle.owner_core.specs.Sound.{IsSoundTable};
+ghost use Rattle.owner_core.specs.Released.{released};
+ghost use Rattle.session_rules.specs.State.{buffer_pin};
+ghost use Rattle.session_rules.specs.Making.{owner_made};
+ghost use Rattle.session_rules.specs.Taking.{item_taken};
+ghost use Rattle.session_rules.specs.Releases.{phase_released, owner_released, owner_gone};
+ghost use Rattle.session_owners.specs.Pins.{built_in_kinds};
+ghost use Rattle.session_owners.specs.Counted.{HoldsPins, all_released};
+ghost use Rattle.session_owners.specs.Fitting.{Acted};
+
+use crate::pins::Pins;
+use owner_core::{OwnerError, Owners};
+use pgs_step::{Emit, KindId, OwnerId, Phase};
+use std::alloc::{AllocError, Global};
+use std::marker::Model;
+
+/// The resource owners of a session and the count of the pins that they hold.
+///
+/// Contracts see it as the owners alone: the table holds of each buffer as many pins as they do. Each call that
+/// says something is an act of the session's rules, at each scene with these owners.
+#[derive(Drop)]
+pub struct Resources {
+    owners: Owners,
+    pins: Pins,
+}
+
+impl Model for Resources {
+    ghost use Rattle.owner_core.specs.Owners.{OwnerTable};
+
+    ghost Value = { OwnerTable };
+
+    ghost use Rattle.owner_core.specs.TableCode.{owner_table_code};
+
+    ghost coded = { owner_table_code };
+
+    ghost use Rattle.session_owners.specs.Counted.{IsCounted};
+
+    ghost view = { λ r. r.owners };
+
+    ghost invariant = { λ r. IsCounted r.owners r.pins };
+}
+
+impl Resources {
+    /// No owner, and no buffer is pinned. It fails for want of memory alone.
+    pub fn new(alloc: Global) -> Result<Resources, AllocError>
+        ensures begins { IfOk result (λ resources. resources ≡ record { rooms = Empty; places = Empty; next_owner = 1; next_serial = 1 }) }
+    {
+        Ok(Resources {
+            owners: Owners::new(alloc),
+            pins: Pins::new(alloc)?,
+        })
+    }
+
+    /// Makes an owner below another one, or without a parent: PostgreSQL's `ResourceOwnerCreate`.
+    ///
+    /// `TooMany` comes where as many owners live as can, `Memory` where memory is refused.
+    pub fn make_owner<E: Emit>(
+        &mut self,
+        parent: Option<OwnerId>,
+        out: &mut E,
+    ) -> Result<OwnerId, OwnerError>
+        requires room { self.old.next_owner < 2 ^ 62 }
+        requires parent { IfSome parent (IsLive self.old) }
+        ensures number { IfOk result (λ owner. owner.number ≡ self.old.next_owner) }
+        ensures live { IfOk result (IsLive self.new) }
+        ensures stays { OnOk result ((other : OwnerId) → IsLive self.old other → IsLive self.new other) }
+        ensures older { (other : OwnerId) → IsLive self.old other → other.number < self.old.next_owner }
+        ensures owners { OnOk result (owners_of self.new ≡ created (option_map (λ p. p.number) parent) self.old.next_owner (owners_of self.old)) }
+        ensures places { IfOk result (λ owner. self.new.places ≡ entered (option_map (λ p. p.number) parent) owner.number owner.slot self.old.places) }
+        ensures next_owner { OnOk result (self.new.next_owner ≡ self.old.next_owner + 1) }
+        ensures next_serial { self.new.next_serial ≡ self.old.next_serial }
+        ensures acted { OnOk result (Acted (owner_made (option_map (λ p. p.number) parent)) self.old self.new (λ events. E.emits out.old events out.new)) }
+        ensures others { (other : ℕ) → other ≢ self.old.next_owner → spare_of other self.new ≡ spare_of other self.old }
+        ensures fresh { has self.old.next_owner (owners_of self.old) ≡ false }
+        ensures too_many { (result ≡ Err OwnerError.TooMany) ↔ (65536 ≤ size (owners_of self.old)) }
+        ensures refused { OnErr result (self.new ≡ self.old) }
+        ensures silent { OnErr result (out.new ≡ out.old) }
+        ensures causes { OnErr result ((result ≢ Err OwnerError.Releasing) × (result ≢ Err OwnerError.NotOwned)) }
+    {
+        self.owners.create(parent, out)
+    }
+
+    /// Makes room for one more item of the owner, which `pin` then needs: `ResourceOwnerEnlarge`.
+    ///
+    /// `Releasing` comes where the owner's release has begun, `Memory` where memory is refused, or where
+    /// the owner has more than 2^40 items and their table has to be made anew.
+    pub fn enlarge(&mut self, owner: OwnerId) -> Result<(), OwnerError>
+        requires live { IsLive self.old owner }
+        ensures spare { OnOk result (1 ≤ spare_of owner.number self.new) }
+        ensures others { (other : ℕ) → other ≢ owner.number → spare_of other self.new ≡ spare_of other self.old }
+        ensures owners { owners_of self.new ≡ owners_of self.old }
+        ensures places { self.new.places ≡ self.old.places }
+        ensures next_owner { self.new.next_owner ≡ self.old.next_owner }
+        ensures next_serial { self.new.next_serial ≡ self.old.next_serial }
+        ensures releasing { (result ≡ Err OwnerError.Releasing) ↔ (has_begun owner.number (owners_of self.old) ≡ true) }
+        ensures refused { OnErr result (self.new ≡ self.old) }
+        ensures not_too_many { result ≢ Err OwnerError.TooMany }
+        ensures not_owned { result ≢ Err OwnerError.NotOwned }
+    {
+        self.owners.enlarge(owner)
+    }
+
+    /// Pins a buffer, and the owner remembers the pin, in room that `enlarge` has made: `PinBuffer`.
+    pub fn pin<E: Emit>(&mut self, owner: OwnerId, buffer: u32, out: &mut E)
+        requires live { IsLive self.old owner }
+        requires spare { 1 ≤ spare_of owner.number self.old }
+        requires not_begun { has_begun owner.number (owners_of self.old) ≡ false }
+        requires buffer { buffer < 1024 }
+        requires serial { self.old.next_serial < 2 ^ 62 }
+        ensures spare { spare_of owner.number self.old ≤ spare_of owner.number self.new + 1 }
+        ensures others { (other : ℕ) → other ≢ owner.number → spare_of other self.new ≡ spare_of other self.old }
+        ensures owners { owners_of self.new ≡ remembered owner.number (record { kind = buffer_pin; key = buffer; serial = self.old.next_serial }) (owners_of self.old) }
+        ensures places { self.new.places ≡ self.old.places }
+        ensures next_owner { self.new.next_owner ≡ self.old.next_owner }
+        ensures next_serial { self.new.next_serial ≡ self.old.next_serial + 1 }
+        ensures acted { Acted (item_taken owner.number buffer_pin buffer) self.old self.new (λ events. E.emits out.old events out.new) }
+    {
+        self.pins.pin(buffer);
+        self.owners.remember(owner, KindId::BUFFER_PIN, buffer, out);
+    }
+
+    /// Releases the owner and all below it, in the three phases, so that they hold nothing any more:
+    /// `ResourceOwnerRelease`.
+    ///
+    /// `top` says that the owner is the topmost one. At commit each item's release stands behind its warning. It
+    /// takes no memory.
+    pub fn release<E: Emit>(&mut self, owner: OwnerId, commit: bool, top: bool, out: &mut E)
+        requires live { IsLive self.old owner }
+        requires top { (top ≡ true) ↔ (parent_of owner.number (owners_of self.old) ≡ None) }
+        ensures owners { owners_of self.new ≡ all_released owner.number (owners_of self.old) }
+        ensures nothing_left { AllAt HoldsNothing owner.number (owners_of self.new) }
+        ensures places { self.new.places ≡ self.old.places }
+        ensures next_owner { self.new.next_owner ≡ self.old.next_owner }
+        ensures next_serial { self.new.next_serial ≡ self.old.next_serial }
+        ensures acted { Acted (owner_released commit top owner.number) self.old self.new (λ events. E.emits out.old events out.new) }
+    {
+        self.release_phase(owner, Phase::BeforeLocks, commit, top, out);
+        self.release_phase(owner, Phase::Locks, commit, top, out);
+        self.release_phase(owner, Phase::AfterLocks, commit, top, out);
+    }
+
+    /// Releases a phase of the owner and of all below it.
+    fn release_phase<E: Emit>(
+        &mut self,
+        owner: OwnerId,
+        phase: Phase,
+        commit: bool,
+        top: bool,
+        out: &mut E,
+    )
+        requires live { IsLive self.old owner }
+        requires top { (top ≡ true) ↔ (parent_of owner.number (owners_of self.old) ≡ None) }
+        ensures owners { owners_of self.new ≡ released built_in_kinds phase owner.number (owners_of self.old) }
+        ensures pins { AllNodes HoldsPins (owners_of self.old) }
+        ensures places { self.new.places ≡ self.old.places }
+        ensures next_owner { self.new.next_owner ≡ self.old.next_owner }
+        ensures next_serial { self.new.next_serial ≡ self.old.next_serial }
+        ensures acted { Acted (phase_released commit top owner.number phase) self.old self.new (λ events. E.emits out.old events out.new) }
+    {
+        self.owners
+            .release(owner, phase, commit, top, &mut self.pins, out);
+    }
+
+    /// Takes the owner out, with all below it, which hold nothing any more: `ResourceOwnerDelete`.
+    pub fn discard<E: Emit>(&mut self, owner: OwnerId, out: &mut E)
+        requires live { IsLive self.old owner }
+        requires empty { AllAt HoldsNothing owner.number (owners_of self.old) }
+        ensures owners { owners_of self.new ≡ removed owner.number (owners_of self.old) }
+        ensures stays { (other : ℕ) → has other (owners_of self.new) ≡ true → at other self.new.places ≡ at other self.old.places }
+        ensures next_owner { self.new.next_owner ≡ self.old.next_owner }
+        ensures next_serial { self.new.next_serial ≡ self.old.next_serial }
+        ensures acted { Acted (owner_gone owner.number) self.old self.new (λ events. E.emits out.old events out.new) }
+    {
+        self.owners.discard(owner, out);
+    }
+
+    /// How many owners live.
+    pub fn count(&self) -> u64
+        ensures count { result ≡ size (owners_of self.now) }
+        ensures sound { IsSoundTable self.now }
+        ensures pins { AllNodes HoldsPins (owners_of self.now) }
+    {
+        self.owners.count()
+    }
+}
