@@ -1,0 +1,82 @@
+//! The words of a command line as options.
+ghost use Rattle.std.specs.Prelude.{◌≡◌, ◌⊎◌, ◌≤◌, ◌<◌, ◌^◌, ℕ, map, pos, Some, None, IfOk, IfErr};
+ghost use Rattle.std.specs.Prelude.{string_bytes as string_text};
+ghost use Rattle.pgs_options.specs.Options.{options_of};
+ghost use Rattle.pgs_options.specs.Parts.{HasOptions, TakesNumber};
+
+use clap::builder::ValueParser;
+use clap::error::ErrorKind;
+use clap::{Arg, ArgAction, Command, value_parser};
+use std::alloc::{AllocError, Global};
+
+/// How many bytes the contexts of each session may hold where `--space` isn't given.
+pub const DEFAULT_SPACE: u32 = 16_777_216;
+
+/// What the words of the command line ask for.
+#[derive(Clone, Copy, Debug, PartialEq, Eq)]
+pub struct Options {
+    /// `--space`: how many bytes the contexts of each session may hold, 131,072 to 1,073,741,824.
+    pub space: u32,
+    /// `--fail`: which fallible call of the run fails, counted from 1; 0 is none.
+    pub fail: u32,
+}
+
+/// Why words give no options.
+#[derive(Clone, Copy, Debug, PartialEq, Eq)]
+pub enum OptionsError {
+    /// They aren't options with values in their ranges, each at most once.
+    Refused,
+    /// Memory was refused.
+    Memory,
+}
+
+/// The options that the words of a command line ask for; the program's name isn't among the words.
+///
+/// An option is given as two words, `--fail 5`, or as one, `--fail=5`, and at most once; there is no help flag, no version
+/// flag and no word without an option. `Refused` comes exactly where the words aren't such options with numbers in their
+/// ranges; `Memory` may come in place of any answer.
+pub fn read_options<'a>(alloc: Global, words: &'a [String]) -> Result<Options, OptionsError>
+    ensures options { IfOk result (λ o. options_of (map string_text words.entry.now) ≡ Some o) }
+    ensures space { IfOk result (λ o. (131072 ≤ o.space) × (o.space ≤ 1073741824)) }
+    ensures refused { IfErr result (λ e. (e ≡ OptionsError.Memory) ⊎ ((e ≡ OptionsError.Refused) × (options_of (map string_text words.entry.now) ≡ None))) }
+{
+    let Ok(command) = command(alloc) else {
+        return Err(OptionsError::Memory);
+    };
+    match command.try_get_matches_from(words) {
+        Ok(matches) => Ok(Options {
+            space: matches.get_one::<u32>("space").unwrap_or(DEFAULT_SPACE),
+            fail: matches.get_one::<u32>("fail").unwrap_or(0),
+        }),
+        Err(error) if error.kind() == ErrorKind::OutOfMemory => Err(OptionsError::Memory),
+        Err(_) => Err(OptionsError::Refused),
+    }
+}
+
+/// The command line: one simple command. It has no help flag and no version flag.
+fn command<'a>(alloc: Global) -> Result<Command<'a>, AllocError>
+    ensures { IfOk result HasOptions }
+{
+    let space = number(
+        alloc,
+        "space",
+        value_parser!(u32).range(131_072..=1_073_741_824),
+    );
+    let fail = number(alloc, "fail", value_parser!(u32));
+    Command::new(alloc, "pgscript")
+        .no_binary_name(true)
+        .disable_help_flag(true)
+        .disable_version_flag(true)
+        .arg(space)?
+        .arg(fail)
+}
+
+/// An option that takes a number.
+fn number<'a>(alloc: Global, name: &'a str, parser: ValueParser<'a>) -> Arg<'a>
+    ensures { TakesNumber name.entry.now parser.entry result }
+{
+    Arg::new(alloc, name)
+        .long(name)
+        .action(ArgAction::Set)
+        .value_parser(parser)
+}
