@@ -107,7 +107,6 @@ fn a_child_is_released_alone_at_abort(rt: HostRuntime) -> Result<(), Fail> {
     let mut resources = Resources::new(rt.alloc())?;
     let top = resources.make_owner(None, &mut out)?;
     let child = resources.make_owner(Some(top), &mut out)?;
-    hold(&mut resources, top, 7, &mut out)?;
     hold(&mut resources, child, 7, &mut out)?;
     resources.release(child, false, false, &mut out);
     resources.discard(child, &mut out);
@@ -120,14 +119,10 @@ fn a_child_is_released_alone_at_abort(rt: HostRuntime) -> Result<(), Fail> {
         },
         What::Acquire {
             item: pin(7, 1),
-            owner: 1,
-        },
-        What::Acquire {
-            item: pin(7, 2),
             owner: 2,
         },
         What::Release {
-            item: pin(7, 2),
+            item: pin(7, 1),
             owner: 2,
         },
         What::OwnerGone(2),

@@ -1,0 +1,183 @@
+-- What is there lies where it lay, when a tree changes.
+use Rattle.std.proofs.Common.{◌≡◌, ◌≢◌, ℕ, ◌-◌, Bool, true, false, Option, Some, None, List, [], ◌∷◌, map, All, IfSome, refl, sym, ap, ◌∙◌, subst}
+use Rattle.std.specs.Prelude.{◌==◌, if◌then◌else◌, reverse, slice_get}
+use Rattle.std.specs.Option.{option_map}
+use Rattle.std.proofs.lemmas.Bool.{both_ways}
+use Rattle.std.proofs.lemmas.List.Elements.{All-nil, All-cons, All-head, All-tail}
+use Rattle.addr_space.specs.Space.{Space}
+use Rattle.forest.specs.Forest.{Forest, at, has}
+use Rattle.forest.proofs.Mapped.{mapped-has}
+use Rattle.pgs_step.specs.declared.ids.CtxId.{CtxId}
+use Rattle.reset_callbacks.specs.ShelfState.{ShelfState}
+use Rattle.context_node.specs.State.{context_of}
+use Rattle.context_rules.specs.Ends.{Ended}
+use Rattle.context_tree.specs.Calls.{Did, DidNothing}
+use Rattle.context_tree.specs.State.{TreeState, Agrees, IsLive, Moves, StaysPut, place_of, stands_for}
+use Rattle.owner_core.specs.Owners.{OwnerTable, OwnerTree, owners_of}
+use Rattle.subxact_stack.specs.Levels.{level_at}
+use Rattle.subxact_stack.specs.declared.levels.Level.{Level}
+use Rattle.session_rules.specs.World.{Around}
+use Rattle.session_rules.specs.Standing.{AreLevels, Stands}
+use Rattle.session_rules.proofs.ContextsKept.{protected_has}
+use Rattle.session_store.specs.State.{StoreState, level_state, scene_of, session_of}
+use Rattle.session_store.specs.Placed.{IsPlaced, LevelLies, Lies}
+use Rattle.session_store.specs.Calls.{ContextsAlone, Keeps, StandsIn}
+use Rattle.session_store.proofs.Answered.{some_both}
+use Rattle.session_store.proofs.Lists.{all_at, all_reverse}
+use Rattle.session_store.proofs.Sums.{keeps_on}
+
+-- a context is there in the tree where it is among those that the tree stands for
+pub has_kept : (n : ℕ) (tree : TreeState) (s : Space) → has n (stands_for tree s) ≡ has n tree.kept
+unfolding stands_for
+has_kept n tree s = mapped-has (context_of s) n tree.kept
+
+-- the context of a level, once it is made, is there
+abbrev pub IsThere : TreeState → Level → Type 0
+IsThere tree level = IfSome level.context (λ id. has id.number tree.kept ≡ true)
+
+-- the contexts that a store names are there
+pub record AreThere (tree : TreeState) (list : List Level) : Type 0 where
+  pub current : has tree.current.number tree.kept ≡ true
+  pub levels : All (IsThere tree) list
+
+level_there : (tree : TreeState) (s : Space) (o : Option CtxId) → ((n : ℕ) → option_map (λ (id : CtxId). id.number) o ≡ Some n → has n (stands_for tree s) ≡ true) → IfSome o (λ id. has id.number tree.kept ≡ true)
+level_there tree s None there = tt
+level_there tree s (Some id) there = sym (has_kept id.number tree s) ∙ there id.number refl
+
+levels_there : (tree : TreeState) (s : Space) (owners : OwnerTree) (levels : List Level) → AreLevels (map level_state levels) (stands_for tree s) owners → All (IsThere tree) levels
+levels_there tree s owners [] h = All-nil (IsThere tree)
+levels_there tree s owners (level ∷ levels) h =
+    All-cons (IsThere tree) level levels
+    (level_there tree s level.context (λ n e. protected_has n (stands_for tree s) (h.0.context n e).protected))
+    (levels_there tree s owners levels h.1)
+
+-- no surroundings at all
+abbrev pub nowhere : Around
+nowhere = record { kinds = []; shelf = record { fresh = []; spent = []; out = 0 }; pinned = []; locked = []; space = 0; descriptors = 0 }
+
+-- where the session stands, they are
+pub are_there : (a : StoreState) (s : Space) (x : ShelfState) → StandsIn a s x → AreThere a.tree a.levels
+unfolding session_of
+are_there a s x stands =
+    let h : Stands (scene_of a s x nowhere) = stands nowhere in
+    record {
+      current = sym (has_kept a.tree.current.number a.tree s) ∙ h.current;
+      levels = all_reverse (IsThere a.tree) a.levels (levels_there a.tree s (owners_of a.owners) (reverse a.levels) h.levels);
+    }
+
+-- A tree and its space went on: the space has what it has, and what was there and is there lies where it lay.
+pub record Goes (a b : TreeState) (s t : Space) : Type 0 where
+  pub moves : Moves a b s t
+  pub stays : (n : ℕ) → has n a.kept ≡ true → has n b.kept ≡ true → place_of b n ≡ place_of a n
+  pub current : b.current ≡ a.current
+
+-- nothing happens
+moves_none : (a : TreeState) (s : Space) → Agrees a s → Moves a a s s
+moves_none a s agrees = record {
+  agrees = agrees;
+  account = refl;
+  outside = λ number region. (λ out. out, λ out. out);
+  accounts = refl;
+  limit = refl;
+  own = refl;
+  others = λ account differ. refl;
+}
+
+pub goes_nowhere : (a b : TreeState) (s t : Space) → Agrees a s → b ≡ a → t ≡ s → Goes a b s t
+goes_nowhere a b s t agrees same still = subst (λ (y : Space). Goes a b s y) (sym still) (subst (λ (x : TreeState). Goes a x s s) (sym same) (record { moves = moves_none a s agrees; stays = λ n was now. refl; current = refl }))
+
+-- contexts went or were reset, or nothing did
+pub goes_did : (ended : Ended) (a b : TreeState) (s t : Space) (x y : ShelfState) → Did ended a b s t x y → Goes a b s t
+goes_did ended a b s t x y did = record {
+  moves = did.moves;
+  stays = λ n was now. did.stays n (ap (has n) (sym did.contexts) ∙ has_kept n b t ∙ now);
+  current = did.current;
+}
+
+pub goes_nothing : (a b : TreeState) (s t : Space) (x y : ShelfState) → Agrees a s → DidNothing a b s t x y → Goes a b s t
+goes_nothing a b s t x y agrees did = goes_nowhere a b s t agrees did.tree did.space
+
+-- all stay where they are
+pub goes_put : (a b : TreeState) (s t : Space) → Moves a b s t → StaysPut a b → Goes a b s t
+goes_put a b s t moves put = record {
+  moves = moves;
+  stays = λ n was now. ap (λ (places : Forest ℕ). at n places) put.places;
+  current = put.current;
+}
+
+-- a context is made
+pub goes_made : (a b : TreeState) (s t : Space) → Moves a b s t → ((n : ℕ) → n ≢ a.next → place_of b n ≡ place_of a n) → has a.next (stands_for a s) ≡ false → b.current ≡ a.current → Goes a b s t
+goes_made a b s t moves stays fresh current = record {
+  moves = moves;
+  stays = λ n was now. stays n (λ e. both_ways (has n a.kept) (ap (λ (m : ℕ). has m a.kept) e ∙ sym (has_kept a.next a s) ∙ fresh) was);
+  current = current;
+}
+
+-- what the store names still lies where its id says
+lies_on : (a b : TreeState) (id : CtxId) → ((n : ℕ) → has n a.kept ≡ true → has n b.kept ≡ true → place_of b n ≡ place_of a n) → Lies a id → has id.number a.kept ≡ true → Lies b id
+lies_on a b id stays lies was now = stays id.number was now ∙ lies was
+
+levels_on : (a b : TreeState) (table : OwnerTable) (levels : List Level) → ((n : ℕ) → has n a.kept ≡ true → has n b.kept ≡ true → place_of b n ≡ place_of a n)
+    → All (LevelLies a table) levels → All (IsThere a) levels → All (LevelLies b table) levels
+levels_on a b table [] stays lies there = All-nil (LevelLies b table)
+levels_on a b table (level ∷ levels) stays lies there =
+    let first = All-head (LevelLies a table) level levels lies in
+    All-cons (LevelLies b table) level levels
+    (record { context = some_both level.context (λ id. lies_on a b id stays) first.context (All-head (IsThere a) level levels there); owner = first.owner })
+    (levels_on a b table levels stays (All-tail (LevelLies a table) level levels lies) (All-tail (IsThere a) level levels there))
+
+pub placed_on : (a b : TreeState) (table : OwnerTable) (levels : List Level) → IsPlaced a table levels → AreThere a levels → ((n : ℕ) → has n a.kept ≡ true → has n b.kept ≡ true → place_of b n ≡ place_of a n) → b.current ≡ a.current
+    → IsPlaced b table levels
+placed_on a b table levels placed there stays current = record {
+  current = subst (λ (id : CtxId). Lies b id) (sym current) (lies_on a b a.current stays placed.current there.current);
+  levels = levels_on a b table levels stays placed.levels there.levels;
+}
+
+pub placed_put : (a b : TreeState) (table : OwnerTable) (levels : List Level) → IsPlaced a table levels → AreThere a levels → StaysPut a b → IsPlaced b table levels
+placed_put a b table levels placed there put = placed_on a b table levels placed there (λ n was now. ap (λ (places : Forest ℕ). at n places) put.places) put.current
+
+-- the context of the level of a number lies where its id says
+pub at_level : (P : Level → Type 0) (levels : List Level) (n : ℕ) (level : Level) → All P levels → level_at levels n ≡ Some level → P level
+at_level P levels n level h e = go (n == 0) e
+  where
+    go : (b : Bool) → (if b then None else slice_get levels (n - 1)) ≡ Some level → P level
+    go true e = absurd (cc e)
+    go false e = all_at P levels (n - 1) level h e
+
+pub level_live : (tree : TreeState) (table : OwnerTable) (levels : List Level) (n : ℕ) (level : Level) → IsPlaced tree table levels → AreThere tree levels → level_at levels n ≡ Some level → IfSome level.context (IsLive tree)
+level_live tree table levels n level placed there e =
+    let lies : LevelLies tree table level = at_level (LevelLies tree table) levels n level placed.levels e in
+    some_both level.context (λ id lies here. lies here) lies.context (at_level (IsThere tree) levels n level there.levels e)
+
+-- the store that holds the tree
+pub alone_on : (a : StoreState) (b : TreeState) (s t : Space) → Keeps a s → Goes a.tree b s t → ContextsAlone a (record a { tree = b }) s t
+unfolding session_of
+alone_on a b s t k goes = record {
+  keeps = keeps_on a b s t k goes.moves;
+  moves = goes.moves;
+  owners = refl;
+  levels = refl;
+  stays = λ id live was now. goes.stays id.number (sym (has_kept id.number a.tree s) ∙ was) (sym (has_kept id.number b t) ∙ now) ∙ live;
+}
+
+-- only the current context is another one
+moves_switch : (a : TreeState) (id : CtxId) (s : Space) → Agrees a s → Moves a (record a { current = id }) s s
+unfolding stands_for
+moves_switch a id s agrees = record {
+  agrees = record { account = agrees.account; each = agrees.each; owned = agrees.owned; apart = agrees.apart; known = agrees.known };
+  account = refl;
+  outside = λ number region. (λ out. out, λ out. out);
+  accounts = refl;
+  limit = refl;
+  own = refl;
+  others = λ account differ. refl;
+}
+
+pub switch_alone : (a : StoreState) (id : CtxId) (s : Space) → Keeps a s → ContextsAlone a (record a { tree = record a.tree { current = id } }) s s
+switch_alone a id s k = record {
+  keeps = keeps_on a (record a.tree { current = id }) s s k (moves_switch a.tree id s k.agrees);
+  moves = moves_switch a.tree id s k.agrees;
+  owners = refl;
+  levels = refl;
+  stays = λ other live was now. live;
+}

@@ -1,0 +1,286 @@
+-- What calls on a store's levels make of the session, and that acts of the rules lead there.
+use Rattle.std.proofs.Common.{◌≡◌, ℕ, ◌+◌, ◌≤◌, arith, Bool, true, false, Option, Some, None, List, [], ◌∷◌, ◌++◌, append-nil, length, map, All, IfSome, refl, sym, ap, ◌∙◌, subst}
+use Rattle.std.specs.Prelude.{◌-◌, reverse, unwrap_or}
+use Rattle.std.specs.Option.{option_and_then, option_map, option_map_or}
+use Rattle.std.proofs.lemmas.List.Elements.{All-cons, All-head, All-nil, All-push, All-tail}
+use Rattle.addr_space.specs.Space.{Space}
+use Rattle.forest.specs.Forest.{has}
+use Rattle.forest.proofs.Mapped.{mapped-has}
+use Rattle.pgs_step.specs.declared.ids.CtxId.{CtxId}
+use Rattle.pgs_step.specs.declared.ids.OwnerId.{OwnerId}
+use Rattle.pgs_step.specs.declared.events.What.{What}
+use Rattle.pgs_step.specs.declared.events.What.TheVariants as what
+use Rattle.reset_callbacks.specs.ShelfState.{ShelfState}
+use Rattle.context_rules.specs.Contexts.{Contexts, created, created_events}
+use Rattle.any_ctx.specs.declared.any.CtxKind.TheVariants as kind
+use Rattle.context_tree.specs.State.{TreeState, IsLive, stands_for}
+use Rattle.owner_core.specs.Owners as owners
+use Rattle.owner_core.specs.Owners.{OwnerTable, OwnerTree, Roomy, owners_of}
+use Rattle.subxact_stack.specs.declared.levels.Level.{Level}
+use Rattle.subxact_stack.specs.Levels.{level_at, new_level}
+use Rattle.session_rules.specs.State.{LevelState, context_of, deepest_changed, first_of, owner_of}
+use Rattle.session_rules.specs.World.{Around, Scene}
+use Rattle.session_rules.specs.Acts.{Ended}
+use Rattle.session_rules.specs.Elements.{LevelContext, OfLevel}
+use Rattle.session_rules.specs.Making.{level_context_name, level_made, level_parent, new_context_made, new_owner_made, owner_made}
+use Rattle.session_rules.specs.Parts.{level_stands}
+use Rattle.session_rules.specs.Standing.{AreLevels, Stands}
+use Rattle.session_rules.proofs.EndsStand.{settled}
+use Rattle.session_rules.proofs.Standings.{own_there}
+use Rattle.session_owners.specs.Fitting as fitting
+use Rattle.session_owners.specs.Fitting.{OwnersFit, with_owners}
+use Rattle.session_store.specs.State.{StoreState, level_state, levels_of, scene_of, session_of}
+use Rattle.session_store.specs.Placed.{IsPlaced, LevelLies, Lies}
+use Rattle.session_store.specs.Calls.{Acted, IsSilent, Keeps, StandsIn}
+use Rattle.session_store.proofs.Answered.{if_some, some_both}
+use Rattle.session_store.proofs.Deepest.{above_is, all_deepest, all_level, levels_are, levels_long}
+use Rattle.session_store.proofs.Kept.{IsThere, nowhere}
+use Rattle.session_store.proofs.Lists.{all_reverse}
+
+-- the space has what the store has in it, whatever its owners and its levels
+pub keeps_parts : (a : StoreState) (o : OwnerTable) (ls : List Level) (s : Space) → Keeps a s → Keeps (record a { owners = o; levels = ls }) s
+unfolding session_of
+keeps_parts a o ls s k = record { agrees = k.agrees; held = k.held }
+
+pub keeps_current : (a : StoreState) (id : CtxId) (o : OwnerTable) (ls : List Level) (s : Space) → Keeps a s → Keeps (record { tree = record a.tree { current = id }; owners = o; levels = ls }) s
+unfolding session_of stands_for
+keeps_current a id o ls s k = record {
+  agrees = let g = k.agrees in record { account = g.account; each = g.each; owned = g.owned; apart = g.apart; known = g.known };
+  held = k.held;
+}
+
+-- the scene with other levels
+abbrev pub leveled : StoreState → List LevelState → Space → ShelfState → Around → Scene
+leveled a ls s x around = record { session = record (session_of a s) { levels = ls }; around = record around { kinds = []; shelf = x; space = s.limit } }
+
+pub scene_leveled : (a : StoreState) (ls : List LevelState) (s : Space) (x : ShelfState) (around : Around) → levels_of a.levels ≡ ls → scene_of a s x around ≡ leveled a ls s x around
+unfolding session_of
+scene_leveled a ls s x around e = ap (λ (z : List LevelState). leveled a z s x around) e
+
+-- a level begins
+pub begun_acted : (a : StoreState) (name : Option (List ℕ)) (implicit : Bool) (s : Space) (x : ShelfState) (Said : List What → Type 0) → Said (what.BeginLevel (length a.levels + 1) ∷ [])
+    → Acted (level_made name implicit) a (record a { levels = a.levels ++ new_level name implicit ∷ [] }) s s x x Said
+unfolding session_of
+begun_acted a name implicit s x Said says = record {
+  leads = λ around. ap (λ (ls : List LevelState). leveled a ls s x around) (sym (levels_are a.levels (new_level name implicit)));
+  says = λ around. subst (λ (n : ℕ). Said (what.BeginLevel (n + 1) ∷ [])) (sym (levels_long a.levels)) says;
+}
+
+pub begun_placed : (tree : TreeState) (table : OwnerTable) (levels : List Level) (name : Option (List ℕ)) (implicit : Bool) → IsPlaced tree table levels → IsPlaced tree table (levels ++ new_level name implicit ∷ [])
+begun_placed tree table levels name implicit placed = record {
+  current = placed.current;
+  levels = All-push (LevelLies tree table) levels (new_level name implicit) placed.levels (record { context = tt; owner = tt });
+}
+
+-- a level stands
+module _ (a : StoreState) (outer : List Level) (s : Space) (x : ShelfState) where
+  stood : (name : Option (List ℕ)) (c : Option CtxId) (o : Option OwnerId) (implicit aborted starting : Bool) (around : Around)
+      → let old : Level = record { name = name; context = c; owner = o; implicit = implicit; aborted = aborted; starting = starting } in
+      level_stands (leveled a (level_state old ∷ levels_of outer) s x around)
+      ≡ record {
+        scene = leveled (record a { tree = record a.tree { current = unwrap_or c a.tree.current } }) (level_state (record old { starting = false }) ∷ levels_of outer) s x around;
+        events = [];
+      }
+  unfolding session_of stands_for
+  stood name None o implicit aborted starting around = refl
+  stood name (Some id) o implicit aborted starting around = refl
+
+  pub stood_acted : (level : Level) → a.levels ≡ outer ++ level ∷ []
+      → Acted level_stands a (record a { tree = record a.tree { current = unwrap_or level.context a.tree.current }; levels = outer ++ record level { starting = false } ∷ [] }) s s x x IsSilent
+  unfolding session_of
+  stood_acted level e = record {
+    leads = λ around.
+        ap (λ (z : Scene). (level_stands z).scene) (scene_leveled a (level_state level ∷ levels_of outer) s x around (ap levels_of e ∙ levels_are outer level))
+        ∙ ap (λ (z : Ended). z.scene) (stood level.name level.context level.owner level.implicit level.aborted level.starting around)
+        ∙ ap (λ (ls : List LevelState). leveled (record a { tree = record a.tree { current = unwrap_or level.context a.tree.current } }) ls s x around) (sym (levels_are outer (record level { starting = false })));
+    says = λ around.
+        ap (λ (z : Scene). (level_stands z).events) (scene_leveled a (level_state level ∷ levels_of outer) s x around (ap levels_of e ∙ levels_are outer level))
+        ∙ ap (λ (z : Ended). z.events) (stood level.name level.context level.owner level.implicit level.aborted level.starting around);
+  }
+
+-- the owner of a level is made
+pub owner_acted : (a : StoreState) (outer : List Level) (level : Level) (s : Space) (x : ShelfState) (p : OwnerTable) (id : OwnerId) (parent : Option ℕ) (Said : List What → Type 0) → a.levels ≡ outer ++ level ∷ []
+    → parent ≡ owner_of (first_of (levels_of outer)) → id.number ≡ a.owners.next_owner → fitting.Acted (owner_made parent) a.owners p Said
+    → Acted (new_owner_made OfLevel) a (record a { owners = p; levels = outer ++ record level { owner = Some id } ∷ [] }) s s x x Said
+unfolding session_of
+owner_acted a outer level s x p id parent Said e up number made = record {
+  leads = λ around.
+      let z : Scene = leveled a (level_state level ∷ levels_of outer) s x around in
+      ap (λ (z : Scene). (new_owner_made OfLevel z).scene) (scene_leveled a (level_state level ∷ levels_of outer) s x around (ap levels_of e ∙ levels_are outer level))
+      ∙ ap (λ (o : Option ℕ). let y : Scene = (owner_made o z).scene in record y { session = record y.session { levels = deepest_changed (λ old. record old { owner = Some a.owners.next_owner }) y.session.levels } }) (sym up)
+      ∙ ap (λ (y : Scene). record y { session = record y.session { levels = deepest_changed (λ old. record old { owner = Some a.owners.next_owner }) y.session.levels } })
+      (made.leads z (record { owners = refl; next_owner = refl; next_serial = refl; kinds = refl; locks = refl; plans = refl; files = refl }))
+      ∙ ap (λ (n : ℕ). leveled (record a { owners = p }) (record (level_state level) { owner = Some n } ∷ levels_of outer) s x around) (sym number)
+      ∙ ap (λ (ls : List LevelState). leveled (record a { owners = p }) ls s x around) (sym (levels_are outer (record level { owner = Some id })));
+  says = λ around.
+      let z : Scene = leveled a (level_state level ∷ levels_of outer) s x around in
+      subst (λ (z : Scene). Said (new_owner_made OfLevel z).events) (sym (scene_leveled a (level_state level ∷ levels_of outer) s x around (ap levels_of e ∙ levels_are outer level)))
+      (subst (λ (o : Option ℕ). Said ((owner_made o z).events ++ [])) up
+      (subst Said (sym (append-nil (owner_made parent z).events))
+      (made.says z (record { owners = refl; next_owner = refl; next_serial = refl; kinds = refl; locks = refl; plans = refl; files = refl }))));
+}
+
+-- the owner of a level, once it is made, is there
+abbrev pub HasOwner : OwnerTable → Level → Type 0
+HasOwner table level = IfSome level.owner (λ id. has id.number (owners_of table) ≡ true)
+
+owners_there : (contexts : Contexts) (table : OwnerTable) (levels : List Level) → AreLevels (map level_state levels) contexts (owners_of table) → All (HasOwner table) levels
+owners_there contexts table [] h = All-nil (HasOwner table)
+owners_there contexts table (level ∷ levels) h =
+    All-cons (HasOwner table) level levels
+    (if_some level.owner (λ id e. (h.0.owner id.number (ap (option_map (λ (o : OwnerId). o.number)) e)).there))
+    (owners_there contexts table levels h.1)
+
+pub have_owners : (a : StoreState) (s : Space) (x : ShelfState) → StandsIn a s x → All (HasOwner a.owners) a.levels
+unfolding session_of
+have_owners a s x stands =
+    let h : Stands (scene_of a s x nowhere) = stands nowhere in
+    all_reverse (HasOwner a.owners) a.levels (owners_there (stands_for a.tree s) a.owners (reverse a.levels) h.levels)
+
+-- a level's context and owner lie where their ids say
+pub context_live : (tree : TreeState) (table : OwnerTable) (level : Level) → LevelLies tree table level → IsThere tree level → IfSome level.context (IsLive tree)
+context_live tree table level lies there = some_both level.context (λ id l h. l h) lies.context there
+
+pub owner_live : (tree : TreeState) (table : OwnerTable) (level : Level) → LevelLies tree table level → HasOwner table level → IfSome level.owner (owners.IsLive table)
+owner_live tree table level lies there =
+    some_both level.owner (λ id l h. l (sym (mapped-has (λ (r : Roomy). r.owner) id.number table.rooms) ∙ h)) lies.owner there
+
+-- the session with its deepest level apart
+pub stands_deep : (a : StoreState) (s : Space) (x : ShelfState) (outer : List Level) (level : Level) → a.levels ≡ outer ++ level ∷ [] → StandsIn a s x
+    → Stands (settled (level_state level ∷ levels_of outer) (scene_of a s x nowhere))
+unfolding session_of
+stands_deep a s x outer level e stands =
+    subst (λ (ls : List LevelState). Stands (settled ls (scene_of a s x nowhere))) (ap levels_of e ∙ levels_are outer level) (stands nowhere)
+
+pub top_there : (a : StoreState) (s : Space) (x : ShelfState) → StandsIn a s x → has 1 (stands_for a.tree s) ≡ true
+unfolding session_of
+top_there a s x stands = own_there (scene_of a s x nowhere) (stands nowhere) 1 (let e : 1 ≤ 1 = omega arith in e) (let e : 1 ≤ 5 = omega arith in e)
+
+pub abort_there : (a : StoreState) (s : Space) (x : ShelfState) → StandsIn a s x → has 5 (stands_for a.tree s) ≡ true
+unfolding session_of
+abort_there a s x stands = own_there (scene_of a s x nowhere) (stands nowhere) 5 (let e : 1 ≤ 5 = omega arith in e) (let e : 5 ≤ 5 = omega arith in e)
+
+-- the levels lie once the deepest is another one
+pub deepest_placed : (tree tree' : TreeState) (table table' : OwnerTable) (levels outer : List Level) (level new : Level) → IsPlaced tree table levels → levels ≡ outer ++ level ∷ []
+    → ((l : Level) → LevelLies tree table l → HasOwner table l → LevelLies tree' table' l) → All (HasOwner table) levels → (LevelLies tree table level → LevelLies tree' table' new)
+    → Lies tree' tree'.current → IsPlaced tree' table' (outer ++ new ∷ [])
+deepest_placed tree tree' table table' levels outer level new placed e on owned then current =
+    let both = all_deepest (LevelLies tree table) levels outer level e placed.levels in
+    let has = all_deepest (HasOwner table) levels outer level e owned in
+    record {
+      current = current;
+      levels = All-push (LevelLies tree' table') outer new (all_more outer both.0 has.0) (then both.1);
+    }
+  where
+    all_more : (ls : List Level) → All (LevelLies tree table) ls → All (HasOwner table) ls → All (LevelLies tree' table') ls
+    all_more [] lies has = All-nil (LevelLies tree' table')
+    all_more (l ∷ ls) lies has =
+        All-cons (LevelLies tree' table') l ls
+        (on l (All-head (LevelLies tree table) l ls lies) (All-head (HasOwner table) l ls has))
+        (all_more ls (All-tail (LevelLies tree table) l ls lies) (All-tail (HasOwner table) l ls has))
+
+-- what lies in a tree lies there whichever context is the current one
+pub lies_at : (tree : TreeState) (table : OwnerTable) (id : CtxId) (level : Level) → LevelLies tree table level → LevelLies (record tree { current = id }) table level
+lies_at tree table id level lies = record {
+  context = some_both level.context (λ c l h. l) lies.context lies.context;
+  owner = lies.owner;
+}
+
+-- what lies in the owners still does where all that lay does
+pub owner_on : (tree : TreeState) (table table' : OwnerTable) (level : Level) → ((id : OwnerId) → owners.IsLive table id → owners.IsLive table' id) → LevelLies tree table level → HasOwner table level → LevelLies tree table' level
+owner_on tree table table' level on lies has = record {
+  context = lies.context;
+  owner = some_both level.owner (λ id l h there. on id (l (sym (mapped-has (λ (r : Roomy). r.owner) id.number table.rooms) ∙ h))) lies.owner has;
+}
+
+-- the current context, where another one may be taken instead
+pub current_lies : (tree : TreeState) (to : Option CtxId) → IfSome to (IsLive tree) → Lies tree tree.current → Lies (record tree { current = unwrap_or to tree.current }) (unwrap_or to tree.current)
+current_lies tree None live lies = lies
+current_lies tree (Some id) live lies = λ there. live
+
+-- the number of what is above
+pub parent_number : (o : Option LevelState) → unwrap_or (context_of o) 1 ≡ level_parent o
+parent_number None = refl
+parent_number (Some level) = go level.context
+  where
+    go : (c : Option ℕ) → unwrap_or c 1 ≡ option_map_or (λ n. n) c 1
+    go None = refl
+    go (Some n) = refl
+
+-- the owner of the level above
+pub above_live : (a : StoreState) (s : Space) (x : ShelfState) (n : ℕ) (above : Option Level) → IsPlaced a.tree a.owners a.levels → StandsIn a s x → above ≡ level_at a.levels n → IfSome (option_and_then (λ level. level.owner) above) (owners.IsLive a.owners)
+above_live a s x n None placed stands e = tt
+above_live a s x n (Some level) placed stands e =
+    owner_live a.tree a.owners level
+    (all_level (LevelLies a.tree a.owners) a.levels n level placed.levels (sym e))
+    (all_level (HasOwner a.owners) a.levels n level (have_owners a s x stands) (sym e))
+
+number_of : (o : Option Level) → option_map (λ (id : OwnerId). id.number) (option_and_then (λ level. level.owner) o) ≡ owner_of (option_map level_state o)
+number_of None = refl
+number_of (Some level) = refl
+
+pub above_owner : (a : StoreState) (outer : List Level) (level : Level) → a.levels ≡ outer ++ level ∷ []
+    → option_map (λ (id : OwnerId). id.number) (option_and_then (λ level. level.owner) (level_at a.levels (length a.levels - 1))) ≡ owner_of (first_of (levels_of outer))
+above_owner a outer level e =
+    number_of (level_at a.levels (length a.levels - 1))
+    ∙ ap (λ (ls : List Level). owner_of (option_map level_state (level_at ls (length ls - 1)))) e
+    ∙ ap owner_of (above_is outer level)
+
+-- a scene by what the making of a level's context changes
+abbrev pub scene_made : StoreState → ShelfState → Around → Contexts → ℕ → ℕ → List LevelState → ℕ → Scene
+scene_made a x around contexts current next levels limit = record {
+  session = record {
+    contexts = contexts;
+    current = current;
+    next_context = next;
+    owners = owners_of a.owners;
+    next_owner = a.owners.next_owner;
+    next_serial = a.owners.next_serial;
+    locks = [];
+    levels = levels;
+    portals = [];
+    snapshots = [];
+    plans = [];
+    recent = [];
+  };
+  around = record around { kinds = []; shelf = x; space = limit };
+}
+
+pub made_same : (a : StoreState) (x : ShelfState) (around : Around) (c d : Contexts) (i j m n : ℕ) (ls ks : List LevelState) (k l : ℕ) → c ≡ d → i ≡ j → m ≡ n → ls ≡ ks → k ≡ l → scene_made a x around c i m ls k ≡ scene_made a x around d j n ks l
+made_same a x around c d i j m n ls ks k l p q r u v =
+    ap (λ (z : Contexts). scene_made a x around z i m ls k) p
+    ∙ ap (λ (z : ℕ). scene_made a x around d z m ls k) q
+    ∙ ap (λ (z : ℕ). scene_made a x around d j z ls k) r
+    ∙ ap (λ (z : List LevelState). scene_made a x around d j n z k) u
+    ∙ ap (λ (z : ℕ). scene_made a x around d j n ks z) v
+
+-- the context of a level is made
+pub context_acted : (a : StoreState) (outer : List Level) (level : Level) (b : TreeState) (s t : Space) (x : ShelfState) (id : CtxId) (parent : ℕ) (name : List ℕ) (Said : List What → Type 0) → a.levels ≡ outer ++ level ∷ []
+    → parent ≡ level_parent (first_of (levels_of outer)) → name ≡ level_context_name (first_of (levels_of outer)) → id.number ≡ a.tree.next
+    → stands_for b t ≡ created parent a.tree.next name kind.Default true (stands_for a.tree s) → b.current ≡ a.tree.current → b.next ≡ a.tree.next + 1 → t.limit ≡ s.limit → Said (created_events parent a.tree.next name)
+    → Acted (new_context_made LevelContext) a (record a { tree = b; levels = outer ++ record level { context = Some id } ∷ [] }) s t x x Said
+unfolding session_of
+context_acted a outer level b s t x id parent name Said e up called number is current next limit says =
+    let p : ℕ = level_parent (first_of (levels_of outer)) in
+    let n : List ℕ = level_context_name (first_of (levels_of outer)) in
+    let was : created p a.tree.next n kind.Default true (stands_for a.tree s) ≡ stands_for b t =
+    ap (λ (q : ℕ). created q a.tree.next n kind.Default true (stands_for a.tree s)) (sym up)
+    ∙ ap (λ (m : List ℕ). created parent a.tree.next m kind.Default true (stands_for a.tree s)) (sym called) ∙ sym is in
+    let levels : record (level_state level) { context = Some a.tree.next } ∷ levels_of outer ≡ levels_of (outer ++ record level { context = Some id } ∷ []) =
+    ap (λ (m : ℕ). record (level_state level) { context = Some m } ∷ levels_of outer) (sym number) ∙ sym (levels_are outer (record level { context = Some id })) in
+    record {
+      leads = λ around.
+          ap (λ (z : Scene). (new_context_made LevelContext z).scene) (scene_leveled a (level_state level ∷ levels_of outer) s x around (ap levels_of e ∙ levels_are outer level))
+          ∙ made_same a x around (created p a.tree.next n kind.Default true (stands_for a.tree s)) (stands_for b t) a.tree.current.number b.current.number (a.tree.next + 1) b.next
+          (record (level_state level) { context = Some a.tree.next } ∷ levels_of outer) (levels_of (outer ++ record level { context = Some id } ∷ [])) s.limit t.limit
+          was (ap (λ (i : CtxId). i.number) (sym current)) (sym next) levels (sym limit);
+      says = λ around.
+          subst (λ (z : Scene). Said (new_context_made LevelContext z).events) (sym (scene_leveled a (level_state level ∷ levels_of outer) s x around (ap levels_of e ∙ levels_are outer level)))
+          (subst (λ (q : ℕ). Said (created_events q a.tree.next n ++ [])) up
+          (subst (λ (m : List ℕ). Said (created_events parent a.tree.next m ++ [])) called
+          (subst Said (sym (append-nil (created_events parent a.tree.next name))) says)));
+    }
+
+pub above_in : (a : StoreState) (outer : List Level) (level : Level) (above : Option Level) → a.levels ≡ outer ++ level ∷ [] → above ≡ level_at a.levels (length a.levels - 1) → option_map level_state above ≡ first_of (levels_of outer)
+above_in a outer level above e is =
+    ap (option_map level_state) is ∙ ap (λ (ls : List Level). option_map level_state (level_at ls (length ls - 1))) e ∙ above_is outer level

@@ -1,0 +1,13 @@
+pub mod Answered
+pub mod Lists
+pub mod Sums
+pub mod Kept
+pub mod Led
+pub mod Through
+pub mod Opened
+pub mod Named
+pub mod Deepest
+pub mod Levelled
+pub mod Went
+pub mod Ending
+pub mod Owned

@@ -1,0 +1,62 @@
+-- A session that opens.
+use Rattle.std.proofs.Common.{◌≡◌, ℕ, List, [], ap, sym, ◌∙◌, arith, subst}
+use Rattle.addr_space.specs.Space.{Space, held}
+use Rattle.forest.specs.Forest.{Empty}
+use Rattle.context_rules.specs.Contexts.{Contexts}
+use Rattle.context_rules.specs.Opening as contexts
+use Rattle.context_tree.specs.State.{TreeState, Moves, no_contexts, stands_for, total_of}
+use Rattle.owner_core.specs.Owners.{OwnerTable, owners_of}
+use Rattle.subxact_stack.specs.declared.levels.Level.{Level}
+use Rattle.reset_callbacks.specs.Hook.{AreDistinct}
+use Rattle.reset_callbacks.specs.ShelfState as shelf
+use Rattle.reset_callbacks.specs.ShelfState.{ShelfState}
+use Rattle.session_rules.specs.State.{SessionState, opening}
+use Rattle.session_rules.specs.World.{Around}
+use Rattle.session_rules.specs.Standing.{Stands}
+use Rattle.session_rules.proofs.OpeningStands.{opening_stands}
+use Rattle.session_store.specs.State.{StoreState, levels_of, session_of}
+use Rattle.session_store.specs.Calls.{Keeps, StandsIn}
+use Rattle.session_store.proofs.Sums.{held_is}
+
+-- a session by its parts
+abbrev session_by : Contexts → ℕ → ℕ → OwnerTable → List Level → SessionState
+session_by contexts current next owners levels = record {
+  contexts = contexts;
+  current = current;
+  next_context = next;
+  owners = owners_of owners;
+  next_owner = owners.next_owner;
+  next_serial = owners.next_serial;
+  locks = [];
+  levels = levels_of levels;
+  portals = [];
+  snapshots = [];
+  plans = [];
+  recent = [];
+}
+
+pub opens : (tree : TreeState) (owners : OwnerTable) (levels : List Level) (s : Space) → stands_for tree s ≡ contexts.opening → tree.current.number ≡ 1 → tree.next ≡ 6
+    → owners ≡ record { rooms = Empty; places = Empty; next_owner = 1; next_serial = 1 } → levels ≡ [] → session_of (record { tree = tree; owners = owners; levels = levels }) s ≡ opening
+unfolding session_of opening
+opens tree owners levels s p q r u v =
+    ap (λ (z : Contexts). session_by z tree.current.number tree.next owners levels) p
+    ∙ ap (λ (z : ℕ). session_by contexts.opening z tree.next owners levels) q
+    ∙ ap (λ (z : ℕ). session_by contexts.opening 1 z owners levels) r
+    ∙ ap (λ (z : OwnerTable). session_by contexts.opening 1 6 z levels) u
+    ∙ ap (λ (z : List Level). session_by contexts.opening 1 6 (record { rooms = Empty; places = Empty; next_owner = 1; next_serial = 1 }) z) v
+
+-- what the account holds are the blocks of its contexts, where it held nothing before
+pub keeps_opened : (a : StoreState) (account : ℕ) (s t : Space) → Moves (no_contexts account) a.tree s t → a.tree.account ≡ account → held s account ≡ 0 → Keeps a t
+unfolding stands_for
+keeps_opened a account s t moves is none = record {
+  agrees = moves.agrees;
+  held =
+      let now : held t account ≡ total_of (stands_for a.tree t) = omega (arith, moves.own, none) in
+      ap (held t) is ∙ now ∙ sym (held_is a t);
+}
+
+-- it stands, where the hooks of the shelf differ
+pub stands_opened : (a : StoreState) (s : Space) (x : ShelfState) → session_of a s ≡ opening → AreDistinct (shelf.held x) → StandsIn a s x
+stands_opened a s x is differ around =
+    let surroundings : Around = record around { kinds = []; shelf = x; space = s.limit } in
+    subst (λ (session : SessionState). Stands (record { session = session; around = surroundings })) (sym is) (opening_stands surroundings differ).stands

@@ -1,0 +1,13 @@
+-- The current context is there where the session stands, and then it lies where its id says.
+use Rattle.std.proofs.Common.{sym, subst}
+use Rattle.pgs_step.specs.declared.ids.CtxId.{CtxId}
+use Rattle.context_tree.specs.State.{IsLive}
+use Rattle.session_store.specs.State.{StoreState}
+use Rattle.session_store.proofs.Through.{there_in}
+use Rattle.session_store.proofs.store.Store.current.Goals as goal
+
+pub returns-clause-live : goal.returns-clause-live
+returns-clause-live g c s x stands =
+    let there = there_in _ _ _ _ c.self.view_is s x stands in
+    subst (λ (a : StoreState). IsLive a.tree c.current.result) c.self.view_is
+    (subst (λ (id : CtxId). IsLive c.self.inside.tree id) (sym c.current.ensures) (c.self.invariant.current there.current))

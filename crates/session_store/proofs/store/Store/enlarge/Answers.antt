@@ -1,0 +1,29 @@
+-- The owners' room alone changes.
+use Rattle.std.proofs.Common.{◌≡◌, ◌≢◌, ◌↔◌, ℕ, true, Err, ap, ◌∙◌, subst}
+use Rattle.owner_core.specs.Owners.{has_begun, owners_of, spare_of}
+use Rattle.owner_core.specs.declared.errors.OwnerError.TheVariants.{Releasing}
+use Rattle.session_store.specs.State.{StoreState, session_of}
+use Rattle.session_store.proofs.Owned.{go_same, owner_in, owners_alone_after, placed_owners, same_session}
+use Rattle.session_store.proofs.store.Store.enlarge.Goals as goal
+
+pub enlarge-requires : goal.enlarge-requires
+enlarge-requires g c = record { live = owner_in _ _ _ _ c.self.view_is c.args.owner c.requires.live }
+
+pub invariant_of-self : goal.invariant_of-self
+invariant_of-self g c = placed_owners _ _ _ _ c.self.invariant (go_same _ _ c.enlarge.ensures.owners c.enlarge.ensures.places)
+
+pub returns-clause-others : goal.returns-clause-others
+returns-clause-others g c =
+    subst (λ (a : StoreState). (other : ℕ) → other ≢ c.args.owner.number → spare_of other c.enlarge.new.self ≡ spare_of other a.owners) c.self.view_is c.enlarge.ensures.others
+
+pub returns-clause-session : goal.returns-clause-session
+returns-clause-session g c s =
+    same_session (record { tree = c.self.inside.tree; owners = c.self.inside.owners; levels = c.self.inside.levels }) c.enlarge.new.self s c.enlarge.ensures.owners c.enlarge.ensures.next_owner c.enlarge.ensures.next_serial
+    ∙ ap (λ (a : StoreState). session_of a s) c.self.view_is
+
+pub returns-clause-alone : goal.returns-clause-alone
+returns-clause-alone g c = owners_alone_after _ _ _ _ c.self.view_is _ (go_same _ _ c.enlarge.ensures.owners c.enlarge.ensures.places)
+
+pub returns-clause-releasing : goal.returns-clause-releasing
+returns-clause-releasing g c =
+    subst (λ (a : StoreState). (c.enlarge.result ≡ Err Releasing) ↔ (has_begun c.args.owner.number (owners_of a.owners) ≡ true)) c.self.view_is c.enlarge.ensures.releasing

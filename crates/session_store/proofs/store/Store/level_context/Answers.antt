@@ -1,0 +1,13 @@
+-- A level's context is there where the session stands, and then it lies where its id says.
+use Rattle.std.proofs.Common.{IfSome, sym, ap, ◌∙◌, subst}
+use Rattle.std.specs.Prelude.{option_copied}
+use Rattle.context_tree.specs.State.{IsLive}
+use Rattle.session_store.specs.State.{StoreState}
+use Rattle.session_store.proofs.Kept.{level_live}
+use Rattle.session_store.proofs.Through.{there_in}
+use Rattle.session_store.proofs.store.Store.level_context.Goals as goal
+
+pub returns-in-Some-clause-live : goal.returns-in-Some-clause-live
+returns-in-Some-clause-live g c s x stands =
+    subst (λ (a : StoreState). IfSome c.in-Some.found.now.context (IsLive a.tree)) c.self.view_is
+    (level_live _ _ _ c.args.level c.in-Some.found.now c.self.invariant (there_in _ _ _ _ c.self.view_is s x stands) (sym c.at.ensures ∙ ap option_copied c.in-Some.is))

@@ -1,0 +1,46 @@
+-- What calls make of a store, its space and the shelf of hooks.
+use Rattle.std.specs.Prelude.{◌≡◌, true, List, []}
+use Rattle.pgs_step.specs.declared.ids.CtxId.{CtxId}
+use Rattle.pgs_step.specs.declared.events.What.{What}
+use Rattle.addr_space.specs.Space.{Space, held}
+use Rattle.forest.specs.Forest.{has}
+use Rattle.reset_callbacks.specs.ShelfState.{ShelfState}
+use Rattle.context_tree.specs.State.{Agrees, IsLive, Moves}
+use Rattle.session_rules.specs.World.{Around, Scene}
+use Rattle.session_rules.specs.Acts.{Ended}
+use Rattle.session_rules.specs.Standing.{Stands}
+use Rattle.session_store.specs.State.{StoreState, contexts_in, held_in, scene_of, session_of}
+
+-- The space has what the contexts have in it, and what the account holds are their blocks.
+pub record Keeps (store : StoreState) (s : Space) : Type 0 where
+  pub agrees : Agrees store.tree s
+  pub held : held s store.tree.account ≡ held_in store s
+
+-- the session stands in any surroundings with this shelf
+abbrev pub StandsIn : StoreState → Space → ShelfState → Type 0
+StandsIn store s x = (around : Around) → Stands (scene_of store s x around)
+
+-- An act led from one store, space and shelf to others, in any surroundings, and what it said is so.
+pub record Acted (act : Scene → Ended) (a b : StoreState) (s t : Space) (x y : ShelfState) (Said : List What → Type 0) : Type 0 where
+  pub leads : (around : Around) → (act (scene_of a s x around)).scene ≡ scene_of b t y around
+  pub says : (around : Around) → Said (act (scene_of a s x around)).events
+
+-- nothing was said
+abbrev pub IsSilent : List What → Type 0
+IsSilent events = events ≡ []
+
+-- Of a store the contexts changed and nothing else: the space has what they have, it keeps what isn't theirs, and what is there still
+-- lies where it did.
+pub record ContextsAlone (a b : StoreState) (s t : Space) : Type 0 where
+  pub keeps : Keeps b t
+  pub moves : Moves a.tree b.tree s t
+  pub owners : b.owners ≡ a.owners
+  pub levels : b.levels ≡ a.levels
+  pub stays : (id : CtxId) → IsLive a.tree id → has id.number (contexts_in a s) ≡ true → has id.number (contexts_in b t) ≡ true → IsLive b.tree id
+
+-- The call was refused: the store and the shelf are as they were, and the session is.
+pub record Refused (a b : StoreState) (s t : Space) (x y : ShelfState) : Type 0 where
+  pub store : b ≡ a
+  pub shelf : y ≡ x
+  pub session : session_of b t ≡ session_of a s
+  pub limit : t.limit ≡ s.limit

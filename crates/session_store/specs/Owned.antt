@@ -1,0 +1,16 @@
+-- What calls on a store's owners make of it.
+use Rattle.std.specs.Prelude.{◌≡◌, true}
+use Rattle.addr_space.specs.Space.{Space}
+use Rattle.forest.specs.Forest.{has}
+use Rattle.pgs_step.specs.declared.ids.OwnerId.{OwnerId}
+use Rattle.owner_core.specs.Owners as owners
+use Rattle.owner_core.specs.Owners.{owners_of}
+use Rattle.session_store.specs.State.{StoreState}
+use Rattle.session_store.specs.Calls.{Keeps}
+
+-- Of a store the owners changed and nothing else, and what is there still lies where it did.
+pub record OwnersAlone (a b : StoreState) : Type 0 where
+  pub tree : b.tree ≡ a.tree
+  pub levels : b.levels ≡ a.levels
+  pub keeps : (s : Space) → Keeps a s → Keeps b s
+  pub stays : (id : OwnerId) → owners.IsLive a.owners id → has id.number (owners_of b.owners) ≡ true → owners.IsLive b.owners id

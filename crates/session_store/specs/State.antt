@@ -1,0 +1,66 @@
+-- What a session's store is seen as, and the session that it stands for.
+use Rattle.std.specs.Prelude.{ℕ, ◌-◌, List, [], map, reverse}
+use Rattle.std.specs.Option.{option_map}
+use Rattle.addr_space.specs.Space.{Space}
+use Rattle.reset_callbacks.specs.ShelfState.{ShelfState}
+use Rattle.context_rules.specs.Contexts.{Contexts}
+use Rattle.context_tree.specs.State.{TreeState, stands_for}
+use Rattle.owner_core.specs.Owners.{OwnerTable, owners_of}
+use Rattle.subxact_stack.specs.declared.levels.Level.{Level}
+use Rattle.session_rules.specs.State.{LevelState, SessionState}
+use Rattle.session_rules.specs.World.{Around, Scene}
+use Rattle.session_rules.specs.Making as rules
+
+-- the contexts, the owners, and the levels of the transaction, level 1 first
+pub record StoreState : Type 0 where
+  pub tree : TreeState
+  pub owners : OwnerTable
+  pub levels : List Level
+
+-- a level by the numbers of its context and its owner
+abbrev pub level_state : Level → LevelState
+level_state level = record {
+  name = level.name;
+  context = option_map (λ id. id.number) level.context;
+  owner = option_map (λ id. id.number) level.owner;
+  implicit = level.implicit;
+  aborted = level.aborted;
+  starting = level.starting;
+}
+
+-- the levels, the deepest first
+abbrev pub levels_of : List Level → List LevelState
+levels_of levels = map level_state (reverse levels)
+
+-- The session that a store and its space stand for. No step yet makes a lock, a portal, an active snapshot or a plan, and no file
+-- gets a descriptor.
+unfoldable pub session_of : StoreState → Space → SessionState
+session_of store s = record {
+  contexts = stands_for store.tree s;
+  current = store.tree.current.number;
+  next_context = store.tree.next;
+  owners = owners_of store.owners;
+  next_owner = store.owners.next_owner;
+  next_serial = store.owners.next_serial;
+  locks = [];
+  levels = levels_of store.levels;
+  portals = [];
+  snapshots = [];
+  plans = [];
+  recent = [];
+}
+
+-- the contexts alone
+abbrev pub contexts_in : StoreState → Space → Contexts
+contexts_in store s = (session_of store s).contexts
+
+-- the session in its surroundings, with a shelf of hooks and no extension kind: as many bytes of the space are its share as its limit says
+abbrev pub scene_of : StoreState → Space → ShelfState → Around → Scene
+scene_of store s x around = record { session = session_of store s; around = record around { kinds = []; shelf = x; space = s.limit } }
+
+-- the bytes that the session's contexts hold, and what is left of its share of the space
+abbrev pub held_in : StoreState → Space → ℕ
+held_in store s = rules.held (session_of store s)
+
+abbrev pub left_in : StoreState → Space → ℕ
+left_in store s = s.limit - held_in store s

@@ -1,0 +1,15 @@
+//! What one session of a backend holds: its memory contexts, its resource owners and its levels of transaction.
+#![tactic(auto)]
+
+mod chunks;
+mod contexts;
+mod ends;
+mod hooks;
+mod level_ends;
+mod levels;
+mod owners;
+mod reading;
+mod store;
+
+pub use hooks::RegisterError;
+pub use store::Store;

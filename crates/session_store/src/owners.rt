@@ -1,0 +1,97 @@
+//! The resource owners of a session.
+ghost use Rattle.std.specs.Prelude.{◌≡◌, ◌≢◌, ◌↔◌, ℕ, ◌+◌, ◌<◌, ◌≤◌, ◌^◌, true, false, Err, None, IfSome, OnOk, OnErr};
+ghost use Rattle.std.specs.Option.{option_and_then, option_map};
+ghost use Rattle.addr_space.specs.Space.{Space};
+ghost use Rattle.reset_callbacks.specs.ShelfState.{ShelfState};
+ghost use Rattle.forest.specs.Forest.{parent_of};
+ghost use Rattle.owner_core.specs.Owners.{AllAt, HoldsNothing, IsLive, has_begun, owners_of, spare_of};
+ghost use Rattle.subxact_stack.specs.Levels.{level_at};
+ghost use Rattle.session_rules.specs.State as rules;
+ghost use Rattle.session_rules.specs.State.{buffer_pin};
+ghost use Rattle.session_rules.specs.Taking.{item_taken};
+ghost use Rattle.session_rules.specs.Releases.{owner_gone, owner_released};
+ghost use Rattle.session_store.specs.State.{session_of};
+ghost use Rattle.session_store.specs.Calls.{Acted, StandsIn};
+ghost use Rattle.session_store.specs.Owned.{OwnersAlone};
+
+use crate::store::Store;
+use owner_core::OwnerError;
+use pgs_step::{Emit, OwnerId};
+use reset_callbacks::ResetHook;
+
+impl<H: ResetHook> Store<H> {
+    /// The owner of the deepest level, where there is one and it has one.
+    pub fn level_owner(&self) -> Option<OwnerId>
+        ensures owner { (s : Space) → option_map (λ id. id.number) result ≡ rules.level_owner (session_of self.now s) }
+        ensures live { (s : Space) (x : ShelfState) → StandsIn self.now s x → IfSome result (IsLive self.now.owners) }
+    {
+        self.owner_at(self.levels.depth())
+    }
+
+    /// The owner of the level of that number, where there is one and it has one.
+    pub(crate) fn owner_at(&self, level: u32) -> Option<OwnerId>
+        ensures owner { result ≡ option_and_then (λ found. found.owner) (level_at self.now.levels level) }
+        ensures live { (s : Space) (x : ShelfState) → StandsIn self.now s x → IfSome result (IsLive self.now.owners) }
+    {
+        match self.levels.at(level) {
+            Some(found) => found.owner,
+            None => None,
+        }
+    }
+
+    /// Makes room for one more item of an owner: `ResourceOwnerEnlarge`. Nothing of the session changes.
+    ///
+    /// `Releasing` comes where the owner's release has begun, `Memory` where memory is refused, or where the owner has more
+    /// than 2^40 items and their table has to be made anew.
+    pub fn enlarge(&mut self, owner: OwnerId) -> Result<(), OwnerError>
+        requires live { IsLive self.old.owners owner }
+        ensures spare { OnOk result (1 ≤ spare_of owner.number self.new.owners) }
+        ensures others { (other : ℕ) → other ≢ owner.number → spare_of other self.new.owners ≡ spare_of other self.old.owners }
+        ensures session { (s : Space) → session_of self.new s ≡ session_of self.old s }
+        ensures alone { OwnersAlone self.old self.new }
+        ensures releasing { (result ≡ Err OwnerError.Releasing) ↔ (has_begun owner.number (owners_of self.old.owners) ≡ true) }
+        ensures refused { OnErr result (self.new ≡ self.old) }
+        ensures not_too_many { result ≢ Err OwnerError.TooMany }
+        ensures not_owned { result ≢ Err OwnerError.NotOwned }
+    {
+        self.owners.enlarge(owner)
+    }
+
+    /// Pins a buffer, and the owner remembers the pin, in room that `enlarge` has made: `PinBuffer`.
+    pub fn pin<E: Emit>(&mut self, owner: OwnerId, buffer: u32, out: &mut E)
+        requires live { IsLive self.old.owners owner }
+        requires spare { 1 ≤ spare_of owner.number self.old.owners }
+        requires not_begun { has_begun owner.number (owners_of self.old.owners) ≡ false }
+        requires buffer { buffer < 1024 }
+        requires serial { self.old.owners.next_serial < 2 ^ 62 }
+        ensures spare { spare_of owner.number self.old.owners ≤ spare_of owner.number self.new.owners + 1 }
+        ensures others { (other : ℕ) → other ≢ owner.number → spare_of other self.new.owners ≡ spare_of other self.old.owners }
+        ensures acted { (s : Space) (x : ShelfState) → Acted (item_taken owner.number buffer_pin buffer) self.old self.new s s x x (λ events. E.emits out.old events out.new) }
+        ensures alone { OwnersAlone self.old self.new }
+    {
+        self.owners.pin(owner, buffer, out);
+    }
+
+    /// Releases an owner and all below it, in the three phases: `ResourceOwnerRelease`. It takes no memory.
+    ///
+    /// `top` says that the owner is the topmost one. At commit each item's release stands behind its warning.
+    pub fn release<E: Emit>(&mut self, owner: OwnerId, commit: bool, top: bool, out: &mut E)
+        requires live { IsLive self.old.owners owner }
+        requires top { (top ≡ true) ↔ (parent_of owner.number (owners_of self.old.owners) ≡ None) }
+        ensures nothing_left { AllAt HoldsNothing owner.number (owners_of self.new.owners) }
+        ensures acted { (s : Space) (x : ShelfState) → Acted (owner_released commit top owner.number) self.old self.new s s x x (λ events. E.emits out.old events out.new) }
+        ensures alone { OwnersAlone self.old self.new }
+    {
+        self.owners.release(owner, commit, top, out);
+    }
+
+    /// Takes an owner out, with all below it, which hold nothing any more: `ResourceOwnerDelete`.
+    pub fn discard<E: Emit>(&mut self, owner: OwnerId, out: &mut E)
+        requires live { IsLive self.old.owners owner }
+        requires empty { AllAt HoldsNothing owner.number (owners_of self.old.owners) }
+        ensures acted { (s : Space) (x : ShelfState) → Acted (owner_gone owner.number) self.old self.new s s x x (λ events. E.emits out.old events out.new) }
+        ensures alone { OwnersAlone self.old self.new }
+    {
+        self.owners.discard(owner, out);
+    }
+}
