@@ -9,5 +9,6 @@ pub mod Named
 pub mod Deepest
 pub mod Levelled
 pub mod Went
+pub mod Closing
 pub mod Ending
 pub mod Owned

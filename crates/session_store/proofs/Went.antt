@@ -152,6 +152,29 @@ module _ (O : Type 0) (emits : O → List What → O → Type 0) where
           (went_then level_popped [] z3 z4 z4 o3 o3 o3 (went_silent level_popped z3 z4 o3 refl) (went_end z4 o3)))))) in
           record { leads = all.leads; says = all.says }
 
+      -- the deepest level is rolled back
+      pub rolled_went : (a : StoreState) (outer : List LevelState) (level : Level) (s t : Space) (x y : ShelfState) (around : Around) (up : CtxId) (b : TreeState) (p q : OwnerTable) (o0 o1 o2 o3 o4 o5 : O)
+          → emits o0 (what.AbortLevel (length (level_state level ∷ outer)) ∷ []) o1
+          → fitting.Acted (λ scene. where_there (number_in level.owner) (owner_released false (length (level_state level ∷ outer) == 1)) scene) a.owners p (λ events. emits o1 events o2)
+          → emits o2 (what.CleanupLevel (length (level_state level ∷ outer)) ∷ []) o3
+          → fitting.Acted (λ scene. where_there (number_in level.owner) owner_gone scene) p q (λ events. emits o3 events o4)
+          → up.number ≡ unwrap_or (context_of (first_of outer)) 1
+          → MatchOption level.context (DidNothing (record a.tree { current = up }) b s t x y) (λ id. Did (gone id.number (stands_for (record a.tree { current = up }) s)) (record a.tree { current = up }) b s t x y)
+          → MatchOption level.context (o5 ≡ o4) (λ id. emits o4 (gone id.number (stands_for (record a.tree { current = up }) s)).events o5)
+          → Went O emits (in_order (aborted ∷ cleaned_up ∷ [])) (leveled a (level_state level ∷ outer) s x around) (leveled (record a { tree = b; owners = q }) outer t y around) o0 o5
+      rolled_went a outer level s t x y around up b p q o0 o1 o2 o3 o4 o5 first given then left above did says =
+          let id : CtxId = record a.tree.current { number = 5 } in
+          let shut : Level = record level { aborted = true } in
+          let c : StoreState = record a { tree = record a.tree { current = id }; owners = p } in
+          let z0 : Scene = leveled a (level_state level ∷ outer) s x around in
+          let z1 : Scene = leveled c (level_state shut ∷ outer) s x around in
+          let z2 : Scene = leveled (record a { tree = b; owners = q }) outer t y around in
+          went_then aborted (cleaned_up ∷ []) z0 z1 z2 o0 o2 o5
+          (aborted_went a outer level s x around id p o0 o1 o2 first refl given)
+          (went_then cleaned_up [] z1 z2 z2 o2 o5 o5
+          (cleaned_went c outer shut s t x y around up b q o2 o3 o4 o5 then left above did says)
+          (went_end z2 o5))
+
       -- level 1 commits
       pub committed_went : (a : StoreState) (level : Level) (s t : Space) (x y : ShelfState) (around : Around) (top : CtxId) (b : TreeState) (p q : OwnerTable) (o0 o1 o2 o3 o4 : O)
           → emits o0 (what.CommitLevel 1 ∷ []) o1

@@ -1,7 +1,7 @@
 //! The levels of a session's transaction end.
 ghost use Rattle.std.specs.Prelude.{◌≡◌, ◌↔◌, ℕ, ◌<◌, List, [], ◌++◌, ◌∷◌, length, true, false, Some, None, IfSome, MatchOption};
 ghost use Rattle.std.specs.Option.{option_map};
-ghost use Rattle.addr_space.specs.Space.{Space, Asks};
+ghost use Rattle.addr_space.specs.Space.{Space, Asks, held};
 ghost use Rattle.reset_callbacks.specs.ShelfState.{ShelfState};
 ghost use Rattle.forest.specs.Forest.{has, at, parent_of};
 ghost use Rattle.context_rules.specs.Ends.{gone};
@@ -12,8 +12,8 @@ ghost use Rattle.owner_core.specs.Owners as owners;
 ghost use Rattle.owner_core.specs.Owners.{AllAt, HoldsNothing, owners_of};
 ghost use Rattle.subxact_stack.specs.declared.levels.Level.{Level as ALevel};
 ghost use Rattle.subxact_stack.specs.Levels.{with_deepest};
-ghost use Rattle.session_rules.specs.State.{is_aborted};
-ghost use Rattle.session_rules.specs.Acts.{where_there};
+ghost use Rattle.session_rules.specs.State.{is_aborted, top_context};
+ghost use Rattle.session_rules.specs.Acts.{context_gone, in_order, switched, where_there};
 ghost use Rattle.session_rules.specs.Releases.{owner_gone, owner_released};
 ghost use Rattle.session_rules.specs.Ends.{aborted, cleaned_up, committed};
 ghost use Rattle.session_owners.specs.Fitting as fitting;
@@ -96,6 +96,7 @@ impl<H: ResetHook> Store<H> {
         ensures acted { (s : Space) (x : ShelfState) → Acted aborted self.old self.new s s x x (λ events. E.emits out.old events out.new) }
         ensures keeps { (s : Space) → Keeps self.old s → Keeps self.new s }
         ensures levels { self.new.levels ≡ with_deepest (λ level. record level { aborted = true }) self.old.levels }
+        ensures tree { self.new.tree ≡ record self.old.tree { current = self.new.tree.current } }
     {
         let number = self.levels.depth();
         let owner = deepest(&self.levels).owner;
@@ -130,6 +131,31 @@ impl<H: ResetHook> Store<H> {
         drop_context(&mut self.tree, space, shelf, level.context, out);
     }
 
+    /// Rolls the deepest level back, which need not be whole: all that its owner holds is released, and then the owner, the
+    /// level's context and the level go. The context of the level above is the current one then, or the topmost one. It takes
+    /// no memory.
+    pub fn roll_back<E: Emit>(&mut self, space: &mut Space, shelf: &mut Shelf<H>, out: &mut E)
+        requires keeps { Keeps self.old space.old }
+        requires stands { StandsIn self.old space.old shelf.old }
+        requires level { 0 < length self.old.levels }
+        ensures acted { Acted (in_order (aborted ∷ cleaned_up ∷ [])) self.old self.new space.old space.new shelf.old shelf.new (λ events. E.emits out.old events out.new) }
+        ensures keeps { Keeps self.new space.new }
+        ensures moves { Moves self.old.tree self.new.tree space.old space.new }
+        ensures asked { Asks self.old.tree.account 0 space.old space.new }
+        ensures levels { (level : ALevel) × (self.old.levels ≡ self.new.levels ++ level ∷ []) }
+    {
+        let number = self.levels.depth();
+        let above = self.context_above();
+        let level = deepest(&self.levels);
+        let _ = self.levels.pop();
+        out.emit(What::AbortLevel(number));
+        release_owner(&mut self.owners, level.owner, false, number == 1, out);
+        out.emit(What::CleanupLevel(number));
+        discard_owner(&mut self.owners, level.owner, out);
+        self.tree.switch(above);
+        drop_context(&mut self.tree, space, shelf, level.context, out);
+    }
+
     /// Commits level 1: what its owner still holds is released with a warning, and then the owner, the level's context and the
     /// level go. The topmost context is the current one then: `CommitTransaction`. It takes no memory.
     pub fn commit_top<E: Emit>(&mut self, space: &mut Space, shelf: &mut Shelf<H>, out: &mut E)
@@ -150,5 +176,21 @@ impl<H: ResetHook> Store<H> {
         let top = self.tree.top();
         self.tree.switch(top);
         drop_context(&mut self.tree, space, shelf, level.context, out);
+    }
+    /// The session ends, in no transaction: the topmost context becomes the current one and goes with all below it, and the
+    /// account holds nothing then: `MemoryContextDelete` of `TopMemoryContext`. It takes no memory.
+    pub fn close<E: Emit>(&mut self, space: &mut Space, shelf: &mut Shelf<H>, out: &mut E)
+        requires keeps { Keeps self.old space.old }
+        requires stands { StandsIn self.old space.old shelf.old }
+        requires level { self.old.levels ≡ [] }
+        ensures acted { Acted (in_order (switched top_context ∷ context_gone top_context ∷ [])) self.old self.new space.old space.new shelf.old shelf.new (λ events. E.emits out.old events out.new) }
+        ensures keeps { Keeps self.new space.new }
+        ensures moves { Moves self.old.tree self.new.tree space.old space.new }
+        ensures asked { Asks self.old.tree.account 0 space.old space.new }
+        ensures held { held space.new self.old.tree.account ≡ 0 }
+    {
+        let top = self.tree.top();
+        self.tree.switch(top);
+        self.tree.gone(space, shelf, top, out);
     }
 }

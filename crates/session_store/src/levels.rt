@@ -72,6 +72,16 @@ impl<H: ResetHook> Store<H> {
         self.levels.depth()
     }
 
+    /// The deepest level, where there is one.
+    pub fn deepest_level(&self) -> Option<Level>
+        ensures level { option_map level_state result ≡ first_of (levels_of self.now.levels) }
+    {
+        if self.levels.depth() == 0 {
+            return None;
+        }
+        Some(deepest(&self.levels))
+    }
+
     /// Begins a level inside the deepest one: `StartTransaction` and `StartSubTransaction` as far as the stack goes.
     ///
     /// `TooMany` comes where there are 1,000 levels.
@@ -102,6 +112,7 @@ impl<H: ResetHook> Store<H> {
         requires stands { (s : Space) × ((x : ShelfState) × StandsIn self.old s x) }
         ensures acted { (s : Space) (x : ShelfState) → Acted level_stands self.old self.new s s x x IsSilent }
         ensures keeps { (s : Space) → Keeps self.old s → Keeps self.new s }
+        ensures tree { self.new.tree ≡ record self.old.tree { current = self.new.tree.current } }
         ensures owners { self.new.owners ≡ self.old.owners }
         ensures levels { self.new.levels ≡ with_deepest (λ level. record level { starting = false }) self.old.levels }
     {

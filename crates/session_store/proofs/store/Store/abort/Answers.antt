@@ -84,3 +84,10 @@ returns-clause-keeps g c s keeps =
     let a : StoreState = record { tree = c.self.inside.tree; owners = c.self.inside.owners; levels = c.self.inside.levels } in
     subst (λ (t : TreeState). Keeps (record { tree = t; owners = c.release_owner.new.resources; levels = c.mark_aborted.new.self }) s) (sym c.switch.ensures)
     (keeps_current a c.abort_context-context.result c.release_owner.new.resources c.mark_aborted.new.self s (subst (λ (v : StoreState). Keeps v s) (sym c.self.view_is) keeps))
+
+pub returns-clause-tree : goal.returns-clause-tree
+returns-clause-tree g c =
+    let is : c.switch.new.self ≡ record c.self.inside.tree { current = c.abort_context-context.result } = c.switch.ensures in
+    is
+    ∙ ap (λ (id : CtxId). record c.self.inside.tree { current = id }) (sym (ap (λ (t : TreeState). t.current) is))
+    ∙ ap (λ (v : StoreState). record v.tree { current = c.switch.new.self.current }) c.self.view_is

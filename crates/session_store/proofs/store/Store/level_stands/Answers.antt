@@ -1,6 +1,7 @@
 -- The level's context is there, and lies where its id says.
-use Rattle.std.proofs.Common.{false, List, sym, subst}
+use Rattle.std.proofs.Common.{◌≡◌, false, List, sym, ap, ◌∙◌, subst}
 use Rattle.std.specs.Prelude.{unwrap_or}
+use Rattle.pgs_step.specs.declared.ids.CtxId.{CtxId}
 use Rattle.context_tree.specs.State.{TreeState}
 use Rattle.subxact_stack.specs.declared.levels.Level.{Level}
 use Rattle.session_rules.specs.Parts.{level_stands}
@@ -51,3 +52,9 @@ returns-clause-keeps g c s keeps =
     let a : StoreState = record { tree = c.self.inside.tree; owners = c.self.inside.owners; levels = c.self.inside.levels } in
     subst (λ (t : TreeState). Keeps (record { tree = t; owners = c.self.inside.owners; levels = c.started.new.self }) s) (sym c.switch_to.ensures)
     (keeps_current a (unwrap_or c.deepest.result.context a.tree.current) c.self.inside.owners c.started.new.self s (subst (λ (v : StoreState). Keeps v s) (sym c.self.view_is) keeps))
+
+pub returns-clause-tree : goal.returns-clause-tree
+returns-clause-tree g c =
+    let a : StoreState = record { tree = c.self.inside.tree; owners = c.self.inside.owners; levels = c.self.inside.levels } in
+    subst (λ (v : StoreState). c.switch_to.new.tree ≡ record v.tree { current = c.switch_to.new.tree.current }) c.self.view_is
+    (c.switch_to.ensures ∙ ap (λ (id : CtxId). record a.tree { current = id }) (sym (ap (λ (t : TreeState). t.current) c.switch_to.ensures)))

@@ -1,0 +1,347 @@
+-- The elements of commands, by the state of the transaction.
+use Rattle.std.proofs.Common.{◌≡◌, ◌∙◌, ℕ, ◌+◌, ◌≤◌, Bool, true, false, not, ◌&&◌, List, [], ◌∷◌, ◌++◌, length, Option, Some, None, Result, Ok, Err, OnOk, refl, sym, ap, subst, arith, length-append}
+use Rattle.pgs_command.specs.declared.commands.Command.{Command}
+use Rattle.pgs_command.specs.declared.commands.Command.TheVariants as command
+use Rattle.pgs_step.specs.declared.errors.Error.{Error}
+use Rattle.pgs_step.specs.declared.events.What.{What}
+use Rattle.pgs_step.specs.declared.events.What.TheVariants as what
+use Rattle.session_rules.specs.State.{LevelState, SessionState, is_aborted}
+use Rattle.session_rules.specs.World.{Moment}
+use Rattle.session_rules.specs.Acts.{say}
+use Rattle.session_rules.specs.Elements.{Element}
+use Rattle.session_rules.specs.Elements as element
+use Rattle.session_rules.specs.Commands.{elements_of, in_transaction, is_end, refused, start, unaborted}
+use Rattle.pgs_step.specs.declared.errors.Error.TheVariants as error
+use Rattle.session_rules.specs.Works.{work_of}
+use Rattle.session_rules.specs.Calls.{unfailing}
+use Rattle.session_rules.specs.Does.{does}
+use Rattle.subxact_stack.specs.declared.levels.Level.{Level}
+use Rattle.session_store.specs.State.{StoreState, levels_of, session_of}
+use Rattle.session_store.proofs.Deepest.{levels_long}
+use Rattle.session_store.specs.Calls.{Acted, Keeps}
+use Rattle.addr_space.specs.Space.{Space}
+use Rattle.session_rules.proofs.StepsStand.{IsWorking}
+use Rattle.session_core.specs.Answers.{refusal_of}
+use Rattle.session_core.specs.Works.{IsWork}
+use Rattle.session_core.specs.Begun.{HasBegun}
+use Rattle.session_rules.specs.Standing.{IsActive}
+use Rattle.session_core.specs.Lines.{IsPerformed}
+use Rattle.session_core.proofs.Commands.{fails}
+use Rattle.session_core.specs.Performed.{Now, Performed}
+use Rattle.session_core.proofs.Performing.{grows_nothing, moves_nothing, performed_both, performed_end, performed_more, performed_stop}
+
+-- the elements of a command where these are the levels
+pub with_levels : (c : Command) (session : SessionState) (levels : List LevelState) → session.levels ≡ levels → elements_of c session ≡ elements_of c (record session { levels = levels })
+with_levels c session levels e = ap (λ (ls : List LevelState). elements_of c (record session { levels = ls })) e
+
+-- where the transaction isn't aborted
+worked : (c : Command) (session : SessionState) → IsWork c → unaborted c session ≡ in_transaction session.levels (work_of c session)
+worked command.Raise session h = refl
+worked (command.Pin buffer) session h = refl
+worked (command.Context name parent kind) session h = refl
+worked (command.Switch name) session h = refl
+worked (command.OnReset name) session h = refl
+worked (command.Reset name) session h = refl
+worked (command.ResetOnly name) session h = refl
+worked (command.Delete name) session h = refl
+worked (command.DeleteChildren name) session h = refl
+worked (command.Reparent name parent) session h = refl
+worked (command.Alloc chunk size) session h = refl
+worked (command.AllocZeroed chunk size) session h = refl
+worked (command.Realloc chunk size) session h = refl
+worked (command.Free chunk) session h = refl
+worked (command.Put chunk at bytes) session h = refl
+worked (command.Show chunk at length) session h = refl
+worked other session h = absurd h
+
+-- a command that works in a transaction block
+pub work_elements : (c : Command) (session : SessionState) (level : LevelState) (levels : List LevelState) → IsWork c → level.aborted ≡ false
+    → elements_of c (record session { levels = level ∷ levels }) ≡ work_of c (record session { levels = level ∷ levels }) ++ (element.Says what.Ok ∷ [])
+unfolding elements_of
+work_elements c session level levels h e =
+    ap (λ (b : Bool). elim (b && not (is_end c)) as (λ _. List Element) [
+      | true ↦ refused error.TransactionAborted
+      | false ↦ unaborted c (record session { levels = level ∷ levels })
+    ]) e
+    ∙ worked c (record session { levels = level ∷ levels }) h
+
+-- something is said
+does_say : (event : What) (w : Option ℕ) (m : Moment) → does w (element.Says event) m ≡ unfailing m (say event)
+unfolding does
+does_say event w m = refl
+
+says : (event : What) (a : Now) (P : List What → Type 0) → P (event ∷ []) → Acted (say event) a.store a.store a.space a.space a.shelf a.shelf P
+says event a P h = record { leads = λ around. refl; says = λ around. h }
+
+pub performed_say : (event : What) (a : Now) (P : List What → Type 0) → Keeps a.store a.space → P (event ∷ []) → Performed 0 (element.Says event ∷ []) a a P None
+performed_say event a P keeps h =
+    performed_end 0 (element.Says event) (say event) a a P (does_say event) (says event a P h) keeps (moves_nothing a.store.tree a.space keeps.agrees) (grows_nothing 0 a) refl
+
+-- the elements of a command that works in an active level
+pub block_elements : (c : Command) (store : StoreState) (s : Space) → IsWork c → IsWorking (levels_of store.levels) → (session : SessionState) × (elements_of c (session_of store s) ≡ work_of c session ++ (element.Says what.Ok ∷ []))
+unfolding session_of
+block_elements c store s h active = go (levels_of store.levels) refl active
+  where
+    go : (levels : List LevelState) → levels_of store.levels ≡ levels → IsWorking levels → (session : SessionState) × (elements_of c (session_of store s) ≡ work_of c session ++ (element.Says what.Ok ∷ []))
+    go [] e no_level = absurd no_level
+    go (level ∷ levels) e is =
+        (record (session_of store s) { levels = level ∷ levels }, with_levels c (session_of store s) (level ∷ levels) e ∙ work_elements c (session_of store s) level levels h is.unaborted)
+
+module _ (c : Command) (a b : Now) (h : IsWork c) (active : IsWorking (levels_of a.store.levels)) where
+  -- the work was done, and that is said
+  pub work_then_ok : (P Q R : List What → Type 0) → ((session : SessionState) → Performed 2 (work_of c session) a b P None) → Keeps b.store b.space → Q (what.Ok ∷ []) → ((us vs : List What) → P us → Q vs → R (us ++ vs))
+      → Performed 2 (elements_of c (session_of a.store a.space)) a b R None
+  work_then_ok P Q R work keeps said joins =
+      let is = block_elements c a.store a.space h active in
+      subst (λ (es : List Element). Performed 2 es a b R None) (sym is.1)
+      (performed_both 2 0 (work_of c is.0) (element.Says what.Ok ∷ []) a b b P Q R None (work is.0) (performed_say what.Ok b Q keeps said) joins)
+
+  -- it was refused
+  pub work_stopped : (P : List What → Type 0) (e : Error) → ((session : SessionState) → Performed 2 (work_of c session) a b P (Some e)) → Performed 2 (elements_of c (session_of a.store a.space)) a b P (Some e)
+  work_stopped P e work =
+      let is = block_elements c a.store a.space h active in
+      subst (λ (es : List Element). Performed 2 es a b P (Some e)) (sym is.1) (performed_stop 2 (work_of c is.0) (element.Says what.Ok ∷ []) a b P e (work is.0))
+
+-- the answer of a call as the answer of the command
+pub none_told : {A : Type 0} (k : ℕ) (es : List Element) (a b : Now) (P : List What → Type 0) (r : Result A Error) (u : A) → r ≡ Ok u → Performed k es a b P (refusal_of r) → Performed k es a b P None
+none_told k es a b P r u is h = subst (λ (x : Result _ Error). Performed k es a b P (refusal_of x)) is h
+
+pub error_told : {A : Type 0} (k : ℕ) (es : List Element) (a b : Now) (P : List What → Type 0) (r : Result A Error) (e : Error) → r ≡ Err e → Performed k es a b P (refusal_of r) → Performed k es a b P (Some e)
+error_told k es a b P r e is h = subst (λ (x : Result _ Error). Performed k es a b P (refusal_of x)) is h
+
+-- the elements of a command where there is one level
+module _ (c : Command) (es : List Element) where
+  -- that isn't aborted
+  pub in_block : ((level : LevelState) (session : SessionState) → elements_of c (record session { levels = record level { aborted = false } ∷ [] }) ≡ es) → (store : StoreState) (s : Space) (level : LevelState)
+      → levels_of store.levels ≡ level ∷ [] → level.aborted ≡ false → elements_of c (session_of store s) ≡ es
+  unfolding session_of
+  in_block is store s level e active =
+      with_levels c (session_of store s) (record level { aborted = false } ∷ []) (e ∙ ap (λ (b : Bool). record level { aborted = b } ∷ []) active) ∙ is level (session_of store s)
+
+  -- that is aborted
+  pub in_aborted : ((level : LevelState) (session : SessionState) → elements_of c (record session { levels = record level { aborted = true } ∷ [] }) ≡ es) → (store : StoreState) (s : Space) (level : LevelState)
+      → levels_of store.levels ≡ level ∷ [] → level.aborted ≡ true → elements_of c (session_of store s) ≡ es
+  unfolding session_of
+  in_aborted is store s level e aborted =
+      with_levels c (session_of store s) (record level { aborted = true } ∷ []) (e ∙ ap (λ (b : Bool). record level { aborted = b } ∷ []) aborted) ∙ is level (session_of store s)
+
+  -- or none
+  pub in_none : ((session : SessionState) → elements_of c (record session { levels = [] }) ≡ es) → (store : StoreState) (s : Space) → levels_of store.levels ≡ [] → elements_of c (session_of store s) ≡ es
+  unfolding session_of
+  in_none is store s e = with_levels c (session_of store s) [] e ∙ is (session_of store s)
+
+pub nothing_block : (level : LevelState) (session : SessionState) → elements_of command.Nothing (record session { levels = record level { aborted = false } ∷ [] }) ≡ []
+unfolding elements_of
+nothing_block level session = refl
+
+pub begin_block : (level : LevelState) (session : SessionState) → elements_of command.Begin (record session { levels = record level { aborted = false } ∷ [] }) ≡ element.Says what.AlreadyInTransaction ∷ element.Says what.Ok ∷ []
+unfolding elements_of
+begin_block level session = refl
+
+pub commit_block : (level : LevelState) (session : SessionState) → elements_of command.Commit (record session { levels = record level { aborted = false } ∷ [] }) ≡ element.CommitTop ∷ element.Says what.Ok ∷ []
+unfolding elements_of
+commit_block level session = refl
+
+pub rollback_block : (level : LevelState) (session : SessionState) → elements_of command.Rollback (record session { levels = record level { aborted = false } ∷ [] }) ≡ element.Abort ∷ element.Cleanup ∷ element.Says what.Ok ∷ []
+unfolding elements_of
+rollback_block level session = refl
+
+pub nothing_aborted : (level : LevelState) (session : SessionState) → elements_of command.Nothing (record session { levels = record level { aborted = true } ∷ [] }) ≡ []
+unfolding elements_of
+nothing_aborted level session = refl
+
+pub commit_aborted : (level : LevelState) (session : SessionState) → elements_of command.Commit (record session { levels = record level { aborted = true } ∷ [] }) ≡ element.Cleanup ∷ element.Says what.Ok ∷ []
+unfolding elements_of
+commit_aborted level session = refl
+
+pub rollback_aborted : (level : LevelState) (session : SessionState) → elements_of command.Rollback (record session { levels = record level { aborted = true } ∷ [] }) ≡ element.Cleanup ∷ element.Says what.Ok ∷ []
+unfolding elements_of
+rollback_aborted level session = refl
+
+pub begin_aborted : (level : LevelState) (session : SessionState) → elements_of command.Begin (record session { levels = record level { aborted = true } ∷ [] }) ≡ refused error.TransactionAborted
+unfolding elements_of
+begin_aborted level session = refl
+
+pub work_aborted : (c : Command) → IsWork c → (level : LevelState) (session : SessionState) → elements_of c (record session { levels = record level { aborted = true } ∷ [] }) ≡ refused error.TransactionAborted
+unfolding elements_of
+work_aborted command.Raise h level session = refl
+work_aborted (command.Pin buffer) h level session = refl
+work_aborted (command.Context name parent kind) h level session = refl
+work_aborted (command.Switch name) h level session = refl
+work_aborted (command.OnReset name) h level session = refl
+work_aborted (command.Reset name) h level session = refl
+work_aborted (command.ResetOnly name) h level session = refl
+work_aborted (command.Delete name) h level session = refl
+work_aborted (command.DeleteChildren name) h level session = refl
+work_aborted (command.Reparent name parent) h level session = refl
+work_aborted (command.Alloc chunk size) h level session = refl
+work_aborted (command.AllocZeroed chunk size) h level session = refl
+work_aborted (command.Realloc chunk size) h level session = refl
+work_aborted (command.Free chunk) h level session = refl
+work_aborted (command.Put chunk at bytes) h level session = refl
+work_aborted (command.Show chunk at length) h level session = refl
+work_aborted other h level session = absurd h
+
+pub nothing_idle : (session : SessionState) → elements_of command.Nothing (record session { levels = [] }) ≡ []
+unfolding elements_of
+nothing_idle session = refl
+
+pub commit_idle : (session : SessionState) → elements_of command.Commit (record session { levels = [] }) ≡ element.Says what.NotInTransaction ∷ element.Says what.Ok ∷ []
+unfolding elements_of
+commit_idle session = refl
+
+pub rollback_idle : (session : SessionState) → elements_of command.Rollback (record session { levels = [] }) ≡ element.Says what.NotInTransaction ∷ element.Says what.Ok ∷ []
+unfolding elements_of
+rollback_idle session = refl
+
+pub begin_idle : (session : SessionState) → elements_of command.Begin (record session { levels = [] }) ≡ start None false ++ (element.Says what.Ok ∷ [])
+unfolding elements_of
+begin_idle session = refl
+
+-- what was performed, by another name of its elements
+pub as_elements : (k : ℕ) (es ds : List Element) (a b : Now) (P : List What → Type 0) (r : Option Error) → es ≡ ds → Performed k ds a b P r → Performed k es a b P r
+as_elements k es ds a b P r is h = subst (λ (xs : List Element). Performed k xs a b P r) (sym is) h
+
+-- a warning, and the last word
+pub performed_warned : (warning : What) (a : Now) (P : List What → Type 0) → Keeps a.store a.space → P (warning ∷ what.Ok ∷ []) → Performed 0 (element.Says warning ∷ element.Says what.Ok ∷ []) a a P None
+performed_warned warning a P keeps h =
+    performed_both 0 0 (element.Says warning ∷ []) (element.Says what.Ok ∷ []) a a a (λ events. events ≡ warning ∷ []) (λ events. events ≡ what.Ok ∷ []) P None
+    (performed_say warning a (λ events. events ≡ warning ∷ []) keeps refl) (performed_say what.Ok a (λ events. events ≡ what.Ok ∷ []) keeps refl)
+    (λ us vs e f. subst P (sym (ap (λ (xs : List What). xs ++ vs) e ∙ ap (λ (ys : List What). warning ∷ ys) f)) h)
+
+-- elements that were done, and the last word
+pub performed_ok : (k : ℕ) (es : List Element) (a b : Now) (P Q R : List What → Type 0) → Performed k es a b P None → Q (what.Ok ∷ []) → ((us vs : List What) → P us → Q vs → R (us ++ vs)) → Performed (k + 0) (es ++ (element.Says what.Ok ∷ [])) a b R None
+performed_ok k es a b P Q R h said joins = performed_both k 0 es (element.Says what.Ok ∷ []) a b b P Q R None h (performed_say what.Ok b Q h.keeps said) joins
+
+-- one level
+pub one_level : (levels : List Level) (level : LevelState) → levels_of levels ≡ level ∷ [] → length levels ≡ 1
+one_level levels level e = sym (levels_long levels) ∙ ap (λ (ls : List LevelState). length ls) e
+
+pub one_aborted : (levels : List Level) (level : LevelState) → levels_of levels ≡ level ∷ [] → level.aborted ≡ true → is_aborted (levels_of levels) ≡ true
+one_aborted levels level e aborted = ap is_aborted e ∙ aborted
+
+-- a level fewer than one
+pub none_left : (levels left : List Level) (level : LevelState) (last : Level) → levels_of levels ≡ level ∷ [] → levels ≡ left ++ last ∷ [] → length left ≤ 1
+none_left levels left level last e is =
+    let all : length left + 1 ≡ 1 = sym (length-append left (last ∷ [])) ∙ ap (λ (ls : List Level). length ls) (sym is) ∙ one_level levels level e in
+    omega (arith, all)
+
+-- any other command in an aborted transaction
+pub others_aborted : (c : Command) → IsPerformed c → (c ≡ command.Nothing → ⊥) → (c ≡ command.Commit → ⊥) → (c ≡ command.Rollback → ⊥) → (level : LevelState) (session : SessionState)
+    → elements_of c (record session { levels = record level { aborted = true } ∷ [] }) ≡ refused error.TransactionAborted
+others_aborted command.Nothing h nothing commit rollback level session = absurd (nothing refl)
+others_aborted command.Commit h nothing commit rollback level session = absurd (commit refl)
+others_aborted command.Rollback h nothing commit rollback level session = absurd (rollback refl)
+others_aborted command.Begin h nothing commit rollback level session = begin_aborted level session
+others_aborted command.Raise h nothing commit rollback level session = work_aborted command.Raise h level session
+others_aborted (command.Pin buffer) h nothing commit rollback level session = work_aborted (command.Pin buffer) h level session
+others_aborted (command.Context name parent kind) h nothing commit rollback level session = work_aborted (command.Context name parent kind) h level session
+others_aborted (command.Switch name) h nothing commit rollback level session = work_aborted (command.Switch name) h level session
+others_aborted (command.OnReset name) h nothing commit rollback level session = work_aborted (command.OnReset name) h level session
+others_aborted (command.Reset name) h nothing commit rollback level session = work_aborted (command.Reset name) h level session
+others_aborted (command.ResetOnly name) h nothing commit rollback level session = work_aborted (command.ResetOnly name) h level session
+others_aborted (command.Delete name) h nothing commit rollback level session = work_aborted (command.Delete name) h level session
+others_aborted (command.DeleteChildren name) h nothing commit rollback level session = work_aborted (command.DeleteChildren name) h level session
+others_aborted (command.Reparent name parent) h nothing commit rollback level session = work_aborted (command.Reparent name parent) h level session
+others_aborted (command.Alloc chunk size) h nothing commit rollback level session = work_aborted (command.Alloc chunk size) h level session
+others_aborted (command.AllocZeroed chunk size) h nothing commit rollback level session = work_aborted (command.AllocZeroed chunk size) h level session
+others_aborted (command.Realloc chunk size) h nothing commit rollback level session = work_aborted (command.Realloc chunk size) h level session
+others_aborted (command.Free chunk) h nothing commit rollback level session = work_aborted (command.Free chunk) h level session
+others_aborted (command.Put chunk at bytes) h nothing commit rollback level session = work_aborted (command.Put chunk at bytes) h level session
+others_aborted (command.Show chunk at length) h nothing commit rollback level session = work_aborted (command.Show chunk at length) h level session
+others_aborted other h nothing commit rollback level session = absurd h
+
+-- the refusal of a command in an aborted transaction
+pub refused_aborted : (a : Now) (P : List What → Type 0) → Keeps a.store a.space → P [] → Performed 0 (refused error.TransactionAborted) a a P (Some error.TransactionAborted)
+refused_aborted a P keeps silent = fails (element.Refuse error.TransactionAborted) [] a P error.TransactionAborted keeps silent refl (λ around. refl)
+
+-- the elements of a command that is known
+pub of_command : (c d : Command) (store : StoreState) (s : Space) (es : List Element) → c ≡ d → elements_of d (session_of store s) ≡ es → elements_of c (session_of store s) ≡ es
+of_command c d store s es is h = ap (λ (x : Command). elements_of x (session_of store s)) is ∙ h
+
+-- a command that works where no transaction is open
+idle_work : (c : Command) → IsWork c → (session : SessionState) → elements_of c (record session { levels = [] }) ≡ start None true ++ (work_of c (record session { levels = [] }) ++ (element.CommitTop ∷ element.Says what.Ok ∷ []))
+unfolding elements_of
+idle_work command.Raise h session = refl
+idle_work (command.Pin buffer) h session = refl
+idle_work (command.Context name parent kind) h session = refl
+idle_work (command.Switch name) h session = refl
+idle_work (command.OnReset name) h session = refl
+idle_work (command.Reset name) h session = refl
+idle_work (command.ResetOnly name) h session = refl
+idle_work (command.Delete name) h session = refl
+idle_work (command.DeleteChildren name) h session = refl
+idle_work (command.Reparent name parent) h session = refl
+idle_work (command.Alloc chunk size) h session = refl
+idle_work (command.AllocZeroed chunk size) h session = refl
+idle_work (command.Realloc chunk size) h session = refl
+idle_work (command.Free chunk) h session = refl
+idle_work (command.Put chunk at bytes) h session = refl
+idle_work (command.Show chunk at length) h session = refl
+idle_work other h session = absurd h
+
+module _ (c : Command) (a : Now) (h : IsWork c) (none : levels_of a.store.levels ≡ []) where
+  alone_session : SessionState
+  unfolding session_of
+  alone_session = record (session_of a.store a.space) { levels = [] }
+
+  alone_elements : elements_of c (session_of a.store a.space) ≡ start None true ++ (work_of c alone_session ++ (element.CommitTop ∷ element.Says what.Ok ∷ []))
+  unfolding session_of alone_session
+  alone_elements = with_levels c (session_of a.store a.space) [] none ∙ idle_work c h (session_of a.store a.space)
+
+  -- it was done, level and all
+  pub alone_done : (m n b : Now) (P Q R S T : List What → Type 0) → Performed 3 (start None true) a m P None → ((session : SessionState) → Performed 2 (work_of c session) m n Q None)
+      → Performed 0 (element.CommitTop ∷ element.Says what.Ok ∷ []) n b R None → ((us vs : List What) → Q us → R vs → S (us ++ vs)) → ((us vs : List What) → P us → S vs → T (us ++ vs))
+      → Performed 5 (elements_of c (session_of a.store a.space)) a b T None
+  alone_done m n b P Q R S T begun worked ended joins all =
+      as_elements 5 _ _ a b T None alone_elements
+      (performed_both 3 2 (start None true) _ a m b P S T None begun
+      (performed_both 2 0 (work_of c alone_session) (element.CommitTop ∷ element.Says what.Ok ∷ []) m n b Q R S None (worked alone_session) ended joins) all)
+
+  -- its level wasn't started
+  pub alone_unstarted : (b : Now) (P : List What → Type 0) (e : Error) → Performed 3 (start None true) a b P (Some e) → Performed 5 (elements_of c (session_of a.store a.space)) a b P (Some e)
+  alone_unstarted b P e begun =
+      as_elements 5 _ _ a b P (Some e) alone_elements
+      (performed_more 3 5 _ a b P (Some e) (omega arith) (performed_stop 3 (start None true) _ a b P e begun))
+
+  -- it was refused in its level
+  pub alone_refused : (m b : Now) (P Q T : List What → Type 0) (e : Error) → Performed 3 (start None true) a m P None → ((session : SessionState) → Performed 2 (work_of c session) m b Q (Some e))
+      → ((us vs : List What) → P us → Q vs → T (us ++ vs)) → Performed 5 (elements_of c (session_of a.store a.space)) a b T (Some e)
+  alone_refused m b P Q T e begun worked all =
+      as_elements 5 _ _ a b T (Some e) alone_elements
+      (performed_both 3 2 (start None true) _ a m b P Q T (Some e) begun
+      (performed_stop 2 (work_of c alone_session) (element.CommitTop ∷ element.Says what.Ok ∷ []) m b Q e (worked alone_session)) all)
+
+-- what is known where a call was answered
+pub on_of : {A E P : Type 0} (r : Result A E) (u : A) → r ≡ Ok u → OnOk r P → P
+on_of (Ok a) u is p = p
+on_of (Err e) u is p = absurd (other is)
+  where
+    other : Err e ≡ Ok u → ⊥
+    other z = cc z
+
+pub same_length : (levels now : List Level) (level : LevelState) → levels_of levels ≡ level ∷ [] → levels_of now ≡ levels_of levels → length now ≤ 1
+same_length levels now level e is =
+    let one : length now ≡ 1 = one_level now level (is ∙ e) in
+    omega (arith, one)
+
+pub no_levels : (levels : List Level) → levels ≡ [] → levels_of levels ≡ []
+no_levels levels e = ap levels_of e
+
+-- one level was begun where there was none
+pub begun_few : (levels behind : List Level) (name : Option (List ℕ)) (implicit : Bool) → levels ≡ [] → HasBegun name implicit (levels_of levels) (levels_of behind) → length behind ≤ 1
+begun_few levels behind name implicit none begun =
+    let one : length behind ≡ 1 = one_level behind begun.level (begun.are ∙ ap (λ (ls : List LevelState). begun.level ∷ ls) (no_levels levels none)) in
+    omega (arith, one)
+
+-- a command that is performed, but none on transactions
+pub works_else : (c : Command) → IsPerformed c → (c ≡ command.Nothing → ⊥) → (c ≡ command.Begin → ⊥) → (c ≡ command.Commit → ⊥) → (c ≡ command.Rollback → ⊥) → IsWork c
+works_else command.Nothing h nothing begin commit rollback = absurd (nothing refl)
+works_else command.Begin h nothing begin commit rollback = absurd (begin refl)
+works_else command.Commit h nothing begin commit rollback = absurd (commit refl)
+works_else command.Rollback h nothing begin commit rollback = absurd (rollback refl)
+works_else other h nothing begin commit rollback = h
+
+-- the level of a block
+pub working_block : (levels : List LevelState) (level : LevelState) → levels ≡ level ∷ [] → IsActive level → IsWorking levels
+working_block levels level e active = subst IsWorking (sym e) active

@@ -1,0 +1,84 @@
+-- What the ends of levels perform.
+use Rattle.std.proofs.Common.{◌≡◌, ℕ, List, [], ◌∷◌, ◌++◌, Option, None, refl, sym, ◌∙◌, ap, subst, arith, append-nil}
+use Rattle.pgs_step.specs.declared.events.What.{What}
+use Rattle.addr_space.specs.Space.{Space}
+use Rattle.context_tree.specs.State.{Agrees, Moves, TreeState}
+use Rattle.session_rules.specs.World.{Around, Moment, Scene}
+use Rattle.session_rules.specs.Acts.{Ended, in_order}
+use Rattle.session_rules.specs.Elements.{Element}
+use Rattle.session_rules.specs.Elements as element
+use Rattle.session_rules.specs.Ends.{aborted, cleaned_up, committed}
+use Rattle.session_rules.specs.Calls.{Done, unfailing}
+use Rattle.session_rules.specs.Does.{does, does_all, done_behind, then_done}
+use Rattle.session_store.specs.Calls.{Acted, Keeps}
+use Rattle.session_core.specs.Performed.{Now, Performed, scene_in}
+use Rattle.session_core.specs.Answers.{Answers, at_calls}
+use Rattle.session_core.specs.declared.calls.Calls.{Calls}
+use Rattle.session_store.proofs.Ending.{moves_back}
+use Rattle.session_core.proofs.Answered.{does_one}
+use Rattle.session_core.proofs.Numbers.{KeepsNumbers, aborts, cleans, commits, numbers_grow, rolls}
+use Rattle.session_core.proofs.Performing.{moves_nothing, performed_end}
+
+-- elements that can't fail, one behind the other
+both_do : (x y : Element) (f h : Scene → Ended) → ((w : Option ℕ) (m : Moment) → does w x m ≡ unfailing m f) → ((w : Option ℕ) (m : Moment) → does w y m ≡ unfailing m h)
+    → (w : Option ℕ) (m : Moment) → does_all w (x ∷ y ∷ []) m ≡ unfailing m (in_order (f ∷ h ∷ []))
+unfolding does_all
+both_do x y f h is so w m =
+    let n : Moment = record m { scene = (f m.scene).scene } in
+    ap (λ (d : Done). then_done d d.refusal (does_all w (y ∷ []))) (is w m)
+    ∙ ap (done_behind (f m.scene).events) (does_one w y n ∙ so w n)
+    ∙ ap (λ (es : List What). record { moment = record n { scene = (h n.scene).scene }; events = (f m.scene).events ++ es; refusal = None }) (sym (append-nil (h n.scene).events))
+
+answers_two : (fail : ℕ) (es : List Element) (act : Scene → Ended) (S T : Around → Scene) (n : ℕ) (P : List What → Type 0) → ((w : Option ℕ) (m : Moment) → does_all w es m ≡ unfailing m act)
+    → ((around : Around) → (act (S around)).scene ≡ T around) → ((around : Around) → P (act (S around)).events) → Answers es S T n n fail P None
+answers_two fail es act S T n P is leads says = record {
+  moment = λ around w f. ap (λ (d : Done). d.moment) (is w (at_calls S n fail around)) ∙ ap (λ (z : Scene). record { scene = z; calls = n; fail = fail }) (leads around);
+  says = λ around w f. subst P (sym (ap (λ (d : Done). d.events) (is w (at_calls S n fail around)))) (says around);
+  answer = λ around w f. ap (λ (d : Done). d.refusal) (is w (at_calls S n fail around));
+  calls = omega arith;
+  counted = λ e. absurd (cc e);
+}
+
+-- the end of a level
+ended : (x : Element) (act : Scene → Ended) → ((w : Option ℕ) (m : Moment) → does w x m ≡ unfailing m act) → KeepsNumbers act → (a b : Now) (P : List What → Type 0)
+    → Acted act a.store b.store a.space b.space a.shelf b.shelf P → Keeps b.store b.space → Moves a.store.tree b.store.tree a.space b.space → b.calls ≡ a.calls → Performed 0 (x ∷ []) a b P None
+ended x act is numbers a b P acted keeps moves calls = performed_end 0 x act a b P is acted keeps moves (numbers_grow act a b P numbers acted calls) calls
+
+does_commit : (w : Option ℕ) (m : Moment) → does w element.CommitTop m ≡ unfailing m committed
+unfolding does
+does_commit w m = refl
+
+does_abort : (w : Option ℕ) (m : Moment) → does w element.Abort m ≡ unfailing m aborted
+unfolding does
+does_abort w m = refl
+
+does_cleanup : (w : Option ℕ) (m : Moment) → does w element.Cleanup m ≡ unfailing m cleaned_up
+unfolding does
+does_cleanup w m = refl
+
+module _ (a b : Now) (P : List What → Type 0) (keeps : Keeps b.store b.space) (moves : Moves a.store.tree b.store.tree a.space b.space) (calls : b.calls ≡ a.calls) where
+  pub commit_performed : Acted committed a.store b.store a.space b.space a.shelf b.shelf P → Performed 0 (element.CommitTop ∷ []) a b P None
+  commit_performed acted = ended element.CommitTop committed does_commit commits a b P acted keeps moves calls
+
+  pub abort_performed : Acted aborted a.store b.store a.space b.space a.shelf b.shelf P → Performed 0 (element.Abort ∷ []) a b P None
+  abort_performed acted = ended element.Abort aborted does_abort aborts a b P acted keeps moves calls
+
+  pub cleanup_performed : Acted cleaned_up a.store b.store a.space b.space a.shelf b.shelf P → Performed 0 (element.Cleanup ∷ []) a b P None
+  cleanup_performed acted = ended element.Cleanup cleaned_up does_cleanup cleans a b P acted keeps moves calls
+
+  pub roll_performed : Acted (in_order (aborted ∷ cleaned_up ∷ [])) a.store b.store a.space b.space a.shelf b.shelf P → Performed 0 (element.Abort ∷ element.Cleanup ∷ []) a b P None
+  roll_performed acted = record {
+    answers = subst (λ (n : ℕ). Answers (element.Abort ∷ element.Cleanup ∷ []) (scene_in a) (scene_in b) a.calls.count n a.calls.fail P None) (ap (λ (c : Calls). c.count) (sym calls))
+        (answers_two a.calls.fail (element.Abort ∷ element.Cleanup ∷ []) (in_order (aborted ∷ cleaned_up ∷ [])) (scene_in a) (scene_in b) a.calls.count P
+        (both_do element.Abort element.Cleanup aborted cleaned_up does_abort does_cleanup) acted.leads acted.says);
+    fail = ap (λ (c : Calls). c.fail) calls;
+    keeps = keeps;
+    moves = moves;
+    grows = numbers_grow (in_order (aborted ∷ cleaned_up ∷ [])) a b P rolls acted calls;
+  }
+
+-- another context is the current one, and nothing else changed
+pub moves_current : (a b : TreeState) (s : Space) → b ≡ record a { current = b.current } → Agrees b s → Moves a b s s
+moves_current a b s is agrees =
+    subst (λ (t : TreeState). Moves a t s s) (sym is)
+    (moves_back a (record a { current = b.current }) b.current s s (moves_nothing (record a { current = b.current }) s (subst (λ (t : TreeState). Agrees t s) is agrees)))

@@ -1,0 +1,20 @@
+use Rattle.std.proofs.Common.{◌<◌, length, refl, subst, sym}
+use Rattle.session_store.specs.State.{StoreState}
+use Rattle.session_core.specs.Performed.{now}
+use Rattle.session_core.proofs.Between.{between_of, clean_between}
+use Rattle.session_core.proofs.OnLevels.{cleanup_performed}
+use Rattle.session_core.proofs.Seen.{seen, stands_of}
+use Rattle.session_core.proofs.session.Session.clean_up.Goals as goal
+
+pub clean_up-requires-clause-stands : goal.clean_up-requires-clause-stands
+clean_up-requires-clause-stands g c = stands_of c.self.inside.store c.args.self.now c.self.view_is c.args.shared.now.space.now c.args.shared.now.shelf.now c.requires.between.stands
+
+pub returns-clause-performed : goal.returns-clause-performed
+returns-clause-performed g c =
+    seen c.self.inside.store c.args.self.now c.self.view_is 0 _ c.args.shared.now _ _ _
+    (cleanup_performed _ _ _ c.clean_up.ensures.keeps c.clean_up.ensures.moves refl c.clean_up.ensures.acted)
+
+pub returns-clause-between : goal.returns-clause-between
+returns-clause-between g c =
+    clean_between (now c.self.inside.store c.args.shared.now) _ _ (between_of c.self.inside.store c.args.self.now c.self.view_is (λ store. now store c.args.shared.now) c.requires.between)
+    c.clean_up.ensures.keeps (subst (λ (v : StoreState). 0 < length v.levels) (sym c.self.view_is) c.requires.level) c.clean_up.ensures.acted

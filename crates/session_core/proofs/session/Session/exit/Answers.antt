@@ -1,0 +1,17 @@
+use Rattle.std.proofs.Common.{refl, sym, subst}
+use Rattle.session_store.specs.State.{StoreState}
+use Rattle.session_core.specs.Performed.{Ends, now}
+use Rattle.session_core.proofs.Exited.{all_rolled, session_exits}
+use Rattle.session_core.proofs.Seen.{stands_of}
+use Rattle.session_core.proofs.session.Session.exit.Goals as goal
+
+pub close-requires-clause-stands : goal.close-requires-clause-stands
+close-requires-clause-stands g c =
+    stands_of c.self.inside.store c.end_levels.new.self c.self.view_is c.end_levels.new.shared.space.now c.end_levels.new.shared.shelf.now c.end_levels.ensures.between.stands
+
+pub returns-clause-did : goal.returns-clause-did
+returns-clause-did g c =
+    session_exits _ (λ o events p. g.E.Emit.emits o events p) (λ o p q xs ys h k. g.met.E.Emit.emits_more _ _ _ _ _ _ h k refl) c.args.out.now c.end_levels.new.out c.close.new.out c.emit.new.self
+    (now c.args.self.now c.args.shared.now) (now c.self.inside.store c.end_levels.new.shared) _
+    (subst (λ (v : StoreState). Ends all_rolled (now c.args.self.now c.args.shared.now) (now v c.end_levels.new.shared) (λ events. g.E.Emit.emits c.args.out.now events c.end_levels.new.out)) (sym c.self.view_is) c.end_levels.ensures.did)
+    c.close.ensures.acted c.close.ensures.keeps c.close.ensures.moves refl c.emit.ensures.emitted

@@ -1,0 +1,68 @@
+use Rattle.std.proofs.Common.{arith, refl, sym, subst, ap, ◌∙◌, []}
+use Rattle.pgs_step.specs.declared.errors.Error.TheVariants as error
+use Rattle.session_core.specs.declared.calls.Calls.{Calls}
+use Rattle.session_core.specs.Performed.{now}
+use Rattle.session_core.proofs.Performing.{performed_more}
+use Rattle.session_core.proofs.OnOthers.{answer_of, make_done, make_injected, make_nowhere, make_refused, make_taken}
+use Rattle.session_core.proofs.Seen.{alone_same, err_of, told_as, keeps_of, nothing_changed, seen, seen_same, seen_still, stands_of}
+use Rattle.session_core.proofs.session.Session.make_context.Goals as goal
+
+pub returns-then-is_taken : goal.returns-then-is_taken
+returns-then-is_taken g c = record {
+  performed = λ session.
+      seen_same c.self.inside.store c.args.self.now c.self.view_is 1 _ c.args.shared.now _ _
+      (performed_more 0 1 _ _ _ _ _ (omega arith)
+      (make_taken c.args.name c.args.parent.now _ _ _ (keeps_of c.self.inside.store c.args.self.now c.self.view_is c.args.shared.now.space.now c.requires.between.keeps) (g.met.E.Emit.emits_none c.args.out.now)
+      (sym (c.is_taken.ensures c.args.shared.now.space.now) ∙ c.if-is_taken.true)));
+}
+
+pub returns-in_default : goal.returns-in_default
+returns-in_default g c = record {
+  performed = λ session.
+      seen_same c.self.inside.store c.args.self.now c.self.view_is 1 _ c.args.shared.now _ _
+      (performed_more 0 1 _ _ _ _ _ (omega arith)
+      (make_nowhere c.args.name c.args.parent.now _ _ (now c.self.inside.store c.args.shared.now) _ (keeps_of c.self.inside.store c.args.self.now c.self.view_is c.args.shared.now.space.now c.requires.between.keeps)
+      (sym (c.is_taken.ensures c.args.shared.now.space.now) ∙ c.if-is_taken.false) (sym (c.in_default.ensures.named c.args.shared.now.space.now)) (g.met.E.Emit.emits_none c.args.out.now)));
+}
+
+pub returns-in-Err : goal.returns-in-Err
+returns-in-Err g c = record {
+  performed = λ session.
+      let keeps = keeps_of c.self.inside.store c.args.self.now c.self.view_is c.args.shared.now.space.now c.requires.between.keeps in
+      seen_still c.self.inside.store c.args.self.now c.self.view_is 1 _ c.args.shared.now _ _ _ _ _
+      (told_as 1 _ _ _ _ _ _ c.in-Err.ensures.injected.0
+      (make_injected c.args.name c.args.parent.now _ _ _ _ keeps (sym (c.is_taken.ensures c.args.shared.now.space.now) ∙ c.if-is_taken.false)
+      c.in-Some.parent.number (sym (c.in-Some.ensures.named c.args.shared.now.space.now)) c.next.ensures.counted (alone_same _ c.args.shared.now.space.now keeps)
+      (nothing_changed _ _ c.args.shared.now.space.now c.args.shared.now.shelf.now refl) (g.met.E.Emit.emits_none c.args.out.now) c.in-Err.ensures.injected.1));
+}
+
+pub returns : goal.returns
+returns g c = record {
+  performed = λ session.
+      let keeps = keeps_of c.self.inside.store c.args.self.now c.self.view_is c.args.shared.now.space.now c.requires.between.keeps in
+      seen c.self.inside.store c.args.self.now c.self.view_is 1 _ c.args.shared.now _ _ _
+      (make_done c.args.name c.args.parent.now _ _ _ _ keeps (sym (c.is_taken.ensures c.args.shared.now.space.now) ∙ c.if-is_taken.false)
+      c.in-Some.parent.number (sym (c.in-Some.ensures.named c.args.shared.now.space.now)) c.next.ensures.counted c.create.ensures.alone c.in_default-next.ensures.goes
+      (rw c.kind_of-kind.ensures at (answer_of c.create.result _ c.in_default-create.is c.create.ensures.served))
+      (rw c.kind_of-kind.ensures at (answer_of c.create.result _ c.in_default-create.is c.create.ensures.acted c.args.shared.now.shelf.now)));
+}
+
+pub returns-in-Err-create : goal.returns-in-Err-create
+returns-in-Err-create g c = record {
+  performed = λ session.
+      let keeps = keeps_of c.self.inside.store c.args.self.now c.self.view_is c.args.shared.now.space.now c.requires.between.keeps in
+      seen c.self.inside.store c.args.self.now c.self.view_is 1 _ c.args.shared.now _ _ _
+      (make_refused c.args.name c.args.parent.now _ _ _ _ keeps (sym (c.is_taken.ensures c.args.shared.now.space.now) ∙ c.if-is_taken.false)
+      c.in-Some.parent.number (sym (c.in-Some.ensures.named c.args.shared.now.space.now)) c.next.ensures.counted c.create.ensures.alone
+      (err_of c.create.result _ c.in-Err-create.is c.create.ensures.refused c.args.shared.now.shelf.now)
+      (subst (λ o. g.E.Emit.emits c.args.out.now [] o) (sym (err_of c.create.result _ c.in-Err-create.is c.create.ensures.silent)) (g.met.E.Emit.emits_none c.args.out.now)) c.in-Err-create.refusal c.call_error.result c.in_default-next.ensures.goes (λ e. c.call_error.ensures.memory e ∙ ap (λ (calls : Calls). error.NoMemory calls.count) c.next.ensures.counted) c.call_error.ensures.own (rw c.kind_of-kind.ensures at c.in-Err-create.ensures.cause));
+}
+
+pub create-requires-clause-stands : goal.create-requires-clause-stands
+create-requires-clause-stands g c =
+    (c.args.shared.now.shelf.now, stands_of c.self.inside.store c.args.self.now c.self.view_is c.args.shared.now.space.now c.args.shared.now.shelf.now c.requires.between.stands)
+
+pub create-requires-clause-live : goal.create-requires-clause-live
+create-requires-clause-live g c =
+    c.in-Some.ensures.live c.args.shared.now.space.now c.args.shared.now.shelf.now
+    (stands_of c.self.inside.store c.args.self.now c.self.view_is c.args.shared.now.space.now c.args.shared.now.shelf.now c.requires.between.stands)

@@ -1,0 +1,22 @@
+use Rattle.std.proofs.Common.{ap, ◌∙◌}
+use Rattle.session_rules.specs.State.{first_of}
+use Rattle.session_store.specs.State.{StoreState, levels_of}
+use Rattle.session_core.proofs.BetweenLines.{aborted_block, block_of, steps_of_lines}
+use Rattle.session_core.proofs.session.Session.perform_by_state.Goals as goal
+
+pub perform_idle-requires-clause-between : goal.perform_idle-requires-clause-between
+perform_idle-requires-clause-between g c = steps_of_lines _ c.requires.lines
+
+pub perform_aborted-requires-clause-between : goal.perform_aborted-requires-clause-between
+perform_aborted-requires-clause-between g c = steps_of_lines _ c.requires.lines
+
+pub perform_aborted-requires-clause-block : goal.perform_aborted-requires-clause-block
+perform_aborted-requires-clause-block g c =
+    aborted_block c.args.self.now.levels c.in-Some.level c.requires.lines.few (c.in-Some.ensures.level ∙ ap (λ (a : StoreState). first_of (levels_of a.levels)) c.self.view_is) c.if-level.true
+
+pub perform_in_block-requires-clause-between : goal.perform_in_block-requires-clause-between
+perform_in_block-requires-clause-between g c = steps_of_lines _ c.requires.lines
+
+pub perform_in_block-requires-clause-block : goal.perform_in_block-requires-clause-block
+perform_in_block-requires-clause-block g c =
+    block_of _ c.in-Some.level c.requires.lines (c.in-Some.ensures.level ∙ ap (λ (a : StoreState). first_of (levels_of a.levels)) c.self.view_is) c.if-level.false

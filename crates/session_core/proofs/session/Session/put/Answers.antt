@@ -1,0 +1,27 @@
+use Rattle.session_core.proofs.OnChunks.{put_performed}
+use Rattle.session_core.proofs.Seen.{answered_err, answered_ok, keeps_of, seen, stands_of}
+use Rattle.session_core.proofs.session.Session.put.Goals as goal
+
+pub put-requires-clause-stands : goal.put-requires-clause-stands
+put-requires-clause-stands g c =
+    (c.args.shared.now.shelf.now, stands_of c.self.inside.store c.args.self.now c.self.view_is c.args.shared.now.space.now c.args.shared.now.shelf.now c.requires.between.stands)
+
+pub returns : goal.returns
+returns g c = record {
+  performed = λ session.
+      seen c.self.inside.store c.args.self.now c.self.view_is 0 _ c.args.shared.now _ _ _
+      (answered_ok 0 _ _ _ _ c.put.result _ c.in_default.is
+      (put_performed c.args.chunk.now _ _ _ _ c.put.result
+      (keeps_of c.self.inside.store c.args.self.now c.self.view_is c.args.shared.now.space.now c.requires.between.keeps) (g.met.E.Emit.emits_none c.args.out.now)
+      c.put.ensures.alone c.put.ensures.refused c.args.at c.args.bytes.now c.as_slice-bytes.result.now c.as_slice-bytes.ensures.value c.put.ensures.answer c.put.ensures.acted));
+}
+
+pub returns-in-Err : goal.returns-in-Err
+returns-in-Err g c = record {
+  performed = λ session.
+      seen c.self.inside.store c.args.self.now c.self.view_is 0 _ c.args.shared.now _ _ _
+      (answered_err 0 _ _ _ _ c.put.result _ _ c.in-Err.is c.tree_error.ensures
+      (put_performed c.args.chunk.now _ _ _ _ c.put.result
+      (keeps_of c.self.inside.store c.args.self.now c.self.view_is c.args.shared.now.space.now c.requires.between.keeps) (g.met.E.Emit.emits_none c.args.out.now)
+      c.put.ensures.alone c.put.ensures.refused c.args.at c.args.bytes.now c.as_slice-bytes.result.now c.as_slice-bytes.ensures.value c.put.ensures.answer c.put.ensures.acted));
+}

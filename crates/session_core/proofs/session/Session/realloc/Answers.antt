@@ -1,0 +1,48 @@
+use Rattle.std.proofs.Common.{ap}
+use Rattle.session_core.specs.declared.calls.Calls.{Calls}
+use Rattle.session_core.proofs.OnChunks.{realloc_done, realloc_injected, realloc_refuses, realloc_unknown, seen_counted}
+use Rattle.session_core.proofs.Seen.{keeps_of, seen, seen_same, stands_of}
+use Rattle.session_core.proofs.session.Session.realloc.Goals as goal
+
+pub returns-then-not-is_chunk : goal.returns-then-not-is_chunk
+returns-then-not-is_chunk g c = record {
+  performed = λ session.
+      seen_same c.self.inside.store c.args.self.now c.self.view_is 1 _ c.args.shared.now _ _
+      (realloc_unknown c.args.chunk.now c.args.size _ _
+      (keeps_of c.self.inside.store c.args.self.now c.self.view_is c.args.shared.now.space.now c.requires.between.keeps) (g.met.E.Emit.emits_none c.args.out.now)
+      c.is_chunk.result c.is_chunk.ensures c.if-not-is_chunk.true);
+}
+
+pub returns-in-Err : goal.returns-in-Err
+returns-in-Err g c = record {
+  performed = λ session.
+      seen_counted c.self.inside.store c.args.self.now c.self.view_is 1 _ c.args.shared.now _ _ _
+      (realloc_injected c.args.chunk.now c.args.size _ _
+      (keeps_of c.self.inside.store c.args.self.now c.self.view_is c.args.shared.now.space.now c.requires.between.keeps) (g.met.E.Emit.emits_none c.args.out.now)
+      c.is_chunk.result c.is_chunk.ensures c.if-not-is_chunk.false _ c.next.ensures.counted c.in-Err.error c.in-Err.ensures.injected.0 c.in-Err.ensures.injected.1);
+}
+
+pub realloc-requires-clause-stands : goal.realloc-requires-clause-stands
+realloc-requires-clause-stands g c =
+    (c.args.shared.now.shelf.now, stands_of c.self.inside.store c.args.self.now c.self.view_is c.args.shared.now.space.now c.args.shared.now.shelf.now c.requires.between.stands)
+
+pub returns-in-Err-realloc : goal.returns-in-Err-realloc
+returns-in-Err-realloc g c = record {
+  performed = λ session.
+      seen c.self.inside.store c.args.self.now c.self.view_is 1 _ c.args.shared.now _ _ _
+      (realloc_refuses c.args.chunk.now c.args.size _ _
+      (keeps_of c.self.inside.store c.args.self.now c.self.view_is c.args.shared.now.space.now c.requires.between.keeps) (g.met.E.Emit.emits_none c.args.out.now)
+      c.is_chunk.result c.is_chunk.ensures c.if-not-is_chunk.false _ c.next.ensures.counted _ _ c.realloc.result c.in_default.ensures.goes c.realloc.ensures.alone
+      c.in-Err-realloc.refusal _ _ c.in-Err-realloc.is c.realloc.ensures.refused (ap (λ (k : Calls). k.count) c.next.ensures.counted) c.call_error.ensures.memory c.call_error.ensures.own
+      c.realloc.ensures.cause);
+}
+
+pub returns : goal.returns
+returns g c = record {
+  performed = λ session.
+      seen c.self.inside.store c.args.self.now c.self.view_is 1 _ c.args.shared.now _ _ _
+      (realloc_done c.args.chunk.now c.args.size _ _
+      (keeps_of c.self.inside.store c.args.self.now c.self.view_is c.args.shared.now.space.now c.requires.between.keeps) (g.met.E.Emit.emits_none c.args.out.now)
+      c.is_chunk.result c.is_chunk.ensures c.if-not-is_chunk.false _ c.next.ensures.counted _ _ c.realloc.result c.in_default.ensures.goes c.realloc.ensures.alone
+      _ c.in_default-realloc.is c.realloc.ensures.acted c.realloc.ensures.served);
+}

@@ -1,0 +1,22 @@
+use Rattle.std.proofs.Common.{◌≡◌, false, length, refl, subst, sym}
+use Rattle.session_rules.specs.State.{is_aborted}
+use Rattle.session_store.specs.State.{StoreState, levels_of}
+use Rattle.session_core.specs.Performed.{now}
+use Rattle.session_core.proofs.Between.{between_of, roll_between}
+use Rattle.session_core.proofs.OnLevels.{roll_performed}
+use Rattle.session_core.proofs.Seen.{seen, stands_of}
+use Rattle.session_core.proofs.session.Session.roll_back.Goals as goal
+
+pub roll_back-requires-clause-stands : goal.roll_back-requires-clause-stands
+roll_back-requires-clause-stands g c = stands_of c.self.inside.store c.args.self.now c.self.view_is c.args.shared.now.space.now c.args.shared.now.shelf.now c.requires.between.stands
+
+pub returns-clause-performed : goal.returns-clause-performed
+returns-clause-performed g c =
+    seen c.self.inside.store c.args.self.now c.self.view_is 0 _ c.args.shared.now _ _ _
+    (roll_performed _ _ _ c.roll_back.ensures.keeps c.roll_back.ensures.moves refl c.roll_back.ensures.acted)
+
+pub returns-clause-between : goal.returns-clause-between
+returns-clause-between g c one active =
+    roll_between (now c.self.inside.store c.args.shared.now) _ _ (between_of c.self.inside.store c.args.self.now c.self.view_is (λ store. now store c.args.shared.now) c.requires.between)
+    c.roll_back.ensures.keeps (subst (λ (v : StoreState). length v.levels ≡ 1) (sym c.self.view_is) one)
+    (subst (λ (v : StoreState). is_aborted (levels_of v.levels) ≡ false) (sym c.self.view_is) active) c.roll_back.ensures.acted

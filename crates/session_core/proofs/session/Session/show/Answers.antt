@@ -1,0 +1,21 @@
+use Rattle.session_core.proofs.OnChunks.{show_performed, show_refused}
+use Rattle.session_core.proofs.Seen.{keeps_of, seen_same}
+use Rattle.session_core.proofs.session.Session.show.Goals as goal
+
+pub returns-in-Err : goal.returns-in-Err
+returns-in-Err g c = record {
+  performed = λ session.
+      seen_same c.self.inside.store c.args.self.now c.self.view_is 0 _ c.args.shared.now _ _
+      (show_refused c.args.chunk c.args.at c.args.length _ _ c.bytes_of.result
+      (keeps_of c.self.inside.store c.args.self.now c.self.view_is c.args.shared.now.space.now c.requires.between.keeps) c.bytes_of.ensures.answer
+      c.in-Err.refusal _ c.in-Err.is c.tree_error.ensures (g.met.E.Emit.emits_none c.args.out.now));
+}
+
+pub returns : goal.returns
+returns g c = record {
+  performed = λ session.
+      seen_same c.self.inside.store c.args.self.now c.self.view_is 0 _ c.args.shared.now _ _
+      (show_performed c.args.chunk c.args.at c.args.length _ _ c.bytes_of.result
+      (keeps_of c.self.inside.store c.args.self.now c.self.view_is c.args.shared.now.space.now c.requires.between.keeps) c.bytes_of.ensures.answer
+      _ c.in-Ok.is c.bytes_of.ensures.bytes c.emit.ensures.emitted);
+}

@@ -1,0 +1,22 @@
+use Rattle.std.proofs.Common.{arith}
+use Rattle.session_core.proofs.Performing.{performed_more}
+use Rattle.session_core.proofs.Working.{as_command, in_active, raised_error}
+use Rattle.session_core.proofs.session.Session.work_by_kind.Goals as goal
+
+pub returns-in-Raise : goal.returns-in-Raise
+returns-in-Raise g c = record {
+  performed = λ session.
+      as_command 0 2 _ _ session _ _ _ _ (omega arith) c.in-Raise.is (raised_error _ session _ c.requires.between.keeps (g.met.E.Emit.emits_none c.args.out.now));
+}
+
+pub returns-in-Alloc : goal.returns-in-Alloc
+returns-in-Alloc g c = record { performed = λ session. performed_more 1 2 _ _ _ _ _ (omega arith) (c.work_on_chunks.ensures.performed session) }
+
+pub returns-in_default : goal.returns-in_default
+returns-in_default g c = record { performed = λ session. performed_more 1 2 _ _ _ _ _ (omega arith) (c.work_on_contexts.ensures.performed session) }
+
+pub returns-in-Pin : goal.returns-in-Pin
+returns-in-Pin g c = record { performed = λ session. as_command 2 2 _ _ session _ _ _ _ (omega arith) c.in-Pin.is (c.pin.ensures.performed session) }
+
+pub pin-requires-clause-active : goal.pin-requires-clause-active
+pin-requires-clause-active g c = in_active _ c.requires.active

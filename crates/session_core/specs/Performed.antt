@@ -1,0 +1,72 @@
+-- What a method of a session does: the elements of the rules that it performs.
+use Rattle.std.specs.Prelude.{◌≡◌, ℕ, ◌+◌, ◌<◌, ◌≤◌, ◌^◌, List, Option}
+use Rattle.pgs_step.specs.declared.errors.Error.{Error}
+use Rattle.pgs_step.specs.declared.events.What.{What}
+use Rattle.addr_space.specs.Space.{Space}
+use Rattle.reset_callbacks.specs.ShelfState.{ShelfState}
+use Rattle.context_tree.specs.State.{Moves}
+use Rattle.session_rules.specs.World.{Around, Scene}
+use Rattle.session_rules.specs.Acts.{Ended}
+use Rattle.session_rules.specs.Elements.{Element}
+use Rattle.session_store.specs.State.{StoreState, scene_of}
+use Rattle.session_store.specs.Calls.{Acted, Keeps, StandsIn}
+use Rattle.session_core.specs.declared.calls.Calls.{Calls}
+use Rattle.session_core.specs.declared.shared.Shared.{Shared}
+use Rattle.session_core.specs.Answers.{Answers}
+
+-- where a call meets a session: its store, the space, the shelf of hooks, and the fallible calls of the run
+pub record Now : Type 0 where
+  pub store : StoreState
+  pub space : Space
+  pub shelf : ShelfState
+  pub calls : Calls
+
+-- a store with what is lent to the session
+abbrev pub now : {Z : Type 0} → StoreState → Shared Z → Now
+now store shared = record { store = store; space = shared.space.now; shelf = shared.shelf.now; calls = shared.calls.now }
+
+-- the session in its surroundings
+abbrev pub scene_in : Now → Around → Scene
+scene_in n = scene_of n.store n.space n.shelf
+
+-- A session between two of its steps: the space has what its contexts have, its account holds their blocks and no more, and the session
+-- stands.
+pub record IsBetweenSteps (n : Now) : Type 0 where
+  pub keeps : Keeps n.store n.space
+  pub stands : StandsIn n.store n.space n.shelf
+
+-- what a counter may be
+abbrev pub most_count : ℕ
+most_count = 2 ^ 62
+
+-- each counter may rise by so much
+pub record HasRoom (k : ℕ) (n : Now) : Type 0 where
+  pub contexts : n.store.tree.next + k < most_count
+  pub owners : n.store.owners.next_owner + k < most_count
+  pub serials : n.store.owners.next_serial + k < most_count
+  pub calls : n.calls.count + k < most_count
+
+-- no counter rose by more than so much
+pub record Grows (k : ℕ) (a b : Now) : Type 0 where
+  pub contexts : b.store.tree.next ≤ a.store.tree.next + k
+  pub owners : b.store.owners.next_owner ≤ a.store.owners.next_owner + k
+  pub serials : b.store.owners.next_serial ≤ a.store.owners.next_serial + k
+  pub calls : b.calls.count ≤ a.calls.count + k
+
+-- The elements were performed, up to the first that was refused, and were answered and told so. The space keeps what isn't the session's, the
+-- session's account holds the blocks of its contexts and no more, and no counter rose by more than k.
+pub record Performed (k : ℕ) (elements : List Element) (a b : Now) (Said : List What → Type 0) (refusal : Option Error) : Type 0 where
+  pub answers : Answers elements (scene_in a) (scene_in b) a.calls.count b.calls.count a.calls.fail Said refusal
+  pub fail : b.calls.fail ≡ a.calls.fail
+  pub keeps : Keeps b.store b.space
+  pub moves : Moves a.store.tree b.store.tree a.space b.space
+  pub grows : Grows k a b
+
+-- An act was done that is no element of a command. The space keeps what isn't the session's, the session's account holds the blocks of its
+-- contexts and no more, no call was counted, and no counter rose.
+pub record Ends (act : Scene → Ended) (a b : Now) (Said : List What → Type 0) : Type 0 where
+  pub acted : Acted act a.store b.store a.space b.space a.shelf b.shelf Said
+  pub keeps : Keeps b.store b.space
+  pub moves : Moves a.store.tree b.store.tree a.space b.space
+  pub calls : b.calls ≡ a.calls
+  pub grows : Grows 0 a b

@@ -1,0 +1,45 @@
+-- The commands that a session performs in a transaction.
+use Rattle.pgs_command.specs.declared.commands.Command.{Command}
+use Rattle.pgs_command.specs.declared.commands.Command.TheVariants as command
+
+-- a command on contexts
+abbrev pub IsOnContexts : Command → Type 0
+IsOnContexts (command.Context name parent kind) = Unit {0}
+IsOnContexts (command.Switch name) = Unit {0}
+IsOnContexts (command.OnReset name) = Unit {0}
+IsOnContexts (command.Reset name) = Unit {0}
+IsOnContexts (command.ResetOnly name) = Unit {0}
+IsOnContexts (command.Delete name) = Unit {0}
+IsOnContexts (command.DeleteChildren name) = Unit {0}
+IsOnContexts (command.Reparent name parent) = Unit {0}
+IsOnContexts other = ⊥
+
+-- a command on chunks
+abbrev pub IsOnChunks : Command → Type 0
+IsOnChunks (command.Alloc chunk size) = Unit {0}
+IsOnChunks (command.AllocZeroed chunk size) = Unit {0}
+IsOnChunks (command.Realloc chunk size) = Unit {0}
+IsOnChunks (command.Free chunk) = Unit {0}
+IsOnChunks (command.Put chunk at bytes) = Unit {0}
+IsOnChunks (command.Show chunk at length) = Unit {0}
+IsOnChunks other = ⊥
+
+-- a command that works in a transaction: those, pins, and the one that fails
+abbrev pub IsWork : Command → Type 0
+IsWork command.Raise = Unit {0}
+IsWork (command.Pin buffer) = Unit {0}
+IsWork (command.Context name parent kind) = Unit {0}
+IsWork (command.Switch name) = Unit {0}
+IsWork (command.OnReset name) = Unit {0}
+IsWork (command.Reset name) = Unit {0}
+IsWork (command.ResetOnly name) = Unit {0}
+IsWork (command.Delete name) = Unit {0}
+IsWork (command.DeleteChildren name) = Unit {0}
+IsWork (command.Reparent name parent) = Unit {0}
+IsWork (command.Alloc chunk size) = Unit {0}
+IsWork (command.AllocZeroed chunk size) = Unit {0}
+IsWork (command.Realloc chunk size) = Unit {0}
+IsWork (command.Free chunk) = Unit {0}
+IsWork (command.Put chunk at bytes) = Unit {0}
+IsWork (command.Show chunk at length) = Unit {0}
+IsWork other = ⊥

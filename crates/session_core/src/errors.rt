@@ -1,0 +1,62 @@
+//! The refusals of calls as errors of commands.
+ghost use Rattle.std.specs.Prelude.{◌≡◌, ◌≢◌};
+ghost use Rattle.pgs_step.specs.declared.errors.Error.TheVariants as error;
+ghost use Rattle.context_rules.specs.declared.errors.TreeError.TheVariants as tree;
+ghost use Rattle.session_rules.specs.Checks.{space_error, tree_error};
+ghost use Rattle.session_store.specs.declared.hooks.RegisterError.TheVariants as register;
+
+use chunk_header::CtxError;
+use context_rules::TreeError;
+use pgs_step::Error;
+use session_store::RegisterError;
+
+/// The refusal of a call on contexts as an error. `Memory` is told by the number of the fallible call that met it.
+pub(crate) fn call_error(refusal: TreeError, call: u64) -> Error
+    ensures memory { refusal ≡ tree.Memory → result ≡ error.NoMemory call }
+    ensures own { refusal ≢ tree.Memory → result ≡ tree_error refusal }
+{
+    match refusal {
+        TreeError::Memory => Error::NoMemory(call),
+        other => tree_error(other),
+    }
+}
+
+/// The refusal of a call on contexts that takes no memory as an error.
+pub(crate) fn tree_error(refusal: TreeError) -> Error
+    ensures { result ≡ tree_error refusal }
+{
+    match refusal {
+        TreeError::NoName => Error::NoSuchName,
+        TreeError::Taken => Error::NameTaken,
+        TreeError::Protected => Error::ContextProtected,
+        TreeError::InUse => Error::ContextInUse,
+        TreeError::Cycle => Error::ContextCycle,
+        TreeError::Range => Error::OutsideChunk,
+        TreeError::TooMany => Error::LimitReached,
+        TreeError::Ctx(refusal) => space_error(refusal),
+        TreeError::Memory => Error::OutOfSpace,
+    }
+}
+
+/// The refusal of a hook as an error.
+pub(crate) fn register_error(refusal: RegisterError, call: u64) -> Error
+    ensures none { refusal ≡ register.NoHook → result ≡ error.LimitReached }
+    ensures memory { refusal ≡ register.Memory → result ≡ error.NoMemory call }
+{
+    match refusal {
+        RegisterError::NoHook => Error::LimitReached,
+        RegisterError::Memory => Error::NoMemory(call),
+    }
+}
+
+fn space_error(refusal: CtxError) -> Error
+    ensures { result ≡ space_error refusal }
+{
+    match refusal {
+        CtxError::TooBig => Error::TooBig,
+        CtxError::NoSpace => Error::OutOfSpace,
+        CtxError::WrongSize => Error::WrongChunkSize,
+        CtxError::Unsupported => Error::Unsupported,
+        CtxError::Memory => Error::OutOfSpace,
+    }
+}

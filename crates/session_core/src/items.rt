@@ -1,0 +1,108 @@
+//! The commands by which the owner of the deepest level takes something.
+ghost use Rattle.std.specs.Prelude.{◌≡◌, ◌<◌, ◌≤◌, ◌^◌, [], ◌∷◌, false, OnOk};
+ghost use Rattle.pgs_command.specs.declared.commands.Command.TheVariants as command;
+ghost use Rattle.addr_space.specs.Space.{Space};
+ghost use Rattle.reset_callbacks.specs.ShelfState.{ShelfState};
+ghost use Rattle.owner_core.specs.Owners.{IsLive, has_begun, owners_of, spare_of};
+ghost use Rattle.session_rules.specs.Elements as e;
+ghost use Rattle.session_rules.specs.Elements.{OfLevel};
+ghost use Rattle.session_rules.specs.State as rules;
+ghost use Rattle.session_rules.specs.State.{SessionState, buffer_pin};
+ghost use Rattle.session_rules.specs.Works.{work_of};
+ghost use Rattle.session_store.specs.State.{levels_of, session_of};
+ghost use Rattle.session_store.specs.Calls.{Keeps, StandsIn};
+ghost use Rattle.session_store.specs.Owned.{OwnersAlone};
+ghost use Rattle.session_core.specs.Answers.{refusal_of};
+ghost use Rattle.session_core.specs.Begun.{InActiveLevel, IsLevelOwner};
+ghost use Rattle.session_core.specs.Performed.{now, HasRoom, IsBetweenSteps, Performed};
+
+use crate::session::Session;
+use crate::shared::Shared;
+use pgs_step::{Emit, Error, OwnerId};
+use reset_callbacks::ResetHook;
+
+/// How many buffers there are.
+const BUFFERS: u32 = 1024;
+
+impl<H: ResetHook> Session<H> {
+    /// `pin`: the owner of the deepest level pins a buffer.
+    pub(crate) fn pin<E: Emit>(
+        &mut self,
+        buffer: u32,
+        shared: &mut Shared<'_, H>,
+        out: &mut E,
+    ) -> Result<(), Error>
+        requires between { IsBetweenSteps (now self.old shared.old) }
+        requires room { HasRoom 2 (now self.old shared.old) }
+        requires active { InActiveLevel (levels_of self.old.levels) }
+        ensures performed { (session : SessionState) → Performed 2 (work_of (command.Pin buffer) session) (now self.old shared.old) (now self.new shared.new) (λ events. E.emits out.old events out.new) (refusal_of result) }
+    {
+        if buffer >= BUFFERS {
+            return Err(Error::NoSuchBuffer);
+        }
+        let owner = self.owner_of_level();
+        if let Err(error) = self.enlarge(owner, shared) {
+            return Err(error);
+        }
+        if let Err(error) = self.take_pin(owner, buffer, shared, out) {
+            return Err(error);
+        }
+        Ok(())
+    }
+
+    /// The owner of the deepest level, which is active.
+    fn owner_of_level(&self) -> OwnerId
+        requires active { InActiveLevel (levels_of self.now.levels) }
+        ensures owner { IsLevelOwner self.now result }
+        ensures live { (s : Space) (x : ShelfState) → StandsIn self.now s x → IsLive self.now.owners result }
+    {
+        match self.store.level_owner() {
+            Some(owner) => owner,
+            None => unreachable!(),
+        }
+    }
+
+    /// Makes room for one more item of the deepest level's owner, whose release has not begun.
+    fn enlarge(&mut self, owner: OwnerId, shared: &mut Shared<'_, H>) -> Result<(), Error>
+        requires between { IsBetweenSteps (now self.old shared.old) }
+        requires room { HasRoom 1 (now self.old shared.old) }
+        requires live { IsLive self.old.owners owner }
+        requires not_begun { has_begun owner.number (owners_of self.old.owners) ≡ false }
+        ensures performed { Performed 1 (e.Enlarge OfLevel ∷ []) (now self.old shared.old) (now self.new shared.new) (λ events. events ≡ []) (refusal_of result) }
+        ensures spare { OnOk result (1 ≤ spare_of owner.number self.new.owners) }
+        ensures session { OnOk result ((s : Space) → session_of self.new s ≡ session_of self.old s) }
+        ensures alone { OnOk result (OwnersAlone self.old self.new) }
+    {
+        if let Err(error) = shared.calls.next() {
+            return Err(error);
+        }
+        if let Err(_) = self.store.enlarge(owner) {
+            return Err(Error::NoMemory(shared.calls.count));
+        }
+        Ok(())
+    }
+
+    /// Pins a buffer in room that was made before.
+    fn take_pin<E: Emit>(
+        &mut self,
+        owner: OwnerId,
+        buffer: u32,
+        shared: &mut Shared<'_, H>,
+        out: &mut E,
+    ) -> Result<(), Error>
+        requires keeps { Keeps self.old shared.old.space.now }
+        requires room { HasRoom 1 (now self.old shared.old) }
+        requires owner { IsLevelOwner self.old owner }
+        requires live { IsLive self.old.owners owner }
+        requires spare { 1 ≤ spare_of owner.number self.old.owners }
+        requires not_begun { has_begun owner.number (owners_of self.old.owners) ≡ false }
+        requires buffer { buffer < 1024 }
+        ensures performed { Performed 1 (e.Take OfLevel buffer_pin buffer ∷ []) (now self.old shared.old) (now self.new shared.new) (λ events. E.emits out.old events out.new) (refusal_of result) }
+    {
+        if let Err(error) = shared.calls.next() {
+            return Err(error);
+        }
+        self.store.pin(owner, buffer, out);
+        Ok(())
+    }
+}

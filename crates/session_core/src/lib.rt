@@ -1,0 +1,18 @@
+//! One session of a backend: it performs commands, recovers from errors and ends.
+#![tactic(auto)]
+
+mod calls;
+mod chunks;
+mod contexts;
+mod ends;
+mod errors;
+mod items;
+mod perform;
+mod session;
+mod shared;
+mod transactions;
+mod work;
+
+pub use calls::Calls;
+pub use session::{Session, StartError};
+pub use shared::Shared;

@@ -1,0 +1,262 @@
+//! Commands are performed.
+ghost use Rattle.std.specs.Prelude.{◌≡◌, ◌≤◌, ◌∷◌, ◌++◌, [], None, false, length, OnOk, OnErr};
+ghost use Rattle.pgs_command.specs.Ranges.{IsInRange};
+ghost use Rattle.pgs_step.specs.declared.events.What.TheVariants as what;
+ghost use Rattle.session_rules.specs.Elements as element;
+ghost use Rattle.session_rules.specs.Commands.{elements_of, start};
+ghost use Rattle.session_rules.specs.State.{SessionState, is_aborted};
+ghost use Rattle.session_rules.proofs.StepsStand.{IsWorking};
+ghost use Rattle.session_store.specs.State.{levels_of, session_of};
+ghost use Rattle.session_core.specs.Answers.{refusal_of};
+ghost use Rattle.session_core.specs.Lines.{IsAbortedBlock, IsBetweenLines, IsInBlock, IsPerformed};
+ghost use Rattle.session_core.specs.Performed.{now, HasRoom, IsBetweenSteps, Performed};
+ghost use Rattle.session_core.specs.Works.{IsWork};
+
+use crate::session::Session;
+use crate::shared::Shared;
+use pgs_command::Command;
+use pgs_step::{Emit, Error, What};
+use reset_callbacks::ResetHook;
+
+impl<H: ResetHook> Session<H> {
+    /// Performs a command up to its `ok`: in the transaction that is open, or in one that is begun for it alone.
+    ///
+    /// The error is that of the first check or fallible call that was refused. `TransactionAborted` comes in an aborted
+    /// transaction, of which only the end is taken. After an error the session stands between two steps, and `recover` comes next.
+    pub fn perform<E: Emit>(
+        &mut self,
+        command: &Command,
+        shared: &mut Shared<'_, H>,
+        out: &mut E,
+    ) -> Result<(), Error>
+        requires lines { IsBetweenLines (now self.old shared.old) }
+        requires known { IsPerformed command.now }
+        requires range { IsInRange command.now }
+        requires room { HasRoom 5 (now self.old shared.old) }
+        ensures performed { Performed 5 (elements_of command.now (session_of self.old shared.old.space.now)) (now self.old shared.old) (now self.new shared.new) (λ events. E.emits out.old events out.new) (refusal_of result) }
+        ensures lines { OnOk result (IsBetweenLines (now self.new shared.new)) }
+        ensures between { OnErr result (IsBetweenSteps (now self.new shared.new)) }
+    {
+        self.perform_by_state(command, shared, out)
+    }
+
+    fn perform_by_state<E: Emit>(
+        &mut self,
+        command: &Command,
+        shared: &mut Shared<'_, H>,
+        out: &mut E,
+    ) -> Result<(), Error>
+        requires lines { IsBetweenLines (now self.old shared.old) }
+        requires known { IsPerformed command.now }
+        requires range { IsInRange command.now }
+        requires room { HasRoom 5 (now self.old shared.old) }
+        ensures performed { Performed 5 (elements_of command.now (session_of self.old shared.old.space.now)) (now self.old shared.old) (now self.new shared.new) (λ events. E.emits out.old events out.new) (refusal_of result) }
+        ensures between { OnErr result (IsBetweenSteps (now self.new shared.new)) }
+        ensures few { OnOk result (length self.new.levels ≤ 1) }
+    {
+        match self.store.deepest_level() {
+            None => self.perform_idle(command, shared, out),
+            Some(level) if level.aborted => self.perform_aborted(command, shared, out),
+            Some(_) => self.perform_in_block(command, shared, out),
+        }
+    }
+
+    /// Performs a command in a transaction block that isn't aborted.
+    fn perform_in_block<E: Emit>(
+        &mut self,
+        command: &Command,
+        shared: &mut Shared<'_, H>,
+        out: &mut E,
+    ) -> Result<(), Error>
+        requires between { IsBetweenSteps (now self.old shared.old) }
+        requires block { IsInBlock self.old.levels }
+        requires known { IsPerformed command.now }
+        requires range { IsInRange command.now }
+        requires room { HasRoom 2 (now self.old shared.old) }
+        ensures performed { Performed 2 (elements_of command.now (session_of self.old shared.old.space.now)) (now self.old shared.old) (now self.new shared.new) (λ events. E.emits out.old events out.new) (refusal_of result) }
+        ensures between { OnErr result (IsBetweenSteps (now self.new shared.new)) }
+        ensures few { OnOk result (length self.new.levels ≤ 1) }
+    {
+        match command {
+            Command::Nothing => Ok(()),
+            Command::Begin => {
+                say(What::AlreadyInTransaction, out);
+                Ok(())
+            }
+            Command::Commit => {
+                self.commit_block(shared, out);
+                Ok(())
+            }
+            Command::Rollback => {
+                self.roll_block_back(shared, out);
+                Ok(())
+            }
+            _ => self.perform_work(command, shared, out),
+        }
+    }
+
+    /// The block commits, and the last word.
+    fn commit_block<E: Emit>(&mut self, shared: &mut Shared<'_, H>, out: &mut E)
+        requires between { IsBetweenSteps (now self.old shared.old) }
+        requires one { length self.old.levels ≡ 1 }
+        ensures performed { Performed 0 (element.CommitTop ∷ element.Says what.Ok ∷ []) (now self.old shared.old) (now self.new shared.new) (λ events. E.emits out.old events out.new) None }
+        ensures few { length self.new.levels ≤ 1 }
+    {
+        self.commit_top(shared, out);
+        out.emit(What::Ok);
+    }
+
+    /// The block is rolled back, and the last word.
+    fn roll_block_back<E: Emit>(&mut self, shared: &mut Shared<'_, H>, out: &mut E)
+        requires between { IsBetweenSteps (now self.old shared.old) }
+        requires block { IsInBlock self.old.levels }
+        ensures performed { Performed 0 (element.Abort ∷ element.Cleanup ∷ element.Says what.Ok ∷ []) (now self.old shared.old) (now self.new shared.new) (λ events. E.emits out.old events out.new) None }
+        ensures few { length self.new.levels ≤ 1 }
+    {
+        self.roll_back(shared, out);
+        out.emit(What::Ok);
+    }
+
+    /// Performs a command where no transaction is open.
+    fn perform_idle<E: Emit>(
+        &mut self,
+        command: &Command,
+        shared: &mut Shared<'_, H>,
+        out: &mut E,
+    ) -> Result<(), Error>
+        requires between { IsBetweenSteps (now self.old shared.old) }
+        requires none { self.old.levels ≡ [] }
+        requires known { IsPerformed command.now }
+        requires range { IsInRange command.now }
+        requires room { HasRoom 5 (now self.old shared.old) }
+        ensures performed { Performed 5 (elements_of command.now (session_of self.old shared.old.space.now)) (now self.old shared.old) (now self.new shared.new) (λ events. E.emits out.old events out.new) (refusal_of result) }
+        ensures between { OnErr result (IsBetweenSteps (now self.new shared.new)) }
+        ensures few { OnOk result (length self.new.levels ≤ 1) }
+    {
+        match command {
+            Command::Nothing => Ok(()),
+            Command::Begin => self.begin(shared, out),
+            Command::Commit => {
+                say(What::NotInTransaction, out);
+                Ok(())
+            }
+            Command::Rollback => {
+                say(What::NotInTransaction, out);
+                Ok(())
+            }
+            _ => self.perform_alone(command, shared, out),
+        }
+    }
+
+    /// A transaction block begins, and the last word.
+    fn begin<E: Emit>(&mut self, shared: &mut Shared<'_, H>, out: &mut E) -> Result<(), Error>
+        requires between { IsBetweenSteps (now self.old shared.old) }
+        requires none { self.old.levels ≡ [] }
+        requires room { HasRoom 3 (now self.old shared.old) }
+        ensures performed { Performed 3 (start None false ++ (element.Says what.Ok ∷ [])) (now self.old shared.old) (now self.new shared.new) (λ events. E.emits out.old events out.new) (refusal_of result) }
+        ensures between { OnErr result (IsBetweenSteps (now self.new shared.new)) }
+        ensures few { OnOk result (length self.new.levels ≤ 1) }
+    {
+        if let Err(error) = self.start_level(None, false, shared, out) {
+            return Err(error);
+        }
+        out.emit(What::Ok);
+        Ok(())
+    }
+
+    /// Performs a command in a level that is begun for it alone.
+    fn perform_alone<E: Emit>(
+        &mut self,
+        command: &Command,
+        shared: &mut Shared<'_, H>,
+        out: &mut E,
+    ) -> Result<(), Error>
+        requires between { IsBetweenSteps (now self.old shared.old) }
+        requires none { self.old.levels ≡ [] }
+        requires work { IsWork command.now }
+        requires range { IsInRange command.now }
+        requires room { HasRoom 5 (now self.old shared.old) }
+        ensures performed { Performed 5 (elements_of command.now (session_of self.old shared.old.space.now)) (now self.old shared.old) (now self.new shared.new) (λ events. E.emits out.old events out.new) (refusal_of result) }
+        ensures between { OnErr result (IsBetweenSteps (now self.new shared.new)) }
+        ensures few { OnOk result (length self.new.levels ≤ 1) }
+    {
+        if let Err(error) = self.start_level(None, true, shared, out) {
+            return Err(error);
+        }
+        if let Err(error) = self.work(command, shared, out) {
+            return Err(error);
+        }
+        self.commit_block(shared, out);
+        Ok(())
+    }
+
+    /// Performs a command that works in a transaction block.
+    fn perform_work<E: Emit>(
+        &mut self,
+        command: &Command,
+        shared: &mut Shared<'_, H>,
+        out: &mut E,
+    ) -> Result<(), Error>
+        requires between { IsBetweenSteps (now self.old shared.old) }
+        requires active { IsWorking (levels_of self.old.levels) }
+        requires work { IsWork command.now }
+        requires range { IsInRange command.now }
+        requires room { HasRoom 2 (now self.old shared.old) }
+        ensures performed { Performed 2 (elements_of command.now (session_of self.old shared.old.space.now)) (now self.old shared.old) (now self.new shared.new) (λ events. E.emits out.old events out.new) (refusal_of result) }
+        ensures between { IsBetweenSteps (now self.new shared.new) }
+        ensures levels { OnOk result (levels_of self.new.levels ≡ levels_of self.old.levels) }
+    {
+        if let Err(error) = self.work(command, shared, out) {
+            return Err(error);
+        }
+        out.emit(What::Ok);
+        Ok(())
+    }
+
+    /// Performs a command in an aborted transaction: only its end is taken.
+    fn perform_aborted<E: Emit>(
+        &mut self,
+        command: &Command,
+        shared: &mut Shared<'_, H>,
+        out: &mut E,
+    ) -> Result<(), Error>
+        requires between { IsBetweenSteps (now self.old shared.old) }
+        requires block { IsAbortedBlock self.old.levels }
+        requires known { IsPerformed command.now }
+        ensures performed { Performed 0 (elements_of command.now (session_of self.old shared.old.space.now)) (now self.old shared.old) (now self.new shared.new) (λ events. E.emits out.old events out.new) (refusal_of result) }
+        ensures between { OnErr result (IsBetweenSteps (now self.new shared.new)) }
+        ensures few { OnOk result (length self.new.levels ≤ 1) }
+    {
+        match command {
+            Command::Nothing => Ok(()),
+            Command::Commit => {
+                self.end_aborted(shared, out);
+                Ok(())
+            }
+            Command::Rollback => {
+                self.end_aborted(shared, out);
+                Ok(())
+            }
+            _ => Err(Error::TransactionAborted),
+        }
+    }
+
+    /// The end of an aborted transaction, and the last word.
+    fn end_aborted<E: Emit>(&mut self, shared: &mut Shared<'_, H>, out: &mut E)
+        requires between { IsBetweenSteps (now self.old shared.old) }
+        requires block { IsAbortedBlock self.old.levels }
+        ensures performed { Performed 0 (element.Cleanup ∷ element.Says what.Ok ∷ []) (now self.old shared.old) (now self.new shared.new) (λ events. E.emits out.old events out.new) None }
+        ensures few { length self.new.levels ≤ 1 }
+    {
+        self.clean_up(shared, out);
+        out.emit(What::Ok);
+    }
+}
+
+/// A warning, and the last word of a command that ended well.
+fn say<E: Emit>(warning: What, out: &mut E)
+    ensures { E.emits out.old (warning ∷ what.Ok ∷ []) out.new }
+{
+    out.emit(warning);
+    out.emit(What::Ok);
+}
