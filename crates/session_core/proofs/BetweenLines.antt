@@ -99,7 +99,7 @@ unfolding turn
 turn_done c m e = ap (λ (o : Option Error). (turn_of (does_all None (elements_of c m.scene.session) m) o).moment) e
 
 pub lines_behind : (c : Command) (a b : Now) (P : List What → Type 0) (r : Result (Unit {0}) Error) → IsPerformed c → IsBetweenLines a → Performed 5 (elements_of c (session_of a.store a.space)) a b P (refusal_of r)
-    → OnOk r (length b.store.levels ≤ 1) → OnOk r (IsBetweenLines b)
+    → length b.store.levels ≤ 1 → OnOk r (IsBetweenLines b)
 lines_behind c a b P (Err e) known lines done few = tt
 lines_behind c a b P (Ok u) known lines done few = record {
   keeps = done.keeps;

@@ -345,3 +345,23 @@ works_else other h nothing begin commit rollback = h
 -- the level of a block
 pub working_block : (levels : List LevelState) (level : LevelState) → levels ≡ level ∷ [] → IsActive level → IsWorking levels
 working_block levels level e active = subst IsWorking (sym e) active
+
+pub few_of_one : (levels : List Level) (level : LevelState) → levels_of levels ≡ level ∷ [] → length levels ≤ 1
+few_of_one levels level e =
+    let one = one_level levels level e in
+    omega (arith, one)
+
+pub few_on : (levels behind : List Level) (level : LevelState) → levels_of levels ≡ level ∷ [] → length behind ≤ length levels → length behind ≤ 1
+few_on levels behind level e le =
+    let one = one_level levels level e in
+    omega (arith, one, le)
+
+pub few_begun : (levels behind : List Level) → levels ≡ [] → length behind ≤ length levels + 1 → length behind ≤ 1
+few_begun levels behind e le =
+    let none : length levels ≡ 0 = ap (λ (ls : List Level). length ls) e in
+    omega (arith, none, le)
+
+pub few_alone : (levels middle behind : List Level) → levels ≡ [] → length middle ≤ length levels + 1 → length behind ≤ length middle → length behind ≤ 1
+few_alone levels middle behind e le more =
+    let none : length levels ≡ 0 = ap (λ (ls : List Level). length ls) e in
+    omega (arith, none, le, more)

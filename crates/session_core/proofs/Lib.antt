@@ -18,3 +18,4 @@ pub mod Exited
 pub mod Pinning
 pub mod Between
 pub mod BetweenLines
+pub mod Depth

@@ -36,6 +36,7 @@ impl<H: ResetHook> Session<H> {
         ensures performed { Performed 5 (elements_of command.now (session_of self.old shared.old.space.now)) (now self.old shared.old) (now self.new shared.new) (λ events. E.emits out.old events out.new) (refusal_of result) }
         ensures lines { OnOk result (IsBetweenLines (now self.new shared.new)) }
         ensures between { OnErr result (IsBetweenSteps (now self.new shared.new)) }
+        ensures few { length self.new.levels ≤ 1 }
     {
         self.perform_by_state(command, shared, out)
     }
@@ -52,7 +53,7 @@ impl<H: ResetHook> Session<H> {
         requires room { HasRoom 5 (now self.old shared.old) }
         ensures performed { Performed 5 (elements_of command.now (session_of self.old shared.old.space.now)) (now self.old shared.old) (now self.new shared.new) (λ events. E.emits out.old events out.new) (refusal_of result) }
         ensures between { OnErr result (IsBetweenSteps (now self.new shared.new)) }
-        ensures few { OnOk result (length self.new.levels ≤ 1) }
+        ensures few { length self.new.levels ≤ 1 }
     {
         match self.store.deepest_level() {
             None => self.perform_idle(command, shared, out),
@@ -75,7 +76,7 @@ impl<H: ResetHook> Session<H> {
         requires room { HasRoom 2 (now self.old shared.old) }
         ensures performed { Performed 2 (elements_of command.now (session_of self.old shared.old.space.now)) (now self.old shared.old) (now self.new shared.new) (λ events. E.emits out.old events out.new) (refusal_of result) }
         ensures between { OnErr result (IsBetweenSteps (now self.new shared.new)) }
-        ensures few { OnOk result (length self.new.levels ≤ 1) }
+        ensures few { length self.new.levels ≤ 1 }
     {
         match command {
             Command::Nothing => Ok(()),
@@ -131,7 +132,7 @@ impl<H: ResetHook> Session<H> {
         requires room { HasRoom 5 (now self.old shared.old) }
         ensures performed { Performed 5 (elements_of command.now (session_of self.old shared.old.space.now)) (now self.old shared.old) (now self.new shared.new) (λ events. E.emits out.old events out.new) (refusal_of result) }
         ensures between { OnErr result (IsBetweenSteps (now self.new shared.new)) }
-        ensures few { OnOk result (length self.new.levels ≤ 1) }
+        ensures few { length self.new.levels ≤ 1 }
     {
         match command {
             Command::Nothing => Ok(()),
@@ -155,7 +156,7 @@ impl<H: ResetHook> Session<H> {
         requires room { HasRoom 3 (now self.old shared.old) }
         ensures performed { Performed 3 (start None false ++ (element.Says what.Ok ∷ [])) (now self.old shared.old) (now self.new shared.new) (λ events. E.emits out.old events out.new) (refusal_of result) }
         ensures between { OnErr result (IsBetweenSteps (now self.new shared.new)) }
-        ensures few { OnOk result (length self.new.levels ≤ 1) }
+        ensures few { length self.new.levels ≤ 1 }
     {
         if let Err(error) = self.start_level(None, false, shared, out) {
             return Err(error);
@@ -178,7 +179,7 @@ impl<H: ResetHook> Session<H> {
         requires room { HasRoom 5 (now self.old shared.old) }
         ensures performed { Performed 5 (elements_of command.now (session_of self.old shared.old.space.now)) (now self.old shared.old) (now self.new shared.new) (λ events. E.emits out.old events out.new) (refusal_of result) }
         ensures between { OnErr result (IsBetweenSteps (now self.new shared.new)) }
-        ensures few { OnOk result (length self.new.levels ≤ 1) }
+        ensures few { length self.new.levels ≤ 1 }
     {
         if let Err(error) = self.start_level(None, true, shared, out) {
             return Err(error);
@@ -204,7 +205,7 @@ impl<H: ResetHook> Session<H> {
         requires room { HasRoom 2 (now self.old shared.old) }
         ensures performed { Performed 2 (elements_of command.now (session_of self.old shared.old.space.now)) (now self.old shared.old) (now self.new shared.new) (λ events. E.emits out.old events out.new) (refusal_of result) }
         ensures between { IsBetweenSteps (now self.new shared.new) }
-        ensures levels { OnOk result (levels_of self.new.levels ≡ levels_of self.old.levels) }
+        ensures few { length self.new.levels ≤ length self.old.levels }
     {
         if let Err(error) = self.work(command, shared, out) {
             return Err(error);
@@ -225,7 +226,7 @@ impl<H: ResetHook> Session<H> {
         requires known { IsPerformed command.now }
         ensures performed { Performed 0 (elements_of command.now (session_of self.old shared.old.space.now)) (now self.old shared.old) (now self.new shared.new) (λ events. E.emits out.old events out.new) (refusal_of result) }
         ensures between { OnErr result (IsBetweenSteps (now self.new shared.new)) }
-        ensures few { OnOk result (length self.new.levels ≤ 1) }
+        ensures few { length self.new.levels ≤ 1 }
     {
         match command {
             Command::Nothing => Ok(()),

@@ -1,5 +1,5 @@
 use Rattle.pgs_command.specs.declared.commands.Command.TheVariants as command
-use Rattle.session_core.proofs.ByState.{as_elements, commit_aborted, in_aborted, nothing_aborted, of_command, others_aborted, refused_aborted, rollback_aborted}
+use Rattle.session_core.proofs.ByState.{as_elements, commit_aborted, few_of_one, in_aborted, nothing_aborted, of_command, others_aborted, refused_aborted, rollback_aborted}
 use Rattle.session_core.proofs.Performing.{performed_none}
 use Rattle.session_core.proofs.session.Session.perform_aborted.Goals as goal
 
@@ -32,5 +32,5 @@ returns-in_default g c = record {
       c.args.self.now c.args.shared.now.space.now c.requires.block.level c.requires.block.are c.requires.block.aborted)
       (refused_aborted _ _ c.requires.between.keeps (g.met.E.Emit.emits_none c.args.out.now));
   between = c.requires.between;
-  few = tt;
+  few = few_of_one _ c.requires.block.level c.requires.block.are;
 }
