@@ -1,17 +1,20 @@
 -- Behind the end of a level the session stands.
-use Rattle.std.proofs.Common.{◌≡◌, ℕ, ◌<◌, false, List, [], ◌∷◌, length, IfSome, refl, sym, ◌∙◌, ap, subst, arith}
+use Rattle.std.proofs.Common.{◌≡◌, ℕ, ◌+◌, ◌++◌, ◌<◌, ◌≤◌, false, List, [], ◌∷◌, length, IfSome, refl, sym, ◌∙◌, ap, subst, arith, length-append}
 use Rattle.pgs_step.specs.declared.errors.Error.{Error}
 use Rattle.pgs_step.specs.declared.events.What.{What}
 use Rattle.session_rules.specs.State.{LevelState, first_of, is_aborted}
 use Rattle.session_rules.specs.World.{Scene}
 use Rattle.session_rules.specs.Acts.{in_order}
 use Rattle.session_rules.specs.Ends.{aborted, cleaned_up, committed, recovered}
-use Rattle.session_rules.specs.Standing.{IsOpen, Stands}
+use Rattle.session_rules.specs.Standing.{IsOpen, Stands, StandsBetweenLines}
 use Rattle.session_rules.proofs.EndsStand.{aborted_stands, cleaned_up_stands, committed_stands, recovered_stands}
 use Rattle.session_rules.proofs.StepsStand.{settled_as}
+use Rattle.subxact_stack.specs.declared.levels.Level.{Level}
+use Rattle.subxact_stack.specs.Levels.{with_deepest}
 use Rattle.session_store.specs.State.{StoreState, levels_of, scene_of, session_of}
 use Rattle.session_store.specs.Calls.{Acted, Keeps}
 use Rattle.session_store.proofs.Deepest.{levels_long}
+use Rattle.session_core.specs.Lines.{IsBetweenLines}
 use Rattle.session_core.specs.Performed.{Ends, IsBetweenSteps, Now}
 use Rattle.session_core.proofs.Exited.{rolled_stands, stood}
 
@@ -79,14 +82,33 @@ module _ (a b : Now) (P : List What → Type 0) (between : IsBetweenSteps a) (ke
       go [] are = tt
       go (l ∷ ls) are = λ active open_level. abort_of l ls are active open_level acted
 
--- and behind a recovery
-pub recovery_between : (error : Error) (a b : Now) (P : List What → Type 0) → IsBetweenSteps a → Ends (recovered error) a b P → IsBetweenSteps b
-recovery_between error a b P between did = record {
+-- behind a recovery the session stands between two lines
+pub recovery_lines : (error : Error) (a b : Now) (P : List What → Type 0) → IsBetweenSteps a → Ends (recovered error) a b P → length b.store.levels ≤ 1 → IsBetweenLines b
+recovery_lines error a b P between did few = record {
   keeps = did.keeps;
-  stands = stood (recovered error) a.store b.store a.space b.space a.shelf b.shelf P did.acted
-      (λ around. let left = recovered_stands error (scene_of a.store a.space a.shelf around) (between.stands around) in left.stands);
+  stands = λ around. subst StandsBetweenLines (did.acted.leads around) (recovered_stands error (scene_of a.store a.space a.shelf around) (between.stands around));
+  few = few;
 }
 
 -- a session is seen as its store
 pub between_of : (store v : StoreState) → store ≡ v → (a : StoreState → Now) → IsBetweenSteps (a v) → IsBetweenSteps (a store)
 between_of store v is a h = subst (λ (z : StoreState). IsBetweenSteps (a z)) (sym is) h
+
+-- a level fewer, where there was one at most
+pub few_left : (store v : StoreState) (left : List Level) (l : Level) → store ≡ v → length v.levels ≤ 1 → store.levels ≡ left ++ l ∷ [] → length left ≤ 1
+few_left store v left l is few left_is =
+    let long : length store.levels ≡ length left + 1 = ap (λ (ls : List Level). length ls) left_is ∙ length-append left (l ∷ []) in
+    let same : length store.levels ≡ length v.levels = ap (λ (a : StoreState). length a.levels) is in
+    omega (arith, long, same, few)
+
+deepest_long : (change : Level → Level) (levels : List Level) → length (with_deepest change levels) ≡ length levels
+deepest_long change [] = refl
+deepest_long change (l ∷ []) = refl
+deepest_long change (l ∷ k ∷ levels) = let rest = deepest_long change (k ∷ levels) in omega (arith, rest)
+
+-- as many levels, of which the deepest is another one
+pub few_changed : (store v : StoreState) (change : Level → Level) → store ≡ v → length v.levels ≤ 1 → length (with_deepest change store.levels) ≤ 1
+few_changed store v change is few =
+    let same : length store.levels ≡ length v.levels = ap (λ (a : StoreState). length a.levels) is in
+    let long = deepest_long change store.levels in
+    omega (arith, long, same, few)

@@ -19,3 +19,4 @@ pub mod Pinning
 pub mod Between
 pub mod BetweenLines
 pub mod Depth
+pub mod Turning

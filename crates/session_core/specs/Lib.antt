@@ -3,4 +3,5 @@ pub mod Answers
 pub mod Performed
 pub mod Works
 pub mod Lines
+pub mod Turns
 pub mod Begun

@@ -9,6 +9,7 @@ ghost use Rattle.session_rules.specs.Elements as element;
 ghost use Rattle.session_store.specs.State.{levels_of};
 ghost use Rattle.subxact_stack.specs.declared.levels.Level.{Level as ALevel};
 ghost use Rattle.subxact_stack.specs.Levels.{with_deepest};
+ghost use Rattle.session_core.specs.Lines.{IsBetweenLines};
 ghost use Rattle.session_core.specs.Performed.{now, Ends, IsBetweenSteps, Performed};
 
 use crate::session::Session;
@@ -67,7 +68,7 @@ impl<H: ResetHook> Session<H> {
         requires between { IsBetweenSteps (now self.old shared.old) }
         requires levels { length self.old.levels ≤ 1 }
         ensures did { Ends (recovered error) (now self.old shared.old) (now self.new shared.new) (λ events. E.emits out.old events out.new) }
-        ensures between { IsBetweenSteps (now self.new shared.new) }
+        ensures lines { IsBetweenLines (now self.new shared.new) }
     {
         out.emit(What::Error(error));
         let Some(level) = self.store.deepest_level() else {

@@ -11,6 +11,7 @@ mod perform;
 mod session;
 mod shared;
 mod transactions;
+mod turns;
 mod work;
 
 pub use calls::Calls;
