@@ -20,3 +20,4 @@ pub mod Between
 pub mod BetweenLines
 pub mod Depth
 pub mod Turning
+pub mod Opened

@@ -17,3 +17,6 @@ mod work;
 pub use calls::Calls;
 pub use session::{Session, StartError};
 pub use shared::Shared;
+
+#[cfg(test)]
+mod tests;

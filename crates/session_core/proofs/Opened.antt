@@ -1,0 +1,50 @@
+-- What a caller needs that performs one line after another: where a session starts, and the room that a line leaves.
+use Rattle.std.proofs.Common.{◌≡◌, ℕ, ◌+◌, ◌*◌, ◌<◌, [], refl, ap, arith}
+use Rattle.addr_space.specs.Space.{Space, held}
+use Rattle.session_rules.specs.State.{SessionState, opening}
+use Rattle.session_store.specs.State.{session_of}
+use Rattle.session_store.specs.Calls.{Keeps, StandsIn}
+use Rattle.session_core.specs.Lines.{IsBetweenLines}
+use Rattle.session_core.specs.Performed.{Grows, HasRoom, Now, most_count}
+use Rattle.session_core.proofs.BetweenLines.{opened_levels}
+
+-- Lines in turn, each of which raises the counters by 5 at most.
+pub room_before : (i n : ℕ) (a b : Now) → i < n → HasRoom (5 * n) a → Grows (5 * i) a b → HasRoom 5 b
+room_before i n a b l h g = record {
+  contexts = omega (arith, l, h.contexts, g.contexts);
+  owners = omega (arith, l, h.owners, g.owners);
+  serials = omega (arith, l, h.serials, g.serials);
+  calls = omega (arith, l, h.calls, g.calls);
+}
+
+pub grows_once_more : (i : ℕ) (a b c : Now) → Grows (5 * i) a b → Grows 5 b c → Grows (5 * (i + 1)) a c
+grows_once_more i a b c g h = record {
+  contexts = omega (arith, g.contexts, h.contexts);
+  owners = omega (arith, g.owners, h.owners);
+  serials = omega (arith, g.serials, h.serials);
+  calls = omega (arith, g.calls, h.calls);
+}
+
+-- A session as it opens is between two lines, and has room.
+pub opened_lines : (a : Now) → session_of a.store a.space ≡ opening → Keeps a.store a.space → StandsIn a.store a.space a.shelf → IsBetweenLines a
+unfolding session_of
+opened_lines a e keeps stands =
+    let none : a.store.levels ≡ [] = opened_levels a.store a.space e in
+    record {
+      keeps = keeps;
+      stands = λ around. record { stands = stands around; open_levels = rw (none) tt };
+      few = rw (none) (omega arith);
+    }
+
+pub none_held : (s : Space) (account : ℕ) → s.regions ≡ [] → held s account ≡ 0
+unfolding held
+none_held s account e = rw (e) refl
+
+pub opened_room : (k : ℕ) (a : Now) → session_of a.store a.space ≡ opening → a.calls.count ≡ 0 → k + 6 < most_count → HasRoom k a
+unfolding session_of opening
+opened_room k a e none l = record {
+  contexts = omega (arith, l, ap (λ (s : SessionState). s.next_context) e);
+  owners = omega (arith, l, ap (λ (s : SessionState). s.next_owner) e);
+  serials = omega (arith, l, ap (λ (s : SessionState). s.next_serial) e);
+  calls = omega (arith, l, none);
+}
