@@ -28,3 +28,4 @@ pub mod Beside
 pub mod Placing
 pub mod Opening
 pub mod Rooms
+pub mod Tried

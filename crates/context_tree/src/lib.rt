@@ -6,3 +6,6 @@ mod reporting;
 mod tree;
 
 pub use tree::ContextTree;
+
+#[cfg(test)]
+mod tests;
