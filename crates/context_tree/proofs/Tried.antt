@@ -1,12 +1,14 @@
 -- What calls leave of the hooks that wait, and of the sums of a report.
-use Rattle.std.proofs.Common.{◌≡◌, ℕ, ◌^◌, ◌<◌, Bool, true, false, List, [], ◌∷◌, ◌++◌, Option, Some, None, Result, Ok, Err, refl, sym, ap, ◌∙◌, subst, arith}
+use Rattle.std.proofs.Common.{◌≡◌, ◌≢◌, ℕ, ◌+◌, ◌^◌, ◌<◌, Bool, true, false, List, [], ◌∷◌, ◌++◌, Option, Some, None, Result, Ok, Err, refl, sym, ap, ◌∙◌, subst, arith}
 use Rattle.std.specs.Prelude.{if◌then◌else◌, ◌==◌}
 use Rattle.std.specs.Option.{option_map_or}
+use Rattle.std.proofs.lemmas.List.Elements.{All-cons, All-head, All-tail}
 use Rattle.chunk_header.specs.Answers.{Taken}
 use Rattle.chunk_header.specs.declared.CtxError.{CtxError}
 use Rattle.forest.specs.Forest.{Forest, Empty, Node, changed, put}
-use Rattle.reset_callbacks.specs.Hook.{Hook, AreDistinct}
-use Rattle.reset_callbacks.specs.ShelfState.{ShelfState, held}
+use Rattle.reset_callbacks.specs.Hook.{Hook, AreDistinct, Lacks}
+use Rattle.reset_callbacks.specs.ShelfState.{ShelfState, held, taken}
+use Rattle.reset_callbacks.proofs.ShelfSteps.{differ_taken}
 use Rattle.alloc_set.specs.Ledger as set
 use Rattle.any_ctx.specs.Ledgers.{Ledger, Place, stats}
 use Rattle.any_ctx.specs.declared.any.CtxKind.{CtxKind}
@@ -14,7 +16,7 @@ use Rattle.any_ctx.specs.declared.any.CtxKind.TheVariants.{Default, Small}
 use Rattle.context_report.specs.Lines.{added, no_total}
 use Rattle.context_report.specs.declared.Total.{Total}
 use Rattle.context_rules.specs.Contexts.{Context, Contexts, Found, created, found, new_context}
-use Rattle.context_rules.specs.Chunks.{allocated, from_ok, served, with_chunk, with_changed, written, written_over}
+use Rattle.context_rules.specs.Chunks.{allocated, from_ok, registered, served, with_chunk, with_changed, written, written_over}
 use Rattle.context_rules.specs.Ends.{waiting}
 use Rattle.context_rules.specs.Opening.{opening}
 use Rattle.context_rules.specs.Reports.{IsCountable, summed}
@@ -99,3 +101,31 @@ pub countable_made : (outer inner chunk : List ℕ) (left : ℕ) (p n q m k : �
     → s ≡ opening → t ≡ created p n outer Default false s → u ≡ created q m inner Small false t → v ≡ allocated k left (Some chunk) 100 [] u → IsCountable v
 countable_made outer inner chunk left p n q m k s t u v p1 n6 q6 m7 k7 is made more taken =
     rw (taken, more, made, is, p1, n6, q6, m7, k7) (countable_two outer inner chunk left)
+
+-- two hooks were taken from a shelf and wait at one context
+waits_two : (first second : Hook) (name : List ℕ) → waiting (registered 6 second (registered 6 first (created 1 6 name Default false opening))) ≡ second ∷ first ∷ []
+waits_two first second name = refl
+
+waits_made : (first second : Hook) (name : List ℕ) (p n m : ℕ) (s t u v : Contexts) → p ≡ 1 → n ≡ 6 → m ≡ 6 → s ≡ opening → t ≡ created p n name Default false s → u ≡ registered m first t → v ≡ registered m second u → waiting v ≡ second ∷ first ∷ []
+waits_made first second name p n m s t u v p1 n6 m6 is made more last = rw (last, more, made, is, p1, n6, m6) (waits_two first second name)
+
+pub two_fit : (first second : Hook) (x y z : ShelfState) (v : Contexts) → waiting v ≡ second ∷ first ∷ [] → x.fresh ≡ first ∷ y.fresh → y ≡ taken x → y.fresh ≡ second ∷ z.fresh → z ≡ taken y → AreDistinct (held x) → HooksFit v z
+two_fit first second x y z v waits before after again now differ =
+    let d = differ_taken x y first after before differ in
+    let e = differ_taken y z second now again d.1 in
+    let is : held y ≡ second ∷ held z = ap (λ (hooks : List Hook). hooks ++ y.spent) again ∙ ap (λ (hooks : List Hook). second ∷ (z.fresh ++ hooks)) (sym (ap (λ (q : ShelfState). q.spent) now)) in
+    let lacks : Lacks (second ∷ held z) first.word = subst (λ (hooks : List Hook). Lacks hooks first.word) is d.0 in
+    let one : y.out ≡ x.out + 1 = ap (λ (q : ShelfState). q.out) after in
+    let two : z.out ≡ y.out + 1 = ap (λ (q : ShelfState). q.out) now in
+    record {
+      out = rw waits (omega (arith, one, two));
+      words = rw waits (
+        All-cons (λ (other : Hook). other.word ≢ second.word) first (held z) (λ same. All-head (λ (other : Hook). other.word ≢ first.word) second (held z) lacks (sym same)) e.0,
+        (All-tail (λ (other : Hook). other.word ≢ first.word) second (held z) lacks, e.1),
+      );
+    }
+
+pub two_wait : (first second : Hook) (x y z : ShelfState) (name : List ℕ) (p n m : ℕ) (s t u v : Contexts) → p ≡ 1 → n ≡ 6 → m ≡ 6 → s ≡ opening → t ≡ created p n name Default false s → u ≡ registered m first t → v ≡ registered m second u
+    → x.fresh ≡ first ∷ y.fresh → y ≡ taken x → y.fresh ≡ second ∷ z.fresh → z ≡ taken y → AreDistinct (held x) → HooksFit v z
+two_wait first second x y z name p n m s t u v p1 n6 m6 is made more last before after again now differ =
+    two_fit first second x y z v (waits_made first second name p n m s t u v p1 n6 m6 is made more last) before after again now differ

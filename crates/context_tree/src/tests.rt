@@ -101,3 +101,50 @@ fn a_tree_is_made_reported_and_deleted(rt: HostRuntime) -> Result<(), Fail> {
     assert_eq!(rt; out.events(), events.as_slice());
     Ok(())
 }
+
+#[test]
+fn callbacks_run_newest_first_before_their_context_goes(rt: HostRuntime) -> Result<(), Fail> {
+    let mut out = EventList::new(rt.alloc(), 20)?;
+    let mut hooks = Vec::new(rt.alloc());
+    hooks.push(CountedHook::new(1))?;
+    hooks.push(CountedHook::new(2))?;
+    let mut shelf = Shelf::new(rt.alloc(), hooks)?;
+    let mut space = Space::new(rt.alloc(), 1, 1_048_576)?;
+    let mut tree: ContextTree<CountedHook> = ContextTree::new(rt.alloc(), 0, &mut space)?;
+    let top = tree.top();
+    let name = own_name(b"p");
+    let at = tree.create(&mut space, top, name, CtxKind::Default, false, &mut out)?;
+    let Some(first) = shelf.take() else {
+        return Err("no hook".into());
+    };
+    let Ok(()) = tree.register(at, first) else {
+        return Err("no memory".into());
+    };
+    let Some(second) = shelf.take() else {
+        return Err("no hook".into());
+    };
+    let Ok(()) = tree.register(at, second) else {
+        return Err("no memory".into());
+    };
+    tree.delete(&mut space, &mut shelf, at, &mut out)?;
+    assert_eq!(rt; shelf.spent(), 2);
+    assert_eq!(rt; space.held(0), 65_536);
+    let events = [
+        What::Create {
+            context: 6,
+            name,
+            parent: 1,
+        },
+        What::Callback {
+            word: 2,
+            context: 6,
+        },
+        What::Callback {
+            word: 1,
+            context: 6,
+        },
+        What::Delete(6),
+    ];
+    assert_eq!(rt; out.events(), events.as_slice());
+    Ok(())
+}
