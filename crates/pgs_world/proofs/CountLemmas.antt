@@ -3,7 +3,9 @@ use Rattle.std.proofs.Common.{◌≡◌, ℕ, List, ◌++◌, Option, Some, None
 use Rattle.std.specs.Io.KnownBytes.{IsAtEnd, prepend_known}
 use Rattle.pgs_io.specs.Lines.{lines_of}
 use Rattle.pgs_world.specs.declared.program.Outcome.{Outcome}
-use Rattle.pgs_world.specs.Transcript.{transcript, errors_in}
+use Rattle.reset_callbacks.specs.ShelfState.{ShelfState}
+use Rattle.session_rules.specs.Transcript.{errors_in}
+use Rattle.pgs_world.specs.Transcript.{Setting, transcript}
 use Rattle.pgs_world.specs.Outcome.{IsWhole, CountsErrors}
 
 -- what a source had, where it has nothing left
@@ -14,6 +16,6 @@ all_given taken bytes (Some rest) ended given =
     let same : taken ++ rest ≡ bytes = cc in
     sym (append-nil taken) ∙ ap (λ r. taken ++ r) (sym ended) ∙ same
 
-pub whole_counts : (outcome : Outcome) (left left' written written' : Option (List ℕ)) → IsWhole outcome left left' written written' → CountsErrors outcome left
-whole_counts outcome left left' written written' whole bytes is =
-    whole.errors ∙ ap (λ b. errors_in (transcript None (lines_of b))) (all_given whole.bytes bytes left' whole.at_end (sym whole.given ∙ is))
+pub whole_counts : (setting : Setting) (outcome : Outcome) (left left' written written' : Option (List ℕ)) (shelf' : ShelfState) → IsWhole setting outcome left left' written written' shelf' → CountsErrors setting outcome left
+whole_counts setting outcome left left' written written' shelf' whole bytes is =
+    whole.errors ∙ ap (λ b. errors_in (transcript setting None (lines_of b))) (all_given whole.bytes bytes left' whole.at_end (sym whole.given ∙ is))

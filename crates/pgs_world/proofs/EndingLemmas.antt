@@ -7,21 +7,29 @@ use Rattle.std.proofs.lemmas.List.{take_all}
 use Rattle.std.specs.Io.KnownBytes.{append_known, IsAtEnd}
 use Rattle.pgs_io.specs.Faults.{HasRisen}
 use Rattle.pgs_io.specs.Lines.{lines_of, ended_lines, onto_first, onto_ended, newline}
+use Rattle.pgs_step.specs.declared.events.Event.{Event}
 use Rattle.pgs_step.specs.declared.events.What.{What}
+use Rattle.addr_space.specs.Space.{Space}
+use Rattle.reset_callbacks.specs.ShelfState.{ShelfState}
+use Rattle.session_rules.specs.Acts.{Ended}
+use Rattle.session_rules.specs.Ends.{exited}
+use Rattle.session_rules.specs.Transcript.{Course, course_by, ended, errors_in, exits, of_session, transcript_by}
+use Rattle.session_rules.specs.World.{Scene, World, around}
+use Rattle.session_store.specs.State.{StoreState, session_of}
+use Rattle.session_core.specs.Answers.{Fits}
+use Rattle.session_core.specs.Performed.{Ends, Now, scene_in}
 use Rattle.pgs_world.specs.declared.performing.End.{End}
 use Rattle.pgs_world.specs.declared.performing.End.TheVariants as end
-use Rattle.pgs_world.specs.Session.{World, exited}
-use Rattle.pgs_world.specs.Answers.{Fits}
-use Rattle.pgs_world.specs.Transcript.{Course, course_of, transcript, errors_in, text_of_transcript, EndsAt}
-use Rattle.pgs_step.specs.Text.{texts_of}
-use Rattle.pgs_world.specs.Printing.{Gathering, Prints, Moves, GoesOn, FailsWithin}
+use Rattle.pgs_world.specs.Transcript.{Setting, course_of, shelf_after, transcript, text_of_transcript, EndsAt}
+use Rattle.pgs_world.specs.World.{world_in}
+use Rattle.pgs_world.specs.Printing.{Gathering, Shows, Moves, GoesOn, FailsWithin}
 use Rattle.pgs_world.specs.Outcome.{most_bytes, HasGiven, AreWhole, refused_call, IsWhole, IsWanted, IsCutOff, IsTooLong, IsUnwritten}
 use Rattle.pgs_world.specs.Ending.{outcome_of, status_of}
 use Rattle.pgs_world.specs.Loop.{EndIs, AreFront, CourseAt, is_wanted, OnUnwritten}
 use Rattle.pgs_world.proofs.CourseLemmas.{course_of-stopped}
 
 -- What a sink and the counts show once these events were printed and handed on.
-pub record Printed (written written' : Option (List ℕ)) (faults faults' errors : ℕ) (failed : Bool) (events : List What) : Type 0 where
+pub record Printed (written written' : Option (List ℕ)) (faults faults' errors : ℕ) (failed : Bool) (events : List Event) : Type 0 where
   pub text : failed ≡ false → written' ≡ append_known written (text_of_transcript events)
   pub no_fault : failed ≡ false → faults' ≡ faults
   pub front : failed ≡ true → (front rest : List ℕ) × (front ++ rest ≡ text_of_transcript events) × (written' ≡ append_known written front)
@@ -39,12 +47,12 @@ moves_failed false false old new text a b m = absurd (cc)
 moves_failed true g old new text a b m = absurd (cc)
 
 -- a printer that had printed nothing, and has handed all on
-pub printed_all : (old new : Gathering) (events : List What) → Prints old events new → old.gathered ≡ [] → old.failed ≡ false → old.errors ≡ 0 → old.session ≡ 1
+pub printed_all : (old new : Gathering) (events : List Event) → Shows old events new → old.gathered ≡ [] → old.failed ≡ false → old.errors ≡ 0
     → (new.failed ≡ false → new.gathered ≡ []) → new.errors < 2 ^ 64 → errors_in events < 2 ^ 64
     → Printed old.written new.written old.faults new.faults new.errors new.failed events
-printed_all old new events p empty going none one emptied small few =
+printed_all old new events p empty going none emptied small few =
     let texts : List ℕ = text_of_transcript events in
-    let moves : Moves old.failed new.failed old new texts = subst (λ (s : ℕ). Moves old.failed new.failed old new (texts_of [] s events)) one p.bytes in
+    let moves : Moves old.failed new.failed old new texts = p.bytes in
     record {
       text = λ f.
           let m = moves_on old.failed new.failed old new texts going f moves in
@@ -57,6 +65,11 @@ printed_all old new events p empty going none one emptied small few =
       risen = λ f. (moves_failed old.failed new.failed old new texts going f moves).risen;
       errors_are = omega (arith, p.errors, none, small, few);
     }
+
+-- the same of other names for what is printed
+pub printed_told : {K : Type 0} (written : K → Option (List ℕ)) (faults : K → ℕ) (a a' b b' : K) (errors errors' : ℕ) (failed failed' : Bool) (events : List Event)
+    → a' ≡ a → b ≡ b' → errors ≡ errors' → failed ≡ failed' → Printed (written a') (written b') (faults a') (faults b') errors' failed' events → Printed (written a) (written b) (faults a) (faults b) errors failed events
+printed_told written faults a a' b b' errors errors' failed failed' events e f h k p = rw (← e, f, h, k) p
 
 -- the lines whose newline stands in a text are the first lines of the text, whatever follows it
 pub ended_front : (bytes behind : List ℕ) → (more : List (List ℕ)) × (lines_of (bytes ++ behind) ≡ ended_lines bytes ++ more)
@@ -83,13 +96,14 @@ status_one : (errors m : ℕ) → errors ≡ m → (status_of end.Whole false er
 status_one errors m e = (λ h. grind (arith, nat_tests), λ h. grind (arith, nat_tests))
 
 -- All that is known of a script that was played: how the reading ended, and what was printed.
-pub record Facts (e : End) (n calls errors : ℕ) (failed : Bool) (left left' written written' : Option (List ℕ)) (faults faults' : ℕ) : Type 0 where
+pub record Facts (setting : Setting) (e : End) (n calls errors : ℕ) (failed : Bool) (left left' written written' : Option (List ℕ)) (faults faults' : ℕ) (shelf' : ShelfState) : Type 0 where
   pub bytes : List ℕ
   pub lines : List (List ℕ)
   pub how : EndIs e bytes lines left left'
   pub count : n ≡ length lines
-  pub printed : (w : Option ℕ) → Fits (is_wanted e) calls w → Printed written written' faults faults' errors failed (transcript w lines)
-  pub stopped : is_wanted e ≡ true → EndsAt calls lines n
+  pub printed : (w : Option ℕ) → Fits (is_wanted e) calls w → Printed written written' faults faults' errors failed (transcript setting w lines)
+  pub hooks : (w : Option ℕ) → Fits (is_wanted e) calls w → shelf' ≡ shelf_after setting w lines
+  pub stopped : is_wanted e ≡ true → EndsAt setting calls lines n
   pub called : is_wanted e ≡ true → 0 < calls
   pub silent : OnUnwritten e (failed ≡ true)
 
@@ -164,19 +178,22 @@ first_lines : (n : ℕ) (lines more all : List (List ℕ)) → n ≡ length line
 first_lines n lines more all c e = ap (λ (k : ℕ). take k all) c ∙ ap (take (length lines)) e ∙ take-append_seam lines more
 
 -- lines behind the one that met a want of memory change nothing
-transcript-stopped : (calls : ℕ) (lines more : List (List ℕ)) → (course_of (Some calls) lines).wanted ≡ true → transcript (Some calls) (lines ++ more) ≡ transcript (Some calls) lines
-unfolding transcript
-transcript-stopped calls lines more h =
-    ap (λ (c : Course). c.events ++ (exited c.world.session).events) (course_of-stopped (Some calls) lines more h)
+transcript-stopped : (setting : Setting) (calls : ℕ) (lines more : List (List ℕ)) → (course_of setting (Some calls) lines).wanted ≡ true → transcript setting (Some calls) (lines ++ more) ≡ transcript setting (Some calls) lines
+unfolding transcript transcript_by course_of
+transcript-stopped setting calls lines more h = ap (λ (c : Course). (ended c).events) (course_of-stopped setting (Some calls) lines more h)
 
-module _ (n calls errors : ℕ) (left left' written written' : Option (List ℕ)) (faults faults' : ℕ) where
+shelf-stopped : (setting : Setting) (calls : ℕ) (lines more : List (List ℕ)) → (course_of setting (Some calls) lines).wanted ≡ true → shelf_after setting (Some calls) (lines ++ more) ≡ shelf_after setting (Some calls) lines
+unfolding shelf_after
+shelf-stopped setting calls lines more h = ap (λ (c : Course). (ended c).world.shelf) (course_of-stopped setting (Some calls) lines more h)
+
+module _ (setting : Setting) (n calls errors : ℕ) (left left' written written' : Option (List ℕ)) (faults faults' : ℕ) (shelf' : ShelfState) where
   abbrev At : End → Bool → Type 0
-  At e failed = Facts e n calls errors failed left left' written written' faults faults'
+  At e failed = Facts setting e n calls errors failed left left' written written' faults faults' shelf'
 
-  whole_of : At end.Whole false → IsWhole (outcome_of (record { end = end.Whole; lines = n }) calls false errors) left left' written written'
+  whole_of : At end.Whole false → IsWhole setting (outcome_of (record { end = end.Whole; lines = n }) calls false errors) left left' written written' shelf'
   whole_of f =
-      let none : Printed written written' faults faults' errors false (transcript None f.lines) = f.printed None tt in
-      let told : Printed written written' faults faults' errors false (transcript None (lines_of f.bytes)) = subst (λ (z : List (List ℕ)). Printed written written' faults faults' errors false (transcript None z)) f.how.3 none in
+      let none : Printed written written' faults faults' errors false (transcript setting None f.lines) = f.printed None tt in
+      let told : Printed written written' faults faults' errors false (transcript setting None (lines_of f.bytes)) = subst (λ (z : List (List ℕ)). Printed written written' faults faults' errors false (transcript setting None z)) f.how.3 none in
       record {
         bytes = f.bytes;
         given = f.how.0;
@@ -185,10 +202,11 @@ module _ (n calls errors : ℕ) (left left' written written' : Option (List ℕ)
         lines = f.count ∙ ap length f.how.3;
         text = told.text refl;
         errors = told.errors_are;
-        status = status_one errors (errors_in (transcript None (lines_of f.bytes))) told.errors_are;
+        hooks = f.hooks None tt ∙ ap (shelf_after setting None) f.how.3;
+        status = status_one errors (errors_in (transcript setting None (lines_of f.bytes))) told.errors_are;
       }
 
-  pub whole : (e : End) (failed : Bool) → At e failed → (status_of e failed errors ≡ 0) ⊎ (status_of e failed errors ≡ 1) → IsWhole (outcome_of (record { end = e; lines = n }) calls failed errors) left left' written written'
+  pub whole : (e : End) (failed : Bool) → At e failed → (status_of e failed errors ≡ 0) ⊎ (status_of e failed errors ≡ 1) → IsWhole setting (outcome_of (record { end = e; lines = n }) calls failed errors) left left' written written' shelf'
   whole end.Whole false f h = whole_of f
   whole end.Wanted false f h = absurd (no_other 5 (omega arith) h)
   whole end.SourceFault false f h = absurd (no_other 3 (omega arith) h)
@@ -196,35 +214,35 @@ module _ (n calls errors : ℕ) (left left' written written' : Option (List ℕ)
   whole end.Unwritten false f h = absurd (no_other 4 (omega arith) h)
   whole e true f h = absurd (no_other 4 (omega arith) h)
 
-  pub cut_off : (e : End) (failed : Bool) → At e failed → status_of e failed errors ≡ 3 → IsCutOff (outcome_of (record { end = e; lines = n }) calls failed errors) left left' written written'
+  pub cut_off : (e : End) (failed : Bool) → At e failed → status_of e failed errors ≡ 3 → IsCutOff setting (outcome_of (record { end = e; lines = n }) calls failed errors) left left' written written' shelf'
   cut_off end.SourceFault false f h =
-      let none : Printed written written' faults faults' errors false (transcript None f.lines) = f.printed None tt in
-      let told : Printed written written' faults faults' errors false (transcript None (ended_lines f.bytes)) = subst (λ (z : List (List ℕ)). Printed written written' faults faults' errors false (transcript None z)) f.how.2 none in
-      record { bytes = f.bytes; given = f.how.0; short = f.how.1; lines = f.count ∙ ap length f.how.2; text = told.text refl; errors = told.errors_are }
+      let none : Printed written written' faults faults' errors false (transcript setting None f.lines) = f.printed None tt in
+      let told : Printed written written' faults faults' errors false (transcript setting None (ended_lines f.bytes)) = subst (λ (z : List (List ℕ)). Printed written written' faults faults' errors false (transcript setting None z)) f.how.2 none in
+      record { bytes = f.bytes; given = f.how.0; short = f.how.1; lines = f.count ∙ ap length f.how.2; text = told.text refl; errors = told.errors_are; hooks = f.hooks None tt ∙ ap (shelf_after setting None) f.how.2 }
   cut_off end.Whole false f h = absurd (not_by_errors errors 3 (omega arith) h)
   cut_off end.Wanted false f h = absurd (omega (arith, h))
   cut_off end.TooLong false f h = absurd (omega (arith, h))
   cut_off end.Unwritten false f h = absurd (omega (arith, h))
   cut_off e true f h = absurd (omega (arith, h))
 
-  pub too_long : (e : End) (failed : Bool) → At e failed → status_of e failed errors ≡ 6 → IsTooLong (outcome_of (record { end = e; lines = n }) calls failed errors) left left' written written'
+  pub too_long : (e : End) (failed : Bool) → At e failed → status_of e failed errors ≡ 6 → IsTooLong setting (outcome_of (record { end = e; lines = n }) calls failed errors) left left' written written' shelf'
   too_long end.TooLong false f h =
-      let none : Printed written written' faults faults' errors false (transcript None f.lines) = f.printed None tt in
-      let told : Printed written written' faults faults' errors false (transcript None (ended_lines f.bytes)) = subst (λ (z : List (List ℕ)). Printed written written' faults faults' errors false (transcript None z)) f.how.3 none in
-      record { bytes = f.bytes; over = f.how.0; given = f.how.1; full = f.how.2; lines = f.count ∙ ap length f.how.3; text = told.text refl; errors = told.errors_are }
+      let none : Printed written written' faults faults' errors false (transcript setting None f.lines) = f.printed None tt in
+      let told : Printed written written' faults faults' errors false (transcript setting None (ended_lines f.bytes)) = subst (λ (z : List (List ℕ)). Printed written written' faults faults' errors false (transcript setting None z)) f.how.3 none in
+      record { bytes = f.bytes; over = f.how.0; given = f.how.1; full = f.how.2; lines = f.count ∙ ap length f.how.3; text = told.text refl; errors = told.errors_are; hooks = f.hooks None tt ∙ ap (shelf_after setting None) f.how.3 }
   too_long end.Whole false f h = absurd (not_by_errors errors 6 (omega arith) h)
   too_long end.Wanted false f h = absurd (omega (arith, h))
   too_long end.SourceFault false f h = absurd (omega (arith, h))
   too_long end.Unwritten false f h = absurd (omega (arith, h))
   too_long e true f h = absurd (omega (arith, h))
 
-  pub wanted : (e : End) (failed : Bool) → At e failed → status_of e failed errors ≡ 5 → IsWanted (outcome_of (record { end = e; lines = n }) calls failed errors) left left' written written'
+  pub wanted : (e : End) (failed : Bool) → At e failed → status_of e failed errors ≡ 5 → IsWanted setting (outcome_of (record { end = e; lines = n }) calls failed errors) left left' written written' shelf'
   wanted end.Wanted false f h =
-      let some : Printed written written' faults faults' errors false (transcript (Some calls) f.lines) = f.printed (Some calls) refl in
-      let at : EndsAt calls f.lines n = f.stopped refl in
-      let same : transcript (Some calls) (lines_of f.bytes) ≡ transcript (Some calls) f.lines = ap (transcript (Some calls)) f.how.front ∙ transcript-stopped calls f.lines f.how.more at.wanted in
-      let course : course_of (Some calls) (lines_of f.bytes) ≡ course_of (Some calls) f.lines = ap (course_of (Some calls)) f.how.front ∙ course_of-stopped (Some calls) f.lines f.how.more at.wanted in
-      let told : Printed written written' faults faults' errors false (transcript (Some calls) (lines_of f.bytes)) = subst (λ (z : List What). Printed written written' faults faults' errors false z) (sym same) some in
+      let some : Printed written written' faults faults' errors false (transcript setting (Some calls) f.lines) = f.printed (Some calls) refl in
+      let at : EndsAt setting calls f.lines n = f.stopped refl in
+      let same : transcript setting (Some calls) (lines_of f.bytes) ≡ transcript setting (Some calls) f.lines = ap (transcript setting (Some calls)) f.how.front ∙ transcript-stopped setting calls f.lines f.how.more at.wanted in
+      let course : course_of setting (Some calls) (lines_of f.bytes) ≡ course_of setting (Some calls) f.lines = ap (course_of setting (Some calls)) f.how.front ∙ course_of-stopped setting (Some calls) f.lines f.how.more at.wanted in
+      let told : Printed written written' faults faults' errors false (transcript setting (Some calls) (lines_of f.bytes)) = subst (λ (z : List Event). Printed written written' faults faults' errors false z) (sym same) some in
       record {
         bytes = f.bytes;
         given = f.how.given;
@@ -233,6 +251,7 @@ module _ (n calls errors : ℕ) (left left' written written' : Option (List ℕ)
         defined = record { wanted = ap (λ (c : Course). c.wanted) course ∙ at.wanted; line_is = ap (λ (c : Course). c.performed) course ∙ at.line_is };
         text = told.text refl;
         errors = told.errors_are;
+        hooks = f.hooks (Some calls) refl ∙ sym (ap (shelf_after setting (Some calls)) f.how.front ∙ shelf-stopped setting calls f.lines f.how.more at.wanted);
       }
   wanted end.Whole false f h = absurd (not_by_errors errors 5 (omega arith) h)
   wanted end.SourceFault false f h = absurd (omega (arith, h))
@@ -256,7 +275,7 @@ module _ (n calls errors : ℕ) (left left' written written' : Option (List ℕ)
   fits_of end.TooLong f = tt
   fits_of end.Unwritten f = tt
 
-  stopped_of : (e : End) → At e true → (lines : List (List ℕ)) → EndsAt calls lines n → 0 < (outcome_of (record { end = e; lines = n }) calls true errors).call → EndsAt (outcome_of (record { end = e; lines = n }) calls true errors).call lines n
+  stopped_of : (e : End) → At e true → (lines : List (List ℕ)) → EndsAt setting calls lines n → 0 < (outcome_of (record { end = e; lines = n }) calls true errors).call → EndsAt setting (outcome_of (record { end = e; lines = n }) calls true errors).call lines n
   stopped_of end.Wanted f lines s h = s
   stopped_of end.Whole f lines s h = absurd (omega (arith, h))
   stopped_of end.SourceFault f lines s h = absurd (omega (arith, h))
@@ -278,11 +297,11 @@ module _ (n calls errors : ℕ) (left left' written written' : Option (List ℕ)
   failed_of end.SourceFault false f h = absurd (omega (arith, h))
   failed_of end.TooLong false f h = absurd (omega (arith, h))
 
-  unwritten_at : (e : End) → At e true → IsUnwritten (outcome_of (record { end = e; lines = n }) calls true errors) left left' written written'
+  unwritten_at : (e : End) → At e true → IsUnwritten setting (outcome_of (record { end = e; lines = n }) calls true errors) left left' written written' shelf'
   unwritten_at e f =
       let front = front_of e f.bytes f.lines left left' f.how in
       let w : Option ℕ = refused_call (outcome_of (record { end = e; lines = n }) calls true errors).call in
-      let told : Printed written written' faults faults' errors true (transcript w f.lines) = f.printed w (fits_of e f) in
+      let told : Printed written written' faults faults' errors true (transcript setting w f.lines) = f.printed w (fits_of e f) in
       let same : take n (lines_of front.given) ≡ f.lines = first_lines n f.lines front.more (lines_of front.given) f.count front.front in
       let part = told.front refl in
       record {
@@ -293,13 +312,14 @@ module _ (n calls errors : ℕ) (left left' written written' : Option (List ℕ)
         read = omega (arith, f.count, ap length front.front, length-append f.lines front.more);
         front = part.0;
         rest = part.1;
-        parts = part.2 ∙ ap (λ (z : List (List ℕ)). text_of_transcript (transcript w z)) (sym same);
+        parts = part.2 ∙ ap (λ (z : List (List ℕ)). text_of_transcript (transcript setting w z)) (sym same);
         taken = part.3;
-        defined = λ h. subst (λ (z : List (List ℕ)). EndsAt (outcome_of (record { end = e; lines = n }) calls true errors).call z n) (sym same) (stopped_of e f f.lines (f.stopped (is_wanted_of e h)) h);
-        errors = told.errors_are ∙ ap (λ (z : List (List ℕ)). errors_in (transcript w z)) (sym same);
+        defined = λ h. subst (λ (z : List (List ℕ)). EndsAt setting (outcome_of (record { end = e; lines = n }) calls true errors).call z n) (sym same) (stopped_of e f f.lines (f.stopped (is_wanted_of e h)) h);
+        errors = told.errors_are ∙ ap (λ (z : List (List ℕ)). errors_in (transcript setting w z)) (sym same);
+        hooks = f.hooks w (fits_of e f) ∙ ap (λ (z : List (List ℕ)). shelf_after setting w z) (sym same);
       }
 
-  pub unwritten : (e : End) (failed : Bool) → At e failed → status_of e failed errors ≡ 4 → IsUnwritten (outcome_of (record { end = e; lines = n }) calls failed errors) left left' written written'
+  pub unwritten : (e : End) (failed : Bool) → At e failed → status_of e failed errors ≡ 4 → IsUnwritten setting (outcome_of (record { end = e; lines = n }) calls failed errors) left left' written written' shelf'
   unwritten e true f h = unwritten_at e f
   unwritten e false f h = absurd (let t : false ≡ true = failed_of e false f h in cc)
 
@@ -310,14 +330,36 @@ module _ (n calls errors : ℕ) (left left' written written' : Option (List ℕ)
   sink_grew e true f h = refl
   sink_grew e false f h = let fit = a_fit calls e in absurd (omega (arith, h, (f.printed fit.0 fit.1).no_fault refl))
 
--- the transcript, from the events of the lines and those of the session's end
-pub transcript_events : (w : Option ℕ) (lines : List (List ℕ)) (world : World) (emitted : List What → Type 0) → (course_of w lines).world ≡ world
-    → emitted ((course_of w lines).events ++ (exited world.session).events) → emitted (transcript w lines)
-unfolding transcript
-transcript_events w lines world emitted e h = subst (λ (z : World). emitted ((course_of w lines).events ++ (exited z.session).events)) (sym e) h
+-- the surroundings of the session at its end
+abbrev at_exit : Now → Scene
+at_exit n = scene_in n (around 1 (world_in n))
 
-pub ends_at : (calls n : ℕ) (wanted : Bool) (lines : List (List ℕ)) (world : World) (emitted : List What → Type 0) → wanted ≡ true → CourseAt (course_of (Some calls) lines) world emitted (length lines) wanted → n ≡ length lines → EndsAt calls lines n
-ends_at calls n wanted lines world emitted h c count = record { wanted = c.wanted_is ∙ h; line_is = c.performed_is ∙ sym count }
+-- the session's end behind a course
+events_of_end : (course : Course) (n : Now) → course.world ≡ world_in n → (ended course).events ≡ course.events ++ of_session 1 (exited (at_exit n)).events
+events_of_end course n there =
+    ap (λ (x : World). (exits 1 x.sessions (record { world = x; events = course.events; performed = course.performed; wanted = course.wanted })).events) there
+
+shelf_of_end : (course : Course) (n : Now) → course.world ≡ world_in n → (ended course).world.shelf ≡ (exited (at_exit n)).scene.around.shelf
+shelf_of_end course n there =
+    ap (λ (x : World). (exits 1 x.sessions (record { world = x; events = course.events; performed = course.performed; wanted = course.wanted })).world.shelf) there
+
+-- the transcript, from the events of the lines and those of the session's end
+pub transcript_events : (setting : Setting) (w : Option ℕ) (lines : List (List ℕ)) (a b : Now) (P : List What → Type 0) (emitted : List Event → Type 0) → (course_of setting w lines).world ≡ world_in a
+    → Ends exited a b P → ((ys : List What) → P ys → emitted ((course_of setting w lines).events ++ of_session 1 ys)) → emitted (transcript setting w lines)
+unfolding transcript transcript_by course_of
+transcript_events setting w lines a b P emitted there ends joins =
+    subst emitted (sym (events_of_end (course_of setting w lines) a there)) (joins _ (ends.acted.says (around 1 (world_in a))))
+
+-- the hooks behind the session's end
+pub hooks_of_end : (setting : Setting) (w : Option ℕ) (lines : List (List ℕ)) (a b : Now) (P : List What → Type 0) → (course_of setting w lines).world ≡ world_in a
+    → Ends exited a b P → b.shelf ≡ shelf_after setting w lines
+unfolding shelf_after
+hooks_of_end setting w lines a b P there ends =
+    sym (shelf_of_end (course_of setting w lines) a there ∙ ap (λ (s : Scene). s.around.shelf) (ends.acted.leads (around 1 (world_in a))))
+
+pub ends_at : (setting : Setting) (calls n : ℕ) (wanted : Bool) (lines : List (List ℕ)) (there : Now) (emitted : List Event → Type 0) → wanted ≡ true → CourseAt (course_of setting (Some calls) lines) there emitted (length lines) wanted → n ≡ length lines
+    → EndsAt setting calls lines n
+ends_at setting calls n wanted lines there emitted h c count = record { wanted = c.wanted_is ∙ h; line_is = c.performed_is ∙ sym count }
 
 pub fits_wanted : (wanted : Bool) (calls : ℕ) → wanted ≡ true → Fits wanted calls (Some calls)
 fits_wanted true calls h = refl

@@ -1,12 +1,10 @@
-pub mod AnswerLemmas
+pub mod Calm
 pub mod CountLemmas
 pub mod CourseLemmas
-pub mod ElementLemmas
 pub mod EndingLemmas
 pub mod ErrorLemmas
 pub mod HalfLines
 pub mod LoopLemmas
-pub mod OwnerLemmas
-pub mod TurnLemmas
 pub mod ScriptLemmas
+pub mod StartLemmas
 pub mod WorkedRows

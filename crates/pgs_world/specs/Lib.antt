@@ -1,10 +1,6 @@
 pub mod Script
-pub mod Session
-pub mod Answers
-pub mod Pins
-pub mod Parts
-pub mod WorldCode
 pub mod Transcript
+pub mod World
 pub mod Printing
 pub mod PrintingLaws
 pub mod PrinterView

@@ -3,14 +3,17 @@ use Rattle.std.specs.Prelude.{◌≡◌, ℕ, ◌+◌, ◌*◌, ◌<◌, ◌≤�
 use Rattle.std.specs.Io.KnownBytes.{IsAtEnd}
 use Rattle.pgs_io.specs.Lines.{lines_of, ended_lines}
 use Rattle.pgs_io.specs.Reading.{Reading, HasRead}
-use Rattle.pgs_step.specs.declared.events.What.{What}
+use Rattle.pgs_step.specs.declared.events.Event.{Event}
+use Rattle.addr_space.specs.Space.{held}
+use Rattle.session_rules.specs.Transcript.{Course}
+use Rattle.session_core.specs.Answers.{Fits}
+use Rattle.session_core.specs.Lines.{IsBetweenLines}
+use Rattle.session_core.specs.Performed.{Now}
 use Rattle.pgs_world.specs.declared.performing.End.{End}
 use Rattle.pgs_world.specs.declared.performing.End.TheVariants as end
 use Rattle.pgs_world.specs.declared.performing.Ended.{Ended}
-use Rattle.pgs_world.specs.Session.{World}
-use Rattle.pgs_world.specs.Answers.{Fits}
-use Rattle.pgs_world.specs.Parts.{IsBetweenLines}
-use Rattle.pgs_world.specs.Transcript.{Course, course_of}
+use Rattle.pgs_world.specs.Transcript.{Setting, course_of}
+use Rattle.pgs_world.specs.World.{SameRun, setting_of, world_in}
 use Rattle.pgs_world.specs.Outcome.{HasGiven, most_bytes}
 
 -- whether the end came by a want of memory
@@ -25,29 +28,31 @@ abbrev pub is_wanted_in : Option End → Bool
 is_wanted_in None = false
 is_wanted_in (Some end) = is_wanted end
 
--- A course led to this world by events that were emitted.
-pub record CourseAt (course : Course) (world : World) (emitted : List What → Type 0) (performed : ℕ) (wanted : Bool) : Type 0 where
-  pub world_is : course.world ≡ world
+-- A course led to this run by events that were emitted.
+pub record CourseAt (course : Course) (n : Now) (emitted : List Event → Type 0) (performed : ℕ) (wanted : Bool) : Type 0 where
+  pub world_is : course.world ≡ world_in n
   pub events : emitted course.events
   pub performed_is : course.performed ≡ performed
   pub wanted_is : course.wanted ≡ wanted
 
--- The lines led to this world by events that were emitted, whichever later call is refused for want of memory; or, where they met a want, by the refusal of the last call.
-abbrev pub CoursesAre : Bool → List (List ℕ) → World → (List What → Type 0) → Type 0
-CoursesAre wanted lines world emitted = (w : Option ℕ) → Fits wanted world.calls w → CourseAt (course_of w lines) world emitted (length lines) wanted
+-- The lines led to this run by events that were emitted, whichever later call is refused for want of memory; or, where they met a want, by the refusal of the last call.
+abbrev pub CoursesAre : Setting → Bool → List (List ℕ) → Now → (List Event → Type 0) → Type 0
+CoursesAre setting wanted lines n emitted = (w : Option ℕ) → Fits wanted n.calls.count w → CourseAt (course_of setting w lines) n emitted (length lines) wanted
 
 -- no count of the session is above this bound for so many lines
-pub record IsBounded (lines : ℕ) (world : World) : Type 0 where
-  pub calls : world.calls ≤ 4 * lines + 1
-  pub owners : world.session.next_owner ≤ 4 * lines + 1
-  pub serials : world.session.next_serial ≤ 4 * lines + 1
+pub record IsBounded (lines : ℕ) (n : Now) : Type 0 where
+  pub calls : n.calls.count ≤ 5 * lines + 6
+  pub contexts : n.store.tree.next ≤ 5 * lines + 6
+  pub owners : n.store.owners.next_owner ≤ 5 * lines + 6
+  pub serials : n.store.owners.next_serial ≤ 5 * lines + 6
 
 -- The loop has performed these lines.
-pub record Stands (start now : Option (List ℕ)) (reader : Reading) (world : World) (emitted : List What → Type 0) (lines : List (List ℕ)) : Type 0 where
+pub record Stands (first : Now) (start now : Option (List ℕ)) (reader : Reading) (n : Now) (emitted : List Event → Type 0) (lines : List (List ℕ)) : Type 0 where
   pub read : HasRead most_bytes start now reader lines
-  pub courses : CoursesAre false lines world emitted
-  pub between : IsBetweenLines world.session.level
-  pub bounded : IsBounded (length lines) world
+  pub courses : CoursesAre (setting_of first) false lines n emitted
+  pub between : IsBetweenLines n
+  pub bounded : IsBounded (length lines) n
+  pub same : SameRun first n
 
 -- The bytes that were given have these lines, and perhaps more. Each has its newline among them, or the source is at its end.
 pub record AreFront (bytes : List ℕ) (lines : List (List ℕ)) (before after : Option (List ℕ)) : Type 0 where
@@ -66,13 +71,15 @@ EndIs end.TooLong bytes lines before after = (over : ℕ) × HasGiven (bytes ++ 
 EndIs end.Unwritten bytes lines before after = AreFront bytes lines before after
 
 -- what the loop did
-pub record Performs (ended : Ended) (before after : Option (List ℕ)) (world : World) (emitted : List What → Type 0) : Type 0 where
+pub record Performs (first : Now) (ended : Ended) (before after : Option (List ℕ)) (n : Now) (emitted : List Event → Type 0) : Type 0 where
   pub bytes : List ℕ
   pub lines : List (List ℕ)
-  pub courses : CoursesAre (is_wanted ended.end) lines world emitted
-  pub called : is_wanted ended.end ≡ true → 0 < world.calls
+  pub courses : CoursesAre (setting_of first) (is_wanted ended.end) lines n emitted
+  pub called : is_wanted ended.end ≡ true → 0 < n.calls.count
   pub count : ended.lines ≡ length lines
   pub how : EndIs ended.end bytes lines before after
+  pub between : IsBetweenLines n
+  pub same : SameRun first n
 
 -- the ends that a line leads to
 abbrev pub IsLineEnd : End → Bool → Type 0

@@ -3,11 +3,19 @@ use Rattle.std.specs.Prelude.{◌≡◌, ℕ, ◌+◌, ◌^◌, ◌<◌, ◌≤�
 use Rattle.std.specs.Io.KnownBytes.{prepend_known, append_known, IsAtEnd}
 use Rattle.pgs_io.specs.Lines.{lines_of, ended_lines}
 use Rattle.pgs_world.specs.declared.program.Outcome.{Outcome}
-use Rattle.pgs_world.specs.Transcript.{transcript, text_of_transcript, errors_in, EndsAt}
+use Rattle.reset_callbacks.specs.ShelfState.{ShelfState}
+use Rattle.pgs_options.specs.Options.{options_of}
+use Rattle.pgs_options.specs.declared.options.Options.{Options}
+use Rattle.session_rules.specs.Transcript.{errors_in}
+use Rattle.pgs_world.specs.Transcript.{Setting, transcript, shelf_after, text_of_transcript, EndsAt}
 
 -- the most bytes that a script has
 abbrev pub most_bytes : ℕ
 most_bytes = 2 ^ 24
+
+-- the words of the command line ask for this
+abbrev pub AskFor : List (List ℕ) → Options → Type 0
+AskFor words options = options_of words ≡ Some options
 
 -- what refused words are answered with
 abbrev pub usage_line : List ℕ
@@ -18,63 +26,67 @@ abbrev pub HasGiven : List ℕ → Option (List ℕ) → Option (List ℕ) → T
 HasGiven taken before after = before ≡ prepend_known taken after
 
 -- A sink that had taken `before` took the transcript of these lines besides, where w is the fallible call that was refused for want of memory, if any.
-abbrev pub HasWritten : Option ℕ → List (List ℕ) → Option (List ℕ) → Option (List ℕ) → Type 0
-HasWritten w lines before after = after ≡ append_known before (text_of_transcript (transcript w lines))
+abbrev pub HasWritten : Setting → Option ℕ → List (List ℕ) → Option (List ℕ) → Option (List ℕ) → Type 0
+HasWritten setting w lines before after = after ≡ append_known before (text_of_transcript (transcript setting w lines))
 
--- Status 0 or 1: all of the source was read, and its whole transcript was written.
-pub record IsWhole (outcome : Outcome) (left left' written written' : Option (List ℕ)) : Type 0 where
+-- Status 0 or 1: all of the source was read, and its whole transcript was written. The hooks are those that the rules leave.
+pub record IsWhole (setting : Setting) (outcome : Outcome) (left left' written written' : Option (List ℕ)) (shelf' : ShelfState) : Type 0 where
   pub bytes : List ℕ
   pub given : HasGiven bytes left left'
   pub at_end : IsAtEnd left'
   pub short : length bytes ≤ most_bytes
   pub lines : outcome.lines ≡ length (lines_of bytes)
-  pub text : HasWritten None (lines_of bytes) written written'
-  pub errors : outcome.errors ≡ errors_in (transcript None (lines_of bytes))
-  pub status : (outcome.status ≡ 1) ↔ (0 < errors_in (transcript None (lines_of bytes)))
+  pub text : HasWritten setting None (lines_of bytes) written written'
+  pub errors : outcome.errors ≡ errors_in (transcript setting None (lines_of bytes))
+  pub hooks : shelf' ≡ shelf_after setting None (lines_of bytes)
+  pub status : (outcome.status ≡ 1) ↔ (0 < errors_in (transcript setting None (lines_of bytes)))
 
 -- the errors are the ERROR events in the transcript of the bytes that a source had
-abbrev pub CountsErrors : Outcome → Option (List ℕ) → Type 0
-CountsErrors outcome left = (bytes : List ℕ) → left ≡ Some bytes → outcome.errors ≡ errors_in (transcript None (lines_of bytes))
+abbrev pub CountsErrors : Setting → Outcome → Option (List ℕ) → Type 0
+CountsErrors setting outcome left = (bytes : List ℕ) → left ≡ Some bytes → outcome.errors ≡ errors_in (transcript setting None (lines_of bytes))
 
 -- So many lines were given whole: the newline of each is among the bytes, or the source was at its end behind them. A byte past the most of a script is no part of a line.
 abbrev pub AreWhole : ℕ → List ℕ → Option (List ℕ) → Type 0
 AreWhole lines bytes left = (lines ≤ length (ended_lines (take most_bytes bytes))) ⊎ ((length bytes ≤ most_bytes) × IsAtEnd left)
 
 -- Status 5 with a call: the transcript in which that call was refused, recovered from and followed by the session's end.
-pub record IsWanted (outcome : Outcome) (left left' written written' : Option (List ℕ)) : Type 0 where
+pub record IsWanted (setting : Setting) (outcome : Outcome) (left left' written written' : Option (List ℕ)) (shelf' : ShelfState) : Type 0 where
   pub bytes : List ℕ
   pub given : HasGiven bytes left left'
   pub short : length bytes ≤ most_bytes
   pub whole_lines : AreWhole outcome.lines bytes left'
-  pub defined : EndsAt outcome.call (lines_of bytes) outcome.lines
-  pub text : HasWritten (Some outcome.call) (lines_of bytes) written written'
-  pub errors : outcome.errors ≡ errors_in (transcript (Some outcome.call) (lines_of bytes))
+  pub defined : EndsAt setting outcome.call (lines_of bytes) outcome.lines
+  pub text : HasWritten setting (Some outcome.call) (lines_of bytes) written written'
+  pub errors : outcome.errors ≡ errors_in (transcript setting (Some outcome.call) (lines_of bytes))
+  pub hooks : shelf' ≡ shelf_after setting (Some outcome.call) (lines_of bytes)
 
 -- Status 3: the source failed, and the transcript of the lines whose newline it had given was written.
-pub record IsCutOff (outcome : Outcome) (left left' written written' : Option (List ℕ)) : Type 0 where
+pub record IsCutOff (setting : Setting) (outcome : Outcome) (left left' written written' : Option (List ℕ)) (shelf' : ShelfState) : Type 0 where
   pub bytes : List ℕ
   pub given : HasGiven bytes left left'
   pub short : length bytes ≤ most_bytes
   pub lines : outcome.lines ≡ length (ended_lines bytes)
-  pub text : HasWritten None (ended_lines bytes) written written'
-  pub errors : outcome.errors ≡ errors_in (transcript None (ended_lines bytes))
+  pub text : HasWritten setting None (ended_lines bytes) written written'
+  pub errors : outcome.errors ≡ errors_in (transcript setting None (ended_lines bytes))
+  pub hooks : shelf' ≡ shelf_after setting None (ended_lines bytes)
 
 -- Status 6: the source has a byte past the most bytes of a script, and the transcript of the lines whose newline is among those was written.
-pub record IsTooLong (outcome : Outcome) (left left' written written' : Option (List ℕ)) : Type 0 where
+pub record IsTooLong (setting : Setting) (outcome : Outcome) (left left' written written' : Option (List ℕ)) (shelf' : ShelfState) : Type 0 where
   pub bytes : List ℕ
   pub over : ℕ
   pub given : HasGiven (bytes ++ over ∷ []) left left'
   pub full : length bytes ≡ most_bytes
   pub lines : outcome.lines ≡ length (ended_lines bytes)
-  pub text : HasWritten None (ended_lines bytes) written written'
-  pub errors : outcome.errors ≡ errors_in (transcript None (ended_lines bytes))
+  pub text : HasWritten setting None (ended_lines bytes) written written'
+  pub errors : outcome.errors ≡ errors_in (transcript setting None (ended_lines bytes))
+  pub hooks : shelf' ≡ shelf_after setting None (ended_lines bytes)
 
 -- the fallible call that a number names as refused; 0 names none
 abbrev pub refused_call : ℕ → Option ℕ
 refused_call call = if call == 0 then None else Some call
 
 -- Status 4: the sink failed, and a front of the transcript of the lines that were performed was written.
-pub record IsUnwritten (outcome : Outcome) (left left' written written' : Option (List ℕ)) : Type 0 where
+pub record IsUnwritten (setting : Setting) (outcome : Outcome) (left left' written written' : Option (List ℕ)) (shelf' : ShelfState) : Type 0 where
   pub bytes : List ℕ
   pub given : HasGiven bytes left left'
   pub short : length bytes ≤ most_bytes + 1
@@ -82,13 +94,15 @@ pub record IsUnwritten (outcome : Outcome) (left left' written written' : Option
   pub read : outcome.lines ≤ length (lines_of bytes)
   pub front : List ℕ
   pub rest : List ℕ
-  pub parts : front ++ rest ≡ text_of_transcript (transcript (refused_call outcome.call) (take outcome.lines (lines_of bytes)))
+  pub parts : front ++ rest ≡ text_of_transcript (transcript setting (refused_call outcome.call) (take outcome.lines (lines_of bytes)))
   pub taken : written' ≡ append_known written front
-  pub defined : 0 < outcome.call → EndsAt outcome.call (take outcome.lines (lines_of bytes)) outcome.lines
-  pub errors : outcome.errors ≡ errors_in (transcript (refused_call outcome.call) (take outcome.lines (lines_of bytes)))
+  pub defined : 0 < outcome.call → EndsAt setting outcome.call (take outcome.lines (lines_of bytes)) outcome.lines
+  pub errors : outcome.errors ≡ errors_in (transcript setting (refused_call outcome.call) (take outcome.lines (lines_of bytes)))
+  pub hooks : shelf' ≡ shelf_after setting (refused_call outcome.call) (take outcome.lines (lines_of bytes))
 
--- Status 5 without a call: the session was not started, and nothing was read or written.
-pub record IsNotStarted (outcome : Outcome) (left left' written written' : Option (List ℕ)) : Type 0 where
+-- Status 5 without a call: the session was not started, nothing was read or written, and the hooks are as they were.
+pub record IsNotStarted (outcome : Outcome) (left left' written written' : Option (List ℕ)) (shelf shelf' : ShelfState) : Type 0 where
+  pub hooks : shelf' ≡ shelf
   pub lines : outcome.lines ≡ 0
   pub errors : outcome.errors ≡ 0
   pub unread : left' ≡ left

@@ -2,7 +2,8 @@
 use Rattle.std.specs.Prelude.{◌≡◌, ℕ, ◌≤◌, List, Option}
 use Rattle.pgs_step.specs.declared.events.What.{What}
 use Rattle.pgs_world.specs.declared.printer.Printer.{Printer}
-use Rattle.pgs_world.specs.Printing.{Gathering, Prints, Moves}
+use Rattle.pgs_step.specs.declared.events.Event.{Event}
+use Rattle.pgs_world.specs.Printing.{Gathering, Prints, Shows, Moves}
 
 module _ {K : Type 0} (written : K → Option (List ℕ)) (faults : K → ℕ) where
   abbrev pub seen : Printer K → Gathering
@@ -19,6 +20,11 @@ module _ {K : Type 0} (written : K → Option (List ℕ)) (faults : K → ℕ) w
   pub record TakesEvents (old : Printer K) (events : List What) (new : Printer K) : Type 0 where
     pub same_sink : new.sink.ghost_name ≡ old.sink.ghost_name
     pub prints : Prints (seen old) events (seen new)
+
+  -- the printer writes to the same sink as before, and took these events of sessions
+  pub record ShowsEvents (old : Printer K) (events : List Event) (new : Printer K) : Type 0 where
+    pub same_sink : new.sink.ghost_name ≡ old.sink.ghost_name
+    pub shows : Shows (seen old) events (seen new)
 
   -- the printer took these bytes for the sink, and no event
   pub record TakesBytes (old : Printer K) (bytes : List ℕ) (new : Printer K) : Type 0 where

@@ -4,7 +4,9 @@ use Rattle.std.specs.Io.KnownBytes.{append_known}
 use Rattle.pgs_io.specs.Faults.{HasRisen}
 use Rattle.pgs_step.specs.declared.events.What.{What}
 use Rattle.pgs_step.specs.Text.{texts_of}
-use Rattle.pgs_world.specs.Transcript.{errors_in}
+use Rattle.pgs_step.specs.declared.events.Event.{Event}
+use Rattle.session_rules.specs.Transcript.{errors_in}
+use Rattle.pgs_world.specs.Transcript.{errors_among, text_of_transcript}
 
 -- A printer: what its sink has taken, where it tells that, and how often it failed; what is gathered for the sink and not handed on;
 -- whether a write has failed, how many ERROR events there were, and the session whose events it takes.
@@ -44,9 +46,16 @@ Moves false true old new text = FailsWithin old new text
 Moves true true old new text = StaysSilent old new
 Moves true false old new text = ⊥
 
--- the printer took these events
+-- the printer took these events of its session
 pub record Prints (old : Gathering) (events : List What) (new : Gathering) : Type 0 where
   pub bytes : Moves old.failed new.failed old new (texts_of [] old.session events)
+  pub never_falls : old.faults ≤ new.faults
+  pub errors : min new.errors (2 ^ 64 - 1) ≡ min (old.errors + errors_among events) (2 ^ 64 - 1)
+  pub session : new.session ≡ old.session
+
+-- the printer took these events, each with its session
+pub record Shows (old : Gathering) (events : List Event) (new : Gathering) : Type 0 where
+  pub bytes : Moves old.failed new.failed old new (text_of_transcript events)
   pub never_falls : old.faults ≤ new.faults
   pub errors : min new.errors (2 ^ 64 - 1) ≡ min (old.errors + errors_in events) (2 ^ 64 - 1)
   pub session : new.session ≡ old.session

@@ -4,8 +4,10 @@ use Rattle.std.specs.Io.KnownBytes.{append_known}
 use Rattle.pgs_io.specs.Faults.{HasRisen}
 use Rattle.pgs_step.specs.declared.events.What.{What}
 use Rattle.pgs_step.specs.Text.{texts_of, text_of}
-use Rattle.pgs_world.specs.Transcript.{errors_in}
-use Rattle.pgs_world.specs.Printing.{Gathering, HandsOn, Moves, Prints}
+use Rattle.pgs_world.specs.Transcript.{errors_among, text_of_transcript}
+use Rattle.pgs_step.specs.declared.events.Event.{Event}
+use Rattle.session_rules.specs.Transcript.{errors_in, of_session}
+use Rattle.pgs_world.specs.Printing.{Gathering, HandsOn, Moves, Prints, Shows}
 use Rattle.std.proofs.lemmas.Grind.{common_steps}
 
 pub append_known-nil : (a : Option (List ℕ)) → a ≡ append_known a []
@@ -16,9 +18,9 @@ pub append_known-append : (a : Option (List ℕ)) (xs ys : List ℕ) → append_
 append_known-append None xs ys = refl
 append_known-append (Some x) xs ys = ap Some (append_assoc x xs ys)
 
-pub errors_in-append : (xs ys : List What) → errors_in (xs ++ ys) ≡ errors_in xs + errors_in ys
-errors_in-append [] ys = omega arith
-errors_in-append (x ∷ xs) ys = grind (arith, common_steps, errors_in-append xs ys)
+pub errors_among-append : (xs ys : List What) → errors_among (xs ++ ys) ≡ errors_among xs + errors_among ys
+errors_among-append [] ys = omega arith
+errors_among-append (x ∷ xs) ys = grind (arith, common_steps, errors_among-append xs ys)
 
 pub texts_of-append : (session : ℕ) (xs ys : List What) → texts_of [] session (xs ++ ys) ≡ texts_of [] session xs ++ texts_of [] session ys
 texts_of-append session [] ys = refl
@@ -72,6 +74,45 @@ Prints-more a b c xs ys both p q e =
           (Moves-more a.failed b.failed c.failed a b c (texts_of [] a.session xs) (texts_of [] a.session ys) q.never_falls p.bytes
           (subst (λ (s : ℕ). Moves b.failed c.failed b c (texts_of [] s ys)) p.session q.bytes));
       never_falls = omega (arith, p.never_falls, q.never_falls);
-      errors = omega (arith, p.errors, q.errors, errors_in-append xs ys);
+      errors = omega (arith, p.errors, q.errors, errors_among-append xs ys);
       session = q.session ∙ p.session;
     })
+
+-- the same for events of sessions
+pub errors_in-append : (xs ys : List Event) → errors_in (xs ++ ys) ≡ errors_in xs + errors_in ys
+errors_in-append [] ys = omega arith
+errors_in-append (x ∷ xs) ys = grind (arith, common_steps, errors_in-append xs ys)
+
+pub text-append : (xs ys : List Event) → text_of_transcript (xs ++ ys) ≡ text_of_transcript xs ++ text_of_transcript ys
+text-append [] ys = refl
+text-append (x ∷ xs) ys =
+    ap (λ (z : List ℕ). text_of [] x ++ z) (text-append xs ys) ∙ sym (append_assoc (text_of [] x) (text_of_transcript xs) (text_of_transcript ys))
+
+pub text_of_one_session : (n : ℕ) (whats : List What) → text_of_transcript (of_session n whats) ≡ texts_of [] n whats
+text_of_one_session n [] = refl
+text_of_one_session n (what ∷ whats) = ap (λ (z : List ℕ). text_of [] (record { session = n; what = what }) ++ z) (text_of_one_session n whats)
+
+pub errors_of_one_session : (n : ℕ) (whats : List What) → errors_in (of_session n whats) ≡ errors_among whats
+errors_of_one_session n [] = refl
+errors_of_one_session n (what ∷ whats) = grind (arith, common_steps, errors_of_one_session n whats)
+
+pub Shows-none : (a : Gathering) → Shows a [] a
+Shows-none a = record { bytes = Moves-none a.failed a; never_falls = omega arith; errors = omega arith; session = refl }
+
+pub Shows-more : (a b c : Gathering) (xs ys : List Event) → Shows a xs b → Shows b ys c → Shows a (xs ++ ys) c
+Shows-more a b c xs ys p q = record {
+  bytes = subst (Moves a.failed c.failed a c) (sym (text-append xs ys))
+      (Moves-more a.failed b.failed c.failed a b c (text_of_transcript xs) (text_of_transcript ys) q.never_falls p.bytes q.bytes);
+  never_falls = omega (arith, p.never_falls, q.never_falls);
+  errors = omega (arith, p.errors, q.errors, errors_in-append xs ys);
+  session = q.session ∙ p.session;
+}
+
+-- what a printer took of its session, as events of that session
+pub Shows-taken : (a b : Gathering) (whats : List What) → Prints a whats b → a.session ≡ 1 → Shows a (of_session 1 whats) b
+Shows-taken a b whats p one = record {
+  bytes = subst (Moves a.failed b.failed a b) (ap (λ (n : ℕ). texts_of [] n whats) one ∙ sym (text_of_one_session 1 whats)) p.bytes;
+  never_falls = p.never_falls;
+  errors = omega (arith, p.errors, errors_of_one_session 1 whats);
+  session = p.session;
+}

@@ -1,78 +1,48 @@
--- The transcript of a script.
-use Rattle.std.specs.Prelude.{◌≡◌, ℕ, ◌+◌, Bool, true, false, if◌then◌else◌, List, [], ◌++◌, fold, count_by, Option, Some, None}
-use Rattle.pgs_step.specs.declared.errors.Error.{Error}
+-- The transcript of a script, by the rules of a session.
+use Rattle.std.specs.Prelude.{◌≡◌, ℕ, true, List, [], count_by, Option, Some}
+use Rattle.pgs_step.specs.declared.events.Event.{Event}
 use Rattle.pgs_step.specs.declared.events.What.{What}
-use Rattle.pgs_step.specs.declared.events.What.TheVariants as what
-use Rattle.pgs_step.specs.Text.{texts_of}
-use Rattle.pgs_command.specs.declared.commands.Command.{Command}
-use Rattle.pgs_world.specs.Script.{command_of}
-use Rattle.pgs_world.specs.Session.{World, Done, opening, elements_of, does_all, recovered, exited}
-use Rattle.pgs_world.specs.Answers.{is_want}
+use Rattle.pgs_options.specs.declared.options.Options as words
+use Rattle.reset_callbacks.specs.ShelfState.{ShelfState}
+use Rattle.session_rules.specs.World.{Options}
+use Rattle.session_rules.specs.Transcript as rules
+use Rattle.session_rules.specs.Transcript.{Course, course_by, ended, is_error, transcript_by}
+use Rattle.pgs_world.specs.Script.{reads}
 
--- what a line did: the world after it, its events in order, and whether it met a want of memory, which ends the script
-pub record Turn : Type 0 where
-  pub world : World
-  pub events : List What
-  pub wanted : Bool
+-- how a run is set up: with these options, and these hooks on the shelf
+pub record Setting : Type 0 where
+  pub options : Options
+  pub shelf : ShelfState
 
--- a command that was refused is recovered from
-abbrev pub turn_of : Done → Option Error → Turn
-turn_of done None = record { world = done.world; events = done.events; wanted = false }
-turn_of done (Some error) =
-    let ended = recovered error done.world.session in record {
-      world = record done.world { session = ended.session };
-      events = done.events ++ ended.events;
-      wanted = is_want error;
-    }
+-- one session, with so many bytes of the space for its contexts and 16 descriptors; which fallible call fails, 0 for none
+abbrev pub options_for : ℕ → ℕ → Options
+options_for space fail = record { sessions = 1; space = space; descriptors = 16; fail = fail }
 
--- what a line does, by what it says
-unfoldable pub turn : Option ℕ → Option Command → World → Turn
-turn w command world = let done = does_all w (elements_of command world.session) world in turn_of done done.refusal
+-- what words ask for, and the hooks that are on the shelf
+abbrev pub setting_for : words.Options → ShelfState → Setting
+setting_for options shelf = record { options = options_for options.space options.fail; shelf = shelf }
 
--- the turn led to this world, with events that were emitted, and met a want of memory or not
-pub record TurnIs (turn : Turn) (new : World) (emitted : List What → Type 0) (wanted : Bool) : Type 0 where
-  pub world : turn.world ≡ new
-  pub events : emitted turn.events
-  pub wanted_is : turn.wanted ≡ wanted
+-- the course of a script; w is the number of the fallible call that is refused for want of memory, if any
+unfoldable pub course_of : Setting → Option ℕ → List (List ℕ) → Course
+course_of setting w lines = course_by reads w setting.options [] setting.shelf lines
 
--- where a script stands after some lines: the world, the events so far, how many lines were performed, and whether a want of memory ended it
-pub record Course : Type 0 where
-  pub world : World
-  pub events : List What
-  pub performed : ℕ
-  pub wanted : Bool
+-- the transcript of lines: their events, and then those of the session's end
+unfoldable pub transcript : Setting → Option ℕ → List (List ℕ) → List Event
+transcript setting w lines = transcript_by reads w setting.options [] setting.shelf lines
 
-abbrev pub at_start : Course
-at_start = record { world = opening; events = []; performed = 0; wanted = false }
-
--- the course after one line more
-abbrev pub after_turn : Course → Turn → Course
-after_turn course turn = record { world = turn.world; events = course.events ++ turn.events; performed = course.performed + 1; wanted = turn.wanted }
-
-abbrev pub after_line : Option ℕ → Course → List ℕ → Course
-after_line w course line = if course.wanted then course else after_turn course (turn w (command_of line) course.world)
-
--- the course of a script, line by line
-unfoldable pub course_of : Option ℕ → List (List ℕ) → Course
-course_of w lines = fold (after_line w) at_start lines
-
--- the transcript of lines: their events, and then the session's end; w is the number of the fallible call that is refused for want of memory, if any
-unfoldable pub transcript : Option ℕ → List (List ℕ) → List What
-transcript w lines = (course_of w lines).events ++ (exited (course_of w lines).world.session).events
+-- the hooks behind the session's end
+unfoldable pub shelf_after : Setting → Option ℕ → List (List ℕ) → ShelfState
+shelf_after setting w lines = (ended (course_of setting w lines)).world.shelf
 
 -- The lines make call w, which ends the script at the line of this number.
-pub record EndsAt (w : ℕ) (lines : List (List ℕ)) (line : ℕ) : Type 0 where
-  pub wanted : (course_of (Some w) lines).wanted ≡ true
-  pub line_is : (course_of (Some w) lines).performed ≡ line
+pub record EndsAt (setting : Setting) (w : ℕ) (lines : List (List ℕ)) (line : ℕ) : Type 0 where
+  pub wanted : (course_of setting (Some w) lines).wanted ≡ true
+  pub line_is : (course_of setting (Some w) lines).performed ≡ line
 
-abbrev pub is_error : What → Bool
-is_error (what.Error error) = true
-is_error what = false
+-- how many ERROR events a session said
+abbrev pub errors_among : List What → ℕ
+errors_among whats = count_by is_error whats
 
--- how many ERROR events there are
-abbrev pub errors_in : List What → ℕ
-errors_in events = count_by is_error events
-
--- the bytes of a transcript of session 1, in a program without extension kinds
-abbrev pub text_of_transcript : List What → List ℕ
-text_of_transcript events = texts_of [] 1 events
+-- the bytes of a transcript, in a program without extension kinds
+abbrev pub text_of_transcript : List Event → List ℕ
+text_of_transcript events = rules.text_of_transcript [] events

@@ -2,12 +2,9 @@
 #![tactic(auto)]
 
 mod lines;
-mod perform;
 mod performing;
-mod pins;
 mod printer;
 mod program;
-mod session;
 
 pub use program::{Outcome, run};
 

@@ -1,8 +1,10 @@
 //! Which lines of a script are performed.
-ghost use Rattle.std.specs.Prelude.{◌≡◌, ◌==◌, ℕ, List, codes};
+ghost use Rattle.std.specs.Prelude.{◌≡◌, ◌==◌, ℕ, List, codes, IfSome};
 ghost use Rattle.std.specs.List.{starts_with};
 ghost use Rattle.pgs_io.specs.Lines.{IsKept};
 ghost use Rattle.pgs_command.specs.Lines.{read_line};
+ghost use Rattle.pgs_command.specs.Ranges.{IsInRange};
+ghost use Rattle.session_core.specs.Turns.{IsRead};
 ghost use Rattle.pgs_world.specs.Script.{is_built, built, command_of};
 
 use pgs_command::{Command, parse_line};
@@ -11,7 +13,9 @@ use pgs_command::{Command, parse_line};
 ///
 /// `kept` are the first 512 bytes of the line, and `long` says whether it has more.
 pub(crate) fn read_command(kept: &[u8], long: bool) -> Option<Command>
-    ensures { (line : List ℕ) → IsKept line kept.now long → result ≡ command_of line }
+    ensures read { (line : List ℕ) → IsKept line kept.now long → result ≡ command_of line }
+    ensures performed { IsRead result }
+    ensures in_range { IfSome result IsInRange }
 {
     if kept.starts_with(b"@") {
         return None;
@@ -21,7 +25,9 @@ pub(crate) fn read_command(kept: &[u8], long: bool) -> Option<Command>
 
 /// The command of a line, where it is performed.
 fn read_built(kept: &[u8], long: bool) -> Option<Command>
-    ensures { (line : List ℕ) → IsKept line kept.now long → result ≡ built (read_line line) }
+    ensures read { (line : List ℕ) → IsKept line kept.now long → result ≡ built (read_line line) }
+    ensures performed { IsRead result }
+    ensures in_range { IfSome result IsInRange }
 {
     match parse_line(kept, long) {
         Ok(line) => {
@@ -41,6 +47,25 @@ fn is_built(command: &Command) -> bool
 {
     matches!(
         command,
-        Command::Nothing | Command::Begin | Command::Commit | Command::Rollback | Command::Pin(_)
+        Command::Nothing
+            | Command::Begin
+            | Command::Commit
+            | Command::Rollback
+            | Command::Raise
+            | Command::Pin(_)
+            | Command::Context { .. }
+            | Command::Switch(_)
+            | Command::OnReset(_)
+            | Command::Reset(_)
+            | Command::ResetOnly(_)
+            | Command::Delete(_)
+            | Command::DeleteChildren(_)
+            | Command::Reparent { .. }
+            | Command::Alloc { .. }
+            | Command::AllocZeroed { .. }
+            | Command::Realloc { .. }
+            | Command::Free(_)
+            | Command::Put { .. }
+            | Command::Show { .. }
     )
 }

@@ -4,18 +4,19 @@ ghost use Rattle.pgs_io.specs.Faults.{HasRisen};
 ghost use Rattle.pgs_io.specs.Lines.{IsKept};
 ghost use Rattle.pgs_io.specs.Reading.{GivesLine, GivesLast, MeetsEnd, MeetsFault, MeetsLimit};
 ghost use Rattle.pgs_io.specs.Answers.{IfLine, IfLast, OnEnd, OnFault, OnTooMuch, OnNoFault};
-ghost use Rattle.pgs_world.specs.Session.{opening};
+ghost use Rattle.session_core.specs.Lines.{IsBetweenLines};
+ghost use Rattle.session_core.specs.Performed.{now, HasRoom};
+ghost use Rattle.session_core.specs.Turns.{Turned};
 ghost use Rattle.pgs_world.specs.Script.{command_of};
-ghost use Rattle.pgs_world.specs.Answers.{Fits};
-ghost use Rattle.pgs_world.specs.Parts.{IsBetweenLines, HasRoom, Grows};
-ghost use Rattle.pgs_world.specs.PrinterView.{TakesEvents};
-ghost use Rattle.pgs_world.specs.Transcript.{turn, TurnIs};
+ghost use Rattle.pgs_world.specs.PrinterView.{ShowsEvents, TakesEvents};
+ghost use Rattle.pgs_world.specs.World.{IsOpening};
 ghost use Rattle.pgs_world.specs.Loop.{Performs, is_wanted_in, IsLineEnd, OnSourceFault, OnNoSourceFault, OnUnwritten};
 
 use crate::lines::read_command;
 use crate::printer::Printer;
-use crate::session::Session;
 use pgs_io::{Buffered, LineBuf, LineReader, Next, Sink, Source};
+use reset_callbacks::ResetHook;
+use session_core::{Session, Shared};
 
 /// The most bytes that a script has.
 pub(crate) const MOST_BYTES: u64 = 1 << 24;
@@ -43,13 +44,16 @@ pub(crate) struct Ended {
 }
 
 /// Performs the lines of the source, up to its end or to the first failure.
-pub(crate) fn perform_lines<S: Source, K: Sink>(
-    session: &mut Session,
+pub(crate) fn perform_lines<S: Source, K: Sink, H: ResetHook>(
+    session: &mut Session<H>,
     src: &mut S,
+    shared: &mut Shared<'_, H>,
     printer: &mut Printer<'_, K>,
 ) -> Ended
-    requires { session.old ≡ opening }
-    ensures performs { Performs result (S.left src.old) (S.left src.new) session.new (λ xs. TakesEvents K.written K.faults printer.old xs printer.new) }
+    requires opening { IsOpening (now session.old shared.old) }
+    requires lines { IsBetweenLines (now session.old shared.old) }
+    requires session_1 { printer.old.session ≡ 1 }
+    ensures performs { Performs (now session.old shared.old) result (S.left src.old) (S.left src.new) (now session.new shared.new) (λ xs. ShowsEvents K.written K.faults printer.old xs printer.new) }
     ensures fault { OnSourceFault result.end (HasRisen (S.faults src.old) (S.faults src.new)) }
     ensures no_fault { OnNoSourceFault result.end (S.faults src.new ≡ S.faults src.old) }
     ensures unwritten { OnUnwritten result.end (printer.new.failed ≡ true) }
@@ -66,14 +70,14 @@ pub(crate) fn perform_lines<S: Source, K: Sink>(
         };
         match next {
             Next::Line { long } => {
-                let end = perform_line(session, line.as_slice(), long, printer);
+                let end = perform_line(session, line.as_slice(), long, shared, printer);
                 lines += 1;
                 if let Some(end) = end {
                     return Ended { end, lines };
                 }
             }
             Next::Last { long } => {
-                let end = perform_line(session, line.as_slice(), long, printer);
+                let end = perform_line(session, line.as_slice(), long, shared, printer);
                 return Ended {
                     end: end.unwrap_or(End::Whole),
                     lines: lines + 1,
@@ -136,23 +140,21 @@ fn next_line<S: Source, K: Sink>(
 }
 
 /// Performs a line of which `kept` are the first bytes, and answers whether the script ends with it.
-fn perform_line<K: Sink>(
-    session: &mut Session,
+fn perform_line<K: Sink, H: ResetHook>(
+    session: &mut Session<H>,
     kept: &[u8],
     long: bool,
+    shared: &mut Shared<'_, H>,
     printer: &mut Printer<'_, K>,
 ) -> Option<End>
-    requires between { IsBetweenLines session.old.session.level }
-    requires room { HasRoom 4 session.old }
-    ensures turn { (line : List ℕ) → IsKept line kept.now long → (w : Option ℕ) → Fits (is_wanted_in result) session.new.calls w
-        → TurnIs (turn w (command_of line) session.old) session.new (λ xs. TakesEvents K.written K.faults printer.old xs printer.new) (is_wanted_in result) }
-    ensures between { IsBetweenLines session.new.session.level }
-    ensures grows { Grows 4 session.old session.new }
-    ensures calls { session.old.calls ≤ session.new.calls }
-    ensures counted { is_wanted_in result ≡ true → session.old.calls < session.new.calls }
+    requires lines { IsBetweenLines (now session.old shared.old) }
+    requires room { HasRoom 5 (now session.old shared.old) }
+    ensures turn { (line : List ℕ) → IsKept line kept.now long
+        → Turned (command_of line) (now session.old shared.old) (now session.new shared.new) (λ xs. TakesEvents K.written K.faults printer.old xs printer.new) (is_wanted_in result) }
+    ensures lines { IsBetweenLines (now session.new shared.new) }
     ensures end { IfSome result (λ end. IsLineEnd end printer.new.failed) }
 {
-    let wanted = session.take_turn(read_command(kept, long), printer);
+    let wanted = session.take_turn(read_command(kept, long), shared, printer);
     if wanted {
         return Some(End::Wanted);
     }

@@ -3,7 +3,7 @@ ghost use Rattle.std.specs.Prelude.{◌≡◌, ◌+◌, ◌≤◌, ◌-◌, ◌^
 ghost use Rattle.arrayvec.specs.ArrayVec.{array_vec_len};
 ghost use Rattle.pgs_step.specs.Text.{text_of};
 ghost use Rattle.pgs_world.specs.PrinterView.{TakesBytes};
-ghost use Rattle.pgs_world.specs.Transcript.{is_error};
+ghost use Rattle.session_rules.specs.Transcript.{is_error};
 
 use arrayvec::ArrayVec;
 use pgs_io::{Sink, put_all};

@@ -1,27 +1,60 @@
 //! The program over a source and a sink in memory.
-ghost use Rattle.std.specs.Prelude.{◌≤◌};
+ghost use Rattle.std.specs.Prelude.{◌≤◌, IfOk};
+ghost use Rattle.reset_callbacks.specs.Hook.{AreDistinct};
+ghost use Rattle.reset_callbacks.specs.ShelfState.{held};
 
 use crate::{Outcome, run};
+use addr_space::Space;
 use pgs_io::{MemSink, MemSource};
+use reset_callbacks::{CountedHook, Shelf};
 use std::alloc::{AllocError, Global};
 use std::test::Fail;
 
-const PINNED: &str = "1 begin level 1\n1 owner o1\n1 ok\n1 acquire buffer pin 7 #1 o1\n1 ok\n";
+const PINNED: &str =
+    "1 begin level 1\n1 create c6 TopTransactionContext in c1\n1 owner o1\n1 ok\n1 acquire buffer pin 7 #1 o1\n1 ok\n";
 
 const ROLLED_BACK: &str =
-    "1 abort level 1\n1 release buffer pin 7 #1 o1\n1 cleanup level 1\n1 owner o1 gone\n";
+    "1 abort level 1\n1 release buffer pin 7 #1 o1\n1 cleanup level 1\n1 owner o1 gone\n1 delete c6\n";
 
-/// What a run left: its outcome, how many bytes were not read, and those that were written.
+/// What a run left: its outcome, how many bytes were not read, those that were written, how many bytes the space held behind it, and how many
+/// hooks were fresh.
 #[derive(Drop)]
 struct Played {
     outcome: Outcome,
     unread: usize,
     written: Vec<u8>,
+    held: u64,
+    fresh: usize,
+}
+
+/// The words, as texts of their own.
+fn texts(alloc: Global, words: &[&str]) -> Result<Vec<String>, AllocError> {
+    let mut texts = Vec::new(alloc);
+    for word in words {
+        texts.push(String::from_str(alloc, word)?)?;
+    }
+    Ok(texts)
+}
+
+/// Six fresh hooks.
+fn six_hooks(alloc: Global) -> Result<Shelf<CountedHook>, AllocError>
+    ensures words_differ { IfOk result (λ shelf. AreDistinct (held shelf)) }
+{
+    let fresh = vec![in alloc;
+        CountedHook::new(1),
+        CountedHook::new(2),
+        CountedHook::new(3),
+        CountedHook::new(4),
+        CountedHook::new(5),
+        CountedHook::new(6),
+    ]?;
+    Shelf::new(alloc, fresh)
 }
 
 /// Plays a script that is read in pieces, with a read and a write that fail; 0 is none.
 fn play(
     alloc: Global,
+    words: &[&str],
     script: &[u8],
     piece: u32,
     bad_read: u64,
@@ -29,16 +62,27 @@ fn play(
 ) -> Result<Played, AllocError>
     requires { 1 ≤ piece }
 {
-    let words = Vec::new(alloc);
+    let words = texts(alloc, words)?;
     let bytes = Vec::from_slice(alloc, script)?;
     let mut source = MemSource::new(bytes, piece, vec![in alloc; bad_read]?);
-    let mut sink = MemSink::new(alloc, 4096, vec![in alloc; bad_write]?)?;
-    let outcome = run(alloc, &words, &mut source, &mut sink);
+    let mut sink = MemSink::new(alloc, 262_144, vec![in alloc; bad_write]?)?;
+    let mut space = Space::new(alloc, 8, 0)?;
+    let mut shelf = six_hooks(alloc)?;
+    let outcome = run(
+        alloc,
+        &words,
+        &mut source,
+        &mut sink,
+        &mut space,
+        &mut shelf,
+    );
     let written = Vec::from_slice(alloc, sink.written())?;
     Ok(Played {
         outcome,
         unread: source.unread().len(),
         written,
+        held: space.held(0),
+        fresh: shelf.fresh(),
     })
 }
 
@@ -49,9 +93,10 @@ fn joined(alloc: Global, first: &str, second: &str) -> Result<Vec<u8>, AllocErro
     Ok(both)
 }
 
-/// A script, its transcript, and what its run answers.
+/// Words and a script, the transcript, and what the run answers.
 #[derive(Clone, Copy)]
 struct Row {
+    words: &'static [&'static str],
     script: &'static [u8],
     transcript: &'static [u8],
     status: u8,
@@ -60,45 +105,90 @@ struct Row {
 }
 
 #[test]
-fn five_scripts(rt: HostRuntime) -> Result<(), Fail> {
+fn ten_scripts(rt: HostRuntime) -> Result<(), Fail> {
     for row in [
         Row {
+            words: &[],
             script: b"",
-            transcript: b"1 exit\n",
+            transcript: b"1 delete c5\n1 delete c4\n1 delete c3\n1 delete c2\n1 delete c1\n1 exit\n",
             status: 0,
             errors: 0,
             lines: 0,
         },
         Row {
+            words: &[],
             script: b"begin\npin 7\ncommit\n",
-            transcript: b"1 begin level 1\n1 owner o1\n1 ok\n1 acquire buffer pin 7 #1 o1\n1 ok\n1 commit level 1\n1 warning resource was not closed: buffer pin 7 #1 o1\n1 release buffer pin 7 #1 o1\n1 owner o1 gone\n1 ok\n1 exit\n",
+            transcript: b"1 begin level 1\n1 create c6 TopTransactionContext in c1\n1 owner o1\n1 ok\n1 acquire buffer pin 7 #1 o1\n1 ok\n1 commit level 1\n1 warning resource was not closed: buffer pin 7 #1 o1\n1 release buffer pin 7 #1 o1\n1 owner o1 gone\n1 delete c6\n1 ok\n1 delete c5\n1 delete c4\n1 delete c3\n1 delete c2\n1 delete c1\n1 exit\n",
             status: 0,
             errors: 0,
             lines: 3,
         },
         Row {
+            words: &[],
             script: b"begin\npin 7\nrollback\n",
-            transcript: b"1 begin level 1\n1 owner o1\n1 ok\n1 acquire buffer pin 7 #1 o1\n1 ok\n1 abort level 1\n1 release buffer pin 7 #1 o1\n1 cleanup level 1\n1 owner o1 gone\n1 ok\n1 exit\n",
+            transcript: b"1 begin level 1\n1 create c6 TopTransactionContext in c1\n1 owner o1\n1 ok\n1 acquire buffer pin 7 #1 o1\n1 ok\n1 abort level 1\n1 release buffer pin 7 #1 o1\n1 cleanup level 1\n1 owner o1 gone\n1 delete c6\n1 ok\n1 delete c5\n1 delete c4\n1 delete c3\n1 delete c2\n1 delete c1\n1 exit\n",
             status: 0,
             errors: 0,
             lines: 3,
         },
         Row {
+            words: &[],
             script: b"begin\npin 1024\npin 1\n",
-            transcript: b"1 begin level 1\n1 owner o1\n1 ok\n1 ERROR 22023 no such buffer\n1 abort level 1\n1 ERROR 25P02 transaction is aborted\n1 cleanup level 1\n1 owner o1 gone\n1 exit\n",
+            transcript: b"1 begin level 1\n1 create c6 TopTransactionContext in c1\n1 owner o1\n1 ok\n1 ERROR 22023 no such buffer\n1 abort level 1\n1 ERROR 25P02 transaction is aborted\n1 cleanup level 1\n1 owner o1 gone\n1 delete c6\n1 delete c5\n1 delete c4\n1 delete c3\n1 delete c2\n1 delete c1\n1 exit\n",
             status: 1,
             errors: 2,
             lines: 3,
         },
         Row {
+            words: &[],
             script: b"begin\nlock 5 ShareLock\nreport\npin 1\n@1 rollback\nrollback\n",
-            transcript: b"1 begin level 1\n1 owner o1\n1 ok\n1 ERROR 42601 syntax error\n1 abort level 1\n1 ERROR 42601 syntax error\n1 ERROR 25P02 transaction is aborted\n1 ERROR 42601 syntax error\n1 cleanup level 1\n1 owner o1 gone\n1 ok\n1 exit\n",
+            transcript: b"1 begin level 1\n1 create c6 TopTransactionContext in c1\n1 owner o1\n1 ok\n1 ERROR 42601 syntax error\n1 abort level 1\n1 ERROR 42601 syntax error\n1 ERROR 25P02 transaction is aborted\n1 ERROR 42601 syntax error\n1 cleanup level 1\n1 owner o1 gone\n1 delete c6\n1 ok\n1 delete c5\n1 delete c4\n1 delete c3\n1 delete c2\n1 delete c1\n1 exit\n",
             status: 1,
             errors: 4,
             lines: 6,
         },
+        Row {
+            words: &[],
+            script: b"begin\ncontext p CurTransactionContext default\ncontext x p default\ncontext y p default\nonreset p\nonreset x\nonreset p\nonreset y\nonreset p\ndelete p\n",
+            transcript: b"1 begin level 1\n1 create c6 TopTransactionContext in c1\n1 owner o1\n1 ok\n1 create c7 p in c6\n1 ok\n1 create c8 x in c7\n1 ok\n1 create c9 y in c7\n1 ok\n1 hook 1 c7\n1 ok\n1 hook 2 c8\n1 ok\n1 hook 3 c7\n1 ok\n1 hook 4 c9\n1 ok\n1 hook 5 c7\n1 ok\n1 callback 4 c9\n1 delete c9\n1 callback 2 c8\n1 delete c8\n1 callback 5 c7\n1 callback 3 c7\n1 callback 1 c7\n1 delete c7\n1 ok\n1 abort level 1\n1 cleanup level 1\n1 owner o1 gone\n1 delete c6\n1 delete c5\n1 delete c4\n1 delete c3\n1 delete c2\n1 delete c1\n1 exit\n",
+            status: 0,
+            errors: 0,
+            lines: 10,
+        },
+        Row {
+            words: &[],
+            script: b"begin\nalloc a 10\nput a 0 0aFF\nalloc0 b 4\nrealloc a 100\nshow a 0 2\nshow b 0 4\nput a 3 00\n",
+            transcript: b"1 begin level 1\n1 create c6 TopTransactionContext in c1\n1 owner o1\n1 ok\n1 ok\n1 ok\n1 ok\n1 ok\n1 bytes a 0 0aff\n1 ok\n1 bytes b 0 00000000\n1 ok\n1 ERROR 22003 outside the chunk's bytes\n1 abort level 1\n1 cleanup level 1\n1 owner o1 gone\n1 delete c6\n1 delete c5\n1 delete c4\n1 delete c3\n1 delete c2\n1 delete c1\n1 exit\n",
+            status: 1,
+            errors: 1,
+            lines: 8,
+        },
+        Row {
+            words: &[],
+            script: b"pin 3\nswitch CacheMemoryContext\nraise\nbegin\ncontext w TopMemoryContext slab 64\nreparent w CurTransactionContext\nrollback\n",
+            transcript: b"1 begin level 1\n1 create c6 TopTransactionContext in c1\n1 owner o1\n1 acquire buffer pin 3 #1 o1\n1 commit level 1\n1 warning resource was not closed: buffer pin 3 #1 o1\n1 release buffer pin 3 #1 o1\n1 owner o1 gone\n1 delete c6\n1 ok\n1 begin level 1\n1 create c7 TopTransactionContext in c1\n1 owner o2\n1 commit level 1\n1 owner o2 gone\n1 delete c7\n1 ok\n1 begin level 1\n1 create c8 TopTransactionContext in c1\n1 owner o3\n1 ERROR P0001 raised\n1 abort level 1\n1 cleanup level 1\n1 owner o3 gone\n1 delete c8\n1 begin level 1\n1 create c9 TopTransactionContext in c1\n1 owner o4\n1 ok\n1 create c10 w in c1\n1 ok\n1 move c10 to c9\n1 ok\n1 abort level 1\n1 cleanup level 1\n1 owner o4 gone\n1 delete c10\n1 delete c9\n1 ok\n1 delete c5\n1 delete c4\n1 delete c3\n1 delete c2\n1 delete c1\n1 exit\n",
+            status: 1,
+            errors: 1,
+            lines: 7,
+        },
+        Row {
+            words: &["--fail", "5"],
+            script: b"begin\npin 7\nalloc a 100\n",
+            transcript: b"1 begin level 1\n1 create c6 TopTransactionContext in c1\n1 owner o1\n1 ok\n1 ERROR 53200 out of memory at call 5\n1 abort level 1\n1 ERROR 25P02 transaction is aborted\n1 cleanup level 1\n1 owner o1 gone\n1 delete c6\n1 delete c5\n1 delete c4\n1 delete c3\n1 delete c2\n1 delete c1\n1 exit\n",
+            status: 1,
+            errors: 2,
+            lines: 3,
+        },
+        Row {
+            words: &["--space", "131072"],
+            script: b"begin\nalloc a 57296\nalloc b 8193\nrollback\nbegin\n",
+            transcript: b"1 begin level 1\n1 create c6 TopTransactionContext in c1\n1 owner o1\n1 ok\n1 ok\n1 ERROR 53200 out of space\n1 abort level 1\n1 cleanup level 1\n1 owner o1 gone\n1 delete c6\n1 ok\n1 begin level 1\n1 create c7 TopTransactionContext in c1\n1 owner o2\n1 ok\n1 abort level 1\n1 cleanup level 1\n1 owner o2 gone\n1 delete c7\n1 delete c5\n1 delete c4\n1 delete c3\n1 delete c2\n1 delete c1\n1 exit\n",
+            status: 1,
+            errors: 1,
+            lines: 5,
+        },
     ] {
-        let played = play(rt.alloc(), row.script, 5, 0, 0)?;
+        let played = play(rt.alloc(), row.words, row.script, 5, 0, 0)?;
         assert_eq!(rt; played.outcome.status, row.status);
         assert_eq!(rt;
             (
@@ -109,15 +199,20 @@ fn five_scripts(rt: HostRuntime) -> Result<(), Fail> {
             (0, row.errors, row.lines)
         );
         assert_eq!(rt; played.written.as_slice(), row.transcript);
+        assert_eq!(rt; played.held, 0);
     }
     Ok(())
 }
 
 #[test]
 fn a_read_that_fails(rt: HostRuntime) -> Result<(), Fail> {
-    let played = play(rt.alloc(), b"begin\npin 7\nro", 1, 15, 0)?;
+    let played = play(rt.alloc(), &[], b"begin\npin 7\nro", 1, 15, 0)?;
     let head = joined(rt.alloc(), PINNED, ROLLED_BACK)?;
-    let wanted = [head.as_slice(), b"1 exit\n"].concat(rt.alloc())?;
+    let wanted = [
+        head.as_slice(),
+        b"1 delete c5\n1 delete c4\n1 delete c3\n1 delete c2\n1 delete c1\n1 exit\n",
+    ]
+    .concat(rt.alloc())?;
     assert_eq!(rt;
         played.outcome,
         Outcome {
@@ -135,7 +230,7 @@ fn a_read_that_fails(rt: HostRuntime) -> Result<(), Fail> {
 #[test]
 fn each_read_fails_in_turn(rt: HostRuntime) -> Result<(), Fail> {
     for (call, lines) in [(1, 0), (6, 0), (7, 1), (12, 1), (13, 2), (19, 2), (20, 3)] {
-        let played = play(rt.alloc(), b"begin\npin 7\ncommit\n", 1, call, 0)?;
+        let played = play(rt.alloc(), &[], b"begin\npin 7\ncommit\n", 1, call, 0)?;
         assert_eq!(rt;
             (played.outcome.status, played.outcome.lines),
             (3, lines),
@@ -148,9 +243,9 @@ fn each_read_fails_in_turn(rt: HostRuntime) -> Result<(), Fail> {
 /// Each line is answered before the next byte is read, and nothing is read once a write has failed.
 #[test]
 fn each_write_fails_in_turn(rt: HostRuntime) -> Result<(), Fail> {
-    let whole = play(rt.alloc(), b"begin\npin 7\ncommit\n", 1, 0, 0)?;
+    let whole = play(rt.alloc(), &[], b"begin\npin 7\ncommit\n", 1, 0, 0)?;
     for (call, lines, unread) in [(1, 1, 13), (2, 2, 7), (3, 3, 0), (4, 3, 0)] {
-        let played = play(rt.alloc(), b"begin\npin 7\ncommit\n", 1, 0, call)?;
+        let played = play(rt.alloc(), &[], b"begin\npin 7\ncommit\n", 1, 0, call)?;
         assert_eq!(rt;
             (played.outcome.status, played.outcome.lines, played.unread),
             (4, lines, unread),
@@ -165,21 +260,21 @@ fn each_write_fails_in_turn(rt: HostRuntime) -> Result<(), Fail> {
 }
 
 /// All events come from one read. They are handed on where fewer than 512 of 8,192 bytes are left, which comes
-/// first at the `ok` of pin 216.
+/// first at the `ok` of pin 215.
 #[test]
 fn a_first_write_that_fails_behind_many_lines(rt: HostRuntime) -> Result<(), Fail> {
     let mut script = Vec::from_slice(rt.alloc(), b"begin\n")?;
     for _ in 0..400 {
         script.extend_from_slice(b"pin 7\n")?;
     }
-    let played = play(rt.alloc(), &script, 4096, 0, 1)?;
+    let played = play(rt.alloc(), &[], &script, 4096, 0, 1)?;
     assert_eq!(rt;
         played.outcome,
         Outcome {
             status: 4,
             call: 0,
             errors: 0,
-            lines: 217
+            lines: 216
         }
     );
     assert!(rt; played.written.is_empty());
@@ -187,16 +282,12 @@ fn a_first_write_that_fails_behind_many_lines(rt: HostRuntime) -> Result<(), Fai
 }
 
 #[test]
-fn any_word_is_refused(rt: HostRuntime) -> Result<(), Fail> {
-    let alloc = rt.alloc();
-    let words = vec![in alloc; String::from_str(alloc, "--sessions")?]?;
-    let mut source = MemSource::new(Vec::from_slice(alloc, b"begin\n")?, 1, Vec::new(alloc));
-    let mut sink = MemSink::new(alloc, 4096, Vec::new(alloc))?;
-    let outcome = run(alloc, &words, &mut source, &mut sink);
+fn words_that_are_refused(rt: HostRuntime) -> Result<(), Fail> {
+    let played = play(rt.alloc(), &["--sessions"], b"begin\n", 1, 0, 0)?;
     let usage =
         b"usage: pgscript [--space N] [--sessions N] [--descriptors N] [--fail N] [--generate N] [--sweep]\n";
     assert_eq!(rt;
-        outcome,
+        played.outcome,
         Outcome {
             status: 2,
             call: 0,
@@ -204,23 +295,31 @@ fn any_word_is_refused(rt: HostRuntime) -> Result<(), Fail> {
             lines: 0
         }
     );
-    assert_eq!(rt; sink.written(), usage.as_slice());
+    assert_eq!(rt; played.written.as_slice(), usage.as_slice());
+    assert_eq!(rt; played.unread, 6);
     Ok(())
 }
 
-/// With ample memory no call is refused: 200 transactions of three pins give no status 5.
+/// A hook that runs is handed in as spent, one that nobody asked for stays fresh.
+#[test]
+fn two_of_six_hooks_run(rt: HostRuntime) -> Result<(), Fail> {
+    let script =
+        b"begin\nonreset CurTransactionContext\ncontext w TopMemoryContext small\nonreset w\nrollback\n";
+    let played = play(rt.alloc(), &[], script, 64, 0, 0)?;
+    assert_eq!(rt; (played.outcome.status, played.fresh), (0, 4));
+    Ok(())
+}
+
+/// With ample memory no call is refused: 200 transactions of three pins and a chunk give no status 5.
 #[test]
 fn plenty_of_memory(rt: HostRuntime) -> Result<(), Fail> {
-    let alloc = rt.alloc();
-    let mut script = Vec::new(alloc);
+    let mut script = Vec::new(rt.alloc());
     for _ in 0..200 {
-        script.extend_from_slice(b"begin\npin 1\npin 2\npin 1\ncommit\n")?;
+        script.extend_from_slice(b"begin\npin 1\npin 2\nalloc a 100\ncommit\n")?;
     }
-    let mut source = MemSource::new(script, 4096, Vec::new(alloc));
-    let mut sink = MemSink::new(alloc, 1 << 20, Vec::new(alloc))?;
-    let outcome = run(alloc, &Vec::new(alloc), &mut source, &mut sink);
+    let played = play(rt.alloc(), &[], &script, 4096, 0, 0)?;
     assert_eq!(rt;
-        outcome,
+        played.outcome,
         Outcome {
             status: 0,
             call: 0,
@@ -237,7 +336,7 @@ fn lines_of_512_and_513_bytes(rt: HostRuntime) -> Result<(), Fail> {
         let alloc = rt.alloc();
         let mut script = Vec::from_slice(alloc, b"#")?;
         script.extend_from_slice(&vec![in alloc; b'x'; bytes]?)?;
-        let played = play(alloc, &script, 100, 0, 0)?;
+        let played = play(alloc, &[], &script, 100, 0, 0)?;
         assert_eq!(rt;
             played.outcome.status,
             status,

@@ -1,28 +1,46 @@
 -- What the program does with the words of its command line.
-use Rattle.std.specs.Prelude.{◌≡◌, ◌≢◌, ◌<◌, ◌≤◌, ◌⊎◌, ℕ, List, [], length, Option, Some}
+use Rattle.std.specs.Prelude.{◌≡◌, ◌≢◌, ◌+◌, ◌<◌, ◌≤◌, ◌⊎◌, ℕ, suc, zero, List, [], ◌∷◌, ◌++◌, length, Option, Some, None}
 use Rattle.std.specs.Io.KnownBytes.{append_known}
 use Rattle.pgs_io.specs.Faults.{HasRisen}
+use Rattle.reset_callbacks.specs.Hook.{Hook}
+use Rattle.reset_callbacks.specs.ShelfState.{ShelfState}
+use Rattle.pgs_options.specs.Options.{options_of}
+use Rattle.pgs_options.specs.declared.options.Options.{Options}
 use Rattle.pgs_world.specs.declared.program.Outcome.{Outcome}
-use Rattle.pgs_world.specs.Outcome.{most_bytes, usage_line, IsWhole, IsWanted, IsCutOff, IsTooLong, IsUnwritten, IsNotStarted, IsUsageFront}
+use Rattle.pgs_world.specs.Transcript.{Setting, setting_for}
+use Rattle.pgs_world.specs.Outcome.{most_bytes, usage_line, AskFor, IsWhole, IsWanted, IsCutOff, IsTooLong, IsUnwritten, IsUsageFront}
 
--- A run with these words had this outcome: each field is a clause of `run`. Where no memory was found for the words, the outcome is that of a session that was not started.
-pub record Plays {W : Type 0} (words : List W) (outcome : Outcome) (left left' written written' : Option (List ℕ)) (source_faults source_faults' sink_faults sink_faults' : ℕ) : Type 0 where
-  pub whole : (outcome.status ≡ 0) ⊎ (outcome.status ≡ 1) → IsWhole outcome left left' written written'
+-- so many hooks that have not run, with the words from the first one on
+abbrev pub fresh_hooks : ℕ → ℕ → List Hook
+fresh_hooks first zero = []
+fresh_hooks first (suc n) = record { word = first; runs = 0 } ∷ fresh_hooks (first + 1) n
+
+-- the hooks that the program makes
+unfoldable pub the_shelf : ShelfState
+the_shelf = record { fresh = fresh_hooks 1 4096; spent = []; out = 0 }
+
+-- the run that these options ask for
+abbrev pub asked_run : Options → Setting
+asked_run options = setting_for options the_shelf
+
+-- A run with these words had this outcome: each field is a clause of `run`, and all hooks are fresh before it. Where no memory was found for the words, the space or the hooks, the outcome is that of a session that was not started.
+pub record Plays (words : List (List ℕ)) (outcome : Outcome) (left left' written written' : Option (List ℕ)) (source_faults source_faults' sink_faults sink_faults' : ℕ) : Type 0 where
+  pub whole : (o : Options) → AskFor words o → (outcome.status ≡ 0) ⊎ (outcome.status ≡ 1) → (shelf : ShelfState) × IsWhole (asked_run o) outcome left left' written written' shelf
   pub usage : outcome.status ≡ 2 → written' ≡ append_known written usage_line
-  pub usage_words : outcome.status ≡ 2 → words ≢ []
-  pub refused : words ≢ [] → (outcome.status ≡ 2) ⊎ (outcome.status ≡ 4) ⊎ (outcome.status ≡ 5)
-  pub refused_counts : words ≢ [] → (outcome.call ≡ 0) × (outcome.errors ≡ 0) × (outcome.lines ≡ 0)
+  pub usage_words : outcome.status ≡ 2 → options_of words ≡ None
+  pub refused : options_of words ≡ None → (outcome.status ≡ 2) ⊎ (outcome.status ≡ 4) ⊎ (outcome.status ≡ 5)
+  pub refused_counts : options_of words ≡ None → (outcome.call ≡ 0) × (outcome.errors ≡ 0) × (outcome.lines ≡ 0)
   pub source_fault : outcome.status ≡ 3 → HasRisen source_faults source_faults'
-  pub cut_off : outcome.status ≡ 3 → IsCutOff outcome left left' written written'
-  pub too_long : outcome.status ≡ 6 → IsTooLong outcome left left' written written'
+  pub cut_off : (o : Options) → AskFor words o → outcome.status ≡ 3 → (shelf : ShelfState) × IsCutOff (asked_run o) outcome left left' written written' shelf
+  pub too_long : (o : Options) → AskFor words o → outcome.status ≡ 6 → (shelf : ShelfState) × IsTooLong (asked_run o) outcome left left' written written' shelf
   pub sink_fault : outcome.status ≡ 4 → HasRisen sink_faults sink_faults'
-  pub unwritten : outcome.status ≡ 4 → words ≡ [] → IsUnwritten outcome left left' written written'
-  pub usage_unwritten : outcome.status ≡ 4 → words ≢ [] → IsUsageFront written written'
-  pub wanted : outcome.status ≡ 5 → 0 < outcome.call → IsWanted outcome left left' written written'
-  pub not_started : outcome.status ≡ 5 → outcome.call ≡ 0 → IsNotStarted outcome left left' written written'
+  pub unwritten : (o : Options) → AskFor words o → outcome.status ≡ 4 → (shelf : ShelfState) × IsUnwritten (asked_run o) outcome left left' written written' shelf
+  pub usage_unwritten : options_of words ≡ None → outcome.status ≡ 4 → IsUsageFront written written'
+  pub wanted : (o : Options) → AskFor words o → outcome.status ≡ 5 → 0 < outcome.call → (shelf : ShelfState) × IsWanted (asked_run o) outcome left left' written written' shelf
+  pub not_started : outcome.status ≡ 5 → outcome.call ≡ 0 → (outcome.lines ≡ 0) × (outcome.errors ≡ 0) × (left' ≡ left) × (written' ≡ written)
   pub source_grew : source_faults < source_faults' → (outcome.status ≡ 3) ⊎ (outcome.status ≡ 4)
   pub sink_grew : sink_faults < sink_faults' → outcome.status ≡ 4
   pub statuses : outcome.status ≤ 6
   pub call : outcome.status ≢ 4 → outcome.status ≢ 5 → outcome.call ≡ 0
-  pub complete : words ≡ [] → (bytes : List ℕ) → left ≡ Some bytes → length bytes ≤ most_bytes → ¬ HasRisen source_faults source_faults' → ¬ HasRisen sink_faults sink_faults'
+  pub complete : (o : Options) → AskFor words o → (bytes : List ℕ) → left ≡ Some bytes → length bytes ≤ most_bytes → ¬ HasRisen source_faults source_faults' → ¬ HasRisen sink_faults sink_faults'
       → (outcome.status ≡ 0) ⊎ (outcome.status ≡ 1) ⊎ (outcome.status ≡ 5)

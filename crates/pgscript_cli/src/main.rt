@@ -1,19 +1,32 @@
 //! `pgscript`: reads a script on standard input and writes its transcript to standard output.
 #![tactic(auto)]
 
-ghost use Rattle.std.specs.Prelude.{◌≡◌, ◌≢◌, [], drop, IfOk, IfErr};
+ghost use Rattle.std.specs.Prelude.{◌≡◌, ◌≢◌, ℕ, [], drop, map, None, IfOk, IfErr};
+ghost use Rattle.std.specs.Prelude.{string_bytes as string_text};
+ghost use Rattle.addr_space.specs.Space.{accounts, held};
+ghost use Rattle.reset_callbacks.specs.Hook.{AreDistinct};
+ghost use Rattle.reset_callbacks.specs.ShelfState as shelf_state;
+ghost use Rattle.pgs_options.specs.Options.{options_of};
 ghost use Rattle.std.specs.Process.{exit_status};
 ghost use Rattle.std.specs.Vec.Iter.{into_iter_items};
 ghost use Rattle.std.specs.IoError.{error_kind};
 ghost use Rattle.std.specs.declared.io.ErrorKind.TheVariants.{OutOfMemory};
 ghost use Rattle.pgs_world.specs.declared.program.Outcome.{Outcome};
-ghost use Rattle.pgscript_cli.specs.Program.{Plays};
+ghost use Rattle.pgscript_cli.specs.Program.{Plays, fresh_hooks, the_shelf};
 
+use addr_space::Space;
 use pgs_io::{Sink, Source, StdSink, StdSource};
 use pgs_world::run;
+use reset_callbacks::{CountedHook, Shelf};
 use std::alloc::{AllocError, Global};
 use std::process::ExitCode;
 use std::{env, io};
+
+/// How many accounts the space has: one for each session that a run may have.
+const ACCOUNTS: u8 = 8;
+
+/// How many hooks there are. Their words are 1, 2 and so on.
+const HOOKS: u64 = 4096;
 
 /// The status where memory was wanted before the run.
 const NO_MEMORY: u8 = 5;
@@ -30,7 +43,7 @@ fn main(rt: HostRuntime) -> ExitCode {
 /// Plays the script of the source with the words of the command line, and answers the status of that run.
 ///
 /// `args` are the program's name and then its words. Where they couldn't be read the status is 5 or 7, and
-/// where memory is wanted to gather the words it is 5; nothing is read or written then.
+/// where memory is wanted for the words, the space or the hooks it is 5; nothing is read or written then.
 fn play<S: Source, K: Sink>(
     alloc: Global,
     args: io::Result<env::Args>,
@@ -38,8 +51,8 @@ fn play<S: Source, K: Sink>(
     out: &mut K,
 ) -> ExitCode
     ensures played { IfOk args (λ args. (outcome : Outcome) × (exit_status result ≡ outcome.status)
-        × Plays (drop 1 (into_iter_items args)) outcome (S.left src.old) (S.left src.new) (K.written out.old) (K.written out.new) (S.faults src.old) (S.faults src.new) (K.faults out.old) (K.faults out.new)) }
-    ensures words_unread { IfOk args (λ args. drop 1 (into_iter_items args) ≢ [] → src.new ≡ src.old) }
+        × Plays (map string_text (drop 1 (into_iter_items args))) outcome (S.left src.old) (S.left src.new) (K.written out.old) (K.written out.new) (S.faults src.old) (S.faults src.new) (K.faults out.old) (K.faults out.new)) }
+    ensures words_unread { IfOk args (λ args. options_of (map string_text (drop 1 (into_iter_items args))) ≡ None → src.new ≡ src.old) }
     ensures no_memory { IfErr args (λ error. error_kind error ≡ OutOfMemory → exit_status result ≡ 5) }
     ensures no_text { IfErr args (λ error. error_kind error ≢ OutOfMemory → exit_status result ≡ 7) }
     ensures untouched { IfErr args (λ _. (src.new ≡ src.old) × (out.new ≡ out.old)) }
@@ -48,10 +61,29 @@ fn play<S: Source, K: Sink>(
         Ok(args) => args,
         Err(error) => return ExitCode::from(unread(error.kind())),
     };
-    match words_of(alloc, args) {
-        Ok(words) => ExitCode::from(run(alloc, &words, src, out).status),
-        Err(_) => ExitCode::from(NO_MEMORY),
+    let Ok(words) = words_of(alloc, args) else {
+        return ExitCode::from(NO_MEMORY);
+    };
+    let Ok(mut space) = Space::new(alloc, ACCOUNTS, 0) else {
+        return ExitCode::from(NO_MEMORY);
+    };
+    let Ok(mut shelf) = all_hooks(alloc) else {
+        return ExitCode::from(NO_MEMORY);
+    };
+    let outcome = run(alloc, &words, src, out, &mut space, &mut shelf);
+    ExitCode::from(outcome.status)
+}
+
+/// All hooks, none of which has run.
+fn all_hooks(alloc: Global) -> Result<Shelf<CountedHook>, AllocError>
+    ensures shelf { IfOk result (λ shelf. shelf ≡ the_shelf) }
+    ensures words_differ { IfOk result (λ shelf. AreDistinct (shelf_state.held shelf)) }
+{
+    let mut fresh = Vec::new(alloc);
+    for below in 0..HOOKS {
+        fresh.push(CountedHook::new(below + 1))?;
     }
+    Shelf::new(alloc, fresh)
 }
 
 /// The status where the arguments couldn't be read.

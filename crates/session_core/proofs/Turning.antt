@@ -53,6 +53,7 @@ module _ (line : Option Command) (a : Now) where
     wanted_is = λ around w f. let t = ok_is b P h around w f in t.wanted_is;
     moves = h.moves;
     grows = h.grows;
+    fail = h.fail;
     calls = h.answers.calls;
     counted = λ e. absurd (cc e);
   }
@@ -85,6 +86,7 @@ module _ (line : Option Command) (a : Now) where
         serials = omega (arith, h.grows.serials, ended.grows.serials);
         calls = omega (arith, h.grows.calls, ended.grows.calls);
       };
+      fail = ap (λ (c : Calls). c.fail) ended.calls ∙ h.fail;
       calls = subst (λ (c : Calls). a.calls.count ≤ c.count) (sym ended.calls) h.answers.calls;
       counted = λ want. subst (λ (c : Calls). a.calls.count < c.count) (sym ended.calls) (h.answers.counted want);
     }

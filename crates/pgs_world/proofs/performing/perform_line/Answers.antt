@@ -1,4 +1,10 @@
 use Rattle.pgs_world.proofs.performing.perform_line.Goals as goal
 
 pub returns-then-wanted-clause-turn : goal.returns-then-wanted-clause-turn
-returns-then-wanted-clause-turn g c line k w f = rw (← c.read_command.ensures line k) (c.if-wanted.ensures.turn w f)
+returns-then-wanted-clause-turn g c line k = rw (← c.read_command.ensures.read line k) c.if-wanted.ensures.turn
+
+pub returns-then-has_failed-clause-turn : goal.returns-then-has_failed-clause-turn
+returns-then-has_failed-clause-turn g c line k = rw (← c.read_command.ensures.read line k) c.if-wanted.ensures.turn
+
+pub returns-clause-turn : goal.returns-clause-turn
+returns-clause-turn g c line k = rw (← c.read_command.ensures.read line k) c.if-wanted.ensures.turn

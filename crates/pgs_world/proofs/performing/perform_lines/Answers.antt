@@ -1,81 +1,75 @@
-use Rattle.std.proofs.Common.{ℕ, List, [], ◌∷◌, ◌++◌, refl, sym, ◌∙◌, ap, subst, arith, append-nil, length-append}
+use Rattle.std.proofs.Common.{◌≡◌, ℕ, List, [], ◌∷◌, ◌++◌, refl, sym, ◌∙◌, ap, subst, arith, append-nil, length-append}
 use Rattle.pgs_io.specs.Lines.{IsKept}
 use Rattle.pgs_step.specs.declared.events.What.{What}
+use Rattle.session_core.specs.Performed.{now}
 use Rattle.pgs_world.specs.PrinterView.{TakesEvents}
-use Rattle.pgs_world.specs.PrinterLaws.{TakesEvents-none, TakesEvents-more}
+use Rattle.pgs_world.specs.PrinterLaws.{ShowsEvents-none, ShowsEvents-more, ShowsEvents-still}
 use Rattle.pgs_world.proofs.LoopLemmas.{Stands-start, Stands-line, few_lines, has_room, ends-whole, ends-fault, ends-too_long, ends-unwritten, ends-line, ends-last_any}
 use Rattle.pgs_world.proofs.performing.perform_lines.Goals as goal
 
 pub loop-next-init : goal.loop-next-init
 loop-next-init g c =
-    rw c.requires
-    ([], Stands-start _ _ _ c.new-reader.ensures.pending c.new-reader.ensures.room (TakesEvents-none g.K.Sink.written g.K.Sink.faults c.args.printer.now), refl, refl)
+    ([], Stands-start _ _ _ _ c.new-reader.ensures.pending c.new-reader.ensures.room c.requires.opening c.requires.lines (ShowsEvents-none g.K.Sink.written g.K.Sink.faults c.args.printer.now), refl, refl)
 
 pub perform_line-end-requires-clause-room : goal.perform_line-end-requires-clause-room
-perform_line-end-requires-clause-room g c = has_room _ _ _ _ _ _ c.loop-next.invariant.1
+perform_line-end-requires-clause-room g c = has_room _ _ _ _ _ _ _ c.loop-next.invariant.1
 
 pub overflow_add-lines : goal.overflow_add-lines
-overflow_add-lines g c = omega (arith, few_lines _ _ _ _ _ _ c.loop-next.invariant.1, c.loop-next.invariant.2)
+overflow_add-lines g c = omega (arith, few_lines _ _ _ _ _ _ _ c.loop-next.invariant.1, c.loop-next.invariant.2)
 
 pub returns-in-Some-end-clause-performs : goal.returns-in-Some-end-clause-performs
 returns-in-Some-end-clause-performs g c =
     let line = rw c.in-Line.is at c.in-Some.ensures.line in
     let kept : IsKept line.line c.as_slice.result.now c.in-Line.long = subst (λ (k : List ℕ). IsKept line.line k c.in-Line.long) (sym c.as_slice.ensures.bytes) line.kept_line in
-    ends-line _ _ _ _ _ _ c.perform_line-end.new.session _ _ _ (λ (ys : List What). TakesEvents g.K.Sink.written g.K.Sink.faults c.next_line.new.printer ys c.perform_line-end.new.printer) _ _ _
-    c.loop-next.invariant.1 c.perform_line-end.ensures.calls
-    (λ xs ys p q. TakesEvents-more g.K.Sink.written g.K.Sink.faults _ _ _ xs ys (xs ++ ys)
-    (TakesEvents-more g.K.Sink.written g.K.Sink.faults _ _ _ xs [] xs p c.next_line.ensures.printed (append-nil xs)) q refl)
-    c.loop-next.invariant.2 line c.in-Some-end.end _ c.in-Some-end.ensures.end
-    (λ w f. c.in-Some-end.ensures.turn line.line kept w f) c.in-Some-end.ensures.counted
+    ends-line _ _ _ _ _ _ _ (now c.perform_line-end.new.session c.perform_line-end.new.shared) _ _ _ (λ (ys : List What). TakesEvents g.K.Sink.written g.K.Sink.faults c.next_line.new.printer ys c.perform_line-end.new.printer) _ _ _
+    c.loop-next.invariant.1 c.perform_line-end.ensures.lines
+    (λ xs ys p q. ShowsEvents-more g.K.Sink.written g.K.Sink.faults _ _ _ xs ys (ShowsEvents-still g.K.Sink.written g.K.Sink.faults _ _ _ xs p c.next_line.ensures.printed) q c.requires.session_1)
+    c.loop-next.invariant.2 line c.in-Some-end.end _ c.in-Some-end.ensures.end (c.in-Some-end.ensures.turn line.line kept)
 
 pub loop-next-preserved : goal.loop-next-preserved
 loop-next-preserved g c =
     let line = rw c.in-Line.is at c.in-Some.ensures.line in
     let kept : IsKept line.line c.as_slice.result.now c.in-Line.long = subst (λ (k : List ℕ). IsKept line.line k c.in-Line.long) (sym c.as_slice.ensures.bytes) line.kept_line in (
       c.loop-next.invariant.0 ++ line.line ∷ [],
-      Stands-line _ _ _ _ _ _ c.perform_line-end.new.session _ _ _ (λ (ys : List What). TakesEvents g.K.Sink.written g.K.Sink.faults c.next_line.new.printer ys c.perform_line-end.new.printer) _ _
-          c.loop-next.invariant.1 line (λ w f. c.in_default-end.ensures.turn line.line kept w f)
-          c.perform_line-end.ensures.calls c.perform_line-end.ensures.between c.perform_line-end.ensures.grows
-          (λ xs ys p q. TakesEvents-more g.K.Sink.written g.K.Sink.faults _ _ _ xs ys (xs ++ ys)
-          (TakesEvents-more g.K.Sink.written g.K.Sink.faults _ _ _ xs [] xs p c.next_line.ensures.printed (append-nil xs)) q refl),
+      Stands-line _ _ _ _ _ _ _ (now c.perform_line-end.new.session c.perform_line-end.new.shared) _ _ _ (λ (ys : List What). TakesEvents g.K.Sink.written g.K.Sink.faults c.next_line.new.printer ys c.perform_line-end.new.printer) _ _
+          c.loop-next.invariant.1 line (c.in_default-end.ensures.turn line.line kept) c.perform_line-end.ensures.lines
+          (λ xs ys p q. ShowsEvents-more g.K.Sink.written g.K.Sink.faults _ _ _ xs ys (ShowsEvents-still g.K.Sink.written g.K.Sink.faults _ _ _ xs p c.next_line.ensures.printed) q c.requires.session_1),
       omega (arith, c.loop-next.invariant.2, length-append c.loop-next.invariant.0 (line.line ∷ [])),
       (rw c.in-Line.is at c.in-Some.ensures.no_fault) ∙ c.loop-next.invariant.3,
     )
 
 pub perform_line-end-requires-in-Last-clause-room : goal.perform_line-end-requires-in-Last-clause-room
-perform_line-end-requires-in-Last-clause-room g c = has_room _ _ _ _ _ _ c.loop-next.invariant.1
+perform_line-end-requires-in-Last-clause-room g c = has_room _ _ _ _ _ _ _ c.loop-next.invariant.1
 
 pub overflow_add-result : goal.overflow_add-result
-overflow_add-result g c = omega (arith, few_lines _ _ _ _ _ _ c.loop-next.invariant.1, c.loop-next.invariant.2)
+overflow_add-result g c = omega (arith, few_lines _ _ _ _ _ _ _ c.loop-next.invariant.1, c.loop-next.invariant.2)
 
 pub returns-in-Last-clause-performs : goal.returns-in-Last-clause-performs
 returns-in-Last-clause-performs g c =
     let line = rw c.in-Last.is at c.in-Some.ensures.last in
     let kept : IsKept line.line c.as_slice-in-Last.result.now c.in-Last.long = subst (λ (k : List ℕ). IsKept line.line k c.in-Last.long) (sym c.as_slice-in-Last.ensures.bytes) line.kept_line in
     rw c.unwrap_or.ensures
-    (ends-last_any _ _ _ _ _ _ c.perform_line-end-in-Last.new.session _ _ _ (λ (ys : List What). TakesEvents g.K.Sink.written g.K.Sink.faults c.next_line.new.printer ys c.perform_line-end-in-Last.new.printer) _ _ _
-    c.loop-next.invariant.1 c.perform_line-end-in-Last.ensures.calls
-    (λ xs ys p q. TakesEvents-more g.K.Sink.written g.K.Sink.faults _ _ _ xs ys (xs ++ ys)
-    (TakesEvents-more g.K.Sink.written g.K.Sink.faults _ _ _ xs [] xs p c.next_line.ensures.printed (append-nil xs)) q refl)
-    c.loop-next.invariant.2 line c.perform_line-end-in-Last.result _ c.perform_line-end-in-Last.ensures.end
-    (λ w f. c.perform_line-end-in-Last.ensures.turn line.line kept w f) c.perform_line-end-in-Last.ensures.counted)
+    (ends-last_any _ _ _ _ _ _ _ (now c.perform_line-end-in-Last.new.session c.perform_line-end-in-Last.new.shared) _ _ _ (λ (ys : List What). TakesEvents g.K.Sink.written g.K.Sink.faults c.next_line.new.printer ys c.perform_line-end-in-Last.new.printer) _ _ _
+    c.loop-next.invariant.1 c.perform_line-end-in-Last.ensures.lines
+    (λ xs ys p q. ShowsEvents-more g.K.Sink.written g.K.Sink.faults _ _ _ xs ys (ShowsEvents-still g.K.Sink.written g.K.Sink.faults _ _ _ xs p c.next_line.ensures.printed) q c.requires.session_1)
+    c.loop-next.invariant.2 line c.perform_line-end-in-Last.result _ c.perform_line-end-in-Last.ensures.end (c.perform_line-end-in-Last.ensures.turn line.line kept))
 
 pub returns-in-End-clause-performs : goal.returns-in-End-clause-performs
 returns-in-End-clause-performs g c =
-    ends-whole _ _ _ _ _ _ _ _ _ _ c.loop-next.invariant.1
-    (λ xs p. TakesEvents-more g.K.Sink.written g.K.Sink.faults _ _ _ xs [] xs p c.next_line.ensures.printed (append-nil xs)) c.loop-next.invariant.2 (rw c.in-End.is at c.in-Some.ensures.end)
+    ends-whole _ _ _ _ _ _ _ _ _ _ _ c.loop-next.invariant.1
+    (λ xs p. ShowsEvents-still g.K.Sink.written g.K.Sink.faults _ _ _ xs p c.next_line.ensures.printed) c.loop-next.invariant.2 (rw c.in-End.is at c.in-Some.ensures.end)
 
 pub returns-in-Fault-clause-performs : goal.returns-in-Fault-clause-performs
 returns-in-Fault-clause-performs g c =
-    ends-fault _ _ _ _ _ _ _ _ _ _ c.loop-next.invariant.1
-    (λ xs p. TakesEvents-more g.K.Sink.written g.K.Sink.faults _ _ _ xs [] xs p c.next_line.ensures.printed (append-nil xs)) c.loop-next.invariant.2 (rw c.in-Fault.is at c.in-Some.ensures.at_fault)
+    ends-fault _ _ _ _ _ _ _ _ _ _ _ c.loop-next.invariant.1
+    (λ xs p. ShowsEvents-still g.K.Sink.written g.K.Sink.faults _ _ _ xs p c.next_line.ensures.printed) c.loop-next.invariant.2 (rw c.in-Fault.is at c.in-Some.ensures.at_fault)
 
 pub returns-in-TooMuch-clause-performs : goal.returns-in-TooMuch-clause-performs
 returns-in-TooMuch-clause-performs g c =
-    ends-too_long _ _ _ _ _ _ _ _ _ _ c.loop-next.invariant.1
-    (λ xs p. TakesEvents-more g.K.Sink.written g.K.Sink.faults _ _ _ xs [] xs p c.next_line.ensures.printed (append-nil xs)) c.loop-next.invariant.2 (rw c.in-TooMuch.is at c.in-Some.ensures.too_much)
+    ends-too_long _ _ _ _ _ _ _ _ _ _ _ c.loop-next.invariant.1
+    (λ xs p. ShowsEvents-still g.K.Sink.written g.K.Sink.faults _ _ _ xs p c.next_line.ensures.printed) c.loop-next.invariant.2 (rw c.in-TooMuch.is at c.in-Some.ensures.too_much)
 
 pub returns-in_default-clause-performs : goal.returns-in_default-clause-performs
 returns-in_default-clause-performs g c =
-    ends-unwritten _ _ _ _ c.next_line.new.reader _ _ _ _ _ c.loop-next.invariant.1
-    (λ xs p. TakesEvents-more g.K.Sink.written g.K.Sink.faults _ _ _ xs [] xs p c.next_line.ensures.printed (append-nil xs)) c.loop-next.invariant.2 (ap g.S.Source.left c.in_default.ensures.unread)
+    ends-unwritten _ _ _ _ _ c.next_line.new.reader _ _ _ _ _ c.loop-next.invariant.1
+    (λ xs p. ShowsEvents-still g.K.Sink.written g.K.Sink.faults _ _ _ xs p c.next_line.ensures.printed) c.loop-next.invariant.2 (ap g.S.Source.left c.in_default.ensures.unread)

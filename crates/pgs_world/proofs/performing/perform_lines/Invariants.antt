@@ -1,5 +1,6 @@
 use Rattle.std.proofs.Common.{◌≡◌, ◌+◌, ℕ, List, length}
-use Rattle.pgs_world.specs.PrinterView.{TakesEvents}
+use Rattle.session_core.specs.Performed.{now}
+use Rattle.pgs_world.specs.PrinterView.{ShowsEvents}
 use Rattle.pgs_world.specs.Loop.{Stands}
 use Rattle.pgs_world.proofs.performing.perform_lines.Given as goal
 
@@ -7,7 +8,7 @@ use Rattle.pgs_world.proofs.performing.perform_lines.Given as goal
 abbrev pub invariant-loop-next : goal.invariant-loop-next
 invariant-loop-next g l =
     (lines : List (List ℕ))
-    × Stands (g.S.Source.left l.initial.src) (g.S.Source.left l.src) l.reader l.session (λ xs. TakesEvents g.K.Sink.written g.K.Sink.faults l.initial.printer xs l.printer) lines
+    × Stands (now l.initial.session l.initial.shared) (g.S.Source.left l.initial.src) (g.S.Source.left l.src) l.reader (now l.session l.shared) (λ xs. ShowsEvents g.K.Sink.written g.K.Sink.faults l.initial.printer xs l.printer) lines
     × (l.lines ≡ length lines)
     × (g.S.Source.faults l.src ≡ g.S.Source.faults l.initial.src)
 
