@@ -3,7 +3,7 @@ use Rattle.std.proofs.Common.{◌≡◌, ◌≢◌, ◌⊎◌, ℕ, ◌<◌, tru
 use Rattle.std.specs.Prelude.{is_some}
 use Rattle.std.specs.Option.{option_map_or}
 use Rattle.std.proofs.lemmas.Bool.{cases_eq, cases_Bool, both_ways}
-use Rattle.forest.specs.Forest.{has, Once, at, children, parent_of, is_above, removed, AllNodes}
+use Rattle.forest.specs.Forest.{has, Once, children, parent_of, is_above, removed, AllNodes}
 use Rattle.forest.specs.Walk.{swept}
 use Rattle.forest.proofs.Trees.{at_absent, has_of_removed, left_apart}
 use Rattle.forest.proofs.Moved.{above_by_parent, above_none}

@@ -19,3 +19,8 @@ pub mod NamesStand
 pub mod Standings
 pub mod TurnStands
 pub mod OpeningStands
+pub mod CalmEvents
+pub mod CalmActs
+pub mod CalmEnds
+pub mod CalmElements
+pub mod Calm
