@@ -9,7 +9,7 @@ use Rattle.session_rules.specs.Transcript.{Course, after_command, after_exit, af
 use Rattle.pgs_step.specs.declared.errors.Error.TheVariants as error
 use Rattle.pgs_step.specs.declared.events.What.TheVariants as what
 use Rattle.session_rules.specs.World.{Scene, World, around, moment, opened, session_at}
-use Rattle.pgs_world.proofs.Calm.{exited_errors, turn_errors}
+use Rattle.session_rules.proofs.Calm.{exited_errors, turn_errors}
 use Rattle.pgs_world.specs.PrintingLaws.{errors_in-append, errors_of_one_session}
 use Rattle.pgs_world.specs.Script.{reads}
 use Rattle.pgs_world.specs.Transcript.{Setting, transcript}

@@ -1,4 +1,3 @@
-pub mod Calm
 pub mod CountLemmas
 pub mod CourseLemmas
 pub mod EndingLemmas
