@@ -1,26 +1,26 @@
--- Where no memory is found for the words, nothing is played.
+-- Where no memory is found for the words, the space or the hooks, nothing is played.
 use Rattle.std.proofs.Common.{◌≡◌, ◌<◌, ◌⊎◌, inl, inr, ℕ, List, Option, refl, arith}
 use Rattle.pgscript_cli.specs.Program.{Plays}
 
-pub nothing_played : {W : Type 0} (words : List W) (left written : Option (List ℕ)) (source_faults sink_faults : ℕ)
+pub nothing_played : (words : List (List ℕ)) (left written : Option (List ℕ)) (source_faults sink_faults : ℕ)
     → Plays words (record { status = 5; call = 0; errors = 0; lines = 0 }) left left written written source_faults source_faults sink_faults sink_faults
 nothing_played words left written source_faults sink_faults = record {
-  whole = λ h. absurd (elim h [ inl p ↦ omega (arith, p) | inr p ↦ omega (arith, p) ]);
+  whole = λ o asked h. absurd (elim h [ inl p ↦ omega (arith, p) | inr p ↦ omega (arith, p) ]);
   usage = λ h. absurd (omega (arith, h));
   usage_words = λ h. absurd (omega (arith, h));
   refused = λ _. inr (inr refl);
   refused_counts = λ _. (refl, refl, refl);
   source_fault = λ h. absurd (omega (arith, h));
-  cut_off = λ h. absurd (omega (arith, h));
-  too_long = λ h. absurd (omega (arith, h));
+  cut_off = λ o asked h. absurd (omega (arith, h));
+  too_long = λ o asked h. absurd (omega (arith, h));
   sink_fault = λ h. absurd (omega (arith, h));
-  unwritten = λ h _. absurd (omega (arith, h));
-  usage_unwritten = λ h _. absurd (omega (arith, h));
-  wanted = λ _ h. absurd (omega (arith, h));
-  not_started = λ _ _. record { lines = refl; errors = refl; unread = refl; unwritten = refl };
+  unwritten = λ o asked h. absurd (omega (arith, h));
+  usage_unwritten = λ _ h. absurd (omega (arith, h));
+  wanted = λ o asked _ h. absurd (omega (arith, h));
+  not_started = λ _ _. (refl, refl, refl, refl);
   source_grew = λ h. absurd (omega (arith, h));
   sink_grew = λ h. absurd (omega (arith, h));
   statuses = omega arith;
   call = λ _ h. absurd (h refl);
-  complete = λ _ _ _ _ _ _. inr (inr refl);
+  complete = λ o asked _ _ _ _ _. inr (inr refl);
 }
