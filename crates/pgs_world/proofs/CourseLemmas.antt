@@ -4,9 +4,9 @@ use Rattle.pgs_command.specs.declared.commands.Command.{Command}
 use Rattle.pgs_step.specs.declared.events.Event.{Event}
 use Rattle.pgs_step.specs.declared.events.What.{What}
 use Rattle.session_rules.specs.Calls.{IsLater}
-use Rattle.session_rules.specs.State.{SessionState, opening}
+use Rattle.session_rules.specs.State.{SessionState}
 use Rattle.session_rules.specs.World.{Around, Moment, Options, World, around, moment, session_at, with_scene}
-use Rattle.session_rules.specs.Transcript.{Course, Turn, after_command, after_line, after_read, after_turn, at_start, course_by, goes_on, of_session, turn}
+use Rattle.session_rules.specs.Transcript.{Course, Turn, after_command, after_line, after_read, after_turn, course_by, goes_on, of_session, turn}
 use Rattle.session_store.specs.State.{session_of}
 use Rattle.session_core.specs.Answers.{Fits}
 use Rattle.session_core.specs.Performed.{Now, scene_in}

@@ -9,13 +9,10 @@ use Rattle.pgs_io.specs.Faults.{HasRisen}
 use Rattle.pgs_io.specs.Lines.{lines_of, ended_lines, onto_first, onto_ended, newline}
 use Rattle.pgs_step.specs.declared.events.Event.{Event}
 use Rattle.pgs_step.specs.declared.events.What.{What}
-use Rattle.addr_space.specs.Space.{Space}
 use Rattle.reset_callbacks.specs.ShelfState.{ShelfState}
-use Rattle.session_rules.specs.Acts.{Ended}
 use Rattle.session_rules.specs.Ends.{exited}
-use Rattle.session_rules.specs.Transcript.{Course, course_by, ended, errors_in, exits, of_session, transcript_by}
+use Rattle.session_rules.specs.Transcript.{Course, ended, errors_in, exits, of_session, transcript_by}
 use Rattle.session_rules.specs.World.{Scene, World, around}
-use Rattle.session_store.specs.State.{StoreState, session_of}
 use Rattle.session_core.specs.Answers.{Fits}
 use Rattle.session_core.specs.Performed.{Ends, Now, scene_in}
 use Rattle.pgs_world.specs.declared.performing.End.{End}

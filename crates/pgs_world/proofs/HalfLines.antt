@@ -1,5 +1,5 @@
 -- A line whose newline was not read yet is not performed while the source goes on.
-use Rattle.std.proofs.Common.{◌≡◌, ℕ, ◌+◌, ◌<◌, false, inl, inr, List, [], ◌∷◌, length, take, Option, Some, None, Result, Ok, Err, refl, sym, ◌∙◌, ap, arith}
+use Rattle.std.proofs.Common.{◌≡◌, ℕ, ◌+◌, ◌<◌, inl, inr, List, [], ◌∷◌, length, take, Option, Some, None, Result, Ok, Err, refl, sym, ◌∙◌, ap, arith}
 use Rattle.std.specs.Prelude.{codes}
 use Rattle.std.proofs.lemmas.List.{take_all}
 use Rattle.pgs_command.specs.declared.commands.Command.{Command}
@@ -8,8 +8,8 @@ use Rattle.pgs_command.specs.declared.lines.Line.{Line}
 use Rattle.pgs_io.specs.Lines.{lines_of, ended_lines}
 use Rattle.reset_callbacks.specs.ShelfState.{ShelfState}
 use Rattle.session_rules.specs.State.{SessionState}
-use Rattle.session_rules.specs.World.{session_at}
-use Rattle.session_rules.specs.Transcript.{Course, after_command, after_read, course_by}
+use Rattle.session_rules.specs.World.{opened, session_at}
+use Rattle.session_rules.specs.Transcript.{Course, after_command, after_read, at_start, course_by}
 use Rattle.pgs_world.specs.declared.program.Outcome.{Outcome}
 use Rattle.pgs_world.specs.Script.{reads}
 use Rattle.pgs_world.specs.Transcript.{Setting, course_of}
@@ -25,7 +25,7 @@ performed_read w course (Err bad) = performed_command w course bad.session None 
 
 performed_one : (setting : Setting) (call : ℕ) → (course_of setting (Some call) (codes "begin" ∷ [])).performed ≡ 1
 unfolding course_of course_by
-performed_one setting call = performed_read (Some call) _ (reads (codes "begin"))
+performed_one setting call = performed_read (Some call) (at_start (opened setting.options [] setting.shelf)) (reads (codes "begin"))
 
 no_newline : ended_lines (take most_bytes (codes "begin")) ≡ []
 no_newline = ap ended_lines (take_all most_bytes (codes "begin") (omega arith))

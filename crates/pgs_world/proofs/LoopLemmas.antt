@@ -1,5 +1,5 @@
 -- The reading loop: where it stands, and how it ends.
-use Rattle.std.proofs.Common.{◌≡◌, ℕ, ◌+◌, ◌^◌, ◌<◌, ◌≤◌, Bool, true, false, List, [], ◌∷◌, ◌++◌, length, Option, Some, None, inl, inr, refl, sym, ◌∙◌, ap, subst, arith, length-append, append-nil}
+use Rattle.std.proofs.Common.{◌≡◌, ℕ, ◌+◌, ◌^◌, ◌≤◌, Bool, false, List, [], ◌∷◌, ◌++◌, length, Option, Some, None, inl, inr, refl, sym, ◌∙◌, ap, subst, arith, length-append, append-nil}
 use Rattle.std.specs.Prelude.{unwrap_or, IfSome}
 use Rattle.pgs_io.specs.Lines.{text_of, newline, lines_of, ended_lines}
 use Rattle.pgs_io.specs.Reading.{Reading, HasRead, GivesLine, GivesLast, MeetsEnd, MeetsFault, MeetsLimit}

@@ -10,6 +10,7 @@ use Rattle.pgs_command.specs.Values.{number_between, mode_of, name_of, kind_of}
 use Rattle.chunk_header.specs.Growth.{up8, grown, doubled}
 use Rattle.alloc_set.specs.Ledger as set
 use Rattle.context_rules.specs.Names.{is_reserved}
+use Rattle.owner_kinds.specs.KindTable.{row_of}
 use Rattle.session_rules.specs.State.{opening}
 use Rattle.session_rules.specs.Commands.{elements_of}
 use Rattle.session_rules.specs.Does.{does, does_all}
@@ -30,33 +31,33 @@ told fail lines = text_of_transcript (transcript (setting fail) None lines)
 
 pub committed : told 0 (codes "begin" ∷ codes "pin 7" ∷ codes "commit" ∷ [])
     ≡ codes "1 begin level 1\n1 create c6 TopTransactionContext in c1\n1 owner o1\n1 ok\n1 acquire buffer pin 7 #1 o1\n1 ok\n1 commit level 1\n1 warning resource was not closed: buffer pin 7 #1 o1\n1 release buffer pin 7 #1 o1\n1 owner o1 gone\n1 delete c6\n1 ok\n1 delete c5\n1 delete c4\n1 delete c3\n1 delete c2\n1 delete c1\n1 exit\n"
-unfolding text_of what_text kind_name error_text digits read_line table.command_of words_of number_between mode_of name_of kind_of is_reserved command_of opening elements_of does does_all recovered exited turn course_by transcript_by transcript set.created set.stats set.take set.take_class set.take_own set.chunk_limit set.limit_class set.class_of set.class_up_to set.cut_off set.reused set.from_new set.block_size set.halved set.halved_by set.renewed set.cut_up set.cut_rest set.with_own up8 grown doubled
+unfolding text_of what_text kind_name error_text digits read_line table.command_of words_of number_between mode_of name_of kind_of is_reserved row_of command_of opening elements_of does does_all recovered exited turn course_by transcript_by transcript set.created set.stats set.take set.take_class set.take_own set.chunk_limit set.limit_class set.class_of set.class_up_to set.cut_off set.reused set.from_new set.block_size set.halved set.halved_by set.renewed set.cut_up set.cut_rest set.with_own up8 grown doubled
 committed = refl
 
 pub rolled_back : told 0 (codes "begin" ∷ codes "pin 7" ∷ codes "# a comment" ∷ codes "rollback" ∷ [])
     ≡ codes "1 begin level 1\n1 create c6 TopTransactionContext in c1\n1 owner o1\n1 ok\n1 acquire buffer pin 7 #1 o1\n1 ok\n1 abort level 1\n1 release buffer pin 7 #1 o1\n1 cleanup level 1\n1 owner o1 gone\n1 delete c6\n1 ok\n1 delete c5\n1 delete c4\n1 delete c3\n1 delete c2\n1 delete c1\n1 exit\n"
-unfolding text_of what_text kind_name error_text digits read_line table.command_of words_of number_between mode_of name_of kind_of is_reserved command_of opening elements_of does does_all recovered exited turn course_by transcript_by transcript set.created set.stats set.take set.take_class set.take_own set.chunk_limit set.limit_class set.class_of set.class_up_to set.cut_off set.reused set.from_new set.block_size set.halved set.halved_by set.renewed set.cut_up set.cut_rest set.with_own up8 grown doubled
+unfolding text_of what_text kind_name error_text digits read_line table.command_of words_of number_between mode_of name_of kind_of is_reserved row_of command_of opening elements_of does does_all recovered exited turn course_by transcript_by transcript set.created set.stats set.take set.take_class set.take_own set.chunk_limit set.limit_class set.class_of set.class_up_to set.cut_off set.reused set.from_new set.block_size set.halved set.halved_by set.renewed set.cut_up set.cut_rest set.with_own up8 grown doubled
 rolled_back = refl
 
 pub no_such_buffer : told 0 (codes "begin" ∷ codes "pin 1024" ∷ codes "pin 1" ∷ [])
     ≡ codes "1 begin level 1\n1 create c6 TopTransactionContext in c1\n1 owner o1\n1 ok\n1 ERROR 22023 no such buffer\n1 abort level 1\n1 ERROR 25P02 transaction is aborted\n1 cleanup level 1\n1 owner o1 gone\n1 delete c6\n1 delete c5\n1 delete c4\n1 delete c3\n1 delete c2\n1 delete c1\n1 exit\n"
-unfolding text_of what_text kind_name error_text digits read_line table.command_of words_of number_between mode_of name_of kind_of is_reserved command_of opening elements_of does does_all recovered exited turn course_by transcript_by transcript set.created set.stats set.take set.take_class set.take_own set.chunk_limit set.limit_class set.class_of set.class_up_to set.cut_off set.reused set.from_new set.block_size set.halved set.halved_by set.renewed set.cut_up set.cut_rest set.with_own up8 grown doubled
+unfolding text_of what_text kind_name error_text digits read_line table.command_of words_of number_between mode_of name_of kind_of is_reserved row_of command_of opening elements_of does does_all recovered exited turn course_by transcript_by transcript set.created set.stats set.take set.take_class set.take_own set.chunk_limit set.limit_class set.class_of set.class_up_to set.cut_off set.reused set.from_new set.block_size set.halved set.halved_by set.renewed set.cut_up set.cut_rest set.with_own up8 grown doubled
 no_such_buffer = refl
 
 -- lines that aren't performed yet, and a line that begins with `@`
 pub bad_lines : told 0 (codes "begin" ∷ codes "lock 5 ShareLock" ∷ codes "report" ∷ codes "pin 1" ∷ codes "@1 rollback" ∷ codes "rollback" ∷ [])
     ≡ codes "1 begin level 1\n1 create c6 TopTransactionContext in c1\n1 owner o1\n1 ok\n1 ERROR 42601 syntax error\n1 abort level 1\n1 ERROR 42601 syntax error\n1 ERROR 25P02 transaction is aborted\n1 ERROR 42601 syntax error\n1 cleanup level 1\n1 owner o1 gone\n1 delete c6\n1 ok\n1 delete c5\n1 delete c4\n1 delete c3\n1 delete c2\n1 delete c1\n1 exit\n"
-unfolding text_of what_text kind_name error_text digits read_line table.command_of words_of number_between mode_of name_of kind_of is_reserved command_of opening elements_of does does_all recovered exited turn course_by transcript_by transcript set.created set.stats set.take set.take_class set.take_own set.chunk_limit set.limit_class set.class_of set.class_up_to set.cut_off set.reused set.from_new set.block_size set.halved set.halved_by set.renewed set.cut_up set.cut_rest set.with_own up8 grown doubled
+unfolding text_of what_text kind_name error_text digits read_line table.command_of words_of number_between mode_of name_of kind_of is_reserved row_of command_of opening elements_of does does_all recovered exited turn course_by transcript_by transcript set.created set.stats set.take set.take_class set.take_own set.chunk_limit set.limit_class set.class_of set.class_up_to set.cut_off set.reused set.from_new set.block_size set.halved set.halved_by set.renewed set.cut_up set.cut_rest set.with_own up8 grown doubled
 bad_lines = refl
 
 -- a context with two callbacks, the newest first, and an error behind it
 pub callbacks : told 0 (codes "begin" ∷ codes "context p CurTransactionContext default" ∷ codes "onreset p" ∷ codes "onreset p" ∷ codes "delete p" ∷ codes "raise" ∷ [])
     ≡ codes "1 begin level 1\n1 create c6 TopTransactionContext in c1\n1 owner o1\n1 ok\n1 create c7 p in c6\n1 ok\n1 hook 1 c7\n1 ok\n1 hook 2 c7\n1 ok\n1 callback 2 c7\n1 callback 1 c7\n1 delete c7\n1 ok\n1 ERROR P0001 raised\n1 abort level 1\n1 cleanup level 1\n1 owner o1 gone\n1 delete c6\n1 delete c5\n1 delete c4\n1 delete c3\n1 delete c2\n1 delete c1\n1 exit\n"
-unfolding text_of what_text kind_name error_text digits read_line table.command_of words_of number_between mode_of name_of kind_of is_reserved command_of opening elements_of does does_all recovered exited turn course_by transcript_by transcript set.created set.stats set.take set.take_class set.take_own set.chunk_limit set.limit_class set.class_of set.class_up_to set.cut_off set.reused set.from_new set.block_size set.halved set.halved_by set.renewed set.cut_up set.cut_rest set.with_own up8 grown doubled
+unfolding text_of what_text kind_name error_text digits read_line table.command_of words_of number_between mode_of name_of kind_of is_reserved row_of command_of opening elements_of does does_all recovered exited turn course_by transcript_by transcript set.created set.stats set.take set.take_class set.take_own set.chunk_limit set.limit_class set.class_of set.class_up_to set.cut_off set.reused set.from_new set.block_size set.halved set.halved_by set.renewed set.cut_up set.cut_rest set.with_own up8 grown doubled
 callbacks = refl
 
 -- the fifth fallible call fails
 pub a_call_fails : told 5 (codes "begin" ∷ codes "pin 7" ∷ codes "alloc a 100" ∷ [])
     ≡ codes "1 begin level 1\n1 create c6 TopTransactionContext in c1\n1 owner o1\n1 ok\n1 ERROR 53200 out of memory at call 5\n1 abort level 1\n1 ERROR 25P02 transaction is aborted\n1 cleanup level 1\n1 owner o1 gone\n1 delete c6\n1 delete c5\n1 delete c4\n1 delete c3\n1 delete c2\n1 delete c1\n1 exit\n"
-unfolding text_of what_text kind_name error_text digits read_line table.command_of words_of number_between mode_of name_of kind_of is_reserved command_of opening elements_of does does_all recovered exited turn course_by transcript_by transcript set.created set.stats set.take set.take_class set.take_own set.chunk_limit set.limit_class set.class_of set.class_up_to set.cut_off set.reused set.from_new set.block_size set.halved set.halved_by set.renewed set.cut_up set.cut_rest set.with_own up8 grown doubled
+unfolding text_of what_text kind_name error_text digits read_line table.command_of words_of number_between mode_of name_of kind_of is_reserved row_of command_of opening elements_of does does_all recovered exited turn course_by transcript_by transcript set.created set.stats set.take set.take_class set.take_own set.chunk_limit set.limit_class set.class_of set.class_up_to set.cut_off set.reused set.from_new set.block_size set.halved set.halved_by set.renewed set.cut_up set.cut_rest set.with_own up8 grown doubled
 a_call_fails = refl

@@ -4,7 +4,6 @@ use Rattle.std.specs.Io.KnownBytes.{IsAtEnd}
 use Rattle.pgs_io.specs.Lines.{lines_of, ended_lines}
 use Rattle.pgs_io.specs.Reading.{Reading, HasRead}
 use Rattle.pgs_step.specs.declared.events.Event.{Event}
-use Rattle.addr_space.specs.Space.{held}
 use Rattle.session_rules.specs.Transcript.{Course}
 use Rattle.session_core.specs.Answers.{Fits}
 use Rattle.session_core.specs.Lines.{IsBetweenLines}

@@ -1,5 +1,5 @@
 -- What the program holds, as a run of the rules.
-use Rattle.std.specs.Prelude.{◌≡◌, ℕ, [], ◌∷◌, length, true}
+use Rattle.std.specs.Prelude.{◌≡◌, ℕ, [], ◌∷◌}
 use Rattle.addr_space.specs.Space.{Space, accounts, held}
 use Rattle.reset_callbacks.specs.ShelfState.{ShelfState}
 use Rattle.session_rules.specs.State.{opening}

@@ -1,11 +1,11 @@
-use Rattle.std.proofs.Common.{◌≡◌, ℕ, ◌^◌, ◌<◌, [], ◌++◌, Option, Some, refl, sym, ◌∙◌, ap, subst, arith}
+use Rattle.std.proofs.Common.{◌≡◌, ℕ, ◌^◌, ◌<◌, Option, Some, sym, ◌∙◌, ap, subst, arith}
 use Rattle.addr_space.specs.Space.{Space, held}
 use Rattle.session_rules.specs.Transcript.{errors_in}
 use Rattle.session_core.specs.declared.calls.Calls.{Calls}
 use Rattle.session_core.specs.Answers.{Fits}
 use Rattle.session_core.specs.Performed.{Now, now}
 use Rattle.session_core.proofs.BetweenLines.{steps_of_lines}
-use Rattle.pgs_world.specs.Transcript.{Setting, course_of, shelf_after, transcript}
+use Rattle.pgs_world.specs.Transcript.{Setting, course_of, transcript}
 use Rattle.pgs_world.specs.Loop.{Performs, is_wanted}
 use Rattle.pgs_world.specs.PrinterView.{ShowsEvents, TakesEvents, seen}
 use Rattle.pgs_world.specs.PrinterLaws.{ShowsEvents-more, ShowsEvents-flush}

@@ -1,4 +1,4 @@
-use Rattle.std.proofs.Common.{◌≡◌, ℕ, refl, sym, ◌∙◌, ap, subst}
+use Rattle.std.proofs.Common.{ℕ, sym, ◌∙◌, ap, subst}
 use Rattle.addr_space.specs.Space.{Space, held}
 use Rattle.session_core.proofs.Opened.{opened_lines}
 use Rattle.pgs_world.specs.Transcript.{options_for}
