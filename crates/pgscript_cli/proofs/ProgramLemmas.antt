@@ -1,5 +1,6 @@
 -- Where no memory is found for the words, the space or the hooks, nothing is played.
-use Rattle.std.proofs.Common.{◌≡◌, ◌<◌, ◌⊎◌, inl, inr, ℕ, List, Option, refl, arith}
+use Rattle.std.proofs.Common.{◌≡◌, ◌<◌, ◌⊎◌, inl, inr, ℕ, List, [], Option, refl, arith}
+use Rattle.addr_space.specs.Space.{Space, held}
 use Rattle.pgscript_cli.specs.Program.{Plays}
 
 pub nothing_played : (words : List (List ℕ)) (left written : Option (List ℕ)) (source_faults sink_faults : ℕ)
@@ -24,3 +25,8 @@ nothing_played words left written source_faults sink_faults = record {
   call = λ _ h. absurd (h refl);
   complete = λ o asked _ _ _ _ _. inr (inr refl);
 }
+
+-- a space without regions holds nothing
+pub none_held : (s : Space) → s.regions ≡ [] → (account : ℕ) → held s account ≡ 0
+unfolding held
+none_held s none account = rw none refl

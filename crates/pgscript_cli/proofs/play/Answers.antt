@@ -1,36 +1,44 @@
-use Rattle.std.proofs.Common.{◌≡◌, ◌⊎◌, inl, inr, ◌∙◌}
-use Rattle.pgscript_cli.proofs.ProgramLemmas.{nothing_played}
+use Rattle.std.proofs.Common.{◌≡◌, ◌⊎◌, ◌∙◌, sym}
+use Rattle.pgscript_cli.proofs.ProgramLemmas.{none_held, nothing_played}
 use Rattle.pgscript_cli.proofs.play.Goals as goal
 
+-- without memory for the words, the space or the hooks nothing is read or written
+pub returns-in_default-clause-played : goal.returns-in_default-clause-played
+returns-in_default-clause-played g c = rw c.in-Ok.is (record { status = 5; call = 0; errors = 0; lines = 0 }, c.from-in_default.ensures, nothing_played _ _ _ _ _)
+
+pub returns-in_default-new-clause-played : goal.returns-in_default-new-clause-played
+returns-in_default-new-clause-played g c = rw c.in-Ok.is (record { status = 5; call = 0; errors = 0; lines = 0 }, c.from-in_default-new.ensures, nothing_played _ _ _ _ _)
+
+pub returns-in_default-all_hooks-clause-played : goal.returns-in_default-all_hooks-clause-played
+returns-in_default-all_hooks-clause-played g c = rw c.in-Ok.is (record { status = 5; call = 0; errors = 0; lines = 0 }, c.from-in_default-all_hooks.ensures, nothing_played _ _ _ _ _)
+
+pub run-outcome-requires-clause-empty : goal.run-outcome-requires-clause-empty
+run-outcome-requires-clause-empty g c = none_held _ c.in-Ok-new.ensures.regions
+
 -- the words that were gathered are handed to the run, and its status is the program's
-pub returns-in-Ok-words_of-clause-played : goal.returns-in-Ok-words_of-clause-played
-returns-in-Ok-words_of-clause-played g c =
+pub returns-clause-played : goal.returns-clause-played
+returns-clause-played g c =
     rw (c.in-Ok.is, ← c.deref.ensures.value ∙ c.in-Ok-words_of.ensures) (
-      c.run.result,
-      c.from-in-Ok-words_of.ensures,
+      c.run-outcome.result,
+      c.from-2.ensures,
       record {
-        whole = c.run.ensures.whole;
-        usage = c.run.ensures.usage;
-        usage_words = c.run.ensures.usage_words;
-        refused = λ some. elim (c.run.ensures.refused some) [ inl two ↦ inl two | inr four ↦ inr (inl four) ];
-        refused_counts = c.run.ensures.refused_counts;
-        source_fault = c.run.ensures.source_fault;
-        cut_off = c.run.ensures.cut_off;
-        too_long = c.run.ensures.too_long;
-        sink_fault = c.run.ensures.sink_fault;
-        unwritten = c.run.ensures.unwritten;
-        usage_unwritten = c.run.ensures.usage_unwritten;
-        wanted = c.run.ensures.wanted;
-        not_started = c.run.ensures.not_started;
-        source_grew = c.run.ensures.source_grew;
-        sink_grew = c.run.ensures.sink_grew;
-        statuses = c.run.ensures.statuses;
-        call = c.run.ensures.call;
-        complete = c.run.ensures.complete;
+        whole = λ o asked h. (c.run-outcome.new.shelf, rw (← c.in-Ok-all_hooks.ensures.shelf) (c.run-outcome.ensures.whole o asked h));
+        usage = c.run-outcome.ensures.usage;
+        usage_words = c.run-outcome.ensures.usage_words;
+        refused = c.run-outcome.ensures.refused;
+        refused_counts = c.run-outcome.ensures.refused_counts;
+        source_fault = c.run-outcome.ensures.source_fault;
+        cut_off = λ o asked h. (c.run-outcome.new.shelf, rw (← c.in-Ok-all_hooks.ensures.shelf) (c.run-outcome.ensures.cut_off o asked h));
+        too_long = λ o asked h. (c.run-outcome.new.shelf, rw (← c.in-Ok-all_hooks.ensures.shelf) (c.run-outcome.ensures.too_long o asked h));
+        sink_fault = c.run-outcome.ensures.sink_fault;
+        unwritten = λ o asked h. (c.run-outcome.new.shelf, rw (← c.in-Ok-all_hooks.ensures.shelf) (c.run-outcome.ensures.unwritten o asked h));
+        usage_unwritten = c.run-outcome.ensures.usage_unwritten;
+        wanted = λ o asked h k. (c.run-outcome.new.shelf, rw (← c.in-Ok-all_hooks.ensures.shelf) (c.run-outcome.ensures.wanted o asked h k));
+        not_started = λ h k. let left = c.run-outcome.ensures.not_started h k in (left.lines, left.errors, left.unread, left.unwritten);
+        source_grew = c.run-outcome.ensures.source_grew;
+        sink_grew = c.run-outcome.ensures.sink_grew;
+        statuses = c.run-outcome.ensures.statuses;
+        call = c.run-outcome.ensures.call;
+        complete = c.run-outcome.ensures.complete;
       },
     )
-
--- without memory for the words nothing is read or written
-pub returns-in-Err-words_of-clause-played : goal.returns-in-Err-words_of-clause-played
-returns-in-Err-words_of-clause-played g c =
-    rw c.in-Ok.is (record { status = 5; call = 0; errors = 0; lines = 0 }, c.from-in-Err-words_of.ensures, nothing_played _ _ _ _ _)
