@@ -30,6 +30,7 @@ impl Order {
     pub fn is_for<K: ExtKind>(&self, kinds: &KindShelf<K>, phase: Phase) -> bool
         ensures phase { result ≡ true → self.now.phase ≡ phase }
         ensures rows { result ≡ true → self.now.rows.items ≡ (table_of kinds.now).rows }
+        ensures kept { self.now.phase ≡ phase → self.now.rows.items ≡ (table_of kinds.now).rows → result ≡ true }
     {
         self.phase == phase && self.rows.as_slice() == kinds.rows()
     }

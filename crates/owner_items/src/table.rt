@@ -91,6 +91,7 @@ impl Table {
     pub fn has_room(&self) -> bool
         ensures entries { result ≡ true → vec_len self.now.entries + 64 ≤ vec_capacity self.now.entries }
         ensures slots { result ≡ true → self.now.index.used + 32 < length self.now.index.slots.items }
+        ensures enough { vec_len self.now.entries + 64 ≤ vec_capacity self.now.entries → self.now.index.used + 32 < length self.now.index.slots.items → result ≡ true }
     {
         self.entries.capacity() - self.entries.len() >= 64 && self.index.room() > 32
     }

@@ -48,3 +48,28 @@ returns-then-eq-clause-rows g c that =
     sym c.as_slice.ensures.value
     ∙ (same_rows _ (λ x y is. same_row x y is) c.as_slice.result.now c.rows.result.now (sym c.eq-then-eq.ensures ∙ that)
     ∙ c.rows.ensures.value)
+
+phase_itself : (a : Phase) → sameb the_type a a ≡ true
+phase_itself BeforeLocks = refl
+phase_itself Locks = refl
+phase_itself AfterLocks = refl
+
+row_itself : (x : KindRow) → (sameb the_type x.phase x.phase && (x.priority == x.priority)) ≡ true
+row_itself x = grind (arith, nat_tests, phase_itself x.phase)
+
+rows_themselves : (E : KindRow → KindRow → Bool) → ((x : KindRow) → E x x ≡ true) → (xs : List KindRow) → pointwise E xs xs ≡ true
+rows_themselves E itself [] = refl
+rows_themselves E itself (x ∷ xs) = rw (itself x, rows_themselves E itself xs) refl
+
+rows_equal : (E : KindRow → KindRow → Bool) → ((x : KindRow) → E x x ≡ true) → (xs ys : List KindRow) → xs ≡ ys → pointwise E xs ys ≡ true
+rows_equal E itself xs ys same = rw (sym same) (rows_themselves E itself xs)
+
+pub returns-then-eq-clause-kept : goal.returns-then-eq-clause-kept
+returns-then-eq-clause-kept g c phase rows =
+    c.eq-then-eq.ensures ∙ rows_equal _ row_itself c.as_slice.result.now c.rows.result.now (c.as_slice.ensures.value ∙ (rows ∙ sym c.rows.ensures.value))
+
+pub returns-else-eq-clause-kept : goal.returns-else-eq-clause-kept
+returns-else-eq-clause-kept g c phase rows =
+    let same : sameb the_type c.args.self.now.phase c.args.phase ≡ true =
+    ap (λ p. sameb the_type c.args.self.now.phase p) (sym phase) ∙ phase_itself c.args.self.now.phase in
+    c.eq.ensures ∙ same
