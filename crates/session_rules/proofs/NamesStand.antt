@@ -1,4 +1,4 @@
--- The steps on contexts of a name, and the pin of a buffer, lead from a session that stands to one that stands.
+-- The steps on contexts of a name lead from a session that stands to one that stands.
 use Rattle.std.proofs.Common.{◌≡◌, ◌⊎◌, ℕ, ◌+◌, ◌<◌, Bool, true, false, Option, Some, None, List, [], ◌∷◌, ◌++◌, refl, sym, ap, ◌∙◌, subst, inl, inr, arith}
 use Rattle.std.specs.Prelude.{◌==◌, ◌&&◌, ◌||◌, not, reverse, if◌then◌else◌, codes}
 use Rattle.std.specs.Option.{option_map, option_map_or, option_and_then}
@@ -131,7 +131,7 @@ checked name s refusal n is e =
     no_error (refusal n) (ap (λ (o : Option ℕ). option_map tree_error (option_and_then refusal o)) (sym is) ∙ e)
 
 -- an act on a context that a name leads to
-at_name : (P : Scene → Type 0) (o : Option ℕ) (act : ℕ → Scene → Ended) (s : Scene) → P s → ((n : ℕ) → o ≡ Some n → P (act n s).scene) → P (where_there o act s).scene
+pub at_name : (P : Scene → Type 0) (o : Option ℕ) (act : ℕ → Scene → Ended) (s : Scene) → P s → ((n : ℕ) → o ≡ Some n → P (act n s).scene) → P (where_there o act s).scene
 at_name P None act s before behind = before
 at_name P (Some n) act s before behind = behind n refl
 
@@ -199,56 +199,7 @@ waits_step s n hook h working there first =
     (has_changed s.session.current n f t ∙ h.current)
     (hooks_taken n f hook a.0 t s.around.shelf h.contexts.once a.1 refl first h.hooks)
 
--- A pin is taken by an owner that is there.
-begun_changed : (m n : ℕ) (f : Owner → Owner) (x : OwnerTree) → ((o : Owner) → (f o).begun ≡ o.begun) → has_begun m (changed n f x) ≡ has_begun m x
-begun_changed m n f x same =
-    elim (cases_eq m n) [
-      | inl e ↦ elim (cases_Bool (has m x)) [
-        | inl y ↦
-            let a = at_some m x y in
-            let now : at m (changed n f x) ≡ Some (f a.0) = rw (← e) (at_changed m f x a.0 a.1) in
-            ap (λ (o : Option Owner). option_map_or (λ owner. owner.begun) o false) now ∙ same a.0 ∙ ap (λ (o : Option Owner). option_map_or (λ owner. owner.begun) o false) (sym a.1)
-        | inr y ↦ ap (λ (o : Option Owner). option_map_or (λ owner. owner.begun) o false) (at_absent m (changed n f x) (has_changed m n f x ∙ y) ∙ sym (at_absent m x y))
-      ]
-      | inr ne ↦ ap (λ (o : Option Owner). option_map_or (λ owner. owner.begun) o false) (at_changed_other m n f x ne)
-    ]
-
-pin_step : (s : Scene) (n key : ℕ) → Stands s → IsWorking s.session.levels → has n s.session.owners ≡ true → key < 1024 → Stands (item_taken n buffer_pin key s).scene
-pin_step s n key h working there small =
-    let x : OwnerTree = s.session.owners in
-    let item : Item = record { kind = buffer_pin; key = key; serial = s.session.next_serial } in
-    let f : Owner → Owner = λ owner. record owner { items = item ∷ owner.items } in
-    let y : OwnerTree = changed n f x in
-    let a = at_some n x there in
-    let is : IsItem item = record { kind = record { from = omega arith; to = omega arith }; buffer = λ _. small } in
-    record {
-      contexts = h.contexts;
-      current = h.current;
-      hooks = h.hooks;
-      levels =
-          levels_stay s.session.levels s.session.contexts s.session.contexts x y (λ m i prot. stay_same s.session.contexts m prot)
-          (λ m i u. record { there = has_changed m n f x ∙ u; parent = parent_changed m n f x }) h.levels;
-      fit = fit_working s.session.levels s.session.contexts s.session.contexts x y s.session.current s.session.current working h.fit;
-      owners = record {
-        sound = sound_remembered n a.0 item x s.session.next_owner s.session.next_serial h.owners.sound a.1 refl;
-        each = λ m u. elim (h.owners.each m (sym (has_changed m n f x) ∙ u)) [
-          | inl i ↦ inl i
-          | inr r ↦ absurd (not_released s.session.levels m x working r)
-        ];
-        begun = λ m u. absurd (not_released s.session.levels m x working (h.owners.begun m (sym (begun_changed m n f x (λ o. refl)) ∙ u)));
-        items = all_changed HasItems n f x (λ o k. All-cons IsItem item o.items is k) h.owners.items;
-      };
-      portals = h.portals;
-      plans = h.plans;
-      snapshots = h.snapshots;
-    }
-
--- the owner of the deepest level is there
-owner_there : (levels : List LevelState) (t : Contexts) (x : OwnerTree) (n : ℕ) → AreLevels levels t x → option_and_then (λ (level : LevelState). level.owner) (first_of levels) ≡ Some n → has n x ≡ true
-owner_there [] t x n l e = absurd (no_value None n refl e)
-owner_there (level ∷ levels) t x n l e = (l.0.owner n e).there
-
--- Each element on contexts of a name, behind its checks, and the pin of a buffer that there is.
+-- Each element on contexts of a name, behind its checks.
 module _ (w : Option ℕ) (moment : Moment) (h : Stands moment.scene) (working : IsWorking moment.scene.session.levels) where
   pub switch_works : (name : Text) → Works moment.scene (does w (element.Switch name) moment).moment.scene
   unfolding does
@@ -333,13 +284,3 @@ module _ (w : Option ℕ) (moment : Moment) (h : Stands moment.scene) (working :
       at_hook : (n : ℕ) → has n moment.scene.session.contexts ≡ true → (o : Option Hook) → first_of moment.scene.around.shelf.fresh ≡ o → Works moment.scene (where_there o (hook_waits n) moment.scene).scene
       at_hook n there None e = nothing_works moment.scene h
       at_hook n there (Some hook) e = record { stands = waits_step moment.scene n hook h working there e; levels = refl }
-
-  pub pin_works : (key : ℕ) → key < 1024 → Works moment.scene (does w (element.Take OfLevel buffer_pin key) moment).moment.scene
-  unfolding does
-  pin_works key small =
-      fallible_keeps (Works moment.scene) w moment _ (at_owner OfLevel (λ owner. item_taken owner buffer_pin key)) (nothing_works moment.scene h)
-      (λ _. at_name (Works moment.scene) (level_owner moment.scene.session) (λ owner. item_taken owner buffer_pin key) moment.scene (nothing_works moment.scene h)
-      (λ n e. record {
-        stands = pin_step moment.scene n key h working (owner_there moment.scene.session.levels moment.scene.session.contexts moment.scene.session.owners n h.levels e) small;
-        levels = refl;
-      }))
