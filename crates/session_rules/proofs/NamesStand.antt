@@ -1,14 +1,11 @@
 -- The steps on contexts of a name lead from a session that stands to one that stands.
-use Rattle.std.proofs.Common.{◌≡◌, ◌⊎◌, ℕ, ◌+◌, ◌<◌, Bool, true, false, Option, Some, None, List, [], ◌∷◌, ◌++◌, refl, sym, ap, ◌∙◌, subst, inl, inr, arith}
+use Rattle.std.proofs.Common.{◌≡◌, ◌⊎◌, ℕ, ◌+◌, Bool, true, false, Option, Some, None, List, [], ◌∷◌, ◌++◌, refl, sym, ap, ◌∙◌, subst, inl, inr, arith}
 use Rattle.std.specs.Prelude.{◌==◌, ◌&&◌, ◌||◌, not, reverse, if◌then◌else◌, codes}
-use Rattle.std.specs.Option.{option_map, option_map_or, option_and_then}
-use Rattle.std.proofs.lemmas.Bool.{cases_eq, cases_Bool, eq-eqb, both_ways, or_parts}
+use Rattle.std.specs.Option.{option_map, option_and_then}
+use Rattle.std.proofs.lemmas.Bool.{eq-eqb, both_ways, or_parts}
 use Rattle.std.proofs.lemmas.List.{reverse-append}
-use Rattle.std.proofs.lemmas.List.Elements.{All-cons}
-use Rattle.forest.specs.Forest.{Empty, Node, either, has, at, is_above, changed, with_children}
-use Rattle.forest.proofs.Trees.{at_some, at_absent, has_changed}
-use Rattle.forest.proofs.Mapped.{at_changed, at_changed_other, parent_changed}
-use Rattle.pgs_step.specs.declared.ids.Item.{Item}
+use Rattle.forest.specs.Forest.{Empty, Node, either, has, is_above, with_children}
+use Rattle.forest.proofs.Trees.{at_some, has_changed}
 use Rattle.pgs_command.specs.Words.{is_text}
 use Rattle.reset_callbacks.specs.Hook.{Hook}
 use Rattle.reset_callbacks.specs.ShelfState.{taken}
@@ -22,26 +19,24 @@ use Rattle.context_rules.specs.Refusals.{delete_refusal, is_within, reset_refusa
 use Rattle.context_rules.specs.Refusals as refusals
 use Rattle.context_rules.specs.declared.errors.TreeError.{TreeError}
 use Rattle.context_rules.specs.declared.errors.TreeError.TheVariants.{Protected, InUse, Cycle}
-use Rattle.owner_core.specs.Owners.{Owner, OwnerTree, has_begun}
-use Rattle.owner_core.proofs.Sounds.{sound_remembered}
-use Rattle.session_rules.specs.State.{LevelState, SessionState, buffer_pin, cache_context, context_of, first_of, last_of, level_context, level_owner, top_context}
+use Rattle.owner_core.specs.Owners.{OwnerTree}
+use Rattle.session_rules.specs.State.{LevelState, SessionState, cache_context, context_of, first_of, last_of, level_context, top_context}
 use Rattle.session_rules.specs.World.{Scene, Moment}
 use Rattle.session_rules.specs.Elements as element
-use Rattle.session_rules.specs.Elements.{OfLevel, Text}
+use Rattle.session_rules.specs.Elements.{Text}
 use Rattle.session_rules.specs.Lookup.{context_named}
 use Rattle.session_rules.specs.Acts.{Ended, of_contexts, children_gone, context_cleared, context_cleared_alone, context_gone, switched, where_there}
 use Rattle.session_rules.specs.Checks.{failure, refusal_at, tree_error}
 use Rattle.session_rules.specs.Making.{context_made, new_context_made}
-use Rattle.session_rules.specs.Parts.{at_context, at_owner, context_moved}
-use Rattle.session_rules.specs.Taking.{hook_registered, hook_waits, item_taken}
+use Rattle.session_rules.specs.Parts.{at_context, context_moved}
+use Rattle.session_rules.specs.Taking.{hook_registered, hook_waits}
 use Rattle.session_rules.specs.Does.{does}
-use Rattle.session_rules.specs.Standing.{AreContexts, AreHooks, AreLevels, HasItems, IsItem, Stands}
+use Rattle.session_rules.specs.Standing.{AreContexts, AreHooks, AreLevels, Stands}
 use Rattle.session_rules.proofs.Forests.{has_emptied, has_left}
-use Rattle.session_rules.proofs.Guarded.{all_changed}
 use Rattle.session_rules.proofs.ContextsKept.{Stay, contexts_alone, contexts_changed, contexts_children_gone, contexts_created, contexts_gone, contexts_reparented, has_alone, has_created, has_reparented, protected_has, stay_alone, stay_changed, stay_children_gone, stay_created, stay_gone, stay_on, stay_reparented, stay_same, top_protected}
 use Rattle.session_rules.proofs.HooksKept.{conserves_alone, conserves_children, conserves_cleared, conserves_gone, hooks_ended, hooks_put, hooks_taken, hooks_reparented}
-use Rattle.session_rules.proofs.LevelsKept.{IsContext, levels_stay, no_value, one_value}
-use Rattle.session_rules.proofs.StepsStand.{IsWorking, Works, contexts_step, fallible_keeps, fit_working, not_released, nothing_works}
+use Rattle.session_rules.proofs.LevelsKept.{IsContext, no_value, one_value}
+use Rattle.session_rules.proofs.StepsStand.{IsWorking, Works, contexts_step, fallible_keeps, nothing_works}
 
 -- the context of the first level of a list that is put together
 first_context : (levels : List LevelState) (n : ℕ) → context_of (first_of levels) ≡ Some n → IsContext n levels
