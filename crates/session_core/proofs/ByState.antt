@@ -38,6 +38,9 @@ with_levels c session levels e = ap (λ (ls : List LevelState). elements_of c (r
 worked : (c : Command) (session : SessionState) → IsWork c → unaborted c session ≡ in_transaction session.levels (work_of c session)
 worked command.Raise session h = refl
 worked (command.Pin buffer) session h = refl
+worked (command.Unpin buffer) session h = refl
+worked (command.Reference class key) session h = refl
+worked (command.Unreference class key) session h = refl
 worked (command.Context name parent kind) session h = refl
 worked (command.Switch name) session h = refl
 worked (command.OnReset name) session h = refl
@@ -166,6 +169,9 @@ pub work_aborted : (c : Command) → IsWork c → (level : LevelState) (session 
 unfolding elements_of
 work_aborted command.Raise h level session = refl
 work_aborted (command.Pin buffer) h level session = refl
+work_aborted (command.Unpin buffer) h level session = refl
+work_aborted (command.Reference class key) h level session = refl
+work_aborted (command.Unreference class key) h level session = refl
 work_aborted (command.Context name parent kind) h level session = refl
 work_aborted (command.Switch name) h level session = refl
 work_aborted (command.OnReset name) h level session = refl
@@ -235,6 +241,9 @@ others_aborted command.Rollback h nothing commit rollback level session = absurd
 others_aborted command.Begin h nothing commit rollback level session = begin_aborted level session
 others_aborted command.Raise h nothing commit rollback level session = work_aborted command.Raise h level session
 others_aborted (command.Pin buffer) h nothing commit rollback level session = work_aborted (command.Pin buffer) h level session
+others_aborted (command.Unpin buffer) h nothing commit rollback level session = work_aborted (command.Unpin buffer) h level session
+others_aborted (command.Reference class key) h nothing commit rollback level session = work_aborted (command.Reference class key) h level session
+others_aborted (command.Unreference class key) h nothing commit rollback level session = work_aborted (command.Unreference class key) h level session
 others_aborted (command.Context name parent kind) h nothing commit rollback level session = work_aborted (command.Context name parent kind) h level session
 others_aborted (command.Switch name) h nothing commit rollback level session = work_aborted (command.Switch name) h level session
 others_aborted (command.OnReset name) h nothing commit rollback level session = work_aborted (command.OnReset name) h level session
@@ -264,6 +273,9 @@ idle_work : (c : Command) → IsWork c → (session : SessionState) → elements
 unfolding elements_of
 idle_work command.Raise h session = refl
 idle_work (command.Pin buffer) h session = refl
+idle_work (command.Unpin buffer) h session = refl
+idle_work (command.Reference class key) h session = refl
+idle_work (command.Unreference class key) h session = refl
 idle_work (command.Context name parent kind) h session = refl
 idle_work (command.Switch name) h session = refl
 idle_work (command.OnReset name) h session = refl

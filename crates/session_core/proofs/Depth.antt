@@ -1,12 +1,19 @@
 -- How many levels elements leave, whatever refuses them.
-use Rattle.std.proofs.Common.{◌≡◌, ℕ, ◌+◌, ◌≤◌, Bool, true, false, List, [], ◌∷◌, length, Option, Some, None, refl, subst, arith}
+use Rattle.std.proofs.Common.{◌≡◌, ℕ, ◌+◌, ◌≤◌, ◌==◌, ◌&&◌, Bool, true, false, List, [], ◌∷◌, length, Option, Some, None, refl, sym, ap, subst, arith}
+use Rattle.std.specs.Prelude.{◌-◌}
 use Rattle.pgs_command.specs.declared.commands.Command.{Command}
 use Rattle.pgs_command.specs.declared.commands.Command.TheVariants as command
 use Rattle.pgs_step.specs.declared.errors.Error.{Error}
 use Rattle.pgs_step.specs.declared.events.What.{What}
-use Rattle.session_rules.specs.State.{LevelState, SessionState, buffer_pin, deepest_changed, first_of, level_context}
+use Rattle.pgs_step.specs.declared.events.What.TheVariants as what
+use Rattle.pgs_step.specs.declared.ids.KindId.{KindId}
+use Rattle.pgs_command.specs.Kinds.{class_kind}
+use Rattle.owner_core.specs.Owners.{forgotten}
+use Rattle.file_table.specs.Descriptors.{is_among, without}
+use Rattle.session_rules.specs.State.{LevelState, SessionState, StandingPlan, buffer_pin, deepest_changed, first_of, level_context}
 use Rattle.session_rules.specs.World.{Moment, Scene}
-use Rattle.session_rules.specs.Acts.{Ended, children_gone, context_cleared, context_cleared_alone, context_gone, nothing, switched, where_there}
+use Rattle.session_rules.specs.Acts.{Ended, changes, children_gone, context_cleared, context_cleared_alone, context_gone, in_order, nothing, say, switched, where_so, where_there}
+use Rattle.session_rules.specs.Releases.{Keeper, NoOne, TheDescriptors, TheKind, ThePlans, given_back, item_released, keeper_of, left_to, plan_becomes, plan_settled, plan_stays}
 use Rattle.any_ctx.specs.declared.any.CtxKind.{CtxKind}
 use Rattle.session_rules.specs.Elements.{Check, Element, LevelContext, OfLevel, Text}
 use Rattle.session_rules.specs.Elements as element
@@ -14,11 +21,12 @@ use Rattle.session_rules.specs.Checks.{failure}
 use Rattle.session_rules.specs.Calls.{fallible, refused_call, unless_refused}
 use Rattle.session_rules.specs.Commands.{start}
 use Rattle.session_rules.specs.Does.{does, does_all, then_done}
-use Rattle.session_rules.specs.Lookup.{context_named, memory_in, owner_in}
+use Rattle.session_rules.specs.Lookup.{context_named, memory_in, newest, owner_in, plan_at}
 use Rattle.session_rules.specs.Making.{context_made, level_made, new_context_made, new_owner_made}
 use Rattle.session_rules.specs.Parts.{at_context, at_owner, context_moved}
-use Rattle.session_rules.specs.Taking.{chunk_resized, hook_registered, hook_waits, item_taken, memory_taken}
+use Rattle.session_rules.specs.Taking.{chunk_resized, hook_registered, hook_waits, item_taken, memory_taken, remembers, taken_by}
 use Rattle.session_rules.specs.Works.{kind_of, work_of}
+use Rattle.session_rules.proofs.ItemsStand.{class_unkept}
 use Rattle.session_store.specs.State.{levels_of, session_of}
 use Rattle.session_store.proofs.Deepest.{levels_long}
 use Rattle.session_core.specs.Answers.{at_calls, wants}
@@ -182,6 +190,44 @@ take_leaves buffer w m =
     fallible_leaves 0 (at_owner OfLevel (λ owner. item_taken owner buffer_pin buffer))
     (λ scene. where_leaves (owner_in OfLevel scene.session) (λ owner. item_taken owner buffer_pin buffer) scene (λ owner. omega arith)) w m _
 
+-- an item of another kind is taken, and one is given back
+take_kind_leaves : (kind : KindId) (key : ℕ) → keeper_of kind ≡ NoOne → Leaves 0 (element.Take OfLevel kind key)
+unfolding does
+take_kind_leaves kind key unkept w m =
+    fallible_leaves 0 (at_owner OfLevel (λ owner. item_taken owner kind key))
+    (λ scene. where_leaves (owner_in OfLevel scene.session) (λ owner. item_taken owner kind key) scene
+    (λ owner. subst (λ (z : Scene). levels_at z ≤ levels_at scene + 0) (sym (ap (λ (k : Keeper). (in_order (taken_by k key ∷ remembers owner kind key ∷ []) scene).scene) unkept)) (omega arith))) w m _
+
+becomes_leaves : (plan : StandingPlan) → Acts 0 (plan_becomes plan)
+becomes_leaves plan scene = go (plan.discarded && (plan.references == 0))
+  where
+    go : (b : Bool) → levels_at (elim b as (λ _. Ended) [ true ↦ plan_settled plan scene | false ↦ plan_stays plan scene ]).scene ≤ levels_at scene + 0
+    go true = omega arith
+    go false = omega arith
+
+left_leaves : (keeper : Keeper) (key : ℕ) → Acts 0 (left_to keeper key)
+left_leaves NoOne key scene = omega arith
+left_leaves ThePlans key scene =
+    where_leaves (plan_at key scene.session.plans) (λ plan. plan_becomes (record plan { references = plan.references - 1 })) scene
+    (λ plan. becomes_leaves (record plan { references = plan.references - 1 }) scene)
+left_leaves TheDescriptors key scene = go (is_among key scene.session.recent)
+  where
+    go : (b : Bool) → levels_at (where_so b (λ scene. record {
+      scene = record scene { session = record scene.session { recent = without key scene.session.recent } };
+      events = what.DescriptorClosed key ∷ [];
+    }) scene).scene ≤ levels_at scene + 0
+    go true = omega arith
+    go false = omega arith
+left_leaves (TheKind place) key scene = omega arith
+
+give_leaves : (kind : KindId) (key : ℕ) → Leaves 0 (element.GiveBack kind key)
+unfolding does
+give_leaves kind key w m =
+    where_leaves (owner_in OfLevel m.scene.session) (λ owner. item_released owner kind key) m.scene
+    (λ owner. where_leaves (newest owner kind key m.scene.session)
+    (λ item. in_order (changes (λ session. record session { owners = forgotten owner kind key session.owners }) ∷ say (what.Release item owner) ∷ given_back item ∷ [])) m.scene
+    (λ item. left_leaves (keeper_of item.kind) item.key (record m.scene { session = record m.scene.session { owners = forgotten owner kind key m.scene.session.owners } })))
+
 one_leaves : (x : Element) → Leaves 0 x → LeaveAll 0 (x ∷ [])
 one_leaves x h = more_leave 0 0 x [] h none_leave
 
@@ -191,6 +237,9 @@ checked_leave check es h = more_leave 0 0 (element.Checks check) es (check_leave
 work_leaves : (c : Command) → IsWork c → (session : SessionState) → LeaveAll 0 (work_of c session)
 work_leaves command.Raise h session = checked_leave _ _ none_leave
 work_leaves (command.Pin buffer) h session = checked_leave _ _ (more_leave 0 0 _ _ enlarge_leaves (one_leaves _ (take_leaves buffer)))
+work_leaves (command.Unpin buffer) h session = checked_leave _ _ (one_leaves _ (give_leaves buffer_pin buffer))
+work_leaves (command.Reference class key) h session = more_leave 0 0 _ _ enlarge_leaves (one_leaves _ (take_kind_leaves (class_kind class) key (class_unkept class)))
+work_leaves (command.Unreference class key) h session = checked_leave _ _ (one_leaves _ (give_leaves (class_kind class) key))
 work_leaves (command.Context name parent kind) h session = checked_leave _ _ (checked_leave _ _ (one_leaves _ (make_leaves name parent (kind_of kind))))
 work_leaves (command.Switch name) h session = checked_leave _ _ (one_leaves _ (switch_leaves name))
 work_leaves (command.OnReset name) h session = checked_leave _ _ (one_leaves _ (register_leaves name))

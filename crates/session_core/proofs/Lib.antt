@@ -16,6 +16,7 @@ pub mod OnLevels
 pub mod Recovered
 pub mod Exited
 pub mod Pinning
+pub mod HeldItems
 pub mod Between
 pub mod BetweenLines
 pub mod Depth

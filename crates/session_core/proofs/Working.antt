@@ -25,6 +25,9 @@ as_command j k x y session a b P r le is h = subst (λ (z : Command). Performed 
 pub is_work : (c : Command) → IsWork c → rules.IsWork c
 is_work command.Raise h = tt
 is_work (command.Pin buffer) h = tt
+is_work (command.Unpin buffer) h = tt
+is_work (command.Reference class key) h = tt
+is_work (command.Unreference class key) h = tt
 is_work (command.Context name parent kind) h = tt
 is_work (command.Switch name) h = tt
 is_work (command.OnReset name) h = tt

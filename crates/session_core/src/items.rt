@@ -1,6 +1,7 @@
-//! The commands by which the owner of the deepest level takes something.
+//! The commands by which the owner of the deepest level takes an item or gives one back.
 ghost use Rattle.std.specs.Prelude.{◌≡◌, ◌<◌, ◌≤◌, ◌^◌, [], ◌∷◌, false, OnOk};
 ghost use Rattle.pgs_command.specs.declared.commands.Command.TheVariants as command;
+ghost use Rattle.pgs_command.specs.Kinds.{class_kind};
 ghost use Rattle.addr_space.specs.Space.{Space};
 ghost use Rattle.reset_callbacks.specs.ShelfState.{ShelfState};
 ghost use Rattle.owner_core.specs.Owners.{IsLive, has_begun, owners_of, spare_of};
@@ -18,7 +19,8 @@ ghost use Rattle.session_core.specs.Performed.{now, HasRoom, IsBetweenSteps, Per
 
 use crate::session::Session;
 use crate::shared::Shared;
-use pgs_step::{Emit, Error, OwnerId};
+use pgs_command::ReferenceClass;
+use pgs_step::{Emit, Error, KindId, OwnerId};
 use reset_callbacks::ResetHook;
 
 /// How many buffers there are.
@@ -48,6 +50,58 @@ impl<H: ResetHook> Session<H> {
             return Err(error);
         }
         Ok(())
+    }
+
+    /// `unpin`: the owner of the deepest level gives back its newest pin of a buffer.
+    pub(crate) fn unpin<E: Emit>(
+        &mut self,
+        buffer: u32,
+        shared: &mut Shared<'_, H>,
+        out: &mut E,
+    ) -> Result<(), Error>
+        requires between { IsBetweenSteps (now self.old shared.old) }
+        requires active { InActiveLevel (levels_of self.old.levels) }
+        ensures performed { (session : SessionState) → Performed 0 (work_of (command.Unpin buffer) session) (now self.old shared.old) (now self.new shared.new) (λ events. E.emits out.old events out.new) (refusal_of result) }
+    {
+        self.give_back(KindId::BUFFER_PIN, buffer, shared, out)
+    }
+
+    /// `ref`: the owner of the deepest level takes a reference to a cache's entry.
+    pub(crate) fn reference<E: Emit>(
+        &mut self,
+        class: ReferenceClass,
+        key: u32,
+        shared: &mut Shared<'_, H>,
+        out: &mut E,
+    ) -> Result<(), Error>
+        requires between { IsBetweenSteps (now self.old shared.old) }
+        requires room { HasRoom 2 (now self.old shared.old) }
+        requires active { InActiveLevel (levels_of self.old.levels) }
+        ensures performed { (session : SessionState) → Performed 2 (work_of (command.Reference class key) session) (now self.old shared.old) (now self.new shared.new) (λ events. E.emits out.old events out.new) (refusal_of result) }
+    {
+        let owner = self.owner_of_level();
+        if let Err(error) = self.enlarge(owner, shared) {
+            return Err(error);
+        }
+        if let Err(error) = self.take_reference(owner, class, key, shared, out) {
+            return Err(error);
+        }
+        Ok(())
+    }
+
+    /// `unref`: the owner of the deepest level gives back its newest reference to a cache's entry.
+    pub(crate) fn unreference<E: Emit>(
+        &mut self,
+        class: ReferenceClass,
+        key: u32,
+        shared: &mut Shared<'_, H>,
+        out: &mut E,
+    ) -> Result<(), Error>
+        requires between { IsBetweenSteps (now self.old shared.old) }
+        requires active { InActiveLevel (levels_of self.old.levels) }
+        ensures performed { (session : SessionState) → Performed 0 (work_of (command.Unreference class key) session) (now self.old shared.old) (now self.new shared.new) (λ events. E.emits out.old events out.new) (refusal_of result) }
+    {
+        self.give_back(class.kind(), key, shared, out)
     }
 
     /// The owner of the deepest level, which is active.
@@ -103,6 +157,50 @@ impl<H: ResetHook> Session<H> {
             return Err(error);
         }
         self.store.pin(owner, buffer, out);
+        Ok(())
+    }
+    /// Takes a reference in room that was made before.
+    fn take_reference<E: Emit>(
+        &mut self,
+        owner: OwnerId,
+        class: ReferenceClass,
+        key: u32,
+        shared: &mut Shared<'_, H>,
+        out: &mut E,
+    ) -> Result<(), Error>
+        requires keeps { Keeps self.old shared.old.space.now }
+        requires room { HasRoom 1 (now self.old shared.old) }
+        requires owner { IsLevelOwner self.old owner }
+        requires live { IsLive self.old.owners owner }
+        requires spare { 1 ≤ spare_of owner.number self.old.owners }
+        requires not_begun { has_begun owner.number (owners_of self.old.owners) ≡ false }
+        ensures performed { Performed 1 (e.Take OfLevel (class_kind class) key ∷ []) (now self.old shared.old) (now self.new shared.new) (λ events. E.emits out.old events out.new) (refusal_of result) }
+    {
+        if let Err(error) = shared.calls.next() {
+            return Err(error);
+        }
+        if let Err(_) = self.store.add_reference(owner, class.kind(), key, out) {
+            return Err(Error::NoMemory(shared.calls.count));
+        }
+        Ok(())
+    }
+
+    /// Gives back the newest item of a kind and key that the owner of the deepest level has.
+    fn give_back<E: Emit>(
+        &mut self,
+        kind: KindId,
+        key: u32,
+        shared: &mut Shared<'_, H>,
+        out: &mut E,
+    ) -> Result<(), Error>
+        requires between { IsBetweenSteps (now self.old shared.old) }
+        requires active { InActiveLevel (levels_of self.old.levels) }
+        ensures performed { Performed 0 (e.Checks (e.Holds kind key) ∷ e.GiveBack kind key ∷ []) (now self.old shared.old) (now self.new shared.new) (λ events. E.emits out.old events out.new) (refusal_of result) }
+    {
+        let owner = self.owner_of_level();
+        if let Err(_) = self.store.give_back(owner, kind, key, out) {
+            return Err(Error::NotHeld);
+        }
         Ok(())
     }
 }

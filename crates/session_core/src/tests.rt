@@ -6,7 +6,7 @@ ghost use Rattle.session_core.specs.Performed.{now, Grows, HasRoom};
 
 use crate::{Calls, Session, Shared};
 use addr_space::Space;
-use pgs_command::{Command, ContextKind};
+use pgs_command::{Command, ContextKind, ReferenceClass};
 use pgs_step::{ChunkBytes, Error, EventList, Item, KindId, Name, What};
 use reset_callbacks::{CountedHook, Shelf};
 use std::test::Fail;
@@ -268,5 +268,109 @@ fn a_call_fails_in_the_block(rt: HostRuntime) -> Result<(), Fail> {
     ];
     assert_eq!(rt; played.out.events(), events.as_slice());
     assert_eq!(rt; (played.depth, played.held), (1, 0));
+    Ok(())
+}
+
+#[test]
+fn items_are_given_back_the_newest_first(rt: HostRuntime) -> Result<(), Fail> {
+    let commands = [
+        Command::Begin,
+        Command::Pin(7),
+        Command::Pin(7),
+        Command::Reference {
+            class: ReferenceClass::Relcache,
+            key: 7,
+        },
+        Command::Unpin(7),
+        Command::Unreference {
+            class: ReferenceClass::Relcache,
+            key: 7,
+        },
+        Command::Reference {
+            class: ReferenceClass::TupleDescriptor,
+            key: 9,
+        },
+        Command::Unpin(8),
+        Command::Rollback,
+    ];
+    let played = outcome(&rt, 0, commands.as_slice())?;
+    let first = Item {
+        kind: KindId::BUFFER_PIN,
+        key: 7,
+        serial: 1,
+    };
+    let second = Item { serial: 2, ..first };
+    let relation = Item {
+        kind: KindId::RELCACHE_REFERENCE,
+        key: 7,
+        serial: 3,
+    };
+    let descriptor = Item {
+        kind: KindId::TUPLE_DESCRIPTOR_REFERENCE,
+        key: 9,
+        serial: 4,
+    };
+    let events = [
+        What::BeginLevel(1),
+        What::Create {
+            context: 6,
+            name: name(b"TopTransactionContext")?,
+            parent: 1,
+        },
+        What::Owner(1),
+        What::Ok,
+        What::Acquire {
+            item: first,
+            owner: 1,
+        },
+        What::Ok,
+        What::Acquire {
+            item: second,
+            owner: 1,
+        },
+        What::Ok,
+        What::Acquire {
+            item: relation,
+            owner: 1,
+        },
+        What::Ok,
+        What::Release {
+            item: second,
+            owner: 1,
+        },
+        What::Ok,
+        What::Release {
+            item: relation,
+            owner: 1,
+        },
+        What::Ok,
+        What::Acquire {
+            item: descriptor,
+            owner: 1,
+        },
+        What::Ok,
+        What::Error(Error::NotHeld),
+        What::AbortLevel(1),
+        What::Release {
+            item: first,
+            owner: 1,
+        },
+        What::Release {
+            item: descriptor,
+            owner: 1,
+        },
+        What::CleanupLevel(1),
+        What::OwnerGone(1),
+        What::Delete(6),
+        What::Ok,
+        What::Delete(5),
+        What::Delete(4),
+        What::Delete(3),
+        What::Delete(2),
+        What::Delete(1),
+        What::Exit,
+    ];
+    assert_eq!(rt; played.out.events(), events.as_slice());
+    assert_eq!(rt; (played.depth, played.held), (0, 0));
     Ok(())
 }

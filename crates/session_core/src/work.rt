@@ -54,6 +54,9 @@ impl<H: ResetHook> Session<H> {
         match command {
             Command::Raise => Err(Error::Raised),
             Command::Pin(buffer) => self.pin(*buffer, shared, out),
+            Command::Unpin(buffer) => self.unpin(*buffer, shared, out),
+            Command::Reference { class, key } => self.reference(*class, *key, shared, out),
+            Command::Unreference { class, key } => self.unreference(*class, *key, shared, out),
             Command::Alloc { .. }
             | Command::AllocZeroed { .. }
             | Command::Realloc { .. }

@@ -1,22 +1,25 @@
 -- The acts of a session's rules on its owners.
-use Rattle.std.proofs.Common.{◌≡◌, ℕ, ◌+◌, Bool, Option, List, [], ◌∷◌, ◌++◌, append-nil, refl, sym, ap, ◌∙◌, subst}
+use Rattle.std.proofs.Common.{◌≡◌, ℕ, ◌+◌, Bool, find, Option, Some, List, [], ◌∷◌, ◌++◌, append-nil, refl, sym, ap, ◌∙◌, subst}
 use Rattle.pgs_step.specs.declared.events.What.{What}
 use Rattle.pgs_step.specs.declared.events.What.TheVariants as what
+use Rattle.pgs_step.specs.declared.ids.Item.{Item}
+use Rattle.pgs_step.specs.declared.ids.KindId.{KindId}
 use Rattle.pgs_step.specs.declared.ids.Phase.{Phase}
 use Rattle.pgs_step.specs.declared.ids.Phase.TheVariants.{BeforeLocks, Locks, AfterLocks}
 use Rattle.forest.specs.Forest.{removed}
 use Rattle.owner_kinds.specs.Kind.{Kind}
-use Rattle.owner_core.specs.Owners.{OwnerTable, OwnerTree, created, owners_of, remembered}
+use Rattle.owner_items.specs.ItemList.{is_of}
+use Rattle.owner_core.specs.Owners.{OwnerTable, OwnerTree, created, forgotten, items_of, owners_of, remembered}
 use Rattle.owner_core.specs.Released.{released}
 use Rattle.owner_core.specs.Steps.{Step, Said, GivesBack, ReleasesLocks, PassesLocks, ReleasesAllLocks, gone_events, made_event, release_steps}
 use Rattle.lock_local.specs.Locks.{Lock}
 use Rattle.session_rules.specs.State.{StandingPlan, buffer_pin}
 use Rattle.session_rules.specs.World.{Scene}
-use Rattle.session_rules.specs.Acts.{Ended, and_then, behind, for_each, nothing}
+use Rattle.session_rules.specs.Acts.{Ended, and_then, behind, changes, for_each, in_order, nothing, say, where_there}
 use Rattle.session_rules.specs.Making.{owner_made}
-use Rattle.session_rules.specs.Taking.{item_taken}
-use Rattle.session_rules.specs.Releases.{Keeper, NoOne, ThePlans, TheDescriptors, TheKind, keeper_of, left_to, owner_gone, owner_released, phase_released, step_done}
-use Rattle.session_owners.specs.Pins.{built_in_kinds, said, said-append}
+use Rattle.session_rules.specs.Taking.{item_taken, remembers, taken_by}
+use Rattle.session_rules.specs.Releases.{Keeper, NoOne, ThePlans, TheDescriptors, TheKind, given_back, item_released, keeper_of, left_to, owner_gone, owner_released, phase_released, step_done}
+use Rattle.session_owners.specs.Tables.{built_in_kinds, said, said-append}
 use Rattle.session_owners.specs.Fitting.{Acted, OwnersFit, with_owners}
 
 -- Owners put into a scene fit it, those put in last count, and those that fit it change nothing.
@@ -97,15 +100,22 @@ acted_made parent a b Says e f g says =
     (λ scene. owners_same (bare a scene) (created parent a.next_owner (owners_of a)) (owners_of b) (a.next_owner + 1) b.next_owner a.next_serial b.next_serial (sym e) (sym f) (sym g))
     (λ scene. says)
 
+pub acted_taken : (n : ℕ) (kind : KindId) (key : ℕ) (a b : OwnerTable) (Says : List What → Type 0) → keeper_of kind ≡ NoOne
+    → owners_of b ≡ remembered n (record { kind = kind; key = key; serial = a.next_serial }) (owners_of a)
+    → b.next_owner ≡ a.next_owner → b.next_serial ≡ a.next_serial + 1
+    → Says (what.Acquire (record { kind = kind; key = key; serial = a.next_serial }) n ∷ []) → Acted (item_taken n kind key) a b Says
+unfolding bare with_parts
+acted_taken n kind key a b Says unkept e f g says =
+    acted_bare (item_taken n kind key) a b Says
+    (λ scene. ap (λ (k : Keeper). (in_order (taken_by k key ∷ remembers n kind key ∷ []) (bare a scene)).scene) unkept
+    ∙ owners_same (bare a scene) (remembered n (record { kind = kind; key = key; serial = a.next_serial }) (owners_of a)) (owners_of b) a.next_owner b.next_owner (a.next_serial + 1) b.next_serial (sym e) (sym f) (sym g))
+    (λ scene. subst (λ (k : Keeper). Says (in_order (taken_by k key ∷ remembers n kind key ∷ []) (bare a scene)).events) (sym unkept) says)
+
 pub acted_pinned : (n buffer : ℕ) (a b : OwnerTable) (Says : List What → Type 0)
     → owners_of b ≡ remembered n (record { kind = record { 0 = 1 }; key = buffer; serial = a.next_serial }) (owners_of a)
     → b.next_owner ≡ a.next_owner → b.next_serial ≡ a.next_serial + 1
     → Says (what.Acquire (record { kind = record { 0 = 1 }; key = buffer; serial = a.next_serial }) n ∷ []) → Acted (item_taken n buffer_pin buffer) a b Says
-unfolding bare with_parts
-acted_pinned n buffer a b Says e f g says =
-    acted_bare (item_taken n buffer_pin buffer) a b Says
-    (λ scene. owners_same (bare a scene) (remembered n (record { kind = record { 0 = 1 }; key = buffer; serial = a.next_serial }) (owners_of a)) (owners_of b) a.next_owner b.next_owner (a.next_serial + 1) b.next_serial (sym e) (sym f) (sym g))
-    (λ scene. says)
+acted_pinned n buffer a b Says e f g says = acted_taken n buffer_pin buffer a b Says refl e f g says
 
 pub acted_gone : (n : ℕ) (a b : OwnerTable) (Says : List What → Type 0) → owners_of b ≡ removed n (owners_of a)
     → b.next_owner ≡ a.next_owner → b.next_serial ≡ a.next_serial → Says (gone_events n (owners_of a)) → Acted (owner_gone n) a b Says
@@ -115,14 +125,44 @@ acted_gone n a b Says e f g says =
     (λ scene. owners_same (bare a scene) (removed n (owners_of a)) (owners_of b) a.next_owner b.next_owner a.next_serial b.next_serial (sym e) (sym f) (sym g))
     (λ scene. says)
 
+-- What follows the release of an item changes nothing there.
+parts_still : (scene : Scene) (o : OwnerTree) (m s : ℕ) (keeper : Keeper) (key : ℕ)
+    → left_to keeper key (with_parts scene o m s [] [] [] []) ≡ record { scene = with_parts scene o m s [] [] [] []; events = [] }
+unfolding with_parts
+parts_still scene o m s NoOne key = refl
+parts_still scene o m s ThePlans key = refl
+parts_still scene o m s TheDescriptors key = refl
+parts_still scene o m s (TheKind place) key = refl
+
+-- an item is given back
+given_still : (a : OwnerTable) (scene : Scene) (n : ℕ) (kind : KindId) (key : ℕ) (item : Item) → find (is_of kind key) (items_of n (owners_of a)) ≡ Some item
+    → item_released n kind key (bare a scene)
+    ≡ record {
+      scene = record (bare a scene) { session = record (bare a scene).session { owners = forgotten n kind key (owners_of a) } };
+      events = what.Release item n ∷ [];
+    }
+unfolding bare with_parts
+given_still a scene n kind key item found =
+    ap (λ (o : Option Item). where_there o
+    (λ item. in_order (changes (λ session. record session { owners = forgotten n kind key session.owners }) ∷ say (what.Release item n) ∷ given_back item ∷ [])) (bare a scene)) found
+    ∙ ap (λ (z : Ended). behind [] (behind (what.Release item n ∷ []) (behind z.events (record { scene = z.scene; events = [] }))))
+    (parts_still scene (forgotten n kind key (owners_of a)) a.next_owner a.next_serial (keeper_of item.kind) item.key)
+
+pub acted_given : (n : ℕ) (kind : KindId) (key : ℕ) (item : Item) (a b : OwnerTable) (Says : List What → Type 0) → find (is_of kind key) (items_of n (owners_of a)) ≡ Some item
+    → owners_of b ≡ forgotten n kind key (owners_of a) → b.next_owner ≡ a.next_owner → b.next_serial ≡ a.next_serial
+    → Says (what.Release item n ∷ []) → Acted (item_released n kind key) a b Says
+unfolding bare with_parts
+acted_given n kind key item a b Says found e f g says =
+    acted_bare (item_released n kind key) a b Says
+    (λ scene. ap (λ (z : Ended). z.scene) (given_still a scene n kind key item found)
+    ∙ owners_same (bare a scene) (forgotten n kind key (owners_of a)) (owners_of b) a.next_owner b.next_owner a.next_serial b.next_serial (sym e) (sym f) (sym g))
+    (λ scene. subst Says (sym (ap (λ (z : Ended). z.events) (given_still a scene n kind key item found))) says)
+
 -- The steps of a release change nothing there, and say what the owners say.
 module _ (a : OwnerTable) (scene : Scene) where
   left_still : (keeper : Keeper) (key : ℕ) → left_to keeper key (bare a scene) ≡ record { scene = bare a scene; events = [] }
-  unfolding bare with_parts
-  left_still NoOne key = refl
-  left_still ThePlans key = refl
-  left_still TheDescriptors key = refl
-  left_still (TheKind place) key = refl
+  unfolding bare
+  left_still keeper key = parts_still scene (owners_of a) a.next_owner a.next_serial keeper key
 
   step_still : (step : Step) → step_done step (bare a scene) ≡ record { scene = bare a scene; events = said (step ∷ []) }
   unfolding bare with_parts

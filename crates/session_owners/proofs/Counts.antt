@@ -1,8 +1,8 @@
--- How often the owners hold a kind and key, behind each change of them.
-use Rattle.std.proofs.Common.{◌≡◌, ℕ, ◌+◌, ◌<◌, ◌≤◌, length, replicate, get_or, Bool, true, false, List, [], ◌∷◌, Option, Some, None, refl, ◌∙◌, ap, arith, inl, inr}
+-- How often the owners hold a kind and key, and how often that is counted, behind each change.
+use Rattle.std.proofs.Common.{◌≡◌, ◌≢◌, ℕ, ◌+◌, ◌<◌, ◌≤◌, length, replicate, get_or, find, cond, Bool, true, false, List, [], ◌∷◌, Option, Some, None, refl, ◌∙◌, ap, arith, inl, inr}
 use Rattle.std.specs.Prelude.{◌==◌, ◌&&◌, if◌then◌else◌, slice_set, slice_index}
 use Rattle.std.proofs.lemmas.Grind.{common_steps}
-use Rattle.std.proofs.lemmas.Bool.{cases_Bool}
+use Rattle.std.proofs.lemmas.Bool.{cases_Bool, eqb-true, ne_eqb}
 use Rattle.std.proofs.lemmas.Bool.Decides.{nat_tests}
 use Rattle.pgs_step.specs.declared.ids.Item.{Item}
 use Rattle.pgs_step.specs.declared.ids.KindId.{KindId}
@@ -11,14 +11,16 @@ use Rattle.pgs_step.specs.declared.ids.Phase.TheVariants.{BeforeLocks, Locks, Af
 use Rattle.forest.specs.Forest.{Empty, Node, Once, has, at, children, put, removed, AllNodes}
 use Rattle.forest.proofs.Trees.{at_some, at_absent, removed_absent}
 use Rattle.owner_kinds.specs.KindTable.{KindTable}
-use Rattle.owner_items.specs.ItemList.{uses}
-use Rattle.owner_core.specs.Owners.{Owner, OwnerTree, AllAt, HoldsNothing, created, held, remembered, subtree_of}
+use Rattle.owner_items.specs.ItemList.{is_of, uses, without_newest}
+use Rattle.owner_items.proofs.Uses.{count-without}
+use Rattle.owner_core.specs.Owners.{Owner, OwnerTree, AllAt, HoldsNothing, created, forgotten, held, remembered, subtree_of}
 use Rattle.owner_core.specs.Released.{left_of, own_released, released}
 use Rattle.owner_core.specs.Sound.{total}
-use Rattle.owner_core.proofs.ItemLemmas.{uses_phase}
+use Rattle.owner_core.proofs.ItemLemmas.{uses-cons, uses_phase}
 use Rattle.owner_core.proofs.Releasing.{held_changed}
 use Rattle.owner_core.proofs.Sounds.{total_removed, total_swept}
-use Rattle.session_owners.specs.Pins.{pins_counted}
+use Rattle.ref_table.specs.References.{RefersOneMore}
+use Rattle.session_owners.specs.Tables.{Held, times_held}
 
 module _ (kind : KindId) (key : ℕ) where
   used : Owner → ℕ
@@ -95,28 +97,60 @@ module _ (kind : KindId) (key : ℕ) where
         uses_one item a.items,
       )
 
+  -- one item fewer
+  pub held_forgotten : (n : ℕ) (of : KindId) (at_key : ℕ) (item : Item) (a : Owner) (t : OwnerTree) → Once t → at n t ≡ Some a → find (is_of of at_key) a.items ≡ Some item
+      → held kind key (forgotten n of at_key t) + uses kind key (item ∷ []) ≡ held kind key t
+  held_forgotten n of at_key item a t o h found =
+      omega (
+        arith,
+        held_changed kind key n (λ (x : Owner). record x { items = without_newest (is_of of at_key) x.items }) a t o h,
+        count-without (is_of kind key) (is_of of at_key) a.items item found,
+        uses-cons kind key item [],
+        uses_single item,
+      )
+    where
+      uses_single : (x : Item) → uses kind key (x ∷ []) ≡ cond (is_of kind key x) 1 0
+      uses_single x = grind (arith, common_steps)
+
 -- one pin more
 slice_index-pinned : (pins : List ℕ) (buffer key : ℕ) → buffer < length pins → slice_index (slice_set pins buffer (slice_index pins buffer + 1)) key ≡ slice_index pins key + (if buffer == key then 1 else 0)
 slice_index-pinned pins buffer key h = grind (arith, common_steps, nat_tests)
 
-counted_cases : (kind : ℕ) (a : Bool) (m n u : ℕ) (b : Bool) → (kind == 1) ≡ b → (1 == kind) ≡ b → (if b then m else 0) ≡ u → n ≡ m + (if a then 1 else 0) → (if b then n else 0) ≡ u + (if b && a then 1 else 0)
-counted_cases kind a m n u true e f h s = omega (arith, h, s)
-counted_cases kind a m n u false e f h s = omega (arith, h)
+counted_cases : (kind : ℕ) (a : Bool) (m n r : ℕ) (b : Bool) → (kind == 1) ≡ b → (1 == kind) ≡ b → n ≡ m + (if a then 1 else 0) → (if b then n else r) ≡ (if b then m else r) + (if b && a then 1 else 0)
+counted_cases kind a m n r true e f s = omega (arith, s)
+counted_cases kind a m n r false e f s = omega arith
 
 eq-flip : (m n : ℕ) → (m == n) ≡ (n == m)
 eq-flip m n = grind (arith, nat_tests)
 
-pub pins_counted-pinned : (pins : List ℕ) (buffer : ℕ) (kind : KindId) (key count : ℕ) → buffer < length pins → pins_counted pins kind key ≡ count
-    → pins_counted (slice_set pins buffer (slice_index pins buffer + 1)) kind key ≡ count + (if (1 == kind.0) && (buffer == key) then 1 else 0)
-pins_counted-pinned pins buffer kind key count h e =
-    counted_cases kind.0 (buffer == key) (slice_index pins key) (slice_index (slice_set pins buffer (slice_index pins buffer + 1)) key) count (kind.0 == 1)
-    refl (eq-flip 1 kind.0) e (slice_index-pinned pins buffer key h)
-    ∙ ap (λ (b : Bool). count + (if b && (buffer == key) then 1 else 0)) (eq-flip kind.0 1)
+pub times_held-pinned : (held : Held) (buffer : ℕ) (kind : KindId) (key : ℕ) → buffer < length held.pins
+    → times_held (record held { pins = slice_set held.pins buffer (slice_index held.pins buffer + 1) }) kind key ≡ times_held held kind key + (if (1 == kind.0) && (buffer == key) then 1 else 0)
+times_held-pinned held buffer kind key h =
+    counted_cases kind.0 (buffer == key) (slice_index held.pins key) (slice_index (slice_set held.pins buffer (slice_index held.pins buffer + 1)) key) _ (kind.0 == 1)
+    refl (eq-flip 1 kind.0) (slice_index-pinned held.pins buffer key h)
+    ∙ ap (λ (b : Bool). times_held held kind key + (if b && (buffer == key) then 1 else 0)) (eq-flip kind.0 1)
+
+-- one reference more
+pub times_held-added : (a b : Held) (class : KindId) (k : ℕ) (kind : KindId) (key : ℕ) → class.0 ≢ 1 → b.pins ≡ a.pins → RefersOneMore a.references b.references class.0 k
+    → times_held b kind key ≡ times_held a kind key + (if (class.0 == kind.0) && (k == key) then 1 else 0)
+times_held-added a b class k kind key other same more =
+    elim (cases_Bool (kind.0 == 1)) [
+      | inl y ↦
+          let no : (class.0 == kind.0) ≡ false = ne_eqb class.0 kind.0 (λ e. other (e ∙ eqb-true kind.0 1 y)) in
+          let pins : slice_index b.pins key ≡ slice_index a.pins key = ap (λ (z : List ℕ). slice_index z key) same in
+          rw (y, no) (omega (arith, pins))
+      | inr y ↦ rw y (more kind.0 key)
+    ]
 
 zeros_at : (key n : ℕ) → get_or (replicate {A = ℕ} n 0) key 0 ≡ 0
 zeros_at key n = grind (arith, common_steps)
 
--- no buffer is pinned
-pub no_pins : (key : ℕ) (b : Bool) → (if b then slice_index (replicate 1024 0) key else 0) ≡ 0
-no_pins key true = zeros_at key 1024
-no_pins key false = refl
+-- nothing is held
+pub none_held : (held : Held) (kind : KindId) (key : ℕ) → held.pins ≡ replicate 1024 0 → held.references ≡ [] → times_held held kind key ≡ 0
+none_held held kind key p r =
+    ap (λ (z : List ℕ). times_held (record { pins = z; references = held.references }) kind key) p
+    ∙ ap (λ (z : List ((ℕ × ℕ) × ℕ)). times_held (record { pins = replicate 1024 0; references = z }) kind key) r ∙ go (kind.0 == 1)
+  where
+    go : (b : Bool) → (if b then slice_index (replicate 1024 0) key else 0) ≡ 0
+    go true = zeros_at key 1024
+    go false = refl

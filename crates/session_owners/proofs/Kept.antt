@@ -1,7 +1,7 @@
--- The table counts what the owners hold, behind each call.
-use Rattle.std.proofs.Common.{◌≡◌, ◌↔◌, ℕ, ◌+◌, ◌<◌, ◌≤◌, length, length-set, replicate, false, List, [], Option, Some, None, Result, Ok, Err, OnOk, OnErr, refl, sym, ◌∙◌, ap, subst, arith, inl, inr}
-use Rattle.std.specs.Prelude.{◌==◌, ◌&&◌, slice_set, slice_index}
-use Rattle.std.specs.Option.{option_map, option_map_or}
+-- The tables count what the owners hold, behind each call.
+use Rattle.std.proofs.Common.{◌≡◌, ◌↔◌, Bool, ℕ, ◌+◌, ◌<◌, ◌≤◌, find, length, length-set, replicate, true, false, List, [], ◌∷◌, Option, Some, None, Result, Ok, Err, OnOk, OnErr, refl, sym, ◌∙◌, ap, subst, arith, inl, inr}
+use Rattle.std.specs.Prelude.{◌==◌, ◌&&◌, if◌then◌else◌, slice_set, slice_index}
+use Rattle.std.specs.Option.{ok_or, option_map, option_map_or}
 use Rattle.std.proofs.lemmas.Bool.{cases_Bool, cases_lt}
 use Rattle.std.proofs.lemmas.List.Elements.{All-nil, All-cons}
 use Rattle.std.proofs.lemmas.List.{length-replicate}
@@ -9,90 +9,98 @@ use Rattle.pgs_step.specs.declared.ids.Item.{Item}
 use Rattle.pgs_step.specs.declared.ids.KindId.{KindId}
 use Rattle.pgs_step.specs.declared.ids.OwnerId.{OwnerId}
 use Rattle.pgs_step.specs.declared.ids.Phase.{Phase}
+use Rattle.counts.specs.Counts.{total}
 use Rattle.forest.specs.Forest.{Empty, Node, Once, at, put, removed, size, AllNodes}
 use Rattle.forest.proofs.Mapped.{mapped-at}
+use Rattle.owner_items.specs.ItemList.{is_of, uses}
+use Rattle.owner_items.proofs.Order.{All-without}
 use Rattle.owner_core.specs.declared.errors.OwnerError.{OwnerError}
-use Rattle.owner_core.specs.declared.errors.OwnerError.TheVariants.{TooMany}
-use Rattle.owner_core.specs.Owners.{Owner, OwnerTable, OwnerTree, Roomy, AllAt, HoldsNothing, created, held, owners_of, remembered, spare_of, subtree_of}
+use Rattle.owner_core.specs.declared.errors.OwnerError.TheVariants.{NotOwned, Releasing, TooMany}
+use Rattle.owner_core.specs.Owners.{Owner, OwnerTable, OwnerTree, Roomy, AllAt, HoldsNothing, created, forgotten, held, items_of, owners_of, remembered, spare_of, subtree_of}
 use Rattle.owner_core.specs.Released.{own_released, released}
 use Rattle.owner_core.specs.Sound.{IsSound}
-use Rattle.owner_core.proofs.Sounds.{once_of, sound_created, sound_released, sound_remembered, sound_removed}
+use Rattle.owner_core.proofs.ItemLemmas.{uses_own}
+use Rattle.owner_core.proofs.Sounds.{once_of, sound_created, sound_forgotten, sound_released, sound_remembered, sound_removed}
 use Rattle.owner_core.proofs.Swept.{all_swept}
-use Rattle.session_owners.specs.Pins.{built_in_kinds, pins_counted}
-use Rattle.session_owners.specs.Counted.{HoldsPins, IsCounted, IsPin}
-use Rattle.session_owners.proofs.Counts.{held_created, held_released, held_remembered, held_removed, held_subtree, no_pins, pins_counted-pinned}
-use Rattle.session_owners.proofs.Left.{pins_left}
+use Rattle.session_rules.proofs.Guarded.{all_changed}
+use Rattle.session_owners.specs.Tables.{Held, built_in_kinds, times_held}
+use Rattle.session_owners.specs.Counted.{HoldsCounted, IsCounted, IsHeld}
+use Rattle.session_owners.proofs.Counts.{held_created, held_forgotten, held_released, held_remembered, held_removed, held_subtree, none_held, times_held-pinned}
+use Rattle.session_owners.proofs.Left.{items_left}
 
 -- what a call keeps of the owners
 abbrev none : Owner
 none = record { begun = false; items = [] }
 
-pins_put : (p n : ℕ) (t : OwnerTree) → AllNodes HoldsPins t → AllNodes HoldsPins (put p n none Empty t)
-pins_put p n Empty all = tt
-pins_put p n (Node k b below beside) all =
+items_put : (p n : ℕ) (t : OwnerTree) → AllNodes HoldsCounted t → AllNodes HoldsCounted (put p n none Empty t)
+items_put p n Empty all = tt
+items_put p n (Node k b below beside) all =
     elim (cases_Bool (k == p)) [
-      | inl y ↦ rw y (all.0, (All-nil IsPin, tt, all.1), pins_put p n beside all.2)
-      | inr y ↦ rw y (all.0, pins_put p n below all.1, pins_put p n beside all.2)
+      | inl y ↦ rw y (all.0, (All-nil IsHeld, tt, all.1), items_put p n beside all.2)
+      | inr y ↦ rw y (all.0, items_put p n below all.1, items_put p n beside all.2)
     ]
 
-pins_created : (parent : Option ℕ) (n : ℕ) (t : OwnerTree) → AllNodes HoldsPins t → AllNodes HoldsPins (created parent n t)
-pins_created None n t all = (All-nil IsPin, tt, all)
-pins_created (Some p) n t all = pins_put p n t all
+items_created : (parent : Option ℕ) (n : ℕ) (t : OwnerTree) → AllNodes HoldsCounted t → AllNodes HoldsCounted (created parent n t)
+items_created None n t all = (All-nil IsHeld, tt, all)
+items_created (Some p) n t all = items_put p n t all
 
-pins_remembered : (n : ℕ) (item : Item) (t : OwnerTree) → IsPin item → AllNodes HoldsPins t → AllNodes HoldsPins (remembered n item t)
-pins_remembered n item Empty pin all = tt
-pins_remembered n item (Node k b below beside) pin all =
+items_remembered : (n : ℕ) (item : Item) (t : OwnerTree) → IsHeld item → AllNodes HoldsCounted t → AllNodes HoldsCounted (remembered n item t)
+items_remembered n item Empty is all = tt
+items_remembered n item (Node k b below beside) is all =
     elim (cases_Bool (k == n)) [
-      | inl y ↦ rw y (All-cons IsPin item b.items pin all.0, pins_remembered n item below pin all.1, pins_remembered n item beside pin all.2)
-      | inr y ↦ rw y (all.0, pins_remembered n item below pin all.1, pins_remembered n item beside pin all.2)
+      | inl y ↦ rw y (All-cons IsHeld item b.items is all.0, items_remembered n item below is all.1, items_remembered n item beside is all.2)
+      | inr y ↦ rw y (all.0, items_remembered n item below is all.1, items_remembered n item beside is all.2)
     ]
 
-pins_removed : (n : ℕ) (t : OwnerTree) → AllNodes HoldsPins t → AllNodes HoldsPins (removed n t)
-pins_removed n Empty all = tt
-pins_removed n (Node k b below beside) all =
+items_removed : (n : ℕ) (t : OwnerTree) → AllNodes HoldsCounted t → AllNodes HoldsCounted (removed n t)
+items_removed n Empty all = tt
+items_removed n (Node k b below beside) all =
     elim (cases_Bool (k == n)) [
-      | inl y ↦ rw y (pins_removed n beside all.2)
-      | inr y ↦ rw y (all.0, pins_removed n below all.1, pins_removed n beside all.2)
+      | inl y ↦ rw y (items_removed n beside all.2)
+      | inr y ↦ rw y (all.0, items_removed n below all.1, items_removed n beside all.2)
     ]
 
 -- a table with these owners and numbers
-counted : (new : OwnerTable) (pins : List ℕ) (owners : OwnerTree) (next_owner next_serial : ℕ)
+counted : (new : OwnerTable) (counts : Held) (owners : OwnerTree) (next_owner next_serial : ℕ)
     → owners_of new ≡ owners → new.next_owner ≡ next_owner → new.next_serial ≡ next_serial
-    → IsSound owners next_owner next_serial → AllNodes HoldsPins owners → length pins ≡ 1024
-    → ((kind : KindId) (key : ℕ) → pins_counted pins kind key ≡ held kind key owners) → ((kind : KindId) (key : ℕ) → held kind key owners < next_serial)
-    → IsCounted new pins
-counted new pins owners next_owner next_serial e f g sound items buffers pinned few = record {
+    → IsSound owners next_owner next_serial → AllNodes HoldsCounted owners → length counts.pins ≡ 1024
+    → ((kind : KindId) (key : ℕ) → times_held counts kind key ≡ held kind key owners) → ((kind : KindId) (key : ℕ) → held kind key owners < next_serial)
+    → total counts.references < next_serial → IsCounted new counts
+counted new counts owners next_owner next_serial e f g sound items buffers times few references = record {
   sound = rw (e, f, g) sound;
   items = rw e items;
   buffers = buffers;
-  pinned = λ kind key. rw e (pinned kind key);
+  counted = λ kind key. rw e (times kind key);
   few = λ kind key. rw (e, g) (few kind key);
+  references = rw g references;
 }
 
-pub counted_opening : (table : OwnerTable) (pins : List ℕ) → table ≡ record { rooms = Empty; places = Empty; next_owner = 1; next_serial = 1 } → pins ≡ replicate 1024 0 → IsCounted table pins
-counted_opening table pins t p = record {
+pub counted_opening : (table : OwnerTable) (counts : Held) → table ≡ record { rooms = Empty; places = Empty; next_owner = 1; next_serial = 1 } → counts.pins ≡ replicate 1024 0 → counts.references ≡ [] → IsCounted table counts
+counted_opening table counts t p r = record {
   sound = rw t (record { numbers = λ n. omega arith; serials = λ n. omega arith; few = omega arith });
-  items = subst (AllNodes HoldsPins) (sym (ap owners_of t)) tt;
+  items = subst (AllNodes HoldsCounted) (sym (ap owners_of t)) tt;
   buffers = ap length p ∙ length-replicate {A = ℕ} 1024 0;
-  pinned = λ kind key. ap (λ (z : List ℕ). pins_counted z kind key) p ∙ no_pins key (kind.0 == 1) ∙ ap (λ (z : OwnerTable). held kind key (owners_of z)) (sym t);
+  counted = λ kind key. none_held counts kind key p r ∙ ap (λ (z : OwnerTable). held kind key (owners_of z)) (sym t);
   few = λ kind key. omega (arith, ap (λ (z : OwnerTable). held kind key (owners_of z)) t, ap (λ (z : OwnerTable). z.next_serial) t);
+  references = let none : total counts.references ≡ 0 = ap (λ (z : List ((ℕ × ℕ) × ℕ)). total z) r in omega (arith, none, ap (λ (z : OwnerTable). z.next_serial) t);
 }
 
-pub counted_same : (old new : OwnerTable) (pins : List ℕ) → IsCounted old pins → owners_of new ≡ owners_of old → new.next_owner ≡ old.next_owner → new.next_serial ≡ old.next_serial → IsCounted new pins
-counted_same old new pins s e f g = counted new pins (owners_of old) old.next_owner old.next_serial e f g s.sound s.items s.buffers s.pinned s.few
+pub counted_same : (old new : OwnerTable) (counts : Held) → IsCounted old counts → owners_of new ≡ owners_of old → new.next_owner ≡ old.next_owner → new.next_serial ≡ old.next_serial → IsCounted new counts
+counted_same old new counts s e f g = counted new counts (owners_of old) old.next_owner old.next_serial e f g s.sound s.items s.buffers s.counted s.few s.references
 
 -- an owner more, unless there are too many
-pub counted_made : (old new : OwnerTable) (pins : List ℕ) (parent : Option ℕ) (result : Result OwnerId OwnerError) → IsCounted old pins
+pub counted_made : (old new : OwnerTable) (counts : Held) (parent : Option ℕ) (result : Result OwnerId OwnerError) → IsCounted old counts
     → OnOk result (owners_of new ≡ created parent old.next_owner (owners_of old)) → OnOk result (new.next_owner ≡ old.next_owner + 1) → new.next_serial ≡ old.next_serial
-    → ((result ≡ Err TooMany) ↔ (65536 ≤ size (owners_of old))) → OnErr result (new ≡ old) → IsCounted new pins
-counted_made old new pins parent (Ok owner) s e f g many refused =
+    → ((result ≡ Err TooMany) ↔ (65536 ≤ size (owners_of old))) → OnErr result (new ≡ old) → IsCounted new counts
+counted_made old new counts parent (Ok owner) s e f g many refused =
     let few : size (owners_of old) < 65536 = elim (cases_lt (size (owners_of old)) 65536) [ inl l ↦ l | inr u ↦ absurd (let is = many.1 u in cc) ] in
-    counted new pins (created parent old.next_owner (owners_of old)) (old.next_owner + 1) old.next_serial e f g
+    counted new counts (created parent old.next_owner (owners_of old)) (old.next_owner + 1) old.next_serial e f g
     (sound_created parent (owners_of old) old.next_owner old.next_serial s.sound few)
-    (pins_created parent old.next_owner (owners_of old) s.items) s.buffers
-    (λ kind key. s.pinned kind key ∙ sym (held_created kind key parent old.next_owner (owners_of old)))
+    (items_created parent old.next_owner (owners_of old) s.items) s.buffers
+    (λ kind key. s.counted kind key ∙ sym (held_created kind key parent old.next_owner (owners_of old)))
     (λ kind key. omega (arith, held_created kind key parent old.next_owner (owners_of old), s.few kind key))
-counted_made old new pins parent (Err error) s e f g many refused = subst (λ (t : OwnerTable). IsCounted t pins) (sym refused) s
+    s.references
+counted_made old new counts parent (Err error) s e f g many refused = subst (λ (t : OwnerTable). IsCounted t counts) (sym refused) s
 
 -- an owner with room is there
 there : (n : ℕ) (table : OwnerTable) → 1 ≤ spare_of n table → (a : Owner) × (at n (owners_of table) ≡ Some a)
@@ -102,51 +110,103 @@ there n table h = go (at n table.rooms) refl
     go None e = absurd (omega (arith, h, ap (λ (x : Option Roomy). option_map_or (λ (r : Roomy). r.spare) x 0) e))
     go (Some r) e = (r.owner, mapped-at (λ (x : Roomy). x.owner) n table.rooms ∙ ap (option_map (λ (x : Roomy). x.owner)) e)
 
--- a pin more
-pub counted_pinned : (old new : OwnerTable) (pins pins' : List ℕ) (n buffer : ℕ) → IsCounted old pins → 1 ≤ spare_of n old → buffer < 1024
-    → pins' ≡ slice_set pins buffer (slice_index pins buffer + 1)
-    → owners_of new ≡ remembered n (record { kind = record { 0 = 1 }; key = buffer; serial = old.next_serial }) (owners_of old)
-    → new.next_owner ≡ old.next_owner → new.next_serial ≡ old.next_serial + 1 → IsCounted new pins'
-counted_pinned old new pins pins' n buffer s spare small set e f g =
-    let item : Item = record { kind = record { 0 = 1 }; key = buffer; serial = old.next_serial } in
+-- an item more
+pub counted_taken : (old new : OwnerTable) (counts counts' : Held) (n : ℕ) (kind : KindId) (key : ℕ) → IsCounted old counts → 1 ≤ spare_of n old → IsHeld (record { kind = kind; key = key; serial = old.next_serial })
+    → length counts'.pins ≡ 1024 → total counts'.references ≤ total counts.references + 1
+    → ((k : KindId) (j : ℕ) → times_held counts' k j ≡ times_held counts k j + (if (kind.0 == k.0) && (key == j) then 1 else 0))
+    → owners_of new ≡ remembered n (record { kind = kind; key = key; serial = old.next_serial }) (owners_of old)
+    → new.next_owner ≡ old.next_owner → new.next_serial ≡ old.next_serial + 1 → IsCounted new counts'
+counted_taken old new counts counts' n kind key s spare is buffers references more e f g =
+    let item : Item = record { kind = kind; key = key; serial = old.next_serial } in
     let w = there n old spare in
     let o : Once (owners_of old) = once_of (owners_of old) old.next_owner old.next_serial s.sound in
-    counted new pins' (remembered n item (owners_of old)) old.next_owner (old.next_serial + 1) e f g
+    counted new counts' (remembered n item (owners_of old)) old.next_owner (old.next_serial + 1) e f g
     (sound_remembered n w.0 item (owners_of old) old.next_owner old.next_serial s.sound w.1 refl)
-    (pins_remembered n item (owners_of old) (record { kind = refl; buffer = small }) s.items)
-    (ap length set ∙ length-set pins buffer (slice_index pins buffer + 1) ∙ s.buffers)
-    (λ kind key. ap (λ (z : List ℕ). pins_counted z kind key) set
-    ∙ pins_counted-pinned pins buffer kind key (held kind key (owners_of old)) (omega (arith, s.buffers, small)) (s.pinned kind key)
-    ∙ sym (held_remembered kind key n item w.0 (owners_of old) o w.1))
-    (λ kind key. elim (cases_Bool ((1 == kind.0) && (buffer == key))) [
-      | inl y ↦ let more = held_remembered kind key n item w.0 (owners_of old) o w.1 in omega (arith, s.few kind key, rw y at more)
-      | inr y ↦ let more = held_remembered kind key n item w.0 (owners_of old) o w.1 in omega (arith, s.few kind key, rw y at more)
+    (items_remembered n item (owners_of old) is s.items) buffers
+    (λ k j. more k j ∙ ap (λ (z : ℕ). z + (if (kind.0 == k.0) && (key == j) then 1 else 0)) (s.counted k j) ∙ sym (held_remembered k j n item w.0 (owners_of old) o w.1))
+    (λ k j. elim (cases_Bool ((kind.0 == k.0) && (key == j))) [
+      | inl y ↦ let up = held_remembered k j n item w.0 (owners_of old) o w.1 in omega (arith, s.few k j, rw y at up)
+      | inr y ↦ let up = held_remembered k j n item w.0 (owners_of old) o w.1 in omega (arith, s.few k j, rw y at up)
     ])
+    (omega (arith, references, s.references))
+
+-- a pin more
+pub counted_pinned : (old new : OwnerTable) (counts counts' : Held) (n buffer : ℕ) → IsCounted old counts → 1 ≤ spare_of n old → buffer < 1024
+    → counts' ≡ record counts { pins = slice_set counts.pins buffer (slice_index counts.pins buffer + 1) }
+    → owners_of new ≡ remembered n (record { kind = record { 0 = 1 }; key = buffer; serial = old.next_serial }) (owners_of old)
+    → new.next_owner ≡ old.next_owner → new.next_serial ≡ old.next_serial + 1 → IsCounted new counts'
+counted_pinned old new counts counts' n buffer s spare small set e f g =
+    counted_taken old new counts counts' n (record { 0 = 1 }) buffer s spare (inl (record { kind = refl; buffer = small }))
+    (ap (λ (z : Held). length z.pins) set ∙ length-set counts.pins buffer (slice_index counts.pins buffer + 1) ∙ s.buffers)
+    (let same : total counts'.references ≡ total counts.references = ap (λ (z : Held). total z.references) set in omega (arith, same))
+    (λ k j. ap (λ (z : Held). times_held z k j) set ∙ times_held-pinned counts buffer k j (omega (arith, s.buffers, small)))
+    e f g
+
+-- an item fewer
+with_item : (test : Item → Bool) (o : Option Owner) (item : Item) → find test (option_map_or (λ owner. owner.items) o []) ≡ Some item → (a : Owner) × (o ≡ Some a) × (find test a.items ≡ Some item)
+with_item test None item e = absurd (cc e)
+with_item test (Some a) item e = (a, refl, e)
+
+held_some : (n : ℕ) (kind : KindId) (key : ℕ) (item : Item) (old : OwnerTable) (counts : Held) → IsCounted old counts → find (is_of kind key) (items_of n (owners_of old)) ≡ Some item
+    → (k : KindId) (j : ℕ) → held k j (forgotten n kind key (owners_of old)) + uses k j (item ∷ []) ≡ times_held counts k j
+held_some n kind key item old counts s found k j =
+    let w = with_item (is_of kind key) (at n (owners_of old)) item found in
+    let o : Once (owners_of old) = once_of (owners_of old) old.next_owner old.next_serial s.sound in
+    held_forgotten k j n kind key item w.0 (owners_of old) o w.1 w.2 ∙ sym (s.counted k j)
+
+-- the item that was found
+pub found_given : (begun : Bool) (o : Option Item) (r : Result Item OwnerError) (item : Item) → r ≡ Ok item → (begun ≡ false → r ≡ ok_or o NotOwned) → (begun ≡ true → r ≡ Err Releasing) → o ≡ Some item
+found_given true o r item ok held releasing = absurd (let z : Ok item ≡ Err Releasing = sym ok ∙ releasing refl in cc z)
+found_given false None r item ok held releasing = absurd (let z : Ok item ≡ Err NotOwned = sym ok ∙ held refl in cc z)
+found_given false (Some x) r item ok held releasing =
+    let z : Ok item ≡ Ok x = sym ok ∙ held refl in
+    let same : item ≡ x = cc z in
+    ap (λ (y : Item). Some y) (sym same)
+
+pub is_counted : (n : ℕ) (kind : KindId) (key : ℕ) (item : Item) (old : OwnerTable) (counts : Held) → IsCounted old counts → find (is_of kind key) (items_of n (owners_of old)) ≡ Some item
+    → 0 < times_held counts item.kind item.key
+is_counted n kind key item old counts s found = omega (arith, held_some n kind key item old counts s found item.kind item.key, uses_own item)
+
+pub counted_given : (old new : OwnerTable) (counts counts' : Held) (n : ℕ) (kind : KindId) (key : ℕ) (item : Item) → IsCounted old counts → find (is_of kind key) (items_of n (owners_of old)) ≡ Some item
+    → length counts'.pins ≡ 1024 → total counts'.references ≤ total counts.references
+    → ((k : KindId) (j : ℕ) → times_held counts' k j + uses k j (item ∷ []) ≡ times_held counts k j)
+    → owners_of new ≡ forgotten n kind key (owners_of old) → new.next_owner ≡ old.next_owner → new.next_serial ≡ old.next_serial → IsCounted new counts'
+counted_given old new counts counts' n kind key item s found buffers references fewer e f g =
+    let w = with_item (is_of kind key) (at n (owners_of old)) item found in
+    counted new counts' (forgotten n kind key (owners_of old)) old.next_owner old.next_serial e f g
+    (sound_forgotten n w.0 (is_of kind key) (owners_of old) old.next_owner old.next_serial s.sound w.1)
+    (all_changed HoldsCounted n _ (owners_of old) (λ a h. All-without IsHeld (is_of kind key) a.items h) s.items) buffers
+    (λ k j. omega (arith, fewer k j, held_some n kind key item old counts s found k j))
+    (λ k j. omega (arith, held_some n kind key item old counts s found k j, s.counted k j, s.few k j))
+    (omega (arith, references, s.references))
 
 -- what a release asks for
-pub asked_counts : (table : OwnerTable) (pins : List ℕ) (n : ℕ) → IsCounted table pins → (kind : KindId) (key : ℕ) → held kind key (subtree_of n (owners_of table)) ≤ pins_counted pins kind key
-asked_counts table pins n s kind key =
-    omega (arith, s.pinned kind key, held_subtree kind key n (owners_of table) (once_of (owners_of table) table.next_owner table.next_serial s.sound))
+pub asked_counts : (table : OwnerTable) (counts : Held) (n : ℕ) → IsCounted table counts → (kind : KindId) (key : ℕ) → held kind key (subtree_of n (owners_of table)) ≤ times_held counts kind key
+asked_counts table counts n s kind key =
+    omega (arith, s.counted kind key, held_subtree kind key n (owners_of table) (once_of (owners_of table) table.next_owner table.next_serial s.sound))
 
 -- a phase was released
-pub counted_released : (old new : OwnerTable) (pins pins' : List ℕ) (n : ℕ) (phase : Phase) → IsCounted old pins
-    → owners_of new ≡ released built_in_kinds phase n (owners_of old) → new.next_owner ≡ old.next_owner → new.next_serial ≡ old.next_serial → length pins' ≡ 1024
-    → ((kind : KindId) (key : ℕ) → pins_counted pins' kind key + held kind key (owners_of old) ≡ pins_counted pins kind key + held kind key (owners_of new))
-    → IsCounted new pins'
-counted_released old new pins pins' n phase s e f g buffers counts =
-    counted new pins' (released built_in_kinds phase n (owners_of old)) old.next_owner old.next_serial e f g
+pub counted_released : (old new : OwnerTable) (counts counts' : Held) (n : ℕ) (phase : Phase) → IsCounted old counts
+    → owners_of new ≡ released built_in_kinds phase n (owners_of old) → new.next_owner ≡ old.next_owner → new.next_serial ≡ old.next_serial → length counts'.pins ≡ 1024
+    → total counts'.references ≤ total counts.references
+    → ((kind : KindId) (key : ℕ) → times_held counts' kind key + held kind key (owners_of old) ≡ times_held counts kind key + held kind key (owners_of new))
+    → IsCounted new counts'
+counted_released old new counts counts' n phase s e f g buffers references times =
+    counted new counts' (released built_in_kinds phase n (owners_of old)) old.next_owner old.next_serial e f g
     (sound_released built_in_kinds phase n (owners_of old) old.next_owner old.next_serial s.sound)
-    (all_swept HoldsPins (own_released built_in_kinds phase) (pins_left phase) n (owners_of old) s.items) buffers
-    (λ kind key. omega (arith, counts kind key, s.pinned kind key, ap (held kind key) e))
+    (all_swept HoldsCounted (own_released built_in_kinds phase) (items_left phase) n (owners_of old) s.items) buffers
+    (λ kind key. omega (arith, times kind key, s.counted kind key, ap (held kind key) e))
     (λ kind key. omega (arith, held_released kind key built_in_kinds phase n (owners_of old), s.few kind key))
+    (omega (arith, references, s.references))
 
 -- an owner without items was discarded
-pub counted_gone : (old new : OwnerTable) (pins : List ℕ) (n : ℕ) → IsCounted old pins → AllAt HoldsNothing n (owners_of old)
-    → owners_of new ≡ removed n (owners_of old) → new.next_owner ≡ old.next_owner → new.next_serial ≡ old.next_serial → IsCounted new pins
-counted_gone old new pins n s empty e f g =
+pub counted_gone : (old new : OwnerTable) (counts : Held) (n : ℕ) → IsCounted old counts → AllAt HoldsNothing n (owners_of old)
+    → owners_of new ≡ removed n (owners_of old) → new.next_owner ≡ old.next_owner → new.next_serial ≡ old.next_serial → IsCounted new counts
+counted_gone old new counts n s empty e f g =
     let o : Once (owners_of old) = once_of (owners_of old) old.next_owner old.next_serial s.sound in
-    counted new pins (removed n (owners_of old)) old.next_owner old.next_serial e f g
+    counted new counts (removed n (owners_of old)) old.next_owner old.next_serial e f g
     (sound_removed n (owners_of old) old.next_owner old.next_serial s.sound)
-    (pins_removed n (owners_of old) s.items) s.buffers
-    (λ kind key. s.pinned kind key ∙ sym (held_removed kind key n (owners_of old) o empty))
+    (items_removed n (owners_of old) s.items) s.buffers
+    (λ kind key. s.counted kind key ∙ sym (held_removed kind key n (owners_of old) o empty))
     (λ kind key. omega (arith, held_removed kind key n (owners_of old) o empty, s.few kind key))
+    s.references

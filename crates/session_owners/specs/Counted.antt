@@ -1,5 +1,6 @@
--- What the table counts of what a session's owners hold.
-use Rattle.std.specs.Prelude.{◌≡◌, ℕ, ◌<◌, List, length, All}
+-- What the tables count of what a session's owners hold.
+use Rattle.std.specs.Prelude.{◌≡◌, ◌⊎◌, ℕ, ◌<◌, ◌≤◌, length, All}
+use Rattle.counts.specs.Counts.{total}
 use Rattle.pgs_step.specs.declared.ids.Item.{Item}
 use Rattle.pgs_step.specs.declared.ids.KindId.{KindId}
 use Rattle.pgs_step.specs.declared.ids.Phase.TheVariants.{BeforeLocks, Locks, AfterLocks}
@@ -7,23 +8,35 @@ use Rattle.forest.specs.Forest.{AllNodes}
 use Rattle.owner_core.specs.Owners.{Owner, OwnerTable, OwnerTree, held, owners_of}
 use Rattle.owner_core.specs.Released.{released}
 use Rattle.owner_core.specs.Sound.{IsSoundTable}
-use Rattle.session_owners.specs.Pins.{built_in_kinds, pins_counted}
+use Rattle.session_rules.specs.Releases.{NoOne, keeper_of}
+use Rattle.session_owners.specs.Tables.{Held, built_in_kinds, times_held}
 
 -- the item is a pin of one of the buffers
 pub record IsPin (item : Item) : Type 0 where
   pub kind : item.kind.0 ≡ 1
   pub buffer : item.key < 1024
 
-abbrev pub HoldsPins : Owner → Type 0
-HoldsPins owner = All IsPin owner.items
+-- a kind of references that nothing but owners and these tables keep count of
+pub record IsReference (kind : KindId) : Type 0 where
+  pub from : 2 ≤ kind.0
+  pub to : kind.0 ≤ 8
+  pub unkept : keeper_of kind ≡ NoOne
 
--- The owners hold pins alone, as often as each buffer is pinned, and of each fewer than serials were given.
-pub record IsCounted (table : OwnerTable) (pins : List ℕ) : Type 0 where
+-- an item that is counted
+abbrev pub IsHeld : Item → Type 0
+IsHeld item = IsPin item ⊎ IsReference item.kind
+
+abbrev pub HoldsCounted : Owner → Type 0
+HoldsCounted owner = All IsHeld owner.items
+
+-- The owners hold pins and references, each just as often as it is counted, and of each fewer than serials were given.
+pub record IsCounted (table : OwnerTable) (counts : Held) : Type 0 where
   pub sound : IsSoundTable table
-  pub items : AllNodes HoldsPins (owners_of table)
-  pub buffers : length pins ≡ 1024
-  pub pinned : (kind : KindId) (key : ℕ) → pins_counted pins kind key ≡ held kind key (owners_of table)
+  pub items : AllNodes HoldsCounted (owners_of table)
+  pub buffers : length counts.pins ≡ 1024
+  pub counted : (kind : KindId) (key : ℕ) → times_held counts kind key ≡ held kind key (owners_of table)
   pub few : (kind : KindId) (key : ℕ) → held kind key (owners_of table) < table.next_serial
+  pub references : total counts.references < table.next_serial
 
 -- the owners once the one of this number and all below it were released, in the three phases
 abbrev pub all_released : ℕ → OwnerTree → OwnerTree

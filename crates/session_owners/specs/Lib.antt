@@ -1,3 +1,3 @@
-pub mod Pins
+pub mod Tables
 pub mod Counted
 pub mod Fitting

@@ -2,8 +2,8 @@
 //! in the terms of the session's rules: which of its acts it is.
 #![tactic(auto)]
 
-mod pins;
 mod resources;
+mod tables;
 
 pub use resources::Resources;
 

@@ -1,32 +1,33 @@
-//! The owners of a session together with the table of what they hold.
-ghost use Rattle.std.specs.Prelude.{◌≡◌, ◌↔◌, ◌≢◌, ℕ, ◌+◌, ◌<◌, ◌≤◌, ◌^◌, true, false, ◌∷◌, IfOk, IfSome, OnOk, OnErr, None};
-ghost use Rattle.std.specs.Option.{option_map};
+//! The owners of a session together with the tables of what they hold.
+ghost use Rattle.std.specs.Prelude.{◌≡◌, ◌↔◌, ◌≢◌, ℕ, ◌+◌, ◌<◌, ◌≤◌, ◌^◌, true, false, ◌∷◌, find, IfOk, IfSome, OnOk, OnErr, None};
+ghost use Rattle.std.specs.Option.{option_map, ok_or};
 ghost use Rattle.forest.specs.Forest.{Empty, has, at, size, parent_of, removed, AllNodes};
-ghost use Rattle.owner_core.specs.Owners.{owners_of, IsLive, has_begun, spare_of, created, entered, remembered, AllAt, HoldsNothing};
+ghost use Rattle.owner_items.specs.ItemList.{is_of};
+ghost use Rattle.owner_core.specs.Owners.{owners_of, IsLive, has_begun, items_of, spare_of, created, entered, forgotten, remembered, AllAt, HoldsNothing};
 ghost use Rattle.owner_core.specs.Sound.{IsSoundTable};
 ghost use Rattle.owner_core.specs.Released.{released};
 ghost use Rattle.session_rules.specs.State.{buffer_pin};
 ghost use Rattle.session_rules.specs.Making.{owner_made};
 ghost use Rattle.session_rules.specs.Taking.{item_taken};
-ghost use Rattle.session_rules.specs.Releases.{phase_released, owner_released, owner_gone};
-ghost use Rattle.session_owners.specs.Pins.{built_in_kinds};
-ghost use Rattle.session_owners.specs.Counted.{HoldsPins, all_released};
+ghost use Rattle.session_rules.specs.Releases.{phase_released, owner_released, owner_gone, item_released};
+ghost use Rattle.session_owners.specs.Tables.{built_in_kinds};
+ghost use Rattle.session_owners.specs.Counted.{HoldsCounted, IsReference, all_released};
 ghost use Rattle.session_owners.specs.Fitting.{Acted};
 
-use crate::pins::Pins;
-use owner_core::{OwnerError, Owners};
-use pgs_step::{Emit, KindId, OwnerId, Phase};
+use crate::tables::Tables;
+use owner_core::{OwnerError, Owners, Release};
+use pgs_step::{Emit, Item, KindId, OwnerId, Phase};
 use std::alloc::{AllocError, Global};
 use std::marker::Model;
 
-/// The resource owners of a session and the count of the pins that they hold.
+/// The resource owners of a session and the counts of the pins and references that they hold.
 ///
-/// Contracts see it as the owners alone: the table holds of each buffer as many pins as they do. Each call that
+/// Contracts see it as the owners alone: the tables count each item just as often as they hold it. Each call that
 /// says something is an act of the session's rules, at each scene with these owners.
 #[derive(Drop)]
 pub struct Resources {
     owners: Owners,
-    pins: Pins,
+    tables: Tables,
 }
 
 impl Model for Resources {
@@ -42,17 +43,17 @@ impl Model for Resources {
 
     ghost view = { λ r. r.owners };
 
-    ghost invariant = { λ r. IsCounted r.owners r.pins };
+    ghost invariant = { λ r. IsCounted r.owners r.tables };
 }
 
 impl Resources {
-    /// No owner, and no buffer is pinned. It fails for want of memory alone.
+    /// No owner, no buffer is pinned, and no reference is held. It fails for want of memory alone.
     pub fn new(alloc: Global) -> Result<Resources, AllocError>
         ensures begins { IfOk result (λ resources. resources ≡ record { rooms = Empty; places = Empty; next_owner = 1; next_serial = 1 }) }
     {
         Ok(Resources {
             owners: Owners::new(alloc),
-            pins: Pins::new(alloc)?,
+            tables: Tables::new(alloc)?,
         })
     }
 
@@ -85,7 +86,7 @@ impl Resources {
         self.owners.create(parent, out)
     }
 
-    /// Makes room for one more item of the owner, which `pin` then needs: `ResourceOwnerEnlarge`.
+    /// Makes room for one more item of the owner, which `pin` and `add_reference` then need: `ResourceOwnerEnlarge`.
     ///
     /// `Releasing` comes where the owner's release has begun, `Memory` where memory is refused, or where
     /// the owner has more than 2^40 items and their table has to be made anew.
@@ -120,8 +121,67 @@ impl Resources {
         ensures next_serial { self.new.next_serial ≡ self.old.next_serial + 1 }
         ensures acted { Acted (item_taken owner.number buffer_pin buffer) self.old self.new (λ events. E.emits out.old events out.new) }
     {
-        self.pins.pin(buffer);
+        self.tables.pin(buffer);
         self.owners.remember(owner, KindId::BUFFER_PIN, buffer, out);
+    }
+
+    /// Takes a reference to the key of a class, and the owner remembers it, in room that `enlarge` has made.
+    ///
+    /// It fails for want of memory alone.
+    pub fn add_reference<E: Emit>(
+        &mut self,
+        owner: OwnerId,
+        class: KindId,
+        key: u32,
+        out: &mut E,
+    ) -> Result<(), AllocError>
+        requires live { IsLive self.old owner }
+        requires spare { 1 ≤ spare_of owner.number self.old }
+        requires not_begun { has_begun owner.number (owners_of self.old) ≡ false }
+        requires class { IsReference class }
+        requires serial { self.old.next_serial < 2 ^ 62 }
+        ensures others { (other : ℕ) → other ≢ owner.number → spare_of other self.new ≡ spare_of other self.old }
+        ensures owners { OnOk result (owners_of self.new ≡ remembered owner.number (record { kind = class; key = key; serial = self.old.next_serial }) (owners_of self.old)) }
+        ensures places { self.new.places ≡ self.old.places }
+        ensures next_owner { self.new.next_owner ≡ self.old.next_owner }
+        ensures next_serial { OnOk result (self.new.next_serial ≡ self.old.next_serial + 1) }
+        ensures acted { OnOk result (Acted (item_taken owner.number class key) self.old self.new (λ events. E.emits out.old events out.new)) }
+        ensures refused { OnErr result (self.new ≡ self.old) }
+        ensures silent { OnErr result (out.new ≡ out.old) }
+    {
+        self.tables.add_reference(class, key)?;
+        self.owners.remember(owner, class, key, out);
+        Ok(())
+    }
+
+    /// The owner forgets its newest item of this kind and key, and that is given back: `ResourceOwnerForget`.
+    ///
+    /// `Releasing` comes where the owner's release has begun, else `NotOwned` where it has no such item.
+    pub fn give_back<E: Emit>(
+        &mut self,
+        owner: OwnerId,
+        kind: KindId,
+        key: u32,
+        out: &mut E,
+    ) -> Result<Item, OwnerError>
+        requires live { IsLive self.old owner }
+        ensures item { has_begun owner.number (owners_of self.old) ≡ false → result ≡ ok_or (find (is_of kind key) (items_of owner.number (owners_of self.old))) OwnerError.NotOwned }
+        ensures releasing { has_begun owner.number (owners_of self.old) ≡ true → result ≡ Err OwnerError.Releasing }
+        ensures others { (other : ℕ) → other ≢ owner.number → spare_of other self.new ≡ spare_of other self.old }
+        ensures owners { OnOk result (owners_of self.new ≡ forgotten owner.number kind key (owners_of self.old)) }
+        ensures places { self.new.places ≡ self.old.places }
+        ensures next_owner { self.new.next_owner ≡ self.old.next_owner }
+        ensures next_serial { self.new.next_serial ≡ self.old.next_serial }
+        ensures acted { OnOk result (Acted (item_released owner.number kind key) self.old self.new (λ events. E.emits out.old events out.new)) }
+        ensures refused { OnErr result (self.new ≡ self.old) }
+        ensures silent { OnErr result (out.new ≡ out.old) }
+    {
+        let item = match self.owners.forget(owner, kind, key, out) {
+            Ok(item) => item,
+            Err(error) => return Err(error),
+        };
+        self.tables.give_back(item, out);
+        Ok(item)
     }
 
     /// Releases the owner and all below it, in the three phases, so that they hold nothing any more:
@@ -156,14 +216,14 @@ impl Resources {
         requires live { IsLive self.old owner }
         requires top { (top ≡ true) ↔ (parent_of owner.number (owners_of self.old) ≡ None) }
         ensures owners { owners_of self.new ≡ released built_in_kinds phase owner.number (owners_of self.old) }
-        ensures pins { AllNodes HoldsPins (owners_of self.old) }
+        ensures items { AllNodes HoldsCounted (owners_of self.old) }
         ensures places { self.new.places ≡ self.old.places }
         ensures next_owner { self.new.next_owner ≡ self.old.next_owner }
         ensures next_serial { self.new.next_serial ≡ self.old.next_serial }
         ensures acted { Acted (phase_released commit top owner.number phase) self.old self.new (λ events. E.emits out.old events out.new) }
     {
         self.owners
-            .release(owner, phase, commit, top, &mut self.pins, out);
+            .release(owner, phase, commit, top, &mut self.tables, out);
     }
 
     /// Takes the owner out, with all below it, which hold nothing any more: `ResourceOwnerDelete`.
@@ -183,7 +243,7 @@ impl Resources {
     pub fn count(&self) -> u64
         ensures count { result ≡ size (owners_of self.now) }
         ensures sound { IsSoundTable self.now }
-        ensures pins { AllNodes HoldsPins (owners_of self.now) }
+        ensures items { AllNodes HoldsCounted (owners_of self.now) }
     {
         self.owners.count()
     }

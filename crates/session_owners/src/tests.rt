@@ -140,3 +140,50 @@ fn an_owner_that_is_released_gets_no_room(rt: HostRuntime) -> Result<(), Fail> {
     assert_eq!(rt; resources.enlarge(top), Err(OwnerError::Releasing));
     Ok(())
 }
+
+#[test]
+fn the_newest_of_a_kind_and_key_is_given_back(rt: HostRuntime) -> Result<(), Fail> {
+    let mut out = EventList::new(rt.alloc(), 20)?;
+    let mut resources = Resources::new(rt.alloc())?;
+    let top = resources.make_owner(None, &mut out)?;
+    hold(&mut resources, top, 7, &mut out)?;
+    hold(&mut resources, top, 7, &mut out)?;
+    resources.enlarge(top)?;
+    resources.add_reference(top, KindId::RELCACHE_REFERENCE, 7, &mut out)?;
+    let reference = Item {
+        kind: KindId::RELCACHE_REFERENCE,
+        key: 7,
+        serial: 3,
+    };
+    let found = resources.give_back(top, KindId::BUFFER_PIN, 7, &mut out)?;
+    assert_eq!(rt; found, pin(7, 2));
+    let found = resources.give_back(top, KindId::RELCACHE_REFERENCE, 7, &mut out)?;
+    assert_eq!(rt; found, reference);
+    let refused = resources.give_back(top, KindId::RELCACHE_REFERENCE, 7, &mut out);
+    assert_eq!(rt; refused, Err(OwnerError::NotOwned));
+    let events = [
+        What::Owner(1),
+        What::Acquire {
+            item: pin(7, 1),
+            owner: 1,
+        },
+        What::Acquire {
+            item: pin(7, 2),
+            owner: 1,
+        },
+        What::Acquire {
+            item: reference,
+            owner: 1,
+        },
+        What::Release {
+            item: pin(7, 2),
+            owner: 1,
+        },
+        What::Release {
+            item: reference,
+            owner: 1,
+        },
+    ];
+    assert_eq!(rt; out.events(), events.as_slice());
+    Ok(())
+}

@@ -16,6 +16,7 @@ pub mod LevelsKept
 pub mod EndsStand
 pub mod StepsStand
 pub mod NamesStand
+pub mod ItemsStand
 pub mod Standings
 pub mod TurnStands
 pub mod OpeningStands

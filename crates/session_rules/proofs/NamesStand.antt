@@ -1,14 +1,11 @@
--- The steps on contexts of a name, and the pin of a buffer, lead from a session that stands to one that stands.
-use Rattle.std.proofs.Common.{◌≡◌, ◌⊎◌, ℕ, ◌+◌, ◌<◌, Bool, true, false, Option, Some, None, List, [], ◌∷◌, ◌++◌, refl, sym, ap, ◌∙◌, subst, inl, inr, arith}
+-- The steps on contexts of a name lead from a session that stands to one that stands.
+use Rattle.std.proofs.Common.{◌≡◌, ◌⊎◌, ℕ, ◌+◌, Bool, true, false, Option, Some, None, List, [], ◌∷◌, ◌++◌, refl, sym, ap, ◌∙◌, subst, inl, inr, arith}
 use Rattle.std.specs.Prelude.{◌==◌, ◌&&◌, ◌||◌, not, reverse, if◌then◌else◌, codes}
-use Rattle.std.specs.Option.{option_map, option_map_or, option_and_then}
-use Rattle.std.proofs.lemmas.Bool.{cases_eq, cases_Bool, eq-eqb, both_ways, or_parts}
+use Rattle.std.specs.Option.{option_map, option_and_then}
+use Rattle.std.proofs.lemmas.Bool.{eq-eqb, both_ways, or_parts}
 use Rattle.std.proofs.lemmas.List.{reverse-append}
-use Rattle.std.proofs.lemmas.List.Elements.{All-cons}
-use Rattle.forest.specs.Forest.{Empty, Node, either, has, at, is_above, changed, with_children}
-use Rattle.forest.proofs.Trees.{at_some, at_absent, has_changed}
-use Rattle.forest.proofs.Mapped.{at_changed, at_changed_other, parent_changed}
-use Rattle.pgs_step.specs.declared.ids.Item.{Item}
+use Rattle.forest.specs.Forest.{Empty, Node, either, has, is_above, with_children}
+use Rattle.forest.proofs.Trees.{at_some, has_changed}
 use Rattle.pgs_command.specs.Words.{is_text}
 use Rattle.reset_callbacks.specs.Hook.{Hook}
 use Rattle.reset_callbacks.specs.ShelfState.{taken}
@@ -22,26 +19,24 @@ use Rattle.context_rules.specs.Refusals.{delete_refusal, is_within, reset_refusa
 use Rattle.context_rules.specs.Refusals as refusals
 use Rattle.context_rules.specs.declared.errors.TreeError.{TreeError}
 use Rattle.context_rules.specs.declared.errors.TreeError.TheVariants.{Protected, InUse, Cycle}
-use Rattle.owner_core.specs.Owners.{Owner, OwnerTree, has_begun}
-use Rattle.owner_core.proofs.Sounds.{sound_remembered}
-use Rattle.session_rules.specs.State.{LevelState, SessionState, buffer_pin, cache_context, context_of, first_of, last_of, level_context, level_owner, top_context}
+use Rattle.owner_core.specs.Owners.{OwnerTree}
+use Rattle.session_rules.specs.State.{LevelState, SessionState, cache_context, context_of, first_of, last_of, level_context, top_context}
 use Rattle.session_rules.specs.World.{Scene, Moment}
 use Rattle.session_rules.specs.Elements as element
-use Rattle.session_rules.specs.Elements.{OfLevel, Text}
+use Rattle.session_rules.specs.Elements.{Text}
 use Rattle.session_rules.specs.Lookup.{context_named}
 use Rattle.session_rules.specs.Acts.{Ended, of_contexts, children_gone, context_cleared, context_cleared_alone, context_gone, switched, where_there}
 use Rattle.session_rules.specs.Checks.{failure, refusal_at, tree_error}
 use Rattle.session_rules.specs.Making.{context_made, new_context_made}
-use Rattle.session_rules.specs.Parts.{at_context, at_owner, context_moved}
-use Rattle.session_rules.specs.Taking.{hook_registered, hook_waits, item_taken}
+use Rattle.session_rules.specs.Parts.{at_context, context_moved}
+use Rattle.session_rules.specs.Taking.{hook_registered, hook_waits}
 use Rattle.session_rules.specs.Does.{does}
-use Rattle.session_rules.specs.Standing.{AreContexts, AreHooks, AreLevels, HasItems, IsItem, Stands}
+use Rattle.session_rules.specs.Standing.{AreContexts, AreHooks, AreLevels, Stands}
 use Rattle.session_rules.proofs.Forests.{has_emptied, has_left}
-use Rattle.session_rules.proofs.Guarded.{all_changed}
 use Rattle.session_rules.proofs.ContextsKept.{Stay, contexts_alone, contexts_changed, contexts_children_gone, contexts_created, contexts_gone, contexts_reparented, has_alone, has_created, has_reparented, protected_has, stay_alone, stay_changed, stay_children_gone, stay_created, stay_gone, stay_on, stay_reparented, stay_same, top_protected}
 use Rattle.session_rules.proofs.HooksKept.{conserves_alone, conserves_children, conserves_cleared, conserves_gone, hooks_ended, hooks_put, hooks_taken, hooks_reparented}
-use Rattle.session_rules.proofs.LevelsKept.{IsContext, levels_stay, no_value, one_value}
-use Rattle.session_rules.proofs.StepsStand.{IsWorking, Works, contexts_step, fallible_keeps, fit_working, not_released, nothing_works}
+use Rattle.session_rules.proofs.LevelsKept.{IsContext, no_value, one_value}
+use Rattle.session_rules.proofs.StepsStand.{IsWorking, Works, contexts_step, fallible_keeps, nothing_works}
 
 -- the context of the first level of a list that is put together
 first_context : (levels : List LevelState) (n : ℕ) → context_of (first_of levels) ≡ Some n → IsContext n levels
@@ -131,7 +126,7 @@ checked name s refusal n is e =
     no_error (refusal n) (ap (λ (o : Option ℕ). option_map tree_error (option_and_then refusal o)) (sym is) ∙ e)
 
 -- an act on a context that a name leads to
-at_name : (P : Scene → Type 0) (o : Option ℕ) (act : ℕ → Scene → Ended) (s : Scene) → P s → ((n : ℕ) → o ≡ Some n → P (act n s).scene) → P (where_there o act s).scene
+pub at_name : (P : Scene → Type 0) (o : Option ℕ) (act : ℕ → Scene → Ended) (s : Scene) → P s → ((n : ℕ) → o ≡ Some n → P (act n s).scene) → P (where_there o act s).scene
 at_name P None act s before behind = before
 at_name P (Some n) act s before behind = behind n refl
 
@@ -199,56 +194,7 @@ waits_step s n hook h working there first =
     (has_changed s.session.current n f t ∙ h.current)
     (hooks_taken n f hook a.0 t s.around.shelf h.contexts.once a.1 refl first h.hooks)
 
--- A pin is taken by an owner that is there.
-begun_changed : (m n : ℕ) (f : Owner → Owner) (x : OwnerTree) → ((o : Owner) → (f o).begun ≡ o.begun) → has_begun m (changed n f x) ≡ has_begun m x
-begun_changed m n f x same =
-    elim (cases_eq m n) [
-      | inl e ↦ elim (cases_Bool (has m x)) [
-        | inl y ↦
-            let a = at_some m x y in
-            let now : at m (changed n f x) ≡ Some (f a.0) = rw (← e) (at_changed m f x a.0 a.1) in
-            ap (λ (o : Option Owner). option_map_or (λ owner. owner.begun) o false) now ∙ same a.0 ∙ ap (λ (o : Option Owner). option_map_or (λ owner. owner.begun) o false) (sym a.1)
-        | inr y ↦ ap (λ (o : Option Owner). option_map_or (λ owner. owner.begun) o false) (at_absent m (changed n f x) (has_changed m n f x ∙ y) ∙ sym (at_absent m x y))
-      ]
-      | inr ne ↦ ap (λ (o : Option Owner). option_map_or (λ owner. owner.begun) o false) (at_changed_other m n f x ne)
-    ]
-
-pin_step : (s : Scene) (n key : ℕ) → Stands s → IsWorking s.session.levels → has n s.session.owners ≡ true → key < 1024 → Stands (item_taken n buffer_pin key s).scene
-pin_step s n key h working there small =
-    let x : OwnerTree = s.session.owners in
-    let item : Item = record { kind = buffer_pin; key = key; serial = s.session.next_serial } in
-    let f : Owner → Owner = λ owner. record owner { items = item ∷ owner.items } in
-    let y : OwnerTree = changed n f x in
-    let a = at_some n x there in
-    let is : IsItem item = record { kind = record { from = omega arith; to = omega arith }; buffer = λ _. small } in
-    record {
-      contexts = h.contexts;
-      current = h.current;
-      hooks = h.hooks;
-      levels =
-          levels_stay s.session.levels s.session.contexts s.session.contexts x y (λ m i prot. stay_same s.session.contexts m prot)
-          (λ m i u. record { there = has_changed m n f x ∙ u; parent = parent_changed m n f x }) h.levels;
-      fit = fit_working s.session.levels s.session.contexts s.session.contexts x y s.session.current s.session.current working h.fit;
-      owners = record {
-        sound = sound_remembered n a.0 item x s.session.next_owner s.session.next_serial h.owners.sound a.1 refl;
-        each = λ m u. elim (h.owners.each m (sym (has_changed m n f x) ∙ u)) [
-          | inl i ↦ inl i
-          | inr r ↦ absurd (not_released s.session.levels m x working r)
-        ];
-        begun = λ m u. absurd (not_released s.session.levels m x working (h.owners.begun m (sym (begun_changed m n f x (λ o. refl)) ∙ u)));
-        items = all_changed HasItems n f x (λ o k. All-cons IsItem item o.items is k) h.owners.items;
-      };
-      portals = h.portals;
-      plans = h.plans;
-      snapshots = h.snapshots;
-    }
-
--- the owner of the deepest level is there
-owner_there : (levels : List LevelState) (t : Contexts) (x : OwnerTree) (n : ℕ) → AreLevels levels t x → option_and_then (λ (level : LevelState). level.owner) (first_of levels) ≡ Some n → has n x ≡ true
-owner_there [] t x n l e = absurd (no_value None n refl e)
-owner_there (level ∷ levels) t x n l e = (l.0.owner n e).there
-
--- Each element on contexts of a name, behind its checks, and the pin of a buffer that there is.
+-- Each element on contexts of a name, behind its checks.
 module _ (w : Option ℕ) (moment : Moment) (h : Stands moment.scene) (working : IsWorking moment.scene.session.levels) where
   pub switch_works : (name : Text) → Works moment.scene (does w (element.Switch name) moment).moment.scene
   unfolding does
@@ -333,13 +279,3 @@ module _ (w : Option ℕ) (moment : Moment) (h : Stands moment.scene) (working :
       at_hook : (n : ℕ) → has n moment.scene.session.contexts ≡ true → (o : Option Hook) → first_of moment.scene.around.shelf.fresh ≡ o → Works moment.scene (where_there o (hook_waits n) moment.scene).scene
       at_hook n there None e = nothing_works moment.scene h
       at_hook n there (Some hook) e = record { stands = waits_step moment.scene n hook h working there e; levels = refl }
-
-  pub pin_works : (key : ℕ) → key < 1024 → Works moment.scene (does w (element.Take OfLevel buffer_pin key) moment).moment.scene
-  unfolding does
-  pin_works key small =
-      fallible_keeps (Works moment.scene) w moment _ (at_owner OfLevel (λ owner. item_taken owner buffer_pin key)) (nothing_works moment.scene h)
-      (λ _. at_name (Works moment.scene) (level_owner moment.scene.session) (λ owner. item_taken owner buffer_pin key) moment.scene (nothing_works moment.scene h)
-      (λ n e. record {
-        stands = pin_step moment.scene n key h working (owner_there moment.scene.session.levels moment.scene.session.contexts moment.scene.session.owners n h.levels e) small;
-        levels = refl;
-      }))

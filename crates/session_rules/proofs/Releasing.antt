@@ -50,7 +50,7 @@ with_owners owners scene = record scene { session = record scene.session { owner
 abbrev pub OnlyTables : Scene → Scene → Type 0
 OnlyTables s t = (x : Tables) × (t ≡ tabled x s)
 
-left_tables : (keeper : Keeper) (key : ℕ) (s : Scene) → s.session.plans ≡ [] → OnlyTables s (left_to keeper key s).scene
+pub left_tables : (keeper : Keeper) (key : ℕ) (s : Scene) → s.session.plans ≡ [] → OnlyTables s (left_to keeper key s).scene
 left_tables NoOne key s none = (tables_of s, refl)
 left_tables ThePlans key s none =
     let e : plan_at key s.session.plans ≡ None = ap (plan_at key) none in

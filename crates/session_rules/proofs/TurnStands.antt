@@ -9,6 +9,7 @@ use Rattle.pgs_step.specs.declared.events.What.{What}
 use Rattle.pgs_step.specs.declared.events.What.TheVariants as what
 use Rattle.pgs_command.specs.declared.commands.Command.{Command}
 use Rattle.pgs_command.specs.declared.commands.Command.TheVariants as command
+use Rattle.pgs_command.specs.Kinds.{class_kind}
 use Rattle.session_rules.specs.State.{LevelState, SessionState, buffer_pin, is_aborted}
 use Rattle.session_rules.specs.World.{Scene, Moment}
 use Rattle.session_rules.specs.Elements as element
@@ -27,7 +28,8 @@ use Rattle.session_rules.specs.Transcript.{line_elements, turn, turn_of}
 use Rattle.session_rules.specs.Standing.{AreOpen, AreOuter, FitLevels, IsActive, IsOpen, Stands, StandsBetweenLines}
 use Rattle.session_rules.proofs.EndsStand.{Leaves, outer_open, recovered_stands}
 use Rattle.session_rules.proofs.StepsStand.{IsWorking, Works, abort_stands, alloc_works, below_limit, cleanup_stands, commit_stands, enlarge_works, free_works, level_context_stands, level_made_stands, level_owner_stands, level_stands_stands, merge_stands, nothing_works, own_refusal, put_works, realloc_works, settled_as}
-use Rattle.session_rules.proofs.NamesStand.{delete_children_works, delete_works, make_script_context_works, pin_works, register_works, reparent_works, reset_only_works, reset_works, switch_works}
+use Rattle.session_rules.proofs.ItemsStand.{class_item, class_unkept, give_back_works, pin_works, take_works}
+use Rattle.session_rules.proofs.NamesStand.{delete_children_works, delete_works, make_script_context_works, register_works, reparent_works, reset_only_works, reset_works, switch_works}
 
 -- What some elements led to: whatever refused them the session stands, and where nothing did, more is known of it.
 pub record Leads (Q : Scene → Type 0) (done : Done) : Type 0 where
@@ -127,12 +129,16 @@ show_works : (w : Option ℕ) (name : Text) (from n : ℕ) (moment : Moment) →
 unfolding does
 show_works w name from n moment h = nothing_works moment.scene h
 
+buffer_works : (w : Option ℕ) (buffer : ℕ) (moment : Moment) → Stands moment.scene → Works moment.scene (does w (element.TellBuffer buffer) moment).moment.scene
+unfolding does
+buffer_works w buffer moment h = nothing_works moment.scene h
+
 -- there is a buffer
 is_buffer : (buffer : ℕ) (b : Bool) (error : Error) → nat_lt buffer 1024 ≡ b → unless b error ≡ None → buffer < 1024
 is_buffer buffer true error e h = ltb-true buffer 1024 e
 is_buffer buffer false error e h = absurd (cc h)
 
--- the commands on contexts, chunks and pins, and `raise`
+-- the commands on contexts, chunks, pins and references, and `raise`
 abbrev pub IsWork : Command → Type 0
 IsWork command.Raise = Unit {0}
 IsWork command.Report = Unit {0}
@@ -151,6 +157,10 @@ IsWork (command.Free chunk) = Unit {0}
 IsWork (command.Put chunk place bytes) = Unit {0}
 IsWork (command.Show chunk place length) = Unit {0}
 IsWork (command.Pin buffer) = Unit {0}
+IsWork (command.Unpin buffer) = Unit {0}
+IsWork (command.Buffer buffer) = Unit {0}
+IsWork (command.Reference class key) = Unit {0}
+IsWork (command.Unreference class key) = Unit {0}
 IsWork other = ⊥
 
 -- the same and those on transactions
@@ -222,6 +232,19 @@ module _ (w : Option ℕ) (levels : List LevelState) (active : IsWorking levels)
       (λ m k ok. behind_work w levels (At levels) (element.Enlarge OfLevel) _ m k (enlarge_works w m k.stands)
       (λ m k. behind_work w levels (At levels) (element.Take OfLevel buffer_pin buffer) [] m k
       (pin_works w m k.stands (working_at levels m.scene active k) buffer (is_buffer buffer (nat_lt buffer 1024) error.NoSuchBuffer refl ok)) (λ m k. nothing_more w levels m k)))
+  work_leads (command.Unpin buffer) session is moment at =
+      behind_check w levels (At levels) (element.Holds buffer_pin buffer) _ moment at
+      (λ m k _. behind_work w levels (At levels) (element.GiveBack buffer_pin buffer) [] m k (give_back_works w m k.stands (working_at levels m.scene active k) buffer_pin buffer) (λ m k. nothing_more w levels m k))
+  work_leads (command.Buffer buffer) session is moment at =
+      behind_check w levels (At levels) (element.IsBuffer buffer) _ moment at
+      (λ m k _. behind_work w levels (At levels) (element.TellBuffer buffer) [] m k (buffer_works w buffer m k.stands) (λ m k. nothing_more w levels m k))
+  work_leads (command.Reference class key) session is moment at =
+      behind_work w levels (At levels) (element.Enlarge OfLevel) _ moment at (enlarge_works w moment at.stands)
+      (λ m k. behind_work w levels (At levels) (element.Take OfLevel (class_kind class) key) [] m k
+      (take_works w m k.stands (working_at levels m.scene active k) (class_kind class) key (class_unkept class) (class_item class key)) (λ m k. nothing_more w levels m k))
+  work_leads (command.Unreference class key) session is moment at =
+      behind_check w levels (At levels) (element.Holds (class_kind class) key) _ moment at
+      (λ m k _. behind_work w levels (At levels) (element.GiveBack (class_kind class) key) [] m k (give_back_works w m k.stands (working_at levels m.scene active k) (class_kind class) key) (λ m k. nothing_more w levels m k))
   work_leads other session is moment at = absurd is
 
 -- a level as it is being begun

@@ -1,5 +1,5 @@
 -- What calls on a store's owners make of it.
-use Rattle.std.proofs.Common.{◌≡◌, ℕ, true, Option, Some, None, List, [], ◌∷◌, length, map, All, IfSome, refl, sym, ap, ◌∙◌, subst}
+use Rattle.std.proofs.Common.{◌≡◌, ℕ, true, Option, Some, None, List, [], ◌∷◌, length, map, All, IfSome, refl, sym, ap, ◌∙◌, subst, Result, Ok, Err, OnOk, OnErr}
 use Rattle.std.specs.Prelude.{reverse}
 use Rattle.std.specs.Option.{option_and_then, option_map}
 use Rattle.std.proofs.lemmas.List.Elements.{All-nil, All-cons, All-head, All-tail}
@@ -27,7 +27,7 @@ use Rattle.session_rules.proofs.Swept.{has_swept}
 use Rattle.session_owners.specs.Counted.{all_released}
 use Rattle.session_owners.specs.Fitting as own
 use Rattle.session_owners.specs.Fitting.{OwnersFit}
-use Rattle.session_owners.specs.Pins.{built_in_kinds}
+use Rattle.session_owners.specs.Tables.{built_in_kinds}
 use Rattle.session_store.specs.State.{StoreState, level_state, levels_of, scene_of, session_of}
 use Rattle.session_store.specs.Placed.{IsPlaced, LevelLies, OwnerLies}
 use Rattle.session_store.specs.Calls.{Acted, Keeps, StandsIn}
@@ -85,6 +85,11 @@ go_changed a b owner f is places = record {
   had = λ n there. sym (has_changed n owner f (owners_of a)) ∙ ap (has n) (sym is) ∙ there;
   stays = λ n there. ap (λ (f : Forest ℕ). at n f) places;
 }
+
+-- where the call was answered, and where it was refused
+pub go_answered : {A E : Type 0} (r : Result A E) (a b : OwnerTable) (owner : ℕ) (f : Owner → Owner) → OnOk r (owners_of b ≡ changed owner f (owners_of a)) → OnErr r (b ≡ a) → b.places ≡ a.places → OwnersGo a b
+go_answered (Ok x) a b owner f is same places = go_changed a b owner f is places
+go_answered (Err e) a b owner f is same places = go_same a b (ap owners_of same) places
 
 pub go_released : (a b : OwnerTable) (owner : ℕ) → owners_of b ≡ all_released owner (owners_of a) → b.places ≡ a.places → OwnersGo a b
 go_released a b owner is places =

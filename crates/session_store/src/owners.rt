@@ -1,23 +1,26 @@
 //! The resource owners of a session.
-ghost use Rattle.std.specs.Prelude.{◌≡◌, ◌≢◌, ◌↔◌, ℕ, ◌+◌, ◌<◌, ◌≤◌, ◌^◌, true, false, Err, None, IfSome, OnOk, OnErr};
-ghost use Rattle.std.specs.Option.{option_and_then, option_map};
+ghost use Rattle.std.specs.Prelude.{◌≡◌, ◌≢◌, ◌↔◌, ℕ, ◌+◌, ◌<◌, ◌≤◌, ◌^◌, true, false, find, Err, None, IfSome, OnOk, OnErr};
+ghost use Rattle.std.specs.Option.{ok_or, option_and_then, option_map};
 ghost use Rattle.addr_space.specs.Space.{Space};
 ghost use Rattle.reset_callbacks.specs.ShelfState.{ShelfState};
 ghost use Rattle.forest.specs.Forest.{parent_of};
-ghost use Rattle.owner_core.specs.Owners.{AllAt, HoldsNothing, IsLive, has_begun, owners_of, spare_of};
+ghost use Rattle.owner_items.specs.ItemList.{is_of};
+ghost use Rattle.owner_core.specs.Owners.{AllAt, HoldsNothing, IsLive, has_begun, items_of, owners_of, spare_of};
 ghost use Rattle.subxact_stack.specs.Levels.{level_at};
 ghost use Rattle.session_rules.specs.State as rules;
 ghost use Rattle.session_rules.specs.State.{buffer_pin};
 ghost use Rattle.session_rules.specs.Taking.{item_taken};
-ghost use Rattle.session_rules.specs.Releases.{owner_gone, owner_released};
+ghost use Rattle.session_rules.specs.Releases.{item_released, owner_gone, owner_released};
+ghost use Rattle.session_owners.specs.Counted.{IsReference};
 ghost use Rattle.session_store.specs.State.{session_of};
 ghost use Rattle.session_store.specs.Calls.{Acted, StandsIn};
 ghost use Rattle.session_store.specs.Owned.{OwnersAlone};
 
 use crate::store::Store;
 use owner_core::OwnerError;
-use pgs_step::{Emit, OwnerId};
+use pgs_step::{Emit, Item, KindId, OwnerId};
 use reset_callbacks::ResetHook;
+use std::alloc::AllocError;
 
 impl<H: ResetHook> Store<H> {
     /// The owner of the deepest level, where there is one and it has one.
@@ -70,6 +73,53 @@ impl<H: ResetHook> Store<H> {
         ensures alone { OwnersAlone self.old self.new }
     {
         self.owners.pin(owner, buffer, out);
+    }
+
+    /// Takes a reference to the key of a class, and the owner remembers it, in room that `enlarge` has made. It fails for want of
+    /// memory alone.
+    pub fn add_reference<E: Emit>(
+        &mut self,
+        owner: OwnerId,
+        class: KindId,
+        key: u32,
+        out: &mut E,
+    ) -> Result<(), AllocError>
+        requires live { IsLive self.old.owners owner }
+        requires spare { 1 ≤ spare_of owner.number self.old.owners }
+        requires not_begun { has_begun owner.number (owners_of self.old.owners) ≡ false }
+        requires class { IsReference class }
+        requires serial { self.old.owners.next_serial < 2 ^ 62 }
+        ensures others { (other : ℕ) → other ≢ owner.number → spare_of other self.new.owners ≡ spare_of other self.old.owners }
+        ensures acted { OnOk result ((s : Space) (x : ShelfState) → Acted (item_taken owner.number class key) self.old self.new s s x x (λ events. E.emits out.old events out.new)) }
+        ensures alone { OnOk result (OwnersAlone self.old self.new) }
+        ensures refused { OnErr result (self.new ≡ self.old) }
+        ensures silent { OnErr result (out.new ≡ out.old) }
+    {
+        self.owners.add_reference(owner, class, key, out)
+    }
+
+    /// An owner forgets its newest item of this kind and key, and that is given back: `ResourceOwnerForget`.
+    ///
+    /// `Releasing` comes where the owner's release has begun, else `NotOwned` where it has no such item.
+    pub fn give_back<E: Emit>(
+        &mut self,
+        owner: OwnerId,
+        kind: KindId,
+        key: u32,
+        out: &mut E,
+    ) -> Result<Item, OwnerError>
+        requires live { IsLive self.old.owners owner }
+        ensures item { has_begun owner.number (owners_of self.old.owners) ≡ false → result ≡ ok_or (find (is_of kind key) (items_of owner.number (owners_of self.old.owners))) OwnerError.NotOwned }
+        ensures releasing { has_begun owner.number (owners_of self.old.owners) ≡ true → result ≡ Err OwnerError.Releasing }
+        ensures others { (other : ℕ) → other ≢ owner.number → spare_of other self.new.owners ≡ spare_of other self.old.owners }
+        ensures next_owner { self.new.owners.next_owner ≡ self.old.owners.next_owner }
+        ensures next_serial { self.new.owners.next_serial ≡ self.old.owners.next_serial }
+        ensures acted { OnOk result ((s : Space) (x : ShelfState) → Acted (item_released owner.number kind key) self.old self.new s s x x (λ events. E.emits out.old events out.new)) }
+        ensures alone { OnOk result (OwnersAlone self.old self.new) }
+        ensures refused { OnErr result (self.new ≡ self.old) }
+        ensures silent { OnErr result (out.new ≡ out.old) }
+    {
+        self.owners.give_back(owner, kind, key, out)
     }
 
     /// Releases an owner and all below it, in the three phases: `ResourceOwnerRelease`. It takes no memory.

@@ -4,7 +4,7 @@ use Rattle.forest.specs.Forest.{has}
 use Rattle.owner_core.specs.Owners.{owners_of}
 use Rattle.owner_core.specs.Released.{own_released, released}
 use Rattle.session_rules.proofs.Swept.{has_swept}
-use Rattle.session_owners.specs.Pins.{built_in_kinds}
+use Rattle.session_owners.specs.Tables.{built_in_kinds}
 use Rattle.session_store.proofs.level_ends.release_owner.Goals as goal
 
 pub returns-in-Some-clause-stays : goal.returns-in-Some-clause-stays

@@ -20,3 +20,21 @@ returns-in-Pin g c = record { performed = λ session. as_command 2 2 _ _ session
 
 pub pin-requires-clause-active : goal.pin-requires-clause-active
 pin-requires-clause-active g c = in_active _ c.requires.active
+
+pub returns-in-Unpin : goal.returns-in-Unpin
+returns-in-Unpin g c = record { performed = λ session. as_command 0 2 _ _ session _ _ _ _ (omega arith) c.in-Unpin.is (c.unpin.ensures.performed session) }
+
+pub returns-in-Reference : goal.returns-in-Reference
+returns-in-Reference g c = record { performed = λ session. as_command 2 2 _ _ session _ _ _ _ (omega arith) c.in-Reference.is (c.reference.ensures.performed session) }
+
+pub returns-in-Unreference : goal.returns-in-Unreference
+returns-in-Unreference g c = record { performed = λ session. as_command 0 2 _ _ session _ _ _ _ (omega arith) c.in-Unreference.is (c.unreference.ensures.performed session) }
+
+pub unpin-requires-clause-active : goal.unpin-requires-clause-active
+unpin-requires-clause-active g c = in_active _ c.requires.active
+
+pub reference-requires-clause-active : goal.reference-requires-clause-active
+reference-requires-clause-active g c = in_active _ c.requires.active
+
+pub unreference-requires-clause-active : goal.unreference-requires-clause-active
+unreference-requires-clause-active g c = in_active _ c.requires.active

@@ -2,4 +2,4 @@ use Rattle.session_owners.proofs.Kept.{counted_opening}
 use Rattle.session_owners.proofs.resources.Resources.new.Goals as goal
 
 pub invariant_of-result : goal.invariant_of-result
-invariant_of-result c = counted_opening _ _ c.new.ensures c.in_ok-new.ensures
+invariant_of-result c = counted_opening _ _ c.new.ensures c.in_ok-new.ensures.pins c.in_ok-new.ensures.references

@@ -6,9 +6,8 @@ use Rattle.pgs_step.specs.declared.ids.Phase.TheVariants.{BeforeLocks, Locks, Af
 use Rattle.forest.specs.Forest.{parent_of}
 use Rattle.owner_core.specs.Owners.{AllAt, HoldsNothing, OwnerTree, owners_of}
 use Rattle.owner_core.specs.Released.{own_released, released}
-use Rattle.owner_core.proofs.Swept.{all_below, parent_swept}
-use Rattle.session_owners.specs.Pins.{built_in_kinds}
-use Rattle.session_owners.specs.Counted.{HoldsPins}
+use Rattle.owner_core.proofs.Swept.{parent_swept}
+use Rattle.session_owners.specs.Tables.{built_in_kinds}
 use Rattle.session_owners.proofs.Left.{nothing_left}
 use Rattle.session_owners.proofs.resources.Resources.release.Goals as goal
 
@@ -34,7 +33,7 @@ returns-clause-nothing_left g c =
     subst (AllAt HoldsNothing n)
     (sym (c.release_phase-3.ensures.owners
     ∙ ap (λ (t : OwnerTree). released built_in_kinds AfterLocks n t) (c.release_phase-2.ensures.owners ∙ ap (λ (t : OwnerTree). released built_in_kinds Locks n t) c.release_phase.ensures.owners)))
-    (nothing_left n (owners_of c.args.self.now) (all_below HoldsPins n (owners_of c.args.self.now) c.release_phase.ensures.pins))
+    (nothing_left n (owners_of c.args.self.now) c.release_phase.ensures.items)
 
 pub returns-clause-acted : goal.returns-clause-acted
 returns-clause-acted g c =

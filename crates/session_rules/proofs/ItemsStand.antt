@@ -1,0 +1,149 @@
+-- The steps by which the deepest level's owner takes an item and gives one back lead from a session that stands to one that stands.
+use Rattle.std.proofs.Common.{◌≡◌, ℕ, ◌+◌, ◌<◌, true, false, Option, Some, None, List, [], ◌∷◌, refl, sym, ap, ◌∙◌, subst, inl, inr, arith}
+use Rattle.std.specs.Option.{option_map_or, option_and_then}
+use Rattle.std.proofs.lemmas.Bool.{cases_eq, cases_Bool}
+use Rattle.std.proofs.lemmas.List.Elements.{All-cons}
+use Rattle.forest.specs.Forest.{has, at, changed}
+use Rattle.forest.proofs.Trees.{at_some, at_absent, has_changed}
+use Rattle.forest.proofs.Mapped.{at_changed, at_changed_other, parent_changed}
+use Rattle.pgs_step.specs.declared.ids.Item.{Item}
+use Rattle.pgs_step.specs.declared.ids.KindId.{KindId}
+use Rattle.pgs_step.specs.declared.events.What.TheVariants as what
+use Rattle.pgs_command.specs.declared.kinds.ReferenceClass.{ReferenceClass}
+use Rattle.pgs_command.specs.declared.kinds.ReferenceClass.TheVariants.{Relcache, Catcache, CatcacheList, TupleDescriptor}
+use Rattle.pgs_command.specs.Kinds.{class_kind}
+use Rattle.context_rules.specs.Contexts.{Contexts}
+use Rattle.owner_items.specs.ItemList.{is_of, without_newest}
+use Rattle.owner_items.proofs.Order.{All-without}
+use Rattle.owner_core.specs.Owners.{Owner, OwnerTree, forgotten, has_begun}
+use Rattle.owner_core.specs.Sound.{IsSound}
+use Rattle.owner_core.proofs.Sounds.{sound_forgotten, sound_remembered}
+use Rattle.session_rules.specs.State.{LevelState, buffer_pin, first_of, level_owner}
+use Rattle.session_rules.specs.World.{Scene, Moment}
+use Rattle.session_rules.specs.Elements as element
+use Rattle.session_rules.specs.Elements.{OfLevel}
+use Rattle.session_rules.specs.Lookup.{newest}
+use Rattle.session_rules.specs.Acts.{changes, in_order, say, where_there}
+use Rattle.session_rules.specs.Releases.{Keeper, NoOne, given_back, item_released, keeper_of}
+use Rattle.session_rules.specs.Taking.{item_taken, remembers, taken_by}
+use Rattle.session_rules.specs.Parts.{at_owner}
+use Rattle.session_rules.specs.Does.{does}
+use Rattle.session_rules.specs.Standing.{AreLevels, HasItems, IsItem, Stands}
+use Rattle.session_rules.proofs.Guarded.{all_changed}
+use Rattle.session_rules.proofs.ContextsKept.{stay_same}
+use Rattle.session_rules.proofs.LevelsKept.{levels_stay, no_value}
+use Rattle.session_rules.proofs.Releasing.{OnlyTables, left_tables, tabled}
+use Rattle.session_rules.proofs.EndsStand.{stands_tabled}
+use Rattle.session_rules.proofs.StepsStand.{IsWorking, Works, fallible_keeps, fit_working, not_released, nothing_works}
+use Rattle.session_rules.proofs.NamesStand.{at_name}
+
+begun_changed : (m n : ℕ) (f : Owner → Owner) (x : OwnerTree) → ((o : Owner) → (f o).begun ≡ o.begun) → has_begun m (changed n f x) ≡ has_begun m x
+begun_changed m n f x same =
+    elim (cases_eq m n) [
+      | inl e ↦ elim (cases_Bool (has m x)) [
+        | inl y ↦
+            let a = at_some m x y in
+            let now : at m (changed n f x) ≡ Some (f a.0) = rw (← e) (at_changed m f x a.0 a.1) in
+            ap (λ (o : Option Owner). option_map_or (λ owner. owner.begun) o false) now ∙ same a.0 ∙ ap (λ (o : Option Owner). option_map_or (λ owner. owner.begun) o false) (sym a.1)
+        | inr y ↦ ap (λ (o : Option Owner). option_map_or (λ owner. owner.begun) o false) (at_absent m (changed n f x) (has_changed m n f x ∙ y) ∙ sym (at_absent m x y))
+      ]
+      | inr ne ↦ ap (λ (o : Option Owner). option_map_or (λ owner. owner.begun) o false) (at_changed_other m n f x ne)
+    ]
+
+-- The items of one owner change, and each is of a known kind.
+items_step : (s : Scene) (n serial : ℕ) (f : Owner → Owner) → Stands s → IsWorking s.session.levels → ((o : Owner) → (f o).begun ≡ o.begun) → ((o : Owner) → HasItems o → HasItems (f o))
+    → IsSound (changed n f s.session.owners) s.session.next_owner serial → Stands (record s { session = record s.session { owners = changed n f s.session.owners; next_serial = serial } })
+items_step s n serial f h working begun known sound =
+    let x : OwnerTree = s.session.owners in
+    let y : OwnerTree = changed n f x in
+    record {
+      contexts = h.contexts;
+      current = h.current;
+      hooks = h.hooks;
+      levels =
+          levels_stay s.session.levels s.session.contexts s.session.contexts x y (λ m i prot. stay_same s.session.contexts m prot)
+          (λ m i u. record { there = has_changed m n f x ∙ u; parent = parent_changed m n f x }) h.levels;
+      fit = fit_working s.session.levels s.session.contexts s.session.contexts x y s.session.current s.session.current working h.fit;
+      owners = record {
+        sound = sound;
+        each = λ m u. elim (h.owners.each m (sym (has_changed m n f x) ∙ u)) [
+          | inl i ↦ inl i
+          | inr r ↦ absurd (not_released s.session.levels m x working r)
+        ];
+        begun = λ m u. absurd (not_released s.session.levels m x working (h.owners.begun m (sym (begun_changed m n f x begun) ∙ u)));
+        items = all_changed HasItems n f x known h.owners.items;
+      };
+      portals = h.portals;
+      plans = h.plans;
+      snapshots = h.snapshots;
+    }
+
+-- An item is remembered by an owner that is there.
+take_step : (s : Scene) (n : ℕ) (kind : KindId) (key : ℕ) → Stands s → IsWorking s.session.levels → has n s.session.owners ≡ true → ((serial : ℕ) → IsItem (record { kind = kind; key = key; serial = serial }))
+    → Stands (remembers n kind key s).scene
+take_step s n kind key h working there is =
+    let item : Item = record { kind = kind; key = key; serial = s.session.next_serial } in
+    let a = at_some n s.session.owners there in
+    items_step s n (s.session.next_serial + 1) (λ owner. record owner { items = item ∷ owner.items }) h working (λ o. refl) (λ o k. All-cons IsItem item o.items (is s.session.next_serial) k)
+    (sound_remembered n a.0 item s.session.owners s.session.next_owner s.session.next_serial h.owners.sound a.1 refl)
+
+-- It forgets its newest item of a kind and key.
+forget_step : (s : Scene) (n : ℕ) (kind : KindId) (key : ℕ) → Stands s → IsWorking s.session.levels → has n s.session.owners ≡ true
+    → Stands (record s { session = record s.session { owners = forgotten n kind key s.session.owners } })
+forget_step s n kind key h working there =
+    let a = at_some n s.session.owners there in
+    items_step s n s.session.next_serial (λ owner. record owner { items = without_newest (is_of kind key) owner.items }) h working (λ o. refl) (λ o k. All-without IsItem (is_of kind key) o.items k)
+    (sound_forgotten n a.0 (is_of kind key) s.session.owners s.session.next_owner s.session.next_serial h.owners.sound a.1)
+
+-- What follows that changes tables alone.
+give_step : (s : Scene) (n : ℕ) (kind : KindId) (key : ℕ) → Stands s → IsWorking s.session.levels → has n s.session.owners ≡ true → (o : Option Item)
+    → Works s (where_there o
+    (λ item. in_order (changes (λ session. record session { owners = forgotten n kind key session.owners }) ∷ say (what.Release item n) ∷ given_back item ∷ [])) s).scene
+give_step s n kind key h working there None = nothing_works s h
+give_step s n kind key h working there (Some item) =
+    let t : Scene = record s { session = record s.session { owners = forgotten n kind key s.session.owners } } in
+    let only : OnlyTables t (given_back item t).scene = left_tables (keeper_of item.kind) item.key t h.plans in
+    let now : Stands (tabled only.0 t) = stands_tabled only.0 t (forget_step s n kind key h working there) in
+    subst (Works s) (sym only.1) (record { stands = now; levels = refl })
+
+-- the owner of the deepest level is there
+owner_there : (levels : List LevelState) (t : Contexts) (x : OwnerTree) (n : ℕ) → AreLevels levels t x → option_and_then (λ (level : LevelState). level.owner) (first_of levels) ≡ Some n → has n x ≡ true
+owner_there [] t x n l e = absurd (no_value None n refl e)
+owner_there (level ∷ levels) t x n l e = (l.0.owner n e).there
+
+-- a reference is an item of a known kind that nothing but owners keeps count of
+pub class_unkept : (class : ReferenceClass) → keeper_of (class_kind class) ≡ NoOne
+class_unkept Relcache = refl
+class_unkept Catcache = refl
+class_unkept CatcacheList = refl
+class_unkept TupleDescriptor = refl
+
+pub class_item : (class : ReferenceClass) (key serial : ℕ) → IsItem (record { kind = class_kind class; key = key; serial = serial })
+class_item Relcache key serial = record { kind = record { from = omega arith; to = omega arith }; buffer = λ e. absurd (omega (arith, e)) }
+class_item Catcache key serial = record { kind = record { from = omega arith; to = omega arith }; buffer = λ e. absurd (omega (arith, e)) }
+class_item CatcacheList key serial = record { kind = record { from = omega arith; to = omega arith }; buffer = λ e. absurd (omega (arith, e)) }
+class_item TupleDescriptor key serial = record { kind = record { from = omega arith; to = omega arith }; buffer = λ e. absurd (omega (arith, e)) }
+
+-- Each element on items of the deepest level's owner.
+module _ (w : Option ℕ) (moment : Moment) (h : Stands moment.scene) (working : IsWorking moment.scene.session.levels) where
+  there : (n : ℕ) → level_owner moment.scene.session ≡ Some n → has n moment.scene.session.owners ≡ true
+  there n e = owner_there moment.scene.session.levels moment.scene.session.contexts moment.scene.session.owners n h.levels e
+
+  -- an item that nothing but owners keeps count of
+  pub take_works : (kind : KindId) (key : ℕ) → keeper_of kind ≡ NoOne → ((serial : ℕ) → IsItem (record { kind = kind; key = key; serial = serial }))
+      → Works moment.scene (does w (element.Take OfLevel kind key) moment).moment.scene
+  unfolding does
+  take_works kind key unkept is =
+      fallible_keeps (Works moment.scene) w moment _ (at_owner OfLevel (λ owner. item_taken owner kind key)) (nothing_works moment.scene h)
+      (λ _. at_name (Works moment.scene) (level_owner moment.scene.session) (λ owner. item_taken owner kind key) moment.scene (nothing_works moment.scene h)
+      (λ n e. subst (Works moment.scene) (sym (ap (λ (k : Keeper). (in_order (taken_by k key ∷ remembers n kind key ∷ []) moment.scene).scene) unkept))
+      (record { stands = take_step moment.scene n kind key h working (there n e) is; levels = refl })))
+
+  pub pin_works : (key : ℕ) → key < 1024 → Works moment.scene (does w (element.Take OfLevel buffer_pin key) moment).moment.scene
+  pin_works key small = take_works buffer_pin key refl (λ serial. record { kind = record { from = omega arith; to = omega arith }; buffer = λ _. small })
+
+  pub give_back_works : (kind : KindId) (key : ℕ) → Works moment.scene (does w (element.GiveBack kind key) moment).moment.scene
+  unfolding does
+  give_back_works kind key =
+      at_name (Works moment.scene) (level_owner moment.scene.session) (λ owner. item_released owner kind key) moment.scene (nothing_works moment.scene h)
+      (λ n e. give_step moment.scene n kind key h working (there n e) (newest n kind key moment.scene.session))
