@@ -5,6 +5,7 @@ pub mod RowsOfContexts
 pub mod RowsOfResources
 pub mod RowsOfPortals
 pub mod RowsOfRuns
+pub mod RowsOfAsking
 pub mod Forests
 pub mod Guarded
 pub mod Sums
@@ -19,3 +20,4 @@ pub mod NamesStand
 pub mod Standings
 pub mod TurnStands
 pub mod OpeningStands
+pub mod Asking
