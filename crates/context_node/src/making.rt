@@ -1,7 +1,7 @@
 //! The making of a context.
 ghost use Rattle.std.specs.Prelude.{◌≡◌, ◌⊎◌, ℕ, ◌+◌, ◌<◌, List, false, true, None, IsSome, IfOk, IfErr, OnOk, OnErr};
 ghost use Rattle.std.specs.HashMap.{get, spare};
-ghost use Rattle.addr_space.specs.Space.{accounts, held};
+ghost use Rattle.addr_space.specs.Space.{accounts, held, Asks};
 ghost use Rattle.addr_space.specs.Footprint.{Agrees, Moves, nothing};
 ghost use Rattle.any_ctx.specs.Contexts.{footprint};
 ghost use Rattle.any_ctx.specs.Kinds.{first_size, IsSlabSize};
@@ -96,10 +96,11 @@ pub fn make_node<H: ResetHook>(
     }
 }
 
-/// Gives the blocks of a context back, of which nothing was used.
+/// Gives the blocks of a context back, of which nothing was used. It takes no memory.
 pub fn give_back<H: ResetHook>(node: Node<H>, space: &mut Space)
     requires { Agrees (footprint node.memory) space.old }
-    ensures { Moves (footprint node.memory) (nothing (footprint node.memory).account (footprint node.memory).context) space.old space.new }
+    ensures moves { Moves (footprint node.memory) (nothing (footprint node.memory).account (footprint node.memory).context) space.old space.new }
+    ensures asked { Asks (footprint node.memory).account 0 space.old space.new }
 {
     let Node { memory, .. } = node;
     memory.discard(space);

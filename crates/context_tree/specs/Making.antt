@@ -1,5 +1,5 @@
 -- What the making of a context does.
-use Rattle.std.specs.Prelude.{◌≡◌, ◌≢◌, ℕ, ◌+◌, ◌-◌, Bool, not, nat_lt, List, Option, Some, None}
+use Rattle.std.specs.Prelude.{◌≡◌, ◌≢◌, ◌⊎◌, ℕ, ◌+◌, ◌-◌, Bool, not, nat_lt, List, Option, Some, None}
 use Rattle.pgs_step.specs.declared.ids.CtxId.{CtxId}
 use Rattle.addr_space.specs.Space.{Space, held, Asks}
 use Rattle.addr_space.specs.Footprint as foot
@@ -12,7 +12,7 @@ use Rattle.any_ctx.specs.declared.any.CtxKind.{CtxKind}
 use Rattle.context_rules.specs.Contexts as rules
 use Rattle.context_rules.specs.Refusals.{first_of, where_so, create_refusal}
 use Rattle.context_rules.specs.declared.errors.TreeError.{TreeError}
-use Rattle.context_rules.specs.declared.errors.TreeError.TheVariants.{TooMany, Ctx}
+use Rattle.context_rules.specs.declared.errors.TreeError.TheVariants.{TooMany, Ctx, Memory}
 use Rattle.chunk_header.specs.declared.CtxError.TheVariants.{NoSpace}
 use Rattle.context_node.specs.declared.making.NewContext.{NewContext}
 use Rattle.context_node.specs.Kept.{Kept}
@@ -41,6 +41,10 @@ pub record Grew (f g : Forested Kept) (new : NewContext) (parent : Option ℕ) (
 pub record CameBack (account : ℕ) (s t : Space) : Type 0 where
   pub slot : ℕ
   pub moves : foot.Moves (nothing account slot) (nothing account slot) s t
+
+-- What was asked for a context that wasn't made: nothing, or, where memory was wanted, its first block, which was given back.
+abbrev pub AsksInVain : TreeError → ℕ → ℕ → Space → Space → Type 0
+AsksInVain e account n s t = (Asks account 0 s t) ⊎ ((e ≡ Memory) × Asks account n s t)
 
 -- a context was made in a tree, as `create` says
 pub record Added (a b : TreeState) (p : ℕ) (name : List ℕ) (kind : CtxKind) (protected : Bool) (id : CtxId) (s t : Space) : Type 0 where

@@ -4,11 +4,11 @@ ghost use Rattle.std.specs.Option.{option_map};
 ghost use Rattle.addr_space.specs.Space.{accounts, held};
 ghost use Rattle.forest.specs.Forest.{at, has, size};
 ghost use Rattle.forest.specs.Forested.{IsPlaced};
-ghost use Rattle.any_ctx.specs.Kinds.{IsSlabSize};
+ghost use Rattle.any_ctx.specs.Kinds.{first_size, IsSlabSize};
 ghost use Rattle.context_node.specs.Soundness.{IsSoundContext};
 ghost use Rattle.context_node.specs.Kept.{Kept};
 ghost use Rattle.context_tree.specs.State.{no_contexts, Agrees as Agreeing, Moves as AllMoves};
-ghost use Rattle.context_tree.specs.Making.{bare, Grew, CameBack, room_refusal, entered_at};
+ghost use Rattle.context_tree.specs.Making.{bare, Grew, AsksInVain, CameBack, room_refusal, entered_at};
 
 use addr_space::Space;
 use context_node::{NewContext, Node, give_back, make_node};
@@ -57,6 +57,7 @@ pub fn grow<H: ResetHook>(
     ensures refused { IfErr result (λ e. (e ≡ TreeError.Memory) ⊎ (room_refusal (size nodes.old.forest) (space.old.limit - held space.old account) new.now.kind ≡ Some e)) }
     ensures err { OnErr result (nodes.new ≡ nodes.old) }
     ensures err_space { OnErr result (CameBack account space.old space.new) }
+    ensures err_asked { IfErr result (λ e. AsksInVain e account (first_size new.now.kind) space.old space.new) }
 {
     if nodes.len() >= MOST_CONTEXTS {
         return Err(TreeError::TooMany);

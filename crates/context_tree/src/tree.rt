@@ -15,7 +15,7 @@ ghost use Rattle.context_rules.specs.Reports as reports;
 ghost use Rattle.context_tree.specs.Calls.{Did, DidNothing};
 ghost use Rattle.context_tree.specs.State.{TreeState, IsLive, place_of, stands_for, no_contexts, Agrees, Moves, left_of, SameRegions, StaysPut, HooksFit, error_of};
 ghost use Rattle.context_tree.specs.Lookup.{Leads};
-ghost use Rattle.context_tree.specs.Making.{Added, CameBack};
+ghost use Rattle.context_tree.specs.Making.{Added, AsksInVain, CameBack};
 ghost use Rattle.context_node.specs.declared.chunk_id.ChunkId.{ChunkId as Id};
 
 use crate::making::{give_all_back, grow};
@@ -260,6 +260,7 @@ impl<H: ResetHook> ContextTree<H> {
         ensures refused { IfErr result (λ e. (e ≡ TreeError.Memory) ⊎ (create_refusal (left_of self.old space.old) name kind protected (stands_for self.old space.old) ≡ Some e)) }
         ensures err { OnErr result (self.new ≡ self.old) }
         ensures err_space { OnErr result (SameRegions space.old space.new) }
+        ensures err_asked { IfErr result (λ e. AsksInVain e self.old.account (first_size kind) space.old space.new) }
         ensures silent { OnErr result (out.new ≡ out.old) }
     {
         let id = self.add(space, parent, name, kind, protected)?;
@@ -290,6 +291,7 @@ impl<H: ResetHook> ContextTree<H> {
         ensures refused { IfErr result (λ e. (e ≡ TreeError.Memory) ⊎ (create_refusal (left_of self.old space.old) name kind protected (stands_for self.old space.old) ≡ Some e)) }
         ensures err { OnErr result (self.new ≡ self.old) }
         ensures err_space { OnErr result (SameRegions space.old space.new) }
+        ensures err_asked { IfErr result (λ e. AsksInVain e self.old.account (first_size kind) space.old space.new) }
     {
         room_for_name(&mut self.names, &name, protected)?;
         let new = NewContext {

@@ -24,7 +24,7 @@ later_le : (w : Option ℕ) (a b : ℕ) → IsLater b w → a ≤ b → IsLater 
 later_le None a b l h = tt
 later_le (Some n) a b l h = omega arith
 
-fits_later : (wanted : Bool) (a b : ℕ) (w : Option ℕ) → Fits wanted b w → a ≤ b → (wanted ≡ true → a < b) → IsLater a w
+pub fits_later : (wanted : Bool) (a b : ℕ) (w : Option ℕ) → Fits wanted b w → a ≤ b → (wanted ≡ true → a < b) → IsLater a w
 fits_later true a b w f h s = subst (IsLater a) (sym f) (s refl)
 fits_later false a b w f h s = later_le w a b f h
 

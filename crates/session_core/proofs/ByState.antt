@@ -78,7 +78,7 @@ says event a P h = record { leads = λ around. refl; says = λ around. h }
 
 pub performed_say : (event : What) (a : Now) (P : List What → Type 0) → Keeps a.store a.space → P (event ∷ []) → Performed 0 (element.Says event ∷ []) a a P None
 performed_say event a P keeps h =
-    performed_end 0 (element.Says event) (say event) a a P (does_say event) (says event a P h) keeps (moves_nothing a.store.tree a.space keeps.agrees) (grows_nothing 0 a) refl
+    performed_end 0 (element.Says event) (say event) a a P (does_say event) (says event a P h) keeps (moves_nothing a.store.tree a.space keeps.agrees) (grows_nothing 0 a) refl (λ around. refl)
 
 -- the elements of a command that works in an active level
 pub block_elements : (c : Command) (store : StoreState) (s : Space) → IsWork c → IsWorking (levels_of store.levels) → (session : SessionState) × (elements_of c (session_of store s) ≡ work_of c session ++ (element.Says what.Ok ∷ []))

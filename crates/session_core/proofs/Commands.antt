@@ -4,7 +4,7 @@ use Rattle.std.specs.Option.{option_map, option_and_then}
 use Rattle.pgs_step.specs.declared.errors.Error.{Error}
 use Rattle.pgs_step.specs.declared.errors.Error.TheVariants as error
 use Rattle.pgs_step.specs.declared.events.What.{What}
-use Rattle.addr_space.specs.Space.{Space}
+use Rattle.addr_space.specs.Space.{Asks, Space}
 use Rattle.reset_callbacks.specs.ShelfState.{ShelfState}
 use Rattle.context_rules.specs.declared.errors.TreeError.{TreeError}
 use Rattle.context_tree.specs.State.{Moves}
@@ -20,6 +20,7 @@ use Rattle.context_rules.specs.Refusals.{reset_refusal, reset_only_refusal, dele
 use Rattle.context_tree.specs.State.{error_of}
 use Rattle.session_rules.specs.Calls.{unfailing}
 use Rattle.session_rules.specs.Does.{does}
+use Rattle.session_rules.specs.Asked.{asked_all, asks_in}
 use Rattle.session_rules.specs.Checks.{failure, refusal_at, space_error, tree_error, unless}
 use Rattle.session_rules.specs.Lookup.{context_named}
 use Rattle.session_rules.specs.Parts.{at_context}
@@ -27,8 +28,9 @@ use Rattle.session_rules.specs.Transcript.{is_want}
 use Rattle.session_store.specs.State.{StoreState, contexts_in, scene_of, session_of}
 use Rattle.session_store.specs.Calls.{Acted, ContextsAlone, Keeps, Refused}
 use Rattle.session_core.specs.declared.calls.Calls.{Calls}
-use Rattle.session_core.specs.Answers.{Answers}
+use Rattle.session_core.specs.Answers.{Answers, Fits, at_calls, wants}
 use Rattle.session_core.specs.Performed.{Now, Performed, scene_in}
+use Rattle.session_core.proofs.Takings.{takes_on}
 use Rattle.session_core.proofs.Performing.{Raises, performed_act, performed_both, performed_check, performed_fails, performed_more, performed_stop, answers_as, same_scene_in}
 
 -- a check that passes, and what comes behind it
@@ -46,13 +48,17 @@ fails check rest a P e keeps h plain refused = performed_stop 0 (element.Checks 
 
 -- what was refused where nothing changed
 pub unchanged : (k : ℕ) (es : List Element) (a b : Now) (P : List What → Type 0) (r : Option Error) → Performed k es a a P r
-    → Refused a.store b.store a.space b.space a.shelf b.shelf → Keeps b.store b.space → Moves a.store.tree b.store.tree a.space b.space → b.calls ≡ a.calls → Performed k es a b P r
-unchanged k es a b P r x same keeps moves calls = record {
+    → Refused a.store b.store a.space b.space a.shelf b.shelf → Keeps b.store b.space → Moves a.store.tree b.store.tree a.space b.space → b.calls ≡ a.calls
+    → Asks a.store.tree.account 0 a.space b.space → Performed k es a b P r
+unchanged k es a b P r x same keeps moves calls asks = record {
   answers = subst (λ (n : ℕ). Answers es (scene_in a) (scene_in b) a.calls.count n a.calls.fail P r) (ap (λ (c : Calls). c.count) (sym calls))
       (answers_as es (scene_in a) (scene_in a) (scene_in b) a.calls.count a.calls.count a.calls.fail P r (same_scene_in a b same) x.answers);
   fail = ap (λ (c : Calls). c.fail) calls;
   keeps = keeps;
   moves = moves;
+  taken = λ around w f.
+      takes_on (wants r) a.store.tree.account (asked_all w es (at_calls (scene_in a) a.calls.count a.calls.fail around)) a.space a.space b.space
+      (x.taken around w (subst (λ (c : Calls). Fits (wants r) c.count w) calls f)) (sym asks);
   grows = record {
     contexts = rw same.store x.grows.contexts;
     owners = rw same.store x.grows.owners;
@@ -111,19 +117,20 @@ module _ (name : Text) (check : Check) (x : Element) (act : ℕ → Scene → En
       go (Some n) = raises n scene
 
   module _ (a b : Now) (n : ℕ) (P : List What → Type 0) (found : context_named name (session_of a.store a.space) ≡ Some n) (keeps : Keeps a.store a.space) (calls : b.calls ≡ a.calls)
-      (alone : ContextsAlone a.store b.store a.space b.space) where
+      (alone : ContextsAlone a.store b.store a.space b.space) (quiet : (scene : Scene) → asks_in x scene ≡ 0) (asks : Asks a.store.tree.account 0 a.space b.space) where
     pub on_context : (r : Result (Unit {0}) TreeError) → ((around : Around) → failure check (scene_in a around) ≡ option_map tree_error (error_of r))
         → OnOk r (Acted (act n) a.store b.store a.space b.space a.shelf b.shelf P) → OnErr r (Refused a.store b.store a.space b.space a.shelf b.shelf) → OnErr r (P [])
         → Performed 0 (element.Checks (element.IsContext name) ∷ element.Checks check ∷ x ∷ []) a b P (option_map tree_error (error_of r))
     on_context (Ok u) may acted same silent =
         passes 0 (element.IsContext name) (element.Checks check ∷ x ∷ []) a b P None keeps (λ around. there name (scene_in a around) n found)
         (passes 0 check (x ∷ []) a b P None keeps may
-        (performed_act x (at_context name act) a b P is at_raises (acted_at name n act a.store b.store a.space b.space a.shelf b.shelf P found acted) alone calls))
+        (performed_act x (at_context name act) a b P is at_raises (acted_at name n act a.store b.store a.space b.space a.shelf b.shelf P found acted) alone calls
+        (λ around. subst (λ (k : ℕ). Asks a.store.tree.account k a.space b.space) (sym (quiet (scene_in a around))) asks)))
     on_context (Err e) may acted same silent =
         unchanged 0 (element.Checks (element.IsContext name) ∷ element.Checks check ∷ x ∷ []) a b P (Some (tree_error e))
         (passes 0 (element.IsContext name) (element.Checks check ∷ x ∷ []) a a P (Some (tree_error e)) keeps (λ around. there name (scene_in a around) n found)
         (fails check (x ∷ []) a P (tree_error e) keeps silent (tree_error_plain e) may))
-        same alone.keeps alone.moves calls
+        same alone.keeps alone.moves calls asks
 
 -- a command on a context that isn't there
 pub on_no_context : (name : Text) (rest : List Element) (a : Now) (P : List What → Type 0) → context_named name (session_of a.store a.space) ≡ None → Keeps a.store a.space → P []

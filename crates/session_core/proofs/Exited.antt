@@ -4,7 +4,7 @@ use Rattle.std.specs.Prelude.{◌||◌}
 use Rattle.pgs_step.specs.declared.errors.Error.TheVariants as error
 use Rattle.pgs_step.specs.declared.events.What.{What}
 use Rattle.pgs_step.specs.declared.events.What.TheVariants as what
-use Rattle.addr_space.specs.Space.{Space}
+use Rattle.addr_space.specs.Space.{Asks, Space}
 use Rattle.reset_callbacks.specs.ShelfState.{ShelfState}
 use Rattle.context_tree.specs.State.{Moves}
 use Rattle.context_tree.proofs.Composed.{tree_more}
@@ -66,11 +66,12 @@ rolled_acted act a b s t x y P rolls acted = record {
 }
 
 pub levels_ended : (act : Scene → Ended) (a b : Now) (P : List What → Type 0) → KeepsNumbers act → RollsAs (levels_of a.store.levels) act → Acted act a.store b.store a.space b.space a.shelf b.shelf P
-    → Keeps b.store b.space → Moves a.store.tree b.store.tree a.space b.space → b.calls ≡ a.calls → Ends all_rolled a b P
-levels_ended act a b P numbers rolls acted keeps moves calls = record {
+    → Keeps b.store b.space → Moves a.store.tree b.store.tree a.space b.space → Asks a.store.tree.account 0 a.space b.space → b.calls ≡ a.calls → Ends all_rolled a b P
+levels_ended act a b P numbers rolls acted keeps moves asks calls = record {
   acted = rolled_acted act a.store b.store a.space b.space a.shelf b.shelf P rolls acted;
   keeps = keeps;
   moves = moves;
+  asked = asks;
   calls = calls;
   grows = numbers_grow act a b P numbers acted calls;
 }
@@ -132,13 +133,14 @@ module _ (O : Type 0) (emits : O → List What → O → Type 0) (more : (o p q 
   }
 
   pub session_exits : (a b c : Now) → Ends all_rolled a b (λ events. emits o events p) → Acted closing b.store c.store b.space c.space b.shelf c.shelf (λ events. emits p events q) → Keeps c.store c.space
-      → Moves b.store.tree c.store.tree b.space c.space → c.calls ≡ b.calls → emits q (what.Exit ∷ []) r → Ends exited a c (λ events. emits o events r)
-  session_exits a b c first acted keeps moves calls said =
+      → Moves b.store.tree c.store.tree b.space c.space → Asks b.store.tree.account 0 b.space c.space → c.calls ≡ b.calls → emits q (what.Exit ∷ []) r → Ends exited a c (λ events. emits o events r)
+  session_exits a b c first acted keeps moves asks calls said =
       let grows : Grows 0 b c = numbers_grow closing b c (λ events. emits p events q) closing_keeps acted calls in
       record {
         acted = exits a.store b.store c.store a.space b.space c.space a.shelf b.shelf c.shelf first.acted acted said;
         keeps = keeps;
         moves = tree_more a.store.tree b.store.tree c.store.tree a.space b.space c.space first.moves moves;
+        asked = asks ∙ first.asked;
         calls = calls ∙ first.calls;
         grows = record {
           contexts = omega (arith, first.grows.contexts, grows.contexts);

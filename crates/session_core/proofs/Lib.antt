@@ -1,4 +1,5 @@
 pub mod Answered
+pub mod Takings
 pub mod Performing
 pub mod Commands
 pub mod OnContexts
@@ -22,3 +23,4 @@ pub mod BetweenLines
 pub mod Depth
 pub mod Turning
 pub mod Opened
+pub mod Charged

@@ -1,7 +1,7 @@
 -- What the ends of levels perform.
 use Rattle.std.proofs.Common.{◌≡◌, ℕ, List, [], ◌∷◌, ◌++◌, Option, None, refl, sym, ◌∙◌, ap, subst, arith, append-nil}
 use Rattle.pgs_step.specs.declared.events.What.{What}
-use Rattle.addr_space.specs.Space.{Space}
+use Rattle.addr_space.specs.Space.{Asks, Space}
 use Rattle.context_tree.specs.State.{Agrees, Moves, TreeState}
 use Rattle.session_rules.specs.World.{Around, Moment, Scene}
 use Rattle.session_rules.specs.Acts.{Ended, in_order}
@@ -10,6 +10,7 @@ use Rattle.session_rules.specs.Elements as element
 use Rattle.session_rules.specs.Ends.{aborted, cleaned_up, committed}
 use Rattle.session_rules.specs.Calls.{Done, unfailing}
 use Rattle.session_rules.specs.Does.{does, does_all, done_behind, then_done}
+use Rattle.session_rules.specs.Asked.{asked, asked_all, asks_in}
 use Rattle.session_store.specs.Calls.{Acted, Keeps}
 use Rattle.session_core.specs.Performed.{Now, Performed, scene_in}
 use Rattle.session_core.specs.Answers.{Answers, at_calls}
@@ -41,8 +42,9 @@ answers_two fail es act S T n P is leads says = record {
 
 -- the end of a level
 ended : (x : Element) (act : Scene → Ended) → ((w : Option ℕ) (m : Moment) → does w x m ≡ unfailing m act) → KeepsNumbers act → (a b : Now) (P : List What → Type 0)
-    → Acted act a.store b.store a.space b.space a.shelf b.shelf P → Keeps b.store b.space → Moves a.store.tree b.store.tree a.space b.space → b.calls ≡ a.calls → Performed 0 (x ∷ []) a b P None
-ended x act is numbers a b P acted keeps moves calls = performed_end 0 x act a b P is acted keeps moves (numbers_grow act a b P numbers acted calls) calls
+    → Acted act a.store b.store a.space b.space a.shelf b.shelf P → Keeps b.store b.space → Moves a.store.tree b.store.tree a.space b.space → b.calls ≡ a.calls
+    → ((around : Around) → Asks a.store.tree.account (asks_in x (scene_in a around)) a.space b.space) → Performed 0 (x ∷ []) a b P None
+ended x act is numbers a b P acted keeps moves calls asks = performed_end 0 x act a b P is acted keeps moves (numbers_grow act a b P numbers acted calls) calls asks
 
 does_commit : (w : Option ℕ) (m : Moment) → does w element.CommitTop m ≡ unfailing m committed
 unfolding does
@@ -56,15 +58,21 @@ does_cleanup : (w : Option ℕ) (m : Moment) → does w element.Cleanup m ≡ un
 unfolding does
 does_cleanup w m = refl
 
-module _ (a b : Now) (P : List What → Type 0) (keeps : Keeps b.store b.space) (moves : Moves a.store.tree b.store.tree a.space b.space) (calls : b.calls ≡ a.calls) where
+-- an abort and a cleanup ask nothing
+two_ask : (w : Option ℕ) (m : Moment) → asked_all w (element.Abort ∷ element.Cleanup ∷ []) m ≡ 0
+unfolding does asked asked_all
+two_ask w m = refl
+
+module _ (a b : Now) (P : List What → Type 0) (keeps : Keeps b.store b.space) (moves : Moves a.store.tree b.store.tree a.space b.space) (calls : b.calls ≡ a.calls)
+    (asks : Asks a.store.tree.account 0 a.space b.space) where
   pub commit_performed : Acted committed a.store b.store a.space b.space a.shelf b.shelf P → Performed 0 (element.CommitTop ∷ []) a b P None
-  commit_performed acted = ended element.CommitTop committed does_commit commits a b P acted keeps moves calls
+  commit_performed acted = ended element.CommitTop committed does_commit commits a b P acted keeps moves calls (λ around. asks)
 
   pub abort_performed : Acted aborted a.store b.store a.space b.space a.shelf b.shelf P → Performed 0 (element.Abort ∷ []) a b P None
-  abort_performed acted = ended element.Abort aborted does_abort aborts a b P acted keeps moves calls
+  abort_performed acted = ended element.Abort aborted does_abort aborts a b P acted keeps moves calls (λ around. asks)
 
   pub cleanup_performed : Acted cleaned_up a.store b.store a.space b.space a.shelf b.shelf P → Performed 0 (element.Cleanup ∷ []) a b P None
-  cleanup_performed acted = ended element.Cleanup cleaned_up does_cleanup cleans a b P acted keeps moves calls
+  cleanup_performed acted = ended element.Cleanup cleaned_up does_cleanup cleans a b P acted keeps moves calls (λ around. asks)
 
   pub roll_performed : Acted (in_order (aborted ∷ cleaned_up ∷ [])) a.store b.store a.space b.space a.shelf b.shelf P → Performed 0 (element.Abort ∷ element.Cleanup ∷ []) a b P None
   roll_performed acted = record {
@@ -74,6 +82,7 @@ module _ (a b : Now) (P : List What → Type 0) (keeps : Keeps b.store b.space) 
     fail = ap (λ (c : Calls). c.fail) calls;
     keeps = keeps;
     moves = moves;
+    taken = λ around w f. subst (λ (n : ℕ). Asks a.store.tree.account n a.space b.space) (sym (two_ask w (at_calls (scene_in a) a.calls.count a.calls.fail around))) asks;
     grows = numbers_grow (in_order (aborted ∷ cleaned_up ∷ [])) a b P rolls acted calls;
   }
 

@@ -4,11 +4,13 @@ use Rattle.std.specs.Option.{option_map, option_map_or}
 use Rattle.pgs_step.specs.declared.errors.Error.{Error}
 use Rattle.pgs_step.specs.declared.errors.Error.TheVariants as error
 use Rattle.pgs_step.specs.declared.events.What.{What}
-use Rattle.addr_space.specs.Space.{Space}
+use Rattle.addr_space.specs.Space.{Asks, Space}
 use Rattle.reset_callbacks.specs.Hook.{Hook}
 use Rattle.reset_callbacks.specs.ShelfState.{ShelfState}
 use Rattle.context_rules.specs.declared.errors.TreeError.{TreeError}
 use Rattle.context_rules.specs.Refusals.{create_refusal, is_taken, set_parent_refusal}
+use Rattle.any_ctx.specs.Kinds.{first_size}
+use Rattle.context_tree.specs.Making.{AsksInVain}
 use Rattle.context_tree.specs.State.{error_of}
 use Rattle.session_rules.specs.State.{first_of}
 use Rattle.session_rules.specs.World.{Moment, Scene}
@@ -29,6 +31,7 @@ use Rattle.session_store.specs.declared.hooks.RegisterError.TheVariants as regis
 use Rattle.session_store.specs.State.{StoreState, contexts_in, left_in, session_of}
 use Rattle.session_store.specs.Calls.{Acted, ContextsAlone, Keeps, Refused}
 use Rattle.session_core.specs.Performed.{Now, Performed, scene_in}
+use Rattle.session_core.proofs.Takings.{none_in_vain, some_in_vain}
 use Rattle.session_core.proofs.Performing.{Raises, performed_act, performed_injected, performed_own, performed_step, performed_want}
 use Rattle.session_core.proofs.Commands.{acted_at, at_raises, fails, on_no_context, may_move, passes, there, tree_error_plain, unchanged}
 
@@ -49,14 +52,14 @@ unfolding does
 does_register name w m = refl
 
 module _ (name : Text) (a b : Now) (n : ℕ) (P : List What → Type 0) (found : context_named name (session_of a.store a.space) ≡ Some n) (keeps : Keeps a.store a.space)
-    (alone : ContextsAlone a.store b.store a.space b.space) where
+    (alone : ContextsAlone a.store b.store a.space b.space) (asks : Asks a.store.tree.account 0 a.space b.space) where
   pub switch_performed : b.calls ≡ a.calls → Acted (switched n) a.store b.store a.space b.space a.shelf b.shelf P
       → Performed 0 (element.Checks (element.IsContext name) ∷ element.Switch name ∷ []) a b P None
   switch_performed calls acted =
       passes 0 (element.IsContext name) (element.Switch name ∷ []) a b P None keeps (λ around. there name (scene_in a around) n found)
       (performed_act (element.Switch name) (at_context name switched) a b P (does_switch name)
       (at_raises name (element.IsContext name) (element.Switch name) switched (does_switch name) (λ m scene. omega arith))
-      (acted_at name n switched a.store b.store a.space b.space a.shelf b.shelf P found acted) alone calls)
+      (acted_at name n switched a.store b.store a.space b.space a.shelf b.shelf P found acted) alone calls (λ around. asks))
 
   -- a context moves below another one
   module _ (parent : Text) (p : ℕ) (parent_found : context_named parent (session_of a.store a.space) ≡ Some p) (r : Result (Unit {0}) TreeError) where
@@ -84,13 +87,13 @@ module _ (name : Text) (a b : Now) (n : ℕ) (P : List What → Type 0) (found :
             (passes 0 (element.MayMove name parent) (element.Reparent name parent ∷ []) a b P None keeps (λ around. may_move name parent a n p around found parent_found ∙ ap (option_map tree_error) (sym answer))
             (performed_act (element.Reparent name parent) (at_context name moves_to) a b P (does_reparent name parent)
             (at_raises name (element.MayMove name parent) (element.Reparent name parent) moves_to (does_reparent name parent) moves_raise)
-            (acted_at name n moves_to a.store b.store a.space b.space a.shelf b.shelf P found (acted_at parent p (context_moved n) a.store b.store a.space b.space a.shelf b.shelf P parent_found acted)) alone calls)))
+            (acted_at name n moves_to a.store b.store a.space b.space a.shelf b.shelf P found (acted_at parent p (context_moved n) a.store b.store a.space b.space a.shelf b.shelf P parent_found acted)) alone calls (λ around. asks))))
         go (Err e) answer acted same silent =
             unchanged 0 _ a b P (Some (tree_error e))
             (passes 0 (element.IsContext name) _ a a P (Some (tree_error e)) keeps (λ around. there name (scene_in a around) n found)
             (passes 0 (element.IsContext parent) _ a a P (Some (tree_error e)) keeps (λ around. there parent (scene_in a around) p parent_found)
             (fails (element.MayMove name parent) (element.Reparent name parent ∷ []) a P (tree_error e) keeps silent (tree_error_plain e) (λ around. may_move name parent a n p around found parent_found ∙ ap (option_map tree_error) (sym answer)))))
-            same alone.keeps alone.moves calls
+            same alone.keeps alone.moves calls asks
 
   -- a hook waits
   module _ (counted : b.calls ≡ record a.calls { count = a.calls.count + 1 }) where
@@ -117,7 +120,7 @@ module _ (name : Text) (a b : Now) (n : ℕ) (P : List What → Type 0) (found :
         passes 1 (element.IsContext name) (element.Register name ∷ []) a b P None keeps (λ around. there name (scene_in a around) n found)
         (performed_step (element.Register name) hook_refused (hook_registered name) (does_register name) a b P counted register_raises goes
         (λ around. ap (λ (o : Option Hook). option_map_or (λ hook. None) o (Some error.LimitReached)) fresh)
-        (register_acted acted) alone)
+        (register_acted acted) alone (λ around. asks))
 
     module _ (same : Refused a.store b.store a.space b.space a.shelf b.shelf) (silent : P []) where
       pub register_none : (a.calls.count + 1 == a.calls.fail) ≡ false → a.shelf.fresh ≡ []
@@ -125,17 +128,17 @@ module _ (name : Text) (a b : Now) (n : ℕ) (P : List What → Type 0) (found :
       register_none goes none =
           passes 1 (element.IsContext name) (element.Register name ∷ []) a b P (Some error.LimitReached) keeps (λ around. there name (scene_in a around) n found)
           (performed_own (element.Register name) hook_refused (hook_registered name) (does_register name) a b P counted same alone.keeps alone.moves error.LimitReached goes refl silent
-          (λ around. ap (λ (hooks : List Hook). option_map_or (λ hook. None) (first_of hooks) (Some error.LimitReached)) none))
+          (λ around. ap (λ (hooks : List Hook). option_map_or (λ hook. None) (first_of hooks) (Some error.LimitReached)) none) asks)
 
       pub register_wants : (a.calls.count + 1 == a.calls.fail) ≡ false → Performed 1 (element.Checks (element.IsContext name) ∷ element.Register name ∷ []) a b P (Some (error.NoMemory (a.calls.count + 1)))
       register_wants goes =
           passes 1 (element.IsContext name) (element.Register name ∷ []) a b P (Some (error.NoMemory (a.calls.count + 1))) keeps (λ around. there name (scene_in a around) n found)
-          (performed_want (element.Register name) hook_refused (hook_registered name) (does_register name) a b P counted same alone.keeps alone.moves goes silent)
+          (performed_want (element.Register name) hook_refused (hook_registered name) (does_register name) a b P counted same alone.keeps alone.moves goes silent (0, asks))
 
       pub register_injected : (a.calls.count + 1 == a.calls.fail) ≡ true → Performed 1 (element.Checks (element.IsContext name) ∷ element.Register name ∷ []) a b P (Some (error.Injected (a.calls.count + 1)))
       register_injected fails =
           passes 1 (element.IsContext name) (element.Register name ∷ []) a b P (Some (error.Injected (a.calls.count + 1))) keeps (λ around. there name (scene_in a around) n found)
-          (performed_injected (element.Register name) hook_refused (hook_registered name) (does_register name) a b P counted same alone.keeps alone.moves fails silent)
+          (performed_injected (element.Register name) hook_refused (hook_registered name) (does_register name) a b P counted same alone.keeps alone.moves fails silent asks)
 
       -- what the store answered, as the session answers it
       pub register_refused : (r : Result (Unit {0}) RegisterError) (refusal : RegisterError) (t : Error) → (a.calls.count + 1 == a.calls.fail) ≡ false → r ≡ Err refusal → ((r ≡ Err register.NoHook) ↔ (a.shelf.fresh ≡ []))
@@ -185,14 +188,14 @@ answer_of (Err e) a is p = absurd (other is)
 
 -- what a call on contexts that may take memory answered, as the session answers it
 pub by_cause : (k : ℕ) (es : List Element) (a b : Now) (P : List What → Type 0) (own : Option TreeError) (n : ℕ) (e : TreeError) (t : Error) → (e ≡ tree.Memory → t ≡ error.NoMemory n) → (e ≢ tree.Memory → t ≡ tree_error e)
-    → (e ≡ tree.Memory) ⊎ (own ≡ Some e) → Performed k es a b P (Some (error.NoMemory n)) → (own ≡ Some e → Performed k es a b P (Some (tree_error e))) → Performed k es a b P (Some t)
+    → (e ≡ tree.Memory) ⊎ (own ≡ Some e) → Performed k es a b P (Some (error.NoMemory n)) → (e ≢ tree.Memory → own ≡ Some e → Performed k es a b P (Some (tree_error e))) → Performed k es a b P (Some t)
 by_cause k es a b P own n e t memory other cause want refused = go e refl
   where
     as_error : (d : Error) → t ≡ d → Performed k es a b P (Some d) → Performed k es a b P (Some t)
     as_error d is h = subst (λ (x : Error). Performed k es a b P (Some x)) (sym is) h
 
     told : (e ≢ tree.Memory) → Performed k es a b P (Some t)
-    told ne = as_error (tree_error e) (other ne) (elim cause [ inl is ↦ absurd (ne is) | inr is ↦ refused is ])
+    told ne = as_error (tree_error e) (other ne) (elim cause [ inl is ↦ absurd (ne is) | inr is ↦ refused ne is ])
 
     go : (d : TreeError) → e ≡ d → Performed k es a b P (Some t)
     go tree.Memory is = as_error (error.NoMemory n) (memory is) want
@@ -249,21 +252,23 @@ module _ (name parent : Text) (kind : CtxKind) where
       }
 
       pub make_done : (a.calls.count + 1 == a.calls.fail) ≡ false → create_refusal (left_in a.store a.space) name kind false (contexts_in a.store a.space) ≡ None
-          → Acted (context_made n name false kind) a.store b.store a.space b.space a.shelf b.shelf P → Performed 1 made a b P None
-      make_done goes served acted =
+          → Acted (context_made n name false kind) a.store b.store a.space b.space a.shelf b.shelf P → Asks a.store.tree.account (first_size kind) a.space b.space → Performed 1 made a b P None
+      make_done goes served acted asks =
           checked None (performed_step (element.MakeContext new) (new_context_refused new) (new_context_made new) (does_make new) a b P counted raises_one goes
-          (λ around. ap (option_map tree_error) served) (made_at acted) alone)
+          (λ around. ap (option_map tree_error) served) (made_at acted) alone
+          (λ around. subst (λ (o : Option ℕ). Asks a.store.tree.account (option_map_or (λ p. first_size kind) o 0) a.space b.space) (sym found) asks))
 
       module _ (same : Refused a.store b.store a.space b.space a.shelf b.shelf) (silent : P []) where
-        pub make_injected : (a.calls.count + 1 == a.calls.fail) ≡ true → Performed 1 made a b P (Some (error.Injected (a.calls.count + 1)))
-        make_injected failing =
+        pub make_injected : (a.calls.count + 1 == a.calls.fail) ≡ true → Asks a.store.tree.account 0 a.space b.space → Performed 1 made a b P (Some (error.Injected (a.calls.count + 1)))
+        make_injected failing asks =
             checked (Some (error.Injected (a.calls.count + 1)))
-            (performed_injected (element.MakeContext new) (new_context_refused new) (new_context_made new) (does_make new) a b P counted same alone.keeps alone.moves failing silent)
+            (performed_injected (element.MakeContext new) (new_context_refused new) (new_context_made new) (does_make new) a b P counted same alone.keeps alone.moves failing silent asks)
 
         pub make_refused : (e : TreeError) (t : Error) → (a.calls.count + 1 == a.calls.fail) ≡ false → (e ≡ tree.Memory → t ≡ error.NoMemory (a.calls.count + 1)) → (e ≢ tree.Memory → t ≡ tree_error e)
-            → (e ≡ tree.Memory) ⊎ (create_refusal (left_in a.store a.space) name kind false (contexts_in a.store a.space) ≡ Some e) → Performed 1 made a b P (Some t)
-        make_refused e t goes memory other cause =
+            → (e ≡ tree.Memory) ⊎ (create_refusal (left_in a.store a.space) name kind false (contexts_in a.store a.space) ≡ Some e) → AsksInVain e a.store.tree.account (first_size kind) a.space b.space → Performed 1 made a b P (Some t)
+        make_refused e t goes memory other cause vain =
             by_cause 1 made a b P (create_refusal (left_in a.store a.space) name kind false (contexts_in a.store a.space)) (a.calls.count + 1) e t memory other cause
-            (checked (Some (error.NoMemory (a.calls.count + 1))) (performed_want (element.MakeContext new) (new_context_refused new) (new_context_made new) (does_make new) a b P counted same alone.keeps alone.moves goes silent))
-            (λ own. checked (Some (tree_error e)) (performed_own (element.MakeContext new) (new_context_refused new) (new_context_made new) (does_make new) a b P counted same alone.keeps alone.moves (tree_error e) goes (tree_error_plain e) silent
-            (λ around. ap (option_map tree_error) own)))
+            (checked (Some (error.NoMemory (a.calls.count + 1))) (performed_want (element.MakeContext new) (new_context_refused new) (new_context_made new) (does_make new) a b P counted same alone.keeps alone.moves goes silent
+            (some_in_vain e a.store.tree.account (first_size kind) a.space b.space vain)))
+            (λ ne own. checked (Some (tree_error e)) (performed_own (element.MakeContext new) (new_context_refused new) (new_context_made new) (does_make new) a b P counted same alone.keeps alone.moves (tree_error e) goes (tree_error_plain e) silent
+            (λ around. ap (option_map tree_error) own) (none_in_vain e a.store.tree.account (first_size kind) a.space b.space ne vain)))

@@ -3,7 +3,7 @@ use Rattle.std.proofs.Common.{◌≡◌, ℕ, ◌+◌, ◌≤◌, ◌==◌, true
 use Rattle.pgs_step.specs.declared.errors.Error.{Error}
 use Rattle.pgs_step.specs.declared.errors.Error.TheVariants.{Injected, NoMemory}
 use Rattle.pgs_step.specs.declared.events.What.{What}
-use Rattle.addr_space.specs.Space.{Space}
+use Rattle.addr_space.specs.Space.{Asks, Space}
 use Rattle.reset_callbacks.specs.ShelfState.{ShelfState}
 use Rattle.context_tree.specs.State.{TreeState, Agrees, Moves}
 use Rattle.context_tree.proofs.Composed.{tree_more}
@@ -15,12 +15,14 @@ use Rattle.session_rules.specs.Elements as element
 use Rattle.session_rules.specs.Checks.{failure}
 use Rattle.session_rules.specs.Calls.{fallible, unfailing}
 use Rattle.session_rules.specs.Does.{does}
+use Rattle.session_rules.specs.Asked.{asks_in}
 use Rattle.session_rules.specs.Transcript.{is_want}
 use Rattle.session_store.specs.State.{StoreState, scene_of, session_of}
 use Rattle.session_store.specs.Calls.{Acted, ContextsAlone, Keeps, Refused}
 use Rattle.session_core.specs.declared.calls.Calls.{Calls}
 use Rattle.session_core.specs.Answers.{Answers}
-use Rattle.session_core.specs.Performed.{Now, Grows, Performed, scene_in}
+use Rattle.session_core.specs.Performed.{Now, Grows, Performed, Takes, scene_in}
+use Rattle.session_core.proofs.Takings.{taken_both, taken_none, taken_one, taken_stop, takes_nothing}
 use Rattle.session_core.proofs.Answered.{answers_act, answers_both, answers_check, answers_fails, answers_injected, answers_none, answers_own, answers_step, answers_stop, answers_want}
 
 -- the same scene behind
@@ -48,6 +50,7 @@ performed_none a P keeps h = record {
   fail = refl;
   keeps = keeps;
   moves = moves_nothing a.store.tree a.space keeps.agrees;
+  taken = taken_none a;
   grows = grows_nothing 0 a;
 }
 
@@ -60,6 +63,7 @@ performed_both j k xs ys a b c P Q R r x y joins = record {
   fail = y.fail ∙ x.fail;
   keeps = y.keeps;
   moves = tree_more a.store.tree b.store.tree c.store.tree a.space b.space c.space x.moves y.moves;
+  taken = taken_both xs ys a b c P Q r x.answers y.answers x.fail x.moves.account x.taken y.taken;
   grows = record {
     contexts = omega (arith, x.grows.contexts, y.grows.contexts);
     owners = omega (arith, x.grows.owners, y.grows.owners);
@@ -75,6 +79,7 @@ performed_stop k xs ys a b P e x = record {
   fail = x.fail;
   keeps = x.keeps;
   moves = x.moves;
+  taken = taken_stop xs ys a b P e x.answers x.taken;
   grows = x.grows;
 }
 
@@ -85,6 +90,7 @@ performed_more j k xs a b P r le x = record {
   fail = x.fail;
   keeps = x.keeps;
   moves = x.moves;
+  taken = x.taken;
   grows = record {
     contexts = omega (arith, le, x.grows.contexts);
     owners = omega (arith, le, x.grows.owners);
@@ -101,6 +107,7 @@ performed_check check a P keeps h passes = record {
   fail = refl;
   keeps = keeps;
   moves = moves_nothing a.store.tree a.space keeps.agrees;
+  taken = taken_one (element.Checks check) a a P None (answers_check a.calls.fail check (scene_in a) a.calls.count P h passes) (λ around. refl);
   grows = grows_nothing 0 a;
 }
 
@@ -111,6 +118,8 @@ performed_fails check a P e keeps h own fails = record {
   fail = refl;
   keeps = keeps;
   moves = moves_nothing a.store.tree a.space keeps.agrees;
+  taken = taken_one (element.Checks check) a a P (Some e) (answers_fails a.calls.fail check (scene_in a) a.calls.count P e h own fails)
+      (λ around. takes_nothing (is_want e) a.store.tree.account a.space a.space refl);
   grows = grows_nothing 0 a;
 }
 
@@ -131,27 +140,31 @@ nowhere = record { kinds = []; shelf = record { fresh = []; spent = []; out = 0 
 -- what can't fail
 pub performed_end : (k : ℕ) (x : Element) (act : Scene → Ended) (a b : Now) (P : List What → Type 0) → ((w : Option ℕ) (m : Moment) → does w x m ≡ unfailing m act)
     → Acted act a.store b.store a.space b.space a.shelf b.shelf P → Keeps b.store b.space → Moves a.store.tree b.store.tree a.space b.space → Grows k a b → b.calls ≡ a.calls
-    → Performed k (x ∷ []) a b P None
-performed_end k x act a b P is acted keeps moves grows calls = record {
-  answers = subst (λ (n : ℕ). Answers (x ∷ []) (scene_in a) (scene_in b) a.calls.count n a.calls.fail P None) (ap (λ (c : Calls). c.count) (sym calls))
-      (answers_act a.calls.fail x act (scene_in a) (scene_in b) a.calls.count P is acted.leads acted.says);
-  fail = ap (λ (c : Calls). c.fail) calls;
-  keeps = keeps;
-  moves = moves;
-  grows = grows;
-}
+    → ((around : Around) → Asks a.store.tree.account (asks_in x (scene_in a around)) a.space b.space) → Performed k (x ∷ []) a b P None
+performed_end k x act a b P is acted keeps moves grows calls asks =
+    let answers : Answers (x ∷ []) (scene_in a) (scene_in b) a.calls.count b.calls.count a.calls.fail P None =
+    subst (λ (n : ℕ). Answers (x ∷ []) (scene_in a) (scene_in b) a.calls.count n a.calls.fail P None) (ap (λ (c : Calls). c.count) (sym calls))
+    (answers_act a.calls.fail x act (scene_in a) (scene_in b) a.calls.count P is acted.leads acted.says) in
+    record {
+      answers = answers;
+      fail = ap (λ (c : Calls). c.fail) calls;
+      keeps = keeps;
+      moves = moves;
+      taken = taken_one x a b P None answers asks;
+      grows = grows;
+    }
 
 -- the same, on contexts alone
 pub performed_act : (x : Element) (act : Scene → Ended) (a b : Now) (P : List What → Type 0) → ((w : Option ℕ) (m : Moment) → does w x m ≡ unfailing m act) → Raises 0 act
     → Acted act a.store b.store a.space b.space a.shelf b.shelf P → ContextsAlone a.store b.store a.space b.space → b.calls ≡ a.calls
-    → Performed 0 (x ∷ []) a b P None
-performed_act x act a b P is rises acted alone calls =
+    → ((around : Around) → Asks a.store.tree.account (asks_in x (scene_in a around)) a.space b.space) → Performed 0 (x ∷ []) a b P None
+performed_act x act a b P is rises acted alone calls asks =
     performed_end 0 x act a b P is acted alone.keeps alone.moves (record {
       contexts = raised 0 act a.store b.store a.space b.space a.shelf b.shelf P rises acted nowhere;
       owners = rw alone.owners (omega arith);
       serials = rw alone.owners (omega arith);
       calls = rw calls (omega arith);
-    }) calls
+    }) calls asks
 
 -- the scene where a call was refused
 pub same_scene_in : (a b : Now) → Refused a.store b.store a.space b.space a.shelf b.shelf → (around : Around) → scene_in a around ≡ scene_in b around
@@ -168,48 +181,61 @@ module _ (x : Element) (own : Scene → Option Error) (act : Scene → Ended) (i
 
   -- that was done
   pub performed_made : (k : ℕ) → (a.calls.count + 1 == a.calls.fail) ≡ false → ((around : Around) → own (scene_in a around) ≡ None)
-      → Acted act a.store b.store a.space b.space a.shelf b.shelf P → Keeps b.store b.space → Moves a.store.tree b.store.tree a.space b.space → Grows k a b → Performed k (x ∷ []) a b P None
-  performed_made k goes free acted keeps moves grows = record {
-    answers = subst (λ (n : ℕ). Answers (x ∷ []) (scene_in a) (scene_in b) a.calls.count n a.calls.fail P None) (sym count_up)
-        (answers_step a.calls.fail x own act is (scene_in a) a.calls.count (scene_in b) P goes free acted.leads acted.says);
-    fail = ap (λ (c : Calls). c.fail) counted;
-    keeps = keeps;
-    moves = moves;
-    grows = grows;
-  }
+      → Acted act a.store b.store a.space b.space a.shelf b.shelf P → Keeps b.store b.space → Moves a.store.tree b.store.tree a.space b.space → Grows k a b
+      → ((around : Around) → Asks a.store.tree.account (asks_in x (scene_in a around)) a.space b.space) → Performed k (x ∷ []) a b P None
+  performed_made k goes free acted keeps moves grows asks =
+      let answers : Answers (x ∷ []) (scene_in a) (scene_in b) a.calls.count b.calls.count a.calls.fail P None =
+      subst (λ (n : ℕ). Answers (x ∷ []) (scene_in a) (scene_in b) a.calls.count n a.calls.fail P None) (sym count_up)
+      (answers_step a.calls.fail x own act is (scene_in a) a.calls.count (scene_in b) P goes free acted.leads acted.says) in
+      record {
+        answers = answers;
+        fail = ap (λ (c : Calls). c.fail) counted;
+        keeps = keeps;
+        moves = moves;
+        taken = taken_one x a b P None answers asks;
+        grows = grows;
+      }
 
   -- that was done, on contexts alone
   pub performed_step : Raises 1 act → (a.calls.count + 1 == a.calls.fail) ≡ false → ((around : Around) → own (scene_in a around) ≡ None)
-      → Acted act a.store b.store a.space b.space a.shelf b.shelf P → ContextsAlone a.store b.store a.space b.space → Performed 1 (x ∷ []) a b P None
-  performed_step rises goes free acted alone = performed_made 1 goes free acted alone.keeps alone.moves (record {
+      → Acted act a.store b.store a.space b.space a.shelf b.shelf P → ContextsAlone a.store b.store a.space b.space
+      → ((around : Around) → Asks a.store.tree.account (asks_in x (scene_in a around)) a.space b.space) → Performed 1 (x ∷ []) a b P None
+  performed_step rises goes free acted alone asks = performed_made 1 goes free acted alone.keeps alone.moves (record {
     contexts = raised 1 act a.store b.store a.space b.space a.shelf b.shelf P rises acted nowhere;
     owners = rw alone.owners (omega arith);
     serials = rw alone.owners (omega arith);
     calls = omega (arith, count_up);
-  })
+  }) asks
 
   -- that was refused: the session is as it was
   module _ (same : Refused a.store b.store a.space b.space a.shelf b.shelf) (keeps : Keeps b.store b.space) (moves : Moves a.store.tree b.store.tree a.space b.space) where
-    refused : (e : Error) → Answers (x ∷ []) (scene_in a) (scene_in a) a.calls.count (a.calls.count + 1) a.calls.fail P (Some e) → Performed 1 (x ∷ []) a b P (Some e)
-    refused e answers = record {
-      answers = answers_as (x ∷ []) (scene_in a) (scene_in a) (scene_in b) a.calls.count b.calls.count a.calls.fail P (Some e) (same_scene_in a b same)
-          (subst (λ (n : ℕ). Answers (x ∷ []) (scene_in a) (scene_in a) a.calls.count n a.calls.fail P (Some e)) (sym count_up) answers);
-      fail = ap (λ (c : Calls). c.fail) counted;
-      keeps = keeps;
-      moves = moves;
-      grows = record {
-        contexts = rw same.store (omega arith);
-        owners = rw same.store (omega arith);
-        serials = rw same.store (omega arith);
-        calls = omega (arith, count_up);
-      };
-    }
+    refused : (e : Error) → Answers (x ∷ []) (scene_in a) (scene_in a) a.calls.count (a.calls.count + 1) a.calls.fail P (Some e) → Takes (is_want e) a.store.tree.account 0 a.space b.space
+        → Performed 1 (x ∷ []) a b P (Some e)
+    refused e answers takes =
+        let told : Answers (x ∷ []) (scene_in a) (scene_in b) a.calls.count b.calls.count a.calls.fail P (Some e) =
+        answers_as (x ∷ []) (scene_in a) (scene_in a) (scene_in b) a.calls.count b.calls.count a.calls.fail P (Some e) (same_scene_in a b same)
+        (subst (λ (n : ℕ). Answers (x ∷ []) (scene_in a) (scene_in a) a.calls.count n a.calls.fail P (Some e)) (sym count_up) answers) in
+        record {
+          answers = told;
+          fail = ap (λ (c : Calls). c.fail) counted;
+          keeps = keeps;
+          moves = moves;
+          taken = taken_one x a b P (Some e) told (λ around. takes);
+          grows = record {
+            contexts = rw same.store (omega arith);
+            owners = rw same.store (omega arith);
+            serials = rw same.store (omega arith);
+            calls = omega (arith, count_up);
+          };
+        }
 
-    pub performed_own : (e : Error) → (a.calls.count + 1 == a.calls.fail) ≡ false → is_want e ≡ false → P [] → ((around : Around) → own (scene_in a around) ≡ Some e) → Performed 1 (x ∷ []) a b P (Some e)
-    performed_own e goes plain h cause = refused e (answers_own a.calls.fail x own act is (scene_in a) a.calls.count P e goes plain h cause)
+    pub performed_own : (e : Error) → (a.calls.count + 1 == a.calls.fail) ≡ false → is_want e ≡ false → P [] → ((around : Around) → own (scene_in a around) ≡ Some e)
+        → Asks a.store.tree.account 0 a.space b.space → Performed 1 (x ∷ []) a b P (Some e)
+    performed_own e goes plain h cause asks =
+        refused e (answers_own a.calls.fail x own act is (scene_in a) a.calls.count P e goes plain h cause) (takes_nothing (is_want e) a.store.tree.account a.space b.space asks)
 
-    pub performed_want : (a.calls.count + 1 == a.calls.fail) ≡ false → P [] → Performed 1 (x ∷ []) a b P (Some (NoMemory (a.calls.count + 1)))
-    performed_want goes h = refused (NoMemory (a.calls.count + 1)) (answers_want a.calls.fail x own act is (scene_in a) a.calls.count P goes h)
+    pub performed_want : (a.calls.count + 1 == a.calls.fail) ≡ false → P [] → (n : ℕ) × Asks a.store.tree.account n a.space b.space → Performed 1 (x ∷ []) a b P (Some (NoMemory (a.calls.count + 1)))
+    performed_want goes h some = refused (NoMemory (a.calls.count + 1)) (answers_want a.calls.fail x own act is (scene_in a) a.calls.count P goes h) some
 
-    pub performed_injected : (a.calls.count + 1 == a.calls.fail) ≡ true → P [] → Performed 1 (x ∷ []) a b P (Some (Injected (a.calls.count + 1)))
-    performed_injected fails h = refused (Injected (a.calls.count + 1)) (answers_injected a.calls.fail x own act is (scene_in a) a.calls.count P fails h)
+    pub performed_injected : (a.calls.count + 1 == a.calls.fail) ≡ true → P [] → Asks a.store.tree.account 0 a.space b.space → Performed 1 (x ∷ []) a b P (Some (Injected (a.calls.count + 1)))
+    performed_injected fails h asks = refused (Injected (a.calls.count + 1)) (answers_injected a.calls.fail x own act is (scene_in a) a.calls.count P fails h) asks

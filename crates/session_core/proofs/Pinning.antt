@@ -30,7 +30,7 @@ use Rattle.session_core.specs.Performed.{Now, IsBetweenSteps, Performed, scene_i
 use Rattle.session_core.proofs.Commands.{fails, passes}
 use Rattle.session_core.proofs.Performing.{performed_both, performed_made, performed_more, performed_stop}
 use Rattle.session_core.proofs.Standing.{empty_around}
-use Rattle.session_core.proofs.Stepping.{Rises, count_behind, grown, moves_same, step_injected, step_wants, still_keeps, still_moves, still_refused}
+use Rattle.session_core.proofs.Stepping.{Rises, count_behind, grown, moves_same, step_injected, step_wants, still_asks, still_keeps, still_moves, still_refused, still_some}
 
 does_enlarge : (w : Option ℕ) (m : Moment) → does w (element.Enlarge OfLevel) m ≡ fallible w m None nothing
 unfolding does
@@ -50,7 +50,7 @@ module _ (a b : Now) (P : List What → Type 0) (counted : b.calls ≡ record a.
   enlarge_done goes tree session after =
       performed_made (element.Enlarge OfLevel) (λ _. None) nothing does_enlarge a b P counted 1 goes (λ around. refl) acted (subst (Keeps b.store) (sym space) after)
       (moves_same a.store.tree b.store.tree a.space b.space tree space keeps.agrees)
-      (grown 1 nothing a b P (λ s. record { contexts = omega arith; owners = omega arith; serials = omega arith }) acted (omega (arith, count_behind a b counted)))
+      (grown 1 nothing a b P (λ s. record { contexts = omega arith; owners = omega arith; serials = omega arith }) acted (omega (arith, count_behind a b counted))) (λ around. ap (λ (s : Space). s.taken) space)
     where
       acted : Acted nothing a.store b.store a.space b.space a.shelf b.shelf P
       acted = record {
@@ -65,16 +65,16 @@ module _ (a b : Now) (P : List What → Type 0) (counted : b.calls ≡ record a.
   module _ (store : b.store ≡ a.store) where
     pub enlarge_injected : (e : Error) → (e ≡ Injected (a.calls.count + 1)) × ((a.calls.count + 1 == a.calls.fail) ≡ true) → Performed 1 (element.Enlarge OfLevel ∷ []) a b P (Some e)
     enlarge_injected e told =
-        step_injected (element.Enlarge OfLevel) (λ _. None) nothing does_enlarge a b P counted (still_refused a b store space shelf) (still_keeps a b store space shelf keeps) (still_moves a b store space shelf keeps) silent e told
+        step_injected (element.Enlarge OfLevel) (λ _. None) nothing does_enlarge a b P counted (still_refused a b store space shelf) (still_keeps a b store space shelf keeps) (still_moves a b store space shelf keeps) silent e told (still_asks a b store space shelf)
 
     pub enlarge_wants : (a.calls.count + 1 == a.calls.fail) ≡ false → Performed 1 (element.Enlarge OfLevel ∷ []) a b P (Some (NoMemory b.calls.count))
     enlarge_wants goes =
-        step_wants (element.Enlarge OfLevel) (λ _. None) nothing does_enlarge a b P counted (still_refused a b store space shelf) (still_keeps a b store space shelf keeps) (still_moves a b store space shelf keeps) silent goes
+        step_wants (element.Enlarge OfLevel) (λ _. None) nothing does_enlarge a b P counted (still_refused a b store space shelf) (still_keeps a b store space shelf keeps) (still_moves a b store space shelf keeps) silent goes (still_some a b store space shelf)
 
     pub take_injected : (buffer : ℕ) (e : Error) → (e ≡ Injected (a.calls.count + 1)) × ((a.calls.count + 1 == a.calls.fail) ≡ true) → Performed 1 (element.Take OfLevel buffer_pin buffer ∷ []) a b P (Some e)
     take_injected buffer e told =
         step_injected (element.Take OfLevel buffer_pin buffer) (take_refused (keeper_of buffer_pin)) (takes_pin buffer) (does_take buffer) a b P counted (still_refused a b store space shelf)
-        (still_keeps a b store space shelf keeps) (still_moves a b store space shelf keeps) silent e told
+        (still_keeps a b store space shelf keeps) (still_moves a b store space shelf keeps) silent e told (still_asks a b store space shelf)
 
 take_rises : (buffer : ℕ) (s : Scene) → Rises 1 s (takes_pin buffer s).scene
 take_rises buffer s = go (level_owner s.session)
@@ -90,7 +90,7 @@ pub take_done : (a b : Now) (P : List What → Type 0) → b.calls ≡ record a.
 take_done a b P counted space goes owner buffer is tree keeps after taken =
     performed_made (element.Take OfLevel buffer_pin buffer) (take_refused (keeper_of buffer_pin)) (takes_pin buffer) (does_take buffer) a b P counted 1 goes (λ around. refl) acted after
     (moves_same a.store.tree b.store.tree a.space b.space tree space keeps.agrees)
-    (grown 1 (takes_pin buffer) a b P (take_rises buffer) acted (omega (arith, count_behind a b counted)))
+    (grown 1 (takes_pin buffer) a b P (take_rises buffer) acted (omega (arith, count_behind a b counted))) (λ around. ap (λ (s : Space). s.taken) space)
   where
     acted : Acted (takes_pin buffer) a.store b.store a.space b.space a.shelf b.shelf P
     acted = record {
@@ -157,6 +157,7 @@ performed_said k es a b P Q r all h = record {
   fail = h.fail;
   keeps = h.keeps;
   moves = h.moves;
+  taken = h.taken;
   grows = h.grows;
 }
 

@@ -4,7 +4,7 @@ use Rattle.std.specs.Prelude.{◌||◌, not}
 use Rattle.pgs_step.specs.declared.errors.Error.{Error}
 use Rattle.pgs_step.specs.declared.events.What.{What}
 use Rattle.pgs_step.specs.declared.events.What.TheVariants as what
-use Rattle.addr_space.specs.Space.{Space}
+use Rattle.addr_space.specs.Space.{Asks, Space}
 use Rattle.reset_callbacks.specs.ShelfState.{ShelfState}
 use Rattle.session_rules.specs.State.{LevelState, first_of, is_aborted}
 use Rattle.session_rules.specs.World.{Scene}
@@ -90,11 +90,12 @@ recovers O emits more error act a b s t x y o p q gives said acted = record {
 pub recovery_ends : (O : Type 0) (emits : O → List What → O → Type 0) (more : (o p q : O) (xs ys : List What) → emits o xs p → emits p ys q → emits o (xs ++ ys) q)
     (error : Error) (act : Scene → Ended) (a b : Now) (o p q : O) → KeepsNumbers act
     → GivesUp (levels_of a.store.levels) act → emits o (what.Error error ∷ []) p → Acted act a.store b.store a.space b.space a.shelf b.shelf (λ events. emits p events q)
-    → Keeps b.store b.space → Moves a.store.tree b.store.tree a.space b.space → b.calls ≡ a.calls → Ends (recovered error) a b (λ events. emits o events q)
-recovery_ends O emits more error act a b o p q numbers gives said acted keeps moves calls = record {
+    → Keeps b.store b.space → Moves a.store.tree b.store.tree a.space b.space → Asks a.store.tree.account 0 a.space b.space → b.calls ≡ a.calls → Ends (recovered error) a b (λ events. emits o events q)
+recovery_ends O emits more error act a b o p q numbers gives said acted keeps moves asks calls = record {
   acted = recovers O emits more error act a.store b.store a.space b.space a.shelf b.shelf o p q gives said acted;
   keeps = keeps;
   moves = moves;
+  asked = asks;
   calls = calls;
   grows = numbers_grow act a b (λ events. emits p events q) numbers acted calls;
 }

@@ -10,9 +10,10 @@ use Rattle.forest.specs.Forest.{size}
 use Rattle.context_rules.specs.declared.errors.TreeError.{TreeError}
 use Rattle.context_rules.specs.declared.errors.TreeError.TheVariants as tree
 use Rattle.context_rules.specs.Refusals.{create_refusal}
-use Rattle.addr_space.specs.Space.{Space}
+use Rattle.addr_space.specs.Space.{Asks, Space}
 use Rattle.pgs_step.specs.declared.ids.CtxId.{CtxId}
 use Rattle.context_tree.specs.State.{TreeState, Agrees, Moves, stands_for}
+use Rattle.context_tree.specs.Making.{AsksInVain}
 use Rattle.owner_core.specs.Owners.{owners_of}
 use Rattle.owner_core.specs.declared.errors.OwnerError.{OwnerError}
 use Rattle.owner_core.specs.declared.errors.OwnerError.TheVariants as owner
@@ -35,8 +36,9 @@ use Rattle.session_store.proofs.Deepest.{levels_long}
 use Rattle.session_core.specs.declared.calls.Calls.{Calls}
 use Rattle.session_core.specs.Performed.{Now, Performed, scene_in}
 use Rattle.session_core.proofs.Commands.{tree_error_plain}
+use Rattle.session_core.proofs.Takings.{none_in_vain, some_in_vain}
 use Rattle.session_core.proofs.Performing.{performed_end, performed_made, performed_own}
-use Rattle.session_core.proofs.Stepping.{Rises, count_behind, grown, limit_free, limit_reached, memory_or_not, moves_same, step_injected, step_wants, still_keeps, still_moves, still_refused}
+use Rattle.session_core.proofs.Stepping.{Rises, count_behind, grown, limit_free, limit_reached, memory_or_not, moves_same, step_injected, step_wants, still_asks, still_keeps, still_moves, still_refused, still_some}
 
 does_make_level : (name : Option Text) (implicit : Bool) (w : Option ℕ) (m : Moment) → does w (element.MakeLevel name implicit) m ≡ fallible w m (limit 1000 (depth m.scene.session)) (level_made name implicit)
 unfolding does
@@ -79,7 +81,7 @@ module _ (name : Option Text) (implicit : Bool) (a b : Now) (P : List What → T
       performed_made (element.MakeLevel name implicit) own_level (level_made name implicit) (does_make_level name implicit) a b P counted 1 goes
       (λ around. ap (limit 1000) (depth_is a around) ∙ limit_free 1000 (length a.store.levels) less)
       acted after (moves_same a.store.tree b.store.tree a.space b.space (ap (λ (c : StoreState). c.tree) store) space keeps.agrees)
-      (grown 1 (level_made name implicit) a b P level_rises acted (omega (arith, count_behind a b counted)))
+      (grown 1 (level_made name implicit) a b P level_rises acted (omega (arith, count_behind a b counted))) (λ around. ap (λ (s : Space). s.taken) space)
     where
       other : length a.store.levels ≡ 1000 → ⊥
       other e = let z : Ok u ≡ Err level.TooMany = sym is ∙ too_many.1 e in cc z
@@ -91,18 +93,18 @@ module _ (name : Option Text) (implicit : Bool) (a b : Now) (P : List What → T
     pub level_injected : (e : Error) → (e ≡ Injected (a.calls.count + 1)) × ((a.calls.count + 1 == a.calls.fail) ≡ true) → Performed 1 (element.MakeLevel name implicit ∷ []) a b P (Some e)
     level_injected e told =
         step_injected (element.MakeLevel name implicit) own_level (level_made name implicit) (does_make_level name implicit) a b P counted (still_refused a b store space shelf) (still_keeps a b store space shelf keeps)
-        (still_moves a b store space shelf keeps) silent e told
+        (still_moves a b store space shelf keeps) silent e told (still_asks a b store space shelf)
 
     pub level_wants : (a.calls.count + 1 == a.calls.fail) ≡ false → Performed 1 (element.MakeLevel name implicit ∷ []) a b P (Some (NoMemory b.calls.count))
     level_wants goes =
         step_wants (element.MakeLevel name implicit) own_level (level_made name implicit) (does_make_level name implicit) a b P counted (still_refused a b store space shelf) (still_keeps a b store space shelf keeps)
-        (still_moves a b store space shelf keeps) silent goes
+        (still_moves a b store space shelf keeps) silent goes (still_some a b store space shelf)
 
     pub level_refused : (a.calls.count + 1 == a.calls.fail) ≡ false → length a.store.levels ≡ 1000 → Performed 1 (element.MakeLevel name implicit ∷ []) a b P (Some LimitReached)
     level_refused goes many =
         performed_own (element.MakeLevel name implicit) own_level (level_made name implicit) (does_make_level name implicit) a b P counted (still_refused a b store space shelf) (still_keeps a b store space shelf keeps)
         (still_moves a b store space shelf keeps) LimitReached goes refl silent
-        (λ around. ap (limit 1000) (depth_is a around) ∙ limit_reached 1000 (length a.store.levels) (omega (arith, many)))
+        (λ around. ap (limit 1000) (depth_is a around) ∙ limit_reached 1000 (length a.store.levels) (omega (arith, many))) (still_asks a b store space shelf)
 
 -- The context of a level is made.
 module _ (a b : Now) (P : List What → Type 0) (counted : b.calls ≡ record a.calls { count = a.calls.count + 1 }) (goes : (a.calls.count + 1 == a.calls.fail) ≡ false)
@@ -111,24 +113,24 @@ module _ (a b : Now) (P : List What → Type 0) (counted : b.calls ≡ record a.
   context_rises s = record { contexts = omega arith; owners = omega arith; serials = omega arith }
 
   pub context_made_for : (u : Unit {0}) (r : Result (Unit {0}) TreeError) → r ≡ Ok u → create_refusal (left_in a.store a.space) (codes "CurTransactionContext") kind.Default true (contexts_in a.store a.space) ≡ None
-      → Acted (new_context_made LevelContext) a.store b.store a.space b.space a.shelf b.shelf P → Performed 1 (element.MakeContext LevelContext ∷ []) a b P None
-  context_made_for u r is free acted =
+      → Acted (new_context_made LevelContext) a.store b.store a.space b.space a.shelf b.shelf P → Asks a.store.tree.account 8192 a.space b.space → Performed 1 (element.MakeContext LevelContext ∷ []) a b P None
+  context_made_for u r is free acted asks =
       performed_made (element.MakeContext LevelContext) (new_context_refused LevelContext) (new_context_made LevelContext) does_make_context a b P counted 1 goes
       (λ around. ap (option_map tree_error) free) acted keeps moves
-      (grown 1 (new_context_made LevelContext) a b P context_rises acted (omega (arith, count_behind a b counted)))
+      (grown 1 (new_context_made LevelContext) a b P context_rises acted (omega (arith, count_behind a b counted))) (λ around. asks)
 
   pub context_not_made : Refused a.store b.store a.space b.space a.shelf b.shelf → P [] → (e : TreeError) (t : Error)
       → (e ≡ tree.Memory) ⊎ (create_refusal (left_in a.store a.space) (codes "CurTransactionContext") kind.Default true (contexts_in a.store a.space) ≡ Some e)
-      → (e ≡ tree.Memory → t ≡ NoMemory b.calls.count) → (e ≢ tree.Memory → t ≡ tree_error e) → Performed 1 (element.MakeContext LevelContext ∷ []) a b P (Some t)
-  context_not_made same silent e t cause memory other =
+      → (e ≡ tree.Memory → t ≡ NoMemory b.calls.count) → (e ≢ tree.Memory → t ≡ tree_error e) → AsksInVain e a.store.tree.account 8192 a.space b.space → Performed 1 (element.MakeContext LevelContext ∷ []) a b P (Some t)
+  context_not_made same silent e t cause memory other vain =
       elim (memory_or_not e) [
         | inl m ↦
             subst (λ (z : Error). Performed 1 (element.MakeContext LevelContext ∷ []) a b P (Some z)) (sym (memory m))
-            (step_wants (element.MakeContext LevelContext) (new_context_refused LevelContext) (new_context_made LevelContext) does_make_context a b P counted same keeps moves silent goes)
+            (step_wants (element.MakeContext LevelContext) (new_context_refused LevelContext) (new_context_made LevelContext) does_make_context a b P counted same keeps moves silent goes (some_in_vain e a.store.tree.account 8192 a.space b.space vain))
         | inr n ↦
             subst (λ (z : Error). Performed 1 (element.MakeContext LevelContext ∷ []) a b P (Some z)) (sym (other n))
             (performed_own (element.MakeContext LevelContext) (new_context_refused LevelContext) (new_context_made LevelContext) does_make_context a b P counted same keeps moves (tree_error e) goes (tree_error_plain e) silent
-            (λ around. ap (option_map tree_error) (own_cause n cause)))
+            (λ around. ap (option_map tree_error) (own_cause n cause)) (none_in_vain e a.store.tree.account 8192 a.space b.space n vain))
       ]
     where
       own_cause : e ≢ tree.Memory → (e ≡ tree.Memory) ⊎ (create_refusal (left_in a.store a.space) (codes "CurTransactionContext") kind.Default true (contexts_in a.store a.space) ≡ Some e)
@@ -140,7 +142,7 @@ pub context_injected : (a b : Now) (P : List What → Type 0) → b.calls ≡ re
     → (e : Error) → (e ≡ Injected (a.calls.count + 1)) × ((a.calls.count + 1 == a.calls.fail) ≡ true) → Performed 1 (element.MakeContext LevelContext ∷ []) a b P (Some e)
 context_injected a b P counted space shelf keeps store silent e told =
     step_injected (element.MakeContext LevelContext) (new_context_refused LevelContext) (new_context_made LevelContext) does_make_context a b P counted (still_refused a b store space shelf) (still_keeps a b store space shelf keeps)
-    (still_moves a b store space shelf keeps) silent e told
+    (still_moves a b store space shelf keeps) silent e told (still_asks a b store space shelf)
 
 -- The owner of a level is made.
 module _ (a b : Now) (P : List What → Type 0) (counted : b.calls ≡ record a.calls { count = a.calls.count + 1 }) (space : b.space ≡ a.space) (shelf : b.shelf ≡ a.shelf)
@@ -157,7 +159,7 @@ module _ (a b : Now) (P : List What → Type 0) (counted : b.calls ≡ record a.
       performed_made (element.MakeOwner OfLevel) own_owner (new_owner_made OfLevel) does_make_owner a b P counted 1 goes
       (λ around. ap (limit 65536) (owners_are a around) ∙ limit_free 65536 (size (owners_of a.store.owners)) less)
       acted after (moves_same a.store.tree b.store.tree a.space b.space tree space keeps.agrees)
-      (grown 1 (new_owner_made OfLevel) a b P owner_rises acted (omega (arith, count_behind a b counted)))
+      (grown 1 (new_owner_made OfLevel) a b P owner_rises acted (omega (arith, count_behind a b counted))) (λ around. ap (λ (s : Space). s.taken) space)
     where
       other : 65536 ≤ size (owners_of a.store.owners) → ⊥
       other e = let z : Ok u ≡ Err owner.TooMany = sym is ∙ too_many.1 e in cc z
@@ -169,18 +171,18 @@ module _ (a b : Now) (P : List What → Type 0) (counted : b.calls ≡ record a.
     pub owner_injected : (e : Error) → (e ≡ Injected (a.calls.count + 1)) × ((a.calls.count + 1 == a.calls.fail) ≡ true) → Performed 1 (element.MakeOwner OfLevel ∷ []) a b P (Some e)
     owner_injected e told =
         step_injected (element.MakeOwner OfLevel) own_owner (new_owner_made OfLevel) does_make_owner a b P counted (still_refused a b store space shelf) (still_keeps a b store space shelf keeps)
-        (still_moves a b store space shelf keeps) silent e told
+        (still_moves a b store space shelf keeps) silent e told (still_asks a b store space shelf)
 
     pub owner_wants : (a.calls.count + 1 == a.calls.fail) ≡ false → Performed 1 (element.MakeOwner OfLevel ∷ []) a b P (Some (NoMemory b.calls.count))
     owner_wants goes =
         step_wants (element.MakeOwner OfLevel) own_owner (new_owner_made OfLevel) does_make_owner a b P counted (still_refused a b store space shelf) (still_keeps a b store space shelf keeps)
-        (still_moves a b store space shelf keeps) silent goes
+        (still_moves a b store space shelf keeps) silent goes (still_some a b store space shelf)
 
     pub owner_refused : (a.calls.count + 1 == a.calls.fail) ≡ false → 65536 ≤ size (owners_of a.store.owners) → Performed 1 (element.MakeOwner OfLevel ∷ []) a b P (Some LimitReached)
     owner_refused goes many =
         performed_own (element.MakeOwner OfLevel) own_owner (new_owner_made OfLevel) does_make_owner a b P counted (still_refused a b store space shelf) (still_keeps a b store space shelf keeps)
         (still_moves a b store space shelf keeps) LimitReached goes refl silent
-        (λ around. ap (limit 65536) (owners_are a around) ∙ limit_reached 65536 (size (owners_of a.store.owners)) many)
+        (λ around. ap (limit 65536) (owners_are a around) ∙ limit_reached 65536 (size (owners_of a.store.owners)) many) (still_asks a b store space shelf)
 
 -- The level that was being started stands.
 abbrev stood : Option ℕ → Scene → Ended
@@ -210,4 +212,4 @@ pub stood_performed : (a b : Now) (P : List What → Type 0) → b.calls ≡ a.c
     → Acted level_stands a.store b.store a.space b.space a.shelf b.shelf P → Performed 0 (element.LevelStands ∷ []) a b P None
 stood_performed a b P calls space keeps tree acted =
     performed_end 0 element.LevelStands level_stands a b P does_level_stands acted keeps (moves_to a.store.tree b.store.tree a.space b.space tree space keeps.agrees)
-    (grown 0 level_stands a b P stands_rises acted (omega (arith, ap (λ (c : Calls). c.count) calls))) calls
+    (grown 0 level_stands a b P stands_rises acted (omega (arith, ap (λ (c : Calls). c.count) calls))) calls (λ around. ap (λ (s : Space). s.taken) space)

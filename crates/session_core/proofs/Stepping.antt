@@ -5,7 +5,7 @@ use Rattle.std.proofs.lemmas.Bool.Decides.{nat_tests}
 use Rattle.pgs_step.specs.declared.errors.Error.{Error}
 use Rattle.pgs_step.specs.declared.errors.Error.TheVariants.{Injected, LimitReached, NoMemory}
 use Rattle.pgs_step.specs.declared.events.What.{What}
-use Rattle.addr_space.specs.Space.{Space}
+use Rattle.addr_space.specs.Space.{Asks, Space}
 use Rattle.context_rules.specs.declared.errors.TreeError.{TreeError}
 use Rattle.context_rules.specs.declared.errors.TreeError.TheVariants as tree
 use Rattle.context_tree.specs.State.{TreeState, Agrees, Moves}
@@ -70,13 +70,13 @@ count_behind a b counted = ap (λ (c : Calls). c.count) counted
 module _ (x : Element) (own : Scene → Option Error) (act : Scene → Ended) (is : (w : Option ℕ) (m : Moment) → does w x m ≡ fallible w m (own m.scene) act) (a b : Now) (P : List What → Type 0)
     (counted : b.calls ≡ record a.calls { count = a.calls.count + 1 }) (same : Refused a.store b.store a.space b.space a.shelf b.shelf) (keeps : Keeps b.store b.space)
     (moves : Moves a.store.tree b.store.tree a.space b.space) (silent : P []) where
-  pub step_injected : (e : Error) → (e ≡ Injected (a.calls.count + 1)) × ((a.calls.count + 1 == a.calls.fail) ≡ true) → Performed 1 (x ∷ []) a b P (Some e)
-  step_injected e told =
-      subst (λ (t : Error). Performed 1 (x ∷ []) a b P (Some t)) (sym told.0) (performed_injected x own act is a b P counted same keeps moves told.1 silent)
+  pub step_injected : (e : Error) → (e ≡ Injected (a.calls.count + 1)) × ((a.calls.count + 1 == a.calls.fail) ≡ true) → Asks a.store.tree.account 0 a.space b.space → Performed 1 (x ∷ []) a b P (Some e)
+  step_injected e told asks =
+      subst (λ (t : Error). Performed 1 (x ∷ []) a b P (Some t)) (sym told.0) (performed_injected x own act is a b P counted same keeps moves told.1 silent asks)
 
-  pub step_wants : (a.calls.count + 1 == a.calls.fail) ≡ false → Performed 1 (x ∷ []) a b P (Some (NoMemory b.calls.count))
-  step_wants goes =
-      subst (λ (n : ℕ). Performed 1 (x ∷ []) a b P (Some (NoMemory n))) (sym (count_behind a b counted)) (performed_want x own act is a b P counted same keeps moves goes silent)
+  pub step_wants : (a.calls.count + 1 == a.calls.fail) ≡ false → (n : ℕ) × Asks a.store.tree.account n a.space b.space → Performed 1 (x ∷ []) a b P (Some (NoMemory b.calls.count))
+  step_wants goes some =
+      subst (λ (n : ℕ). Performed 1 (x ∷ []) a b P (Some (NoMemory n))) (sym (count_behind a b counted)) (performed_want x own act is a b P counted same keeps moves goes silent some)
 
 -- the store, the space and the shelf are as they were
 module _ (a b : Now) (store : b.store ≡ a.store) (space : b.space ≡ a.space) (shelf : b.shelf ≡ a.shelf) where
@@ -87,6 +87,12 @@ module _ (a b : Now) (store : b.store ≡ a.store) (space : b.space ≡ a.space)
     session = ap (λ (c : StoreState). session_of c b.space) store ∙ ap (λ (s : Space). session_of a.store s) space;
     limit = ap (λ (s : Space). s.limit) space;
   }
+
+  pub still_asks : Asks a.store.tree.account 0 a.space b.space
+  still_asks = ap (λ (s : Space). s.taken) space
+
+  pub still_some : (n : ℕ) × Asks a.store.tree.account n a.space b.space
+  still_some = (0, ap (λ (s : Space). s.taken) space)
 
   pub still_keeps : Keeps a.store a.space → Keeps b.store b.space
   still_keeps h = subst (λ (s : Space). Keeps b.store s) (sym space) (subst (λ (c : StoreState). Keeps c a.space) (sym store) h)

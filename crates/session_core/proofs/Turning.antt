@@ -8,6 +8,7 @@ use Rattle.context_tree.proofs.Composed.{tree_more}
 use Rattle.session_rules.specs.Calls.{Done}
 use Rattle.session_rules.specs.Commands.{refused}
 use Rattle.session_rules.specs.Does.{does_all}
+use Rattle.session_rules.specs.Asked.{asked_all, asked_by_turn}
 use Rattle.session_rules.specs.Elements as element
 use Rattle.session_rules.specs.Ends.{recovered}
 use Rattle.session_rules.specs.Transcript.{Turn, is_want, line_elements, turn, turn_of}
@@ -16,10 +17,11 @@ use Rattle.session_store.specs.Calls.{Keeps}
 use Rattle.session_store.specs.State.{session_of}
 use Rattle.session_core.specs.declared.calls.Calls.{Calls}
 use Rattle.session_core.specs.Answers.{Fits}
-use Rattle.session_core.specs.Performed.{Ends, Now, Performed, scene_in}
+use Rattle.session_core.specs.Performed.{Ends, Now, Performed, Takes, scene_in}
 use Rattle.session_core.specs.Turns.{Turned, moment_in}
 use Rattle.session_core.proofs.Commands.{fails}
 use Rattle.session_core.proofs.Performing.{performed_more}
+use Rattle.session_core.proofs.Takings.{takes_on}
 
 -- what is known of a turn
 record TurnIs (t : Turn) (m : Moment) (P : List What → Type 0) (wanted : Bool) : Type 0 where
@@ -45,6 +47,11 @@ module _ (line : Option Command) (a : Now) where
         wanted_is = refl;
       })
 
+  ok_taken : (b : Now) (P : List What → Type 0) → Performed 5 (line_elements line (session_of a.store a.space)) a b P None → (around : Around) (w : Option ℕ) → Fits false b.calls.count w
+      → Takes false a.store.tree.account (asked_by_turn w line (moment_in a around)) a.space b.space
+  unfolding asked_by_turn
+  ok_taken b P h around w f = h.taken around w f
+
   -- a line whose elements were all done
   pub turned_ok : (b : Now) (P : List What → Type 0) → Performed 5 (line_elements line (session_of a.store a.space)) a b P None → Turned line a b P false
   turned_ok b P h = record {
@@ -52,6 +59,7 @@ module _ (line : Option Command) (a : Now) where
     says = λ around w f. let t = ok_is b P h around w f in t.says;
     wanted_is = λ around w f. let t = ok_is b P h around w f in t.wanted_is;
     moves = h.moves;
+    taken = ok_taken b P h;
     grows = h.grows;
     fail = h.fail;
     calls = h.answers.calls;
@@ -73,6 +81,12 @@ module _ (line : Option Command) (a : Now) where
           wanted_is = refl;
         })
 
+    err_taken : (around : Around) (w : Option ℕ) → Fits (is_want e) b.calls.count w → Takes (is_want e) a.store.tree.account (asked_by_turn w line (moment_in a around)) a.space b.space
+    unfolding asked_by_turn
+    err_taken around w f =
+        let fits : Fits (is_want e) m.calls.count w = subst (λ (c : Calls). Fits (is_want e) c.count w) ended.calls f in
+        takes_on (is_want e) a.store.tree.account (asked_all w (line_elements line (session_of a.store a.space)) (moment_in a around)) a.space m.space b.space (h.taken around w fits) (sym ended.asked)
+
     -- a line whose elements met an error, and the recovery from it
     pub turned_err : Turned line a b R (is_want e)
     turned_err = record {
@@ -80,6 +94,7 @@ module _ (line : Option Command) (a : Now) where
       says = λ around w f. let t = err_is around w f in t.says;
       wanted_is = λ around w f. let t = err_is around w f in t.wanted_is;
       moves = tree_more a.store.tree m.store.tree b.store.tree a.space m.space b.space h.moves ended.moves;
+      taken = err_taken;
       grows = record {
         contexts = omega (arith, h.grows.contexts, ended.grows.contexts);
         owners = omega (arith, h.grows.owners, ended.grows.owners);

@@ -1,18 +1,19 @@
 -- What a method of a session does: the elements of the rules that it performs.
-use Rattle.std.specs.Prelude.{◌≡◌, ℕ, ◌+◌, ◌<◌, ◌≤◌, ◌^◌, List, Option}
+use Rattle.std.specs.Prelude.{◌≡◌, ℕ, ◌+◌, ◌<◌, ◌≤◌, ◌^◌, Bool, true, false, List, Option}
 use Rattle.pgs_step.specs.declared.errors.Error.{Error}
 use Rattle.pgs_step.specs.declared.events.What.{What}
-use Rattle.addr_space.specs.Space.{Space}
+use Rattle.addr_space.specs.Space.{Space, Asks}
 use Rattle.reset_callbacks.specs.ShelfState.{ShelfState}
 use Rattle.context_tree.specs.State.{Moves}
 use Rattle.session_rules.specs.World.{Around, Scene}
 use Rattle.session_rules.specs.Acts.{Ended}
 use Rattle.session_rules.specs.Elements.{Element}
+use Rattle.session_rules.specs.Asked.{asked_all}
 use Rattle.session_store.specs.State.{StoreState, scene_of}
 use Rattle.session_store.specs.Calls.{Acted, Keeps, StandsIn}
 use Rattle.session_core.specs.declared.calls.Calls.{Calls}
 use Rattle.session_core.specs.declared.shared.Shared.{Shared}
-use Rattle.session_core.specs.Answers.{Answers}
+use Rattle.session_core.specs.Answers.{Answers, Fits, at_calls, wants}
 
 -- where a call meets a session: its store, the space, the shelf of hooks, and the fallible calls of the run
 pub record Now : Type 0 where
@@ -53,20 +54,33 @@ pub record Grows (k : ℕ) (a b : Now) : Type 0 where
   pub serials : b.store.owners.next_serial ≤ a.store.owners.next_serial + k
   pub calls : b.calls.count ≤ a.calls.count + k
 
+-- The account took so many bytes, or where memory was wanted any number of them, and no other account any.
+abbrev pub Takes : Bool → ℕ → ℕ → Space → Space → Type 0
+Takes true account n s t = (m : ℕ) × Asks account m s t
+Takes false account n s t = Asks account n s t
+
+-- The session's account took what the elements ask, in any surroundings, and for each refused call that the answer speaks of.
+abbrev pub Taken : List Element → Now → Now → Option Error → Type 0
+Taken elements a b refusal =
+    (around : Around) (w : Option ℕ) → Fits (wants refusal) b.calls.count w
+    → Takes (wants refusal) a.store.tree.account (asked_all w elements (at_calls (scene_in a) a.calls.count a.calls.fail around)) a.space b.space
+
 -- The elements were performed, up to the first that was refused, and were answered and told so. The space keeps what isn't the session's, the
--- session's account holds the blocks of its contexts and no more, and no counter rose by more than k.
+-- session's account holds the blocks of its contexts and no more, it took what the elements ask, and no counter rose by more than k.
 pub record Performed (k : ℕ) (elements : List Element) (a b : Now) (Said : List What → Type 0) (refusal : Option Error) : Type 0 where
   pub answers : Answers elements (scene_in a) (scene_in b) a.calls.count b.calls.count a.calls.fail Said refusal
   pub fail : b.calls.fail ≡ a.calls.fail
   pub keeps : Keeps b.store b.space
   pub moves : Moves a.store.tree b.store.tree a.space b.space
+  pub taken : Taken elements a b refusal
   pub grows : Grows k a b
 
 -- An act was done that is no element of a command. The space keeps what isn't the session's, the session's account holds the blocks of its
--- contexts and no more, no call was counted, and no counter rose.
+-- contexts and no more, it took nothing, no call was counted, and no counter rose.
 pub record Ends (act : Scene → Ended) (a b : Now) (Said : List What → Type 0) : Type 0 where
   pub acted : Acted act a.store b.store a.space b.space a.shelf b.shelf Said
   pub keeps : Keeps b.store b.space
   pub moves : Moves a.store.tree b.store.tree a.space b.space
+  pub asked : Asks a.store.tree.account 0 a.space b.space
   pub calls : b.calls ≡ a.calls
   pub grows : Grows 0 a b

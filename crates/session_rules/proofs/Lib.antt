@@ -5,6 +5,7 @@ pub mod RowsOfContexts
 pub mod RowsOfResources
 pub mod RowsOfPortals
 pub mod RowsOfRuns
+pub mod RowsOfAsking
 pub mod Forests
 pub mod Guarded
 pub mod Sums
@@ -25,3 +26,4 @@ pub mod CalmActs
 pub mod CalmEnds
 pub mod CalmElements
 pub mod Calm
+pub mod Asking

@@ -17,6 +17,7 @@ pub mod Calls
 pub mod Parts
 pub mod Does
 pub mod Transcript
+pub mod Asked
 pub mod Modes
 pub mod Guarded
 pub mod Standing

@@ -5,6 +5,7 @@ ghost use Rattle.any_ctx.specs.Kinds.{first_size, IsSlabSize};
 ghost use Rattle.reset_callbacks.specs.ShelfState.{ShelfState};
 ghost use Rattle.context_rules.specs.Refusals.{create_refusal, set_parent_refusal};
 ghost use Rattle.context_tree.specs.State.{IsLive, error_of};
+ghost use Rattle.context_tree.specs.Making.{AsksInVain};
 ghost use Rattle.session_rules.specs.Making.{context_made};
 ghost use Rattle.session_rules.specs.Parts.{context_moved};
 ghost use Rattle.session_store.specs.State.{contexts_in, left_in};
@@ -43,6 +44,7 @@ impl<H: ResetHook> Store<H> {
         ensures served { OnOk result (create_refusal (left_in self.old space.old) name kind false (contexts_in self.old space.old) ≡ None) }
         ensures cause { IfErr result (λ e. (e ≡ TreeError.Memory) ⊎ (create_refusal (left_in self.old space.old) name kind false (contexts_in self.old space.old) ≡ Some e)) }
         ensures refused { OnErr result ((x : ShelfState) → Refused self.old self.new space.old space.new x x) }
+        ensures err_asked { IfErr result (λ e. AsksInVain e self.old.tree.account (first_size kind) space.old space.new) }
         ensures silent { OnErr result (out.new ≡ out.old) }
     {
         self.tree.create(space, parent, name, kind, false, out)

@@ -8,6 +8,7 @@ ghost use Rattle.reset_callbacks.specs.ShelfState.{ShelfState};
 ghost use Rattle.forest.specs.Forest.{size};
 ghost use Rattle.context_rules.specs.Refusals.{create_refusal};
 ghost use Rattle.context_tree.specs.State.{IsLive, Moves};
+ghost use Rattle.context_tree.specs.Making.{AsksInVain};
 ghost use Rattle.owner_core.specs.Owners as owners;
 ghost use Rattle.owner_core.specs.Owners.{owners_of};
 ghost use Rattle.subxact_stack.specs.declared.levels.Level.{Level as ALevel};
@@ -157,6 +158,7 @@ impl<H: ResetHook> Store<H> {
         ensures served { OnOk result (create_refusal (left_in self.old space.old) (codes "CurTransactionContext") kind.Default true (contexts_in self.old space.old) ≡ None) }
         ensures cause { IfErr result (λ e. (e ≡ TreeError.Memory) ⊎ (create_refusal (left_in self.old space.old) (codes "CurTransactionContext") kind.Default true (contexts_in self.old space.old) ≡ Some e)) }
         ensures refused { OnErr result ((x : ShelfState) → Refused self.old self.new space.old space.new x x) }
+        ensures err_asked { IfErr result (λ e. AsksInVain e self.old.tree.account (first_size kind.Default) space.old space.new) }
         ensures silent { OnErr result (out.new ≡ out.old) }
     {
         let parent = self.context_above();

@@ -37,12 +37,12 @@ loop-root-preserved g c =
     ap (λ (i : ℕ). children i f) c.first_leaf-leaf.ensures.number ∙ leaf_bare c.in-Some.root.number f once c.first_leaf-leaf.ensures.stands in
     let inv = c.loop-root.invariant in
     record {
-      agrees = (inv.agrees.0, (one_back inv.agrees.0 n k f h s t inv.agrees.1 once inv.each here leaf c.remove-node.ensures.forest c.give_back.ensures).agrees);
-      each = each_left inv.agrees.0 n k f h s t inv.agrees.1 once inv.each here leaf c.remove-node.ensures.forest c.give_back.ensures;
+      agrees = (inv.agrees.0, (one_back inv.agrees.0 n k f h s t inv.agrees.1 once inv.each here leaf c.remove-node.ensures.forest c.give_back.ensures.moves).agrees);
+      each = each_left inv.agrees.0 n k f h s t inv.agrees.1 once inv.each here leaf c.remove-node.ensures.forest c.give_back.ensures.moves;
       moves = λ account agrees.
           let before = inv.moves account agrees in
           tree_more (bare account c.args.nodes.now.forest) (bare account f) (bare account h) c.args.space.now s t before
-          (one_back account n k f h s t before.agrees once inv.each here leaf c.remove-node.ensures.forest c.give_back.ensures);
+          (one_back account n k f h s t before.agrees once inv.each here leaf c.remove-node.ensures.forest c.give_back.ensures.moves);
     }
 
 pub loop-root-smaller : goal.loop-root-smaller

@@ -1,7 +1,8 @@
-use Rattle.std.proofs.Common.{◌≡◌, ℕ, ◌+◌, ◌<◌, ◌⊎◌, true, false, Some, Result, Err, IfErr, refl, sym, ap, ◌∙◌, subst}
+use Rattle.std.proofs.Common.{◌≡◌, ℕ, ◌+◌, ◌<◌, ◌⊎◌, true, false, Some, Result, Err, IfErr, refl, sym, ap, ◌∙◌, subst, inl}
 use Rattle.std.proofs.lemmas.Result.{err_from_is_err_and}
 use Rattle.std.specs.HashMap.{get}
 use Rattle.addr_space.specs.Space.{Space, accounts}
+use Rattle.any_ctx.specs.Kinds.{first_size}
 use Rattle.pgs_step.specs.declared.ids.CtxId.{CtxId}
 use Rattle.forest.specs.declared.id.NodeId.{NodeId}
 use Rattle.forest.specs.Forest.{at, has}
@@ -15,7 +16,7 @@ use Rattle.context_node.specs.Kept.{Kept}
 use Rattle.context_node.specs.Soundness.{same}
 use Rattle.context_tree.specs.Soundness.{IsSound}
 use Rattle.context_tree.specs.State.{TreeState, stands_for, Agrees, Moves, SameRegions, left_of}
-use Rattle.context_tree.specs.Making.{Grew, Added}
+use Rattle.context_tree.specs.Making.{Grew, Added, AsksInVain}
 use Rattle.context_tree.proofs.Allocs.{tree_none}
 use Rattle.context_tree.proofs.Growing.{sound_found, next_fresh}
 use Rattle.context_tree.proofs.Adding.{tree_of, regions_back, tree_came_back, name_refused, room_refused, added_moves, added, sound_added, fresh_stands}
@@ -151,3 +152,16 @@ pub returns-clause-fresh : goal.returns-clause-fresh
 returns-clause-fresh g c =
     subst (λ (x : TreeState). has x.next (stands_for x c.args.space.now) ≡ false) c.self.view_is
     (fresh_stands c.self.inside.nodes c.self.inside.account c.self.inside.current c.self.inside.next _ _ _ _ c.self.invariant c.args.space.now)
+
+pub returns-in_err-room_for_name-clause-err_asked : goal.returns-in_err-room_for_name-clause-err_asked
+returns-in_err-room_for_name-clause-err_asked g c =
+    let e : TreeError = c.in_err-room_for_name.field-0.0 in
+    let p : c.from_residual.result ≡ Err e = (let q = err_from_is_err_and c.from_residual.result c.from_residual.ensures.1 in cc) in
+    subst (λ (r : Result CtxId TreeError). IfErr r (λ x. AsksInVain x c.args.self.now.account (first_size c.args.kind) c.args.space.now c.args.space.now)) (sym p) (inl refl)
+
+pub returns-in_err-node-clause-err_asked : goal.returns-in_err-node-clause-err_asked
+returns-in_err-node-clause-err_asked g c =
+    let e : TreeError = c.in_err-node.field-0.0 in
+    let p : c.from_residual-in_err-node.result ≡ Err e = (let q = err_from_is_err_and c.from_residual-in_err-node.result c.from_residual-in_err-node.ensures.1 in cc) in
+    subst (λ (r : Result CtxId TreeError). IfErr r (λ x. AsksInVain x c.args.self.now.account (first_size c.args.kind) c.args.space.now c.grow.new.space)) (sym p)
+    (subst (λ (x : TreeState). AsksInVain e x.account (first_size c.args.kind) c.args.space.now c.grow.new.space) c.self.view_is c.in_err-node.ensures.err_asked)

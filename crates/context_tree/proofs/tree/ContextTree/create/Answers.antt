@@ -5,6 +5,8 @@ use Rattle.pgs_step.specs.declared.events.What.TheVariants.{Create}
 use Rattle.context_rules.specs.Refusals.{create_refusal}
 use Rattle.context_rules.specs.declared.errors.TreeError.{TreeError}
 use Rattle.context_rules.specs.declared.errors.TreeError.TheVariants.{Memory}
+use Rattle.any_ctx.specs.Kinds.{first_size}
+use Rattle.context_tree.specs.Making.{AsksInVain}
 use Rattle.context_tree.specs.State.{TreeState, place_of, stands_for, left_of}
 use Rattle.context_tree.proofs.tree.ContextTree.create.Goals as goal
 
@@ -51,3 +53,10 @@ returns-clause-served g c = c.in_ok-id.ensures.added.served
 pub returns-clause-emits : goal.returns-clause-emits
 returns-clause-emits g c =
     subst (λ (n : ℕ). g.E.Emit.emits c.args.out.now (Create n c.args.name c.args.parent.number ∷ []) c.emit.new.self) c.in_ok-id.ensures.added.number c.emit.ensures.emitted
+
+pub returns-in_err-id-clause-err_asked : goal.returns-in_err-id-clause-err_asked
+returns-in_err-id-clause-err_asked g c =
+    let e : TreeError = c.in_err-id.field-0.0 in
+    let p : c.from_residual.result ≡ Err e = (let q = err_from_is_err_and c.from_residual.result c.from_residual.ensures.1 in cc) in
+    subst (λ (r : Result CtxId TreeError). IfErr r (λ x. AsksInVain x c.args.self.now.account (first_size c.args.kind) c.args.space.now c.add.new.space)) (sym p)
+    c.in_err-id.ensures.err_asked

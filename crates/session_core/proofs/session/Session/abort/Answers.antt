@@ -16,7 +16,7 @@ pub returns-clause-performed : goal.returns-clause-performed
 returns-clause-performed g c =
     let keeps = c.abort.ensures.keeps c.args.shared.now.space.now (keeps_of c.self.inside.store c.args.self.now c.self.view_is c.args.shared.now.space.now c.requires.between.keeps) in
     seen c.self.inside.store c.args.self.now c.self.view_is 0 _ c.args.shared.now _ _ _
-    (abort_performed _ _ _ keeps (moves_current _ _ c.args.shared.now.space.now c.abort.ensures.tree keeps.agrees) refl (c.abort.ensures.acted c.args.shared.now.space.now c.args.shared.now.shelf.now))
+    (abort_performed _ _ _ keeps (moves_current _ _ c.args.shared.now.space.now c.abort.ensures.tree keeps.agrees) refl refl (c.abort.ensures.acted c.args.shared.now.space.now c.args.shared.now.shelf.now))
 
 pub returns-clause-between : goal.returns-clause-between
 returns-clause-between g c =

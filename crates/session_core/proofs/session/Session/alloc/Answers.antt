@@ -34,7 +34,7 @@ returns-in-Err-alloc g c = record {
       (keeps_of c.self.inside.store c.args.self.now c.self.view_is c.args.shared.now.space.now c.requires.between.keeps) (g.met.E.Emit.emits_none c.args.out.now)
       c.is_chunk.result c.is_chunk.ensures c.if-is_chunk.false _ c.next.ensures.counted _ _ c.alloc.result c.in_default.ensures.goes c.alloc.ensures.alone
       c.in-Err-alloc.refusal _ _ c.in-Err-alloc.is c.alloc.ensures.refused (ap (λ (k : Calls). k.count) c.next.ensures.counted) c.call_error.ensures.memory c.call_error.ensures.own
-      c.alloc.ensures.cause);
+      c.alloc.ensures.cause c.alloc.ensures.err_space);
 }
 
 pub returns : goal.returns
@@ -44,5 +44,5 @@ returns g c = record {
       (alloc_done c.args.chunk c.args.size false _ _
       (keeps_of c.self.inside.store c.args.self.now c.self.view_is c.args.shared.now.space.now c.requires.between.keeps) (g.met.E.Emit.emits_none c.args.out.now)
       c.is_chunk.result c.is_chunk.ensures c.if-is_chunk.false _ c.next.ensures.counted _ _ c.alloc.result c.in_default.ensures.goes c.alloc.ensures.alone
-      _ c.in_default-alloc.is c.alloc.ensures.acted c.alloc.ensures.served);
+      _ c.in_default-alloc.is c.alloc.ensures.acted c.alloc.ensures.served c.alloc.ensures.asked);
 }

@@ -12,7 +12,7 @@ clean_up-requires-clause-stands g c = stands_of c.self.inside.store c.args.self.
 pub returns-clause-performed : goal.returns-clause-performed
 returns-clause-performed g c =
     seen c.self.inside.store c.args.self.now c.self.view_is 0 _ c.args.shared.now _ _ _
-    (cleanup_performed _ _ _ c.clean_up.ensures.keeps c.clean_up.ensures.moves refl c.clean_up.ensures.acted)
+    (cleanup_performed _ _ _ c.clean_up.ensures.keeps c.clean_up.ensures.moves refl c.clean_up.ensures.asked c.clean_up.ensures.acted)
 
 pub returns-clause-between : goal.returns-clause-between
 returns-clause-between g c =

@@ -12,7 +12,7 @@ commit_top-requires-clause-stands g c = stands_of c.self.inside.store c.args.sel
 pub returns-clause-performed : goal.returns-clause-performed
 returns-clause-performed g c =
     seen c.self.inside.store c.args.self.now c.self.view_is 0 _ c.args.shared.now _ _ _
-    (commit_performed _ _ _ c.commit_top.ensures.keeps c.commit_top.ensures.moves refl c.commit_top.ensures.acted)
+    (commit_performed _ _ _ c.commit_top.ensures.keeps c.commit_top.ensures.moves refl c.commit_top.ensures.asked c.commit_top.ensures.acted)
 
 pub returns-clause-between : goal.returns-clause-between
 returns-clause-between g c =

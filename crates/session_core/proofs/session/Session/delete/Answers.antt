@@ -19,7 +19,7 @@ returns g c = record {
       (answered_ok 0 _ _ _ _ c.delete.result _ c.in_default-delete.is
       (delete_performed c.args.name.now _ _ c.in-Some.at.number _ c.delete.result (sym (c.in-Some.ensures.named c.args.shared.now.space.now))
       (keeps_of c.self.inside.store c.args.self.now c.self.view_is c.args.shared.now.space.now c.requires.between.keeps) refl
-      c.delete.ensures.alone c.delete.ensures.refused (silent_where g.E.Emit.emits c.delete.result c.args.out.now c.delete.new.out (g.met.E.Emit.emits_none c.args.out.now) c.delete.ensures.silent)
+      c.delete.ensures.alone c.delete.ensures.refused (silent_where g.E.Emit.emits c.delete.result c.args.out.now c.delete.new.out (g.met.E.Emit.emits_none c.args.out.now) c.delete.ensures.silent) c.delete.ensures.asked
       c.delete.ensures.answer c.delete.ensures.acted));
 }
 
@@ -30,7 +30,7 @@ returns-in-Err g c = record {
       (answered_err 0 _ _ _ _ c.delete.result _ _ c.in-Err.is c.tree_error.ensures
       (delete_performed c.args.name.now _ _ c.in-Some.at.number _ c.delete.result (sym (c.in-Some.ensures.named c.args.shared.now.space.now))
       (keeps_of c.self.inside.store c.args.self.now c.self.view_is c.args.shared.now.space.now c.requires.between.keeps) refl
-      c.delete.ensures.alone c.delete.ensures.refused (silent_where g.E.Emit.emits c.delete.result c.args.out.now c.delete.new.out (g.met.E.Emit.emits_none c.args.out.now) c.delete.ensures.silent)
+      c.delete.ensures.alone c.delete.ensures.refused (silent_where g.E.Emit.emits c.delete.result c.args.out.now c.delete.new.out (g.met.E.Emit.emits_none c.args.out.now) c.delete.ensures.silent) c.delete.ensures.asked
       c.delete.ensures.answer c.delete.ensures.acted));
 }
 

@@ -19,7 +19,7 @@ returns g c = record {
       (answered_ok 0 _ _ _ _ c.delete_children.result _ c.in_default-delete_children.is
       (delete_children_performed c.args.name.now _ _ c.in-Some.at.number _ c.delete_children.result (sym (c.in-Some.ensures.named c.args.shared.now.space.now))
       (keeps_of c.self.inside.store c.args.self.now c.self.view_is c.args.shared.now.space.now c.requires.between.keeps) refl
-      c.delete_children.ensures.alone c.delete_children.ensures.refused (silent_where g.E.Emit.emits c.delete_children.result c.args.out.now c.delete_children.new.out (g.met.E.Emit.emits_none c.args.out.now) c.delete_children.ensures.silent)
+      c.delete_children.ensures.alone c.delete_children.ensures.refused (silent_where g.E.Emit.emits c.delete_children.result c.args.out.now c.delete_children.new.out (g.met.E.Emit.emits_none c.args.out.now) c.delete_children.ensures.silent) c.delete_children.ensures.asked
       c.delete_children.ensures.answer c.delete_children.ensures.acted));
 }
 
@@ -30,7 +30,7 @@ returns-in-Err g c = record {
       (answered_err 0 _ _ _ _ c.delete_children.result _ _ c.in-Err.is c.tree_error.ensures
       (delete_children_performed c.args.name.now _ _ c.in-Some.at.number _ c.delete_children.result (sym (c.in-Some.ensures.named c.args.shared.now.space.now))
       (keeps_of c.self.inside.store c.args.self.now c.self.view_is c.args.shared.now.space.now c.requires.between.keeps) refl
-      c.delete_children.ensures.alone c.delete_children.ensures.refused (silent_where g.E.Emit.emits c.delete_children.result c.args.out.now c.delete_children.new.out (g.met.E.Emit.emits_none c.args.out.now) c.delete_children.ensures.silent)
+      c.delete_children.ensures.alone c.delete_children.ensures.refused (silent_where g.E.Emit.emits c.delete_children.result c.args.out.now c.delete_children.new.out (g.met.E.Emit.emits_none c.args.out.now) c.delete_children.ensures.silent) c.delete_children.ensures.asked
       c.delete_children.ensures.answer c.delete_children.ensures.acted));
 }
 

@@ -16,13 +16,13 @@ pub returns-in_default-clause-did : goal.returns-in_default-clause-did
 returns-in_default-clause-did g c =
     let keeps = keeps_of c.self.inside.store c.args.self.now c.self.view_is c.args.shared.now.space.now c.requires.between.keeps in
     ends_same c.self.inside.store c.args.self.now c.self.view_is all_rolled c.args.shared.now _
-    (levels_ended _ _ _ _ nothing_keeps (rolls_none _ (sym c.in_default.ensures.level)) (acted_nothing _ _ _ _ (g.met.E.Emit.emits_none c.args.out.now)) keeps (moves_nothing _ _ keeps.agrees) refl)
+    (levels_ended _ _ _ _ nothing_keeps (rolls_none _ (sym c.in_default.ensures.level)) (acted_nothing _ _ _ _ (g.met.E.Emit.emits_none c.args.out.now)) keeps (moves_nothing _ _ keeps.agrees) refl refl)
 
 pub returns-then-level-clause-did : goal.returns-then-level-clause-did
 returns-then-level-clause-did g c =
     ends_seen c.self.inside.store c.args.self.now c.self.view_is all_rolled c.args.shared.now _ _
     (levels_ended _ _ _ _ cleans (rolls_aborted _ _ (sym c.in-Some.ensures.level) (at_most_one _ _ c.self.view_is c.requires.levels) c.if-level.true)
-    c.clean_up.ensures.acted c.clean_up.ensures.keeps c.clean_up.ensures.moves refl)
+    c.clean_up.ensures.acted c.clean_up.ensures.keeps c.clean_up.ensures.moves c.clean_up.ensures.asked refl)
 
 pub returns-then-level-clause-between : goal.returns-then-level-clause-between
 returns-then-level-clause-between g c = record {
@@ -36,7 +36,7 @@ pub returns-clause-did : goal.returns-clause-did
 returns-clause-did g c =
     ends_seen c.self.inside.store c.args.self.now c.self.view_is all_rolled c.args.shared.now _ _
     (levels_ended _ _ _ _ rolls (rolls_active _ _ (sym c.in-Some.ensures.level) (at_most_one _ _ c.self.view_is c.requires.levels) c.if-level.false)
-    c.roll_back.ensures.acted c.roll_back.ensures.keeps c.roll_back.ensures.moves refl)
+    c.roll_back.ensures.acted c.roll_back.ensures.keeps c.roll_back.ensures.moves c.roll_back.ensures.asked refl)
 
 pub returns-clause-between : goal.returns-clause-between
 returns-clause-between g c = record {

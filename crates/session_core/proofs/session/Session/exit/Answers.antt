@@ -14,4 +14,4 @@ returns-clause-did g c =
     session_exits _ (λ o events p. g.E.Emit.emits o events p) (λ o p q xs ys h k. g.met.E.Emit.emits_more _ _ _ _ _ _ h k refl) c.args.out.now c.end_levels.new.out c.close.new.out c.emit.new.self
     (now c.args.self.now c.args.shared.now) (now c.self.inside.store c.end_levels.new.shared) _
     (subst (λ (v : StoreState). Ends all_rolled (now c.args.self.now c.args.shared.now) (now v c.end_levels.new.shared) (λ events. g.E.Emit.emits c.args.out.now events c.end_levels.new.out)) (sym c.self.view_is) c.end_levels.ensures.did)
-    c.close.ensures.acted c.close.ensures.keeps c.close.ensures.moves refl c.emit.ensures.emitted
+    c.close.ensures.acted c.close.ensures.keeps c.close.ensures.moves c.close.ensures.asked refl c.emit.ensures.emitted

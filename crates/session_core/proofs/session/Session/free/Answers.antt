@@ -13,7 +13,7 @@ returns g c = record {
       (answered_ok 0 _ _ _ _ c.free.result _ c.in_default.is
       (free_performed c.args.chunk.now _ _ _ _ c.free.result
       (keeps_of c.self.inside.store c.args.self.now c.self.view_is c.args.shared.now.space.now c.requires.between.keeps) (g.met.E.Emit.emits_none c.args.out.now)
-      c.free.ensures.alone c.free.ensures.refused c.free.ensures.answer c.free.ensures.acted));
+      c.free.ensures.alone c.free.ensures.refused c.free.ensures.asked c.free.ensures.answer c.free.ensures.acted));
 }
 
 pub returns-in-Err : goal.returns-in-Err
@@ -23,5 +23,5 @@ returns-in-Err g c = record {
       (answered_err 0 _ _ _ _ c.free.result _ _ c.in-Err.is c.tree_error.ensures
       (free_performed c.args.chunk.now _ _ _ _ c.free.result
       (keeps_of c.self.inside.store c.args.self.now c.self.view_is c.args.shared.now.space.now c.requires.between.keeps) (g.met.E.Emit.emits_none c.args.out.now)
-      c.free.ensures.alone c.free.ensures.refused c.free.ensures.answer c.free.ensures.acted));
+      c.free.ensures.alone c.free.ensures.refused c.free.ensures.asked c.free.ensures.answer c.free.ensures.acted));
 }

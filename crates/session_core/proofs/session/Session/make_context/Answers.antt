@@ -33,7 +33,7 @@ returns-in-Err g c = record {
       (told_as 1 _ _ _ _ _ _ c.in-Err.ensures.injected.0
       (make_injected c.args.name c.args.parent.now _ _ _ _ keeps (sym (c.is_taken.ensures c.args.shared.now.space.now) ∙ c.if-is_taken.false)
       c.in-Some.parent.number (sym (c.in-Some.ensures.named c.args.shared.now.space.now)) c.next.ensures.counted (alone_same _ c.args.shared.now.space.now keeps)
-      (nothing_changed _ _ c.args.shared.now.space.now c.args.shared.now.shelf.now refl) (g.met.E.Emit.emits_none c.args.out.now) c.in-Err.ensures.injected.1));
+      (nothing_changed _ _ c.args.shared.now.space.now c.args.shared.now.shelf.now refl) (g.met.E.Emit.emits_none c.args.out.now) c.in-Err.ensures.injected.1 refl));
 }
 
 pub returns : goal.returns
@@ -44,7 +44,8 @@ returns g c = record {
       (make_done c.args.name c.args.parent.now _ _ _ _ keeps (sym (c.is_taken.ensures c.args.shared.now.space.now) ∙ c.if-is_taken.false)
       c.in-Some.parent.number (sym (c.in-Some.ensures.named c.args.shared.now.space.now)) c.next.ensures.counted c.create.ensures.alone c.in_default-next.ensures.goes
       (rw c.kind_of-kind.ensures at (answer_of c.create.result _ c.in_default-create.is c.create.ensures.served))
-      (rw c.kind_of-kind.ensures at (answer_of c.create.result _ c.in_default-create.is c.create.ensures.acted c.args.shared.now.shelf.now)));
+      (rw c.kind_of-kind.ensures at (answer_of c.create.result _ c.in_default-create.is c.create.ensures.acted c.args.shared.now.shelf.now))
+      (rw c.kind_of-kind.ensures at (answer_of c.create.result _ c.in_default-create.is c.create.ensures.asked)));
 }
 
 pub returns-in-Err-create : goal.returns-in-Err-create
@@ -55,7 +56,7 @@ returns-in-Err-create g c = record {
       (make_refused c.args.name c.args.parent.now _ _ _ _ keeps (sym (c.is_taken.ensures c.args.shared.now.space.now) ∙ c.if-is_taken.false)
       c.in-Some.parent.number (sym (c.in-Some.ensures.named c.args.shared.now.space.now)) c.next.ensures.counted c.create.ensures.alone
       (err_of c.create.result _ c.in-Err-create.is c.create.ensures.refused c.args.shared.now.shelf.now)
-      (subst (λ o. g.E.Emit.emits c.args.out.now [] o) (sym (err_of c.create.result _ c.in-Err-create.is c.create.ensures.silent)) (g.met.E.Emit.emits_none c.args.out.now)) c.in-Err-create.refusal c.call_error.result c.in_default-next.ensures.goes (λ e. c.call_error.ensures.memory e ∙ ap (λ (calls : Calls). error.NoMemory calls.count) c.next.ensures.counted) c.call_error.ensures.own (rw c.kind_of-kind.ensures at c.in-Err-create.ensures.cause));
+      (subst (λ o. g.E.Emit.emits c.args.out.now [] o) (sym (err_of c.create.result _ c.in-Err-create.is c.create.ensures.silent)) (g.met.E.Emit.emits_none c.args.out.now)) c.in-Err-create.refusal c.call_error.result c.in_default-next.ensures.goes (λ e. c.call_error.ensures.memory e ∙ ap (λ (calls : Calls). error.NoMemory calls.count) c.next.ensures.counted) c.call_error.ensures.own (rw c.kind_of-kind.ensures at c.in-Err-create.ensures.cause) (rw c.kind_of-kind.ensures at c.in-Err-create.ensures.err_asked));
 }
 
 pub create-requires-clause-stands : goal.create-requires-clause-stands

@@ -34,7 +34,7 @@ returns-in-Err-realloc g c = record {
       (keeps_of c.self.inside.store c.args.self.now c.self.view_is c.args.shared.now.space.now c.requires.between.keeps) (g.met.E.Emit.emits_none c.args.out.now)
       c.is_chunk.result c.is_chunk.ensures c.if-not-is_chunk.false _ c.next.ensures.counted _ _ c.realloc.result c.in_default.ensures.goes c.realloc.ensures.alone
       c.in-Err-realloc.refusal _ _ c.in-Err-realloc.is c.realloc.ensures.refused (ap (λ (k : Calls). k.count) c.next.ensures.counted) c.call_error.ensures.memory c.call_error.ensures.own
-      c.realloc.ensures.cause);
+      c.realloc.ensures.cause c.realloc.ensures.err_space);
 }
 
 pub returns : goal.returns
@@ -44,5 +44,5 @@ returns g c = record {
       (realloc_done c.args.chunk.now c.args.size _ _
       (keeps_of c.self.inside.store c.args.self.now c.self.view_is c.args.shared.now.space.now c.requires.between.keeps) (g.met.E.Emit.emits_none c.args.out.now)
       c.is_chunk.result c.is_chunk.ensures c.if-not-is_chunk.false _ c.next.ensures.counted _ _ c.realloc.result c.in_default.ensures.goes c.realloc.ensures.alone
-      _ c.in_default-realloc.is c.realloc.ensures.acted c.realloc.ensures.served);
+      _ c.in_default-realloc.is c.realloc.ensures.acted c.realloc.ensures.served c.realloc.ensures.asked);
 }

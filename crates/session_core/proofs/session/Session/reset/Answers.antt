@@ -19,7 +19,7 @@ returns g c = record {
       (answered_ok 0 _ _ _ _ c.reset.result _ c.in_default-reset.is
       (reset_performed c.args.name.now _ _ c.in-Some.at.number _ c.reset.result (sym (c.in-Some.ensures.named c.args.shared.now.space.now))
       (keeps_of c.self.inside.store c.args.self.now c.self.view_is c.args.shared.now.space.now c.requires.between.keeps) refl
-      c.reset.ensures.alone c.reset.ensures.refused (silent_where g.E.Emit.emits c.reset.result c.args.out.now c.reset.new.out (g.met.E.Emit.emits_none c.args.out.now) c.reset.ensures.silent)
+      c.reset.ensures.alone c.reset.ensures.refused (silent_where g.E.Emit.emits c.reset.result c.args.out.now c.reset.new.out (g.met.E.Emit.emits_none c.args.out.now) c.reset.ensures.silent) c.reset.ensures.asked
       c.reset.ensures.answer c.reset.ensures.acted));
 }
 
@@ -30,7 +30,7 @@ returns-in-Err g c = record {
       (answered_err 0 _ _ _ _ c.reset.result _ _ c.in-Err.is c.tree_error.ensures
       (reset_performed c.args.name.now _ _ c.in-Some.at.number _ c.reset.result (sym (c.in-Some.ensures.named c.args.shared.now.space.now))
       (keeps_of c.self.inside.store c.args.self.now c.self.view_is c.args.shared.now.space.now c.requires.between.keeps) refl
-      c.reset.ensures.alone c.reset.ensures.refused (silent_where g.E.Emit.emits c.reset.result c.args.out.now c.reset.new.out (g.met.E.Emit.emits_none c.args.out.now) c.reset.ensures.silent)
+      c.reset.ensures.alone c.reset.ensures.refused (silent_where g.E.Emit.emits c.reset.result c.args.out.now c.reset.new.out (g.met.E.Emit.emits_none c.args.out.now) c.reset.ensures.silent) c.reset.ensures.asked
       c.reset.ensures.answer c.reset.ensures.acted));
 }
 

@@ -13,7 +13,7 @@ roll_back-requires-clause-stands g c = stands_of c.self.inside.store c.args.self
 pub returns-clause-performed : goal.returns-clause-performed
 returns-clause-performed g c =
     seen c.self.inside.store c.args.self.now c.self.view_is 0 _ c.args.shared.now _ _ _
-    (roll_performed _ _ _ c.roll_back.ensures.keeps c.roll_back.ensures.moves refl c.roll_back.ensures.acted)
+    (roll_performed _ _ _ c.roll_back.ensures.keeps c.roll_back.ensures.moves refl c.roll_back.ensures.asked c.roll_back.ensures.acted)
 
 pub returns-clause-between : goal.returns-clause-between
 returns-clause-between g c one active =

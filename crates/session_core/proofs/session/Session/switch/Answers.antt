@@ -19,7 +19,7 @@ returns g c = record {
       let keeps = keeps_of c.self.inside.store c.args.self.now c.self.view_is c.args.shared.now.space.now c.requires.between.keeps in
       seen c.self.inside.store c.args.self.now c.self.view_is 0 _ c.args.shared.now _ _ _
       (switch_performed c.args.name.now _ _ c.in-Some.at.number _ (sym (c.in-Some.ensures.named c.args.shared.now.space.now)) keeps
-      (c.switch.ensures.alone c.args.shared.now.space.now keeps) refl
+      (c.switch.ensures.alone c.args.shared.now.space.now keeps) refl refl
       (acted_said _ _ _ _ _ _ _ _ _ (λ events none. subst (λ (es : List What). g.E.Emit.emits c.args.out.now es c.args.out.now) (sym none) (g.met.E.Emit.emits_none c.args.out.now))
       (c.switch.ensures.acted c.args.shared.now.space.now c.args.shared.now.shelf.now)));
 }

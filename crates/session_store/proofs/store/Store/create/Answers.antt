@@ -5,6 +5,7 @@ use Rattle.any_ctx.specs.Kinds.{first_size}
 use Rattle.context_rules.specs.Contexts.{Contexts}
 use Rattle.context_rules.specs.Refusals.{create_refusal}
 use Rattle.context_rules.specs.declared.errors.TreeError.TheVariants.{Memory}
+use Rattle.context_tree.specs.Making.{AsksInVain}
 use Rattle.session_store.specs.State.{StoreState}
 use Rattle.session_store.proofs.Kept.{goes_made}
 use Rattle.session_store.proofs.Through.{agrees_in, alone_after, left_through, live_in, made_after, placed_after, regions_after}
@@ -52,3 +53,7 @@ returns-clause-cause g c =
 
 pub returns-clause-refused : goal.returns-clause-refused
 returns-clause-refused g c = regions_after _ _ _ _ c.self.view_is _ _ _ c.create.result c.create.ensures.err c.create.ensures.err_space
+
+pub returns-clause-err_asked : goal.returns-clause-err_asked
+returns-clause-err_asked g c =
+    subst (λ (a : StoreState). IfErr c.create.result (λ e. AsksInVain e a.tree.account (first_size c.args.kind) c.args.space.now c.create.new.space)) c.self.view_is c.create.ensures.err_asked

@@ -6,6 +6,7 @@ use Rattle.any_ctx.specs.declared.any.CtxKind.TheVariants as kind
 use Rattle.context_rules.specs.Contexts.{Contexts}
 use Rattle.context_rules.specs.Refusals.{create_refusal}
 use Rattle.context_rules.specs.declared.errors.TreeError.TheVariants.{Memory}
+use Rattle.context_tree.specs.Making.{AsksInVain}
 use Rattle.subxact_stack.specs.declared.levels.Level.{Level}
 use Rattle.session_rules.specs.State.{LevelState, first_of}
 use Rattle.session_rules.specs.Elements.{LevelContext}
@@ -87,3 +88,7 @@ returns-in-Err-clause-refused g c x =
     let a : StoreState = record { tree = c.self.inside.tree; owners = c.self.inside.owners; levels = c.self.inside.levels } in
     subst (λ (v : StoreState). Refused v (record { tree = c.create.new.self; owners = a.owners; levels = a.levels }) c.args.space.now c.create.new.space x x) c.self.view_is
     (refused_regions a c.create.new.self c.args.space.now c.create.new.space x c.in-Err.ensures.err c.in-Err.ensures.err_space)
+
+pub returns-in-Err-clause-err_asked : goal.returns-in-Err-clause-err_asked
+returns-in-Err-clause-err_asked g c =
+    subst (λ (v : StoreState). AsksInVain c.in-Err.error v.tree.account 8192 c.args.space.now c.create.new.space) c.self.view_is c.in-Err.ensures.err_asked
