@@ -9,7 +9,7 @@ use Rattle.pgs_world.specs.Transcript.{Setting, transcript}
 use Rattle.pgs_world.specs.Outcome.{IsWhole, CountsErrors}
 
 -- what a source had, where it has nothing left
-all_given : (taken bytes : List ℕ) (after : Option (List ℕ)) → IsAtEnd after → prepend_known taken after ≡ Some bytes → taken ≡ bytes
+pub all_given : (taken bytes : List ℕ) (after : Option (List ℕ)) → IsAtEnd after → prepend_known taken after ≡ Some bytes → taken ≡ bytes
 all_given taken bytes None ended given = absurd (cc)
 all_given taken bytes (Some rest) ended given =
     let one : Some (taken ++ rest) ≡ Some bytes = given in

@@ -82,6 +82,15 @@ ended_front (b ∷ bytes) behind = front_at (b == newline) b (ended_lines bytes)
 no_other : (m : ℕ) → 1 < m → (m ≡ 0) ⊎ (m ≡ 1) → ⊥
 no_other m h c = elim c [ inl p ↦ omega (arith, h, p) | inr p ↦ omega (arith, h, p) ]
 
+-- the statuses of a script that was performed whole
+pub ended_whole : (e : End) (failed : Bool) (errors : ℕ) → (status_of e failed errors ≡ 0) ⊎ (status_of e failed errors ≡ 1) → e ≡ end.Whole
+ended_whole end.Whole false errors h = refl
+ended_whole end.Wanted false errors h = absurd (no_other 5 (omega arith) h)
+ended_whole end.SourceFault false errors h = absurd (no_other 3 (omega arith) h)
+ended_whole end.TooLong false errors h = absurd (no_other 6 (omega arith) h)
+ended_whole end.Unwritten false errors h = absurd (no_other 4 (omega arith) h)
+ended_whole e true errors h = absurd (no_other 4 (omega arith) h)
+
 not_by_errors : (errors m : ℕ) → 1 < m → (if nat_lt 0 errors then 1 else 0) ≡ m → ⊥
 not_by_errors errors m h e = of_test (nat_lt 0 errors) e
   where

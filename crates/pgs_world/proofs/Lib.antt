@@ -6,4 +6,5 @@ pub mod HalfLines
 pub mod LoopLemmas
 pub mod ScriptLemmas
 pub mod StartLemmas
+pub mod TakenLemmas
 pub mod WorkedRows

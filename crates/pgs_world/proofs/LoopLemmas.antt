@@ -20,6 +20,7 @@ use Rattle.pgs_world.specs.World.{IsOpening, SameRun, setting_of}
 use Rattle.pgs_world.specs.Outcome.{most_bytes}
 use Rattle.pgs_world.specs.Loop.{IsBounded, Stands, Performs, EndIs, AreFront, IsLineEnd, is_wanted, is_wanted_in}
 use Rattle.pgs_world.proofs.CourseLemmas.{CoursesAre-start, CoursesAre-line, CoursesAre-weaker}
+use Rattle.pgs_world.proofs.TakenLemmas.{takes_line, takes_none}
 
 pub same_run : (a : Now) → SameRun a a
 same_run a = record { account = refl; limit = refl; fail = refl; accounts = refl; others = λ account other. refl }
@@ -49,6 +50,7 @@ Stands-start first start reader emitted none full opens lines h =
       between = lines;
       bounded = record { calls = omega (arith, opens.calls); contexts = omega (arith, counts.0); owners = omega (arith, counts.1); serials = omega (arith, counts.2) };
       same = same_run first;
+      taken = takes_none (setting_of first) first;
     }
 
 bounded-more : (lines : List (List ℕ)) (line : List ℕ) (old new : Now) → IsBounded (length lines) old → Grows 5 old new → IsBounded (length (lines ++ line ∷ [])) new
@@ -71,6 +73,7 @@ Stands-line first start before after reader reader' old new kept long emitted du
   between = between;
   bounded = bounded-more lines g.line old new s.bounded t.grows;
   same = same_behind g.line first old new during false s.same t;
+  taken = takes_line (setting_of first) lines g.line first old new emitted during false s.courses s.taken t s.same.account;
 }
 
 text_of-long : (lines : List (List ℕ)) → length lines ≤ length (text_of lines)
@@ -112,6 +115,7 @@ module _ (first : Now) (start before after : Option (List ℕ)) (reader reader' 
         how = (read.1.from_source, read.3, read.1.within, sym read.2);
         between = s.between;
         same = s.same;
+        taken = s.taken;
       }
 
   pub ends-fault : MeetsFault before after reader reader' → Performs first (record { end = end.SourceFault; lines = n }) start after there emitted'
@@ -125,6 +129,7 @@ module _ (first : Now) (start before after : Option (List ℕ)) (reader reader' 
         how = (read.1.from_source, read.1.within, sym read.2);
         between = s.between;
         same = s.same;
+        taken = s.taken;
       }
 
   pub ends-too_long : MeetsLimit before after reader reader' → Performs first (record { end = end.TooLong; lines = n }) start after there emitted'
@@ -138,6 +143,7 @@ module _ (first : Now) (start before after : Option (List ℕ)) (reader reader' 
         how = (read.1, read.2, read.3, sym read.4);
         between = s.between;
         same = s.same;
+        taken = s.taken;
       }
 
   pub ends-unwritten : after ≡ before → Performs first (record { end = end.Unwritten; lines = n }) start after there emitted'
@@ -151,6 +157,7 @@ module _ (first : Now) (start before after : Option (List ℕ)) (reader reader' 
         how = subst (AreFront s.read.taken lines start) (sym same) (front_taken start before reader lines s.read);
         between = s.between;
         same = s.same;
+        taken = s.taken;
       }
 
 -- The ends behind a line.
@@ -180,6 +187,7 @@ module _ (first : Now) (start before after : Option (List ℕ)) (reader reader' 
         how = front_of g.line e failed h read.taken (front_taken start after reader' (lines ++ g.line ∷ []) read);
         between = between;
         same = same_behind g.line first old new during (is_wanted e) s.same turned;
+        taken = takes_line (setting_of first) lines g.line first old new emitted during (is_wanted e) s.courses s.taken turned s.same.account;
       }
 
   pub ends-last : (g : GivesLast before after reader reader' kept long)
@@ -195,6 +203,7 @@ module _ (first : Now) (start before after : Option (List ℕ)) (reader reader' 
         how = (read.1.from_source, read.3, read.1.within, sym read.2);
         between = between;
         same = same_behind g.line first old new during false s.same turned;
+        taken = takes_line (setting_of first) lines g.line first old new emitted during false s.courses s.taken turned s.same.account;
       }
 
   pub ends-last_line : (g : GivesLast before after reader reader' kept long) (e : End) (failed : Bool) → IsLineEnd e failed
@@ -210,6 +219,7 @@ module _ (first : Now) (start before after : Option (List ℕ)) (reader reader' 
         how = front_of g.line e failed h read.0 (record { given = read.1.from_source; short = read.1.within; more = []; front = read.2 ∙ sym (append-nil (lines ++ g.line ∷ [])); whole = inr read.3 });
         between = between;
         same = same_behind g.line first old new during (is_wanted e) s.same turned;
+        taken = takes_line (setting_of first) lines g.line first old new emitted during (is_wanted e) s.courses s.taken turned s.same.account;
       }
 
   pub ends-last_any : (g : GivesLast before after reader reader' kept long) (r : Option End) (failed : Bool) → IfSome r (λ e. IsLineEnd e failed)

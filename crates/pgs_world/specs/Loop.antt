@@ -7,7 +7,9 @@ use Rattle.pgs_step.specs.declared.events.Event.{Event}
 use Rattle.session_rules.specs.Transcript.{Course}
 use Rattle.session_core.specs.Answers.{Fits}
 use Rattle.session_core.specs.Lines.{IsBetweenLines}
-use Rattle.session_core.specs.Performed.{Now}
+use Rattle.session_rules.specs.Asked.{asked_by}
+use Rattle.session_core.specs.Performed.{Now, Takes}
+use Rattle.pgs_world.specs.Script.{reads}
 use Rattle.pgs_world.specs.declared.performing.End.{End}
 use Rattle.pgs_world.specs.declared.performing.End.TheVariants as end
 use Rattle.pgs_world.specs.declared.performing.Ended.{Ended}
@@ -45,6 +47,11 @@ pub record IsBounded (lines : ℕ) (n : Now) : Type 0 where
   pub owners : n.store.owners.next_owner ≤ 5 * lines + 6
   pub serials : n.store.owners.next_serial ≤ 5 * lines + 6
 
+-- The session's account took what the lines ask, whichever later call is refused for want of memory; or, where they met a want, any number of bytes.
+abbrev pub TakesLines : Setting → Bool → List (List ℕ) → Now → Now → Type 0
+TakesLines setting wanted lines first n =
+    (w : Option ℕ) → Fits wanted n.calls.count w → Takes wanted first.store.tree.account (asked_by reads w setting.options [] setting.shelf lines 1) first.space n.space
+
 -- The loop has performed these lines.
 pub record Stands (first : Now) (start now : Option (List ℕ)) (reader : Reading) (n : Now) (emitted : List Event → Type 0) (lines : List (List ℕ)) : Type 0 where
   pub read : HasRead most_bytes start now reader lines
@@ -52,6 +59,7 @@ pub record Stands (first : Now) (start now : Option (List ℕ)) (reader : Readin
   pub between : IsBetweenLines n
   pub bounded : IsBounded (length lines) n
   pub same : SameRun first n
+  pub taken : TakesLines (setting_of first) false lines first n
 
 -- The bytes that were given have these lines, and perhaps more. Each has its newline among them, or the source is at its end.
 pub record AreFront (bytes : List ℕ) (lines : List (List ℕ)) (before after : Option (List ℕ)) : Type 0 where
@@ -79,6 +87,7 @@ pub record Performs (first : Now) (ended : Ended) (before after : Option (List �
   pub how : EndIs ended.end bytes lines before after
   pub between : IsBetweenLines n
   pub same : SameRun first n
+  pub taken : TakesLines (setting_of first) (is_wanted ended.end) lines first n
 
 -- the ends that a line leads to
 abbrev pub IsLineEnd : End → Bool → Type 0

@@ -6,7 +6,10 @@ use Rattle.pgs_world.specs.declared.program.Outcome.{Outcome}
 use Rattle.reset_callbacks.specs.ShelfState.{ShelfState}
 use Rattle.pgs_options.specs.Options.{options_of}
 use Rattle.pgs_options.specs.declared.options.Options.{Options}
+use Rattle.addr_space.specs.Space.{Asks, Space}
+use Rattle.session_rules.specs.Asked.{asked_by}
 use Rattle.session_rules.specs.Transcript.{errors_in}
+use Rattle.pgs_world.specs.Script.{reads}
 use Rattle.pgs_world.specs.Transcript.{Setting, transcript, shelf_after, text_of_transcript, EndsAt}
 
 -- the most bytes that a script has
@@ -44,6 +47,11 @@ pub record IsWhole (setting : Setting) (outcome : Outcome) (left left' written w
 -- the errors are the ERROR events in the transcript of the bytes that a source had
 abbrev pub CountsErrors : Setting → Outcome → Option (List ℕ) → Type 0
 CountsErrors setting outcome left = (bytes : List ℕ) → left ≡ Some bytes → outcome.errors ≡ errors_in (transcript setting None (lines_of bytes))
+
+-- The account took what the lines of the bytes that a source had ask for session 1, and so many bytes besides; no other account took any.
+abbrev pub TakesAll : Setting → Option (List ℕ) → ℕ → ℕ → Space → Space → Type 0
+TakesAll setting left account more before after =
+    (bytes : List ℕ) → left ≡ Some bytes → Asks account (more + asked_by reads None setting.options [] setting.shelf (lines_of bytes) 1) before after
 
 -- So many lines were given whole: the newline of each is among the bytes, or the source was at its end behind them. A byte past the most of a script is no part of a line.
 abbrev pub AreWhole : ℕ → List ℕ → Option (List ℕ) → Type 0

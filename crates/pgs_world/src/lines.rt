@@ -53,6 +53,9 @@ fn is_built(command: &Command) -> bool
             | Command::Rollback
             | Command::Raise
             | Command::Pin(_)
+            | Command::Unpin(_)
+            | Command::Reference { .. }
+            | Command::Unreference { .. }
             | Command::Context { .. }
             | Command::Switch(_)
             | Command::OnReset(_)

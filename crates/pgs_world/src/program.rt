@@ -9,10 +9,11 @@ ghost use Rattle.reset_callbacks.specs.Hook.{AreDistinct};
 ghost use Rattle.reset_callbacks.specs.ShelfState as shelf_state;
 ghost use Rattle.pgs_options.specs.Options.{options_of};
 ghost use Rattle.pgs_options.specs.declared.options.Options.{Options as Asked};
+ghost use Rattle.session_rules.specs.Asked.{asked_at_opening};
 ghost use Rattle.session_core.specs.Lines.{IsBetweenLines};
 ghost use Rattle.pgs_world.specs.Transcript.{setting_for};
 ghost use Rattle.pgs_world.specs.World.{first_in, setting_of, IsOpening};
-ghost use Rattle.pgs_world.specs.Outcome.{most_bytes, usage_line, AskFor, IsWhole, IsWanted, IsCutOff, IsTooLong, IsUnwritten, IsNotStarted, IsUsageFront, CountsErrors};
+ghost use Rattle.pgs_world.specs.Outcome.{most_bytes, usage_line, AskFor, IsWhole, IsWanted, IsCutOff, IsTooLong, IsUnwritten, IsNotStarted, IsUsageFront, CountsErrors, TakesAll};
 ghost use Rattle.pgs_world.specs.Ending.{outcome_of, status_of, IsPlayed};
 
 use crate::performing::{End, Ended, perform_lines};
@@ -82,6 +83,9 @@ pub fn run<S: Source, K: Sink, H: ResetHook>(
         → IsWhole (setting_for o shelf.old) result (S.left src.old) (S.left src.new) (K.written out.old) (K.written out.new) shelf.new }
     ensures counts { (o : Asked) → AskFor (map string_text words.now) o → (result.status ≡ 0) ⊎ (result.status ≡ 1) → CountsErrors (setting_for o shelf.old) result (S.left src.old) }
 
+    // The account took what the session's opening and the lines ask for, and no other account anything.
+    ensures taken { (o : Asked) → AskFor (map string_text words.now) o → (result.status ≡ 0) ⊎ (result.status ≡ 1) → TakesAll (setting_for o shelf.old) (S.left src.old) 0 asked_at_opening space.old space.new }
+
     // Status 2: the words are refused, and nothing was read.
     ensures usage { result.status ≡ 2 → K.written out.new ≡ append_known (K.written out.old) usage_line }
     ensures usage_words { result.status ≡ 2 → options_of (map string_text words.now) ≡ None }
@@ -142,6 +146,7 @@ fn start<S: Source, K: Sink, H: ResetHook>(
     requires empty { (account : ℕ) → held space.old account ≡ 0 }
     requires hooks { AreDistinct (shelf_state.held shelf.old) }
     requires limit { 131072 ≤ options.now.space }
+    ensures taken { (result.status ≡ 0) ⊎ (result.status ≡ 1) → TakesAll (setting_for options.now shelf.old) (S.left src.old) 0 asked_at_opening space.old space.new }
     ensures whole { (result.status ≡ 0) ⊎ (result.status ≡ 1) → IsWhole (setting_for options.now shelf.old) result (S.left src.old) (S.left src.new) (K.written out.old) (K.written out.new) shelf.new }
     ensures source_fault { result.status ≡ 3 → HasRisen (S.faults src.old) (S.faults src.new) }
     ensures cut_off { result.status ≡ 3 → IsCutOff (setting_for options.now shelf.old) result (S.left src.old) (S.left src.new) (K.written out.old) (K.written out.new) shelf.new }
@@ -212,6 +217,7 @@ fn play<S: Source, K: Sink, H: ResetHook>(
     ensures sink_grew { K.faults out.old < K.faults out.new → result.status ≡ 4 }
     ensures statuses { IsPlayed result.status }
     ensures call { result.status ≢ 4 → result.status ≢ 5 → result.call ≡ 0 }
+    ensures taken { (result.status ≡ 0) ⊎ (result.status ≡ 1) → TakesAll (setting_of (first_in session space.old shelf.old calls)) (S.left src.old) session.tree.account 0 space.old space.new }
     ensures given_back { held space.new session.tree.account ≡ 0 }
     ensures others { (account : ℕ) → ¬ (account ≡ session.tree.account) → held space.new account ≡ held space.old account }
     ensures accounts { accounts space.new ≡ accounts space.old }

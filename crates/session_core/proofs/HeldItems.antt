@@ -37,7 +37,7 @@ use Rattle.session_core.specs.Performed.{Now, Performed, scene_in}
 use Rattle.session_core.proofs.Commands.{fails, passes, unchanged}
 use Rattle.session_core.proofs.Performing.{performed_both, performed_end, performed_made, performed_more, performed_stop}
 use Rattle.session_core.proofs.Pinning.{performed_said}
-use Rattle.session_core.proofs.Stepping.{Rises, count_behind, grown, moves_same, step_injected, step_wants, still_keeps, still_moves, still_refused}
+use Rattle.session_core.proofs.Stepping.{Rises, count_behind, grown, moves_same, step_injected, step_wants, still_asks, still_keeps, still_moves, still_refused, still_some}
 
 abbrev takes_item : KindId → ℕ → Scene → Ended
 takes_item kind key = at_owner OfLevel (λ owner. item_taken owner kind key)
@@ -71,12 +71,12 @@ module _ (kind : KindId) (key : ℕ) (a b : Now) (P : List What → Type 0) (cou
     pub take_item_injected : (e : Error) → (e ≡ Injected (a.calls.count + 1)) × ((a.calls.count + 1 == a.calls.fail) ≡ true) → Performed 1 (element.Take OfLevel kind key ∷ []) a b P (Some e)
     take_item_injected e told =
         step_injected (element.Take OfLevel kind key) (λ s. take_refused (keeper_of kind) s) (takes_item kind key) (does_take kind key) a b P counted (still_refused a b store space shelf)
-        (still_keeps a b store space shelf keeps) (still_moves a b store space shelf keeps) silent e told
+        (still_keeps a b store space shelf keeps) (still_moves a b store space shelf keeps) silent e told (still_asks a b store space shelf)
 
     pub take_item_wants : (a.calls.count + 1 == a.calls.fail) ≡ false → Performed 1 (element.Take OfLevel kind key ∷ []) a b P (Some (NoMemory b.calls.count))
     take_item_wants goes =
         step_wants (element.Take OfLevel kind key) (λ s. take_refused (keeper_of kind) s) (takes_item kind key) (does_take kind key) a b P counted (still_refused a b store space shelf)
-        (still_keeps a b store space shelf keeps) (still_moves a b store space shelf keeps) silent goes
+        (still_keeps a b store space shelf keeps) (still_moves a b store space shelf keeps) silent goes (still_some a b store space shelf)
 
   pub take_item_done : keeper_of kind ≡ NoOne → (a.calls.count + 1 == a.calls.fail) ≡ false → (owner : OwnerId) → IsLevelOwner a.store owner → b.store.tree ≡ a.store.tree → Keeps b.store b.space
       → Acted (item_taken owner.number kind key) a.store b.store a.space b.space a.shelf b.shelf P → Performed 1 (element.Take OfLevel kind key ∷ []) a b P None
@@ -84,7 +84,7 @@ module _ (kind : KindId) (key : ℕ) (a b : Now) (P : List What → Type 0) (cou
       performed_made (element.Take OfLevel kind key) (λ s. take_refused (keeper_of kind) s) (takes_item kind key) (does_take kind key) a b P counted 1 goes
       (λ around. ap (λ (k : Keeper). take_refused k (scene_in a around)) unkept) acted after
       (moves_same a.store.tree b.store.tree a.space b.space tree space keeps.agrees)
-      (grown 1 (takes_item kind key) a b P (take_rises kind key unkept) acted (omega (arith, count_behind a b counted)))
+      (grown 1 (takes_item kind key) a b P (take_rises kind key unkept) acted (omega (arith, count_behind a b counted))) (λ around. ap (λ (s : Space). s.taken) space)
     where
       acted : Acted (takes_item kind key) a.store b.store a.space b.space a.shelf b.shelf P
       acted = record {
@@ -153,7 +153,7 @@ module _ (kind : KindId) (key : ℕ) (a b : Now) (P : List What → Type 0) (own
         owners = omega (arith, next_owner);
         serials = omega (arith, next_serial);
         calls = rw calls (omega arith);
-      }) calls)
+      }) calls (λ around. ap (λ (s : Space). s.taken) space))
     where
       acted : Acted (gives_back kind key) a.store b.store a.space b.space a.shelf b.shelf P
       acted = record {
@@ -168,4 +168,4 @@ module _ (kind : KindId) (key : ℕ) (a b : Now) (P : List What → Type 0) (own
       unchanged 0 (element.Checks (element.Holds kind key) ∷ element.GiveBack kind key ∷ []) a b P (Some error.NotHeld)
       (fails (element.Holds kind key) (element.GiveBack kind key ∷ []) a P error.NotHeld keeps silent refl
       (λ around. ap (λ (o : Option Item). unless (is_some o) error.NotHeld) (newest_is a.store a.space owner kind key is ∙ missing)))
-      (still_refused a b store space shelf) (still_keeps a b store space shelf keeps) (still_moves a b store space shelf keeps) calls
+      (still_refused a b store space shelf) (still_keeps a b store space shelf keeps) (still_moves a b store space shelf keeps) calls (ap (λ (s : Space). s.taken) space)

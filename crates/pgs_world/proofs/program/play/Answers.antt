@@ -1,4 +1,4 @@
-use Rattle.std.proofs.Common.{◌≡◌, ℕ, ◌^◌, ◌<◌, Option, Some, sym, ◌∙◌, ap, subst, arith}
+use Rattle.std.proofs.Common.{◌≡◌, ℕ, ◌^◌, ◌<◌, Option, Some, sym, ◌∙◌, ap, subst, arith, ◌⊎◌}
 use Rattle.addr_space.specs.Space.{Space, held}
 use Rattle.session_rules.specs.Transcript.{errors_in}
 use Rattle.session_core.specs.declared.calls.Calls.{Calls}
@@ -12,7 +12,10 @@ use Rattle.pgs_world.specs.PrinterLaws.{ShowsEvents-more, ShowsEvents-flush}
 use Rattle.session_rules.specs.World.{around}
 use Rattle.pgs_world.specs.World.{first_in, setting_of, world_in}
 use Rattle.pgs_world.proofs.ErrorLemmas.{few_errors}
-use Rattle.pgs_world.proofs.EndingLemmas.{Facts, Printed, printed_all, printed_told, transcript_events, hooks_of_end, ends_at, a_fit, fits_wanted, stays_failed, unwritten_leads, whole, cut_off, too_long, wanted, called_of, unwritten, sink_fault, sink_grew}
+use Rattle.pgs_world.proofs.EndingLemmas.{Facts, Printed, ended_whole, printed_all, printed_told, transcript_events, hooks_of_end, ends_at, a_fit, fits_wanted, stays_failed, unwritten_leads, whole, cut_off, too_long, wanted, called_of, unwritten, sink_fault, sink_grew}
+use Rattle.pgs_world.specs.declared.program.Outcome.{Outcome}
+use Rattle.pgs_world.specs.Outcome.{TakesAll}
+use Rattle.pgs_world.proofs.TakenLemmas.{taken_all}
 use Rattle.pgs_world.proofs.program.play.Goals as goal
 use Rattle.pgs_world.proofs.program.play.Given.{Over}
 
@@ -117,3 +120,10 @@ returns-clause-others g c account other =
     let run = (performs g c).same in
     ap (λ (s : Space). held s account) c.swap-3.ensures.x_after
     ∙ c.exit.ensures.did.moves.others account (λ is. other (is ∙ run.account)) ∙ run.others account other
+
+pub returns-clause-taken : goal.returns-clause-taken
+returns-clause-taken g c h bytes is =
+    let run = performs g c in
+    let ended = ended_whole _ _ _ (subst (λ (o : Outcome). (o.status ≡ 0) ⊎ (o.status ≡ 1)) c.made_outcome.ensures h) in
+    let all = taken_all (setting g c) c.perform_lines-ended.result.end run.bytes run.lines _ _ (first g c) (behind g c) (last g c) ended run.how run.taken run.same.account c.exit.ensures.did.asked in
+    subst (λ (s : Space). TakesAll (setting g c) (g.S.Source.left c.args.src.now) c.args.session.tree.account 0 c.args.space.now s) (sym c.swap-3.ensures.x_after) all bytes is

@@ -1,5 +1,9 @@
-use Rattle.std.proofs.Common.{ℕ, sym, ◌∙◌, ap, subst}
-use Rattle.addr_space.specs.Space.{Space, held}
+use Rattle.std.proofs.Common.{ℕ, sym, ◌∙◌, ap, subst, ◌+◌, [], None}
+use Rattle.addr_space.specs.Space.{Asks, Space, held}
+use Rattle.pgs_io.specs.Lines.{lines_of}
+use Rattle.session_rules.specs.Asked.{asked_by}
+use Rattle.pgs_world.specs.Script.{reads}
+use Rattle.pgs_world.proofs.TakenLemmas.{opened_taken}
 use Rattle.session_core.proofs.Opened.{opened_lines}
 use Rattle.pgs_world.specs.Transcript.{options_for}
 use Rattle.pgs_world.specs.Outcome.{IsWhole}
@@ -28,3 +32,10 @@ returns-clause-given_back g c =
     none_held_behind _ _ _ c.play.ensures.given_back c.play.ensures.others
     (λ account other. c.in-Ok-start.ensures.moves.others account (λ is. other (is ∙ sym c.in-Ok-start.ensures.account))
     ∙ ap (λ (s : Space). held s account) c.set_limit.ensures ∙ limited_held c.args.space.now c.args.options.now.space account ∙ c.requires.empty account)
+
+pub returns-clause-taken : goal.returns-clause-taken
+returns-clause-taken g c h bytes is =
+    let limit = c.in-Ok-start.ensures.moves.limit ∙ ap (λ (s : Space). s.limit) c.set_limit.ensures in
+    let told = c.play.ensures.taken h bytes is in
+    opened_taken _ 0 _ c.args.space.now c.set_limit.new.self c.start.new.space c.play.new.space (ap (λ (s : Space). s.taken) c.set_limit.ensures) c.in-Ok-start.ensures.account c.in-Ok-start.ensures.asked
+    (subst (λ (n : ℕ). Asks c.in-Ok-start.session.tree.account (0 + asked_by reads None (options_for n c.args.options.now.fail) [] c.args.shelf.now (lines_of bytes) 1) c.start.new.space c.play.new.space) limit told)
