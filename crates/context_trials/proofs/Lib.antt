@@ -1,0 +1,6 @@
+pub mod Silent
+pub mod Standing
+pub mod Over
+pub mod Rows
+pub mod Hooked
+pub mod Deep
