@@ -72,10 +72,10 @@ taken_all setting end.Whole bytes lines left left' first behind last w how taken
     subst (λ (n : ℕ). Asks first.store.tree.account n first.space last.space) (omega (arith, lines_are))
     (Asks-more first.store.tree.account (asked_by reads None setting.options [] setting.shelf lines 1) 0 first.space behind.space last.space asks
     (subst (λ (a : ℕ). Asks a 0 behind.space last.space) account none))
-taken_all setting end.Wanted bytes lines left left' first behind last w how taken account none = absurd (cc)
-taken_all setting end.SourceFault bytes lines left left' first behind last w how taken account none = absurd (cc)
-taken_all setting end.TooLong bytes lines left left' first behind last w how taken account none = absurd (cc)
-taken_all setting end.Unwritten bytes lines left left' first behind last w how taken account none = absurd (cc)
+taken_all setting end.Wanted bytes lines left left' first behind last w how taken account none given is = absurd (cc)
+taken_all setting end.SourceFault bytes lines left left' first behind last w how taken account none given is = absurd (cc)
+taken_all setting end.TooLong bytes lines left left' first behind last w how taken account none given is = absurd (cc)
+taken_all setting end.Unwritten bytes lines left left' first behind last w how taken account none given is = absurd (cc)
 
 -- what a session takes as it opens, and what its lines ask behind that
 pub opened_taken : (account other n : ℕ) (s t u v : Space) → t.taken ≡ s.taken → account ≡ other → Asks other 65536 t u → Asks account (0 + n) u v → Asks other (65536 + n) s v

@@ -22,7 +22,7 @@ use Rattle.pgs_world.proofs.program.play.Given.{Over}
 pub exit-requires-clause-between : goal.exit-requires-clause-between
 exit-requires-clause-between g c = steps_of_lines _ c.perform_lines-ended.ensures.performs.between
 
-module _ (g : Over) (c : goal.After-drop-session-inside-9 g) where
+module _ (g : Over) (c : goal.After-drop-session-inside-10 g) where
   -- where the run began, where it stood behind its lines, and where behind the session's end
   abbrev first : Now
   first = first_in c.args.session c.args.space.now c.args.shelf.now c.args.calls
