@@ -24,3 +24,12 @@ pub mod CalmActs
 pub mod CalmEnds
 pub mod CalmElements
 pub mod Calm
+pub mod HookSums
+pub mod HookSteps
+pub mod HookActs
+pub mod HookEnds
+pub mod HookChunks
+pub mod HookElements
+pub mod HookCommands
+pub mod HookLaws
+pub mod HookExamples

@@ -20,3 +20,4 @@ pub mod Transcript
 pub mod Modes
 pub mod Guarded
 pub mod Standing
+pub mod HookCounts
