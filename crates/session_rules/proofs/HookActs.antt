@@ -28,11 +28,11 @@ use Rattle.session_rules.specs.Acts.{Ended, changes, children_gone, context_clea
 use Rattle.session_rules.specs.Releases.{Keeper, NoOne, TheDescriptors, TheKind, ThePlans, descriptor_left, given_back, item_released, keeper_of, left_to, owner_gone, owner_moved, owner_released, phase_released, plan_becomes, plan_left, plan_settled, plan_stays, step_done}
 use Rattle.session_rules.specs.Portals.{executor_ended, is_ready, portal_aborted, portal_closed, portal_ended, portal_failed, portal_owner_ended, portal_passed, portal_withdrawn}
 use Rattle.session_rules.proofs.HookSums.{is_of_hooks, none_run}
-use Rattle.session_rules.proofs.HookSteps.{AreNumbered, Counted, counted_alone, counted_both, counted_children, counted_cleared, counted_gone, counted_same, still_all_locks, still_lock_passes, still_lock_releases, still_map, still_one}
+use Rattle.session_rules.proofs.HookSteps.{Counted, IsNumbered, counted_alone, counted_both, counted_children, counted_cleared, counted_gone, counted_same, still_all_locks, still_lock_passes, still_lock_releases, still_map, still_one}
 
 -- an act that keeps count in any scene; such acts in order
 pub record IsCounting (act : Scene → Ended) : Type 0 where
-  pub counts : (scene : Scene) → AreNumbered scene.session.contexts scene.session.next_context → Counted scene (act scene)
+  pub counts : (scene : Scene) → IsNumbered scene → Counted scene (act scene)
 
 pub data AreCounting : List (Scene → Ended) → Type 0 where
   no_more : AreCounting []
@@ -50,7 +50,7 @@ counting_changes change same next = record {
   counts = λ scene k. record { numbered = rw (same scene.session, next scene.session) k; hooks = rw (same scene.session) (counted_same none_run) };
 }
 
-order_counts : (acts : List (Scene → Ended)) → AreCounting acts → (scene : Scene) → AreNumbered scene.session.contexts scene.session.next_context → Counted scene (in_order acts scene)
+order_counts : (acts : List (Scene → Ended)) → AreCounting acts → (scene : Scene) → IsNumbered scene → Counted scene (in_order acts scene)
 order_counts [] no_more scene k = record { numbered = k; hooks = counted_same none_run }
 order_counts (act ∷ acts) (then_counting h hs) scene k =
     let first : Counted scene (act scene) = h.counts scene k in
@@ -67,7 +67,7 @@ pub counting_so : (b : Bool) (act : Scene → Ended) → IsCounting act → IsCo
 counting_so false act h = record { counts = λ scene k. record { numbered = k; hooks = counted_same none_run } }
 counting_so true act h = record { counts = h.counts }
 
-each_counts : {A : Type 0} (act : A → Scene → Ended) → ((a : A) → IsCounting (act a)) → (xs : List A) (scene : Scene) → AreNumbered scene.session.contexts scene.session.next_context → Counted scene (for_each act xs scene)
+each_counts : {A : Type 0} (act : A → Scene → Ended) → ((a : A) → IsCounting (act a)) → (xs : List A) (scene : Scene) → IsNumbered scene → Counted scene (for_each act xs scene)
 each_counts act h [] scene k = record { numbered = k; hooks = counted_same none_run }
 each_counts act h (x ∷ xs) scene k =
     let first : Counted scene (act x scene) = (h x).counts scene k in
@@ -203,7 +203,7 @@ step_counting (ReleasesLocks owner) h = record { counts = λ scene k. record { n
 step_counting (PassesLocks from to) h = record { counts = λ scene k. record { numbered = k; hooks = counted_same (still_lock_passes from to scene.session.locks) } }
 step_counting (ReleasesAllLocks top) h = record { counts = λ scene k. record { numbered = k; hooks = counted_same (still_all_locks top scene.session.locks) } }
 
-steps_count : (steps : List Step) → AreStillSteps steps → (scene : Scene) → AreNumbered scene.session.contexts scene.session.next_context → Counted scene (for_each step_done steps scene)
+steps_count : (steps : List Step) → AreStillSteps steps → (scene : Scene) → IsNumbered scene → Counted scene (for_each step_done steps scene)
 steps_count [] no_step scene k = record { numbered = k; hooks = counted_same none_run }
 steps_count (x ∷ steps) (then_step h hs) scene k =
     let first : Counted scene (step_done x scene) = (step_counting x h).counts scene k in

@@ -30,13 +30,13 @@ use Rattle.session_rules.specs.Calls.{Done, fallible, refused_call, unless_refus
 use Rattle.session_rules.specs.Does.{does, does_all, failing_turn, then_done}
 use Rattle.session_rules.specs.HookCounts.{CountsHooks}
 use Rattle.session_rules.proofs.HookSums.{is_of_hooks, none_run}
-use Rattle.session_rules.proofs.HookSteps.{AreNumbered, Counted, counted_kept, counted_on, counted_put, counted_same, numbered_put, still_one, still_report, still_touch}
+use Rattle.session_rules.proofs.HookSteps.{Counted, IsNumbered, counted_kept, counted_on, counted_put, counted_same, numbered_put, still_one, still_report, still_touch}
 use Rattle.session_rules.proofs.HookChunks.{KeepsHooks, keeps_allocated, keeps_freed, keeps_resized, keeps_written}
 use Rattle.session_rules.proofs.HookActs.{IsCounting, children_gone_counting, context_cleared_alone_counting, context_cleared_counting, context_gone_counting, counting_changes, counting_nothing, counting_order, counting_say, counting_there, item_released_counting, no_more, plan_becomes_counting, portal_becomes_counting, portal_ended_counting, switched_counting, then_counting}
 use Rattle.session_rules.proofs.HookEnds.{aborted_counting, cleaned_counting, committed_counting, subcommitted_counting}
 
 -- a call on chunks
-kept_counts : (scene : Scene) (u : Contexts) → AreNumbered scene.session.contexts scene.session.next_context → KeepsHooks scene.session.contexts u
+kept_counts : (scene : Scene) (u : Contexts) → IsNumbered scene → KeepsHooks scene.session.contexts u
     → Counted scene (record { scene = record scene { session = record scene.session { contexts = u } }; events = [] })
 kept_counts scene u k h = record { numbered = h.numbered scene.session.next_context k; hooks = counted_kept scene.session.contexts u scene.around.shelf none_run h.sums }
 
@@ -82,7 +82,7 @@ new_context_counting (ScriptContext name parent kind) = record {
   counts = λ scene k. (counting_there (context_named parent scene.session) _ (λ (n : ℕ). made_counting n name false kind)).counts scene k;
 }
 
-owner_made_counts : (o : Option ℕ) (scene : Scene) → AreNumbered scene.session.contexts scene.session.next_context → Counted scene (owner_made o scene)
+owner_made_counts : (o : Option ℕ) (scene : Scene) → IsNumbered scene → Counted scene (owner_made o scene)
 owner_made_counts None scene k = record { numbered = k; hooks = counted_same (still_one _ refl) }
 owner_made_counts (Some parent) scene k = record { numbered = k; hooks = counted_same (still_one _ refl) }
 
@@ -216,15 +216,15 @@ ArePlain (element ∷ elements) = IsPlain element × ArePlain elements
 
 -- what an element, or elements in order, did: the contexts are numbered still, and the hooks are counted
 pub record HasCounted (scene : Scene) (done : Done) : Type 0 where
-  pub numbered : AreNumbered done.moment.scene.session.contexts done.moment.scene.session.next_context
+  pub numbered : IsNumbered done.moment.scene
   pub hooks : CountsHooks scene done.moment.scene done.events
 
-pub unless_counts : (refusal : Option Error) (moment : Moment) (act : Scene → Ended) → AreNumbered moment.scene.session.contexts moment.scene.session.next_context → Counted moment.scene (act moment.scene)
+pub unless_counts : (refusal : Option Error) (moment : Moment) (act : Scene → Ended) → IsNumbered moment.scene → Counted moment.scene (act moment.scene)
     → HasCounted moment.scene (unless_refused refusal moment act)
 unless_counts None moment act k h = record { numbered = h.numbered; hooks = h.hooks }
 unless_counts (Some error) moment act k h = record { numbered = k; hooks = counted_same none_run }
 
-pub fallible_counts : (w : Option ℕ) (moment : Moment) (own : Option Error) (act : Scene → Ended) → AreNumbered moment.scene.session.contexts moment.scene.session.next_context → Counted moment.scene (act moment.scene)
+pub fallible_counts : (w : Option ℕ) (moment : Moment) (own : Option Error) (act : Scene → Ended) → IsNumbered moment.scene → Counted moment.scene (act moment.scene)
     → HasCounted moment.scene (fallible w moment own act)
 fallible_counts w moment own act k h =
     let next : Moment = record moment { calls = moment.calls + 1 } in
@@ -251,7 +251,7 @@ alloc_counting role name bytes zeroed = record {
   counts = λ scene k. (counting_there (memory_in role scene.session) (memory_taken name bytes zeroed) (memory_counting name bytes zeroed)).counts scene k;
 }
 
-pub does_counts : (w : Option ℕ) (element : Element) (m : Moment) → IsPlain element → AreNumbered m.scene.session.contexts m.scene.session.next_context → HasCounted m.scene (does w element m)
+pub does_counts : (w : Option ℕ) (element : Element) (m : Moment) → IsPlain element → IsNumbered m.scene → HasCounted m.scene (does w element m)
 unfolding does
 does_counts w (e.Checks a) m h k = unless_counts (failure a m.scene) m nothing k (counting_nothing.counts m.scene k)
 does_counts w (e.Says a) m h k = record { numbered = k; hooks = counted_same (still_one a h) }
@@ -306,7 +306,7 @@ then_counts scene done None rest h next =
 then_counts scene done (Some error) rest h next = h
 
 -- elements in order
-pub does_all_counts : (w : Option ℕ) (elements : List Element) (m : Moment) → ArePlain elements → AreNumbered m.scene.session.contexts m.scene.session.next_context → HasCounted m.scene (does_all w elements m)
+pub does_all_counts : (w : Option ℕ) (elements : List Element) (m : Moment) → ArePlain elements → IsNumbered m.scene → HasCounted m.scene (does_all w elements m)
 unfolding does_all
 does_all_counts w [] m h k = record { numbered = k; hooks = counted_same none_run }
 does_all_counts w (element ∷ elements) m h k =

@@ -12,7 +12,7 @@ use Rattle.session_rules.specs.Releases.{owner_gone, owner_released}
 use Rattle.session_rules.specs.Portals.{portal_aborted, portal_closed, portal_passed}
 use Rattle.session_rules.specs.Ends.{aborted, cleaned_up, committed, empty_context_gone, exited, given_up, level_context_gone, level_owner_gone, level_popped, level_released, level_rolled_back, recovered, stack_popped, subcommitted, switched_up}
 use Rattle.session_rules.proofs.HookSums.{none_run}
-use Rattle.session_rules.proofs.HookSteps.{AreNumbered, Counted, counted_same, still_pops}
+use Rattle.session_rules.proofs.HookSteps.{Counted, IsNumbered, counted_same, still_pops}
 use Rattle.session_rules.proofs.HookActs.{IsCounting, context_gone_counting, counting_changes, counting_each, counting_nothing, counting_order, counting_say, counting_so, counting_there, either_counts, no_more, owner_gone_counting, owner_released_counting, portal_aborted_counting, portal_closed_counting, portal_gone_counting, portal_passed_counting, switched_counting, then_counting}
 
 -- the parts of an end
@@ -120,7 +120,7 @@ given_up_counting (level ∷ levels) = record {
 }
 
 -- a recovery
-pub recovered_counts : (error : Error) (scene : Scene) → AreNumbered scene.session.contexts scene.session.next_context → Counted scene (recovered error scene)
+pub recovered_counts : (error : Error) (scene : Scene) → IsNumbered scene → Counted scene (recovered error scene)
 unfolding recovered
 recovered_counts error scene k =
     (counting_order
@@ -128,7 +128,7 @@ recovered_counts error scene k =
     (then_counting (counting_so (not (is_aborted scene.session.levels)) (given_up scene.session.levels) (given_up_counting scene.session.levels)) no_more))).counts scene k
 
 -- the end of a session
-pub exited_counts : (scene : Scene) → AreNumbered scene.session.contexts scene.session.next_context → Counted scene (exited scene)
+pub exited_counts : (scene : Scene) → IsNumbered scene → Counted scene (exited scene)
 unfolding exited
 exited_counts scene k =
     (counting_order

@@ -32,7 +32,7 @@ use Rattle.session_rules.specs.Transcript.{line_elements, turn, turn_of}
 use Rattle.session_rules.specs.Standing.{Stands, StandsBetweenLines}
 use Rattle.session_rules.specs.HookCounts.{CountsHooks}
 use Rattle.session_rules.proofs.HookSums.{none_run}
-use Rattle.session_rules.proofs.HookSteps.{AreNumbered, Counted, counted_hook, counted_moved, counted_on, counted_same}
+use Rattle.session_rules.proofs.HookSteps.{Counted, IsNumbered, counted_hook, counted_moved, counted_on, counted_same}
 use Rattle.session_rules.proofs.HookEnds.{exited_counts, recovered_counts}
 use Rattle.session_rules.proofs.HookElements.{HasCounted, does_all_counts, done_so, fallible_counts, then_counts}
 use Rattle.session_rules.proofs.HookCommands.{IsUsual, elements_plain}
@@ -60,11 +60,11 @@ does_both w (x ∷ xs) ys m = go (does w x m).refusal refl (does_both w xs ys (d
         ap (done_behind (does w x m).events) rest
         ∙ behind_then (does w x m).events (does_all w xs (does w x m).moment) (does_all w xs (does w x m).moment).refusal (does_all w ys)
 
-numbered_of : (s : Scene) → Stands s → AreNumbered s.session.contexts s.session.next_context
+numbered_of : (s : Scene) → Stands s → IsNumbered s
 numbered_of s h = record { once = h.contexts.once; below = h.contexts.below }
 
 -- an act on a context that a name leads to
-at_name : (o : Option ℕ) (act : ℕ → Scene → Ended) (s : Scene) → AreNumbered s.session.contexts s.session.next_context → ((n : ℕ) → o ≡ Some n → Counted s (act n s)) → Counted s (where_there o act s)
+at_name : (o : Option ℕ) (act : ℕ → Scene → Ended) (s : Scene) → IsNumbered s → ((n : ℕ) → o ≡ Some n → Counted s (act n s)) → Counted s (where_there o act s)
 at_name None act s k behind = record { numbered = k; hooks = counted_same none_run }
 at_name (Some n) act s k behind = behind n refl
 
@@ -96,7 +96,7 @@ module _ (w : Option ℕ) (m : Moment) (h : Stands m.scene) where
 
 -- elements in order: one and then others, and some and then others
 one_then : (w : Option ℕ) (x : Element) (xs : List Element) (m : Moment) → HasCounted m.scene (does w x m)
-    → (AreNumbered (does w x m).moment.scene.session.contexts (does w x m).moment.scene.session.next_context → HasCounted (does w x m).moment.scene (does_all w xs (does w x m).moment))
+    → (IsNumbered (does w x m).moment.scene → HasCounted (does w x m).moment.scene (does_all w xs (does w x m).moment))
     → HasCounted m.scene (does_all w (x ∷ xs) m)
 unfolding does_all
 one_then w x xs m first next = then_counts m.scene (does w x m) (does w x m).refusal (does_all w xs) first (λ _. next first.numbered)
@@ -117,7 +117,7 @@ check_then w check xs m h next = go (failure check m.scene) refl
     go (Some error) is = record { numbered = numbered_of m.scene h; hooks = counted_same none_run }
 
 -- the two commands, and what is plain behind them
-module _ (w : Option ℕ) (rest : List Element) (plain : (m : Moment) → AreNumbered m.scene.session.contexts m.scene.session.next_context → HasCounted m.scene (does_all w rest m)) where
+module _ (w : Option ℕ) (rest : List Element) (plain : (m : Moment) → IsNumbered m.scene → HasCounted m.scene (does_all w rest m)) where
   work_counts : (c : Command) (session : SessionState) (m : Moment) → Stands m.scene → (IsUsual c → HasCounted m.scene (does_all w (work_of c session ++ rest) m))
       → HasCounted m.scene (does_all w (work_of c session ++ rest) m)
   work_counts (command.OnReset name) session m h usual =
@@ -131,7 +131,7 @@ module _ (w : Option ℕ) (rest : List Element) (plain : (m : Moment) → AreNum
 
 -- a command of a transaction, or one that is begun for it alone
 transaction_counts : (w : Option ℕ) (c : Command) (session : SessionState) (levels : List LevelState) (m : Moment) → StandsBetweenLines m.scene → m.scene.session.levels ≡ levels
-    → ((n : Moment) (rest : List Element) → ((k : Moment) → AreNumbered k.scene.session.contexts k.scene.session.next_context → HasCounted k.scene (does_all w rest k)) → Stands n.scene → HasCounted n.scene (does_all w (work_of c session ++ rest) n))
+    → ((n : Moment) (rest : List Element) → ((k : Moment) → IsNumbered k.scene → HasCounted k.scene (does_all w rest k)) → Stands n.scene → HasCounted n.scene (does_all w (work_of c session ++ rest) n))
     → HasCounted m.scene (does_all w (in_transaction levels (work_of c session)) m)
 transaction_counts w c session (level ∷ levels) m h is all =
     all m (e.Says what.Ok ∷ []) (λ k l. does_all_counts w (e.Says what.Ok ∷ []) k (refl, tt) l) h.stands
@@ -162,7 +162,7 @@ command_counts w other m h = does_all_counts w (elements_of other m.scene.sessio
 
 -- a turn of what was done
 turn_of_counts : (scene : Scene) (done : Done) (refusal : Option Error) → HasCounted scene done
-    → AreNumbered (turn_of done refusal).moment.scene.session.contexts (turn_of done refusal).moment.scene.session.next_context × CountsHooks scene (turn_of done refusal).moment.scene (turn_of done refusal).events
+    → IsNumbered (turn_of done refusal).moment.scene × CountsHooks scene (turn_of done refusal).moment.scene (turn_of done refusal).events
 turn_of_counts scene done None h = (h.numbered, h.hooks)
 turn_of_counts scene done (Some error) h =
     let more : Counted done.moment.scene (recovered error done.moment.scene) = recovered_counts error done.moment.scene h.numbered in
@@ -184,18 +184,18 @@ abbrev pub IsUsualLine : Option Command → Type 0
 IsUsualLine None = Unit {0}
 IsUsualLine (Some c) = IsUsual c
 
-usual_line_counts : (w : Option ℕ) (line : Option Command) (m : Moment) → IsUsualLine line → AreNumbered m.scene.session.contexts m.scene.session.next_context
+usual_line_counts : (w : Option ℕ) (line : Option Command) (m : Moment) → IsUsualLine line → IsNumbered m.scene
     → HasCounted m.scene (does_all w (line_elements line m.scene.session) m)
 usual_line_counts w None m u k = does_all_counts w (refused error.SyntaxError) m (tt, tt) k
 usual_line_counts w (Some c) m u k = does_all_counts w (elements_of c m.scene.session) m (elements_plain c m.scene.session u) k
 
-pub usual_turn_counts_hooks : (w : Option ℕ) (line : Option Command) (m : Moment) → IsUsualLine line → AreNumbered m.scene.session.contexts m.scene.session.next_context
-    → AreNumbered (turn w line m).moment.scene.session.contexts (turn w line m).moment.scene.session.next_context × CountsHooks m.scene (turn w line m).moment.scene (turn w line m).events
+pub usual_turn_counts_hooks : (w : Option ℕ) (line : Option Command) (m : Moment) → IsUsualLine line → IsNumbered m.scene
+    → IsNumbered (turn w line m).moment.scene × CountsHooks m.scene (turn w line m).moment.scene (turn w line m).events
 unfolding turn
 usual_turn_counts_hooks w line m u k =
     let done : Done = does_all w (line_elements line m.scene.session) m in
     turn_of_counts m.scene done done.refusal (usual_line_counts w line m u k)
 
 -- The end of a session counts hooks.
-pub exited_counts_hooks : (scene : Scene) → AreNumbered scene.session.contexts scene.session.next_context → CountsHooks scene (exited scene).scene (exited scene).events
+pub exited_counts_hooks : (scene : Scene) → IsNumbered scene → CountsHooks scene (exited scene).scene (exited scene).events
 exited_counts_hooks scene k = (exited_counts scene k).hooks

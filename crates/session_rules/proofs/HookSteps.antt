@@ -30,7 +30,7 @@ use Rattle.session_rules.specs.World.{Scene}
 use Rattle.session_rules.specs.Acts.{Ended, behind, children_gone, context_cleared, context_cleared_alone, context_gone}
 use Rattle.session_rules.specs.Parts.{context_moved}
 use Rattle.session_rules.specs.Taking.{hook_waits}
-use Rattle.session_rules.specs.HookCounts.{AreCounted, CountsHooks, runs_of}
+use Rattle.session_rules.specs.HookCounts.{HookCount, CountsHooks, runs_of}
 use Rattle.session_rules.proofs.Forests.{has_put_other, once_emptied, once_left, times_emptied}
 use Rattle.session_rules.proofs.Sums.{sum_changed, sum_put, sum_same}
 use Rattle.session_rules.proofs.HookSums.{Parts, Runs, both_run, callbacks_both, hooks_ran, is_of_hooks, more_runs, none_run, of_context, parts_alone, parts_children, parts_cleared, parts_gone, registered_both, runs_ran, sum_waiting}
@@ -40,8 +40,12 @@ pub record AreNumbered (contexts : Contexts) (next : ℕ) : Type 0 where
   pub once : Once contexts
   pub below : (n : ℕ) → has n contexts ≡ true → n < next
 
+-- those of a scene
+abbrev pub IsNumbered : Scene → Type 0
+IsNumbered scene = AreNumbered scene.session.contexts scene.session.next_context
+
 -- hooks that are as they were, while nothing is said of hooks
-pub counted_same : {all used : List Hook} {events : List What} → Runs [] events → AreCounted all used all used events
+pub counted_same : {all used : List Hook} {events : List What} → Runs [] events → HookCount all used all used events
 counted_same {all = all} {used = used} h = record {
   runs = λ n. omega (arith, h.callbacks n);
   taken = λ n. omega (arith, h.others n);
@@ -50,11 +54,11 @@ counted_same {all = all} {used = used} h = record {
 
 -- what an act makes of a scene: the contexts are numbered still, and the hooks are counted
 pub record Counted (scene : Scene) (ended : Ended) : Type 0 where
-  pub numbered : AreNumbered ended.scene.session.contexts ended.scene.session.next_context
+  pub numbered : IsNumbered ended.scene
   pub hooks : CountsHooks scene ended.scene ended.events
 
 -- one stretch and then another
-pub counted_on : {a x b y c z : List Hook} {es fs : List What} → AreCounted a x b y es → AreCounted b y c z fs → AreCounted a x c z (es ++ fs)
+pub counted_on : {a x b y c z : List Hook} {es fs : List What} → HookCount a x b y es → HookCount b y c z fs → HookCount a x c z (es ++ fs)
 counted_on {es = es} {fs = fs} h k = record {
   runs = λ n. omega (arith, h.runs n, k.runs n, callbacks_both n es fs);
   taken = λ n. omega (arith, h.taken n, k.taken n, registered_both n es fs);
@@ -66,7 +70,7 @@ counted_both h k = record { numbered = k.numbered; hooks = counted_on h.hooks k.
 
 -- contexts end, and their hooks are handed in
 counted_ended : (t : Contexts) (x : ShelfState) (e : ends.Ended) → Parts t e
-    → AreCounted (waiting t ++ held x) (waiting t ++ x.spent) (waiting e.contexts ++ held (handed_in e.hooks x)) (waiting e.contexts ++ (handed_in e.hooks x).spent) e.events
+    → HookCount (waiting t ++ held x) (waiting t ++ x.spent) (waiting e.contexts ++ held (handed_in e.hooks x)) (waiting e.contexts ++ (handed_in e.hooks x).spent) e.events
 counted_ended t x e h =
     let ran_hooks : List Hook = map ran e.hooks in
     record {
@@ -133,25 +137,25 @@ numbered_alone n t next k = go (at n t)
     go (Some c) = by_use c c.used refl
 
 -- contexts that go or are reset
-pub counted_gone : (n : ℕ) (s : Scene) → AreNumbered s.session.contexts s.session.next_context → Counted s (context_gone n s)
+pub counted_gone : (n : ℕ) (s : Scene) → IsNumbered s → Counted s (context_gone n s)
 counted_gone n s k = record {
   numbered = numbered_gone n s.session.contexts s.session.next_context k;
   hooks = counted_ended s.session.contexts s.around.shelf (gone n s.session.contexts) (parts_gone n s.session.contexts k.once);
 }
 
-pub counted_children : (n : ℕ) (s : Scene) → AreNumbered s.session.contexts s.session.next_context → Counted s (children_gone n s)
+pub counted_children : (n : ℕ) (s : Scene) → IsNumbered s → Counted s (children_gone n s)
 counted_children n s k = record {
   numbered = numbered_children n s.session.contexts s.session.next_context k;
   hooks = counted_ended s.session.contexts s.around.shelf (ends.children_gone n s.session.contexts) (parts_children n s.session.contexts k.once);
 }
 
-pub counted_alone : (n : ℕ) (s : Scene) → AreNumbered s.session.contexts s.session.next_context → Counted s (context_cleared_alone n s)
+pub counted_alone : (n : ℕ) (s : Scene) → IsNumbered s → Counted s (context_cleared_alone n s)
 counted_alone n s k = record {
   numbered = numbered_alone n s.session.contexts s.session.next_context k;
   hooks = counted_ended s.session.contexts s.around.shelf (cleared_alone n s.session.contexts) (parts_alone n s.session.contexts k.once);
 }
 
-pub counted_cleared : (n : ℕ) (s : Scene) → AreNumbered s.session.contexts s.session.next_context → Counted s (context_cleared n s)
+pub counted_cleared : (n : ℕ) (s : Scene) → IsNumbered s → Counted s (context_cleared n s)
 counted_cleared n s k = record {
   numbered = numbered_alone n (with_children n Empty s.session.contexts) s.session.next_context (numbered_children n s.session.contexts s.session.next_context k);
   hooks = counted_ended s.session.contexts s.around.shelf (cleared n s.session.contexts) (parts_cleared n s.session.contexts k.once);
@@ -159,7 +163,7 @@ counted_cleared n s k = record {
 
 -- contexts that hold the hooks that they held
 pub counted_kept : (t u : Contexts) (x : ShelfState) {events : List What} → Runs [] events → ((g : Hook → ℕ) → sum_by g (waiting u) ≡ sum_by g (waiting t))
-    → AreCounted (waiting t ++ held x) (waiting t ++ x.spent) (waiting u ++ held x) (waiting u ++ x.spent) events
+    → HookCount (waiting t ++ held x) (waiting t ++ x.spent) (waiting u ++ held x) (waiting u ++ x.spent) events
 counted_kept t u x h same = record {
   runs = λ n.
       let g : Hook → ℕ = λ hook. if hook.word == n then hook.runs else 0 in
@@ -202,7 +206,7 @@ numbered_put p n c t k = elim (cases_Bool (has p t)) [
 ]
 
 pub counted_put : (p n : ℕ) (c : Context) (t : Contexts) (x : ShelfState) {events : List What} → AreNumbered t n → c.hooks ≡ [] → Runs [] events
-    → AreCounted (waiting t ++ held x) (waiting t ++ x.spent) (waiting (put p n c Empty t) ++ held x) (waiting (put p n c Empty t) ++ x.spent) events
+    → HookCount (waiting t ++ held x) (waiting t ++ x.spent) (waiting (put p n c Empty t) ++ held x) (waiting (put p n c Empty t) ++ x.spent) events
 counted_put p n c t x k none h = counted_kept t (put p n c Empty t) x h (λ g. waiting_put g p n c t k.once none)
 
 -- a context moves
@@ -210,7 +214,7 @@ still_moves : (b : Bool) (n p : ℕ) → Runs [] (move_events b n p)
 still_moves true n p = none_run
 still_moves false n p = more_runs (what.Move n p) refl none_run
 
-pub counted_moved : (n p : ℕ) (s : Scene) → AreNumbered s.session.contexts s.session.next_context → has n s.session.contexts ≡ true → has p s.session.contexts ≡ true → is_within n p s.session.contexts ≡ false
+pub counted_moved : (n p : ℕ) (s : Scene) → IsNumbered s → has n s.session.contexts ≡ true → has p s.session.contexts ≡ true → is_within n p s.session.contexts ≡ false
     → Counted s (context_moved n p s)
 counted_moved n p s k node there out = go (is_child n p s.session.contexts)
   where
@@ -237,7 +241,7 @@ counted_moved n p s k node there out = go (is_child n p s.session.contexts)
 
 -- a hook of the shelf is registered with a context that is there
 counted_waits : (n : ℕ) (f : Context → Context) (hook : Hook) (c : Context) (t : Contexts) (x : ShelfState) (fresh : List Hook) → Once t → at n t ≡ Some c → (f c).hooks ≡ hook ∷ c.hooks → x.fresh ≡ hook ∷ fresh
-    → AreCounted (waiting t ++ held x) (waiting t ++ x.spent) (waiting (changed n f t) ++ (drop 1 x.fresh ++ x.spent)) (waiting (changed n f t) ++ x.spent) (what.Hook hook.word n ∷ [])
+    → HookCount (waiting t ++ held x) (waiting t ++ x.spent) (waiting (changed n f t) ++ (drop 1 x.fresh ++ x.spent)) (waiting (changed n f t) ++ x.spent) (what.Hook hook.word n ∷ [])
 counted_waits n f hook c t x fresh o there more is =
     let u : Contexts = changed n f t in
     let sums : (g : Hook → ℕ) → sum_by g (waiting u) ≡ sum_by g (waiting t) + g hook =
@@ -281,7 +285,7 @@ counted_waits n f hook c t x fresh o there more is =
           );
     }
 
-pub counted_hook : (n : ℕ) (hook : Hook) (s : Scene) → AreNumbered s.session.contexts s.session.next_context → has n s.session.contexts ≡ true → first_of s.around.shelf.fresh ≡ Some hook → Counted s (hook_waits n hook s)
+pub counted_hook : (n : ℕ) (hook : Hook) (s : Scene) → IsNumbered s → has n s.session.contexts ≡ true → first_of s.around.shelf.fresh ≡ Some hook → Counted s (hook_waits n hook s)
 counted_hook n hook s k there first = go s.around.shelf.fresh refl
   where
     go : (fresh : List Hook) → s.around.shelf.fresh ≡ fresh → Counted s (hook_waits n hook s)

@@ -41,11 +41,11 @@ used_hooks scene = waiting scene.session.contexts ++ scene.around.shelf.spent
 -- What events say of hooks, all of them and those that aren't fresh, before and behind: each has run as often more as
 -- callbacks of its word are said, where a count at the end of its type stands still; as many are no longer fresh as are
 -- said to be registered; and none comes or goes.
-pub record AreCounted (all used all_behind used_behind : List Hook) (events : List What) : Type 0 where
+pub record HookCount (all used all_behind used_behind : List Hook) (events : List What) : Type 0 where
   pub runs : (n : ℕ) → min (runs_of n all_behind) (2 ^ 64 - 1) ≡ min (runs_of n all + callbacks_of n events) (2 ^ 64 - 1)
   pub taken : (n : ℕ) → hooks_of n used_behind ≡ hooks_of n used + registered_of n events
   pub whole : (n : ℕ) → hooks_of n all_behind ≡ hooks_of n all
 
 -- the same of the hooks of two scenes, the second behind the first
 abbrev pub CountsHooks : Scene → Scene → List What → Type 0
-CountsHooks before behind events = AreCounted (all_hooks before) (used_hooks before) (all_hooks behind) (used_hooks behind) events
+CountsHooks before behind events = HookCount (all_hooks before) (used_hooks before) (all_hooks behind) (used_hooks behind) events
