@@ -65,6 +65,20 @@ counted_on {es = es} {fs = fs} h k = record {
   whole = λ n. omega (arith, h.whole n, k.whole n);
 }
 
+-- other hooks that stay as they are, as those that wait in other sessions
+pub counted_beside : (others : List Hook) {a x b y : List Hook} {es : List What} → HookCount a x b y es → HookCount (others ++ a) (others ++ x) (others ++ b) (others ++ y) es
+counted_beside others {a = a} {x = x} {b = b} {y = y} h = record {
+  runs = λ n.
+      let g : Hook → ℕ = λ hook. if hook.word == n then hook.runs else 0 in
+      omega (arith, h.runs n, sum_by-append g others a, sum_by-append g others b);
+  taken = λ n.
+      let g : Hook → ℕ = λ hook. cond (hook.word == n) 1 0 in
+      omega (arith, h.taken n, sum_by-append g others x, sum_by-append g others y);
+  whole = λ n.
+      let g : Hook → ℕ = λ hook. cond (hook.word == n) 1 0 in
+      omega (arith, h.whole n, sum_by-append g others a, sum_by-append g others b);
+}
+
 pub counted_both : {scene : Scene} {first next : Ended} → Counted scene first → Counted first.scene next → Counted scene (behind first.events next)
 counted_both h k = record { numbered = k.numbered; hooks = counted_on h.hooks k.hooks }
 
