@@ -6,12 +6,18 @@ use Rattle.std.specs.declared.alloc.AllocError.{AllocError}
 use Rattle.reset_callbacks.specs.ShelfState.{ShelfState}
 use Rattle.pgscript_cli.specs.Program.{fresh_hooks, the_shelf}
 
-pub one_more : (first n : ℕ) → fresh_hooks first (suc n) ≡ fresh_hooks first n ++ record { word = first + n; runs = 0 } ∷ []
+one_more : (first n : ℕ) → fresh_hooks first (suc n) ≡ fresh_hooks first n ++ record { word = first + n; runs = 0 } ∷ []
 one_more first zero = let same : first ≡ first + 0 = omega arith in ap (λ (word : ℕ). record { word = word; runs = 0 } ∷ []) same
 one_more first (suc n) =
     let same : first + 1 + n ≡ first + suc n = omega arith in
     ap (λ (hooks : List Hook). record { word = first; runs = 0 } ∷ hooks)
     (one_more (first + 1) n ∙ ap (λ (word : ℕ). fresh_hooks (first + 1) n ++ record { word = word; runs = 0 } ∷ []) same)
+
+pub next_hook : (n : ℕ) → fresh_hooks 1 (n + 1) ≡ fresh_hooks 1 n ++ record { word = n + 1; runs = 0 } ∷ []
+next_hook n =
+    let up : n + 1 ≡ suc n = omega arith in
+    let word : 1 + n ≡ n + 1 = omega arith in
+    ap (fresh_hooks 1) up ∙ one_more 1 n ∙ ap (λ (w : ℕ). fresh_hooks 1 n ++ record { word = w; runs = 0 } ∷ []) word
 
 all_above : (word first n : ℕ) → word < first → IsBelow word (fresh_hooks first n)
 all_above word first zero h = All-nil (λ other. word < other.word)

@@ -27,3 +27,12 @@ pub mod CalmEnds
 pub mod CalmElements
 pub mod Calm
 pub mod Asking
+pub mod HookSums
+pub mod HookSteps
+pub mod HookActs
+pub mod HookEnds
+pub mod HookChunks
+pub mod HookElements
+pub mod HookCommands
+pub mod HookLaws
+pub mod HookExamples

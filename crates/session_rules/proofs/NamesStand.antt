@@ -112,7 +112,7 @@ no_error : (o : Option TreeError) → option_map tree_error o ≡ None → o ≡
 no_error None e = refl
 no_error (Some x) e = let z : Some (tree_error x) ≡ None = e in absurd (cc z)
 
-both_none : (a b : Bool) (x y : TreeError) → refusals.first_of (refusals.where_so a x) (refusals.where_so b y) ≡ None → (a ≡ false) × (b ≡ false)
+pub both_none : (a b : Bool) (x y : TreeError) → refusals.first_of (refusals.where_so a x) (refusals.where_so b y) ≡ None → (a ≡ false) × (b ≡ false)
 both_none true b x y e = absurd (cc e)
 both_none false true x y e = absurd (cc e)
 both_none false false x y e = (refl, refl)
@@ -121,7 +121,7 @@ one_none : (a : Bool) (x : TreeError) → refusals.where_so a x ≡ None → a �
 one_none true x e = absurd (cc e)
 one_none false x e = refl
 
-checked : (name : Text) (s : SessionState) (refusal : ℕ → Option TreeError) (n : ℕ) → context_named name s ≡ Some n → refusal_at name s refusal ≡ None → refusal n ≡ None
+pub checked : (name : Text) (s : SessionState) (refusal : ℕ → Option TreeError) (n : ℕ) → context_named name s ≡ Some n → refusal_at name s refusal ≡ None → refusal n ≡ None
 checked name s refusal n is e =
     no_error (refusal n) (ap (λ (o : Option ℕ). option_map tree_error (option_and_then refusal o)) (sym is) ∙ e)
 

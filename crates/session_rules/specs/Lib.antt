@@ -21,3 +21,4 @@ pub mod Asked
 pub mod Modes
 pub mod Guarded
 pub mod Standing
+pub mod HookCounts

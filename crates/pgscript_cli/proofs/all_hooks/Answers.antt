@@ -1,11 +1,11 @@
 use Rattle.std.proofs.Common.{◌≡◌, ◌∙◌, ℕ, refl, sym, ap, subst, arith}
 use Rattle.reset_callbacks.specs.Hook.{AreRising}
 use Rattle.pgscript_cli.specs.Program.{fresh_hooks}
-use Rattle.pgscript_cli.proofs.HookLemmas.{map_self, one_more, shelf_is, words_rise}
+use Rattle.pgscript_cli.proofs.HookLemmas.{map_self, next_hook, shelf_is, words_rise}
 use Rattle.pgscript_cli.proofs.all_hooks.Goals as goal
 
 pub loop-below-preserved : goal.loop-below-preserved
-loop-below-preserved c = c.in_ok-push.ensures.items ∙ rw (c.loop-below.invariant, c.new.ensures) (sym (one_more 1 c.loop-below.below))
+loop-below-preserved c = c.in_ok-push.ensures.items ∙ rw (c.loop-below.invariant, c.new.ensures) (sym (next_hook c.loop-below.below))
 
 pub new-requires-2 : goal.new-requires-2
 new-requires-2 c = subst AreRising (sym (map_self c.loop-below.fresh.items ∙ c.loop-below.invariant)) (words_rise 1 c.loop-below.below)

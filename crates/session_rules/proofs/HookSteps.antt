@@ -1,0 +1,367 @@
+-- What became of a scene's hooks is counted: where contexts end, come and move, where a hook is registered, and where nothing becomes of them.
+use Rattle.std.proofs.Common.{◌≡◌, ℕ, ◌+◌, ◌<◌, Bool, true, false, cond, if◌then◌else◌, Option, Some, None, List, [], ◌∷◌, ◌++◌, map, flat_map, drop, refl, sym, ap, ◌∙◌, inl, inr, arith}
+use Rattle.std.specs.Prelude.{◌==◌, filter}
+use Rattle.std.specs.Option.{option_map_or}
+use Rattle.std.specs.List.{sum_by}
+use Rattle.std.proofs.lemmas.Bool.{cases_Bool, cases_eq, eq-eqb, both_ways, false_from_ne_true, or_parts}
+use Rattle.std.proofs.lemmas.List.Sums.{sum_by-append, sum_by-cons}
+use Rattle.pgs_step.specs.declared.events.What.{What}
+use Rattle.pgs_step.specs.declared.events.What.TheVariants as what
+use Rattle.forest.specs.Forest.{Empty, Node, has, times, Once, at, changed, is_above, moved, put, with_children}
+use Rattle.forest.proofs.Trees.{Moves, at_some, has_changed, has_of_removed, has_some, once_changed, once_put, put_absent, times_moved, times_some}
+use Rattle.forest.proofs.Moved.{sum_moved}
+use Rattle.reset_callbacks.specs.Hook.{Hook, ran}
+use Rattle.reset_callbacks.specs.ShelfState.{ShelfState, held}
+use Rattle.context_rules.specs.Contexts.{Context, Contexts, is_child, placed_under, move_events}
+use Rattle.context_rules.specs.Ends as ends
+use Rattle.context_rules.specs.Ends.{cleared, cleared_alone, emptied, gone, handed_in, waiting}
+use Rattle.context_rules.specs.Refusals.{is_within}
+use Rattle.lock_local.specs.Locks.{Lock, owner_count}
+use Rattle.lock_local.specs.Changes as locks
+use Rattle.file_table.specs.Descriptors.{is_among}
+use Rattle.file_table.specs.Files.{Files, given_events, loser, touch_events}
+use Rattle.snap_table.specs.declared.active.Active.{Active}
+use Rattle.snap_table.specs.Snapshots.{is_deep, pops}
+use Rattle.any_ctx.specs.Ledgers.{stats}
+use Rattle.context_report.specs.Lines.{last_of, line_of, no_total}
+use Rattle.context_rules.specs.Reports.{lines, report, summed}
+use Rattle.session_rules.specs.State.{first_of}
+use Rattle.session_rules.specs.World.{Scene}
+use Rattle.session_rules.specs.Acts.{Ended, behind, children_gone, context_cleared, context_cleared_alone, context_gone}
+use Rattle.session_rules.specs.Parts.{context_moved}
+use Rattle.session_rules.specs.Taking.{hook_waits}
+use Rattle.session_rules.specs.HookCounts.{HookCount, CountsHooks, runs_of}
+use Rattle.session_rules.proofs.Forests.{has_put_other, once_emptied, once_left, times_emptied}
+use Rattle.session_rules.proofs.Sums.{sum_changed, sum_put, sum_same}
+use Rattle.session_rules.proofs.HookSums.{Parts, Runs, both_run, callbacks_both, hooks_ran, is_of_hooks, more_runs, none_run, of_context, parts_alone, parts_children, parts_cleared, parts_gone, registered_both, runs_ran, sum_waiting}
+
+-- each number of a context stands once, and is below the next one
+pub record AreNumbered (contexts : Contexts) (next : ℕ) : Type 0 where
+  pub once : Once contexts
+  pub below : (n : ℕ) → has n contexts ≡ true → n < next
+
+-- those of a scene
+abbrev pub IsNumbered : Scene → Type 0
+IsNumbered scene = AreNumbered scene.session.contexts scene.session.next_context
+
+-- hooks that are as they were, while nothing is said of hooks
+pub counted_same : {all used : List Hook} {events : List What} → Runs [] events → HookCount all used all used events
+counted_same {all = all} {used = used} h = record {
+  runs = λ n. omega (arith, h.callbacks n);
+  taken = λ n. omega (arith, h.others n);
+  whole = λ n. refl;
+}
+
+-- what an act makes of a scene: the contexts are numbered still, and the hooks are counted
+pub record Counted (scene : Scene) (ended : Ended) : Type 0 where
+  pub numbered : IsNumbered ended.scene
+  pub hooks : CountsHooks scene ended.scene ended.events
+
+-- one stretch and then another
+pub counted_on : {a x b y c z : List Hook} {es fs : List What} → HookCount a x b y es → HookCount b y c z fs → HookCount a x c z (es ++ fs)
+counted_on {es = es} {fs = fs} h k = record {
+  runs = λ n. omega (arith, h.runs n, k.runs n, callbacks_both n es fs);
+  taken = λ n. omega (arith, h.taken n, k.taken n, registered_both n es fs);
+  whole = λ n. omega (arith, h.whole n, k.whole n);
+}
+
+-- other hooks that stay as they are, as those that wait in other sessions
+pub counted_beside : (others : List Hook) {a x b y : List Hook} {es : List What} → HookCount a x b y es → HookCount (others ++ a) (others ++ x) (others ++ b) (others ++ y) es
+counted_beside others {a = a} {x = x} {b = b} {y = y} h = record {
+  runs = λ n.
+      let g : Hook → ℕ = λ hook. if hook.word == n then hook.runs else 0 in
+      omega (arith, h.runs n, sum_by-append g others a, sum_by-append g others b);
+  taken = λ n.
+      let g : Hook → ℕ = λ hook. cond (hook.word == n) 1 0 in
+      omega (arith, h.taken n, sum_by-append g others x, sum_by-append g others y);
+  whole = λ n.
+      let g : Hook → ℕ = λ hook. cond (hook.word == n) 1 0 in
+      omega (arith, h.whole n, sum_by-append g others a, sum_by-append g others b);
+}
+
+pub counted_both : {scene : Scene} {first next : Ended} → Counted scene first → Counted first.scene next → Counted scene (behind first.events next)
+counted_both h k = record { numbered = k.numbered; hooks = counted_on h.hooks k.hooks }
+
+-- contexts end, and their hooks are handed in
+counted_ended : (t : Contexts) (x : ShelfState) (e : ends.Ended) → Parts t e
+    → HookCount (waiting t ++ held x) (waiting t ++ x.spent) (waiting e.contexts ++ held (handed_in e.hooks x)) (waiting e.contexts ++ (handed_in e.hooks x).spent) e.events
+counted_ended t x e h =
+    let ran_hooks : List Hook = map ran e.hooks in
+    record {
+      runs = λ n.
+          let g : Hook → ℕ = λ hook. if hook.word == n then hook.runs else 0 in
+          omega (
+            arith,
+            h.said.callbacks n,
+            h.sums g,
+            runs_ran n (runs_of n (waiting e.contexts) + (runs_of n x.fresh + runs_of n x.spent)) e.hooks,
+            sum_by-append g (waiting t) (held x),
+            sum_by-append g x.fresh x.spent,
+            sum_by-append g (waiting e.contexts) (held (handed_in e.hooks x)),
+            sum_by-append g x.fresh (x.spent ++ ran_hooks),
+            sum_by-append g x.spent ran_hooks,
+          );
+      taken = λ n.
+          let g : Hook → ℕ = λ hook. cond (hook.word == n) 1 0 in
+          omega (
+            arith,
+            h.said.others n,
+            h.sums g,
+            hooks_ran n e.hooks,
+            sum_by-append g (waiting t) x.spent,
+            sum_by-append g (waiting e.contexts) (x.spent ++ ran_hooks),
+            sum_by-append g x.spent ran_hooks,
+          );
+      whole = λ n.
+          let g : Hook → ℕ = λ hook. cond (hook.word == n) 1 0 in
+          omega (
+            arith,
+            h.sums g,
+            hooks_ran n e.hooks,
+            sum_by-append g (waiting t) (held x),
+            sum_by-append g x.fresh x.spent,
+            sum_by-append g (waiting e.contexts) (held (handed_in e.hooks x)),
+            sum_by-append g x.fresh (x.spent ++ ran_hooks),
+            sum_by-append g x.spent ran_hooks,
+          );
+    }
+
+-- numbers of contexts
+numbered_gone : (n : ℕ) (t : Contexts) (next : ℕ) → AreNumbered t next → AreNumbered (gone n t).contexts next
+numbered_gone n t next k = record { once = once_left n t k.once; below = λ m u. k.below m (has_of_removed m n t u) }
+
+numbered_children : (n : ℕ) (t : Contexts) (next : ℕ) → AreNumbered t next → AreNumbered (with_children n Empty t) next
+numbered_children n t next k = record {
+  once = once_emptied n t k.once;
+  below = λ m u. k.below m (has_some m t (omega (arith, times_emptied m n t k.once, times_some m (with_children n Empty t) u)));
+}
+
+pub numbered_changed : (n : ℕ) (f : Context → Context) (t : Contexts) (next : ℕ) → AreNumbered t next → AreNumbered (changed n f t) next
+numbered_changed n f t next k = record { once = once_changed n f t k.once; below = λ m u. k.below m (sym (has_changed m n f t) ∙ u) }
+
+numbered_alone : (n : ℕ) (t : Contexts) (next : ℕ) → AreNumbered t next → AreNumbered (cleared_alone n t).contexts next
+numbered_alone n t next k = go (at n t)
+  where
+    by_use : (c : Context) (b : Bool) → c.used ≡ b → AreNumbered (ends.reset_of n t c).contexts next
+    by_use c true u = rw u (numbered_changed n emptied t next k)
+    by_use c false u = rw u k
+
+    go : (x : Option Context) → AreNumbered (option_map_or (ends.reset_of n t) x (ends.unchanged t)).contexts next
+    go None = k
+    go (Some c) = by_use c c.used refl
+
+-- contexts that go or are reset
+pub counted_gone : (n : ℕ) (s : Scene) → IsNumbered s → Counted s (context_gone n s)
+counted_gone n s k = record {
+  numbered = numbered_gone n s.session.contexts s.session.next_context k;
+  hooks = counted_ended s.session.contexts s.around.shelf (gone n s.session.contexts) (parts_gone n s.session.contexts k.once);
+}
+
+pub counted_children : (n : ℕ) (s : Scene) → IsNumbered s → Counted s (children_gone n s)
+counted_children n s k = record {
+  numbered = numbered_children n s.session.contexts s.session.next_context k;
+  hooks = counted_ended s.session.contexts s.around.shelf (ends.children_gone n s.session.contexts) (parts_children n s.session.contexts k.once);
+}
+
+pub counted_alone : (n : ℕ) (s : Scene) → IsNumbered s → Counted s (context_cleared_alone n s)
+counted_alone n s k = record {
+  numbered = numbered_alone n s.session.contexts s.session.next_context k;
+  hooks = counted_ended s.session.contexts s.around.shelf (cleared_alone n s.session.contexts) (parts_alone n s.session.contexts k.once);
+}
+
+pub counted_cleared : (n : ℕ) (s : Scene) → IsNumbered s → Counted s (context_cleared n s)
+counted_cleared n s k = record {
+  numbered = numbered_alone n (with_children n Empty s.session.contexts) s.session.next_context (numbered_children n s.session.contexts s.session.next_context k);
+  hooks = counted_ended s.session.contexts s.around.shelf (cleared n s.session.contexts) (parts_cleared n s.session.contexts k.once);
+}
+
+-- contexts that hold the hooks that they held
+pub counted_kept : (t u : Contexts) (x : ShelfState) {events : List What} → Runs [] events → ((g : Hook → ℕ) → sum_by g (waiting u) ≡ sum_by g (waiting t))
+    → HookCount (waiting t ++ held x) (waiting t ++ x.spent) (waiting u ++ held x) (waiting u ++ x.spent) events
+counted_kept t u x h same = record {
+  runs = λ n.
+      let g : Hook → ℕ = λ hook. if hook.word == n then hook.runs else 0 in
+      omega (arith, h.callbacks n, same g, sum_by-append g (waiting t) (held x), sum_by-append g (waiting u) (held x));
+  taken = λ n.
+      let g : Hook → ℕ = λ hook. cond (hook.word == n) 1 0 in
+      omega (arith, h.others n, same g, sum_by-append g (waiting t) x.spent, sum_by-append g (waiting u) x.spent);
+  whole = λ n.
+      let g : Hook → ℕ = λ hook. cond (hook.word == n) 1 0 in
+      omega (arith, same g, sum_by-append g (waiting t) (held x), sum_by-append g (waiting u) (held x));
+}
+
+pub waiting_changed : (g : Hook → ℕ) (n : ℕ) (f : Context → Context) (t : Contexts) → ((c : Context) → (f c).hooks ≡ c.hooks) → sum_by g (waiting (changed n f t)) ≡ sum_by g (waiting t)
+waiting_changed g n f t same =
+    omega (arith, sum_waiting g t, sum_waiting g (changed n f t), sum_same (of_context g) n f t (λ c. ap (sum_by g) (same c)))
+
+-- a context is made
+waiting_put : (g : Hook → ℕ) (p n : ℕ) (c : Context) (t : Contexts) → Once t → c.hooks ≡ [] → sum_by g (waiting (put p n c Empty t)) ≡ sum_by g (waiting t)
+waiting_put g p n c t o none = elim (cases_Bool (has p t)) [
+  | inl y ↦ omega (
+    arith,
+    sum_waiting g t,
+    sum_waiting g (put p n c Empty t),
+    sum_put (of_context g) p n c Empty t o y,
+    ap (sum_by g) none,
+  )
+  | inr y ↦ rw (put_absent p n c Empty t y) refl
+]
+
+pub numbered_put : (p n : ℕ) (c : Context) (t : Contexts) → AreNumbered t n → AreNumbered (put p n c Empty t) (n + 1)
+numbered_put p n c t k = elim (cases_Bool (has p t)) [
+  | inl y ↦ record {
+    once = once_put p n c t k.once y (false_from_ne_true (has n t) (λ e. omega (arith, k.below n e)));
+    below = λ m u. elim (cases_eq m n) [
+      | inl e ↦ omega (arith, e)
+      | inr ne ↦ omega (arith, k.below m (sym (has_put_other m p n c Empty t ne refl) ∙ u))
+    ];
+  }
+  | inr y ↦ rw (put_absent p n c Empty t y) (record { once = k.once; below = λ m u. omega (arith, k.below m u) })
+]
+
+pub counted_put : (p n : ℕ) (c : Context) (t : Contexts) (x : ShelfState) {events : List What} → AreNumbered t n → c.hooks ≡ [] → Runs [] events
+    → HookCount (waiting t ++ held x) (waiting t ++ x.spent) (waiting (put p n c Empty t) ++ held x) (waiting (put p n c Empty t) ++ x.spent) events
+counted_put p n c t x k none h = counted_kept t (put p n c Empty t) x h (λ g. waiting_put g p n c t k.once none)
+
+-- a context moves
+still_moves : (b : Bool) (n p : ℕ) → Runs [] (move_events b n p)
+still_moves true n p = none_run
+still_moves false n p = more_runs (what.Move n p) refl none_run
+
+pub counted_moved : (n p : ℕ) (s : Scene) → IsNumbered s → has n s.session.contexts ≡ true → has p s.session.contexts ≡ true → is_within n p s.session.contexts ≡ false
+    → Counted s (context_moved n p s)
+counted_moved n p s k node there out = go (is_child n p s.session.contexts)
+  where
+    moves : Moves n p s.session.contexts
+    moves =
+        let w = or_parts (p == n) (is_above n p s.session.contexts) out in
+        record { node = node; parent = there; other = λ e. both_ways (p == n) w.0 (eq-eqb p n e); apart = w.1 }
+
+    go : (b : Bool) → Counted s (record {
+      scene = record s { session = record s.session { contexts = placed_under b n p s.session.contexts } };
+      events = move_events b n p;
+    })
+    go true = record { numbered = k; hooks = counted_same (still_moves true n p) }
+    go false =
+        let times_same : (m : ℕ) → times m (moved n p s.session.contexts) ≡ times m s.session.contexts = λ m. let a = at_some n s.session.contexts node in rw a.1 (times_moved m n p a.0 s.session.contexts k.once moves) in
+        record {
+          numbered = record {
+            once = record { once = λ m. omega (arith, times_same m, k.once.once m) };
+            below = λ m u. k.below m (has_some m s.session.contexts (omega (arith, times_same m, times_some m (moved n p s.session.contexts) u)));
+          };
+          hooks = counted_kept s.session.contexts (moved n p s.session.contexts) s.around.shelf (still_moves false n p)
+              (λ g. omega (arith, sum_waiting g s.session.contexts, sum_waiting g (moved n p s.session.contexts), sum_moved (of_context g) n p s.session.contexts k.once moves));
+        }
+
+-- a hook of the shelf is registered with a context that is there
+counted_waits : (n : ℕ) (f : Context → Context) (hook : Hook) (c : Context) (t : Contexts) (x : ShelfState) (fresh : List Hook) → Once t → at n t ≡ Some c → (f c).hooks ≡ hook ∷ c.hooks → x.fresh ≡ hook ∷ fresh
+    → HookCount (waiting t ++ held x) (waiting t ++ x.spent) (waiting (changed n f t) ++ (drop 1 x.fresh ++ x.spent)) (waiting (changed n f t) ++ x.spent) (what.Hook hook.word n ∷ [])
+counted_waits n f hook c t x fresh o there more is =
+    let u : Contexts = changed n f t in
+    let sums : (g : Hook → ℕ) → sum_by g (waiting u) ≡ sum_by g (waiting t) + g hook =
+    λ g. omega (
+      arith,
+      sum_waiting g t,
+      sum_waiting g u,
+      sum_changed (of_context g) n f c t o there,
+      ap (sum_by g) more,
+      sum_by-cons g hook c.hooks,
+    ) in
+    let had : (g : Hook → ℕ) → sum_by g x.fresh ≡ g hook + sum_by g fresh = λ g. ap (sum_by g) is ∙ sum_by-cons g hook fresh in
+    let left : (g : Hook → ℕ) → sum_by g (drop 1 x.fresh) ≡ sum_by g fresh = λ g. ap (λ (hooks : List Hook). sum_by g (drop 1 hooks)) is in
+    record {
+      runs = λ n.
+          let g : Hook → ℕ = λ hook. if hook.word == n then hook.runs else 0 in
+          omega (
+            arith,
+            sums g,
+            had g,
+            left g,
+            sum_by-append g (waiting t) (held x),
+            sum_by-append g x.fresh x.spent,
+            sum_by-append g (waiting u) (drop 1 x.fresh ++ x.spent),
+            sum_by-append g (drop 1 x.fresh) x.spent,
+          );
+      taken = λ n.
+          let g : Hook → ℕ = λ hook. cond (hook.word == n) 1 0 in
+          omega (arith, sums g, sum_by-append g (waiting t) x.spent, sum_by-append g (waiting u) x.spent);
+      whole = λ n.
+          let g : Hook → ℕ = λ hook. cond (hook.word == n) 1 0 in
+          omega (
+            arith,
+            sums g,
+            had g,
+            left g,
+            sum_by-append g (waiting t) (held x),
+            sum_by-append g x.fresh x.spent,
+            sum_by-append g (waiting u) (drop 1 x.fresh ++ x.spent),
+            sum_by-append g (drop 1 x.fresh) x.spent,
+          );
+    }
+
+pub counted_hook : (n : ℕ) (hook : Hook) (s : Scene) → IsNumbered s → has n s.session.contexts ≡ true → first_of s.around.shelf.fresh ≡ Some hook → Counted s (hook_waits n hook s)
+counted_hook n hook s k there first = go s.around.shelf.fresh refl
+  where
+    go : (fresh : List Hook) → s.around.shelf.fresh ≡ fresh → Counted s (hook_waits n hook s)
+    go [] e = let z : None ≡ Some hook = ap first_of (sym e) ∙ first in absurd (cc z)
+    go (y ∷ ys) e =
+        let z : Some y ≡ Some hook = ap first_of (sym e) ∙ first in
+        let same : y ≡ hook = cc z in
+        let f : Context → Context = λ c. record c { used = true; hooks = hook ∷ c.hooks } in
+        let a = at_some n s.session.contexts there in
+        record {
+          numbered = numbered_changed n f s.session.contexts s.session.next_context k;
+          hooks = counted_waits n f hook a.0 s.session.contexts s.around.shelf ys k.once a.1 refl (e ∙ ap (λ (h : Hook). h ∷ ys) same);
+        }
+
+-- events of lists that say nothing of hooks
+pub still_one : (event : What) → is_of_hooks event ≡ false → Runs [] (event ∷ [])
+still_one event h = more_runs event h none_run
+
+pub still_map : {A : Type 0} (f : A → What) → ((a : A) → is_of_hooks (f a) ≡ false) → (xs : List A) → Runs [] (map f xs)
+still_map f h [] = none_run
+still_map f h (x ∷ xs) = more_runs (f x) (h x) (still_map f h xs)
+
+pub still_flat : {A : Type 0} (f : A → List What) → ((a : A) → Runs [] (f a)) → (xs : List A) → Runs [] (flat_map f xs)
+still_flat f h [] = none_run
+still_flat f h (x ∷ xs) = both_run (h x) (still_flat f h xs)
+
+pub still_if : (b : Bool) {xs ys : List What} → Runs [] xs → Runs [] ys → Runs [] (if b then xs else ys)
+still_if true h k = h
+still_if false h k = k
+
+-- locks
+pub still_lock_releases : (owner : ℕ) (all : List Lock) → Runs [] (locks.releases owner all)
+still_lock_releases owner all =
+    still_flat (locks.release_of owner)
+    (λ lock. still_if (owner_count owner lock == 0) none_run (still_one (what.ReleaseLock lock.object lock.mode (owner_count owner lock) owner) refl))
+    all
+
+pub still_lock_passes : (from to : ℕ) (all : List Lock) → Runs [] (locks.passes from to all)
+still_lock_passes from to all =
+    still_flat (locks.pass_of from to)
+    (λ lock. still_if (owner_count from lock == 0) none_run (still_one (what.PassLock lock.object lock.mode (owner_count from lock) from to) refl))
+    all
+
+pub still_all_locks : (top : ℕ) (all : List Lock) → Runs [] (locks.releases_of_all top all)
+still_all_locks top all = still_map (locks.release_whole top) (λ lock. refl) all
+
+-- files and active snapshots
+still_given : (o : Option ℕ) (file : ℕ) → Runs [] (given_events o file)
+still_given None file = still_one (what.DescriptorOpened file) refl
+still_given (Some closed) file = more_runs (what.DescriptorClosed closed) refl (still_one (what.DescriptorOpened file) refl)
+
+pub still_touch : (file : ℕ) (files : Files) → Runs [] (touch_events file files)
+still_touch file files = still_if (is_among file files.recent) none_run (still_given (loser files) file)
+
+pub still_pops : (level : ℕ) (stack : List Active) → Runs [] (pops level stack)
+still_pops level stack = still_map (λ (entry : Active). what.Pop entry.snapshot) (λ entry. refl) (filter (is_deep level) stack)
+
+-- a report
+still_lines : (depth : ℕ) (t : Contexts) → Runs [] (lines depth t)
+still_lines depth Empty = none_run
+still_lines depth (Node n c below beside) =
+    more_runs (line_of depth n c.name (stats c.ledger)) refl (both_run (still_lines (depth + 1) below) (still_lines depth beside))
+
+pub still_report : (t : Contexts) → Runs [] (report t)
+still_report t = both_run (still_lines 0 t) (still_one (last_of (summed no_total t)) refl)
