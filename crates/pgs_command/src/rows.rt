@@ -2,7 +2,7 @@
 ghost use Rattle.std.specs.Prelude.{◌≡◌, None, Some, codes, IfSome};
 ghost use Rattle.std.specs.Option.{option_or, option_map, option_copied};
 ghost use Rattle.pgs_command.specs.Words.{words_of, words_in, alone, only, behind};
-ghost use Rattle.pgs_command.specs.Table.{look_up, transaction_rows, context_rows, chunk_rows, resource_rows, query_rows, none, one, three, four, with_kind, portal, portal_with_bad, command_of};
+ghost use Rattle.pgs_command.specs.Table.{look_up, table, transaction_rows, context_rows, chunk_rows, resource_rows, query_rows, none, one, three, four, with_kind, portal, portal_with_bad, command_of};
 ghost use Rattle.pgs_command.specs.Ranges.{IsInRange};
 ghost use Rattle.pgs_command.specs.Values.{name_of, number_of, bytes_of, length_of, count_of, kind_of};
 ghost use Rattle.pgs_command.specs.declared.commands.Command.TheVariants.{Rollback, RollbackTo, Put, Show, Portal};
@@ -197,15 +197,30 @@ fn read_bad(mut words: Words<'_>) -> Option<Option<u32>>
     }
 }
 
+/// The command of a line's words, the first of which is `word`, where it is in the table.
+fn read_listed(word: &[u8], rest: Option<&[u8]>) -> Option<Command>
+    ensures { result ≡ look_up table word.now (words_in (option_copied rest.entry)) }
+{
+    if let Some(command) = read_transaction(word, rest) {
+        return Some(command);
+    }
+    if let Some(command) = read_context(word, rest) {
+        return Some(command);
+    }
+    if let Some(command) = read_chunk(word, rest) {
+        return Some(command);
+    }
+    if let Some(command) = read_resource(word, rest) {
+        return Some(command);
+    }
+    read_query(word, rest)
+}
+
 /// The command of a text, where it is in the table.
 pub(crate) fn read_command(text: &[u8]) -> Option<Command>
     ensures value { result ≡ command_of (words_of text.now) }
     ensures in_range { IfSome result (λ command. IsInRange command) }
 {
     let (word, rest) = split_word(text);
-    read_transaction(word, rest)
-        .or(read_context(word, rest))
-        .or(read_chunk(word, rest))
-        .or(read_resource(word, rest))
-        .or(read_query(word, rest))
+    read_listed(word, rest)
 }

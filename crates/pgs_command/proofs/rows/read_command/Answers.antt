@@ -1,27 +1,14 @@
-use Rattle.std.proofs.Common.{◌++◌, IfSome, subst, sym}
+use Rattle.std.proofs.Common.{IfSome, subst, sym}
 use Rattle.std.specs.Option.{option_copied}
 use Rattle.pgs_command.specs.Words.{words_in, words_of}
 use Rattle.pgs_command.specs.Ranges.{IsInRange}
 use Rattle.pgs_command.proofs.RangeLemmas.{command_of-in_range}
-use Rattle.pgs_command.specs.Table.{transaction_rows, context_rows, chunk_rows, resource_rows, query_rows}
-use Rattle.pgs_command.proofs.TableLemmas.{or_further, command_of-table}
+use Rattle.pgs_command.proofs.TableLemmas.{command_of-table}
 use Rattle.pgs_command.proofs.rows.read_command.Goals as goal
 
-command_told : goal.returns-clause-value
-command_told c =
-    let word = c.split_word.result.0.now in
-    let words = words_in (option_copied c.split_word.result.1) in
-    command_of-table c.args.text.now word words _ c.split_word.ensures
-    (or_further (transaction_rows ++ context_rows ++ chunk_rows ++ resource_rows) query_rows word words _ _ _
-    (or_further (transaction_rows ++ context_rows ++ chunk_rows) resource_rows word words _ _ _
-    (or_further (transaction_rows ++ context_rows) chunk_rows word words _ _ _
-    (or_further transaction_rows context_rows word words _ _ _ c.read_transaction.ensures c.read_context.ensures c.or.ensures)
-    c.read_chunk.ensures c.or-2.ensures)
-    c.read_resource.ensures c.or-3.ensures)
-    c.read_query.ensures c.or-4.ensures)
-
 pub returns-clause-value : goal.returns-clause-value
-returns-clause-value c = command_told c
+returns-clause-value c =
+    command_of-table c.args.text.now c.split_word.result.0.now (words_in (option_copied c.split_word.result.1)) _ c.split_word.ensures c.read_listed.ensures
 
 pub returns-clause-in_range : goal.returns-clause-in_range
-returns-clause-in_range c = subst (λ o. IfSome o IsInRange) (sym (command_told c)) (command_of-in_range (words_of c.args.text.now))
+returns-clause-in_range c = subst (λ o. IfSome o IsInRange) (sym (returns-clause-value c)) (command_of-in_range (words_of c.args.text.now))
