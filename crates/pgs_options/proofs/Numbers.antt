@@ -1,6 +1,6 @@
 -- What the options say in rows.
 use Rattle.std.proofs.Common.{zero, suc, ℕ, ◌≡◌, ◌⊎◌, ◌<◌, ◌≤◌, ◌^◌, ◌∙◌, inl, inr, ap, sym, refl, subst, arith, Bool, true, List, [], ◌∷◌, length, codes, Option, Some, None, Result, Ok, slice_index, slice_index_or, pos}
-use Rattle.std.specs.Prelude.{option_map, unwrap_or}
+use Rattle.std.specs.Prelude.{option_map, unwrap_or, ◌==◌, if◌then◌else◌}
 use Rattle.std.specs.Str.{bytes_eq}
 use Rattle.std.specs.Str.Parse.{ParsesUnsigned, digits_value, without_leading_plus}
 use Rattle.std.proofs.lemmas.Slice.Eq.{bytes_eq-Decides}
@@ -16,28 +16,28 @@ use Rattle.clap.specs.declared.builder.value_parser.ValueParser.TheVariants.{Sig
 use Rattle.clap.specs.declared.parser.matches.ArgMatches.{ArgMatches}
 use Rattle.clap.specs.declared.parser.matches.Found.{Found}
 use Rattle.clap.proofs.OnLiterals.{clap_on_literals}
-use Rattle.pgs_options.specs.Options.{number_in, options_in, options_of, the_app, where_no_fault}
-use Rattle.pgs_options.specs.Parts.{HasOptions}
+use Rattle.pgs_options.specs.Options.{number_in, options_in, options_of, the_app, where_fitting, where_no_fault}
+use Rattle.pgs_options.specs.Parts.{HasOptions, IsNumber}
 use Rattle.pgs_options.proofs.Reading.{IsOption, WasRead, option_read}
 
 -- nothing is no number
 none_some : (n : ℕ) → None ≡ Some n → ⊥
 none_some n e = cc
 
--- what a text gives as a number of 32 bits
-abbrev pub GivesNumber : {E : Type 0} → (Text → Result ℕ E → Type 0) → Type 0
-GivesNumber {E} gives = (t : Text) (r : Result ℕ E) → gives t r → ParsesUnsigned 32 10 t r
+-- what a text gives as a number of so many bits
+abbrev pub GivesNumber : {E : Type 0} → ℕ → (Text → Result ℕ E → Type 0) → Type 0
+GivesNumber {E} bits gives = (t : Text) (r : Result ℕ E) → gives t r → ParsesUnsigned bits 10 t r
 
 -- a number that an option has is told, and it is in the range
 pub record Told (low high : ℕ) (id : Text) (rows : List Row) (r : Option ℕ) : Type 0 where
   pub told : r ≡ number_in id rows
   pub within : (n : ℕ) → r ≡ Some n → (low ≤ n) × (n ≤ high)
 
-module _ {E : Type 0} (gives : Text → Result ℕ E → Type 0) (number : GivesNumber gives) (low high : ℕ) (fits : high < 2 ^ 32) where
+module _ {E : Type 0} (bits : ℕ) (gives : Text → Result ℕ E → Type 0) (number : GivesNumber bits gives) (low high : ℕ) (fits : high < 2 ^ bits) where
   of_text : (ignore_case : Bool) (t : Text) (r : Option ℕ) → WasRead (Signed (pos low) (pos high)) ignore_case t → ReadsOne gives t r
       → (n : ℕ) × (r ≡ Some n) × (n ≡ digits_value 10 (without_leading_plus t)) × (low ≤ n) × (n ≤ high)
   of_text ignore_case t r was reads =
-      let got = signed_reads E gives 32 low high was.written r (subst (λ (u : Text). ReadsOne gives u r) was.read reads) number fits was.accepted in
+      let got = signed_reads E gives bits low high was.written r (subst (λ (u : Text). ReadsOne gives u r) was.read reads) number fits was.accepted in
       (got.0, got.1, (number t (Ok got.0) (subst (λ (o : Option ℕ). ReadsOne gives t o) got.1 reads)).1, got.2, got.3)
 
   pub told_by : (f : Found) (id : Text) (ignore_case : Bool) (r : Option ℕ) → (one_text f id ≡ None → r ≡ None) → ((t : Text) → one_text f id ≡ Some t → ReadsOne gives t r)
@@ -70,71 +70,121 @@ not_auto t a first help version (inr e) = differ t (codes "version") a 118 first
 first_byte : (t u : Text) → t ≡ u → slice_index t 0 ≡ slice_index u 0
 first_byte t u e = ap (λ (w : Text). slice_index w 0) e
 
+-- the options by their places: the name of each, and the least and the most number that it takes
+abbrev name_at : ℕ → Text
+name_at zero = codes "space"
+name_at (suc zero) = codes "sessions"
+name_at (suc (suc zero)) = codes "descriptors"
+name_at (suc (suc (suc k))) = codes "fail"
+
+abbrev least_at : ℕ → ℕ
+least_at zero = 131072
+least_at (suc zero) = 1
+least_at (suc (suc zero)) = 8
+least_at (suc (suc (suc k))) = 0
+
+abbrev most_at : ℕ → ℕ
+most_at zero = 1073741824
+most_at (suc zero) = 64
+most_at (suc (suc zero)) = 64
+most_at (suc (suc (suc k))) = 4294967295
+
+-- names are told apart by their lengths
+place_of : Text → ℕ
+place_of t = if length t == 5 then 0 else (if length t == 8 then 1 else (if length t == 11 then 2 else 3))
+
+placed : (k : ℕ) → k < 4 → place_of (name_at k) ≡ k
+unfolding place_of
+placed zero lt = refl
+placed (suc zero) lt = refl
+placed (suc (suc zero)) lt = refl
+placed (suc (suc (suc zero))) lt = refl
+placed (suc (suc (suc (suc k)))) lt = absurd (omega (arith, lt))
+
+-- no name is that of an option that the command makes itself, or empty
+not_own : (k : ℕ) (t : Text) → t ≡ name_at k → (t ≡ codes "help") ⊎ (t ≡ codes "version") → ⊥
+not_own zero t e = not_auto t 115 (first_byte t (codes "space") e) (λ z. omega (arith, z)) (λ z. omega (arith, z))
+not_own (suc zero) t e = not_auto t 115 (first_byte t (codes "sessions") e) (λ z. omega (arith, z)) (λ z. omega (arith, z))
+not_own (suc (suc zero)) t e = not_auto t 100 (first_byte t (codes "descriptors") e) (λ z. omega (arith, z)) (λ z. omega (arith, z))
+not_own (suc (suc (suc k))) t e = not_auto t 102 (first_byte t (codes "fail") e) (λ z. omega (arith, z)) (λ z. omega (arith, z))
+
+is_named : (k : ℕ) → name_at k ≡ [] → ⊥
+is_named zero e = differ (codes "space") [] 115 0 refl refl (λ z. omega (arith, z)) e
+is_named (suc zero) e = differ (codes "sessions") [] 115 0 refl refl (λ z. omega (arith, z)) e
+is_named (suc (suc zero)) e = differ (codes "descriptors") [] 100 0 refl refl (λ z. omega (arith, z)) e
+is_named (suc (suc (suc k))) e = differ (codes "fail") [] 102 0 refl refl (λ z. omega (arith, z)) e
+
 module _ (c : Command) (h : HasOptions c) where
-  at_space : (d : Arg) → slice_index_or (args_of c) 0 d ≡ h.space
-  at_space d = ap (λ (xs : List Arg). slice_index_or xs 0 d) h.args
+  abbrev arg_at : ℕ → Arg
+  arg_at zero = h.space
+  arg_at (suc zero) = h.sessions
+  arg_at (suc (suc zero)) = h.descriptors
+  arg_at (suc (suc (suc k))) = h.fail
 
-  at_fail : (d : Arg) → slice_index_or (args_of c) 1 d ≡ h.fail
-  at_fail d = ap (λ (xs : List Arg). slice_index_or xs 1 d) h.args
+  four : length (args_of c) ≡ 4
+  four = ap (λ (xs : List Arg). length xs) h.args
 
-  space_id : (d : Arg) → (slice_index_or (args_of c) 0 d).id.now ≡ codes "space"
-  space_id d = ap (λ (a : Arg). a.id.now) (at_space d) ∙ h.takes_space.id
+  is_at : (k : ℕ) (d : Arg) → k < 4 → slice_index_or (args_of c) k d ≡ arg_at k
+  is_at zero d lt = ap (λ (xs : List Arg). slice_index_or xs 0 d) h.args
+  is_at (suc zero) d lt = ap (λ (xs : List Arg). slice_index_or xs 1 d) h.args
+  is_at (suc (suc zero)) d lt = ap (λ (xs : List Arg). slice_index_or xs 2 d) h.args
+  is_at (suc (suc (suc zero))) d lt = ap (λ (xs : List Arg). slice_index_or xs 3 d) h.args
+  is_at (suc (suc (suc (suc k)))) d lt = absurd (omega (arith, lt))
 
-  fail_id : (d : Arg) → (slice_index_or (args_of c) 1 d).id.now ≡ codes "fail"
-  fail_id d = ap (λ (a : Arg). a.id.now) (at_fail d) ∙ h.takes_fail.id
+  takes_at : (k : ℕ) → IsNumber (name_at k) (Signed (pos (least_at k)) (pos (most_at k))) (arg_at k)
+  takes_at zero = h.takes_space
+  takes_at (suc zero) = h.takes_sessions
+  takes_at (suc (suc zero)) = h.takes_descriptors
+  takes_at (suc (suc (suc k))) = h.takes_fail
 
-  two : length (args_of c) ≡ 2
-  two = ap (λ (xs : List Arg). length xs) h.args
+  id_at : (k : ℕ) (d : Arg) → k < 4 → (slice_index_or (args_of c) k d).id.now ≡ name_at k
+  id_at k d lt = ap (λ (a : Arg). a.id.now) (is_at k d lt) ∙ (takes_at k).id
 
-  -- the two options have different names
-  apart : (d e : Arg) → bytes_eq (slice_index_or (args_of c) 1 d).id.now (slice_index_or (args_of c) 0 e).id.now ≡ true → ⊥
-  apart d e same =
-      differ (codes "fail") (codes "space") 102 115 refl refl (λ z. omega (arith, z))
-      (sym (fail_id d) ∙ (bytes_eq-Decides (slice_index_or (args_of c) 1 d).id.now (slice_index_or (args_of c) 0 e).id.now).0 same ∙ space_id e)
+  -- no two options have one name
+  only_at : (k : ℕ) (d : Arg) → k < 4 → (j : ℕ) (e : Arg) → j < length (args_of c)
+      → bytes_eq (slice_index_or (args_of c) j e).id.now (slice_index_or (args_of c) k d).id.now ≡ true → j ≡ k
+  only_at k d lt j e less same =
+      let few : j < 4 = omega (arith, less, four) in
+      sym (placed j few)
+      ∙ ap place_of (sym (id_at j e few) ∙ (bytes_eq-Decides (slice_index_or (args_of c) j e).id.now (slice_index_or (args_of c) k d).id.now).0 same ∙ id_at k d lt)
+      ∙ placed k lt
 
-  only_space : (j : ℕ) (e : Arg) → j < length (args_of c) → bytes_eq (slice_index_or (args_of c) j e).id.now (slice_index_or (args_of c) 0 h.space).id.now ≡ true → j ≡ 0
-  only_space zero e lt same = refl
-  only_space (suc zero) e lt same = absurd (apart e h.space same)
-  only_space (suc (suc j)) e lt same = absurd (omega (arith, two, lt))
-
-  only_fail : (j : ℕ) (e : Arg) → j < length (args_of c) → bytes_eq (slice_index_or (args_of c) j e).id.now (slice_index_or (args_of c) 1 h.fail).id.now ≡ true → j ≡ 1
-  only_fail zero e lt same =
-      absurd (differ (codes "space") (codes "fail") 115 102 refl refl (λ z. omega (arith, z))
-      (sym (space_id e) ∙ (bytes_eq-Decides (slice_index_or (args_of c) 0 e).id.now (slice_index_or (args_of c) 1 h.fail).id.now).0 same ∙ fail_id h.fail))
-  only_fail (suc zero) e lt same = refl
-  only_fail (suc (suc j)) e lt same = absurd (omega (arith, two, lt))
-
-  space_option : IsOption c 0 h.space (Signed (pos 131072) (pos 1073741824))
-  space_option = record {
-    listed = omega (arith, two);
-    only = only_space;
-    own = not_auto (slice_index_or (args_of c) 0 h.space).id.now 115 (first_byte _ (codes "space") (space_id h.space)) (λ z. omega (arith, z)) (λ z. omega (arith, z));
-    named = λ e. differ (codes "space") [] 115 0 refl refl (λ z. omega (arith, z)) (sym (space_id h.space) ∙ e);
-    by = ap (λ (a : Arg). a.value_parser) (at_space h.space) ∙ h.takes_space.by;
+  option_at : (k : ℕ) → k < 4 → IsOption c k (arg_at k) (Signed (pos (least_at k)) (pos (most_at k)))
+  option_at k lt = record {
+    listed = omega (arith, lt, four);
+    only = only_at k (arg_at k) lt;
+    own = not_own k (slice_index_or (args_of c) k (arg_at k)).id.now (id_at k (arg_at k) lt);
+    named = λ e. is_named k (sym (id_at k (arg_at k) lt) ∙ e);
+    by = ap (λ (a : Arg). a.value_parser) (is_at k (arg_at k) lt) ∙ (takes_at k).by;
   }
 
-  fail_option : IsOption c 1 h.fail (Signed (pos 0) (pos 4294967295))
-  fail_option = record {
-    listed = omega (arith, two);
-    only = only_fail;
-    own = not_auto (slice_index_or (args_of c) 1 h.fail).id.now 102 (first_byte _ (codes "fail") (fail_id h.fail)) (λ z. omega (arith, z)) (λ z. omega (arith, z));
-    named = λ e. differ (codes "fail") [] 102 0 refl refl (λ z. omega (arith, z)) (sym (fail_id h.fail) ∙ e);
-    by = ap (λ (a : Arg). a.value_parser) (at_fail h.fail) ∙ h.takes_fail.by;
-  }
+  -- what is read of an option is what the rows say
+  module _ {E : Type 0} (bits : ℕ) (gives : Text → Result ℕ E → Type 0) (number : GivesNumber bits gives) (m : ArgMatches) (p : IsParsedFrom c m) where
+    told_at : (k : ℕ) → k < 4 → most_at k < 2 ^ bits → (r : Option ℕ) → (one_text (found_of m) (name_at k) ≡ None → r ≡ None)
+        → ((t : Text) → one_text (found_of m) (name_at k) ≡ Some t → ReadsOne gives t r)
+        → Told (least_at k) (most_at k) (name_at k) (rows_of (found_of m)) r
+    told_at k lt fits r none some =
+        told_by bits gives number (least_at k) (most_at k) fits (found_of m) (name_at k) (slice_index_or (args_of c) k (arg_at k)).ignore_case r none some
+        (λ t e. option_read c m p k (arg_at k) (Signed (pos (least_at k)) (pos (most_at k))) (option_at k lt) h.plain (h.parsed m p) t
+        (subst (λ (w : Text). one_text (found_of m) w ≡ Some t) (sym (id_at k (arg_at k) lt)) e))
 
-  module _ {E : Type 0} (gives : Text → Result ℕ E → Type 0) (number : GivesNumber gives) (m : ArgMatches) (p : IsParsedFrom c m) where
-    -- what is read of each option is what the rows say
+  module _ {E : Type 0} (gives : Text → Result ℕ E → Type 0) (number : GivesNumber 32 gives) (m : ArgMatches) (p : IsParsedFrom c m) where
     pub space_told : (r : Option ℕ) → (one_text (found_of m) (codes "space") ≡ None → r ≡ None) → ((t : Text) → one_text (found_of m) (codes "space") ≡ Some t → ReadsOne gives t r)
         → Told 131072 1073741824 (codes "space") (rows_of (found_of m)) r
-    space_told r none some =
-        told_by gives number 131072 1073741824 (omega arith) (found_of m) (codes "space") (slice_index_or (args_of c) 0 h.space).ignore_case r none some
-        (λ t e. option_read c m p 0 h.space (Signed (pos 131072) (pos 1073741824)) space_option h.plain (h.parsed m p) t (subst (λ (w : Text). one_text (found_of m) w ≡ Some t) (sym (space_id h.space)) e))
+    space_told r none some = told_at 32 gives number m p 0 (omega arith) (omega arith) r none some
 
     pub fail_told : (r : Option ℕ) → (one_text (found_of m) (codes "fail") ≡ None → r ≡ None) → ((t : Text) → one_text (found_of m) (codes "fail") ≡ Some t → ReadsOne gives t r)
         → Told 0 4294967295 (codes "fail") (rows_of (found_of m)) r
-    fail_told r none some =
-        told_by gives number 0 4294967295 (omega arith) (found_of m) (codes "fail") (slice_index_or (args_of c) 1 h.fail).ignore_case r none some
-        (λ t e. option_read c m p 1 h.fail (Signed (pos 0) (pos 4294967295)) fail_option h.plain (h.parsed m p) t (subst (λ (w : Text). one_text (found_of m) w ≡ Some t) (sym (fail_id h.fail)) e))
+    fail_told r none some = told_at 32 gives number m p 3 (omega arith) (omega arith) r none some
+
+  module _ {E : Type 0} (gives : Text → Result ℕ E → Type 0) (number : GivesNumber 8 gives) (m : ArgMatches) (p : IsParsedFrom c m) where
+    pub sessions_told : (r : Option ℕ) → (one_text (found_of m) (codes "sessions") ≡ None → r ≡ None) → ((t : Text) → one_text (found_of m) (codes "sessions") ≡ Some t → ReadsOne gives t r)
+        → Told 1 64 (codes "sessions") (rows_of (found_of m)) r
+    sessions_told r none some = told_at 8 gives number m p 1 (omega arith) (omega arith) r none some
+
+    pub descriptors_told : (r : Option ℕ) → (one_text (found_of m) (codes "descriptors") ≡ None → r ≡ None) → ((t : Text) → one_text (found_of m) (codes "descriptors") ≡ Some t → ReadsOne gives t r)
+        → Told 8 64 (codes "descriptors") (rows_of (found_of m)) r
+    descriptors_told r none some = told_at 8 gives number m p 2 (omega arith) (omega arith) r none some
 
 -- the command line is one whose matches and faults are known
 simple : is_simple the_app ≡ true
@@ -152,17 +202,18 @@ pub no_faults : (a : App) (words : List Text) → a ≡ the_app → fault_of a w
 no_faults a words e none = ap (λ (x : App). fault_of x words) (sym e) ∙ none
 
 -- what the options are where there is no fault
-pub options_told : (words : List Text) (rows : List Row) (a b : Option ℕ) → fault_of the_app words ≡ [] → rows ≡ matches_of the_app words
-    → Told 131072 1073741824 (codes "space") rows a → Told 0 4294967295 (codes "fail") rows b
-    → options_of words ≡ Some (record { space = unwrap_or a 16777216; fail = unwrap_or b 0 })
-options_told words rows a b none is space fail =
-    ap (λ (faults : Kinds). where_no_fault faults (matches_of the_app words)) none ∙ ap (λ (r : List Row). Some (options_in r)) (sym is)
-    ∙ ap (λ (o : Option ℕ). Some (record { space = unwrap_or o 16777216; fail = unwrap_or (number_in (codes "fail") rows) 0 })) (sym space.told)
-    ∙ ap (λ (o : Option ℕ). Some (record { space = unwrap_or a 16777216; fail = unwrap_or o 0 })) (sym fail.told)
+pub options_told : (words : List Text) (rows : List Row) (a b c d : Option ℕ) → fault_of the_app words ≡ [] → rows ≡ matches_of the_app words
+    → Told 131072 1073741824 (codes "space") rows a → Told 1 64 (codes "sessions") rows b → Told 8 64 (codes "descriptors") rows c → Told 0 4294967295 (codes "fail") rows d
+    → options_of words ≡ where_fitting (record { space = unwrap_or a 16777216; sessions = unwrap_or b 1; descriptors = unwrap_or c 16; fail = unwrap_or d 0 })
+options_told words rows a b c d none is space sessions descriptors fail =
+    let told : options_in rows ≡ record { space = unwrap_or a 16777216; sessions = unwrap_or b 1; descriptors = unwrap_or c 16; fail = unwrap_or d 0 } =
+    rw (space.told, sessions.told, descriptors.told, fail.told) refl in
+    ap (λ (faults : Kinds). where_no_fault faults (matches_of the_app words)) none ∙ ap (λ (r : List Row). where_fitting (options_in r)) (sym is) ∙ ap where_fitting told
 
-pub space_within : (rows : List Row) (a : Option ℕ) → Told 131072 1073741824 (codes "space") rows a → (131072 ≤ unwrap_or a 16777216) × (unwrap_or a 16777216 ≤ 1073741824)
-space_within rows None t = (omega arith, omega arith)
-space_within rows (Some n) t = t.within n refl
+-- an option that isn't given has its default, which is in the range
+pub within : (low high default : ℕ) (id : Text) (rows : List Row) (r : Option ℕ) → low ≤ default → default ≤ high → Told low high id rows r → (low ≤ unwrap_or r default) × (unwrap_or r default ≤ high)
+within low high default id rows None least most t = (least, most)
+within low high default id rows (Some n) least most t = t.within n refl
 
 -- where the command found a fault, the words ask for nothing
 pub nothing_asked : (a : App) (words : List Text) (kind : ErrorKind) → a ≡ the_app → IsAmong kind (fault_of a words) → options_of words ≡ None

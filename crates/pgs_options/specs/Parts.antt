@@ -25,13 +25,17 @@ pub record IsNumber (name : Text) (parser : ValueParser) (arg : Arg) : Type 0 wh
   pub id : arg.id.now ≡ name
   pub by : arg.value_parser ≡ Some parser
 
--- the command has its two options, and no other, and nothing in it excludes anything
+-- the command has its four options, and no other, and nothing in it excludes anything
 pub record HasOptions (c : Command) : Type 0 where
   pub app : app_of c ≡ the_app
   pub space : Arg
   pub takes_space : IsNumber (codes "space") (Signed (pos 131072) (pos 1073741824)) space
+  pub sessions : Arg
+  pub takes_sessions : IsNumber (codes "sessions") (Signed (pos 1) (pos 64)) sessions
+  pub descriptors : Arg
+  pub takes_descriptors : IsNumber (codes "descriptors") (Signed (pos 8) (pos 64)) descriptors
   pub fail : Arg
   pub takes_fail : IsNumber (codes "fail") (Signed (pos 0) (pos 4294967295)) fail
-  pub args : args_of c ≡ space ∷ fail ∷ []
+  pub args : args_of c ≡ space ∷ sessions ∷ descriptors ∷ fail ∷ []
   pub plain : IsPlain c
   pub parsed : (m : ArgMatches) (p : IsParsedFrom c m) → IsParsed p.built (found_of m) (has_subcommand m)

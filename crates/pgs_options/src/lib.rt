@@ -3,7 +3,10 @@
 
 mod options;
 
-pub use options::{DEFAULT_SPACE, Options, OptionsError, read_options};
+pub use options::{
+    DEFAULT_DESCRIPTORS, DEFAULT_SESSIONS, DEFAULT_SPACE, MOST_HELD, Options, OptionsError,
+    read_options,
+};
 
 #[cfg(test)]
 mod tests;
