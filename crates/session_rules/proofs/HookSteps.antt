@@ -1,6 +1,6 @@
 -- What became of a scene's hooks is counted: where contexts end, come and move, where a hook is registered, and where nothing becomes of them.
-use Rattle.std.proofs.Common.{◌≡◌, ℕ, ◌+◌, ◌<◌, Bool, true, false, cond, if◌then◌else◌, Option, Some, None, List, [], ◌∷◌, ◌++◌, map, flat_map, drop, refl, sym, ap, ◌∙◌, inl, inr, arith}
-use Rattle.std.specs.Prelude.{◌==◌, filter}
+use Rattle.std.proofs.Common.{◌≡◌, ℕ, ◌+◌, ◌<◌, Bool, true, false, cond, if◌then◌else◌, Option, Some, None, List, [], ◌∷◌, ◌++◌, length, map, flat_map, drop, refl, sym, ap, ◌∙◌, inl, inr, arith}
+use Rattle.std.specs.Prelude.{◌≤◌, ◌==◌, filter}
 use Rattle.std.specs.Option.{option_map_or}
 use Rattle.std.specs.List.{sum_by}
 use Rattle.std.proofs.lemmas.Bool.{cases_Bool, cases_eq, eq-eqb, both_ways, false_from_ne_true, or_parts}
@@ -11,7 +11,7 @@ use Rattle.forest.specs.Forest.{Empty, Node, has, times, Once, at, changed, is_a
 use Rattle.forest.proofs.Trees.{Moves, at_some, has_changed, has_of_removed, has_some, once_changed, once_put, put_absent, times_moved, times_some}
 use Rattle.forest.proofs.Moved.{sum_moved}
 use Rattle.reset_callbacks.specs.Hook.{Hook, ran}
-use Rattle.reset_callbacks.specs.ShelfState.{ShelfState, held}
+use Rattle.reset_callbacks.specs.ShelfState.{ShelfState, held, taken}
 use Rattle.context_rules.specs.Contexts.{Context, Contexts, is_child, placed_under, move_events}
 use Rattle.context_rules.specs.Ends as ends
 use Rattle.context_rules.specs.Ends.{cleared, cleared_alone, emptied, gone, handed_in, waiting}
@@ -30,7 +30,7 @@ use Rattle.session_rules.specs.World.{Scene}
 use Rattle.session_rules.specs.Acts.{Ended, behind, children_gone, context_cleared, context_cleared_alone, context_gone}
 use Rattle.session_rules.specs.Parts.{context_moved}
 use Rattle.session_rules.specs.Taking.{hook_waits}
-use Rattle.session_rules.specs.HookCounts.{HookCount, CountsHooks, runs_of}
+use Rattle.session_rules.specs.HookCounts.{HookCount, HooksCounted, CountsHooks, runs_of}
 use Rattle.session_rules.proofs.Forests.{has_put_other, once_emptied, once_left, times_emptied}
 use Rattle.session_rules.proofs.Sums.{sum_changed, sum_put, sum_same}
 use Rattle.session_rules.proofs.HookSums.{Parts, Runs, both_run, callbacks_both, hooks_ran, is_of_hooks, more_runs, none_run, of_context, parts_alone, parts_children, parts_cleared, parts_gone, registered_both, runs_ran, sum_waiting}
@@ -45,12 +45,15 @@ abbrev pub IsNumbered : Scene → Type 0
 IsNumbered scene = AreNumbered scene.session.contexts scene.session.next_context
 
 -- hooks that are as they were, while nothing is said of hooks
-pub counted_same : {all used : List Hook} {events : List What} → Runs [] events → HookCount all used all used events
-counted_same {all = all} {used = used} h = record {
+same_count : {all used : List Hook} {events : List What} → Runs [] events → HookCount all used all used events
+same_count {all = all} {used = used} h = record {
   runs = λ n. omega (arith, h.callbacks n);
   taken = λ n. omega (arith, h.others n);
   whole = λ n. refl;
 }
+
+pub counted_same : {t : Contexts} {x : ShelfState} {events : List What} → Runs [] events → HooksCounted t x t x events
+counted_same h = record { counts = same_count h; out = λ _. refl }
 
 -- what an act makes of a scene: the contexts are numbered still, and the hooks are counted
 pub record Counted (scene : Scene) (ended : Ended) : Type 0 where
@@ -58,11 +61,19 @@ pub record Counted (scene : Scene) (ended : Ended) : Type 0 where
   pub hooks : CountsHooks scene ended.scene ended.events
 
 -- one stretch and then another
-pub counted_on : {a x b y c z : List Hook} {es fs : List What} → HookCount a x b y es → HookCount b y c z fs → HookCount a x c z (es ++ fs)
-counted_on {es = es} {fs = fs} h k = record {
+count_on : {a x b y c z : List Hook} {es fs : List What} → HookCount a x b y es → HookCount b y c z fs → HookCount a x c z (es ++ fs)
+count_on {es = es} {fs = fs} h k = record {
   runs = λ n. omega (arith, h.runs n, k.runs n, callbacks_both n es fs);
   taken = λ n. omega (arith, h.taken n, k.taken n, registered_both n es fs);
   whole = λ n. omega (arith, h.whole n, k.whole n);
+}
+
+pub counted_on : {t u v : Contexts} {x y z : ShelfState} {es fs : List What} → HooksCounted t x u y es → HooksCounted u y v z fs → HooksCounted t x v z (es ++ fs)
+counted_on {t = t} {u = u} {x = x} {y = y} h k = record {
+  counts = count_on h.counts k.counts;
+  out = λ fit.
+      let first = h.out fit in
+      let next : length (waiting u) ≤ y.out = omega (arith, first, fit) in omega (arith, first, k.out next);
 }
 
 -- other hooks that stay as they are, as those that wait in other sessions
@@ -83,9 +94,9 @@ pub counted_both : {scene : Scene} {first next : Ended} → Counted scene first 
 counted_both h k = record { numbered = k.numbered; hooks = counted_on h.hooks k.hooks }
 
 -- contexts end, and their hooks are handed in
-counted_ended : (t : Contexts) (x : ShelfState) (e : ends.Ended) → Parts t e
+ended_count : (t : Contexts) (x : ShelfState) (e : ends.Ended) → Parts t e
     → HookCount (waiting t ++ held x) (waiting t ++ x.spent) (waiting e.contexts ++ held (handed_in e.hooks x)) (waiting e.contexts ++ (handed_in e.hooks x).spent) e.events
-counted_ended t x e h =
+ended_count t x e h =
     let ran_hooks : List Hook = map ran e.hooks in
     record {
       runs = λ n.
@@ -125,6 +136,17 @@ counted_ended t x e h =
             sum_by-append g x.spent ran_hooks,
           );
     }
+
+-- a sum of ones
+ones : (hooks : List Hook) → sum_by (λ _. 1) hooks ≡ length hooks
+ones [] = refl
+ones (hook ∷ hooks) = omega (arith, sum_by-cons (λ (_ : Hook). 1) hook hooks, ones hooks)
+
+counted_ended : (t : Contexts) (x : ShelfState) (e : ends.Ended) → Parts t e → HooksCounted t x e.contexts (handed_in e.hooks x) e.events
+counted_ended t x e h = record {
+  counts = ended_count t x e h;
+  out = λ fit. omega (arith, fit, h.sums (λ _. 1), ones (waiting t), ones (waiting e.contexts), ones e.hooks);
+}
 
 -- numbers of contexts
 numbered_gone : (n : ℕ) (t : Contexts) (next : ℕ) → AreNumbered t next → AreNumbered (gone n t).contexts next
@@ -176,9 +198,9 @@ counted_cleared n s k = record {
 }
 
 -- contexts that hold the hooks that they held
-pub counted_kept : (t u : Contexts) (x : ShelfState) {events : List What} → Runs [] events → ((g : Hook → ℕ) → sum_by g (waiting u) ≡ sum_by g (waiting t))
+kept_count : (t u : Contexts) (x : ShelfState) {events : List What} → Runs [] events → ((g : Hook → ℕ) → sum_by g (waiting u) ≡ sum_by g (waiting t))
     → HookCount (waiting t ++ held x) (waiting t ++ x.spent) (waiting u ++ held x) (waiting u ++ x.spent) events
-counted_kept t u x h same = record {
+kept_count t u x h same = record {
   runs = λ n.
       let g : Hook → ℕ = λ hook. if hook.word == n then hook.runs else 0 in
       omega (arith, h.callbacks n, same g, sum_by-append g (waiting t) (held x), sum_by-append g (waiting u) (held x));
@@ -189,6 +211,9 @@ counted_kept t u x h same = record {
       let g : Hook → ℕ = λ hook. cond (hook.word == n) 1 0 in
       omega (arith, same g, sum_by-append g (waiting t) (held x), sum_by-append g (waiting u) (held x));
 }
+
+pub counted_kept : (t u : Contexts) (x : ShelfState) {events : List What} → Runs [] events → ((g : Hook → ℕ) → sum_by g (waiting u) ≡ sum_by g (waiting t)) → HooksCounted t x u x events
+counted_kept t u x h same = record { counts = kept_count t u x h same; out = λ _. omega (arith, same (λ _. 1), ones (waiting t), ones (waiting u)) }
 
 pub waiting_changed : (g : Hook → ℕ) (n : ℕ) (f : Context → Context) (t : Contexts) → ((c : Context) → (f c).hooks ≡ c.hooks) → sum_by g (waiting (changed n f t)) ≡ sum_by g (waiting t)
 waiting_changed g n f t same =
@@ -219,8 +244,7 @@ numbered_put p n c t k = elim (cases_Bool (has p t)) [
   | inr y ↦ rw (put_absent p n c Empty t y) (record { once = k.once; below = λ m u. omega (arith, k.below m u) })
 ]
 
-pub counted_put : (p n : ℕ) (c : Context) (t : Contexts) (x : ShelfState) {events : List What} → AreNumbered t n → c.hooks ≡ [] → Runs [] events
-    → HookCount (waiting t ++ held x) (waiting t ++ x.spent) (waiting (put p n c Empty t) ++ held x) (waiting (put p n c Empty t) ++ x.spent) events
+pub counted_put : (p n : ℕ) (c : Context) (t : Contexts) (x : ShelfState) {events : List What} → AreNumbered t n → c.hooks ≡ [] → Runs [] events → HooksCounted t x (put p n c Empty t) x events
 counted_put p n c t x k none h = counted_kept t (put p n c Empty t) x h (λ g. waiting_put g p n c t k.once none)
 
 -- a context moves
@@ -254,19 +278,22 @@ counted_moved n p s k node there out = go (is_child n p s.session.contexts)
         }
 
 -- a hook of the shelf is registered with a context that is there
-counted_waits : (n : ℕ) (f : Context → Context) (hook : Hook) (c : Context) (t : Contexts) (x : ShelfState) (fresh : List Hook) → Once t → at n t ≡ Some c → (f c).hooks ≡ hook ∷ c.hooks → x.fresh ≡ hook ∷ fresh
-    → HookCount (waiting t ++ held x) (waiting t ++ x.spent) (waiting (changed n f t) ++ (drop 1 x.fresh ++ x.spent)) (waiting (changed n f t) ++ x.spent) (what.Hook hook.word n ∷ [])
-counted_waits n f hook c t x fresh o there more is =
-    let u : Contexts = changed n f t in
-    let sums : (g : Hook → ℕ) → sum_by g (waiting u) ≡ sum_by g (waiting t) + g hook =
-    λ g. omega (
+one_waits : (g : Hook → ℕ) (n : ℕ) (f : Context → Context) (hook : Hook) (c : Context) (t : Contexts) → Once t → at n t ≡ Some c → (f c).hooks ≡ hook ∷ c.hooks → sum_by g (waiting (changed n f t)) ≡ sum_by g (waiting t) + g hook
+one_waits g n f hook c t o there more =
+    omega (
       arith,
       sum_waiting g t,
-      sum_waiting g u,
+      sum_waiting g (changed n f t),
       sum_changed (of_context g) n f c t o there,
       ap (sum_by g) more,
       sum_by-cons g hook c.hooks,
-    ) in
+    )
+
+waits_count : (n : ℕ) (f : Context → Context) (hook : Hook) (c : Context) (t : Contexts) (x : ShelfState) (fresh : List Hook) → Once t → at n t ≡ Some c → (f c).hooks ≡ hook ∷ c.hooks → x.fresh ≡ hook ∷ fresh
+    → HookCount (waiting t ++ held x) (waiting t ++ x.spent) (waiting (changed n f t) ++ (drop 1 x.fresh ++ x.spent)) (waiting (changed n f t) ++ x.spent) (what.Hook hook.word n ∷ [])
+waits_count n f hook c t x fresh o there more is =
+    let u : Contexts = changed n f t in
+    let sums : (g : Hook → ℕ) → sum_by g (waiting u) ≡ sum_by g (waiting t) + g hook = λ g. one_waits g n f hook c t o there more in
     let had : (g : Hook → ℕ) → sum_by g x.fresh ≡ g hook + sum_by g fresh = λ g. ap (sum_by g) is ∙ sum_by-cons g hook fresh in
     let left : (g : Hook → ℕ) → sum_by g (drop 1 x.fresh) ≡ sum_by g fresh = λ g. ap (λ (hooks : List Hook). sum_by g (drop 1 hooks)) is in
     record {
@@ -298,6 +325,13 @@ counted_waits n f hook c t x fresh o there more is =
             sum_by-append g (drop 1 x.fresh) x.spent,
           );
     }
+
+counted_waits : (n : ℕ) (f : Context → Context) (hook : Hook) (c : Context) (t : Contexts) (x : ShelfState) (fresh : List Hook) → Once t → at n t ≡ Some c → (f c).hooks ≡ hook ∷ c.hooks → x.fresh ≡ hook ∷ fresh
+    → HooksCounted t x (changed n f t) (taken x) (what.Hook hook.word n ∷ [])
+counted_waits n f hook c t x fresh o there more is = record {
+  counts = waits_count n f hook c t x fresh o there more is;
+  out = λ _. omega (arith, one_waits (λ _. 1) n f hook c t o there more, ones (waiting t), ones (waiting (changed n f t)));
+}
 
 pub counted_hook : (n : ℕ) (hook : Hook) (s : Scene) → IsNumbered s → has n s.session.contexts ≡ true → first_of s.around.shelf.fresh ≡ Some hook → Counted s (hook_waits n hook s)
 counted_hook n hook s k there first = go s.around.shelf.fresh refl

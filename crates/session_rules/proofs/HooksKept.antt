@@ -48,7 +48,7 @@ times_lacks w (x ∷ xs) h =
           All-cons (λ (other : Hook). other.word ≢ w) x xs ne (times_lacks w xs (omega arith))
     ]
 
-distinct_times : (hs : List Hook) → AreDistinct hs → (w : ℕ) → word_times w hs ≤ 1
+pub distinct_times : (hs : List Hook) → AreDistinct hs → (w : ℕ) → word_times w hs ≤ 1
 distinct_times [] d w = omega arith
 distinct_times (x ∷ xs) d w =
     elim (cases_eq x.word w) [
@@ -58,7 +58,7 @@ distinct_times (x ∷ xs) d w =
       | inr ne ↦ rw (ne_eqb x.word w ne) (omega (arith, distinct_times xs d.1 w))
     ]
 
-times_distinct : (hs : List Hook) → ((w : ℕ) → word_times w hs ≤ 1) → AreDistinct hs
+pub times_distinct : (hs : List Hook) → ((w : ℕ) → word_times w hs ≤ 1) → AreDistinct hs
 times_distinct [] h = tt
 times_distinct (x ∷ xs) h =
     let own : 1 + word_times x.word xs ≤ 1 = rw (eq-eqb x.word x.word refl) at (h x.word) in

@@ -18,21 +18,21 @@ use Rattle.owner_items.proofs.Order.{All-without}
 use Rattle.owner_core.specs.Owners.{Owner, OwnerTree, forgotten, has_begun}
 use Rattle.owner_core.specs.Sound.{IsSound}
 use Rattle.owner_core.proofs.Sounds.{sound_forgotten, sound_remembered}
-use Rattle.session_rules.specs.State.{LevelState, buffer_pin, first_of, level_owner}
+use Rattle.session_rules.specs.State.{LevelState, buffer_pin, file_kind, first_of, level_owner}
 use Rattle.session_rules.specs.World.{Scene, Moment}
 use Rattle.session_rules.specs.Elements as element
 use Rattle.session_rules.specs.Elements.{OfLevel}
 use Rattle.session_rules.specs.Lookup.{newest}
 use Rattle.session_rules.specs.Acts.{changes, in_order, say, where_there}
 use Rattle.session_rules.specs.Releases.{Keeper, NoOne, given_back, item_released, keeper_of}
-use Rattle.session_rules.specs.Taking.{item_taken, remembers, taken_by}
+use Rattle.session_rules.specs.Taking.{descriptor_given, item_taken, remembers, taken_by}
 use Rattle.session_rules.specs.Parts.{at_owner}
 use Rattle.session_rules.specs.Does.{does}
 use Rattle.session_rules.specs.Standing.{AreLevels, HasItems, IsItem, Stands}
 use Rattle.session_rules.proofs.Guarded.{all_changed}
 use Rattle.session_rules.proofs.ContextsKept.{stay_same}
 use Rattle.session_rules.proofs.LevelsKept.{levels_stay, no_value}
-use Rattle.session_rules.proofs.Releasing.{OnlyTables, left_tables, tabled}
+use Rattle.session_rules.proofs.Releasing.{OnlyTables, left_tables, tabled, tables_of}
 use Rattle.session_rules.proofs.EndsStand.{stands_tabled}
 use Rattle.session_rules.proofs.StepsStand.{IsWorking, Works, fallible_keeps, fit_working, not_released, nothing_works}
 use Rattle.session_rules.proofs.NamesStand.{at_name}
@@ -124,6 +124,10 @@ class_item Catcache key serial = record { kind = record { from = omega arith; to
 class_item CatcacheList key serial = record { kind = record { from = omega arith; to = omega arith }; buffer = λ e. absurd (omega (arith, e)) }
 class_item TupleDescriptor key serial = record { kind = record { from = omega arith; to = omega arith }; buffer = λ e. absurd (omega (arith, e)) }
 
+-- a file is an item of a known kind
+file_item : (file serial : ℕ) → IsItem (record { kind = file_kind; key = file; serial = serial })
+file_item file serial = record { kind = record { from = omega arith; to = omega arith }; buffer = λ e. absurd (omega (arith, e)) }
+
 -- Each element on items of the deepest level's owner.
 module _ (w : Option ℕ) (moment : Moment) (h : Stands moment.scene) (working : IsWorking moment.scene.session.levels) where
   there : (n : ℕ) → level_owner moment.scene.session ≡ Some n → has n moment.scene.session.owners ≡ true
@@ -141,6 +145,23 @@ module _ (w : Option ℕ) (moment : Moment) (h : Stands moment.scene) (working :
 
   pub pin_works : (key : ℕ) → key < 1024 → Works moment.scene (does w (element.Take OfLevel buffer_pin key) moment).moment.scene
   pin_works key small = take_works buffer_pin key refl (λ serial. record { kind = record { from = omega arith; to = omega arith }; buffer = λ _. small })
+
+  -- a file gets a descriptor
+  pub touch_works : (file : ℕ) → Works moment.scene (does w (element.Touch file) moment).moment.scene
+  unfolding does
+  touch_works file =
+      fallible_keeps (Works moment.scene) w moment _ (descriptor_given file) (nothing_works moment.scene h)
+      (λ _. record { stands = stands_tabled (tables_of (descriptor_given file moment.scene).scene) moment.scene h; levels = refl })
+
+  -- the owner takes a file
+  pub file_works : (file : ℕ) → Works moment.scene (does w (element.Take OfLevel file_kind file) moment).moment.scene
+  unfolding does
+  file_works file =
+      let s : Scene = (descriptor_given file moment.scene).scene in
+      let still : Stands s = stands_tabled (tables_of s) moment.scene h in
+      fallible_keeps (Works moment.scene) w moment _ (at_owner OfLevel (λ owner. item_taken owner file_kind file)) (nothing_works moment.scene h)
+      (λ _. at_name (Works moment.scene) (level_owner moment.scene.session) (λ owner. item_taken owner file_kind file) moment.scene (nothing_works moment.scene h)
+      (λ n e. record { stands = take_step s n file_kind file still working (there n e) (file_item file); levels = refl }))
 
   pub give_back_works : (kind : KindId) (key : ℕ) → Works moment.scene (does w (element.GiveBack kind key) moment).moment.scene
   unfolding does

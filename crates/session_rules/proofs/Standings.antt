@@ -9,10 +9,10 @@ use Rattle.pgs_step.specs.declared.ids.Item.{Item}
 use Rattle.context_rules.specs.Refusals.{is_within}
 use Rattle.owner_kinds.specs.KindTable.{IsKind, KindTable}
 use Rattle.owner_core.specs.Owners.{OwnerTree, has_begun}
-use Rattle.session_rules.specs.State.{LevelState, abort_context, context_of, first_of, owner_of, top_context}
-use Rattle.session_rules.specs.World.{Scene}
+use Rattle.session_rules.specs.State.{LevelState, SessionState, abort_context, context_of, first_of, owner_of, top_context}
+use Rattle.session_rules.specs.World.{Around, Scene}
 use Rattle.session_rules.specs.Making.{level_parent}
-use Rattle.session_rules.specs.Standing.{AreLevels, AreOuter, HasItems, IsItem, Stands}
+use Rattle.session_rules.specs.Standing.{AreHooks, AreLevels, AreOuter, HasItems, IsItem, Stands, StandsBetweenLines}
 use Rattle.session_rules.proofs.Guarded.{top_parent}
 use Rattle.session_rules.proofs.ContextsKept.{own, protected_has, top_protected}
 use Rattle.session_rules.proofs.LevelsKept.{is_there, no_value, outer_contexts}
@@ -66,3 +66,21 @@ kinds_known table (item ∷ items) h =
 pub items_known : (table : KindTable) (owners : OwnerTree) → AllNodes HasItems owners → AllNodes (λ owner. All (λ item. IsKind table item.kind) owner.items) owners
 items_known table Empty h = tt
 items_known table (Node n owner below beside) h = (kinds_known table owner.items h.0, items_known table below h.1, items_known table beside h.2)
+
+-- A session that stands does so in other surroundings, where its hooks fit the shelf there.
+pub stands_elsewhere : (session : SessionState) (a b : Around) → AreHooks session.contexts b.shelf → Stands (record { session = session; around = a }) → Stands (record { session = session; around = b })
+stands_elsewhere session a b hooks h = record {
+  contexts = h.contexts;
+  current = h.current;
+  hooks = hooks;
+  levels = h.levels;
+  fit = h.fit;
+  owners = h.owners;
+  portals = h.portals;
+  plans = h.plans;
+  snapshots = h.snapshots;
+}
+
+pub stands_between_elsewhere : (session : SessionState) (a b : Around) → AreHooks session.contexts b.shelf → StandsBetweenLines (record { session = session; around = a })
+    → StandsBetweenLines (record { session = session; around = b })
+stands_between_elsewhere session a b hooks h = record { stands = stands_elsewhere session a b hooks h.stands; open_levels = h.open_levels }

@@ -10,7 +10,7 @@ use Rattle.pgs_step.specs.declared.events.What.TheVariants as what
 use Rattle.pgs_command.specs.declared.commands.Command.{Command}
 use Rattle.pgs_command.specs.declared.commands.Command.TheVariants as command
 use Rattle.pgs_command.specs.Kinds.{class_kind}
-use Rattle.session_rules.specs.State.{LevelState, SessionState, buffer_pin, is_aborted}
+use Rattle.session_rules.specs.State.{LevelState, SessionState, buffer_pin, file_kind, is_aborted}
 use Rattle.session_rules.specs.World.{Scene, Moment}
 use Rattle.session_rules.specs.Elements as element
 use Rattle.session_rules.specs.Elements.{Check, Element, InCurrent, LevelContext, OfLevel, Text}
@@ -28,7 +28,7 @@ use Rattle.session_rules.specs.Transcript.{line_elements, turn, turn_of}
 use Rattle.session_rules.specs.Standing.{AreOpen, AreOuter, FitLevels, IsActive, IsOpen, Stands, StandsBetweenLines}
 use Rattle.session_rules.proofs.EndsStand.{Leaves, outer_open, recovered_stands}
 use Rattle.session_rules.proofs.StepsStand.{IsWorking, Works, abort_stands, alloc_works, below_limit, cleanup_stands, commit_stands, enlarge_works, free_works, level_context_stands, level_made_stands, level_owner_stands, level_stands_stands, merge_stands, nothing_works, own_refusal, put_works, realloc_works, settled_as}
-use Rattle.session_rules.proofs.ItemsStand.{class_item, class_unkept, give_back_works, pin_works, take_works}
+use Rattle.session_rules.proofs.ItemsStand.{class_item, class_unkept, file_works, give_back_works, pin_works, take_works, touch_works}
 use Rattle.session_rules.proofs.NamesStand.{delete_children_works, delete_works, make_script_context_works, register_works, reparent_works, reset_only_works, reset_works, switch_works}
 
 -- What some elements led to: whatever refused them the session stands, and where nothing did, more is known of it.
@@ -138,7 +138,7 @@ is_buffer : (buffer : ℕ) (b : Bool) (error : Error) → nat_lt buffer 1024 ≡
 is_buffer buffer true error e h = ltb-true buffer 1024 e
 is_buffer buffer false error e h = absurd (cc h)
 
--- the commands on contexts, chunks, pins and references, and `raise`
+-- the commands on contexts, chunks, pins, files and references, and `raise`
 abbrev pub IsWork : Command → Type 0
 IsWork command.Raise = Unit {0}
 IsWork command.Report = Unit {0}
@@ -159,6 +159,9 @@ IsWork (command.Show chunk place length) = Unit {0}
 IsWork (command.Pin buffer) = Unit {0}
 IsWork (command.Unpin buffer) = Unit {0}
 IsWork (command.Buffer buffer) = Unit {0}
+IsWork (command.Open file) = Unit {0}
+IsWork (command.Touch file) = Unit {0}
+IsWork (command.Close file) = Unit {0}
 IsWork (command.Reference class key) = Unit {0}
 IsWork (command.Unreference class key) = Unit {0}
 IsWork other = ⊥
@@ -238,6 +241,16 @@ module _ (w : Option ℕ) (levels : List LevelState) (active : IsWorking levels)
   work_leads (command.Buffer buffer) session is moment at =
       behind_check w levels (At levels) (element.IsBuffer buffer) _ moment at
       (λ m k _. behind_work w levels (At levels) (element.TellBuffer buffer) [] m k (buffer_works w buffer m k.stands) (λ m k. nothing_more w levels m k))
+  work_leads (command.Open file) session is moment at =
+      behind_check w levels (At levels) (element.FileIsNew file) _ moment at
+      (λ m k _. behind_work w levels (At levels) (element.Enlarge OfLevel) _ m k (enlarge_works w m k.stands)
+      (λ m k. behind_work w levels (At levels) (element.Take OfLevel file_kind file) [] m k (file_works w m k.stands (working_at levels m.scene active k) file) (λ m k. nothing_more w levels m k)))
+  work_leads (command.Touch file) session is moment at =
+      behind_check w levels (At levels) (element.IsFile file) _ moment at
+      (λ m k _. behind_work w levels (At levels) (element.Touch file) [] m k (touch_works w m k.stands (working_at levels m.scene active k) file) (λ m k. nothing_more w levels m k))
+  work_leads (command.Close file) session is moment at =
+      behind_check w levels (At levels) (element.Holds file_kind file) _ moment at
+      (λ m k _. behind_work w levels (At levels) (element.GiveBack file_kind file) [] m k (give_back_works w m k.stands (working_at levels m.scene active k) file_kind file) (λ m k. nothing_more w levels m k))
   work_leads (command.Reference class key) session is moment at =
       behind_work w levels (At levels) (element.Enlarge OfLevel) _ moment at (enlarge_works w moment at.stands)
       (λ m k. behind_work w levels (At levels) (element.Take OfLevel (class_kind class) key) [] m k

@@ -1,10 +1,11 @@
 -- How often hooks ran and were registered: what a session's hooks count, and what its events say of them.
-use Rattle.std.specs.Prelude.{◌≡◌, ℕ, ◌+◌, ◌-◌, ◌^◌, ◌==◌, min, Bool, false, if◌then◌else◌, List, ◌++◌, count_by}
+use Rattle.std.specs.Prelude.{◌≡◌, ℕ, ◌+◌, ◌-◌, ◌≤◌, ◌^◌, ◌==◌, min, Bool, false, if◌then◌else◌, List, ◌++◌, count_by, length}
 use Rattle.std.specs.List.{sum_by}
 use Rattle.pgs_step.specs.declared.events.What.{What}
 use Rattle.pgs_step.specs.declared.events.What.TheVariants as what
 use Rattle.reset_callbacks.specs.Hook.{Hook}
-use Rattle.reset_callbacks.specs.ShelfState.{held}
+use Rattle.reset_callbacks.specs.ShelfState.{ShelfState, held}
+use Rattle.context_rules.specs.Contexts.{Contexts}
 use Rattle.context_rules.specs.Ends.{waiting}
 use Rattle.session_rules.specs.World.{Scene}
 
@@ -46,6 +47,12 @@ pub record HookCount (all used all_behind used_behind : List Hook) (events : Lis
   pub taken : (n : ℕ) → hooks_of n used_behind ≡ hooks_of n used + registered_of n events
   pub whole : (n : ℕ) → hooks_of n all_behind ≡ hooks_of n all
 
--- the same of the hooks of two scenes, the second behind the first
+-- The same of the hooks that wait in contexts and those of a shelf, before and behind. Where no more of them wait than are out
+-- of the shelf, as many more are out of it behind as wait more: what waits in other sessions stays out.
+pub record HooksCounted (contexts : Contexts) (shelf : ShelfState) (contexts_behind : Contexts) (shelf_behind : ShelfState) (events : List What) : Type 0 where
+  pub counts : HookCount (waiting contexts ++ held shelf) (waiting contexts ++ shelf.spent) (waiting contexts_behind ++ held shelf_behind) (waiting contexts_behind ++ shelf_behind.spent) events
+  pub out : length (waiting contexts) ≤ shelf.out → shelf_behind.out + length (waiting contexts) ≡ shelf.out + length (waiting contexts_behind)
+
+-- the same of two scenes, the second behind the first
 abbrev pub CountsHooks : Scene → Scene → List What → Type 0
-CountsHooks before behind events = HookCount (all_hooks before) (used_hooks before) (all_hooks behind) (used_hooks behind) events
+CountsHooks before behind events = HooksCounted before.session.contexts before.around.shelf behind.session.contexts behind.around.shelf events
