@@ -19,7 +19,8 @@ use Rattle.owner_core.specs.Sound.{total}
 use Rattle.owner_core.proofs.ItemLemmas.{uses-cons, uses_phase}
 use Rattle.owner_core.proofs.Releasing.{held_changed}
 use Rattle.owner_core.proofs.Sounds.{total_removed, total_swept}
-use Rattle.ref_table.specs.References.{RefersOneMore}
+use Rattle.ref_table.specs.References.{RefersOneMore, references_of}
+use Rattle.file_table.specs.Files.{Files, OpensOneLess, OpensOneMore, opens}
 use Rattle.session_owners.specs.Tables.{Held, times_held}
 
 module _ (kind : KindId) (key : ℕ) where
@@ -131,26 +132,79 @@ times_held-pinned held buffer kind key h =
     ∙ ap (λ (b : Bool). times_held held kind key + (if b && (buffer == key) then 1 else 0)) (eq-flip kind.0 1)
 
 -- one reference more
-pub times_held-added : (a b : Held) (class : KindId) (k : ℕ) (kind : KindId) (key : ℕ) → class.0 ≢ 1 → b.pins ≡ a.pins → RefersOneMore a.references b.references class.0 k
+pub times_held-added : (a b : Held) (class : KindId) (k : ℕ) (kind : KindId) (key : ℕ) → class.0 ≢ 1 → class.0 ≢ 8 → b.pins ≡ a.pins → b.files ≡ a.files → RefersOneMore a.references b.references class.0 k
     → times_held b kind key ≡ times_held a kind key + (if (class.0 == kind.0) && (k == key) then 1 else 0)
-times_held-added a b class k kind key other same more =
+times_held-added a b class k kind key other no_file same files more =
     elim (cases_Bool (kind.0 == 1)) [
       | inl y ↦
           let no : (class.0 == kind.0) ≡ false = ne_eqb class.0 kind.0 (λ e. other (e ∙ eqb-true kind.0 1 y)) in
           let pins : slice_index b.pins key ≡ slice_index a.pins key = ap (λ (z : List ℕ). slice_index z key) same in
           rw (y, no) (omega (arith, pins))
-      | inr y ↦ rw y (more kind.0 key)
+      | inr y ↦ elim (cases_Bool (kind.0 == 8)) [
+        | inl f ↦
+            let no : (class.0 == kind.0) ≡ false = ne_eqb class.0 kind.0 (λ e. no_file (e ∙ eqb-true kind.0 8 f)) in
+            let opened : opens b.files key ≡ opens a.files key = ap (λ (z : Files). opens z key) files in
+            rw (y, f, no) (omega (arith, opened))
+        | inr f ↦ rw (y, f) (more kind.0 key)
+      ]
     ]
+
+-- one file more, and one fewer
+file_index : (kind file key : ℕ) → (kind == 8) ≡ true → ◌≡◌ {A = ℕ} (if (8 == kind) && (file == key) then 1 else 0) (if file == key then 1 else 0)
+file_index kind file key y = rw (eq-flip 8 kind, y) refl
+
+other_index : (kind file key : ℕ) → (kind == 8) ≡ false → ◌≡◌ {A = ℕ} (if (8 == kind) && (file == key) then 1 else 0) 0
+other_index kind file key y = rw (eq-flip 8 kind, y) refl
+
+pub pin_is_other : (kind : ℕ) → (kind == 1) ≡ true → (kind == 8) ≡ false
+pin_is_other kind y = ne_eqb kind 8 (λ e. omega (arith, e, eqb-true kind 1 y))
+
+pub times_held-opened : (a b : Held) (file : ℕ) (kind : KindId) (key : ℕ) → b.pins ≡ a.pins → b.references ≡ a.references → OpensOneMore a.files b.files file
+    → times_held b kind key ≡ times_held a kind key + (if (8 == kind.0) && (file == key) then 1 else 0)
+times_held-opened a b file kind key pins references more =
+    elim (cases_Bool (kind.0 == 1)) [
+      | inl y ↦
+          let same : slice_index b.pins key ≡ slice_index a.pins key = ap (λ (z : List ℕ). slice_index z key) pins in
+          rw y (omega (arith, same, other_index kind.0 file key (pin_is_other kind.0 y)))
+      | inr y ↦ elim (cases_Bool (kind.0 == 8)) [
+        | inl f ↦ rw (y, f) (omega (arith, more key, file_index kind.0 file key f))
+        | inr f ↦
+            let same : references_of b.references kind key ≡ references_of a.references kind key = ap (λ (z : List ((ℕ × ℕ) × ℕ)). references_of z kind key) references in
+            rw (y, f) (omega (arith, same, other_index kind.0 file key f))
+      ]
+    ]
+
+pub times_held-closed : (a b : Held) (file : ℕ) (kind : KindId) (key : ℕ) → b.pins ≡ a.pins → b.references ≡ a.references → OpensOneLess a.files b.files file
+    → times_held b kind key + (if (8 == kind.0) && (file == key) then 1 else 0) ≡ times_held a kind key
+times_held-closed a b file kind key pins references less =
+    elim (cases_Bool (kind.0 == 1)) [
+      | inl y ↦
+          let same : slice_index b.pins key ≡ slice_index a.pins key = ap (λ (z : List ℕ). slice_index z key) pins in
+          rw y (omega (arith, same, other_index kind.0 file key (pin_is_other kind.0 y)))
+      | inr y ↦ elim (cases_Bool (kind.0 == 8)) [
+        | inl f ↦ rw (y, f) (omega (arith, less key, file_index kind.0 file key f))
+        | inr f ↦
+            let same : references_of b.references kind key ≡ references_of a.references kind key = ap (λ (z : List ((ℕ × ℕ) × ℕ)). references_of z kind key) references in
+            rw (y, f) (omega (arith, same, other_index kind.0 file key f))
+      ]
+    ]
+
+-- the same pins, references and open files
+pub times_held-same : (a b : Held) (kind : KindId) (key : ℕ) → b.pins ≡ a.pins → b.references ≡ a.references → b.files.opened ≡ a.files.opened → times_held b kind key ≡ times_held a kind key
+times_held-same a b kind key pins references opened =
+    ap (λ (z : List ℕ). times_held (record b { pins = z }) kind key) pins
+    ∙ ap (λ (z : List ((ℕ × ℕ) × ℕ)). times_held (record b { pins = a.pins; references = z }) kind key) references
+    ∙ ap (λ (z : List ℕ). times_held (record a { files = record a.files { opened = z } }) kind key) opened
 
 zeros_at : (key n : ℕ) → get_or (replicate {A = ℕ} n 0) key 0 ≡ 0
 zeros_at key n = grind (arith, common_steps)
 
 -- nothing is held
-pub none_held : (held : Held) (kind : KindId) (key : ℕ) → held.pins ≡ replicate 1024 0 → held.references ≡ [] → times_held held kind key ≡ 0
-none_held held kind key p r =
-    ap (λ (z : List ℕ). times_held (record { pins = z; references = held.references }) kind key) p
-    ∙ ap (λ (z : List ((ℕ × ℕ) × ℕ)). times_held (record { pins = replicate 1024 0; references = z }) kind key) r ∙ go (kind.0 == 1)
+pub none_held : (held : Held) (kind : KindId) (key : ℕ) → held.pins ≡ replicate 1024 0 → held.references ≡ [] → held.files.opened ≡ [] → times_held held kind key ≡ 0
+none_held held kind key p r f =
+    times_held-same (record { pins = replicate 1024 0; references = []; files = record { descriptors = 0; opened = []; recent = [] } }) held kind key p r f ∙ go (kind.0 == 1) (kind.0 == 8)
   where
-    go : (b : Bool) → (if b then slice_index (replicate 1024 0) key else 0) ≡ 0
-    go true = zeros_at key 1024
-    go false = refl
+    go : (b c : Bool) → (if b then slice_index (replicate 1024 0) key else (if c then 0 else 0)) ≡ 0
+    go true c = zeros_at key 1024
+    go false true = refl
+    go false false = refl

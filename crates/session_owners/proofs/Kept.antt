@@ -23,9 +23,10 @@ use Rattle.owner_core.proofs.ItemLemmas.{uses_own}
 use Rattle.owner_core.proofs.Sounds.{once_of, sound_created, sound_forgotten, sound_released, sound_remembered, sound_removed}
 use Rattle.owner_core.proofs.Swept.{all_swept}
 use Rattle.session_rules.proofs.Guarded.{all_changed}
+use Rattle.file_table.specs.Files.{OpensOneMore, opened_file}
 use Rattle.session_owners.specs.Tables.{Held, built_in_kinds, times_held}
 use Rattle.session_owners.specs.Counted.{HoldsCounted, IsCounted, IsHeld}
-use Rattle.session_owners.proofs.Counts.{held_created, held_forgotten, held_released, held_remembered, held_removed, held_subtree, none_held, times_held-pinned}
+use Rattle.session_owners.proofs.Counts.{held_created, held_forgotten, held_released, held_remembered, held_removed, held_subtree, none_held, times_held-opened, times_held-pinned, times_held-same}
 use Rattle.session_owners.proofs.Left.{items_left}
 
 -- what a call keeps of the owners
@@ -75,12 +76,12 @@ counted new counts owners next_owner next_serial e f g sound items buffers times
   references = rw g references;
 }
 
-pub counted_opening : (table : OwnerTable) (counts : Held) → table ≡ record { rooms = Empty; places = Empty; next_owner = 1; next_serial = 1 } → counts.pins ≡ replicate 1024 0 → counts.references ≡ [] → IsCounted table counts
-counted_opening table counts t p r = record {
+pub counted_opening : (table : OwnerTable) (counts : Held) → table ≡ record { rooms = Empty; places = Empty; next_owner = 1; next_serial = 1 } → counts.pins ≡ replicate 1024 0 → counts.references ≡ [] → counts.files.opened ≡ [] → IsCounted table counts
+counted_opening table counts t p r f = record {
   sound = rw t (record { numbers = λ n. omega arith; serials = λ n. omega arith; few = omega arith });
   items = subst (AllNodes HoldsCounted) (sym (ap owners_of t)) tt;
   buffers = ap length p ∙ length-replicate {A = ℕ} 1024 0;
-  counted = λ kind key. none_held counts kind key p r ∙ ap (λ (z : OwnerTable). held kind key (owners_of z)) (sym t);
+  counted = λ kind key. none_held counts kind key p r f ∙ ap (λ (z : OwnerTable). held kind key (owners_of z)) (sym t);
   few = λ kind key. omega (arith, ap (λ (z : OwnerTable). held kind key (owners_of z)) t, ap (λ (z : OwnerTable). z.next_serial) t);
   references = let none : total counts.references ≡ 0 = ap (λ (z : List ((ℕ × ℕ) × ℕ)). total z) r in omega (arith, none, ap (λ (z : OwnerTable). z.next_serial) t);
 }
@@ -141,6 +142,30 @@ counted_pinned old new counts counts' n buffer s spare small set e f g =
     (let same : total counts'.references ≡ total counts.references = ap (λ (z : Held). total z.references) set in omega (arith, same))
     (λ k j. ap (λ (z : Held). times_held z k j) set ∙ times_held-pinned counts buffer k j (omega (arith, s.buffers, small)))
     e f g
+
+-- a file more
+pub counted_opened : (old new : OwnerTable) (counts counts' : Held) (n file : ℕ) → IsCounted old counts → 1 ≤ spare_of n old
+    → counts' ≡ record counts { files = opened_file file counts.files } → OpensOneMore counts.files counts'.files file
+    → owners_of new ≡ remembered n (record { kind = record { 0 = 8 }; key = file; serial = old.next_serial }) (owners_of old)
+    → new.next_owner ≡ old.next_owner → new.next_serial ≡ old.next_serial + 1 → IsCounted new counts'
+counted_opened old new counts counts' n file s spare set more e f g =
+    let pins : counts'.pins ≡ counts.pins = ap (λ (z : Held). z.pins) set in
+    let references : counts'.references ≡ counts.references = ap (λ (z : Held). z.references) set in
+    counted_taken old new counts counts' n (record { 0 = 8 }) file s spare (inr (inr refl)) (ap length pins ∙ s.buffers)
+    (omega (arith, ap (λ (z : List ((ℕ × ℕ) × ℕ)). total z) references))
+    (λ k j. times_held-opened counts counts' file k j pins references more)
+    e f g
+
+-- the same items, with other descriptors
+pub counted_touched : (table : OwnerTable) (counts counts' : Held) → IsCounted table counts → counts'.pins ≡ counts.pins → counts'.references ≡ counts.references → counts'.files.opened ≡ counts.files.opened → IsCounted table counts'
+counted_touched table counts counts' s pins references opened = record {
+  sound = s.sound;
+  items = s.items;
+  buffers = ap length pins ∙ s.buffers;
+  counted = λ kind key. times_held-same counts counts' kind key pins references opened ∙ s.counted kind key;
+  few = s.few;
+  references = omega (arith, ap (λ (z : List ((ℕ × ℕ) × ℕ)). total z) references, s.references);
+}
 
 -- an item fewer
 with_item : (test : Item → Bool) (o : Option Owner) (item : Item) → find test (option_map_or (λ owner. owner.items) o []) ≡ Some item → (a : Owner) × (o ≡ Some a) × (find test a.items ≡ Some item)

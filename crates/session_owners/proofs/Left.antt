@@ -21,7 +21,10 @@ use Rattle.session_owners.specs.Counted.{HoldsCounted, IsHeld, all_released}
 is_item : (item : Item) → IsHeld item → IsItem item
 is_item item h = elim h [
   | inl pin ↦ record { kind = record { from = omega (arith, pin.kind); to = omega (arith, pin.kind) }; buffer = λ _. pin.buffer }
-  | inr r ↦ record { kind = record { from = omega (arith, r.from); to = r.to }; buffer = λ e. absurd (omega (arith, e, r.from)) }
+  | inr other ↦ elim other [
+    | inl r ↦ record { kind = record { from = omega (arith, r.from); to = r.to }; buffer = λ e. absurd (omega (arith, e, r.from)) }
+    | inr file ↦ record { kind = record { from = omega (arith, file); to = omega (arith, file) }; buffer = λ e. absurd (omega (arith, e, file)) }
+  ]
 ]
 
 are_items : (items : List Item) → All IsHeld items → All IsItem items

@@ -1,13 +1,17 @@
 -- What the tables count of what a session's owners hold.
-use Rattle.std.specs.Prelude.{◌≡◌, ◌⊎◌, ℕ, ◌<◌, ◌≤◌, length, All}
+use Rattle.std.specs.Prelude.{◌≡◌, ◌⊎◌, ℕ, ◌<◌, ◌≤◌, Bool, List, length, All}
+use Rattle.std.specs.List.{list_any}
 use Rattle.counts.specs.Counts.{total}
 use Rattle.pgs_step.specs.declared.ids.Item.{Item}
 use Rattle.pgs_step.specs.declared.ids.KindId.{KindId}
 use Rattle.pgs_step.specs.declared.ids.Phase.TheVariants.{BeforeLocks, Locks, AfterLocks}
 use Rattle.forest.specs.Forest.{AllNodes}
+use Rattle.owner_items.specs.ItemList.{is_of}
 use Rattle.owner_core.specs.Owners.{Owner, OwnerTable, OwnerTree, held, owners_of}
 use Rattle.owner_core.specs.Released.{released}
 use Rattle.owner_core.specs.Sound.{IsSoundTable}
+use Rattle.session_rules.specs.State.{file_kind}
+use Rattle.session_rules.specs.Counts.{all_items, distinct, keys_of}
 use Rattle.session_rules.specs.Releases.{NoOne, keeper_of}
 use Rattle.session_owners.specs.Tables.{Held, built_in_kinds, times_held}
 
@@ -22,14 +26,14 @@ pub record IsReference (kind : KindId) : Type 0 where
   pub to : kind.0 ≤ 8
   pub unkept : keeper_of kind ≡ NoOne
 
--- an item that is counted
+-- an item that is counted: a pin, a reference or an open file
 abbrev pub IsHeld : Item → Type 0
-IsHeld item = IsPin item ⊎ IsReference item.kind
+IsHeld item = IsPin item ⊎ (IsReference item.kind ⊎ (item.kind.0 ≡ 8))
 
 abbrev pub HoldsCounted : Owner → Type 0
 HoldsCounted owner = All IsHeld owner.items
 
--- The owners hold pins and references, each just as often as it is counted, and of each fewer than serials were given.
+-- The owners hold pins, references and files, each just as often as it is counted, and of each fewer than serials were given.
 pub record IsCounted (table : OwnerTable) (counts : Held) : Type 0 where
   pub sound : IsSoundTable table
   pub items : AllNodes HoldsCounted (owners_of table)
@@ -37,6 +41,13 @@ pub record IsCounted (table : OwnerTable) (counts : Held) : Type 0 where
   pub counted : (kind : KindId) (key : ℕ) → times_held counts kind key ≡ held kind key (owners_of table)
   pub few : (kind : KindId) (key : ℕ) → held kind key (owners_of table) < table.next_serial
   pub references : total counts.references < table.next_serial
+
+-- whether owners hold a file, and the files that they hold
+abbrev pub holds_file : ℕ → OwnerTree → Bool
+holds_file file owners = list_any (is_of file_kind file) (all_items owners)
+
+abbrev pub files_held : OwnerTree → List ℕ
+files_held owners = distinct (keys_of file_kind (all_items owners))
 
 -- the owners once the one of this number and all below it were released, in the three phases
 abbrev pub all_released : ℕ → OwnerTree → OwnerTree

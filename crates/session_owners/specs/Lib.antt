@@ -1,3 +1,5 @@
+pub mod ResourceState
 pub mod Tables
+pub mod TableLaws
 pub mod Counted
 pub mod Fitting

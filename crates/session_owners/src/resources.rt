@@ -1,29 +1,31 @@
 //! The owners of a session together with the tables of what they hold.
-ghost use Rattle.std.specs.Prelude.{◌≡◌, ◌↔◌, ◌≢◌, ℕ, ◌+◌, ◌<◌, ◌≤◌, ◌^◌, true, false, ◌∷◌, find, IfOk, IfSome, OnOk, OnErr, None};
+ghost use Rattle.std.specs.Prelude.{◌≡◌, ◌↔◌, ◌≢◌, ℕ, ◌+◌, ◌<◌, ◌≤◌, ◌^◌, true, false, [], ◌∷◌, find, length, IfErr, IfOk, IfSome, OnOk, OnErr, None};
 ghost use Rattle.std.specs.Option.{option_map, ok_or};
 ghost use Rattle.forest.specs.Forest.{Empty, has, at, size, parent_of, removed, AllNodes};
 ghost use Rattle.owner_items.specs.ItemList.{is_of};
-ghost use Rattle.owner_core.specs.Owners.{owners_of, IsLive, has_begun, items_of, spare_of, created, entered, forgotten, remembered, AllAt, HoldsNothing};
-ghost use Rattle.owner_core.specs.Sound.{IsSoundTable};
+ghost use Rattle.owner_core.specs.Sound.{IsSound};
 ghost use Rattle.owner_core.specs.Released.{released};
-ghost use Rattle.session_rules.specs.State.{buffer_pin};
+ghost use Rattle.session_rules.specs.State.{buffer_pin, file_kind};
 ghost use Rattle.session_rules.specs.Making.{owner_made};
-ghost use Rattle.session_rules.specs.Taking.{item_taken};
+ghost use Rattle.session_rules.specs.Taking.{descriptor_given, item_taken};
 ghost use Rattle.session_rules.specs.Releases.{phase_released, owner_released, owner_gone, item_released};
 ghost use Rattle.session_owners.specs.Tables.{built_in_kinds};
-ghost use Rattle.session_owners.specs.Counted.{HoldsCounted, IsReference, all_released};
+ghost use Rattle.session_owners.specs.Counted.{HoldsCounted, IsReference, all_released, files_held, holds_file};
+ghost use Rattle.session_owners.specs.ResourceState.{owners_of, IsLive, has_begun, items_of, spare_of, created, entered, forgotten, remembered, AllAt, HoldsNothing};
 ghost use Rattle.session_owners.specs.Fitting.{Acted};
 
 use crate::tables::Tables;
+use file_table::FileError;
 use owner_core::{OwnerError, Owners, Release};
 use pgs_step::{Emit, Item, KindId, OwnerId, Phase};
 use std::alloc::{AllocError, Global};
 use std::marker::Model;
 
-/// The resource owners of a session and the counts of the pins and references that they hold.
+/// The resource owners of a session and the counts of the pins, references and files that they hold.
 ///
-/// Contracts see it as the owners alone: the tables count each item just as often as they hold it. Each call that
-/// says something is an act of the session's rules, at each scene with these owners.
+/// Contracts see it as the owners, the files that have a descriptor, and how many can have one: the tables count each item just
+/// as often as the owners hold it. Each call that says something is an act of the session's rules, at each scene with these
+/// owners and files.
 #[derive(Drop)]
 pub struct Resources {
     owners: Owners,
@@ -31,29 +33,29 @@ pub struct Resources {
 }
 
 impl Model for Resources {
-    ghost use Rattle.owner_core.specs.Owners.{OwnerTable};
+    ghost use Rattle.session_owners.specs.ResourceState.{ResourceState, resource_code};
 
-    ghost Value = { OwnerTable };
+    ghost Value = { ResourceState };
 
-    ghost use Rattle.owner_core.specs.TableCode.{owner_table_code};
-
-    ghost coded = { owner_table_code };
+    ghost coded = { resource_code };
 
     ghost use Rattle.session_owners.specs.Counted.{IsCounted};
 
-    ghost view = { λ r. r.owners };
+    ghost view = { λ r. record { rooms = r.owners.rooms; places = r.owners.places; next_owner = r.owners.next_owner; next_serial = r.owners.next_serial; recent = r.tables.files.recent; descriptors = r.tables.files.descriptors } };
 
     ghost invariant = { λ r. IsCounted r.owners r.tables };
 }
 
 impl Resources {
-    /// No owner, no buffer is pinned, and no reference is held. It fails for want of memory alone.
-    pub fn new(alloc: Global) -> Result<Resources, AllocError>
-        ensures begins { IfOk result (λ resources. resources ≡ record { rooms = Empty; places = Empty; next_owner = 1; next_serial = 1 }) }
+    /// No owner, no buffer is pinned, no reference is held and no file is open, and this many files can have a descriptor.
+    /// It fails for want of memory alone.
+    pub fn new(alloc: Global, descriptors: u8) -> Result<Resources, AllocError>
+        requires descriptors { 0 < descriptors }
+        ensures begins { IfOk result (λ resources. resources ≡ record { rooms = Empty; places = Empty; next_owner = 1; next_serial = 1; recent = []; descriptors = descriptors }) }
     {
         Ok(Resources {
             owners: Owners::new(alloc),
-            tables: Tables::new(alloc)?,
+            tables: Tables::new(alloc, descriptors)?,
         })
     }
 
@@ -86,7 +88,8 @@ impl Resources {
         self.owners.create(parent, out)
     }
 
-    /// Makes room for one more item of the owner, which `pin` and `add_reference` then need: `ResourceOwnerEnlarge`.
+    /// Makes room for one more item of the owner, which `pin`, `add_reference` and `open_file` then need:
+    /// `ResourceOwnerEnlarge`.
     ///
     /// `Releasing` comes where the owner's release has begun, `Memory` where memory is refused, or where
     /// the owner has more than 2^40 items and their table has to be made anew.
@@ -98,6 +101,8 @@ impl Resources {
         ensures places { self.new.places ≡ self.old.places }
         ensures next_owner { self.new.next_owner ≡ self.old.next_owner }
         ensures next_serial { self.new.next_serial ≡ self.old.next_serial }
+        ensures recent { self.new.recent ≡ self.old.recent }
+        ensures descriptors { self.new.descriptors ≡ self.old.descriptors }
         ensures releasing { (result ≡ Err OwnerError.Releasing) ↔ (has_begun owner.number (owners_of self.old) ≡ true) }
         ensures refused { OnErr result (self.new ≡ self.old) }
         ensures not_too_many { result ≢ Err OwnerError.TooMany }
@@ -154,6 +159,57 @@ impl Resources {
         Ok(())
     }
 
+    /// Opens a file, which gets a descriptor, and the owner remembers it, in room that `enlarge` has made: `PathNameOpenFile`.
+    ///
+    /// `TooMany` comes exactly where 4,096 files are open, else `Memory` where memory is refused.
+    pub fn open_file<E: Emit>(
+        &mut self,
+        owner: OwnerId,
+        file: u32,
+        out: &mut E,
+    ) -> Result<(), FileError>
+        requires live { IsLive self.old owner }
+        requires spare { 1 ≤ spare_of owner.number self.old }
+        requires not_begun { has_begun owner.number (owners_of self.old) ≡ false }
+        requires closed { holds_file file (owners_of self.old) ≡ false }
+        requires serial { self.old.next_serial < 2 ^ 62 }
+        ensures others { (other : ℕ) → other ≢ owner.number → spare_of other self.new ≡ spare_of other self.old }
+        ensures owners { OnOk result (owners_of self.new ≡ remembered owner.number (record { kind = file_kind; key = file; serial = self.old.next_serial }) (owners_of self.old)) }
+        ensures places { self.new.places ≡ self.old.places }
+        ensures acted { OnOk result (Acted (item_taken owner.number file_kind file) self.old self.new (λ events. E.emits out.old events out.new)) }
+        ensures too_many { (result ≡ Err FileError.TooMany) ↔ (4096 ≤ length (files_held (owners_of self.old))) }
+        ensures causes { (result ≢ Err FileError.Taken) × (result ≢ Err FileError.NoFile) }
+        ensures refused { OnErr result (self.new ≡ self.old) }
+        ensures silent { OnErr result (out.new ≡ out.old) }
+    {
+        self.tables.laws();
+        if let Err(error) = self.tables.open_file(file, out) {
+            return Err(error);
+        }
+        self.owners.remember(owner, KindId::FILE, file, out);
+        Ok(())
+    }
+
+    /// Uses an open file, which gets a descriptor where it has none: `FileAccess`. It fails for want of memory alone.
+    pub fn touch<E: Emit>(&mut self, file: u32, out: &mut E) -> Result<(), FileError>
+        requires open { holds_file file (owners_of self.old) ≡ true }
+        ensures owners { owners_of self.new ≡ owners_of self.old }
+        ensures places { self.new.places ≡ self.old.places }
+        ensures acted { OnOk result (Acted (descriptor_given file) self.old self.new (λ events. E.emits out.old events out.new)) }
+        ensures causes { IfErr result (λ error. error ≡ FileError.Memory) }
+        ensures refused { OnErr result (self.new ≡ self.old) }
+        ensures silent { OnErr result (out.new ≡ out.old) }
+    {
+        self.tables.touch(file, out)
+    }
+
+    /// Whether an owner holds the file, so that it is open.
+    pub fn is_open(&self, file: u32) -> bool
+        ensures { result ≡ holds_file file (owners_of self.now) }
+    {
+        self.tables.is_open(file)
+    }
+
     /// The owner forgets its newest item of this kind and key, and that is given back: `ResourceOwnerForget`.
     ///
     /// `Releasing` comes where the owner's release has begun, else `NotOwned` where it has no such item.
@@ -172,6 +228,7 @@ impl Resources {
         ensures places { self.new.places ≡ self.old.places }
         ensures next_owner { self.new.next_owner ≡ self.old.next_owner }
         ensures next_serial { self.new.next_serial ≡ self.old.next_serial }
+        ensures descriptors { self.new.descriptors ≡ self.old.descriptors }
         ensures acted { OnOk result (Acted (item_released owner.number kind key) self.old self.new (λ events. E.emits out.old events out.new)) }
         ensures refused { OnErr result (self.new ≡ self.old) }
         ensures silent { OnErr result (out.new ≡ out.old) }
@@ -242,7 +299,7 @@ impl Resources {
     /// How many owners live.
     pub fn count(&self) -> u64
         ensures count { result ≡ size (owners_of self.now) }
-        ensures sound { IsSoundTable self.now }
+        ensures sound { IsSound (owners_of self.now) self.now.next_owner self.now.next_serial }
         ensures items { AllNodes HoldsCounted (owners_of self.now) }
     {
         self.owners.count()

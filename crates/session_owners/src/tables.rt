@@ -1,9 +1,12 @@
-//! How often a session pins each buffer and holds each reference, and the kinds of resources that there are.
-ghost use Rattle.std.specs.Prelude.{◌≡◌, ◌≢◌, ◌<◌, ◌+◌, ◌^◌, [], ℕ, List, length, slice_index, slice_set, replicate, IfOk, OnOk, OnErr};
+//! How often a session pins each buffer and holds each reference, its open files, and the kinds of resources that there are.
+ghost use Rattle.std.specs.Prelude.{◌≡◌, ◌≢◌, ◌↔◌, ◌<◌, ◌+◌, ◌^◌, [], ℕ, List, false, length, slice_index, slice_set, replicate, IsTrue, IfOk, OnOk, OnErr};
 ghost use Rattle.counts.specs.Counts.{total};
 ghost use Rattle.ref_table.specs.References.{RefersOneMore};
+ghost use Rattle.file_table.specs.Descriptors.{is_among};
+ghost use Rattle.file_table.specs.Files.{IsSound, OpensOneLess, OpensOneMore, closed_file, closing_events, opened_file, opening_events, opens, touch_events, touched_file};
 ghost use Rattle.session_owners.specs.Tables.{built_in_kinds, times_held, TablesDo};
 
+use file_table::{FileError, FileTable};
 use owner_core::Release;
 use owner_kinds::{CountedKind, KindShelf};
 use pgs_step::{Emit, Item, KindId, OwnerId};
@@ -14,11 +17,13 @@ use std::marker::Model;
 /// How many buffers there are.
 pub(crate) const BUFFERS: u32 = 1024;
 
-/// The session's counts of pins of each buffer and of references, and the shelf of extension kinds, which is empty.
+/// The session's counts of pins of each buffer and of references, its open files, and the shelf of extension kinds, which
+/// is empty.
 #[derive(Drop)]
 pub(crate) struct Tables {
     pins: Vec<u64>,
     references: RefTable,
+    files: FileTable,
     kinds: KindShelf<CountedKind>,
 }
 
@@ -31,20 +36,28 @@ impl Model for Tables {
 
     ghost coded = { held_code };
 
-    ghost view = { λ t. record { pins = t.pins.items; references = t.references } };
+    ghost view = { λ t. record { pins = t.pins.items; references = t.references; files = t.files } };
 
     ghost invariant = { λ t. record { buffers : vec_len t.pins ≡ 1024; no_kind : t.kinds ≡ [] } };
 }
 
 impl Tables {
-    /// No buffer is pinned, and no reference is held.
-    pub(crate) fn new(alloc: Global) -> Result<Tables, AllocError>
+    /// No buffer is pinned, no reference is held and no file is open, and this many files can have a descriptor. It fails
+    /// for want of memory alone.
+    pub(crate) fn new(alloc: Global, descriptors: u8) -> Result<Tables, AllocError>
+        requires descriptors { 0 < descriptors }
         ensures pins { IfOk result (λ tables. tables.pins ≡ replicate 1024 0) }
         ensures references { IfOk result (λ tables. tables.references ≡ []) }
+        ensures files { IfOk result (λ tables. tables.files ≡ record { descriptors = descriptors; opened = []; recent = [] }) }
     {
+        let files = match FileTable::new(alloc, descriptors) {
+            Ok(files) => files,
+            Err(_) => return Err(AllocError),
+        };
         Ok(Tables {
             pins: vec![in alloc; 0; BUFFERS as usize]?,
             references: RefTable::new(alloc),
+            files,
             kinds: KindShelf::new(alloc, Vec::new(alloc))?,
         })
     }
@@ -63,12 +76,73 @@ impl Tables {
     pub(crate) fn add_reference(&mut self, class: KindId, key: u32) -> Result<(), AllocError>
         requires room { total self.old.references < 2 ^ 62 }
         ensures pins { self.new.pins ≡ self.old.pins }
+        ensures files { self.new.files ≡ self.old.files }
         ensures buffers { length self.new.pins ≡ 1024 }
         ensures counts { OnOk result (RefersOneMore self.old.references self.new.references class.0 key) }
         ensures total { OnOk result (total self.new.references ≡ total self.old.references + 1) }
         ensures refused { OnErr result (self.new ≡ self.old) }
     {
         self.references.add(class, key)
+    }
+
+    /// Opens a file and gives it a descriptor.
+    ///
+    /// It answers `Taken` exactly where the file is open, and else `TooMany` exactly where 4,096 files are.
+    pub(crate) fn open_file<E: Emit>(&mut self, file: u32, out: &mut E) -> Result<(), FileError>
+        ensures opened { OnOk result (self.new ≡ record self.old { files = opened_file file self.old.files }) }
+        ensures counts { OnOk result (OpensOneMore self.old.files self.new.files file) }
+        ensures buffers { length self.new.pins ≡ 1024 }
+        ensures events { OnOk result (E.emits out.old (opening_events file self.old.files) out.new) }
+        ensures taken { (result ≡ Err FileError.Taken) ↔ IsTrue (is_among file self.old.files.opened) }
+        ensures too_many { (result ≡ Err FileError.TooMany) ↔ ((is_among file self.old.files.opened ≡ false) × (length self.old.files.opened ≡ 4096)) }
+        ensures no_other { result ≢ Err FileError.NoFile }
+        ensures refused { OnErr result (self.new ≡ self.old) }
+        ensures silent { OnErr result (out.new ≡ out.old) }
+    {
+        self.files.open_file(file, out)
+    }
+
+    /// Uses an open file, which has a descriptor then. It answers `NoFile` exactly where the file isn't open.
+    pub(crate) fn touch<E: Emit>(&mut self, file: u32, out: &mut E) -> Result<(), FileError>
+        ensures touched { OnOk result (self.new ≡ record self.old { files = touched_file file self.old.files }) }
+        ensures open { self.new.files.opened ≡ self.old.files.opened }
+        ensures pins { self.new.pins ≡ self.old.pins }
+        ensures references { self.new.references ≡ self.old.references }
+        ensures events { OnOk result (E.emits out.old (touch_events file self.old.files) out.new) }
+        ensures no_file { (result ≡ Err FileError.NoFile) ↔ (is_among file self.old.files.opened ≡ false) }
+        ensures no_other { (result ≢ Err FileError.Taken) × (result ≢ Err FileError.TooMany) }
+        ensures refused { OnErr result (self.new ≡ self.old) }
+        ensures silent { OnErr result (out.new ≡ out.old) }
+    {
+        self.files.touch(file, out)
+    }
+
+    /// Closes an open file, and its descriptor where it has one.
+    fn close_file<E: Emit>(&mut self, file: u32, out: &mut E)
+        requires open { 0 < opens self.old.files file }
+        ensures closed { self.new ≡ record self.old { files = closed_file file self.old.files } }
+        ensures counts { OpensOneLess self.old.files self.new.files file }
+        ensures buffers { length self.new.pins ≡ 1024 }
+        ensures events { E.emits out.old (closing_events file self.old.files) out.new }
+    {
+        match self.files.close_file(file, out) {
+            Ok(()) => {}
+            Err(_) => unreachable!(),
+        }
+    }
+
+    /// Whether the file is open.
+    pub(crate) fn is_open(&self, file: u32) -> bool
+        ensures { result ≡ is_among file self.now.files.opened }
+    {
+        self.files.is_open(file)
+    }
+
+    /// Facts of the open files, for proofs. It does nothing.
+    pub(crate) fn laws(&self)
+        ensures sound { IsSound self.now.files }
+    {
+        self.files.laws();
     }
 }
 
@@ -92,6 +166,9 @@ impl Release for Tables {
             self.pins[item.key as usize] -= 1;
             return;
         }
+        if item.kind == KindId::FILE {
+            return self.close_file(item.key, out);
+        }
         match self.references.drop_ref(item.kind, item.key) {
             Ok(()) => {}
             Err(_) => unreachable!(),
@@ -105,7 +182,7 @@ impl Release for Tables {
 
     fn release_all<E: Emit>(&mut self, _top: OwnerId, out: &mut E) {}
 
-    ghost use Rattle.session_owners.specs.Tables.{TablesDo-nothing, TablesDo-said, TablesDo-more};
+    ghost use Rattle.session_owners.specs.TableLaws.{TablesDo-nothing, TablesDo-said, TablesDo-more};
 
     ghost does_nothing = { TablesDo-nothing };
 

@@ -1,6 +1,6 @@
 //! What owners say when they are made, hold pins, and end.
 ghost use Rattle.std.specs.Prelude.{◌≡◌, ◌+◌, ◌<◌, ◌^◌, false, OnOk};
-ghost use Rattle.owner_core.specs.Owners.{owners_of, IsLive, has_begun, remembered};
+ghost use Rattle.session_owners.specs.ResourceState.{owners_of, IsLive, has_begun, remembered};
 ghost use Rattle.session_rules.specs.State.{buffer_pin};
 
 use crate::Resources;
@@ -39,7 +39,7 @@ fn hold(
 #[test]
 fn children_come_and_go_before_their_parent(rt: HostRuntime) -> Result<(), Fail> {
     let mut out = EventList::new(rt.alloc(), 20)?;
-    let mut resources = Resources::new(rt.alloc())?;
+    let mut resources = Resources::new(rt.alloc(), 8)?;
     let top = resources.make_owner(None, &mut out)?;
     let _child = resources.make_owner(Some(top), &mut out)?;
     assert_eq!(rt; resources.count(), 2);
@@ -61,7 +61,7 @@ fn children_come_and_go_before_their_parent(rt: HostRuntime) -> Result<(), Fail>
 #[test]
 fn pins_are_released_with_warnings_at_commit(rt: HostRuntime) -> Result<(), Fail> {
     let mut out = EventList::new(rt.alloc(), 20)?;
-    let mut resources = Resources::new(rt.alloc())?;
+    let mut resources = Resources::new(rt.alloc(), 8)?;
     let top = resources.make_owner(None, &mut out)?;
     hold(&mut resources, top, 7, &mut out)?;
     hold(&mut resources, top, 1023, &mut out)?;
@@ -104,7 +104,7 @@ fn pins_are_released_with_warnings_at_commit(rt: HostRuntime) -> Result<(), Fail
 #[test]
 fn a_child_is_released_alone_at_abort(rt: HostRuntime) -> Result<(), Fail> {
     let mut out = EventList::new(rt.alloc(), 20)?;
-    let mut resources = Resources::new(rt.alloc())?;
+    let mut resources = Resources::new(rt.alloc(), 8)?;
     let top = resources.make_owner(None, &mut out)?;
     let child = resources.make_owner(Some(top), &mut out)?;
     hold(&mut resources, child, 7, &mut out)?;
@@ -134,7 +134,7 @@ fn a_child_is_released_alone_at_abort(rt: HostRuntime) -> Result<(), Fail> {
 #[test]
 fn an_owner_that_is_released_gets_no_room(rt: HostRuntime) -> Result<(), Fail> {
     let mut out = EventList::new(rt.alloc(), 20)?;
-    let mut resources = Resources::new(rt.alloc())?;
+    let mut resources = Resources::new(rt.alloc(), 8)?;
     let top = resources.make_owner(None, &mut out)?;
     resources.release(top, false, true, &mut out);
     assert_eq!(rt; resources.enlarge(top), Err(OwnerError::Releasing));

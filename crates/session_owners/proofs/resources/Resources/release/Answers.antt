@@ -4,7 +4,7 @@ use Rattle.session_owners.proofs.Acts.{acted_release}
 use Rattle.std.proofs.Common.{◌≡◌, ◌∙◌, ap, subst, sym, None, true, ◌↔◌, Option, ℕ}
 use Rattle.pgs_step.specs.declared.ids.Phase.TheVariants.{BeforeLocks, Locks, AfterLocks}
 use Rattle.forest.specs.Forest.{parent_of}
-use Rattle.owner_core.specs.Owners.{AllAt, HoldsNothing, OwnerTree, owners_of}
+use Rattle.session_owners.specs.ResourceState.{AllAt, HoldsNothing, OwnerTree, owners_of}
 use Rattle.owner_core.specs.Released.{own_released, released}
 use Rattle.owner_core.proofs.Swept.{parent_swept}
 use Rattle.session_owners.specs.Tables.{built_in_kinds}

@@ -1,13 +1,13 @@
-use Rattle.std.proofs.Common.{List, ap, subst, ◌∙◌}
+use Rattle.std.proofs.Common.{List, refl, subst}
 use Rattle.pgs_step.specs.declared.events.What.{What}
-use Rattle.owner_core.specs.Released.{released}
-use Rattle.owner_core.specs.Steps.{release_steps}
-use Rattle.session_owners.specs.Tables.{said}
+use Rattle.session_rules.specs.Releases.{phase_released}
+use Rattle.session_owners.specs.ResourceState.{ResourceState}
+use Rattle.session_owners.specs.Fitting.{Acted}
 use Rattle.session_owners.proofs.Acts.{acted_phase}
 use Rattle.std.specs.Prelude.{All}
 use Rattle.pgs_step.specs.declared.ids.Item.{Item}
 use Rattle.owner_kinds.specs.KindTable.{IsKind}
-use Rattle.owner_core.specs.Owners.{OwnerTable, owners_of}
+use Rattle.owner_core.specs.Owners.{owners_of}
 use Rattle.owner_core.proofs.Swept.{all_below}
 use Rattle.session_owners.specs.Tables.{built_in_kinds}
 use Rattle.session_owners.proofs.Left.{kinds_known}
@@ -30,11 +30,23 @@ invariant_of-self g c =
 pub returns-clause-acted : goal.returns-clause-acted
 returns-clause-acted g c =
     let done = c.release.ensures.steps in
-    acted_phase c.args.commit c.args.top c.args.owner.number c.args.phase c.args.self.now c.release.new.self
-    (λ (events : List What). g.E.Emit.emits c.args.out.now events c.release.new.out)
-    (c.release.ensures.owners ∙ ap (λ (t : OwnerTable). released built_in_kinds c.args.phase c.args.owner.number (owners_of t)) c.self.view_is)
-    (c.release.ensures.next_owner ∙ ap (λ (t : OwnerTable). t.next_owner) c.self.view_is)
-    (c.release.ensures.next_serial ∙ ap (λ (t : OwnerTable). t.next_serial) c.self.view_is)
-    (subst (λ (events : List What). g.E.Emit.emits c.args.out.now events c.release.new.out)
-    (done.1.events_are ∙ ap (λ (t : OwnerTable). said (release_steps built_in_kinds c.args.phase c.args.commit c.args.top c.args.owner.number (owners_of t))) c.self.view_is)
-    done.2)
+    let was : ResourceState = record {
+      rooms = c.self.inside.owners.rooms;
+      places = c.self.inside.owners.places;
+      next_owner = c.self.inside.owners.next_owner;
+      next_serial = c.self.inside.owners.next_serial;
+      recent = c.self.inside.tables.files.recent;
+      descriptors = c.self.inside.tables.files.descriptors;
+    } in
+    let now : ResourceState = record {
+      rooms = c.release.new.self.rooms;
+      places = c.release.new.self.places;
+      next_owner = c.release.new.self.next_owner;
+      next_serial = c.release.new.self.next_serial;
+      recent = c.release.new.table.files.recent;
+      descriptors = c.release.new.table.files.descriptors;
+    } in
+    let says : List What → Type 0 = λ (events : List What). g.E.Emit.emits c.args.out.now events c.release.new.out in
+    subst (λ (a : ResourceState). Acted (phase_released c.args.commit c.args.top c.args.owner.number c.args.phase) a now says) c.self.view_is
+    (acted_phase was now c.self.inside.tables c.release.new.table refl refl done.1.descriptors c.args.commit c.args.top c.args.owner.number c.args.phase done.0 says
+    c.release.ensures.owners c.release.ensures.next_owner c.release.ensures.next_serial done.1 done.2)

@@ -1,0 +1,39 @@
+use Rattle.std.proofs.Common.{◌≡◌, ◌≢◌, ◌↔◌, ◌≤◌, false, length, Result, Ok, Err, ap, subst, sym, ◌∙◌}
+use Rattle.file_table.specs.declared.files.FileError.{FileError}
+use Rattle.file_table.specs.declared.files.FileError.TheVariants.{NoFile, Taken, TooMany}
+use Rattle.owner_core.specs.Owners as owners
+use Rattle.session_rules.specs.State.{file_kind}
+use Rattle.session_owners.specs.Counted.{files_held, holds_file}
+use Rattle.session_owners.specs.ResourceState.{ResourceState, owners_of, spare_of}
+use Rattle.session_owners.proofs.Kept.{counted_opened}
+use Rattle.session_owners.proofs.OpenFiles.{full, not_taken}
+use Rattle.session_owners.proofs.resources.Resources.open_file.Goals as goal
+
+pub returns-in-Err-clause-too_many : goal.returns-in-Err-clause-too_many
+returns-in-Err-clause-too_many g c =
+    let t = owners.owners_of c.self.inside.owners in
+    let closed : holds_file c.args.file t ≡ false = ap (λ (state : ResourceState). holds_file c.args.file (owners_of state)) c.self.view_is ∙ c.requires.closed in
+    subst (λ (state : ResourceState). (Err c.in-Err.error ≡ Err TooMany) ↔ (4096 ≤ length (files_held (owners_of state)))) c.self.view_is
+    (subst (λ (r : Result (Unit {0}) FileError). (r ≡ Err TooMany) ↔ (4096 ≤ length (files_held t))) c.in-Err.is
+    (full c.self.inside.tables.files t c.args.file c.open_file.result c.laws.ensures.sound (λ key. c.self.invariant.counted file_kind key) closed c.open_file.ensures.too_many))
+
+pub returns-in-Err-clause-causes : goal.returns-in-Err-clause-causes
+returns-in-Err-clause-causes g c =
+    let t = owners.owners_of c.self.inside.owners in
+    let closed : holds_file c.args.file t ≡ false = ap (λ (state : ResourceState). holds_file c.args.file (owners_of state)) c.self.view_is ∙ c.requires.closed in
+    subst (λ (r : Result (Unit {0}) FileError). (r ≢ Err Taken) × (r ≢ Err NoFile)) c.in-Err.is
+    (not_taken c.self.inside.tables.files t c.args.file c.open_file.result (c.self.invariant.counted file_kind c.args.file) closed c.open_file.ensures.taken c.open_file.ensures.no_other)
+
+pub invariant_of-self-2 : goal.invariant_of-self-2
+invariant_of-self-2 g c =
+    counted_opened c.self.inside.owners _ c.self.inside.tables _ c.args.owner.number c.args.file c.self.invariant
+    (subst (λ (state : ResourceState). 1 ≤ spare_of c.args.owner.number state) (sym c.self.view_is) c.requires.spare)
+    c.in_default.ensures.opened c.in_default.ensures.counts c.remember.ensures.owners c.remember.ensures.next_owner c.remember.ensures.next_serial
+
+pub returns-clause-too_many : goal.returns-clause-too_many
+returns-clause-too_many g c =
+    let t = owners.owners_of c.self.inside.owners in
+    let closed : holds_file c.args.file t ≡ false = ap (λ (state : ResourceState). holds_file c.args.file (owners_of state)) c.self.view_is ∙ c.requires.closed in
+    subst (λ (state : ResourceState). (Ok (tt {0}) ≡ Err TooMany) ↔ (4096 ≤ length (files_held (owners_of state)))) c.self.view_is
+    (subst (λ (r : Result (Unit {0}) FileError). (r ≡ Err TooMany) ↔ (4096 ≤ length (files_held t))) c.in_default.is
+    (full c.self.inside.tables.files t c.args.file c.open_file.result c.laws.ensures.sound (λ key. c.self.invariant.counted file_kind key) closed c.open_file.ensures.too_many))

@@ -1,0 +1,43 @@
+-- What the resources of a session are seen as: its owners, and its files as far as their descriptors go.
+use Rattle.std.specs.Prelude.{◌≡◌, ℕ, List, [], Some, refl}
+use Rattle.std.specs.Option.{option_map_or}
+use Rattle.std.specs.Coded.{Coded, code_by, coded×, coded_ℕ, coded_list}
+use Rattle.pgs_step.specs.declared.ids.OwnerId.{OwnerId}
+use Rattle.forest.specs.Forest.{Forest, at}
+use Rattle.forest.specs.Code.{forest_code}
+use Rattle.file_table.specs.Files.{Files}
+use Rattle.owner_core.specs.TableCode.{roomy_code}
+pub use Rattle.owner_core.specs.Owners.{Owner, OwnerTree, Roomy, AllAt, HoldsNothing, created, entered, forgotten, has_begun, held, items_of, remembered, tree_of}
+
+-- the owners with their room, where each lies, the numbers that the next owner and the next item get, the files that have a
+-- descriptor, the most recently used first, and how many descriptors there are
+pub record ResourceState : Type 0 where
+  pub rooms : Forest Roomy
+  pub places : Forest ℕ
+  pub next_owner : ℕ
+  pub next_serial : ℕ
+  pub recent : List ℕ
+  pub descriptors : ℕ
+
+abbrev pub resource_code : Coded ResourceState
+resource_code =
+    code_by (Forest Roomy × (Forest ℕ × (ℕ × (ℕ × (List ℕ × ℕ)))))
+    (coded× (forest_code roomy_code) (coded× (forest_code coded_ℕ) (coded× coded_ℕ (coded× coded_ℕ (coded× (coded_list coded_ℕ) coded_ℕ)))))
+    (λ r. (r.rooms, (r.places, (r.next_owner, (r.next_serial, (r.recent, r.descriptors))))))
+    (λ p. record { rooms = p.0; places = p.1.0; next_owner = p.1.1.0; next_serial = p.1.1.1.0; recent = p.1.1.1.1.0; descriptors = p.1.1.1.1.1 }) (λ _. refl)
+
+-- the owners alone
+abbrev pub owners_of : ResourceState → OwnerTree
+owners_of state = tree_of state.rooms
+
+-- the owner is there, at this slot
+abbrev pub IsLive : ResourceState → OwnerId → Type 0
+IsLive state owner = at owner.number state.places ≡ Some owner.slot
+
+-- for how many more items the owner of that number has room
+abbrev pub spare_of : ℕ → ResourceState → ℕ
+spare_of n state = option_map_or (λ room. room.spare) (at n state.rooms) 0
+
+-- the files, as far as their descriptors go
+abbrev pub files_of : ResourceState → Files
+files_of state = record { descriptors = state.descriptors; opened = []; recent = state.recent }
