@@ -1,6 +1,6 @@
 -- What the ends of levels ask for, where the session stands, and what still lies behind them.
 use Rattle.std.proofs.Common.{◌≡◌, ◌↔◌, ℕ, ◌+◌, ◌<◌, Bool, true, false, Option, Some, None, List, [], ◌∷◌, ◌++◌, length, All, IfSome, IsSome, refl, sym, ap, ◌∙◌, subst, arith}
-use Rattle.std.specs.Prelude.{◌==◌, unwrap_or}
+use Rattle.std.specs.Prelude.{◌==◌, if◌then◌else◌, unwrap_or}
 use Rattle.std.specs.Option.{option_map, option_to_list}
 use Rattle.std.proofs.lemmas.Bool.{eq-eqb, eqb-true}
 use Rattle.std.proofs.lemmas.List.{length-append}
@@ -11,16 +11,19 @@ use Rattle.forest.proofs.Mapped.{mapped-has}
 use Rattle.pgs_step.specs.declared.ids.CtxId.{CtxId}
 use Rattle.pgs_step.specs.declared.ids.OwnerId.{OwnerId}
 use Rattle.reset_callbacks.specs.ShelfState.{ShelfState}
+use Rattle.context_rules.specs.Contexts.{Contexts, is_empty}
 use Rattle.context_rules.specs.Refusals.{is_within}
 use Rattle.context_tree.specs.State.{TreeState, Agrees, HooksFit, IsLive, Moves, place_of, stands_for}
-use Rattle.owner_core.specs.Owners as owners
-use Rattle.owner_core.specs.Owners.{AllAt, HoldsNothing, OwnerTable, Roomy, owners_of}
+use Rattle.session_owners.specs.ResourceState as owners
+use Rattle.session_owners.specs.ResourceState.{AllAt, HoldsNothing, ResourceState, Roomy, owners_of}
 use Rattle.subxact_stack.specs.declared.levels.Level.{Level}
 use Rattle.session_rules.specs.State.{context_of, first_of, is_aborted}
+use Rattle.session_rules.specs.World.{Scene}
+use Rattle.session_rules.specs.Acts.{context_gone, where_so, where_there}
 use Rattle.session_rules.specs.Standing.{Stands}
 use Rattle.session_rules.proofs.EndsStand.{settled}
 use Rattle.session_rules.proofs.Standings.{current_outside, top_owner}
-use Rattle.session_store.specs.State.{StoreState, level_state, levels_of, scene_of, session_of}
+use Rattle.session_store.specs.State.{StoreState, level_state, levels_of, only_empty, scene_of, session_of}
 use Rattle.session_store.specs.Placed.{IsPlaced, LevelLies, Lies}
 use Rattle.session_store.specs.Calls.{Keeps, StandsIn}
 use Rattle.session_store.proofs.Answered.{if_some, some_both}
@@ -83,8 +86,28 @@ module _ (a : StoreState) (s : Space) (x : ShelfState) (outer : List Level) (lev
       let h : Stands (settled (level_state level ∷ levels_of outer) (scene_of a s x nowhere)) = stands_deep a s x outer level e stands in
       if_some level.owner (λ id f. h.fit.0.released id.number was (ap (option_map (λ (o : OwnerId). o.number)) f))
 
+-- what holds of a context holds of it where it is empty
+pub kept_some : (P : CtxId → Type 0) (context : Option CtxId) (contexts : Contexts) → IfSome context P → IfSome (only_empty context contexts) P
+kept_some P None contexts holds = holds
+kept_some P (Some id) contexts holds = go (is_empty id.number contexts)
+  where
+    go : (b : Bool) → IfSome (if b then Some id else None) P
+    go true = holds
+    go false = tt
+
+-- a context goes where it is empty
+pub only_gone : (context : Option CtxId) (z : Scene)
+    → where_there (option_map (λ (id : CtxId). id.number) context) (λ n. where_so (is_empty n z.session.contexts) (context_gone n)) z
+    ≡ where_there (option_map (λ (id : CtxId). id.number) (only_empty context z.session.contexts)) context_gone z
+only_gone None z = refl
+only_gone (Some id) z = go (is_empty id.number z.session.contexts)
+  where
+    go : (b : Bool) → where_so b (context_gone id.number) z ≡ where_there (option_map (λ (id : CtxId). id.number) (if b then Some id else None)) context_gone z
+    go true = refl
+    go false = refl
+
 -- the levels above still lie
-module _ (tree b : TreeState) (table now : OwnerTable) (contexts : (n : ℕ) → has n b.kept ≡ true → place_of b n ≡ place_of tree n)
+module _ (tree b : TreeState) (table now : ResourceState) (contexts : (n : ℕ) → has n b.kept ≡ true → place_of b n ≡ place_of tree n)
     (others : (n : ℕ) → has n (owners_of now) ≡ true → at n now.places ≡ at n table.places) where
   level_left : (level : Level) → LevelLies tree table level → IsThere tree level → HasOwner table level → LevelLies b now level
   level_left level lies there has = record {
@@ -128,7 +151,7 @@ moves_back tree b id s t m = record {
 }
 
 -- the store keeps up with the space behind the end of a level
-pub keeps_left : (a : StoreState) (id : CtxId) (b : TreeState) (now : OwnerTable) (new : List Level) (s t : Space) → Keeps a s → Moves (record a.tree { current = id }) b s t → Keeps (record { tree = b; owners = now; levels = new }) t
+pub keeps_left : (a : StoreState) (id : CtxId) (b : TreeState) (now : ResourceState) (new : List Level) (s t : Space) → Keeps a s → Moves (record a.tree { current = id }) b s t → Keeps (record { tree = b; owners = now; levels = new }) t
 keeps_left a id b now new s t keeps moves =
     keeps_parts (record { tree = b; owners = a.owners; levels = a.levels }) now new t
     (keeps_on (record { tree = record a.tree { current = id }; owners = a.owners; levels = a.levels }) b s t (keeps_current a id a.owners a.levels s keeps) moves)
@@ -146,6 +169,6 @@ unfolding stands_for
 apart_current tree id s context apart = apart
 
 -- an owner lies where all that lay still do
-pub lives_on : (table now : OwnerTable) (owner : Option OwnerId) → now.places ≡ table.places → IfSome owner (owners.IsLive table) → IfSome owner (owners.IsLive now)
+pub lives_on : (table now : ResourceState) (owner : Option OwnerId) → now.places ≡ table.places → IfSome owner (owners.IsLive table) → IfSome owner (owners.IsLive now)
 lives_on table now None places live = tt
 lives_on table now (Some id) places live = ap (at id.number) places ∙ live

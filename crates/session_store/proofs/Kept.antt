@@ -13,7 +13,7 @@ use Rattle.context_node.specs.State.{context_of}
 use Rattle.context_rules.specs.Ends.{Ended}
 use Rattle.context_tree.specs.Calls.{Did, DidNothing}
 use Rattle.context_tree.specs.State.{TreeState, Agrees, IsLive, Moves, StaysPut, place_of, stands_for}
-use Rattle.owner_core.specs.Owners.{OwnerTable, OwnerTree, owners_of}
+use Rattle.session_owners.specs.ResourceState.{ResourceState, OwnerTree, owners_of}
 use Rattle.subxact_stack.specs.Levels.{level_at}
 use Rattle.subxact_stack.specs.declared.levels.Level.{Level}
 use Rattle.session_rules.specs.World.{Around}
@@ -117,7 +117,7 @@ goes_made a b s t moves stays fresh current = record {
 lies_on : (a b : TreeState) (id : CtxId) → ((n : ℕ) → has n a.kept ≡ true → has n b.kept ≡ true → place_of b n ≡ place_of a n) → Lies a id → has id.number a.kept ≡ true → Lies b id
 lies_on a b id stays lies was now = stays id.number was now ∙ lies was
 
-levels_on : (a b : TreeState) (table : OwnerTable) (levels : List Level) → ((n : ℕ) → has n a.kept ≡ true → has n b.kept ≡ true → place_of b n ≡ place_of a n)
+levels_on : (a b : TreeState) (table : ResourceState) (levels : List Level) → ((n : ℕ) → has n a.kept ≡ true → has n b.kept ≡ true → place_of b n ≡ place_of a n)
     → All (LevelLies a table) levels → All (IsThere a) levels → All (LevelLies b table) levels
 levels_on a b table [] stays lies there = All-nil (LevelLies b table)
 levels_on a b table (level ∷ levels) stays lies there =
@@ -126,14 +126,14 @@ levels_on a b table (level ∷ levels) stays lies there =
     (record { context = some_both level.context (λ id. lies_on a b id stays) first.context (All-head (IsThere a) level levels there); owner = first.owner })
     (levels_on a b table levels stays (All-tail (LevelLies a table) level levels lies) (All-tail (IsThere a) level levels there))
 
-pub placed_on : (a b : TreeState) (table : OwnerTable) (levels : List Level) → IsPlaced a table levels → AreThere a levels → ((n : ℕ) → has n a.kept ≡ true → has n b.kept ≡ true → place_of b n ≡ place_of a n) → b.current ≡ a.current
+pub placed_on : (a b : TreeState) (table : ResourceState) (levels : List Level) → IsPlaced a table levels → AreThere a levels → ((n : ℕ) → has n a.kept ≡ true → has n b.kept ≡ true → place_of b n ≡ place_of a n) → b.current ≡ a.current
     → IsPlaced b table levels
 placed_on a b table levels placed there stays current = record {
   current = subst (λ (id : CtxId). Lies b id) (sym current) (lies_on a b a.current stays placed.current there.current);
   levels = levels_on a b table levels stays placed.levels there.levels;
 }
 
-pub placed_put : (a b : TreeState) (table : OwnerTable) (levels : List Level) → IsPlaced a table levels → AreThere a levels → StaysPut a b → IsPlaced b table levels
+pub placed_put : (a b : TreeState) (table : ResourceState) (levels : List Level) → IsPlaced a table levels → AreThere a levels → StaysPut a b → IsPlaced b table levels
 placed_put a b table levels placed there put = placed_on a b table levels placed there (λ n was now. ap (λ (places : Forest ℕ). at n places) put.places) put.current
 
 -- the context of the level of a number lies where its id says
@@ -144,7 +144,7 @@ at_level P levels n level h e = go (n == 0) e
     go true e = absurd (cc e)
     go false e = all_at P levels (n - 1) level h e
 
-pub level_live : (tree : TreeState) (table : OwnerTable) (levels : List Level) (n : ℕ) (level : Level) → IsPlaced tree table levels → AreThere tree levels → level_at levels n ≡ Some level → IfSome level.context (IsLive tree)
+pub level_live : (tree : TreeState) (table : ResourceState) (levels : List Level) (n : ℕ) (level : Level) → IsPlaced tree table levels → AreThere tree levels → level_at levels n ≡ Some level → IfSome level.context (IsLive tree)
 level_live tree table levels n level placed there e =
     let lies : LevelLies tree table level = at_level (LevelLies tree table) levels n level placed.levels e in
     some_both level.context (λ id lies here. lies here) lies.context (at_level (IsThere tree) levels n level there.levels e)

@@ -15,7 +15,7 @@ use Rattle.context_rules.specs.Ends.{handed_in}
 use Rattle.context_tree.specs.Calls.{Did, DidNothing}
 use Rattle.context_tree.specs.State.{TreeState, SameRegions, StaysPut, left_of, stands_for}
 use Rattle.context_tree.proofs.Adding.{stands_still}
-use Rattle.owner_core.specs.Owners.{owners_of}
+use Rattle.session_owners.specs.ResourceState.{owners_of}
 use Rattle.session_rules.specs.State.{first_of}
 use Rattle.session_rules.specs.World.{Around, Scene}
 use Rattle.session_rules.specs.Acts.{of_contexts, switched, where_there}
@@ -41,9 +41,9 @@ scene_by a around contexts current next x limit = record {
     portals = [];
     snapshots = [];
     plans = [];
-    recent = [];
+    recent = a.owners.recent;
   };
-  around = record around { kinds = []; shelf = x; space = limit };
+  around = record around { kinds = []; shelf = x; space = limit; descriptors = a.owners.descriptors };
 }
 
 pub same_scene : (a : StoreState) (around : Around) (c d : Contexts) (i j m n : ℕ) (x y : ShelfState) (k l : ℕ) → c ≡ d → i ≡ j → m ≡ n → x ≡ y → k ≡ l → scene_by a around c i m x k ≡ scene_by a around d j n y l

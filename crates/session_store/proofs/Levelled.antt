@@ -14,8 +14,8 @@ use Rattle.reset_callbacks.specs.ShelfState.{ShelfState}
 use Rattle.context_rules.specs.Contexts.{Contexts, created, created_events}
 use Rattle.any_ctx.specs.declared.any.CtxKind.TheVariants as kind
 use Rattle.context_tree.specs.State.{TreeState, IsLive, stands_for}
-use Rattle.owner_core.specs.Owners as owners
-use Rattle.owner_core.specs.Owners.{OwnerTable, OwnerTree, Roomy, owners_of}
+use Rattle.session_owners.specs.ResourceState as owners
+use Rattle.session_owners.specs.ResourceState.{ResourceState, OwnerTree, Roomy, owners_of}
 use Rattle.subxact_stack.specs.declared.levels.Level.{Level}
 use Rattle.subxact_stack.specs.Levels.{level_at, new_level}
 use Rattle.session_rules.specs.State.{LevelState, context_of, deepest_changed, first_of, owner_of}
@@ -38,11 +38,11 @@ use Rattle.session_store.proofs.Kept.{IsThere, nowhere}
 use Rattle.session_store.proofs.Lists.{all_reverse}
 
 -- the space has what the store has in it, whatever its owners and its levels
-pub keeps_parts : (a : StoreState) (o : OwnerTable) (ls : List Level) (s : Space) → Keeps a s → Keeps (record a { owners = o; levels = ls }) s
+pub keeps_parts : (a : StoreState) (o : ResourceState) (ls : List Level) (s : Space) → Keeps a s → Keeps (record a { owners = o; levels = ls }) s
 unfolding session_of
 keeps_parts a o ls s k = record { agrees = k.agrees; held = k.held }
 
-pub keeps_current : (a : StoreState) (id : CtxId) (o : OwnerTable) (ls : List Level) (s : Space) → Keeps a s → Keeps (record { tree = record a.tree { current = id }; owners = o; levels = ls }) s
+pub keeps_current : (a : StoreState) (id : CtxId) (o : ResourceState) (ls : List Level) (s : Space) → Keeps a s → Keeps (record { tree = record a.tree { current = id }; owners = o; levels = ls }) s
 unfolding session_of stands_for
 keeps_current a id o ls s k = record {
   agrees = let g = k.agrees in record { account = g.account; each = g.each; owned = g.owned; apart = g.apart; known = g.known };
@@ -51,7 +51,7 @@ keeps_current a id o ls s k = record {
 
 -- the scene with other levels
 abbrev pub leveled : StoreState → List LevelState → Space → ShelfState → Around → Scene
-leveled a ls s x around = record { session = record (session_of a s) { levels = ls }; around = record around { kinds = []; shelf = x; space = s.limit } }
+leveled a ls s x around = record { session = record (session_of a s) { levels = ls }; around = record around { kinds = []; shelf = x; space = s.limit; descriptors = a.owners.descriptors } }
 
 pub scene_leveled : (a : StoreState) (ls : List LevelState) (s : Space) (x : ShelfState) (around : Around) → levels_of a.levels ≡ ls → scene_of a s x around ≡ leveled a ls s x around
 unfolding session_of
@@ -66,7 +66,7 @@ begun_acted a name implicit s x Said says = record {
   says = λ around. subst (λ (n : ℕ). Said (what.BeginLevel (n + 1) ∷ [])) (sym (levels_long a.levels)) says;
 }
 
-pub begun_placed : (tree : TreeState) (table : OwnerTable) (levels : List Level) (name : Option (List ℕ)) (implicit : Bool) → IsPlaced tree table levels → IsPlaced tree table (levels ++ new_level name implicit ∷ [])
+pub begun_placed : (tree : TreeState) (table : ResourceState) (levels : List Level) (name : Option (List ℕ)) (implicit : Bool) → IsPlaced tree table levels → IsPlaced tree table (levels ++ new_level name implicit ∷ [])
 begun_placed tree table levels name implicit placed = record {
   current = placed.current;
   levels = All-push (LevelLies tree table) levels (new_level name implicit) placed.levels (record { context = tt; owner = tt });
@@ -99,7 +99,7 @@ module _ (a : StoreState) (outer : List Level) (s : Space) (x : ShelfState) wher
   }
 
 -- the owner of a level is made
-pub owner_acted : (a : StoreState) (outer : List Level) (level : Level) (s : Space) (x : ShelfState) (p : OwnerTable) (id : OwnerId) (parent : Option ℕ) (Said : List What → Type 0) → a.levels ≡ outer ++ level ∷ []
+pub owner_acted : (a : StoreState) (outer : List Level) (level : Level) (s : Space) (x : ShelfState) (p : ResourceState) (id : OwnerId) (parent : Option ℕ) (Said : List What → Type 0) → a.levels ≡ outer ++ level ∷ []
     → parent ≡ owner_of (first_of (levels_of outer)) → id.number ≡ a.owners.next_owner → fitting.Acted (owner_made parent) a.owners p Said
     → Acted (new_owner_made OfLevel) a (record a { owners = p; levels = outer ++ record level { owner = Some id } ∷ [] }) s s x x Said
 unfolding session_of
@@ -109,7 +109,7 @@ owner_acted a outer level s x p id parent Said e up number made = record {
       ap (λ (z : Scene). (new_owner_made OfLevel z).scene) (scene_leveled a (level_state level ∷ levels_of outer) s x around (ap levels_of e ∙ levels_are outer level))
       ∙ ap (λ (o : Option ℕ). let y : Scene = (owner_made o z).scene in record y { session = record y.session { levels = deepest_changed (λ old. record old { owner = Some a.owners.next_owner }) y.session.levels } }) (sym up)
       ∙ ap (λ (y : Scene). record y { session = record y.session { levels = deepest_changed (λ old. record old { owner = Some a.owners.next_owner }) y.session.levels } })
-      (made.leads z (record { owners = refl; next_owner = refl; next_serial = refl; kinds = refl; locks = refl; plans = refl; files = refl }))
+      (made.leads z (record { owners = refl; next_owner = refl; next_serial = refl; kinds = refl; locks = refl; plans = refl; recent = refl; descriptors = refl }))
       ∙ ap (λ (n : ℕ). leveled (record a { owners = p }) (record (level_state level) { owner = Some n } ∷ levels_of outer) s x around) (sym number)
       ∙ ap (λ (ls : List LevelState). leveled (record a { owners = p }) ls s x around) (sym (levels_are outer (record level { owner = Some id })));
   says = λ around.
@@ -117,14 +117,14 @@ owner_acted a outer level s x p id parent Said e up number made = record {
       subst (λ (z : Scene). Said (new_owner_made OfLevel z).events) (sym (scene_leveled a (level_state level ∷ levels_of outer) s x around (ap levels_of e ∙ levels_are outer level)))
       (subst (λ (o : Option ℕ). Said ((owner_made o z).events ++ [])) up
       (subst Said (sym (append-nil (owner_made parent z).events))
-      (made.says z (record { owners = refl; next_owner = refl; next_serial = refl; kinds = refl; locks = refl; plans = refl; files = refl }))));
+      (made.says z (record { owners = refl; next_owner = refl; next_serial = refl; kinds = refl; locks = refl; plans = refl; recent = refl; descriptors = refl }))));
 }
 
 -- the owner of a level, once it is made, is there
-abbrev pub HasOwner : OwnerTable → Level → Type 0
+abbrev pub HasOwner : ResourceState → Level → Type 0
 HasOwner table level = IfSome level.owner (λ id. has id.number (owners_of table) ≡ true)
 
-owners_there : (contexts : Contexts) (table : OwnerTable) (levels : List Level) → AreLevels (map level_state levels) contexts (owners_of table) → All (HasOwner table) levels
+owners_there : (contexts : Contexts) (table : ResourceState) (levels : List Level) → AreLevels (map level_state levels) contexts (owners_of table) → All (HasOwner table) levels
 owners_there contexts table [] h = All-nil (HasOwner table)
 owners_there contexts table (level ∷ levels) h =
     All-cons (HasOwner table) level levels
@@ -138,10 +138,10 @@ have_owners a s x stands =
     all_reverse (HasOwner a.owners) a.levels (owners_there (stands_for a.tree s) a.owners (reverse a.levels) h.levels)
 
 -- a level's context and owner lie where their ids say
-pub context_live : (tree : TreeState) (table : OwnerTable) (level : Level) → LevelLies tree table level → IsThere tree level → IfSome level.context (IsLive tree)
+pub context_live : (tree : TreeState) (table : ResourceState) (level : Level) → LevelLies tree table level → IsThere tree level → IfSome level.context (IsLive tree)
 context_live tree table level lies there = some_both level.context (λ id l h. l h) lies.context there
 
-pub owner_live : (tree : TreeState) (table : OwnerTable) (level : Level) → LevelLies tree table level → HasOwner table level → IfSome level.owner (owners.IsLive table)
+pub owner_live : (tree : TreeState) (table : ResourceState) (level : Level) → LevelLies tree table level → HasOwner table level → IfSome level.owner (owners.IsLive table)
 owner_live tree table level lies there =
     some_both level.owner (λ id l h. l (sym (mapped-has (λ (r : Roomy). r.owner) id.number table.rooms) ∙ h)) lies.owner there
 
@@ -161,7 +161,7 @@ unfolding session_of
 abort_there a s x stands = own_there (scene_of a s x nowhere) (stands nowhere) 5 (let e : 1 ≤ 5 = omega arith in e) (let e : 5 ≤ 5 = omega arith in e)
 
 -- the levels lie once the deepest is another one
-pub deepest_placed : (tree tree' : TreeState) (table table' : OwnerTable) (levels outer : List Level) (level new : Level) → IsPlaced tree table levels → levels ≡ outer ++ level ∷ []
+pub deepest_placed : (tree tree' : TreeState) (table table' : ResourceState) (levels outer : List Level) (level new : Level) → IsPlaced tree table levels → levels ≡ outer ++ level ∷ []
     → ((l : Level) → LevelLies tree table l → HasOwner table l → LevelLies tree' table' l) → All (HasOwner table) levels → (LevelLies tree table level → LevelLies tree' table' new)
     → Lies tree' tree'.current → IsPlaced tree' table' (outer ++ new ∷ [])
 deepest_placed tree tree' table table' levels outer level new placed e on owned then current =
@@ -180,14 +180,14 @@ deepest_placed tree tree' table table' levels outer level new placed e on owned 
         (all_more ls (All-tail (LevelLies tree table) l ls lies) (All-tail (HasOwner table) l ls has))
 
 -- what lies in a tree lies there whichever context is the current one
-pub lies_at : (tree : TreeState) (table : OwnerTable) (id : CtxId) (level : Level) → LevelLies tree table level → LevelLies (record tree { current = id }) table level
+pub lies_at : (tree : TreeState) (table : ResourceState) (id : CtxId) (level : Level) → LevelLies tree table level → LevelLies (record tree { current = id }) table level
 lies_at tree table id level lies = record {
   context = some_both level.context (λ c l h. l) lies.context lies.context;
   owner = lies.owner;
 }
 
 -- what lies in the owners still does where all that lay does
-pub owner_on : (tree : TreeState) (table table' : OwnerTable) (level : Level) → ((id : OwnerId) → owners.IsLive table id → owners.IsLive table' id) → LevelLies tree table level → HasOwner table level → LevelLies tree table' level
+pub owner_on : (tree : TreeState) (table table' : ResourceState) (level : Level) → ((id : OwnerId) → owners.IsLive table id → owners.IsLive table' id) → LevelLies tree table level → HasOwner table level → LevelLies tree table' level
 owner_on tree table table' level on lies has = record {
   context = lies.context;
   owner = some_both level.owner (λ id l h there. on id (l (sym (mapped-has (λ (r : Roomy). r.owner) id.number table.rooms) ∙ h))) lies.owner has;
@@ -241,9 +241,9 @@ scene_made a x around contexts current next levels limit = record {
     portals = [];
     snapshots = [];
     plans = [];
-    recent = [];
+    recent = a.owners.recent;
   };
-  around = record around { kinds = []; shelf = x; space = limit };
+  around = record around { kinds = []; shelf = x; space = limit; descriptors = a.owners.descriptors };
 }
 
 pub made_same : (a : StoreState) (x : ShelfState) (around : Around) (c d : Contexts) (i j m n : ℕ) (ls ks : List LevelState) (k l : ℕ) → c ≡ d → i ≡ j → m ≡ n → ls ≡ ks → k ≡ l → scene_made a x around c i m ls k ≡ scene_made a x around d j n ks l

@@ -2,6 +2,7 @@ pub mod Answered
 pub mod Lists
 pub mod Sums
 pub mod Kept
+pub mod Beside
 pub mod Led
 pub mod Through
 pub mod Opened
@@ -12,3 +13,4 @@ pub mod Went
 pub mod Closing
 pub mod Ending
 pub mod Owned
+pub mod Savepoints

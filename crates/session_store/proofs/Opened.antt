@@ -5,7 +5,7 @@ use Rattle.forest.specs.Forest.{Empty}
 use Rattle.context_rules.specs.Contexts.{Contexts}
 use Rattle.context_rules.specs.Opening as contexts
 use Rattle.context_tree.specs.State.{TreeState, Moves, no_contexts, stands_for, total_of}
-use Rattle.owner_core.specs.Owners.{OwnerTable, owners_of}
+use Rattle.session_owners.specs.ResourceState.{ResourceState, owners_of}
 use Rattle.subxact_stack.specs.declared.levels.Level.{Level}
 use Rattle.reset_callbacks.specs.Hook.{AreDistinct}
 use Rattle.reset_callbacks.specs.ShelfState as shelf
@@ -19,7 +19,7 @@ use Rattle.session_store.specs.Calls.{Keeps, StandsIn}
 use Rattle.session_store.proofs.Sums.{held_is}
 
 -- a session by its parts
-abbrev session_by : Contexts → ℕ → ℕ → OwnerTable → List Level → SessionState
+abbrev session_by : Contexts → ℕ → ℕ → ResourceState → List Level → SessionState
 session_by contexts current next owners levels = record {
   contexts = contexts;
   current = current;
@@ -32,18 +32,18 @@ session_by contexts current next owners levels = record {
   portals = [];
   snapshots = [];
   plans = [];
-  recent = [];
+  recent = owners.recent;
 }
 
-pub opens : (tree : TreeState) (owners : OwnerTable) (levels : List Level) (s : Space) → stands_for tree s ≡ contexts.opening → tree.current.number ≡ 1 → tree.next ≡ 6
-    → owners ≡ record { rooms = Empty; places = Empty; next_owner = 1; next_serial = 1 } → levels ≡ [] → session_of (record { tree = tree; owners = owners; levels = levels }) s ≡ opening
+pub opens : (tree : TreeState) (owners : ResourceState) (levels : List Level) (s : Space) (descriptors : ℕ) → stands_for tree s ≡ contexts.opening → tree.current.number ≡ 1 → tree.next ≡ 6
+    → owners ≡ record { rooms = Empty; places = Empty; next_owner = 1; next_serial = 1; recent = []; descriptors = descriptors } → levels ≡ [] → session_of (record { tree = tree; owners = owners; levels = levels }) s ≡ opening
 unfolding session_of opening
-opens tree owners levels s p q r u v =
+opens tree owners levels s descriptors p q r u v =
     ap (λ (z : Contexts). session_by z tree.current.number tree.next owners levels) p
     ∙ ap (λ (z : ℕ). session_by contexts.opening z tree.next owners levels) q
     ∙ ap (λ (z : ℕ). session_by contexts.opening 1 z owners levels) r
-    ∙ ap (λ (z : OwnerTable). session_by contexts.opening 1 6 z levels) u
-    ∙ ap (λ (z : List Level). session_by contexts.opening 1 6 (record { rooms = Empty; places = Empty; next_owner = 1; next_serial = 1 }) z) v
+    ∙ ap (λ (z : ResourceState). session_by contexts.opening 1 6 z levels) u
+    ∙ ap (λ (z : List Level). session_by contexts.opening 1 6 (record { rooms = Empty; places = Empty; next_owner = 1; next_serial = 1; recent = []; descriptors = descriptors }) z) v
 
 -- what the account holds are the blocks of its contexts, where it held nothing before
 pub keeps_opened : (a : StoreState) (account : ℕ) (s t : Space) → Moves (no_contexts account) a.tree s t → a.tree.account ≡ account → held s account ≡ 0 → Keeps a t
@@ -58,5 +58,5 @@ keeps_opened a account s t moves is none = record {
 -- it stands, where the hooks of the shelf differ
 pub stands_opened : (a : StoreState) (s : Space) (x : ShelfState) → session_of a s ≡ opening → AreDistinct (shelf.held x) → StandsIn a s x
 stands_opened a s x is differ around =
-    let surroundings : Around = record around { kinds = []; shelf = x; space = s.limit } in
+    let surroundings : Around = record around { kinds = []; shelf = x; space = s.limit; descriptors = a.owners.descriptors } in
     subst (λ (session : SessionState). Stands (record { session = session; around = surroundings })) (sym is) (opening_stands surroundings differ).stands

@@ -14,17 +14,18 @@ use Rattle.pgs_step.specs.declared.events.What.{What}
 use Rattle.reset_callbacks.specs.ShelfState.{ShelfState}
 use Rattle.context_rules.specs.Contexts.{Contexts}
 use Rattle.context_tree.specs.State.{TreeState, stands_for}
-use Rattle.owner_core.specs.Owners as ids
-use Rattle.owner_core.specs.Owners.{Owner, OwnerTable, OwnerTree, Roomy, owners_of}
+use Rattle.session_owners.specs.ResourceState as ids
+use Rattle.session_owners.specs.ResourceState.{Owner, ResourceState, OwnerTree, Roomy, owners_of}
 use Rattle.owner_core.specs.Released.{own_released}
 use Rattle.subxact_stack.specs.Levels.{level_at}
 use Rattle.subxact_stack.specs.declared.levels.Level.{Level}
-use Rattle.session_rules.specs.State.{first_of, owner_of}
+use Rattle.session_rules.specs.State.{file_kind, first_of, owner_of}
+use Rattle.session_rules.specs.Counts.{holds}
 use Rattle.session_rules.specs.World.{Around, Scene}
 use Rattle.session_rules.specs.Acts.{Ended}
 use Rattle.session_rules.specs.Standing.{AreLevels, Stands}
 use Rattle.session_rules.proofs.Swept.{has_swept}
-use Rattle.session_owners.specs.Counted.{all_released}
+use Rattle.session_owners.specs.Counted.{all_released, holds_file}
 use Rattle.session_owners.specs.Fitting as own
 use Rattle.session_owners.specs.Fitting.{OwnersFit}
 use Rattle.session_owners.specs.Tables.{built_in_kinds}
@@ -39,33 +40,33 @@ use Rattle.session_store.proofs.Sums.{held_is}
 use Rattle.session_store.proofs.Kept.{at_level, nowhere}
 
 -- The owners change. What is there was there, and lies where it lay.
-pub record OwnersGo (a b : OwnerTable) : Type 0 where
+pub record OwnersGo (a b : ResourceState) : Type 0 where
   pub had : (n : ℕ) → has n (owners_of b) ≡ true → has n (owners_of a) ≡ true
   pub stays : (n : ℕ) → has n (owners_of b) ≡ true → at n b.places ≡ at n a.places
 
-has_rooms : (n : ℕ) (table : OwnerTable) → has n (owners_of table) ≡ has n table.rooms
+has_rooms : (n : ℕ) (table : ResourceState) → has n (owners_of table) ≡ has n table.rooms
 has_rooms n table = mapped-has (λ (room : Roomy). room.owner) n table.rooms
 
-owner_on : (a b : OwnerTable) (id : OwnerId) → OwnersGo a b → OwnerLies a id → OwnerLies b id
+owner_on : (a b : ResourceState) (id : OwnerId) → OwnersGo a b → OwnerLies a id → OwnerLies b id
 owner_on a b id go lies there =
     let now : has id.number (owners_of b) ≡ true = has_rooms id.number b ∙ there in
     go.stays id.number now ∙ lies (sym (has_rooms id.number a) ∙ go.had id.number now)
 
-owners_levels : (tree : TreeState) (a b : OwnerTable) (levels : List Level) → OwnersGo a b → All (LevelLies tree a) levels → All (LevelLies tree b) levels
+owners_levels : (tree : TreeState) (a b : ResourceState) (levels : List Level) → OwnersGo a b → All (LevelLies tree a) levels → All (LevelLies tree b) levels
 owners_levels tree a b [] go lies = All-nil (LevelLies tree b)
 owners_levels tree a b (level ∷ levels) go lies =
     let first = All-head (LevelLies tree a) level levels lies in
     All-cons (LevelLies tree b) level levels (record { context = first.context; owner = some_more level.owner (λ id. owner_on a b id go) first.owner })
     (owners_levels tree a b levels go (All-tail (LevelLies tree a) level levels lies))
 
-pub placed_owners : (tree : TreeState) (a b : OwnerTable) (levels : List Level) → IsPlaced tree a levels → OwnersGo a b → IsPlaced tree b levels
+pub placed_owners : (tree : TreeState) (a b : ResourceState) (levels : List Level) → IsPlaced tree a levels → OwnersGo a b → IsPlaced tree b levels
 placed_owners tree a b levels placed go = record { current = placed.current; levels = owners_levels tree a b levels go placed.levels }
 
 -- nothing of the tree changes
-pub keeps_owners : (a : StoreState) (b : OwnerTable) (s : Space) → Keeps a s → Keeps (record a { owners = b }) s
+pub keeps_owners : (a : StoreState) (b : ResourceState) (s : Space) → Keeps a s → Keeps (record a { owners = b }) s
 keeps_owners a b s k = record { agrees = k.agrees; held = k.held ∙ held_is a s ∙ sym (held_is (record a { owners = b }) s) }
 
-pub owners_alone : (a : StoreState) (b : OwnerTable) → OwnersGo a.owners b → OwnersAlone a (record a { owners = b })
+pub owners_alone : (a : StoreState) (b : ResourceState) → OwnersGo a.owners b → OwnersAlone a (record a { owners = b })
 owners_alone a b go = record {
   tree = refl;
   levels = refl;
@@ -74,24 +75,24 @@ owners_alone a b go = record {
 }
 
 -- an owner's data changes, all below it are released, it goes
-pub go_same : (a b : OwnerTable) → owners_of b ≡ owners_of a → b.places ≡ a.places → OwnersGo a b
+pub go_same : (a b : ResourceState) → owners_of b ≡ owners_of a → b.places ≡ a.places → OwnersGo a b
 go_same a b same places = record {
   had = λ n there. ap (has n) (sym same) ∙ there;
   stays = λ n there. ap (λ (f : Forest ℕ). at n f) places;
 }
 
-pub go_changed : (a b : OwnerTable) (owner : ℕ) (f : Owner → Owner) → owners_of b ≡ changed owner f (owners_of a) → b.places ≡ a.places → OwnersGo a b
+pub go_changed : (a b : ResourceState) (owner : ℕ) (f : Owner → Owner) → owners_of b ≡ changed owner f (owners_of a) → b.places ≡ a.places → OwnersGo a b
 go_changed a b owner f is places = record {
   had = λ n there. sym (has_changed n owner f (owners_of a)) ∙ ap (has n) (sym is) ∙ there;
   stays = λ n there. ap (λ (f : Forest ℕ). at n f) places;
 }
 
 -- where the call was answered, and where it was refused
-pub go_answered : {A E : Type 0} (r : Result A E) (a b : OwnerTable) (owner : ℕ) (f : Owner → Owner) → OnOk r (owners_of b ≡ changed owner f (owners_of a)) → OnErr r (b ≡ a) → b.places ≡ a.places → OwnersGo a b
+pub go_answered : {A E : Type 0} (r : Result A E) (a b : ResourceState) (owner : ℕ) (f : Owner → Owner) → OnOk r (owners_of b ≡ changed owner f (owners_of a)) → OnErr r (b ≡ a) → b.places ≡ a.places → OwnersGo a b
 go_answered (Ok x) a b owner f is same places = go_changed a b owner f is places
 go_answered (Err e) a b owner f is same places = go_same a b (ap owners_of same) places
 
-pub go_released : (a b : OwnerTable) (owner : ℕ) → owners_of b ≡ all_released owner (owners_of a) → b.places ≡ a.places → OwnersGo a b
+pub go_released : (a b : ResourceState) (owner : ℕ) → owners_of b ≡ all_released owner (owners_of a) → b.places ≡ a.places → OwnersGo a b
 go_released a b owner is places =
     let one = own_released built_in_kinds BeforeLocks in
     let two = own_released built_in_kinds Locks in
@@ -103,21 +104,21 @@ go_released a b owner is places =
       stays = λ n there. ap (λ (f : Forest ℕ). at n f) places;
     }
 
-pub go_gone : (a b : OwnerTable) (owner : ℕ) → owners_of b ≡ removed owner (owners_of a) → ((n : ℕ) → has n (owners_of b) ≡ true → at n b.places ≡ at n a.places) → OwnersGo a b
+pub go_gone : (a b : ResourceState) (owner : ℕ) → owners_of b ≡ removed owner (owners_of a) → ((n : ℕ) → has n (owners_of b) ≡ true → at n b.places ≡ at n a.places) → OwnersGo a b
 go_gone a b owner is stays = record {
   had = λ n there. has_of_removed n owner (owners_of a) (ap (has n) (sym is) ∙ there);
   stays = stays;
 }
 
 -- the owner of a level is there where the session stands
-abbrev pub HasOwner : OwnerTable → Level → Type 0
+abbrev pub HasOwner : ResourceState → Level → Type 0
 HasOwner table level = IfSome level.owner (λ id. has id.number (owners_of table) ≡ true)
 
-owner_there : (table : OwnerTable) (o : Option OwnerId) → ((n : ℕ) → option_map (λ (id : OwnerId). id.number) o ≡ Some n → has n (owners_of table) ≡ true) → IfSome o (λ id. has id.number (owners_of table) ≡ true)
+owner_there : (table : ResourceState) (o : Option OwnerId) → ((n : ℕ) → option_map (λ (id : OwnerId). id.number) o ≡ Some n → has n (owners_of table) ≡ true) → IfSome o (λ id. has id.number (owners_of table) ≡ true)
 owner_there table None there = tt
 owner_there table (Some id) there = there id.number refl
 
-owners_there : (contexts : Contexts) (table : OwnerTable) (levels : List Level) → AreLevels (map level_state levels) contexts (owners_of table) → All (HasOwner table) levels
+owners_there : (contexts : Contexts) (table : ResourceState) (levels : List Level) → AreLevels (map level_state levels) contexts (owners_of table) → All (HasOwner table) levels
 owners_there contexts table [] h = All-nil (HasOwner table)
 owners_there contexts table (level ∷ levels) h =
     All-cons (HasOwner table) level levels (owner_there table level.owner (λ n e. (h.0.owner n e).there)) (owners_there contexts table levels h.1)
@@ -128,7 +129,7 @@ have_owners a s x stands =
     let h : Stands (scene_of a s x nowhere) = stands nowhere in
     all_reverse (HasOwner a.owners) a.levels (owners_there (stands_for a.tree s) a.owners (reverse a.levels) h.levels)
 
-pub level_owner_live : (tree : TreeState) (table : OwnerTable) (levels : List Level) (n : ℕ) (level : Level) → IsPlaced tree table levels → All (HasOwner table) levels → level_at levels n ≡ Some level → IfSome level.owner (ids.IsLive table)
+pub level_owner_live : (tree : TreeState) (table : ResourceState) (levels : List Level) (n : ℕ) (level : Level) → IsPlaced tree table levels → All (HasOwner table) levels → level_at levels n ≡ Some level → IfSome level.owner (ids.IsLive table)
 level_owner_live tree table levels n level placed there e =
     let lies : LevelLies tree table level = at_level (LevelLies tree table) levels n level placed.levels e in
     some_both level.owner (λ id lies here. lies (sym (has_rooms id.number table) ∙ here)) lies.owner (at_level (HasOwner table) levels n level there e)
@@ -136,10 +137,10 @@ level_owner_live tree table levels n level placed there e =
 -- the store's owners are those of each scene of it
 owners_fit : (a : StoreState) (s : Space) (x : ShelfState) (around : Around) → OwnersFit a.owners (scene_of a s x around)
 unfolding session_of
-owners_fit a s x around = record { owners = refl; next_owner = refl; next_serial = refl; kinds = refl; locks = refl; plans = refl; files = refl }
+owners_fit a s x around = record { owners = refl; next_owner = refl; next_serial = refl; recent = refl; descriptors = refl; kinds = refl; locks = refl; plans = refl }
 
 -- an act on owners
-pub owners_acted : (act : Scene → Ended) (a : StoreState) (b : OwnerTable) (s : Space) (x : ShelfState) (Said : List What → Type 0) → own.Acted act a.owners b Said → Acted act a (record a { owners = b }) s s x x Said
+pub owners_acted : (act : Scene → Ended) (a : StoreState) (b : ResourceState) (s : Space) (x : ShelfState) (Said : List What → Type 0) → own.Acted act a.owners b Said → Acted act a (record a { owners = b }) s s x x Said
 unfolding session_of
 owners_acted act a b s x Said h = record {
   leads = λ around. h.leads (scene_of a s x around) (owners_fit a s x around);
@@ -157,22 +158,28 @@ owner_number None = refl
 owner_number (Some level) = refl
 
 -- the owners' room is no matter
-pub same_session : (a : StoreState) (b : OwnerTable) (s : Space) → owners_of b ≡ owners_of a.owners → b.next_owner ≡ a.owners.next_owner → b.next_serial ≡ a.owners.next_serial → session_of (record a { owners = b }) s ≡ session_of a s
+pub same_session : (a : StoreState) (b : ResourceState) (s : Space) → owners_of b ≡ owners_of a.owners → b.next_owner ≡ a.owners.next_owner → b.next_serial ≡ a.owners.next_serial → b.recent ≡ a.owners.recent → session_of (record a { owners = b }) s ≡ session_of a s
 unfolding session_of
-same_session a b s p q r =
-    ap (λ (z : OwnerTree). record (session_of a s) { owners = z; next_owner = b.next_owner; next_serial = b.next_serial }) p
-    ∙ ap (λ (z : ℕ). record (session_of a s) { next_owner = z; next_serial = b.next_serial }) q
-    ∙ ap (λ (z : ℕ). record (session_of a s) { next_serial = z }) r
+same_session a b s p q r f =
+    ap (λ (z : OwnerTree). record (session_of a s) { owners = z; next_owner = b.next_owner; next_serial = b.next_serial; recent = b.recent }) p
+    ∙ ap (λ (z : ℕ). record (session_of a s) { next_owner = z; next_serial = b.next_serial; recent = b.recent }) q
+    ∙ ap (λ (z : ℕ). record (session_of a s) { next_serial = z; recent = b.recent }) r
+    ∙ ap (λ (z : List ℕ). record (session_of a s) { recent = z }) f
 
-module _ (tree : TreeState) (owners : OwnerTable) (levels : List Level) (v : StoreState) (is : record { tree = tree; owners = owners; levels = levels } ≡ v) where
+module _ (tree : TreeState) (owners : ResourceState) (levels : List Level) (v : StoreState) (is : record { tree = tree; owners = owners; levels = levels } ≡ v) where
   -- what is known of the value, of the field
   pub owner_in : (id : OwnerId) → ids.IsLive v.owners id → ids.IsLive owners id
   owner_in id live = subst (λ (a : StoreState). ids.IsLive a.owners id) (sym is) live
 
-  pub owners_after : (act : Scene → Ended) (b : OwnerTable) (s : Space) (x : ShelfState) (Said : List What → Type 0) → own.Acted act owners b Said → Acted act v (record { tree = tree; owners = b; levels = levels }) s s x x Said
+  pub owners_after : (act : Scene → Ended) (b : ResourceState) (s : Space) (x : ShelfState) (Said : List What → Type 0) → own.Acted act owners b Said → Acted act v (record { tree = tree; owners = b; levels = levels }) s s x x Said
   owners_after act b s x Said h =
       subst (λ (a : StoreState). Acted act a (record { tree = tree; owners = b; levels = levels }) s s x x Said) is (owners_acted act (record { tree = tree; owners = owners; levels = levels }) b s x Said h)
 
-  pub owners_alone_after : (b : OwnerTable) → OwnersGo owners b → OwnersAlone v (record { tree = tree; owners = b; levels = levels })
+  pub owners_alone_after : (b : ResourceState) → OwnersGo owners b → OwnersAlone v (record { tree = tree; owners = b; levels = levels })
   owners_alone_after b go =
       subst (λ (a : StoreState). OwnersAlone a (record { tree = tree; owners = b; levels = levels })) is (owners_alone (record { tree = tree; owners = owners; levels = levels }) b go)
+
+-- a session holds a file where its owners do
+pub file_held : (a : StoreState) (file : ℕ) (s : Space) → holds_file file (owners_of a.owners) ≡ holds file_kind file (session_of a s)
+unfolding session_of
+file_held a file s = refl

@@ -15,7 +15,7 @@ use Rattle.context_rules.specs.Ends.{Ended}
 use Rattle.context_rules.specs.declared.errors.TreeError.{TreeError}
 use Rattle.context_tree.specs.Calls.{Did, DidNothing}
 use Rattle.context_tree.specs.State.{TreeState, Agrees, HooksFit, IsLive, SameRegions, StaysPut, left_of, stands_for}
-use Rattle.owner_core.specs.Owners.{OwnerTable}
+use Rattle.session_owners.specs.ResourceState.{ResourceState}
 use Rattle.subxact_stack.specs.declared.levels.Level.{Level}
 use Rattle.context_rules.specs.Chunks.{allocated, registered, resized, zeros}
 use Rattle.session_rules.specs.Acts.{of_contexts, switched, where_there}
@@ -33,7 +33,7 @@ use Rattle.session_store.proofs.Sums.{left_is}
 use Rattle.session_store.proofs.Kept.{AreThere, Goes, alone_on, are_there, goes_did, goes_nothing, nowhere, placed_on, switch_alone}
 use Rattle.session_store.proofs.Led.{change_acted, did_acted, made_acted, moved_acted, refused_nothing, refused_regions, refused_same, resized_acted, switch_acted, taken_acted, waits_acted}
 
-module _ (tree : TreeState) (owners : OwnerTable) (levels : List Level) (v : StoreState) (is : record { tree = tree; owners = owners; levels = levels } ≡ v) where
+module _ (tree : TreeState) (owners : ResourceState) (levels : List Level) (v : StoreState) (is : record { tree = tree; owners = owners; levels = levels } ≡ v) where
   -- what is known of the value, of the field
   pub live_in : (id : CtxId) → IsLive v.tree id → IsLive tree id
   live_in id live = subst (λ (a : StoreState). IsLive a.tree id) (sym is) live

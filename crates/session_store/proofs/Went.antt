@@ -1,6 +1,6 @@
 -- The ends of levels, act by act, in scenes of a store's session.
 use Rattle.std.proofs.Common.{◌≡◌, ℕ, true, false, Option, Some, None, List, [], ◌∷◌, ◌++◌, length, refl, sym, ap, ◌∙◌, subst}
-use Rattle.std.specs.Prelude.{◌==◌, MatchOption, unwrap_or}
+use Rattle.std.specs.Prelude.{◌==◌, MatchOption, map, unwrap_or}
 use Rattle.std.specs.Option.{option_map}
 use Rattle.addr_space.specs.Space.{Space}
 use Rattle.pgs_step.specs.declared.ids.CtxId.{CtxId}
@@ -11,17 +11,19 @@ use Rattle.reset_callbacks.specs.ShelfState.{ShelfState}
 use Rattle.context_rules.specs.Ends.{gone, handed_in}
 use Rattle.context_tree.specs.Calls.{Did, DidNothing}
 use Rattle.context_tree.specs.State.{TreeState, stands_for}
-use Rattle.owner_core.specs.Owners.{OwnerTable}
+use Rattle.session_owners.specs.ResourceState.{ResourceState}
 use Rattle.subxact_stack.specs.declared.levels.Level.{Level}
-use Rattle.session_rules.specs.State.{LevelState, OpenPortal, context_of, deepest_changed, first_of}
+use Rattle.snap_table.specs.Snapshots.{lowered}
+use Rattle.session_rules.specs.State.{LevelState, OpenPortal, context_of, deepest_changed, first_of, owner_of}
 use Rattle.session_rules.specs.World.{Around, Scene}
 use Rattle.session_rules.specs.Acts.{Ended, changes, context_gone, for_each, in_order, portal_gone, say, switched, where_so, where_there}
 use Rattle.session_rules.specs.Releases.{owner_gone, owner_released}
-use Rattle.session_rules.specs.Ends.{aborted, cleaned_up, committed, level_context_gone, level_owner_gone, level_popped, level_released, stack_popped, switched_up}
-use Rattle.session_rules.specs.Portals.{portal_aborted, portal_closed}
+use Rattle.session_rules.specs.Ends.{aborted, cleaned_up, committed, empty_context_gone, level_context_gone, level_owner_gone, level_popped, level_released, stack_popped, subcommitted, switched_up}
+use Rattle.session_rules.specs.Portals.{portal_aborted, portal_closed, portal_passed}
 use Rattle.session_owners.specs.Fitting as fitting
-use Rattle.session_store.specs.State.{StoreState, level_state, levels_of, session_of}
+use Rattle.session_store.specs.State.{StoreState, level_state, levels_of, only_empty, session_of}
 use Rattle.session_store.specs.Calls.{Acted}
+use Rattle.session_store.proofs.Ending.{only_gone}
 use Rattle.session_store.proofs.Levelled.{leveled, made_same, scene_leveled, scene_made}
 
 -- an act went from scene to scene, and what was said is what it says
@@ -43,11 +45,11 @@ module _ (O : Type 0) (emits : O → List What → O → Type 0) where
   }
 
   -- what an act does to the owners
-  went_owners : (act : Scene → Ended) (a : StoreState) (p : OwnerTable) (ls : List LevelState) (s : Space) (x : ShelfState) (around : Around) (o q : O) → fitting.Acted act a.owners p (λ events. emits o events q)
+  went_owners : (act : Scene → Ended) (a : StoreState) (p : ResourceState) (ls : List LevelState) (s : Space) (x : ShelfState) (around : Around) (o q : O) → fitting.Acted act a.owners p (λ events. emits o events q)
       → Went O emits act (leveled a ls s x around) (leveled (record a { owners = p }) ls s x around) o q
   unfolding session_of
   went_owners act a p ls s x around o q made =
-      let fit : fitting.OwnersFit a.owners (leveled a ls s x around) = record { owners = refl; next_owner = refl; next_serial = refl; kinds = refl; locks = refl; plans = refl; files = refl } in
+      let fit : fitting.OwnersFit a.owners (leveled a ls s x around) = record { owners = refl; next_owner = refl; next_serial = refl; recent = refl; descriptors = refl; kinds = refl; locks = refl; plans = refl } in
       record { leads = made.leads (leveled a ls s x around) fit; says = made.says (leveled a ls s x around) fit }
 
   module _ (none : (o : O) → emits o [] o) where
@@ -86,7 +88,7 @@ module _ (O : Type 0) (emits : O → List What → O → Type 0) where
       }
 
       -- the deepest level aborts
-      pub aborted_went : (a : StoreState) (outer : List LevelState) (level : Level) (s : Space) (x : ShelfState) (around : Around) (context : CtxId) (p : OwnerTable) (o0 o1 o2 : O)
+      pub aborted_went : (a : StoreState) (outer : List LevelState) (level : Level) (s : Space) (x : ShelfState) (around : Around) (context : CtxId) (p : ResourceState) (o0 o1 o2 : O)
           → emits o0 (what.AbortLevel (length (level_state level ∷ outer)) ∷ []) o1 → context.number ≡ 5
           → fitting.Acted (λ scene. where_there (number_in level.owner) (owner_released false (length (level_state level ∷ outer) == 1)) scene) a.owners p (λ events. emits o1 events o2)
           → Went O emits aborted (leveled a (level_state level ∷ outer) s x around)
@@ -118,7 +120,7 @@ module _ (O : Type 0) (emits : O → List What → O → Type 0) where
           record { leads = all.leads; says = all.says }
 
       -- the deepest level is cleaned up
-      pub cleaned_went : (a : StoreState) (outer : List LevelState) (level : Level) (s t : Space) (x y : ShelfState) (around : Around) (up : CtxId) (b : TreeState) (q : OwnerTable) (o0 o1 o2 o3 : O)
+      pub cleaned_went : (a : StoreState) (outer : List LevelState) (level : Level) (s t : Space) (x y : ShelfState) (around : Around) (up : CtxId) (b : TreeState) (q : ResourceState) (o0 o1 o2 o3 : O)
           → emits o0 (what.CleanupLevel (length (level_state level ∷ outer)) ∷ []) o1
           → fitting.Acted (λ scene. where_there (number_in level.owner) owner_gone scene) a.owners q (λ events. emits o1 events o2)
           → up.number ≡ unwrap_or (context_of (first_of outer)) 1
@@ -153,7 +155,7 @@ module _ (O : Type 0) (emits : O → List What → O → Type 0) where
           record { leads = all.leads; says = all.says }
 
       -- the deepest level is rolled back
-      pub rolled_went : (a : StoreState) (outer : List LevelState) (level : Level) (s t : Space) (x y : ShelfState) (around : Around) (up : CtxId) (b : TreeState) (p q : OwnerTable) (o0 o1 o2 o3 o4 o5 : O)
+      pub rolled_went : (a : StoreState) (outer : List LevelState) (level : Level) (s t : Space) (x y : ShelfState) (around : Around) (up : CtxId) (b : TreeState) (p q : ResourceState) (o0 o1 o2 o3 o4 o5 : O)
           → emits o0 (what.AbortLevel (length (level_state level ∷ outer)) ∷ []) o1
           → fitting.Acted (λ scene. where_there (number_in level.owner) (owner_released false (length (level_state level ∷ outer) == 1)) scene) a.owners p (λ events. emits o1 events o2)
           → emits o2 (what.CleanupLevel (length (level_state level ∷ outer)) ∷ []) o3
@@ -176,7 +178,7 @@ module _ (O : Type 0) (emits : O → List What → O → Type 0) where
           (went_end z2 o5))
 
       -- level 1 commits
-      pub committed_went : (a : StoreState) (level : Level) (s t : Space) (x y : ShelfState) (around : Around) (top : CtxId) (b : TreeState) (p q : OwnerTable) (o0 o1 o2 o3 o4 : O)
+      pub committed_went : (a : StoreState) (level : Level) (s t : Space) (x y : ShelfState) (around : Around) (top : CtxId) (b : TreeState) (p q : ResourceState) (o0 o1 o2 o3 o4 : O)
           → emits o0 (what.CommitLevel 1 ∷ []) o1
           → fitting.Acted (λ scene. where_there (number_in level.owner) (owner_released true true) scene) a.owners p (λ events. emits o1 events o2)
           → fitting.Acted (λ scene. where_there (number_in level.owner) owner_gone scene) p q (λ events. emits o2 events o3)
@@ -212,5 +214,52 @@ module _ (O : Type 0) (emits : O → List What → O → Type 0) where
           (went_then (switched 1) k2 z2 z3 z5 o3 o3 o4
           (went_silent (switched 1) z2 z3 o3 (ap (λ (m : ℕ). record { scene = record z2 { session = record z2.session { current = m } }; events = [] }) (sym one)))
           (went_then level_context_gone k1 z3 z4 z5 o3 o4 o4 (record { leads = dropped.leads; says = dropped.says })
+          (went_then level_popped [] z4 z5 z5 o4 o4 o4 (went_silent level_popped z4 z5 o4 refl) (went_end z5 o4)))))))) in
+          record { leads = all.leads; says = all.says }
+
+      -- the deepest level commits, which isn't level 1
+      pub subcommitted_went : (a : StoreState) (outer : List LevelState) (level : Level) (s t : Space) (x y : ShelfState) (around : Around) (up : CtxId) (kept : Option CtxId) (b : TreeState) (p q : ResourceState) (o0 o1 o2 o3 o4 : O)
+          → emits o0 (what.CommitLevel (length (level_state level ∷ outer)) ∷ []) o1
+          → fitting.Acted (λ scene. where_there (number_in level.owner) (owner_released true false) scene) a.owners p (λ events. emits o1 events o2)
+          → fitting.Acted (λ scene. where_there (number_in level.owner) owner_gone scene) p q (λ events. emits o2 events o3)
+          → up.number ≡ unwrap_or (context_of (first_of outer)) 1
+          → kept ≡ only_empty level.context (stands_for (record a.tree { current = up }) s)
+          → MatchOption kept (DidNothing (record a.tree { current = up }) b s t x y) (λ id. Did (gone id.number (stands_for (record a.tree { current = up }) s)) (record a.tree { current = up }) b s t x y)
+          → MatchOption kept (o4 ≡ o3) (λ id. emits o3 (gone id.number (stands_for (record a.tree { current = up }) s)).events o4)
+          → Went O emits subcommitted (leveled a (level_state level ∷ outer) s x around) (leveled (record a { tree = b; owners = q }) outer t y around) o0 o4
+      unfolding session_of stands_for
+      subcommitted_went a outer level s t x y around up kept b p q o0 o1 o2 o3 o4 said first second above empty did says =
+          let n : ℕ = length (level_state level ∷ outer) in
+          let ls : List LevelState = level_state level ∷ outer in
+          let c : StoreState = record a { tree = record a.tree { current = up }; owners = q } in
+          let z0 : Scene = leveled a ls s x around in
+          let z1 : Scene = leveled (record a { owners = p }) ls s x around in
+          let z2 : Scene = leveled (record a { owners = q }) ls s x around in
+          let z3 : Scene = leveled c ls s x around in
+          let z4 : Scene = leveled (record c { tree = b }) ls t y around in
+          let z5 : Scene = leveled (record c { tree = b }) outer t y around in
+          let released = went_owners (λ scene. where_there (number_in level.owner) (owner_released true false) scene) a p ls s x around o1 o2 first in
+          let left = went_owners (λ scene. where_there (number_in level.owner) owner_gone scene) (record a { owners = p }) q ls s x around o2 o3 second in
+          let dropped = went_dropped c b s t x y kept ls around o3 o4 did says in
+          let same : empty_context_gone z3 ≡ where_there (option_map (λ (id : CtxId). id.number) kept) context_gone z3 =
+          only_gone level.context z3 ∙ ap (λ (k : Option CtxId). where_there (option_map (λ (id : CtxId). id.number) k) context_gone z3) (sym empty) in
+          let lower : Scene → Ended = changes (λ session. record session { snapshots = map (lowered n) session.snapshots }) in
+          let pass : OpenPortal → Scene → Ended = portal_passed n (owner_of (first_of outer)) in
+          let k1 : List (Scene → Ended) = level_popped ∷ [] in
+          let k2 : List (Scene → Ended) = empty_context_gone ∷ k1 in
+          let k3 : List (Scene → Ended) = switched_up ∷ k2 in
+          let k4 : List (Scene → Ended) = level_owner_gone ∷ k3 in
+          let k5 : List (Scene → Ended) = lower ∷ k4 in
+          let k6 : List (Scene → Ended) = level_released true false ∷ k5 in
+          let k7 : List (Scene → Ended) = for_each pass [] ∷ k6 in
+          let all = went_then (say (what.CommitLevel n)) k7 z0 z0 z5 o0 o1 o4 (record { leads = refl; says = said })
+          (went_then (for_each pass []) k6 z0 z0 z5 o1 o1 o4 (went_silent (for_each pass []) z0 z0 o1 refl)
+          (went_then (level_released true false) k5 z0 z1 z5 o1 o2 o4 (record { leads = released.leads; says = released.says })
+          (went_then lower k4 z1 z1 z5 o2 o2 o4 (went_silent lower z1 z1 o2 refl)
+          (went_then level_owner_gone k3 z1 z2 z5 o2 o3 o4 (record { leads = left.leads; says = left.says })
+          (went_then switched_up k2 z2 z3 z5 o3 o3 o4
+          (went_silent switched_up z2 z3 o3 (ap (λ (m : ℕ). record { scene = record z2 { session = record z2.session { current = m } }; events = [] }) (sym above)))
+          (went_then empty_context_gone k1 z3 z4 z5 o3 o4 o4
+          (record { leads = ap (λ (e : Ended). e.scene) same ∙ dropped.leads; says = subst (λ (e : Ended). emits o3 e.events o4) (sym same) dropped.says })
           (went_then level_popped [] z4 z5 z5 o4 o4 o4 (went_silent level_popped z4 z5 o4 refl) (went_end z5 o4)))))))) in
           record { leads = all.leads; says = all.says }

@@ -1,11 +1,11 @@
 -- What calls make of a store, its space and the shelf of hooks.
-use Rattle.std.specs.Prelude.{◌≡◌, true, List, []}
+use Rattle.std.specs.Prelude.{◌≡◌, ◌≢◌, true, List, []}
 use Rattle.pgs_step.specs.declared.ids.CtxId.{CtxId}
 use Rattle.pgs_step.specs.declared.events.What.{What}
 use Rattle.addr_space.specs.Space.{Space, held}
 use Rattle.forest.specs.Forest.{has}
 use Rattle.reset_callbacks.specs.ShelfState.{ShelfState}
-use Rattle.context_tree.specs.State.{Agrees, IsLive, Moves}
+use Rattle.context_tree.specs.State.{Agrees, IsLive, Moves, TreeState}
 use Rattle.session_rules.specs.World.{Around, Scene}
 use Rattle.session_rules.specs.Acts.{Ended}
 use Rattle.session_rules.specs.Standing.{Stands}
@@ -15,6 +15,13 @@ use Rattle.session_store.specs.State.{StoreState, contexts_in, held_in, scene_of
 pub record Keeps (store : StoreState) (s : Space) : Type 0 where
   pub agrees : Agrees store.tree s
   pub held : held s store.tree.account ≡ held_in store s
+
+-- While a tree of another account moves in the same space, the space keeps what the store has in it, and store and space stand for
+-- the same session.
+abbrev pub StaysBeside : StoreState → Type 0
+StaysBeside store =
+    (a b : TreeState) (s t : Space) → Moves a b s t → Agrees a s → Keeps store s → a.account ≢ store.tree.account
+    → Keeps store t × (session_of store t ≡ session_of store s)
 
 -- the session stands in any surroundings with this shelf
 abbrev pub StandsIn : StoreState → Space → ShelfState → Type 0

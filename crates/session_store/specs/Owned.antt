@@ -3,8 +3,8 @@ use Rattle.std.specs.Prelude.{◌≡◌, true}
 use Rattle.addr_space.specs.Space.{Space}
 use Rattle.forest.specs.Forest.{has}
 use Rattle.pgs_step.specs.declared.ids.OwnerId.{OwnerId}
-use Rattle.owner_core.specs.Owners as owners
-use Rattle.owner_core.specs.Owners.{owners_of}
+use Rattle.session_owners.specs.ResourceState as owners
+use Rattle.session_owners.specs.ResourceState.{owners_of}
 use Rattle.session_store.specs.State.{StoreState}
 use Rattle.session_store.specs.Calls.{Keeps}
 

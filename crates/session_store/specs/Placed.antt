@@ -4,23 +4,23 @@ use Rattle.pgs_step.specs.declared.ids.CtxId.{CtxId}
 use Rattle.pgs_step.specs.declared.ids.OwnerId.{OwnerId}
 use Rattle.forest.specs.Forest.{has}
 use Rattle.context_tree.specs.State.{TreeState, IsLive}
-use Rattle.owner_core.specs.Owners as owners
-use Rattle.owner_core.specs.Owners.{OwnerTable}
+use Rattle.session_owners.specs.ResourceState as owners
+use Rattle.session_owners.specs.ResourceState.{ResourceState}
 use Rattle.subxact_stack.specs.declared.levels.Level.{Level}
 
 -- a context, and an owner, lies where its id says, if it is there
 abbrev pub Lies : TreeState → CtxId → Type 0
 Lies tree id = has id.number tree.kept ≡ true → IsLive tree id
 
-abbrev pub OwnerLies : OwnerTable → OwnerId → Type 0
+abbrev pub OwnerLies : ResourceState → OwnerId → Type 0
 OwnerLies table id = has id.number table.rooms ≡ true → owners.IsLive table id
 
 -- a level's do, once they are made
-pub record LevelLies (tree : TreeState) (table : OwnerTable) (level : Level) : Type 0 where
+pub record LevelLies (tree : TreeState) (table : ResourceState) (level : Level) : Type 0 where
   pub context : IfSome level.context (Lies tree)
   pub owner : IfSome level.owner (OwnerLies table)
 
 -- What the store names lies where its id says: the current context, and what the levels have.
-pub record IsPlaced (tree : TreeState) (table : OwnerTable) (list : List Level) : Type 0 where
+pub record IsPlaced (tree : TreeState) (table : ResourceState) (list : List Level) : Type 0 where
   pub current : Lies tree tree.current
   pub levels : All (LevelLies tree table) list

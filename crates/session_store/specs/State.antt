@@ -1,20 +1,21 @@
 -- What a session's store is seen as, and the session that it stands for.
-use Rattle.std.specs.Prelude.{ℕ, ◌-◌, List, [], map, reverse}
+use Rattle.std.specs.Prelude.{ℕ, ◌-◌, if◌then◌else◌, List, [], Option, Some, None, map, reverse}
 use Rattle.std.specs.Option.{option_map}
 use Rattle.addr_space.specs.Space.{Space}
 use Rattle.reset_callbacks.specs.ShelfState.{ShelfState}
-use Rattle.context_rules.specs.Contexts.{Contexts}
+use Rattle.pgs_step.specs.declared.ids.CtxId.{CtxId}
+use Rattle.context_rules.specs.Contexts.{Contexts, is_empty}
 use Rattle.context_tree.specs.State.{TreeState, stands_for}
-use Rattle.owner_core.specs.Owners.{OwnerTable, owners_of}
+use Rattle.session_owners.specs.ResourceState.{ResourceState, owners_of}
 use Rattle.subxact_stack.specs.declared.levels.Level.{Level}
 use Rattle.session_rules.specs.State.{LevelState, SessionState}
 use Rattle.session_rules.specs.World.{Around, Scene}
 use Rattle.session_rules.specs.Making as rules
 
--- the contexts, the owners, and the levels of the transaction, level 1 first
+-- the contexts, the owners with the files, and the levels of the transaction, level 1 first
 pub record StoreState : Type 0 where
   pub tree : TreeState
-  pub owners : OwnerTable
+  pub owners : ResourceState
   pub levels : List Level
 
 -- a level by the numbers of its context and its owner
@@ -32,8 +33,7 @@ level_state level = record {
 abbrev pub levels_of : List Level → List LevelState
 levels_of levels = map level_state (reverse levels)
 
--- The session that a store and its space stand for. No step yet makes a lock, a portal, an active snapshot or a plan, and no file
--- gets a descriptor.
+-- The session that a store and its space stand for. No step yet makes a lock, a portal, an active snapshot or a plan.
 unfoldable pub session_of : StoreState → Space → SessionState
 session_of store s = record {
   contexts = stands_for store.tree s;
@@ -47,16 +47,17 @@ session_of store s = record {
   portals = [];
   snapshots = [];
   plans = [];
-  recent = [];
+  recent = store.owners.recent;
 }
 
 -- the contexts alone
 abbrev pub contexts_in : StoreState → Space → Contexts
 contexts_in store s = (session_of store s).contexts
 
--- the session in its surroundings, with a shelf of hooks and no extension kind: as many bytes of the space are its share as its limit says
+-- The session in its surroundings, with a shelf of hooks and no extension kind: as many bytes of the space are its share as its limit
+-- says, and as many descriptors as its store has.
 abbrev pub scene_of : StoreState → Space → ShelfState → Around → Scene
-scene_of store s x around = record { session = session_of store s; around = record around { kinds = []; shelf = x; space = s.limit } }
+scene_of store s x around = record { session = session_of store s; around = record around { kinds = []; shelf = x; space = s.limit; descriptors = store.owners.descriptors } }
 
 -- the bytes that the session's contexts hold, and what is left of its share of the space
 abbrev pub held_in : StoreState → Space → ℕ
@@ -64,3 +65,8 @@ held_in store s = rules.held (session_of store s)
 
 abbrev pub left_in : StoreState → Space → ℕ
 left_in store s = s.limit - held_in store s
+
+-- a context, where there is one and it is empty
+abbrev pub only_empty : Option CtxId → Contexts → Option CtxId
+only_empty None contexts = None
+only_empty (Some id) contexts = if is_empty id.number contexts then Some id else None

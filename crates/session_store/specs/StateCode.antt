@@ -3,13 +3,12 @@ use Rattle.std.specs.Prelude.{List, refl}
 use Rattle.std.specs.Coded.{Coded, code_by, coded×, coded_list}
 use Rattle.context_tree.specs.State.{TreeState}
 use Rattle.context_tree.specs.StateCode.{tree_code}
-use Rattle.owner_core.specs.Owners.{OwnerTable}
-use Rattle.owner_core.specs.TableCode.{owner_table_code}
+use Rattle.session_owners.specs.ResourceState.{ResourceState, resource_code}
 use Rattle.subxact_stack.specs.declared.levels.Level.{Level}
 use Rattle.subxact_stack.specs.contracts.levels.Level as level
 use Rattle.session_store.specs.State.{StoreState}
 
 abbrev pub store_code : Coded StoreState
 store_code =
-    code_by (TreeState × (OwnerTable × List Level)) (coded× tree_code (coded× owner_table_code (coded_list level.the_row.coded)))
+    code_by (TreeState × (ResourceState × List Level)) (coded× tree_code (coded× resource_code (coded_list level.the_row.coded)))
     (λ s. (s.tree, (s.owners, s.levels))) (λ p. record { tree = p.0; owners = p.1.0; levels = p.1.1 }) (λ _. refl)

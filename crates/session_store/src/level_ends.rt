@@ -8,16 +8,16 @@ ghost use Rattle.context_rules.specs.Ends.{gone};
 ghost use Rattle.context_rules.specs.Refusals.{is_within};
 ghost use Rattle.context_tree.specs.Calls.{Did, DidNothing};
 ghost use Rattle.context_tree.specs.State.{Agrees, HooksFit, IsLive, Moves, place_of, stands_for};
-ghost use Rattle.owner_core.specs.Owners as owners;
-ghost use Rattle.owner_core.specs.Owners.{AllAt, HoldsNothing, owners_of};
+ghost use Rattle.session_owners.specs.ResourceState as owners;
+ghost use Rattle.session_owners.specs.ResourceState.{AllAt, HoldsNothing, owners_of};
 ghost use Rattle.subxact_stack.specs.declared.levels.Level.{Level as ALevel};
 ghost use Rattle.subxact_stack.specs.Levels.{with_deepest};
 ghost use Rattle.session_rules.specs.State.{is_aborted, top_context};
 ghost use Rattle.session_rules.specs.Acts.{context_gone, in_order, switched, where_there};
 ghost use Rattle.session_rules.specs.Releases.{owner_gone, owner_released};
-ghost use Rattle.session_rules.specs.Ends.{aborted, cleaned_up, committed};
+ghost use Rattle.session_rules.specs.Ends.{aborted, cleaned_up, committed, subcommitted};
 ghost use Rattle.session_owners.specs.Fitting as fitting;
-ghost use Rattle.session_store.specs.State.{levels_of};
+ghost use Rattle.session_store.specs.State.{levels_of, only_empty};
 ghost use Rattle.session_store.specs.Calls.{Acted, Keeps, StandsIn};
 
 use crate::levels::deepest;
@@ -84,6 +84,22 @@ fn drop_context<H: ResetHook, E: Emit>(
     match context {
         None => {}
         Some(context) => tree.gone(space, shelf, context, out),
+    }
+}
+
+/// A context, where there is one and it is empty.
+fn if_empty<H: ResetHook>(tree: &ContextTree<H>, context: Option<CtxId>) -> Option<CtxId>
+    requires { IfSome context (IsLive tree.now) }
+    ensures { (s : Space) → result ≡ only_empty context (stands_for tree.now s) }
+{
+    match context {
+        None => None,
+        Some(id) => {
+            if tree.is_empty(id) {
+                return Some(id);
+            }
+            None
+        }
     }
 }
 
@@ -177,6 +193,32 @@ impl<H: ResetHook> Store<H> {
         self.tree.switch(top);
         drop_context(&mut self.tree, space, shelf, level.context, out);
     }
+
+    /// Commits the deepest level, which isn't level 1: what its owner still holds is released with a warning, and then the owner
+    /// and the level go. The context of the level above is the current one then, and the level's own context stays, as a context
+    /// below that, unless no memory was taken there and no context stands below it: `CommitSubTransaction`. It takes no memory.
+    pub fn subcommit<E: Emit>(&mut self, space: &mut Space, shelf: &mut Shelf<H>, out: &mut E)
+        requires keeps { Keeps self.old space.old }
+        requires stands { StandsIn self.old space.old shelf.old }
+        requires level { 1 < length self.old.levels }
+        ensures acted { Acted subcommitted self.old self.new space.old space.new shelf.old shelf.new (λ events. E.emits out.old events out.new) }
+        ensures keeps { Keeps self.new space.new }
+        ensures moves { Moves self.old.tree self.new.tree space.old space.new }
+        ensures asked { Asks self.old.tree.account 0 space.old space.new }
+        ensures levels { (level : ALevel) × (self.old.levels ≡ self.new.levels ++ level ∷ []) }
+    {
+        let number = self.levels.depth();
+        let above = self.context_above();
+        let level = deepest(&self.levels);
+        let _ = self.levels.pop();
+        out.emit(What::CommitLevel(number));
+        release_owner(&mut self.owners, level.owner, true, false, out);
+        discard_owner(&mut self.owners, level.owner, out);
+        self.tree.switch(above);
+        let context = if_empty(&self.tree, level.context);
+        drop_context(&mut self.tree, space, shelf, context, out);
+    }
+
     /// The session ends, in no transaction: the topmost context becomes the current one and goes with all below it, and the
     /// account holds nothing then: `MemoryContextDelete` of `TopMemoryContext`. It takes no memory.
     pub fn close<E: Emit>(&mut self, space: &mut Space, shelf: &mut Shelf<H>, out: &mut E)

@@ -9,11 +9,12 @@ ghost use Rattle.forest.specs.Forest.{size};
 ghost use Rattle.context_rules.specs.Refusals.{create_refusal};
 ghost use Rattle.context_tree.specs.State.{IsLive, Moves};
 ghost use Rattle.context_tree.specs.Making.{AsksInVain};
-ghost use Rattle.owner_core.specs.Owners as owners;
-ghost use Rattle.owner_core.specs.Owners.{owners_of};
+ghost use Rattle.session_owners.specs.ResourceState as owners;
+ghost use Rattle.session_owners.specs.ResourceState.{owners_of};
 ghost use Rattle.subxact_stack.specs.declared.levels.Level.{Level as ALevel};
 ghost use Rattle.subxact_stack.specs.Levels.{new_level, with_deepest, level_at};
-ghost use Rattle.session_rules.specs.State.{first_of};
+ghost use Rattle.session_rules.specs.State.{first_of, is_aborted};
+ghost use Rattle.session_rules.specs.Commands.{savepoint};
 ghost use Rattle.session_rules.specs.Elements.{LevelContext, OfLevel};
 ghost use Rattle.session_rules.specs.Making.{level_made, level_context_name, level_parent, new_context_made, new_owner_made};
 ghost use Rattle.session_rules.specs.Parts.{level_stands};
@@ -76,11 +77,31 @@ impl<H: ResetHook> Store<H> {
     /// The deepest level, where there is one.
     pub fn deepest_level(&self) -> Option<Level>
         ensures level { option_map level_state result ≡ first_of (levels_of self.now.levels) }
+        ensures at_most { length self.now.levels ≤ 1000 }
     {
         if self.levels.depth() == 0 {
             return None;
         }
         Some(deepest(&self.levels))
+    }
+
+    /// Whether the deepest level is aborted.
+    pub fn is_aborted(&self) -> bool
+        ensures { result ≡ is_aborted (levels_of self.now.levels) }
+    {
+        match self.deepest_level() {
+            Some(level) => level.aborted,
+            None => false,
+        }
+    }
+
+    /// The number of the deepest savepoint of this name; level 1 is none.
+    pub fn savepoint(&self, name: &Name) -> Option<u32>
+        ensures found { result ≡ savepoint name.now (levels_of self.now.levels) }
+        ensures subtransaction { IfSome result (λ level. 2 ≤ level) }
+        ensures within { IfSome result (λ level. level ≤ length self.now.levels) }
+    {
+        self.levels.find(name)
     }
 
     /// Begins a level inside the deepest one: `StartTransaction` and `StartSubTransaction` as far as the stack goes.

@@ -1,22 +1,24 @@
 //! The resource owners of a session.
-ghost use Rattle.std.specs.Prelude.{◌≡◌, ◌≢◌, ◌↔◌, ℕ, ◌+◌, ◌<◌, ◌≤◌, ◌^◌, true, false, find, Err, None, IfSome, OnOk, OnErr};
+ghost use Rattle.std.specs.Prelude.{◌≡◌, ◌≢◌, ◌↔◌, ℕ, ◌+◌, ◌<◌, ◌≤◌, ◌^◌, true, false, find, length, Err, None, IfErr, IfSome, OnOk, OnErr};
 ghost use Rattle.std.specs.Option.{ok_or, option_and_then, option_map};
 ghost use Rattle.addr_space.specs.Space.{Space};
 ghost use Rattle.reset_callbacks.specs.ShelfState.{ShelfState};
 ghost use Rattle.forest.specs.Forest.{parent_of};
 ghost use Rattle.owner_items.specs.ItemList.{is_of};
-ghost use Rattle.owner_core.specs.Owners.{AllAt, HoldsNothing, IsLive, has_begun, items_of, owners_of, spare_of};
+ghost use Rattle.session_owners.specs.ResourceState.{AllAt, HoldsNothing, IsLive, has_begun, items_of, owners_of, spare_of};
 ghost use Rattle.subxact_stack.specs.Levels.{level_at};
 ghost use Rattle.session_rules.specs.State as rules;
-ghost use Rattle.session_rules.specs.State.{buffer_pin};
-ghost use Rattle.session_rules.specs.Taking.{item_taken};
+ghost use Rattle.session_rules.specs.State.{buffer_pin, file_kind};
+ghost use Rattle.session_rules.specs.Counts.{holds};
+ghost use Rattle.session_rules.specs.Taking.{descriptor_given, item_taken};
 ghost use Rattle.session_rules.specs.Releases.{item_released, owner_gone, owner_released};
-ghost use Rattle.session_owners.specs.Counted.{IsReference};
+ghost use Rattle.session_owners.specs.Counted.{IsReference, files_held, holds_file};
 ghost use Rattle.session_store.specs.State.{session_of};
 ghost use Rattle.session_store.specs.Calls.{Acted, StandsIn};
 ghost use Rattle.session_store.specs.Owned.{OwnersAlone};
 
 use crate::store::Store;
+use file_table::FileError;
 use owner_core::OwnerError;
 use pgs_step::{Emit, Item, KindId, OwnerId};
 use reset_callbacks::ResetHook;
@@ -51,6 +53,7 @@ impl<H: ResetHook> Store<H> {
         ensures spare { OnOk result (1 ≤ spare_of owner.number self.new.owners) }
         ensures others { (other : ℕ) → other ≢ owner.number → spare_of other self.new.owners ≡ spare_of other self.old.owners }
         ensures session { (s : Space) → session_of self.new s ≡ session_of self.old s }
+        ensures descriptors { self.new.owners.descriptors ≡ self.old.owners.descriptors }
         ensures alone { OwnersAlone self.old self.new }
         ensures releasing { (result ≡ Err OwnerError.Releasing) ↔ (has_begun owner.number (owners_of self.old.owners) ≡ true) }
         ensures refused { OnErr result (self.new ≡ self.old) }
@@ -98,6 +101,51 @@ impl<H: ResetHook> Store<H> {
         self.owners.add_reference(owner, class, key, out)
     }
 
+    /// Opens a file, which gets a descriptor, and the owner remembers it, in room that `enlarge` has made: `PathNameOpenFile`.
+    ///
+    /// `TooMany` comes exactly where the session has 4,096 files open, else `Memory` where memory is refused.
+    pub fn open_file<E: Emit>(
+        &mut self,
+        owner: OwnerId,
+        file: u32,
+        out: &mut E,
+    ) -> Result<(), FileError>
+        requires live { IsLive self.old.owners owner }
+        requires spare { 1 ≤ spare_of owner.number self.old.owners }
+        requires not_begun { has_begun owner.number (owners_of self.old.owners) ≡ false }
+        requires closed { holds_file file (owners_of self.old.owners) ≡ false }
+        requires serial { self.old.owners.next_serial < 2 ^ 62 }
+        ensures others { (other : ℕ) → other ≢ owner.number → spare_of other self.new.owners ≡ spare_of other self.old.owners }
+        ensures acted { OnOk result ((s : Space) (x : ShelfState) → Acted (item_taken owner.number file_kind file) self.old self.new s s x x (λ events. E.emits out.old events out.new)) }
+        ensures alone { OnOk result (OwnersAlone self.old self.new) }
+        ensures too_many { (result ≡ Err FileError.TooMany) ↔ (4096 ≤ length (files_held (owners_of self.old.owners))) }
+        ensures causes { (result ≢ Err FileError.Taken) × (result ≢ Err FileError.NoFile) }
+        ensures refused { OnErr result (self.new ≡ self.old) }
+        ensures silent { OnErr result (out.new ≡ out.old) }
+    {
+        self.owners.open_file(owner, file, out)
+    }
+
+    /// Uses an open file, which gets a descriptor where it has none: `FileAccess`. It fails for want of memory alone.
+    pub fn touch<E: Emit>(&mut self, file: u32, out: &mut E) -> Result<(), FileError>
+        requires open { holds_file file (owners_of self.old.owners) ≡ true }
+        ensures acted { OnOk result ((s : Space) (x : ShelfState) → Acted (descriptor_given file) self.old self.new s s x x (λ events. E.emits out.old events out.new)) }
+        ensures alone { OnOk result (OwnersAlone self.old self.new) }
+        ensures causes { IfErr result (λ error. error ≡ FileError.Memory) }
+        ensures refused { OnErr result (self.new ≡ self.old) }
+        ensures silent { OnErr result (out.new ≡ out.old) }
+    {
+        self.owners.touch(file, out)
+    }
+
+    /// Whether the session has the file open.
+    pub fn is_open(&self, file: u32) -> bool
+        ensures held { result ≡ holds_file file (owners_of self.now.owners) }
+        ensures session { (s : Space) → result ≡ holds file_kind file (session_of self.now s) }
+    {
+        self.owners.is_open(file)
+    }
+
     /// An owner forgets its newest item of this kind and key, and that is given back: `ResourceOwnerForget`.
     ///
     /// `Releasing` comes where the owner's release has begun, else `NotOwned` where it has no such item.
@@ -114,6 +162,7 @@ impl<H: ResetHook> Store<H> {
         ensures others { (other : ℕ) → other ≢ owner.number → spare_of other self.new.owners ≡ spare_of other self.old.owners }
         ensures next_owner { self.new.owners.next_owner ≡ self.old.owners.next_owner }
         ensures next_serial { self.new.owners.next_serial ≡ self.old.owners.next_serial }
+        ensures descriptors { self.new.owners.descriptors ≡ self.old.owners.descriptors }
         ensures acted { OnOk result ((s : Space) (x : ShelfState) → Acted (item_released owner.number kind key) self.old self.new s s x x (λ events. E.emits out.old events out.new)) }
         ensures alone { OnOk result (OwnersAlone self.old self.new) }
         ensures refused { OnErr result (self.new ≡ self.old) }

@@ -13,7 +13,7 @@ ghost use Rattle.session_rules.specs.Lookup.{context_named};
 ghost use Rattle.session_rules.specs.Acts.{switched};
 ghost use Rattle.subxact_stack.specs.Levels.{level_at};
 ghost use Rattle.session_store.specs.State.{contexts_in, session_of};
-ghost use Rattle.session_store.specs.Calls.{Acted, ContextsAlone, IsSilent, Keeps, StandsIn};
+ghost use Rattle.session_store.specs.Calls.{Acted, ContextsAlone, IsSilent, Keeps, StandsIn, StaysBeside};
 
 use addr_space::Space;
 use chunk_header::CtxError;
@@ -54,14 +54,22 @@ impl<H: ResetHook> Model for Store<H> {
 }
 
 impl<H: ResetHook> Store<H> {
-    /// A session as it opens, in no transaction. Its contexts count for this account of the space.
+    /// A session as it opens, in no transaction. Its contexts count for this account of the space, and this many of its files
+    /// can have a descriptor.
     ///
     /// `Ctx(NoSpace)` comes where less than 65,536 bytes are left of the account, and `Memory` may come. A refused call
     /// leaves the space's regions as they were.
-    pub fn open(alloc: Global, account: u8, space: &mut Space) -> Result<Store<H>, TreeError>
+    pub fn open(
+        alloc: Global,
+        account: u8,
+        descriptors: u8,
+        space: &mut Space,
+    ) -> Result<Store<H>, TreeError>
         requires account { account < accounts space.old }
+        requires descriptors { 0 < descriptors }
         ensures session { IfOk result (λ store. session_of store space.new ≡ opening) }
         ensures account { IfOk result (λ store. store.tree.account ≡ account) }
+        ensures descriptors { IfOk result (λ store. store.owners.descriptors ≡ descriptors) }
         ensures moves { IfOk result (λ store. Moves (no_contexts account) store.tree space.old space.new) }
         ensures keeps { held space.old account ≡ 0 → IfOk result (λ store. Keeps store space.new) }
         ensures stands { (x : ShelfState) → AreDistinct (shelf.held x) → IfOk result (λ store. StandsIn store space.new x) }
@@ -70,7 +78,7 @@ impl<H: ResetHook> Store<H> {
         ensures refused { IfErr result (λ e. (e ≡ TreeError.Memory) ⊎ ((e ≡ TreeError.Ctx CtxError.NoSpace) × (space.old.limit < held space.old account + 65536))) }
         ensures err_space { OnErr result (SameRegions space.old space.new) }
     {
-        let owners = match Resources::new(alloc) {
+        let owners = match Resources::new(alloc, descriptors) {
             Ok(owners) => owners,
             Err(_) => return Err(TreeError::Memory),
         };
@@ -130,6 +138,14 @@ impl<H: ResetHook> Store<H> {
         ensures { (s : Space) → result ≡ is_protected at.number (contexts_in self.now s) }
     {
         self.tree.protected(at)
+    }
+
+    /// The law by which a caller keeps this store while another session's contexts, which count for another account, change in the
+    /// same space. A caller names it and cites it.
+    pub fn beside(&self)
+        ensures { StaysBeside self.now }
+    {
+        self.tree.beside();
     }
 
     /// Makes a context the current one: `MemoryContextSwitchTo`.

@@ -1,7 +1,7 @@
 use Rattle.std.proofs.Common.{◌∙◌, ap}
 use Rattle.pgs_step.specs.declared.ids.Phase.TheVariants.{BeforeLocks, Locks, AfterLocks}
 use Rattle.forest.specs.Forest.{has}
-use Rattle.owner_core.specs.Owners.{owners_of}
+use Rattle.session_owners.specs.ResourceState.{owners_of}
 use Rattle.owner_core.specs.Released.{own_released, released}
 use Rattle.session_rules.proofs.Swept.{has_swept}
 use Rattle.session_owners.specs.Tables.{built_in_kinds}

@@ -1,6 +1,6 @@
 -- The owners' room alone changes.
 use Rattle.std.proofs.Common.{◌≡◌, ◌≢◌, ◌↔◌, ℕ, true, Err, ap, ◌∙◌, subst}
-use Rattle.owner_core.specs.Owners.{has_begun, owners_of, spare_of}
+use Rattle.session_owners.specs.ResourceState.{has_begun, owners_of, spare_of}
 use Rattle.owner_core.specs.declared.errors.OwnerError.TheVariants.{Releasing}
 use Rattle.session_store.specs.State.{StoreState, session_of}
 use Rattle.session_store.proofs.Owned.{go_same, owner_in, owners_alone_after, placed_owners, same_session}
@@ -18,7 +18,7 @@ returns-clause-others g c =
 
 pub returns-clause-session : goal.returns-clause-session
 returns-clause-session g c s =
-    same_session (record { tree = c.self.inside.tree; owners = c.self.inside.owners; levels = c.self.inside.levels }) c.enlarge.new.self s c.enlarge.ensures.owners c.enlarge.ensures.next_owner c.enlarge.ensures.next_serial
+    same_session (record { tree = c.self.inside.tree; owners = c.self.inside.owners; levels = c.self.inside.levels }) c.enlarge.new.self s c.enlarge.ensures.owners c.enlarge.ensures.next_owner c.enlarge.ensures.next_serial c.enlarge.ensures.recent
     ∙ ap (λ (a : StoreState). session_of a s) c.self.view_is
 
 pub returns-clause-alone : goal.returns-clause-alone

@@ -3,7 +3,7 @@ use Rattle.std.proofs.Common.{◌<◌, List, Option, Some, length, IfSome, sym, 
 use Rattle.std.specs.Prelude.{◌-◌}
 use Rattle.std.specs.Option.{option_and_then, option_map}
 use Rattle.pgs_step.specs.declared.ids.OwnerId.{OwnerId}
-use Rattle.owner_core.specs.Owners as owners
+use Rattle.session_owners.specs.ResourceState as owners
 use Rattle.subxact_stack.specs.declared.levels.Level.{Level}
 use Rattle.session_rules.specs.Elements.{OfLevel}
 use Rattle.session_rules.specs.Making.{new_owner_made}

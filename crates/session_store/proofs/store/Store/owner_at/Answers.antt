@@ -1,7 +1,7 @@
 -- A level's owner is there where the session stands, and then it lies where its id says.
 use Rattle.std.proofs.Common.{IfSome, sym, ap, ◌∙◌, subst}
 use Rattle.std.specs.Prelude.{option_copied}
-use Rattle.owner_core.specs.Owners.{IsLive}
+use Rattle.session_owners.specs.ResourceState.{IsLive}
 use Rattle.session_store.specs.State.{StoreState}
 use Rattle.session_store.proofs.Owned.{have_owners, level_owner_live}
 use Rattle.session_store.proofs.Through.{stands_in}

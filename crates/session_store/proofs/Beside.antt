@@ -1,0 +1,31 @@
+-- A store beside a tree of another account that changes in the same space.
+use Rattle.std.proofs.Common.{◌≡◌, ◌≢◌, sym, ap, ◌∙◌, subst}
+use Rattle.addr_space.specs.Space.{Space}
+use Rattle.context_rules.specs.Contexts.{Contexts}
+use Rattle.context_tree.specs.State.{TreeState, stands_for, Agrees, Moves}
+use Rattle.session_rules.specs.Making as rules
+use Rattle.session_rules.specs.State.{SessionState}
+use Rattle.session_store.specs.State.{StoreState, session_of}
+use Rattle.session_store.specs.Calls.{Keeps, StaysBeside}
+
+same_session : (store : StoreState) (s t : Space) → stands_for store.tree t ≡ stands_for store.tree s → session_of store t ≡ session_of store s
+unfolding session_of
+same_session store s t same = ap (λ (contexts : Contexts). record (session_of store s) { contexts = contexts }) same
+
+-- what the law of the store's tree says of the store
+pub stays_beside : (store : StoreState)
+    → ((a b : TreeState) (s t : Space) → Moves a b s t → Agrees a s → Agrees store.tree s → a.account ≢ store.tree.account → Agrees store.tree t)
+    → ((a b : TreeState) (s t : Space) → Moves a b s t → Agrees a s → Agrees store.tree s → a.account ≢ store.tree.account → stands_for store.tree t ≡ stands_for store.tree s)
+    → StaysBeside store
+stays_beside store agrees contexts a b s t moves changing keeps differ =
+    let same = same_session store s t (contexts a b s t moves changing keeps.agrees differ) in (
+      record {
+        agrees = agrees a b s t moves changing keeps.agrees differ;
+        held = moves.others store.tree.account (λ e. differ (sym e)) ∙ keeps.held ∙ ap (λ (session : SessionState). rules.held session) (sym same);
+      },
+      same,
+    )
+
+-- the same of a store that is seen as another one
+pub beside_of : (store v : StoreState) → store ≡ v → StaysBeside store → StaysBeside v
+beside_of store v is h = subst StaysBeside is h

@@ -1,0 +1,64 @@
+-- The search for a savepoint from the deepest level up, in the order in which a store keeps the levels and in that of the session.
+use Rattle.std.proofs.Common.{◌≡◌, ℕ, zero, suc, ◌+◌, ◌<◌, Bool, true, false, Option, Some, None, List, [], ◌∷◌, ◌++◌, length, refl, sym, ap, ◌∙◌, arith}
+use Rattle.std.specs.Prelude.{◌&&◌, if◌then◌else◌, nat_lt}
+use Rattle.std.specs.Option.{option_or}
+use Rattle.std.proofs.lemmas.Bool.{lt-ltb}
+use Rattle.std.proofs.lemmas.List.{length-append}
+use Rattle.subxact_stack.specs.declared.levels.Level.{Level}
+use Rattle.subxact_stack.specs.Levels.{deepest_named, deepest_named_from, is_named}
+use Rattle.session_rules.specs.State.{LevelState}
+use Rattle.session_rules.specs.Commands.{savepoint}
+use Rattle.session_store.specs.State.{level_state, levels_of}
+use Rattle.session_store.proofs.Deepest.{ends, levels_are, levels_long}
+
+-- the number of a level that has the name
+abbrev numbered : Bool → ℕ → Option ℕ
+numbered b n = if b then Some n else None
+
+none_behind : (o : Option ℕ) → o ≡ option_or o None
+none_behind None = refl
+none_behind (Some n) = refl
+
+or_either : (b : Bool) (n : ℕ) (below first : Option ℕ) → option_or (option_or (numbered b n) below) first ≡ option_or (numbered b n) (option_or below first)
+or_either true n below first = refl
+or_either false n below first = refl
+
+-- the last of some levels decides first
+from_last : (n : ℕ) (name : List ℕ) (levels : List Level) (level : Level) → deepest_named_from n name (levels ++ level ∷ []) ≡ option_or (numbered (is_named name level) (n + length levels)) (deepest_named_from n name levels)
+from_last n name [] level =
+    let number : n ≡ n + 0 = omega arith in
+    none_behind (numbered (is_named name level) n) ∙ ap (λ (m : ℕ). option_or (numbered (is_named name level) m) None) number
+from_last n name (x ∷ levels) level =
+    let number : n + 1 + length levels ≡ n + length (x ∷ levels) = omega arith in
+    ap (λ (o : Option ℕ). option_or o (numbered (is_named name x) n)) (from_last (n + 1) name levels level)
+    ∙ or_either (is_named name level) (n + 1 + length levels) (deepest_named_from (n + 1) name levels) (numbered (is_named name x) n)
+    ∙ ap (λ (m : ℕ). option_or (numbered (is_named name level) m) (deepest_named_from n name (x ∷ levels))) number
+
+or_if : (b : Bool) (n : ℕ) (o : Option ℕ) → option_or (numbered b n) o ≡ (if b then Some n else o)
+or_if true n o = refl
+or_if false n o = refl
+
+by_length : (k : ℕ) (name : List ℕ) (levels : List Level) → length levels ≡ k → deepest_named name levels ≡ savepoint name (levels_of levels)
+by_length zero name [] e = refl
+by_length zero name (x ∷ levels) e = absurd (omega (arith, e))
+by_length (suc k) name [] e = refl
+by_length (suc k) name (x ∷ levels) e =
+    let last = ends (x ∷ levels) (omega arith) in
+    ap (deepest_named name) last.1.1 ∙ go (λ ls f. by_length k name ls f) last.0 last.1.0 (let long = ap length last.1.1 in omega (arith, e, long, length-append last.0 (last.1.0 ∷ []))) ∙ sym (ap (λ (ls : List Level). savepoint name (levels_of ls)) last.1.1)
+  where
+    go : ((ls : List Level) → length ls ≡ k → deepest_named name ls ≡ savepoint name (levels_of ls)) → (outer : List Level) (level : Level) → length outer ≡ k → deepest_named name (outer ++ level ∷ []) ≡ savepoint name (levels_of (outer ++ level ∷ []))
+    go shorter [] level f = refl
+    go shorter (y ∷ outer) level f =
+        let rest : deepest_named name (y ∷ outer) ≡ savepoint name (levels_of (y ∷ outer)) = shorter (y ∷ outer) f in
+        let number : 2 + length outer ≡ length (levels_of (y ∷ outer)) + 1 = omega (arith, levels_long (y ∷ outer)) in
+        let more : nat_lt 0 (length (levels_of (y ∷ outer))) ≡ true = lt-ltb 0 (length (levels_of (y ∷ outer))) (omega (arith, levels_long (y ∷ outer))) in
+        from_last 2 name outer level
+        ∙ or_if (is_named name level) (2 + length outer) (deepest_named_from 2 name outer)
+        ∙ ap (λ (o : Option ℕ). if is_named name level then Some (2 + length outer) else o) rest
+        ∙ ap (λ (n : ℕ). if is_named name level then Some n else savepoint name (levels_of (y ∷ outer))) number
+        ∙ ap (λ (b : Bool). if b && is_named name level then Some (length (levels_of (y ∷ outer)) + 1) else savepoint name (levels_of (y ∷ outer))) (sym more)
+        ∙ ap (savepoint name) (sym (levels_are (y ∷ outer) level))
+
+-- the deepest level of at least 2 that has a name, by either
+pub savepoint_is : (name : List ℕ) (levels : List Level) → deepest_named name levels ≡ savepoint name (levels_of levels)
+savepoint_is name levels = by_length (length levels) name levels refl

@@ -1,0 +1,148 @@
+-- The level goes as the rules say, and what lies elsewhere still does.
+use Rattle.std.proofs.Common.{◌≡◌, ◌<◌, ℕ, arith, Option, false, List, [], ◌∷◌, length, IfSome, refl, sym, ap, ◌∙◌, subst}
+use Rattle.std.specs.Prelude.{MatchOption, drop, unwrap_or}
+use Rattle.std.proofs.lemmas.Bool.{ne_eqb}
+use Rattle.forest.specs.Forest.{at}
+use Rattle.addr_space.specs.Space.{Space}
+use Rattle.pgs_step.specs.declared.events.What.TheVariants as what
+use Rattle.pgs_step.specs.declared.ids.CtxId.{CtxId}
+use Rattle.context_rules.specs.Ends.{gone}
+use Rattle.context_rules.specs.Refusals.{is_within}
+use Rattle.context_tree.specs.Calls.{Did, DidNothing}
+use Rattle.context_tree.specs.State.{TreeState, Agrees, HooksFit, IsLive, Moves, place_of, stands_for}
+use Rattle.subxact_stack.specs.declared.levels.Level.{Level}
+use Rattle.session_rules.specs.State.{LevelState, context_of, first_of}
+use Rattle.session_rules.specs.Making.{level_parent}
+use Rattle.session_rules.specs.Ends.{subcommitted}
+use Rattle.session_store.specs.State.{StoreState, level_state, levels_of, only_empty}
+use Rattle.session_store.specs.Placed.{LevelLies}
+use Rattle.session_store.specs.Calls.{Acted}
+use Rattle.session_store.proofs.Deepest.{all_deepest, levels_are, levels_long}
+use Rattle.session_store.proofs.Ending.{agrees_current, apart_current, gone_apart, hooks_current, keeps_left, kept_some, left_placed, lives_on, moves_back, owner_top, popped_is}
+use Rattle.session_store.proofs.Kept.{IsThere}
+use Rattle.session_store.proofs.Levelled.{HasOwner, context_live, have_owners, owner_live, parent_number}
+use Rattle.session_store.proofs.Through.{hooks_in, keeps_in, live_in, stands_in, there_in}
+use Rattle.session_store.proofs.Went.{acted_went, subcommitted_went}
+use Rattle.session_store.proofs.store.Store.subcommit.Goals as goal
+
+pub drop_context-requires-clause-agrees : goal.drop_context-requires-clause-agrees
+drop_context-requires-clause-agrees g c =
+    let a : StoreState = record { tree = c.self.inside.tree; owners = c.self.inside.owners; levels = c.self.inside.levels } in
+    subst (λ (t : TreeState). Agrees t c.args.space.now) (sym c.switch.ensures) (agrees_current a c.context_above-above.result c.args.space.now (keeps_in _ _ _ _ c.self.view_is c.args.space.now c.requires.keeps))
+
+pub drop_context-requires-clause-hooks : goal.drop_context-requires-clause-hooks
+drop_context-requires-clause-hooks g c =
+    subst (λ (t : TreeState). HooksFit (stands_for t c.args.space.now) c.args.shelf.now) (sym c.switch.ensures)
+    (hooks_current c.self.inside.tree c.context_above-above.result c.args.space.now c.args.shelf.now (hooks_in _ _ _ _ c.self.view_is c.args.space.now c.args.shelf.now c.requires.stands))
+
+pub drop_context-requires-clause-live : goal.drop_context-requires-clause-live
+drop_context-requires-clause-live g c =
+    let there = there_in _ _ _ _ c.self.view_is _ _ c.requires.stands in
+    let lies = all_deepest (LevelLies c.self.inside.tree c.self.inside.owners) c.self.inside.levels c.deepest-level.ensures.0 c.deepest-level.result c.deepest-level.ensures.1 c.self.invariant.levels in
+    let is = all_deepest (IsThere c.self.inside.tree) c.self.inside.levels c.deepest-level.ensures.0 c.deepest-level.result c.deepest-level.ensures.1 there.levels in
+    subst (λ (kept : Option CtxId). IfSome kept (IsLive c.switch.new.self)) (sym (c.if_empty-context.ensures c.args.space.now))
+    (kept_some (IsLive c.switch.new.self) c.deepest-level.result.context (stands_for c.switch.new.self c.args.space.now)
+    (subst (λ (t : TreeState). IfSome c.deepest-level.result.context (IsLive t)) (sym c.switch.ensures) (context_live c.self.inside.tree c.self.inside.owners c.deepest-level.result lies.1 is.1)))
+
+pub returns-clause-keeps : goal.returns-clause-keeps
+returns-clause-keeps g c =
+    let a : StoreState = record { tree = c.self.inside.tree; owners = c.self.inside.owners; levels = c.self.inside.levels } in
+    keeps_left a c.context_above-above.result c.drop_context.new.tree c.discard_owner.new.resources c.pop.new.self c.args.space.now c.drop_context.new.space (keeps_in _ _ _ _ c.self.view_is c.args.space.now c.requires.keeps)
+    (subst (λ (t : TreeState). Moves t c.drop_context.new.tree c.args.space.now c.drop_context.new.space) c.switch.ensures c.drop_context.ensures.moves)
+
+pub returns-clause-moves : goal.returns-clause-moves
+returns-clause-moves g c =
+    subst (λ (v : StoreState). Moves v.tree c.drop_context.new.tree c.args.space.now c.drop_context.new.space) c.self.view_is
+    (moves_back c.self.inside.tree c.drop_context.new.tree c.context_above-above.result c.args.space.now c.drop_context.new.space
+    (subst (λ (t : TreeState). Moves t c.drop_context.new.tree c.args.space.now c.drop_context.new.space) c.switch.ensures c.drop_context.ensures.moves))
+
+pub context_above-above-requires-clause-stands : goal.context_above-above-requires-clause-stands
+context_above-above-requires-clause-stands g c = (c.args.space.now, (c.args.shelf.now, c.requires.stands))
+
+pub discard_owner-requires-clause-live : goal.discard_owner-requires-clause-live
+discard_owner-requires-clause-live g c =
+    let a : StoreState = record { tree = c.self.inside.tree; owners = c.self.inside.owners; levels = c.self.inside.levels } in
+    let outer : List Level = c.deepest-level.ensures.0 in
+    let lies = all_deepest (LevelLies a.tree a.owners) a.levels outer c.deepest-level.result c.deepest-level.ensures.1 c.self.invariant.levels in
+    let has = all_deepest (HasOwner a.owners) a.levels outer c.deepest-level.result c.deepest-level.ensures.1 (have_owners a _ _ (stands_in _ _ _ _ c.self.view_is _ _ c.requires.stands)) in
+    lives_on a.owners c.release_owner.new.resources c.deepest-level.result.owner c.release_owner.ensures.places (owner_live a.tree a.owners c.deepest-level.result lies.1 has.1)
+
+pub release_owner-requires-clause-live : goal.release_owner-requires-clause-live
+release_owner-requires-clause-live g c =
+    let a : StoreState = record { tree = c.self.inside.tree; owners = c.self.inside.owners; levels = c.self.inside.levels } in
+    let outer : List Level = c.deepest-level.ensures.0 in
+    let lies = all_deepest (LevelLies a.tree a.owners) a.levels outer c.deepest-level.result c.deepest-level.ensures.1 c.self.invariant.levels in
+    let has = all_deepest (HasOwner a.owners) a.levels outer c.deepest-level.result c.deepest-level.ensures.1 (have_owners a _ _ (stands_in _ _ _ _ c.self.view_is _ _ c.requires.stands)) in
+    owner_live a.tree a.owners c.deepest-level.result lies.1 has.1
+
+pub release_owner-requires-clause-top : goal.release_owner-requires-clause-top
+release_owner-requires-clause-top g c =
+    let a : StoreState = record { tree = c.self.inside.tree; owners = c.self.inside.owners; levels = c.self.inside.levels } in
+    let more : 1 < length a.levels = subst (λ (v : StoreState). 1 < length v.levels) (sym c.self.view_is) c.requires.level in
+    owner_top a c.args.space.now c.args.shelf.now c.deepest-level.ensures.0 c.deepest-level.result c.deepest-level.ensures.1 (stands_in _ _ _ _ c.self.view_is _ _ c.requires.stands)
+    false (sym (ne_eqb (length a.levels) 1 (λ one. omega (arith, one, more))))
+
+pub drop_context-requires-clause-apart : goal.drop_context-requires-clause-apart
+drop_context-requires-clause-apart g c =
+    let a : StoreState = record { tree = c.self.inside.tree; owners = c.self.inside.owners; levels = c.self.inside.levels } in
+    let outer : List Level = c.deepest-level.ensures.0 in
+    let is : levels_of a.levels ≡ level_state c.deepest-level.result ∷ levels_of outer = ap levels_of c.deepest-level.ensures.1 ∙ levels_are outer c.deepest-level.result in
+    let above : c.context_above-above.result.number ≡ unwrap_or (context_of (first_of (levels_of outer))) 1 =
+    c.context_above-above.ensures.number ∙ ap (λ (v : StoreState). level_parent (first_of (drop 1 (levels_of v.levels)))) (sym c.self.view_is)
+    ∙ ap (λ (ls : List LevelState). level_parent (first_of (drop 1 ls))) is ∙ sym (parent_number (first_of (levels_of outer))) in
+    let tree : TreeState = c.switch.new.self in
+    subst (λ (kept : Option CtxId). IfSome kept (λ id. is_within id.number tree.current.number (stands_for tree c.args.space.now) ≡ false)) (sym (c.if_empty-context.ensures c.args.space.now))
+    (kept_some (λ id. is_within id.number tree.current.number (stands_for tree c.args.space.now) ≡ false) c.deepest-level.result.context (stands_for tree c.args.space.now)
+    (subst (λ (t : TreeState). IfSome c.deepest-level.result.context (λ id. is_within id.number t.current.number (stands_for t c.args.space.now) ≡ false)) (sym c.switch.ensures)
+    (apart_current a.tree c.context_above-above.result c.args.space.now c.deepest-level.result.context
+    (gone_apart a c.args.space.now c.args.shelf.now outer c.deepest-level.result c.deepest-level.ensures.1 (stands_in _ _ _ _ c.self.view_is _ _ c.requires.stands) c.context_above-above.result.number above))))
+
+pub invariant_of-self : goal.invariant_of-self
+invariant_of-self g c =
+    let a : StoreState = record { tree = c.self.inside.tree; owners = c.self.inside.owners; levels = c.self.inside.levels } in
+    let outer : List Level = c.deepest-level.ensures.0 in
+    let up : CtxId = c.context_above-above.result in
+    let there = there_in _ _ _ _ c.self.view_is _ _ c.requires.stands in
+    left_placed a.tree c.drop_context.new.tree a.owners c.discard_owner.new.resources
+    (λ n still. c.drop_context.ensures.stays n still ∙ ap (λ (t : TreeState). place_of t n) c.switch.ensures)
+    (λ n still. c.discard_owner.ensures.stays n still ∙ ap (at n) c.release_owner.ensures.places)
+    a.levels outer c.pop.new.self c.deepest-level.result up c.deepest-level.ensures.1
+    (popped_is a.levels outer c.pop.new.self c.deepest-level.result c.pop.result c.deepest-level.ensures.1 c.pop.ensures.popped c.pop.ensures.some)
+    c.self.invariant.levels there.levels (have_owners a _ _ (stands_in _ _ _ _ c.self.view_is _ _ c.requires.stands))
+    (live_in _ _ _ _ c.self.view_is up c.context_above-above.ensures.live)
+    (c.drop_context.ensures.current ∙ ap (λ (t : TreeState). t.current) c.switch.ensures)
+
+pub returns-clause-acted : goal.returns-clause-acted
+returns-clause-acted g c =
+    let a : StoreState = record { tree = c.self.inside.tree; owners = c.self.inside.owners; levels = c.self.inside.levels } in
+    let outer : List Level = c.deepest-level.ensures.0 in
+    let level : Level = c.deepest-level.result in
+    let up : CtxId = c.context_above-above.result in
+    let ls : List LevelState = level_state level ∷ levels_of outer in
+    let s : Space = c.args.space.now in
+    let kept : Option CtxId = c.if_empty-context.result in
+    let t : Space = c.drop_context.new.space in
+    let is : levels_of a.levels ≡ ls = ap levels_of c.deepest-level.ensures.1 ∙ levels_are outer level in
+    let number : c.depth-number.result ≡ length ls = c.depth-number.ensures.depth ∙ sym (levels_long a.levels) ∙ ap length is in
+    let new : c.pop.new.self ≡ outer = popped_is a.levels outer c.pop.new.self level c.pop.result c.deepest-level.ensures.1 c.pop.ensures.popped c.pop.ensures.some in
+    let above : up.number ≡ unwrap_or (context_of (first_of (levels_of outer))) 1 =
+    c.context_above-above.ensures.number ∙ ap (λ (v : StoreState). level_parent (first_of (drop 1 (levels_of v.levels)))) (sym c.self.view_is)
+    ∙ ap (λ (ls : List LevelState). level_parent (first_of (drop 1 ls))) is ∙ sym (parent_number (first_of (levels_of outer))) in
+    let b : StoreState = record { tree = c.drop_context.new.tree; owners = c.discard_owner.new.resources; levels = c.pop.new.self } in
+    subst (λ (v : StoreState). Acted subcommitted v b s t c.args.shelf.now c.drop_context.new.shelf (λ events. g.E.Emit.emits c.args.out.now events c.drop_context.new.out)) c.self.view_is
+    (acted_went _ (λ o events p. g.E.Emit.emits o events p) subcommitted a b a.levels ls (levels_of outer) s t c.args.shelf.now c.drop_context.new.shelf c.args.out.now c.drop_context.new.out is (ap levels_of new)
+    (λ around. subcommitted_went _ (λ o events p. g.E.Emit.emits o events p) g.met.E.Emit.emits_none (λ o p q xs ys h k. g.met.E.Emit.emits_more _ _ _ _ _ _ h k refl)
+    a (levels_of outer) level s t c.args.shelf.now c.drop_context.new.shelf around up kept c.drop_context.new.tree c.release_owner.new.resources c.discard_owner.new.resources
+    c.args.out.now c.emit.new.self c.release_owner.new.out c.discard_owner.new.out c.drop_context.new.out
+    (subst (λ (n : ℕ). g.E.Emit.emits c.args.out.now (what.CommitLevel n ∷ []) c.emit.new.self) number c.emit.ensures.emitted)
+    c.release_owner.ensures.acted c.discard_owner.ensures.acted above
+    (subst (λ (u : TreeState). kept ≡ only_empty level.context (stands_for u s)) c.switch.ensures (c.if_empty-context.ensures s))
+    (subst (λ (u : TreeState). MatchOption kept (DidNothing u c.drop_context.new.tree s t c.args.shelf.now c.drop_context.new.shelf) (λ id. Did (gone id.number (stands_for u s)) u c.drop_context.new.tree s t c.args.shelf.now c.drop_context.new.shelf)) c.switch.ensures c.drop_context.ensures.did)
+    (subst (λ (u : TreeState). MatchOption kept (c.drop_context.new.out ≡ c.discard_owner.new.out) (λ id. g.E.Emit.emits c.discard_owner.new.out (gone id.number (stands_for u s)).events c.drop_context.new.out)) c.switch.ensures c.drop_context.ensures.emits)))
+
+pub if_empty-context-requires : goal.if_empty-context-requires
+if_empty-context-requires g c =
+    let there = there_in _ _ _ _ c.self.view_is _ _ c.requires.stands in
+    let lies = all_deepest (LevelLies c.self.inside.tree c.self.inside.owners) c.self.inside.levels c.deepest-level.ensures.0 c.deepest-level.result c.deepest-level.ensures.1 c.self.invariant.levels in
+    let is = all_deepest (IsThere c.self.inside.tree) c.self.inside.levels c.deepest-level.ensures.0 c.deepest-level.result c.deepest-level.ensures.1 there.levels in
+    subst (λ (t : TreeState). IfSome c.deepest-level.result.context (IsLive t)) (sym c.switch.ensures) (context_live c.self.inside.tree c.self.inside.owners c.deepest-level.result lies.1 is.1)

@@ -1,0 +1,18 @@
+-- A file has a descriptor, or nothing changed.
+use Rattle.session_rules.specs.Taking.{descriptor_given}
+use Rattle.session_store.proofs.Answered.{on_answer}
+use Rattle.session_store.proofs.Owned.{go_same, owners_after, owners_alone_after, placed_owners}
+use Rattle.session_store.proofs.store.Store.touch.Goals as goal
+
+pub invariant_of-self : goal.invariant_of-self
+invariant_of-self g c = placed_owners _ _ _ _ c.self.invariant (go_same _ _ c.touch.ensures.owners c.touch.ensures.places)
+
+pub returns-clause-acted : goal.returns-clause-acted
+returns-clause-acted g c =
+    on_answer c.touch.result
+    (λ acted s x. owners_after _ _ _ _ c.self.view_is (descriptor_given c.args.file) _ s x (λ events. g.E.Emit.emits c.args.out.now events c.touch.new.out) acted)
+    c.touch.ensures.acted
+
+pub returns-clause-alone : goal.returns-clause-alone
+returns-clause-alone g c =
+    on_answer c.touch.result (λ acted. owners_alone_after _ _ _ _ c.self.view_is _ (go_same _ _ c.touch.ensures.owners c.touch.ensures.places)) c.touch.ensures.acted
