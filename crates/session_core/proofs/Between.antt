@@ -1,22 +1,27 @@
 -- Behind the end of a level the session stands.
-use Rattle.std.proofs.Common.{◌≡◌, ℕ, ◌+◌, ◌++◌, ◌<◌, ◌≤◌, false, List, [], ◌∷◌, length, IfSome, refl, sym, ◌∙◌, ap, subst, arith, length-append}
+use Rattle.std.proofs.Common.{◌≡◌, ℕ, suc, ◌<◌, Bool, true, false, Option, Some, None, List, [], ◌∷◌, length, IfSome, refl, sym, ◌∙◌, ap, subst, arith}
+use Rattle.std.specs.Prelude.{◌==◌}
+use Rattle.addr_space.specs.Space.{Space}
+use Rattle.forest.specs.Forest.{removed}
+use Rattle.owner_core.specs.Owners.{OwnerTree}
 use Rattle.pgs_step.specs.declared.errors.Error.{Error}
 use Rattle.pgs_step.specs.declared.events.What.{What}
-use Rattle.session_rules.specs.State.{LevelState, first_of, is_aborted}
-use Rattle.session_rules.specs.World.{Scene}
-use Rattle.session_rules.specs.Acts.{in_order}
-use Rattle.session_rules.specs.Ends.{aborted, cleaned_up, committed, recovered}
-use Rattle.session_rules.specs.Standing.{IsOpen, Stands, StandsBetweenLines}
-use Rattle.session_rules.proofs.EndsStand.{aborted_stands, cleaned_up_stands, committed_stands, recovered_stands}
+use Rattle.reset_callbacks.specs.ShelfState.{ShelfState}
+use Rattle.session_rules.specs.State.{LevelState, abort_context, deepest_changed, first_of}
+use Rattle.session_rules.specs.World.{Around, Scene}
+use Rattle.session_rules.specs.Acts.{Ended, changes, in_order}
+use Rattle.session_rules.specs.Releases.{owner_released}
+use Rattle.session_rules.specs.Ends.{aborted, cleaned_up, committed, recovered, stack_popped, subcommitted}
+use Rattle.session_rules.specs.Standing.{AreOuter, IsOpen, Stands, StandsBetweenLines}
+use Rattle.session_rules.proofs.EndsStand.{aborted_stands, cleaned_up_stands, committed_stands, recovered_stands, settled, stands_tabled, subcommitted_stands}
+use Rattle.session_rules.proofs.Releasing.{HasReleased, OnlyTables, release_is, swept_by, tabled, tables_of, with_owners}
 use Rattle.session_rules.proofs.StepsStand.{settled_as}
-use Rattle.subxact_stack.specs.declared.levels.Level.{Level}
-use Rattle.subxact_stack.specs.Levels.{with_deepest}
+use Rattle.session_rules.proofs.Swept.{removed_swept}
 use Rattle.session_store.specs.State.{StoreState, levels_of, scene_of, session_of}
-use Rattle.session_store.specs.Calls.{Acted, Keeps}
+use Rattle.session_store.specs.Calls.{Acted, Keeps, StandsIn}
 use Rattle.session_store.proofs.Deepest.{levels_long}
 use Rattle.session_core.specs.Lines.{IsBetweenLines}
 use Rattle.session_core.specs.Performed.{Ends, IsBetweenSteps, Now}
-use Rattle.session_core.proofs.Exited.{rolled_stands, stood}
 
 -- the deepest level and those above it
 record HasDeepest (ls : List LevelState) : Type 0 where
@@ -33,6 +38,50 @@ alone_of [] h = absurd (omega (arith, h))
 alone_of (l ∷ []) h = (l, refl)
 alone_of (l ∷ k ∷ ls) h = absurd (omega (arith, h))
 
+-- A level is rolled back, whether it is being started or not: but for the tables that is its cleanup.
+module _ (name : Option (List ℕ)) (i a st : Bool) (levels : List LevelState) (s : Scene) where
+  abbrev whole : Option ℕ → Option ℕ → Scene
+  whole c o = settled (record { name = name; context = c; owner = o; implicit = i; aborted = a; starting = st } ∷ levels) s
+
+  -- behind the release of its owner
+  abbrev released : ℕ → Option ℕ → Scene
+  released p c = record (whole c (Some p)) { session = record (whole c (Some p)).session { current = abort_context } }
+
+  abbrev behind_release : ℕ → Scene → Scene
+  behind_release n z =
+      (cleaned_up (in_order (stack_popped n ∷ changes (λ session. record session { levels = deepest_changed (λ old. record old { aborted = true }) session.levels }) ∷ []) z).scene).scene
+
+  rolled_owned : (c : Option ℕ) (p : ℕ) → HasReleased p (released p c) (owner_released false (suc (length levels) == 1) p (released p c)).scene
+      → OnlyTables (cleaned_up (whole c (Some p))).scene (in_order (aborted ∷ cleaned_up ∷ []) (whole c (Some p))).scene
+  rolled_owned None p r = (
+    r.tables,
+    ap (behind_release (suc (length levels))) r.is
+        ∙ ap (λ (z : OwnerTree). tabled r.tables (with_owners z (cleaned_up (whole None (Some p))).scene))
+        (ap (removed p) r.swept.is ∙ removed_swept (swept_by r.swept.first r.swept.second r.swept.third) p s.session.owners),
+  )
+  rolled_owned (Some n) p r = (
+    r.tables,
+    ap (behind_release (suc (length levels))) r.is
+        ∙ ap (λ (z : OwnerTree). tabled r.tables (with_owners z (cleaned_up (whole (Some n) (Some p))).scene))
+        (ap (removed p) r.swept.is ∙ removed_swept (swept_by r.swept.first r.swept.second r.swept.third) p s.session.owners),
+  )
+
+  rolled_is : (c o : Option ℕ) → OnlyTables (cleaned_up (whole c o)).scene (in_order (aborted ∷ cleaned_up ∷ []) (whole c o)).scene
+  rolled_is None None = (tables_of s, refl)
+  rolled_is (Some n) None = (tables_of s, refl)
+  rolled_is None (Some p) = rolled_owned None p (release_is false (suc (length levels) == 1) p (released p None) refl)
+  rolled_is (Some n) (Some p) = rolled_owned (Some n) p (release_is false (suc (length levels) == 1) p (released p (Some n)) refl)
+
+rolled_stands : (level : LevelState) (levels : List LevelState) (s : Scene) → Stands (settled (level ∷ levels) s) → Stands (in_order (aborted ∷ cleaned_up ∷ []) (settled (level ∷ levels) s)).scene
+rolled_stands level levels s h =
+    let r : OnlyTables (cleaned_up (settled (level ∷ levels) s)).scene (in_order (aborted ∷ cleaned_up ∷ []) (settled (level ∷ levels) s)).scene =
+    rolled_is level.name level.implicit level.aborted level.starting levels s level.context level.owner in
+    let left = cleaned_up_stands level levels s h in
+    subst Stands (sym r.1) (stands_tabled r.0 (cleaned_up (settled (level ∷ levels) s)).scene left.between.stands)
+
+stood : (act : Scene → Ended) (a b : StoreState) (s t : Space) (x y : ShelfState) (P : List What → Type 0) → Acted act a b s t x y P → ((around : Around) → Stands (act (scene_of a s x around)).scene) → StandsIn b t y
+stood act a b s t x y P acted stands around = subst Stands (acted.leads around) (stands around)
+
 module _ (a b : Now) (P : List What → Type 0) (between : IsBetweenSteps a) (keeps : Keeps b.store b.space) where
   pub commit_between : length a.store.levels ≡ 1 → Acted committed a.store b.store a.space b.space a.shelf b.shelf P → IsBetweenSteps b
   unfolding session_of
@@ -45,26 +94,27 @@ module _ (a b : Now) (P : List What → Type 0) (between : IsBetweenSteps a) (ke
             (λ k. let left = committed_stands only.0 (scene_of a.store a.space a.shelf around) k in left.between.stands));
       }
 
-  pub clean_between : 0 < length a.store.levels → Acted cleaned_up a.store b.store a.space b.space a.shelf b.shelf P → IsBetweenSteps b
+  -- the deepest level ends in one way or another
+  ended_between : (act : Scene → Ended) → ((level : LevelState) (levels : List LevelState) (s : Scene) → Stands (settled (level ∷ levels) s) → Stands (act (settled (level ∷ levels) s)).scene)
+      → 0 < length a.store.levels → Acted act a.store b.store a.space b.space a.shelf b.shelf P → IsBetweenSteps b
   unfolding session_of
-  clean_between some acted =
+  ended_between act stands some acted =
       let d = deepest_of (levels_of a.store.levels) (subst (λ (n : ℕ). 0 < n) (sym (levels_long a.store.levels)) some) in
       record {
         keeps = keeps;
-        stands = stood cleaned_up a.store b.store a.space b.space a.shelf b.shelf P acted
-            (λ around. settled_as (λ (w : Scene). Stands (cleaned_up w).scene) (scene_of a.store a.space a.shelf around) (d.deepest ∷ d.above) (between.stands around) d.are
-            (λ k. let left = cleaned_up_stands d.deepest d.above (scene_of a.store a.space a.shelf around) k in left.between.stands));
+        stands = stood act a.store b.store a.space b.space a.shelf b.shelf P acted
+            (λ around. settled_as (λ (w : Scene). Stands (act w).scene) (scene_of a.store a.space a.shelf around) (d.deepest ∷ d.above) (between.stands around) d.are
+            (λ k. stands d.deepest d.above (scene_of a.store a.space a.shelf around) k));
       }
 
-  pub roll_between : length a.store.levels ≡ 1 → is_aborted (levels_of a.store.levels) ≡ false → Acted (in_order (aborted ∷ cleaned_up ∷ [])) a.store b.store a.space b.space a.shelf b.shelf P → IsBetweenSteps b
-  unfolding session_of
-  roll_between one active acted =
-      let only = alone_of (levels_of a.store.levels) (levels_long a.store.levels ∙ one) in
-      record {
-        keeps = keeps;
-        stands = stood (in_order (aborted ∷ cleaned_up ∷ [])) a.store b.store a.space b.space a.shelf b.shelf P acted
-            (λ around. rolled_stands (scene_of a.store a.space a.shelf around) only.0 (between.stands around) only.1 (sym (ap is_aborted only.1) ∙ active));
-      }
+  pub clean_between : 0 < length a.store.levels → Acted cleaned_up a.store b.store a.space b.space a.shelf b.shelf P → IsBetweenSteps b
+  clean_between some acted = ended_between cleaned_up (λ level levels s h. let left = cleaned_up_stands level levels s h in left.between.stands) some acted
+
+  pub subcommit_between : 0 < length a.store.levels → Acted subcommitted a.store b.store a.space b.space a.shelf b.shelf P → IsBetweenSteps b
+  subcommit_between some acted = ended_between subcommitted (λ level levels s h. let left = subcommitted_stands level levels s h in left.between.stands) some acted
+
+  pub roll_between : 0 < length a.store.levels → Acted (in_order (aborted ∷ cleaned_up ∷ [])) a.store b.store a.space b.space a.shelf b.shelf P → IsBetweenSteps b
+  roll_between some acted = ended_between (in_order (aborted ∷ cleaned_up ∷ [])) rolled_stands some acted
 
   abort_of : (l : LevelState) (ls : List LevelState) → levels_of a.store.levels ≡ l ∷ ls → l.aborted ≡ false → IsOpen l → Acted aborted a.store b.store a.space b.space a.shelf b.shelf P → IsBetweenSteps b
   unfolding session_of
@@ -83,32 +133,12 @@ module _ (a b : Now) (P : List What → Type 0) (between : IsBetweenSteps a) (ke
       go (l ∷ ls) are = λ active open_level. abort_of l ls are active open_level acted
 
 -- behind a recovery the session stands between two lines
-pub recovery_lines : (error : Error) (a b : Now) (P : List What → Type 0) → IsBetweenSteps a → Ends (recovered error) a b P → length b.store.levels ≤ 1 → IsBetweenLines b
-recovery_lines error a b P between did few = record {
+pub recovery_lines : (error : Error) (a b : Now) (P : List What → Type 0) → IsBetweenSteps a → Ends (recovered error) a b P → IsBetweenLines b
+recovery_lines error a b P between did = record {
   keeps = did.keeps;
   stands = λ around. subst StandsBetweenLines (did.acted.leads around) (recovered_stands error (scene_of a.store a.space a.shelf around) (between.stands around));
-  few = few;
 }
 
 -- a session is seen as its store
 pub between_of : (store v : StoreState) → store ≡ v → (a : StoreState → Now) → IsBetweenSteps (a v) → IsBetweenSteps (a store)
 between_of store v is a h = subst (λ (z : StoreState). IsBetweenSteps (a z)) (sym is) h
-
--- a level fewer, where there was one at most
-pub few_left : (store v : StoreState) (left : List Level) (l : Level) → store ≡ v → length v.levels ≤ 1 → store.levels ≡ left ++ l ∷ [] → length left ≤ 1
-few_left store v left l is few left_is =
-    let long : length store.levels ≡ length left + 1 = ap (λ (ls : List Level). length ls) left_is ∙ length-append left (l ∷ []) in
-    let same : length store.levels ≡ length v.levels = ap (λ (a : StoreState). length a.levels) is in
-    omega (arith, long, same, few)
-
-deepest_long : (change : Level → Level) (levels : List Level) → length (with_deepest change levels) ≡ length levels
-deepest_long change [] = refl
-deepest_long change (l ∷ []) = refl
-deepest_long change (l ∷ k ∷ levels) = let rest = deepest_long change (k ∷ levels) in omega (arith, rest)
-
--- as many levels, of which the deepest is another one
-pub few_changed : (store v : StoreState) (change : Level → Level) → store ≡ v → length v.levels ≤ 1 → length (with_deepest change store.levels) ≤ 1
-few_changed store v change is few =
-    let same : length store.levels ≡ length v.levels = ap (λ (a : StoreState). length a.levels) is in
-    let long = deepest_long change store.levels in
-    omega (arith, long, same, few)

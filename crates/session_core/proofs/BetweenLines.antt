@@ -1,5 +1,5 @@
 -- A session between two lines.
-use Rattle.std.proofs.Common.{◌≡◌, ◌∙◌, ℕ, ◌≤◌, true, false, List, [], ◌∷◌, length, Option, Some, None, Result, Ok, Err, OnOk, refl, sym, ap, subst, arith}
+use Rattle.std.proofs.Common.{◌≡◌, ◌∙◌, ℕ, ◌<◌, ◌≤◌, true, false, List, [], ◌∷◌, length, Option, Some, None, Result, Ok, Err, OnOk, refl, sym, ap, subst, arith}
 use Rattle.std.specs.Option.{option_map, option_map_or}
 use Rattle.pgs_command.specs.declared.commands.Command.{Command}
 use Rattle.pgs_command.specs.declared.commands.Command.TheVariants as command
@@ -8,8 +8,10 @@ use Rattle.pgs_step.specs.declared.events.What.{What}
 use Rattle.subxact_stack.specs.declared.levels.Level.{Level}
 use Rattle.session_rules.specs.State.{LevelState, SessionState, first_of, opening}
 use Rattle.addr_space.specs.Space.{Space}
+use Rattle.context_rules.specs.Contexts.{Contexts}
+use Rattle.owner_core.specs.Owners.{OwnerTree}
 use Rattle.session_rules.specs.World.{Moment}
-use Rattle.session_rules.specs.Standing.{AreOpen, FitLevels, StandsBetweenLines}
+use Rattle.session_rules.specs.Standing.{AreOpen, AreOuter, FitLevels, StandsBetweenLines}
 use Rattle.session_rules.specs.Commands.{elements_of}
 use Rattle.session_rules.specs.Does.{does_all}
 use Rattle.session_rules.specs.Transcript.{turn, turn_of}
@@ -41,33 +43,35 @@ none_of (level ∷ levels) o none first = go (levels_of (level ∷ levels)) refl
         let bad : None ≡ Some l = sym (ap (option_map level_state) none) ∙ first ∙ ap first_of e in
         absurd (cc bad)
 
--- one level
-pub one_of : (levels : List Level) (l : Level) → length levels ≤ 1 → Some (level_state l) ≡ first_of (levels_of levels) → levels_of levels ≡ level_state l ∷ []
-one_of levels l few first = go (levels_of levels) refl
-  where
-    go : (ls : List LevelState) → levels_of levels ≡ ls → levels_of levels ≡ level_state l ∷ []
-    go [] e =
-        let bad : Some (level_state l) ≡ None = first ∙ ap first_of e in
-        absurd (cc bad)
-    go (k ∷ []) e =
-        let same : Some (level_state l) ≡ Some k = first ∙ ap first_of e in
-        e ∙ ap (λ (o : Option LevelState). option_map_or (λ x. x ∷ []) o []) (sym same)
-    go (k ∷ j ∷ ls) e =
-        let long : length (k ∷ j ∷ ls) ≡ length levels = ap (λ (x : List LevelState). length x) (sym e) ∙ levels_long levels in
-        absurd (omega (arith, long, few))
+-- the levels of a block between two lines
+active_of : (levels : List LevelState) (l : LevelState) (contexts : Contexts) (owners : OwnerTree) (current : ℕ) → Some l ≡ first_of levels → l.aborted ≡ false → AreOpen levels → FitLevels levels contexts owners current → AreOuter levels
+active_of [] l contexts owners current e active open_levels fit = tt
+active_of (k ∷ levels) l contexts owners current e active open_levels fit =
+    let same : l ≡ k = cc e in (
+      record { made = fit.0.made open_levels.0.started; started = open_levels.0.started; unaborted = ap (λ (x : LevelState). x.aborted) (sym same) ∙ active },
+      open_levels.0,
+      fit.1,
+    )
 
-pub aborted_block : (levels : List Level) (l : Level) → length levels ≤ 1 → Some (level_state l) ≡ first_of (levels_of levels) → l.aborted ≡ true → IsAbortedBlock levels
-aborted_block levels l few first aborted = record { level = level_state l; are = one_of levels l few first; aborted = aborted }
+some_of : (levels : List LevelState) (l : LevelState) → Some l ≡ first_of levels → 0 < length levels
+some_of [] l e = absurd (cc e)
+some_of (k ∷ levels) l e = omega arith
 
--- the level of a block between two lines is active
-pub block_of : (a : Now) (l : Level) → IsBetweenLines a → Some (level_state l) ≡ first_of (levels_of a.store.levels) → l.aborted ≡ false → IsInBlock a.store.levels
+pub block_of : (a : Now) (l : Level) → IsBetweenLines a → length a.store.levels ≤ 1000 → Some (level_state l) ≡ first_of (levels_of a.store.levels) → l.aborted ≡ false → IsInBlock a.store.levels
 unfolding session_of
-block_of a l h first unaborted =
-    let are = one_of a.store.levels l h.few first in
+block_of a l h most first unaborted =
     let z : StandsBetweenLines (scene_in a empty_around) = h.stands empty_around in
-    let open_levels = subst AreOpen are z.open_levels in
-    let fit = subst (λ (ls : List LevelState). FitLevels ls (scene_in a empty_around).session.contexts (scene_in a empty_around).session.owners (scene_in a empty_around).session.current) are z.stands.fit in
-    record { level = level_state l; are = are; active = record { made = fit.0.made open_levels.0.started; started = open_levels.0.started; unaborted = unaborted } }
+    record {
+      some = subst (λ (n : ℕ). 0 < n) (levels_long a.store.levels) (some_of (levels_of a.store.levels) (level_state l) first);
+      at_most = most;
+      outer = active_of (levels_of a.store.levels) (level_state l) _ _ _ first unaborted z.open_levels z.stands.fit;
+    }
+
+pub aborted_block : (levels : List Level) (l : Level) → Some (level_state l) ≡ first_of (levels_of levels) → l.aborted ≡ true → IsAbortedBlock levels
+aborted_block levels l first aborted = record {
+  some = subst (λ (n : ℕ). 0 < n) (levels_long levels) (some_of (levels_of levels) (level_state l) first);
+  aborted = ap (λ (o : Option LevelState). option_map_or (λ level. level.aborted) o false) (sym first) ∙ aborted;
+}
 
 -- the rules lead each command that is performed from a session between two lines to one between two lines
 is_here : (c : Command) → IsPerformed c → rules.IsHere c
@@ -75,11 +79,17 @@ is_here command.Nothing h = tt
 is_here command.Begin h = tt
 is_here command.Commit h = tt
 is_here command.Rollback h = tt
+is_here (command.Savepoint name) h = tt
+is_here (command.Release name) h = tt
+is_here (command.RollbackTo name) h = tt
 is_here command.Raise h = tt
 is_here (command.Pin buffer) h = tt
 is_here (command.Unpin buffer) h = tt
 is_here (command.Reference class key) h = tt
 is_here (command.Unreference class key) h = tt
+is_here (command.Open file) h = tt
+is_here (command.Touch file) h = tt
+is_here (command.Close file) h = tt
 is_here (command.Context name parent kind) h = tt
 is_here (command.Switch name) h = tt
 is_here (command.OnReset name) h = tt
@@ -102,15 +112,14 @@ unfolding turn
 turn_done c m e = ap (λ (o : Option Error). (turn_of (does_all None (elements_of c m.scene.session) m) o).moment) e
 
 pub lines_behind : (c : Command) (a b : Now) (P : List What → Type 0) (r : Result (Unit {0}) Error) → IsPerformed c → IsBetweenLines a → Performed 5 (elements_of c (session_of a.store a.space)) a b P (refusal_of r)
-    → length b.store.levels ≤ 1 → OnOk r (IsBetweenLines b)
-lines_behind c a b P (Err e) known lines done few = tt
-lines_behind c a b P (Ok u) known lines done few = record {
+    → OnOk r (IsBetweenLines b)
+lines_behind c a b P (Err e) known lines done = tt
+lines_behind c a b P (Ok u) known lines done = record {
   keeps = done.keeps;
   stands = λ around.
       let moment : Moment = at_calls (scene_in a) a.calls.count a.calls.fail around in
       let stands : StandsBetweenLines (turn None (Some c) moment).moment.scene = turn_stands None c moment (is_here c known) (lines.stands around) in
       subst (λ (m : Moment). StandsBetweenLines m.scene) (turn_done c moment (done.answers.answer around None tt) ∙ done.answers.moment around None tt) stands;
-  few = few;
 }
 
 -- a session as it opens has no level

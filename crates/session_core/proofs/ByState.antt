@@ -1,5 +1,5 @@
 -- The elements of commands, by the state of the transaction.
-use Rattle.std.proofs.Common.{◌≡◌, ◌∙◌, ℕ, ◌+◌, ◌≤◌, Bool, true, false, not, ◌&&◌, List, [], ◌∷◌, ◌++◌, length, Option, Some, None, Result, Ok, Err, OnOk, refl, sym, ap, subst, arith, length-append}
+use Rattle.std.proofs.Common.{◌≡◌, ◌∙◌, ◌⊎◌, ℕ, ◌+◌, ◌<◌, ◌≤◌, Bool, true, false, not, ◌&&◌, List, [], ◌∷◌, ◌++◌, length, Option, Some, None, Result, Ok, Err, OnOk, refl, sym, ap, subst, inl, inr, arith}
 use Rattle.pgs_command.specs.declared.commands.Command.{Command}
 use Rattle.pgs_command.specs.declared.commands.Command.TheVariants as command
 use Rattle.pgs_step.specs.declared.errors.Error.{Error}
@@ -8,9 +8,9 @@ use Rattle.pgs_step.specs.declared.events.What.TheVariants as what
 use Rattle.session_rules.specs.State.{LevelState, SessionState, is_aborted}
 use Rattle.session_rules.specs.World.{Moment}
 use Rattle.session_rules.specs.Acts.{say}
-use Rattle.session_rules.specs.Elements.{Element}
+use Rattle.session_rules.specs.Elements.{Element, Text}
 use Rattle.session_rules.specs.Elements as element
-use Rattle.session_rules.specs.Commands.{elements_of, in_transaction, is_end, refused, start, unaborted}
+use Rattle.session_rules.specs.Commands.{at_savepoint, committed_to, elements_of, in_transaction, is_end, refused, rolled_back_to, start, then_ok, unaborted}
 use Rattle.pgs_step.specs.declared.errors.Error.TheVariants as error
 use Rattle.session_rules.specs.Works.{work_of}
 use Rattle.session_rules.specs.Calls.{unfailing}
@@ -23,9 +23,8 @@ use Rattle.addr_space.specs.Space.{Space}
 use Rattle.session_rules.proofs.StepsStand.{IsWorking}
 use Rattle.session_core.specs.Answers.{refusal_of}
 use Rattle.session_core.specs.Works.{IsWork}
-use Rattle.session_core.specs.Begun.{HasBegun}
-use Rattle.session_rules.specs.Standing.{IsActive}
-use Rattle.session_core.specs.Lines.{IsPerformed}
+use Rattle.session_rules.specs.Standing.{AreOuter}
+use Rattle.session_core.specs.Lines.{IsAbortedBlock, IsInBlock, IsPerformed}
 use Rattle.session_core.proofs.Commands.{fails}
 use Rattle.session_core.specs.Performed.{Now, Performed}
 use Rattle.session_core.proofs.Performing.{grows_nothing, moves_nothing, performed_both, performed_end, performed_more, performed_stop}
@@ -41,6 +40,9 @@ worked (command.Pin buffer) session h = refl
 worked (command.Unpin buffer) session h = refl
 worked (command.Reference class key) session h = refl
 worked (command.Unreference class key) session h = refl
+worked (command.Open file) session h = refl
+worked (command.Touch file) session h = refl
+worked (command.Close file) session h = refl
 worked (command.Context name parent kind) session h = refl
 worked (command.Switch name) session h = refl
 worked (command.OnReset name) session h = refl
@@ -112,81 +114,157 @@ none_told k es a b P r u is h = subst (λ (x : Result _ Error). Performed k es a
 pub error_told : {A : Type 0} (k : ℕ) (es : List Element) (a b : Now) (P : List What → Type 0) (r : Result A Error) (e : Error) → r ≡ Err e → Performed k es a b P (refusal_of r) → Performed k es a b P (Some e)
 error_told k es a b P r e is h = subst (λ (x : Result _ Error). Performed k es a b P (refusal_of x)) is h
 
--- the elements of a command where there is one level
+-- the deepest level of a block isn't aborted
+pub outer_active : (levels : List LevelState) → AreOuter levels → is_aborted levels ≡ false
+outer_active [] h = refl
+outer_active (level ∷ levels) h = h.0.unaborted
+
+-- the elements of a command where there are levels
+module _ (c : Command) (es : List LevelState → List Element) where
+  -- of which the deepest isn't aborted
+  pub in_block : ((level : LevelState) (levels : List LevelState) (session : SessionState) → elements_of c (record session { levels = record level { aborted = false } ∷ levels }) ≡ es (record level { aborted = false } ∷ levels))
+      → (store : StoreState) (s : Space) → IsInBlock store.levels → elements_of c (session_of store s) ≡ es (levels_of store.levels)
+  unfolding session_of
+  in_block is store s block = go (levels_of store.levels) refl (outer_active (levels_of store.levels) block.outer)
+    where
+      go : (ls : List LevelState) → levels_of store.levels ≡ ls → is_aborted (levels_of store.levels) ≡ false → elements_of c (session_of store s) ≡ es (levels_of store.levels)
+      go [] e active = absurd (omega (arith, block.some, levels_long store.levels, ap length e))
+      go (level ∷ levels) e active =
+          let all : levels_of store.levels ≡ record level { aborted = false } ∷ levels = e ∙ ap (λ (b : Bool). record level { aborted = b } ∷ levels) (sym (ap is_aborted e) ∙ active) in
+          with_levels c (session_of store s) (record level { aborted = false } ∷ levels) all ∙ is level levels (session_of store s) ∙ ap es (sym all)
+
+  -- or is
+  pub in_aborted : ((level : LevelState) (levels : List LevelState) (session : SessionState) → elements_of c (record session { levels = record level { aborted = true } ∷ levels }) ≡ es (record level { aborted = true } ∷ levels))
+      → (store : StoreState) (s : Space) → IsAbortedBlock store.levels → elements_of c (session_of store s) ≡ es (levels_of store.levels)
+  unfolding session_of
+  in_aborted is store s block = go (levels_of store.levels) refl
+    where
+      go : (ls : List LevelState) → levels_of store.levels ≡ ls → elements_of c (session_of store s) ≡ es (levels_of store.levels)
+      go [] e = absurd (omega (arith, block.some, levels_long store.levels, ap length e))
+      go (level ∷ levels) e =
+          let all : levels_of store.levels ≡ record level { aborted = true } ∷ levels = e ∙ ap (λ (b : Bool). record level { aborted = b } ∷ levels) (sym (ap is_aborted e) ∙ block.aborted) in
+          with_levels c (session_of store s) (record level { aborted = true } ∷ levels) all ∙ is level levels (session_of store s) ∙ ap es (sym all)
+
+-- the elements of a command where there is no level
 module _ (c : Command) (es : List Element) where
-  -- that isn't aborted
-  pub in_block : ((level : LevelState) (session : SessionState) → elements_of c (record session { levels = record level { aborted = false } ∷ [] }) ≡ es) → (store : StoreState) (s : Space) (level : LevelState)
-      → levels_of store.levels ≡ level ∷ [] → level.aborted ≡ false → elements_of c (session_of store s) ≡ es
-  unfolding session_of
-  in_block is store s level e active =
-      with_levels c (session_of store s) (record level { aborted = false } ∷ []) (e ∙ ap (λ (b : Bool). record level { aborted = b } ∷ []) active) ∙ is level (session_of store s)
-
-  -- that is aborted
-  pub in_aborted : ((level : LevelState) (session : SessionState) → elements_of c (record session { levels = record level { aborted = true } ∷ [] }) ≡ es) → (store : StoreState) (s : Space) (level : LevelState)
-      → levels_of store.levels ≡ level ∷ [] → level.aborted ≡ true → elements_of c (session_of store s) ≡ es
-  unfolding session_of
-  in_aborted is store s level e aborted =
-      with_levels c (session_of store s) (record level { aborted = true } ∷ []) (e ∙ ap (λ (b : Bool). record level { aborted = b } ∷ []) aborted) ∙ is level (session_of store s)
-
-  -- or none
   pub in_none : ((session : SessionState) → elements_of c (record session { levels = [] }) ≡ es) → (store : StoreState) (s : Space) → levels_of store.levels ≡ [] → elements_of c (session_of store s) ≡ es
   unfolding session_of
   in_none is store s e = with_levels c (session_of store s) [] e ∙ is (session_of store s)
 
-pub nothing_block : (level : LevelState) (session : SessionState) → elements_of command.Nothing (record session { levels = record level { aborted = false } ∷ [] }) ≡ []
-unfolding elements_of
-nothing_block level session = refl
+-- what a command does in a block
+abbrev pub none_done : List LevelState → List Element
+none_done levels = []
 
-pub begin_block : (level : LevelState) (session : SessionState) → elements_of command.Begin (record session { levels = record level { aborted = false } ∷ [] }) ≡ element.Says what.AlreadyInTransaction ∷ element.Says what.Ok ∷ []
-unfolding elements_of
-begin_block level session = refl
+abbrev pub begin_done : List LevelState → List Element
+begin_done levels = element.Says what.AlreadyInTransaction ∷ element.Says what.Ok ∷ []
 
-pub commit_block : (level : LevelState) (session : SessionState) → elements_of command.Commit (record session { levels = record level { aborted = false } ∷ [] }) ≡ element.CommitTop ∷ element.Says what.Ok ∷ []
-unfolding elements_of
-commit_block level session = refl
+abbrev pub transaction_refused : List LevelState → List Element
+transaction_refused levels = refused error.TransactionAborted
 
-pub rollback_block : (level : LevelState) (session : SessionState) → elements_of command.Rollback (record session { levels = record level { aborted = false } ∷ [] }) ≡ element.Abort ∷ element.Cleanup ∷ element.Says what.Ok ∷ []
-unfolding elements_of
-rollback_block level session = refl
+abbrev pub save_done : Text → List LevelState → List Element
+save_done name levels = then_ok (start (Some name) false)
 
-pub nothing_aborted : (level : LevelState) (session : SessionState) → elements_of command.Nothing (record session { levels = record level { aborted = true } ∷ [] }) ≡ []
-unfolding elements_of
-nothing_aborted level session = refl
+abbrev pub commit_done : List LevelState → List Element
+commit_done levels = then_ok (committed_to 2 levels ++ (element.CommitTop ∷ []))
 
-pub commit_aborted : (level : LevelState) (session : SessionState) → elements_of command.Commit (record session { levels = record level { aborted = true } ∷ [] }) ≡ element.Cleanup ∷ element.Says what.Ok ∷ []
-unfolding elements_of
-commit_aborted level session = refl
+abbrev pub rollback_done : List LevelState → List Element
+rollback_done levels = then_ok (rolled_back_to 1 levels)
 
-pub rollback_aborted : (level : LevelState) (session : SessionState) → elements_of command.Rollback (record session { levels = record level { aborted = true } ∷ [] }) ≡ element.Cleanup ∷ element.Says what.Ok ∷ []
-unfolding elements_of
-rollback_aborted level session = refl
+abbrev pub release_done : Text → List LevelState → List Element
+release_done name levels = then_ok (at_savepoint name levels (λ n. committed_to n levels))
 
-pub begin_aborted : (level : LevelState) (session : SessionState) → elements_of command.Begin (record session { levels = record level { aborted = true } ∷ [] }) ≡ refused error.TransactionAborted
-unfolding elements_of
-begin_aborted level session = refl
+abbrev pub return_done : Text → List LevelState → List Element
+return_done name levels = then_ok (at_savepoint name levels (λ n. rolled_back_to n levels ++ start (Some name) false))
 
-pub work_aborted : (c : Command) → IsWork c → (level : LevelState) (session : SessionState) → elements_of c (record session { levels = record level { aborted = true } ∷ [] }) ≡ refused error.TransactionAborted
+module _ (level : LevelState) (levels : List LevelState) (session : SessionState) where
+  abbrev active : SessionState
+  active = record session { levels = record level { aborted = false } ∷ levels }
+
+  abbrev shut : SessionState
+  shut = record session { levels = record level { aborted = true } ∷ levels }
+
+  pub nothing_block : elements_of command.Nothing active ≡ []
+  unfolding elements_of
+  nothing_block = refl
+
+  pub begin_block : elements_of command.Begin active ≡ element.Says what.AlreadyInTransaction ∷ element.Says what.Ok ∷ []
+  unfolding elements_of
+  begin_block = refl
+
+  pub commit_block : elements_of command.Commit active ≡ commit_done active.levels
+  unfolding elements_of
+  commit_block = refl
+
+  pub rollback_block : elements_of command.Rollback active ≡ rollback_done active.levels
+  unfolding elements_of
+  rollback_block = refl
+
+  pub nothing_aborted : elements_of command.Nothing shut ≡ []
+  unfolding elements_of
+  nothing_aborted = refl
+
+  pub commit_aborted : elements_of command.Commit shut ≡ rollback_done shut.levels
+  unfolding elements_of
+  commit_aborted = refl
+
+  pub rollback_aborted : elements_of command.Rollback shut ≡ rollback_done shut.levels
+  unfolding elements_of
+  rollback_aborted = refl
+
+  begin_aborted : elements_of command.Begin shut ≡ refused error.TransactionAborted
+  unfolding elements_of
+  begin_aborted = refl
+
+module _ (name : Text) (level : LevelState) (levels : List LevelState) (session : SessionState) where
+  pub savepoint_block : elements_of (command.Savepoint name) (active level levels session) ≡ then_ok (start (Some name) false)
+  unfolding elements_of
+  savepoint_block = refl
+
+  pub release_block : elements_of (command.Release name) (active level levels session) ≡ release_done name (active level levels session).levels
+  unfolding elements_of
+  release_block = refl
+
+  pub return_block : elements_of (command.RollbackTo name) (active level levels session) ≡ return_done name (active level levels session).levels
+  unfolding elements_of
+  return_block = refl
+
+  pub return_aborted : elements_of (command.RollbackTo name) (shut level levels session) ≡ return_done name (shut level levels session).levels
+  unfolding elements_of
+  return_aborted = refl
+
+  savepoint_aborted : elements_of (command.Savepoint name) (shut level levels session) ≡ refused error.TransactionAborted
+  unfolding elements_of
+  savepoint_aborted = refl
+
+  release_aborted : elements_of (command.Release name) (shut level levels session) ≡ refused error.TransactionAborted
+  unfolding elements_of
+  release_aborted = refl
+
+pub work_aborted : (c : Command) → IsWork c → (level : LevelState) (levels : List LevelState) (session : SessionState) → elements_of c (record session { levels = record level { aborted = true } ∷ levels }) ≡ refused error.TransactionAborted
 unfolding elements_of
-work_aborted command.Raise h level session = refl
-work_aborted (command.Pin buffer) h level session = refl
-work_aborted (command.Unpin buffer) h level session = refl
-work_aborted (command.Reference class key) h level session = refl
-work_aborted (command.Unreference class key) h level session = refl
-work_aborted (command.Context name parent kind) h level session = refl
-work_aborted (command.Switch name) h level session = refl
-work_aborted (command.OnReset name) h level session = refl
-work_aborted (command.Reset name) h level session = refl
-work_aborted (command.ResetOnly name) h level session = refl
-work_aborted (command.Delete name) h level session = refl
-work_aborted (command.DeleteChildren name) h level session = refl
-work_aborted (command.Reparent name parent) h level session = refl
-work_aborted (command.Alloc chunk size) h level session = refl
-work_aborted (command.AllocZeroed chunk size) h level session = refl
-work_aborted (command.Realloc chunk size) h level session = refl
-work_aborted (command.Free chunk) h level session = refl
-work_aborted (command.Put chunk at bytes) h level session = refl
-work_aborted (command.Show chunk at length) h level session = refl
-work_aborted other h level session = absurd h
+work_aborted command.Raise h level levels session = refl
+work_aborted (command.Pin buffer) h level levels session = refl
+work_aborted (command.Unpin buffer) h level levels session = refl
+work_aborted (command.Reference class key) h level levels session = refl
+work_aborted (command.Unreference class key) h level levels session = refl
+work_aborted (command.Open file) h level levels session = refl
+work_aborted (command.Touch file) h level levels session = refl
+work_aborted (command.Close file) h level levels session = refl
+work_aborted (command.Context name parent kind) h level levels session = refl
+work_aborted (command.Switch name) h level levels session = refl
+work_aborted (command.OnReset name) h level levels session = refl
+work_aborted (command.Reset name) h level levels session = refl
+work_aborted (command.ResetOnly name) h level levels session = refl
+work_aborted (command.Delete name) h level levels session = refl
+work_aborted (command.DeleteChildren name) h level levels session = refl
+work_aborted (command.Reparent name parent) h level levels session = refl
+work_aborted (command.Alloc chunk size) h level levels session = refl
+work_aborted (command.AllocZeroed chunk size) h level levels session = refl
+work_aborted (command.Realloc chunk size) h level levels session = refl
+work_aborted (command.Free chunk) h level levels session = refl
+work_aborted (command.Put chunk at bytes) h level levels session = refl
+work_aborted (command.Show chunk at length) h level levels session = refl
+work_aborted other h level levels session = absurd h
 
 pub nothing_idle : (session : SessionState) → elements_of command.Nothing (record session { levels = [] }) ≡ []
 unfolding elements_of
@@ -204,6 +282,18 @@ pub begin_idle : (session : SessionState) → elements_of command.Begin (record 
 unfolding elements_of
 begin_idle session = refl
 
+savepoint_idle : (name : Text) (session : SessionState) → elements_of (command.Savepoint name) (record session { levels = [] }) ≡ then_ok (refused error.NoTransactionBlock)
+unfolding elements_of
+savepoint_idle name session = refl
+
+release_idle : (name : Text) (session : SessionState) → elements_of (command.Release name) (record session { levels = [] }) ≡ then_ok (refused error.NoTransactionBlock)
+unfolding elements_of
+release_idle name session = refl
+
+return_idle : (name : Text) (session : SessionState) → elements_of (command.RollbackTo name) (record session { levels = [] }) ≡ then_ok (refused error.NoTransactionBlock)
+unfolding elements_of
+return_idle name session = refl
+
 -- what was performed, by another name of its elements
 pub as_elements : (k : ℕ) (es ds : List Element) (a b : Now) (P : List What → Type 0) (r : Option Error) → es ≡ ds → Performed k ds a b P r → Performed k es a b P r
 as_elements k es ds a b P r is h = subst (λ (xs : List Element). Performed k xs a b P r) (sym is) h
@@ -219,54 +309,63 @@ performed_warned warning a P keeps h =
 pub performed_ok : (k : ℕ) (es : List Element) (a b : Now) (P Q R : List What → Type 0) → Performed k es a b P None → Q (what.Ok ∷ []) → ((us vs : List What) → P us → Q vs → R (us ++ vs)) → Performed (k + 0) (es ++ (element.Says what.Ok ∷ [])) a b R None
 performed_ok k es a b P Q R h said joins = performed_both k 0 es (element.Says what.Ok ∷ []) a b b P Q R None h (performed_say what.Ok b Q h.keeps said) joins
 
--- one level
-pub one_level : (levels : List Level) (level : LevelState) → levels_of levels ≡ level ∷ [] → length levels ≡ 1
-one_level levels level e = sym (levels_long levels) ∙ ap (λ (ls : List LevelState). length ls) e
-
-pub one_aborted : (levels : List Level) (level : LevelState) → levels_of levels ≡ level ∷ [] → level.aborted ≡ true → is_aborted (levels_of levels) ≡ true
-one_aborted levels level e aborted = ap is_aborted e ∙ aborted
-
--- a level fewer than one
-pub none_left : (levels left : List Level) (level : LevelState) (last : Level) → levels_of levels ≡ level ∷ [] → levels ≡ left ++ last ∷ [] → length left ≤ 1
-none_left levels left level last e is =
-    let all : length left + 1 ≡ 1 = sym (length-append left (last ∷ [])) ∙ ap (λ (ls : List Level). length ls) (sym is) ∙ one_level levels level e in
-    omega (arith, all)
-
 -- any other command in an aborted transaction
-pub others_aborted : (c : Command) → IsPerformed c → (c ≡ command.Nothing → ⊥) → (c ≡ command.Commit → ⊥) → (c ≡ command.Rollback → ⊥) → (level : LevelState) (session : SessionState)
-    → elements_of c (record session { levels = record level { aborted = true } ∷ [] }) ≡ refused error.TransactionAborted
-others_aborted command.Nothing h nothing commit rollback level session = absurd (nothing refl)
-others_aborted command.Commit h nothing commit rollback level session = absurd (commit refl)
-others_aborted command.Rollback h nothing commit rollback level session = absurd (rollback refl)
-others_aborted command.Begin h nothing commit rollback level session = begin_aborted level session
-others_aborted command.Raise h nothing commit rollback level session = work_aborted command.Raise h level session
-others_aborted (command.Pin buffer) h nothing commit rollback level session = work_aborted (command.Pin buffer) h level session
-others_aborted (command.Unpin buffer) h nothing commit rollback level session = work_aborted (command.Unpin buffer) h level session
-others_aborted (command.Reference class key) h nothing commit rollback level session = work_aborted (command.Reference class key) h level session
-others_aborted (command.Unreference class key) h nothing commit rollback level session = work_aborted (command.Unreference class key) h level session
-others_aborted (command.Context name parent kind) h nothing commit rollback level session = work_aborted (command.Context name parent kind) h level session
-others_aborted (command.Switch name) h nothing commit rollback level session = work_aborted (command.Switch name) h level session
-others_aborted (command.OnReset name) h nothing commit rollback level session = work_aborted (command.OnReset name) h level session
-others_aborted (command.Reset name) h nothing commit rollback level session = work_aborted (command.Reset name) h level session
-others_aborted (command.ResetOnly name) h nothing commit rollback level session = work_aborted (command.ResetOnly name) h level session
-others_aborted (command.Delete name) h nothing commit rollback level session = work_aborted (command.Delete name) h level session
-others_aborted (command.DeleteChildren name) h nothing commit rollback level session = work_aborted (command.DeleteChildren name) h level session
-others_aborted (command.Reparent name parent) h nothing commit rollback level session = work_aborted (command.Reparent name parent) h level session
-others_aborted (command.Alloc chunk size) h nothing commit rollback level session = work_aborted (command.Alloc chunk size) h level session
-others_aborted (command.AllocZeroed chunk size) h nothing commit rollback level session = work_aborted (command.AllocZeroed chunk size) h level session
-others_aborted (command.Realloc chunk size) h nothing commit rollback level session = work_aborted (command.Realloc chunk size) h level session
-others_aborted (command.Free chunk) h nothing commit rollback level session = work_aborted (command.Free chunk) h level session
-others_aborted (command.Put chunk at bytes) h nothing commit rollback level session = work_aborted (command.Put chunk at bytes) h level session
-others_aborted (command.Show chunk at length) h nothing commit rollback level session = work_aborted (command.Show chunk at length) h level session
-others_aborted other h nothing commit rollback level session = absurd h
+pub others_aborted : (c : Command) → IsPerformed c → (c ≡ command.Nothing → ⊥) → (c ≡ command.Commit → ⊥) → (c ≡ command.Rollback → ⊥) → ((name : Text) → c ≡ command.RollbackTo name → ⊥) → (level : LevelState) (levels : List LevelState) (session : SessionState)
+    → elements_of c (record session { levels = record level { aborted = true } ∷ levels }) ≡ refused error.TransactionAborted
+others_aborted command.Nothing h nothing commit rollback back level levels session = absurd (nothing refl)
+others_aborted command.Commit h nothing commit rollback back level levels session = absurd (commit refl)
+others_aborted command.Rollback h nothing commit rollback back level levels session = absurd (rollback refl)
+others_aborted command.Begin h nothing commit rollback back level levels session = begin_aborted level levels session
+others_aborted (command.Savepoint name) h nothing commit rollback back level levels session = savepoint_aborted name level levels session
+others_aborted (command.Release name) h nothing commit rollback back level levels session = release_aborted name level levels session
+others_aborted (command.RollbackTo name) h nothing commit rollback back level levels session = absurd (back name refl)
+others_aborted command.Raise h nothing commit rollback back level levels session = work_aborted command.Raise h level levels session
+others_aborted (command.Pin buffer) h nothing commit rollback back level levels session = work_aborted (command.Pin buffer) h level levels session
+others_aborted (command.Unpin buffer) h nothing commit rollback back level levels session = work_aborted (command.Unpin buffer) h level levels session
+others_aborted (command.Reference class key) h nothing commit rollback back level levels session = work_aborted (command.Reference class key) h level levels session
+others_aborted (command.Unreference class key) h nothing commit rollback back level levels session = work_aborted (command.Unreference class key) h level levels session
+others_aborted (command.Open file) h nothing commit rollback back level levels session = work_aborted (command.Open file) h level levels session
+others_aborted (command.Touch file) h nothing commit rollback back level levels session = work_aborted (command.Touch file) h level levels session
+others_aborted (command.Close file) h nothing commit rollback back level levels session = work_aborted (command.Close file) h level levels session
+others_aborted (command.Context name parent kind) h nothing commit rollback back level levels session = work_aborted (command.Context name parent kind) h level levels session
+others_aborted (command.Switch name) h nothing commit rollback back level levels session = work_aborted (command.Switch name) h level levels session
+others_aborted (command.OnReset name) h nothing commit rollback back level levels session = work_aborted (command.OnReset name) h level levels session
+others_aborted (command.Reset name) h nothing commit rollback back level levels session = work_aborted (command.Reset name) h level levels session
+others_aborted (command.ResetOnly name) h nothing commit rollback back level levels session = work_aborted (command.ResetOnly name) h level levels session
+others_aborted (command.Delete name) h nothing commit rollback back level levels session = work_aborted (command.Delete name) h level levels session
+others_aborted (command.DeleteChildren name) h nothing commit rollback back level levels session = work_aborted (command.DeleteChildren name) h level levels session
+others_aborted (command.Reparent name parent) h nothing commit rollback back level levels session = work_aborted (command.Reparent name parent) h level levels session
+others_aborted (command.Alloc chunk size) h nothing commit rollback back level levels session = work_aborted (command.Alloc chunk size) h level levels session
+others_aborted (command.AllocZeroed chunk size) h nothing commit rollback back level levels session = work_aborted (command.AllocZeroed chunk size) h level levels session
+others_aborted (command.Realloc chunk size) h nothing commit rollback back level levels session = work_aborted (command.Realloc chunk size) h level levels session
+others_aborted (command.Free chunk) h nothing commit rollback back level levels session = work_aborted (command.Free chunk) h level levels session
+others_aborted (command.Put chunk at bytes) h nothing commit rollback back level levels session = work_aborted (command.Put chunk at bytes) h level levels session
+others_aborted (command.Show chunk at length) h nothing commit rollback back level levels session = work_aborted (command.Show chunk at length) h level levels session
+others_aborted other h nothing commit rollback back level levels session = absurd h
 
--- the refusal of a command in an aborted transaction
+-- the refusal of a command without a transaction, of one whose savepoint there isn't, and of one in an aborted transaction
+pub refused_idle : (a : Now) (P : List What → Type 0) → Keeps a.store a.space → P [] → Performed 0 (then_ok (refused error.NoTransactionBlock)) a a P (Some error.NoTransactionBlock)
+refused_idle a P keeps silent = fails (element.Refuse error.NoTransactionBlock) (element.Says what.Ok ∷ []) a P error.NoTransactionBlock keeps silent refl (λ around. refl)
+
+pub refused_missing : (a : Now) (P : List What → Type 0) → Keeps a.store a.space → P [] → Performed 0 (then_ok (refused error.NoSuchSavepoint)) a a P (Some error.NoSuchSavepoint)
+refused_missing a P keeps silent = fails (element.Refuse error.NoSuchSavepoint) (element.Says what.Ok ∷ []) a P error.NoSuchSavepoint keeps silent refl (λ around. refl)
+
 pub refused_aborted : (a : Now) (P : List What → Type 0) → Keeps a.store a.space → P [] → Performed 0 (refused error.TransactionAborted) a a P (Some error.TransactionAborted)
 refused_aborted a P keeps silent = fails (element.Refuse error.TransactionAborted) [] a P error.TransactionAborted keeps silent refl (λ around. refl)
 
 -- the elements of a command that is known
 pub of_command : (c d : Command) (store : StoreState) (s : Space) (es : List Element) → c ≡ d → elements_of d (session_of store s) ≡ es → elements_of c (session_of store s) ≡ es
 of_command c d store s es is h = ap (λ (x : Command). elements_of x (session_of store s)) is ∙ h
+
+-- a command on savepoints where no transaction is open
+pub savepoints_idle : (c : Command) (store : StoreState) (s : Space) → ((name : Text) × (c ≡ command.Savepoint name)) ⊎ (((name : Text) × (c ≡ command.Release name)) ⊎ ((name : Text) × (c ≡ command.RollbackTo name)))
+    → levels_of store.levels ≡ [] → elements_of c (session_of store s) ≡ then_ok (refused error.NoTransactionBlock)
+savepoints_idle c store s (inl p) none =
+    of_command c (command.Savepoint p.0) store s (then_ok (refused error.NoTransactionBlock)) p.1 (in_none (command.Savepoint p.0) (then_ok (refused error.NoTransactionBlock)) (savepoint_idle p.0) store s none)
+savepoints_idle c store s (inr (inl p)) none =
+    of_command c (command.Release p.0) store s (then_ok (refused error.NoTransactionBlock)) p.1 (in_none (command.Release p.0) (then_ok (refused error.NoTransactionBlock)) (release_idle p.0) store s none)
+savepoints_idle c store s (inr (inr p)) none =
+    of_command c (command.RollbackTo p.0) store s (then_ok (refused error.NoTransactionBlock)) p.1 (in_none (command.RollbackTo p.0) (then_ok (refused error.NoTransactionBlock)) (return_idle p.0) store s none)
 
 -- a command that works where no transaction is open
 idle_work : (c : Command) → IsWork c → (session : SessionState) → elements_of c (record session { levels = [] }) ≡ start None true ++ (work_of c (record session { levels = [] }) ++ (element.CommitTop ∷ element.Says what.Ok ∷ []))
@@ -276,6 +375,9 @@ idle_work (command.Pin buffer) h session = refl
 idle_work (command.Unpin buffer) h session = refl
 idle_work (command.Reference class key) h session = refl
 idle_work (command.Unreference class key) h session = refl
+idle_work (command.Open file) h session = refl
+idle_work (command.Touch file) h session = refl
+idle_work (command.Close file) h session = refl
 idle_work (command.Context name parent kind) h session = refl
 idle_work (command.Switch name) h session = refl
 idle_work (command.OnReset name) h session = refl
@@ -332,48 +434,25 @@ on_of (Err e) u is p = absurd (other is)
     other : Err e ≡ Ok u → ⊥
     other z = cc z
 
-pub same_length : (levels now : List Level) (level : LevelState) → levels_of levels ≡ level ∷ [] → levels_of now ≡ levels_of levels → length now ≤ 1
-same_length levels now level e is =
-    let one : length now ≡ 1 = one_level now level (is ∙ e) in
-    omega (arith, one)
-
 pub no_levels : (levels : List Level) → levels ≡ [] → levels_of levels ≡ []
 no_levels levels e = ap levels_of e
 
--- one level was begun where there was none
-pub begun_few : (levels behind : List Level) (name : Option (List ℕ)) (implicit : Bool) → levels ≡ [] → HasBegun name implicit (levels_of levels) (levels_of behind) → length behind ≤ 1
-begun_few levels behind name implicit none begun =
-    let one : length behind ≡ 1 = one_level behind begun.level (begun.are ∙ ap (λ (ls : List LevelState). begun.level ∷ ls) (no_levels levels none)) in
-    omega (arith, one)
-
 -- a command that is performed, but none on transactions
-pub works_else : (c : Command) → IsPerformed c → (c ≡ command.Nothing → ⊥) → (c ≡ command.Begin → ⊥) → (c ≡ command.Commit → ⊥) → (c ≡ command.Rollback → ⊥) → IsWork c
-works_else command.Nothing h nothing begin commit rollback = absurd (nothing refl)
-works_else command.Begin h nothing begin commit rollback = absurd (begin refl)
-works_else command.Commit h nothing begin commit rollback = absurd (commit refl)
-works_else command.Rollback h nothing begin commit rollback = absurd (rollback refl)
-works_else other h nothing begin commit rollback = h
+pub works_else : (c : Command) → IsPerformed c → (c ≡ command.Nothing → ⊥) → (c ≡ command.Begin → ⊥) → (c ≡ command.Commit → ⊥) → (c ≡ command.Rollback → ⊥) → ((name : Text) → c ≡ command.Savepoint name → ⊥)
+    → ((name : Text) → c ≡ command.Release name → ⊥) → ((name : Text) → c ≡ command.RollbackTo name → ⊥) → IsWork c
+works_else command.Nothing h nothing begin commit rollback save release back = absurd (nothing refl)
+works_else command.Begin h nothing begin commit rollback save release back = absurd (begin refl)
+works_else command.Commit h nothing begin commit rollback save release back = absurd (commit refl)
+works_else command.Rollback h nothing begin commit rollback save release back = absurd (rollback refl)
+works_else (command.Savepoint name) h nothing begin commit rollback save release back = absurd (save name refl)
+works_else (command.Release name) h nothing begin commit rollback save release back = absurd (release name refl)
+works_else (command.RollbackTo name) h nothing begin commit rollback save release back = absurd (back name refl)
+works_else other h nothing begin commit rollback save release back = h
 
--- the level of a block
-pub working_block : (levels : List LevelState) (level : LevelState) → levels ≡ level ∷ [] → IsActive level → IsWorking levels
-working_block levels level e active = subst IsWorking (sym e) active
-
-pub few_of_one : (levels : List Level) (level : LevelState) → levels_of levels ≡ level ∷ [] → length levels ≤ 1
-few_of_one levels level e =
-    let one = one_level levels level e in
-    omega (arith, one)
-
-pub few_on : (levels behind : List Level) (level : LevelState) → levels_of levels ≡ level ∷ [] → length behind ≤ length levels → length behind ≤ 1
-few_on levels behind level e le =
-    let one = one_level levels level e in
-    omega (arith, one, le)
-
-pub few_begun : (levels behind : List Level) → levels ≡ [] → length behind ≤ length levels + 1 → length behind ≤ 1
-few_begun levels behind e le =
-    let none : length levels ≡ 0 = ap (λ (ls : List Level). length ls) e in
-    omega (arith, none, le)
-
-pub few_alone : (levels middle behind : List Level) → levels ≡ [] → length middle ≤ length levels + 1 → length behind ≤ length middle → length behind ≤ 1
-few_alone levels middle behind e le more =
-    let none : length levels ≡ 0 = ap (λ (ls : List Level). length ls) e in
-    omega (arith, none, le, more)
+-- the levels of a block
+pub working_block : (levels : List Level) → IsInBlock levels → IsWorking (levels_of levels)
+working_block levels block = go (levels_of levels) refl block.outer
+  where
+    go : (ls : List LevelState) → levels_of levels ≡ ls → AreOuter ls → IsWorking ls
+    go [] e outer = absurd (omega (arith, block.some, levels_long levels, ap length e))
+    go (level ∷ ls) e outer = outer.0

@@ -64,6 +64,7 @@ unchanged k es a b P r x same keeps moves calls asks = record {
     owners = rw same.store x.grows.owners;
     serials = rw same.store x.grows.serials;
     calls = rw calls x.grows.calls;
+    descriptors = ap (λ (c : StoreState). c.owners.descriptors) same.store ∙ x.grows.descriptors;
   };
 }
 

@@ -1,113 +1,106 @@
 -- The end of a session: no level is left, and no context.
-use Rattle.std.proofs.Common.{◌≡◌, ℕ, ◌≤◌, Bool, true, false, List, [], ◌∷◌, ◌++◌, length, Option, Some, None, refl, sym, ◌∙◌, ap, subst, arith, append-nil}
-use Rattle.std.specs.Prelude.{◌||◌}
-use Rattle.pgs_step.specs.declared.errors.Error.TheVariants as error
+use Rattle.std.proofs.Common.{◌≡◌, ℕ, ◌+◌, ◌<◌, Bool, true, false, List, [], ◌∷◌, ◌++◌, length, None, refl, sym, ◌∙◌, ap, subst, arith, append-nil}
+use Rattle.std.specs.Prelude.{if◌then◌else◌, not}
+use Rattle.std.proofs.lemmas.Bool.{le-ltb}
+use Rattle.std.proofs.lemmas.List.{append_assoc}
 use Rattle.pgs_step.specs.declared.events.What.{What}
 use Rattle.pgs_step.specs.declared.events.What.TheVariants as what
 use Rattle.addr_space.specs.Space.{Asks, Space}
 use Rattle.reset_callbacks.specs.ShelfState.{ShelfState}
 use Rattle.context_tree.specs.State.{Moves}
 use Rattle.context_tree.proofs.Composed.{tree_more}
-use Rattle.session_rules.specs.State.{LevelState, first_of}
-use Rattle.session_rules.specs.World.{Around, Scene}
-use Rattle.session_rules.specs.Acts.{Ended, context_gone, for_each, in_order, nothing, switched}
-use Rattle.session_rules.specs.Ends.{aborted, cleaned_up, exited, level_rolled_back, recovered}
-use Rattle.session_rules.specs.Standing.{Stands}
-use Rattle.session_rules.proofs.EndsStand.{Leaves, aborted_stands, cleaned_up_stands, recovered_stands, settled}
-use Rattle.session_rules.proofs.StepsStand.{settled_as}
+use Rattle.subxact_stack.specs.declared.levels.Level.{Level}
+use Rattle.session_rules.specs.State.{LevelState}
+use Rattle.session_rules.specs.World.{Around, Moment, Scene}
+use Rattle.session_rules.specs.Acts.{Ended, behind, context_gone, for_each, in_order, switched, where_so}
+use Rattle.session_rules.specs.Asked.{asked, asked_all}
+use Rattle.session_rules.specs.Calls.{Done, unfailing}
+use Rattle.session_rules.specs.Commands.{rolled_back_to}
+use Rattle.session_rules.specs.Does.{does, does_all, done_behind, then_done}
+use Rattle.session_rules.specs.Elements.{Element}
+use Rattle.session_rules.specs.Elements as element
+use Rattle.session_rules.specs.Ends.{aborted, cleaned_up, exited, level_rolled_back}
 use Rattle.session_store.specs.State.{StoreState, levels_of, scene_of, session_of}
-use Rattle.session_store.specs.Calls.{Acted, Keeps, StandsIn}
-use Rattle.session_core.specs.Performed.{Ends, Grows, Now}
+use Rattle.session_store.specs.Calls.{Acted, Keeps}
+use Rattle.session_core.specs.Answers.{at_calls}
+use Rattle.session_core.specs.Performed.{Ends, Grows, Now, Performed, scene_in}
 use Rattle.session_core.proofs.Numbers.{KeepsNumbers, numbers_grow}
-use Rattle.session_core.proofs.Recovered.{gives_goes}
+use Rattle.session_core.proofs.OnLevels.{does_abort, does_cleanup}
+use Rattle.session_core.proofs.Performing.{nowhere}
 
 -- all levels are rolled back
 abbrev pub all_rolled : Scene → Ended
 all_rolled scene = for_each level_rolled_back scene.session.levels scene
 
--- what that is, of these levels
-abbrev pub RollsAs : List LevelState → (Scene → Ended) → Type 0
-RollsAs ls act = (z : Scene) → for_each level_rolled_back ls z ≡ act z
-
-pub rolls_none : (ls : List LevelState) → first_of ls ≡ None → RollsAs ls nothing
-rolls_none [] e z = refl
-rolls_none (l ∷ ls) e z = absurd (cc e)
-
-one_level : (ls : List LevelState) (l : LevelState) → first_of ls ≡ Some l → length ls ≤ 1 → ls ≡ l ∷ []
-one_level [] l e one = absurd (cc e)
-one_level (k ∷ []) l e one = let same : k ≡ l = cc e in ap (λ (x : LevelState). x ∷ []) same
-one_level (k ∷ j ∷ ls) l e one = absurd (omega (arith, one))
-
-rolls_shut : (name : Option (List ℕ)) (c o : Option ℕ) (implicit starting : Bool)
-    → RollsAs (record { name = name; context = c; owner = o; implicit = implicit; aborted = true; starting = starting } ∷ []) cleaned_up
-rolls_shut name c o implicit starting z =
-    ap (λ (es : List What). record { scene = (cleaned_up z).scene; events = es }) (append-nil ((cleaned_up z).events ++ []) ∙ append-nil (cleaned_up z).events)
-
-rolls_whole : (name : Option (List ℕ)) (c o : Option ℕ) (implicit starting : Bool)
-    → RollsAs (record { name = name; context = c; owner = o; implicit = implicit; aborted = false; starting = starting } ∷ []) (in_order (aborted ∷ cleaned_up ∷ []))
-rolls_whole name c o implicit starting z =
-    ap (λ (es : List What). record { scene = (in_order (aborted ∷ cleaned_up ∷ []) z).scene; events = es }) (append-nil (in_order (aborted ∷ cleaned_up ∷ []) z).events)
-
-pub rolls_aborted : (ls : List LevelState) (l : LevelState) → first_of ls ≡ Some l → length ls ≤ 1 → l.aborted ≡ true → RollsAs ls cleaned_up
-rolls_aborted ls l e one is z =
-    let same : ls ≡ record l { aborted = true } ∷ [] = one_level ls l e one ∙ ap (λ (b : Bool). record l { aborted = b } ∷ []) is in
-    ap (λ (ks : List LevelState). for_each level_rolled_back ks z) same ∙ rolls_shut l.name l.context l.owner l.implicit l.starting z
-
-pub rolls_active : (ls : List LevelState) (l : LevelState) → first_of ls ≡ Some l → length ls ≤ 1 → l.aborted ≡ false → RollsAs ls (in_order (aborted ∷ cleaned_up ∷ []))
-rolls_active ls l e one is z =
-    let same : ls ≡ record l { aborted = false } ∷ [] = one_level ls l e one ∙ ap (λ (b : Bool). record l { aborted = b } ∷ []) is in
-    ap (λ (ks : List LevelState). for_each level_rolled_back ks z) same ∙ rolls_whole l.name l.context l.owner l.implicit l.starting z
-
-rolled_acted : (act : Scene → Ended) (a b : StoreState) (s t : Space) (x y : ShelfState) (P : List What → Type 0) → RollsAs (levels_of a.levels) act → Acted act a b s t x y P → Acted all_rolled a b s t x y P
-unfolding session_of
-rolled_acted act a b s t x y P rolls acted = record {
-  leads = λ around. ap (λ (e : Ended). e.scene) (rolls (scene_of a s x around)) ∙ acted.leads around;
-  says = λ around. subst P (sym (ap (λ (e : Ended). e.events) (rolls (scene_of a s x around)))) (acted.says around);
-}
-
-pub levels_ended : (act : Scene → Ended) (a b : Now) (P : List What → Type 0) → KeepsNumbers act → RollsAs (levels_of a.store.levels) act → Acted act a.store b.store a.space b.space a.shelf b.shelf P
-    → Keeps b.store b.space → Moves a.store.tree b.store.tree a.space b.space → Asks a.store.tree.account 0 a.space b.space → b.calls ≡ a.calls → Ends all_rolled a b P
-levels_ended act a b P numbers rolls acted keeps moves asks calls = record {
-  acted = rolled_acted act a.store b.store a.space b.space a.shelf b.shelf P rolls acted;
-  keeps = keeps;
-  moves = moves;
-  asked = asks;
-  calls = calls;
-  grows = numbers_grow act a b P numbers acted calls;
-}
-
--- what is left stands
-pub cleaned_stands : (z : Scene) (l : LevelState) → Stands z → z.session.levels ≡ l ∷ [] → Stands (cleaned_up z).scene
-cleaned_stands z l h is = settled_as (λ (w : Scene). Stands (cleaned_up w).scene) z (l ∷ []) h is (λ k. let left = cleaned_up_stands l [] z k in left.between.stands)
-
-pub rolled_stands : (z : Scene) (l : LevelState) → Stands z → z.session.levels ≡ l ∷ [] → l.aborted ≡ false → Stands (in_order (aborted ∷ cleaned_up ∷ []) z).scene
-unfolding recovered
-rolled_stands z l h is active = settled_as (λ (w : Scene). Stands (in_order (aborted ∷ cleaned_up ∷ []) w).scene) z (l ∷ []) h is (λ k. go l.starting l.implicit refl refl k)
+-- what it is to roll levels back, by elements
+rolled_does : (ls : List LevelState) (m : Moment) → does_all None (rolled_back_to 1 ls) m ≡ unfailing m (for_each level_rolled_back ls)
+unfolding does_all
+rolled_does [] m = refl
+rolled_does (l ∷ ls) m =
+    ap (λ (b : Bool). does_all None (if b then [] else (if l.aborted then element.Cleanup ∷ [] else element.Abort ∷ element.Cleanup ∷ []) ++ rolled_back_to 1 ls) m) (le-ltb (length ls + 1) 1 (omega arith))
+    ∙ go l.aborted (λ n. rolled_does ls n)
   where
-    gone : (l.starting || l.implicit) ≡ true → Stands (settled (l ∷ []) z) → Stands (in_order (aborted ∷ cleaned_up ∷ []) (settled (l ∷ []) z)).scene
-    gone goes k =
-        let left = recovered_stands error.NoSuchName (settled (l ∷ []) z) k in
-        subst Stands (ap (λ (e : Ended). e.scene) (gives_goes (l ∷ []) l refl (omega arith) active goes (settled (l ∷ []) z))) left.stands
+    go : (b : Bool) → ((n : Moment) → does_all None (rolled_back_to 1 ls) n ≡ unfailing n (for_each level_rolled_back ls))
+        → does_all None ((if b then element.Cleanup ∷ [] else element.Abort ∷ element.Cleanup ∷ []) ++ rolled_back_to 1 ls) m
+        ≡ unfailing m (λ scene. let first = in_order (where_so (not b) aborted ∷ cleaned_up ∷ []) scene in behind first.events (for_each level_rolled_back ls first.scene))
+    go true rest =
+        let n : Moment = record m { scene = (cleaned_up m.scene).scene } in
+        let last : List What = (for_each level_rolled_back ls n.scene).events in
+        ap (λ (d : Done). then_done d d.refusal (does_all None (rolled_back_to 1 ls))) (does_cleanup None m)
+        ∙ ap (done_behind (cleaned_up m.scene).events) (rest n)
+        ∙ ap (λ (es : List What). record { moment = record n { scene = (for_each level_rolled_back ls n.scene).scene }; events = es ++ last; refusal = None }) (sym (append-nil (cleaned_up m.scene).events))
+    go false rest =
+        let k : Moment = record m { scene = (aborted m.scene).scene } in
+        let n : Moment = record k { scene = (cleaned_up k.scene).scene } in
+        let last : List What = (for_each level_rolled_back ls n.scene).events in
+        ap (λ (d : Done). then_done d d.refusal (does_all None (element.Cleanup ∷ rolled_back_to 1 ls))) (does_abort None m)
+        ∙ ap (λ (d : Done). done_behind (aborted m.scene).events (then_done d d.refusal (does_all None (rolled_back_to 1 ls)))) (does_cleanup None k)
+        ∙ ap (λ (d : Done). done_behind (aborted m.scene).events (done_behind (cleaned_up k.scene).events d)) (rest n)
+        ∙ ap (λ (es : List What). record { moment = record n { scene = (for_each level_rolled_back ls n.scene).scene }; events = es; refusal = None })
+        (sym (append_assoc (aborted m.scene).events (cleaned_up k.scene).events last)
+        ∙ ap (λ (es : List What). ((aborted m.scene).events ++ es) ++ last) (sym (append-nil (cleaned_up k.scene).events)))
 
-    go : (starting implicit : Bool) → l.starting ≡ starting → l.implicit ≡ implicit → Stands (settled (l ∷ []) z) → Stands (in_order (aborted ∷ cleaned_up ∷ []) (settled (l ∷ []) z)).scene
-    go true implicit e f k = gone (rw (e) refl) k
-    go false true e f k = gone (rw (e, f) refl) k
-    go false false e f k =
-        let left : Leaves (record l { aborted = true } ∷ []) (aborted (settled (l ∷ []) z)).scene = aborted_stands l [] z active (record { started = e; block = f }) k in
-        cleaned_stands (aborted (settled (l ∷ []) z)).scene (record l { aborted = true }) left.between.stands left.are
+-- and it asks nothing
+rolled_asks : (ls : List LevelState) (m : Moment) → asked_all None (rolled_back_to 1 ls) m ≡ 0
+unfolding does asked asked_all
+rolled_asks [] m = refl
+rolled_asks (l ∷ ls) m =
+    ap (λ (b : Bool). asked_all None (if b then [] else (if l.aborted then element.Cleanup ∷ [] else element.Abort ∷ element.Cleanup ∷ []) ++ rolled_back_to 1 ls) m) (le-ltb (length ls + 1) 1 (omega arith))
+    ∙ go l.aborted (λ n. rolled_asks ls n)
+  where
+    go : (b : Bool) → ((n : Moment) → asked_all None (rolled_back_to 1 ls) n ≡ 0) → asked_all None ((if b then element.Cleanup ∷ [] else element.Abort ∷ element.Cleanup ∷ []) ++ rolled_back_to 1 ls) m ≡ 0
+    go true rest = let behind = rest (record m { scene = (cleaned_up m.scene).scene }) in omega (arith, behind)
+    go false rest = let behind = rest (record m { scene = (cleaned_up (aborted m.scene).scene).scene }) in omega (arith, behind)
 
-pub stood : (act : Scene → Ended) (a b : StoreState) (s t : Space) (x y : ShelfState) (P : List What → Type 0) → Acted act a b s t x y P → ((around : Around) → Stands (act (scene_of a s x around)).scene) → StandsIn b t y
-stood act a b s t x y P acted stands around = subst Stands (acted.leads around) (stands around)
+-- what was performed is an act
+pub ends_of : (es : List Element) (act : Scene → Ended) (a b : Now) (P : List What → Type 0) → ((m : Moment) → does_all None es m ≡ unfailing m act) → ((m : Moment) → asked_all None es m ≡ 0) → Performed 0 es a b P None → Ends act a b P
+ends_of es act a b P does asks done =
+    let m : Around → Moment = at_calls (scene_in a) a.calls.count a.calls.fail in
+    let behind : (around : Around) → (unfailing (m around) act).moment ≡ at_calls (scene_in b) b.calls.count a.calls.fail around = λ around. ap (λ (d : Done). d.moment) (sym (does (m around))) ∙ done.answers.moment around None tt in
+    let count : b.calls.count ≡ a.calls.count = sym (ap (λ (n : Moment). n.calls) (behind nowhere)) in
+    record {
+      acted = record {
+        leads = λ around. ap (λ (n : Moment). n.scene) (behind around);
+        says = λ around. subst P (ap (λ (d : Done). d.events) (does (m around))) (done.answers.says around None tt);
+      };
+      keeps = done.keeps;
+      moves = done.moves;
+      asked = subst (λ (n : ℕ). Asks a.store.tree.account n a.space b.space) (asks (m nowhere)) (done.taken nowhere None tt);
+      calls = ap (λ (n : ℕ). record { count = n; fail = b.calls.fail }) count ∙ ap (λ (n : ℕ). record { count = a.calls.count; fail = n }) done.fail;
+      grows = done.grows;
+    }
 
-module _ (a b : StoreState) (s t : Space) (x y : ShelfState) (P : List What → Type 0) (l : LevelState) (first : first_of (levels_of a.levels) ≡ Some l) (one : length (levels_of a.levels) ≤ 1) (stands : StandsIn a s x) where
-  pub stands_cleaned : Acted cleaned_up a b s t x y P → StandsIn b t y
-  unfolding session_of
-  stands_cleaned acted = stood cleaned_up a b s t x y P acted (λ around. cleaned_stands (scene_of a s x around) l (stands around) (one_level (levels_of a.levels) l first one))
+pub rolled_ends : (a b : Now) (P : List What → Type 0) → Performed 0 (rolled_back_to 1 (levels_of a.store.levels)) a b P None → Ends all_rolled a b P
+unfolding session_of
+rolled_ends a b P done =
+    let d : Ends (for_each level_rolled_back (levels_of a.store.levels)) a b P =
+    ends_of (rolled_back_to 1 (levels_of a.store.levels)) (for_each level_rolled_back (levels_of a.store.levels)) a b P (rolled_does (levels_of a.store.levels)) (rolled_asks (levels_of a.store.levels)) done in
+    record { acted = record { leads = d.acted.leads; says = d.acted.says }; keeps = d.keeps; moves = d.moves; asked = d.asked; calls = d.calls; grows = d.grows }
 
-  pub stands_rolled : l.aborted ≡ false → Acted (in_order (aborted ∷ cleaned_up ∷ [])) a b s t x y P → StandsIn b t y
-  unfolding session_of
-  stands_rolled active acted =
-      stood (in_order (aborted ∷ cleaned_up ∷ [])) a b s t x y P acted (λ around. rolled_stands (scene_of a s x around) l (stands around) (one_level (levels_of a.levels) l first one) active)
+-- no level is left
+pub none_below : (levels : List Level) → length levels < 1 → levels ≡ []
+none_below [] h = refl
+none_below (level ∷ levels) h = absurd (omega (arith, h))
 
 -- all contexts go, and that is said
 abbrev pub closing : Scene → Ended
@@ -147,5 +140,6 @@ module _ (O : Type 0) (emits : O → List What → O → Type 0) (more : (o p q 
           owners = omega (arith, first.grows.owners, grows.owners);
           serials = omega (arith, first.grows.serials, grows.serials);
           calls = omega (arith, first.grows.calls, grows.calls);
+          descriptors = grows.descriptors ∙ first.grows.descriptors;
         };
       }

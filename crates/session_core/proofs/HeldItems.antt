@@ -15,7 +15,7 @@ use Rattle.addr_space.specs.Space.{Space}
 use Rattle.owner_items.specs.ItemList.{is_of}
 use Rattle.owner_core.specs.declared.errors.OwnerError.{OwnerError}
 use Rattle.owner_core.specs.declared.errors.OwnerError.TheVariants.{NotOwned}
-use Rattle.owner_core.specs.Owners.{items_of, owners_of}
+use Rattle.session_owners.specs.ResourceState.{items_of, owners_of}
 use Rattle.session_rules.specs.State.{level_owner}
 use Rattle.session_rules.specs.World.{Moment, Scene}
 use Rattle.session_rules.specs.Acts.{Ended, in_order, where_there}
@@ -50,10 +50,10 @@ take_rises : (kind : KindId) (key : ℕ) → keeper_of kind ≡ NoOne → (s : S
 take_rises kind key unkept s = go (level_owner s.session)
   where
     go : (o : Option ℕ) → Rises 1 s (where_there o (λ owner. item_taken owner kind key) s).scene
-    go None = record { contexts = omega arith; owners = omega arith; serials = omega arith }
+    go None = record { contexts = omega arith; owners = omega arith; serials = omega arith; descriptors = refl }
     go (Some n) =
         subst (Rises 1 s) (sym (ap (λ (k : Keeper). (in_order (taken_by k key ∷ remembers n kind key ∷ []) s).scene) unkept))
-        (record { contexts = omega arith; owners = omega arith; serials = omega arith })
+        (record { contexts = omega arith; owners = omega arith; serials = omega arith; descriptors = refl })
 
 -- the classes of references
 pub class_counted : (class : ReferenceClass) → IsReference (class_kind class)
@@ -142,9 +142,9 @@ does_give_back kind key w m = refl
 module _ (kind : KindId) (key : ℕ) (a b : Now) (P : List What → Type 0) (owner : OwnerId) (is : IsLevelOwner a.store owner) (keeps : Keeps a.store a.space) (space : b.space ≡ a.space) (calls : b.calls ≡ a.calls) where
   -- the owner gives its newest item back
   pub given_back : (item : Item) → find (is_of kind key) (items_of owner.number (owners_of a.store.owners)) ≡ Some item → b.store.tree ≡ a.store.tree
-      → b.store.owners.next_owner ≡ a.store.owners.next_owner → b.store.owners.next_serial ≡ a.store.owners.next_serial → Keeps b.store b.space
+      → b.store.owners.next_owner ≡ a.store.owners.next_owner → b.store.owners.next_serial ≡ a.store.owners.next_serial → b.store.owners.descriptors ≡ a.store.owners.descriptors → Keeps b.store b.space
       → Acted (item_released owner.number kind key) a.store b.store a.space b.space a.shelf b.shelf P → Performed 0 (element.Checks (element.Holds kind key) ∷ element.GiveBack kind key ∷ []) a b P None
-  given_back item found tree next_owner next_serial after given =
+  given_back item found tree next_owner next_serial descriptors after given =
       passes 0 (element.Holds kind key) (element.GiveBack kind key ∷ []) a b P None keeps
       (λ around. ap (λ (o : Option Item). unless (is_some o) error.NotHeld) (newest_is a.store a.space owner kind key is ∙ found))
       (performed_end 0 (element.GiveBack kind key) (gives_back kind key) a b P (does_give_back kind key) acted after (moves_same a.store.tree b.store.tree a.space b.space tree space keeps.agrees)
@@ -153,6 +153,7 @@ module _ (kind : KindId) (key : ℕ) (a b : Now) (P : List What → Type 0) (own
         owners = omega (arith, next_owner);
         serials = omega (arith, next_serial);
         calls = rw calls (omega arith);
+        descriptors = descriptors;
       }) calls (λ around. ap (λ (s : Space). s.taken) space))
     where
       acted : Acted (gives_back kind key) a.store b.store a.space b.space a.shelf b.shelf P

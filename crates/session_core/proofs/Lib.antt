@@ -18,9 +18,10 @@ pub mod Recovered
 pub mod Exited
 pub mod Pinning
 pub mod HeldItems
+pub mod OnFiles
 pub mod Between
 pub mod BetweenLines
-pub mod Depth
+pub mod Rolling
 pub mod Turning
 pub mod Opened
 pub mod Charged

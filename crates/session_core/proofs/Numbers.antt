@@ -1,28 +1,31 @@
 -- The ends of levels leave the numbers that the next context, owner and item get.
 use Rattle.std.proofs.Common.{◌≡◌, ℕ, Bool, true, false, List, [], ◌∷◌, length, Option, Some, None, refl, sym, ◌∙◌, ap, arith}
-use Rattle.std.specs.Prelude.{◌==◌}
+use Rattle.std.specs.Prelude.{◌==◌, map}
 use Rattle.pgs_step.specs.declared.events.What.{What}
 use Rattle.addr_space.specs.Space.{Space}
 use Rattle.reset_callbacks.specs.ShelfState.{ShelfState}
+use Rattle.context_rules.specs.Contexts.{is_empty}
+use Rattle.snap_table.specs.Snapshots.{lowered}
 use Rattle.session_rules.specs.State.{OpenPortal, abort_context, depth, level_context, level_owner, top_context}
 use Rattle.session_rules.specs.World.{Around, Scene}
-use Rattle.session_rules.specs.Acts.{Ended, context_gone, for_each, in_order, nothing, portal_gone, switched, where_so, where_there}
+use Rattle.session_rules.specs.Acts.{Ended, changes, context_gone, for_each, in_order, nothing, portal_gone, switched, where_so, where_there}
 use Rattle.session_rules.specs.Releases.{owner_gone, owner_released}
-use Rattle.session_rules.specs.Ends.{aborted, cleaned_up, committed, level_owner_gone, level_released, stack_popped, switched_up}
+use Rattle.session_rules.specs.Ends.{aborted, cleaned_up, committed, empty_context_gone, level_owner_gone, level_released, stack_popped, subcommitted, switched_up}
 use Rattle.session_rules.proofs.Releasing.{release_is}
 use Rattle.session_store.specs.State.{StoreState, scene_of, session_of}
 use Rattle.session_store.specs.Calls.{Acted}
 use Rattle.session_core.specs.Performed.{Grows, Now}
 use Rattle.session_core.proofs.Performing.{nowhere}
 
--- the three numbers
+-- the three numbers, and how many descriptors there are
 pub record Numbers : Type 0 where
   pub context : ℕ
   pub owner : ℕ
   pub serial : ℕ
+  pub descriptors : ℕ
 
 abbrev pub numbers : Scene → Numbers
-numbers s = record { context = s.session.next_context; owner = s.session.next_owner; serial = s.session.next_serial }
+numbers s = record { context = s.session.next_context; owner = s.session.next_owner; serial = s.session.next_serial; descriptors = s.around.descriptors }
 
 -- an act on what is there keeps them
 there_keeps : {A : Type 0} (o : Option A) (act : A → Scene → Ended) (s : Scene) → ((x : A) → numbers (act x s).scene ≡ numbers s) → numbers (where_there o act s).scene ≡ numbers s
@@ -73,6 +76,19 @@ commits a s x around =
     ∙ owner_keeps (level_owner r.session) (stack_popped 1 r).scene
     ∙ released_keeps true true (level_owner z.session) z refl
 
+empty_keeps : (s : Scene) → numbers (empty_context_gone s).scene ≡ numbers s
+empty_keeps s =
+    there_keeps (level_context s.session) (λ n. where_so (is_empty n s.session.contexts) (context_gone n)) s (λ n. so_keeps (is_empty n s.session.contexts) (context_gone n) s refl)
+
+pub subcommits : KeepsNumbers subcommitted
+unfolding session_of
+subcommits a s x around =
+    let z : Scene = scene_of a s x around in
+    let r : Scene = (level_released true false z).scene in
+    let l : Scene = (changes (λ session. record session { snapshots = map (lowered (depth z.session)) session.snapshots }) r).scene in
+    let g : Scene = (switched_up (level_owner_gone l).scene).scene in
+    empty_keeps g ∙ owner_keeps (level_owner l.session) l ∙ released_keeps true false (level_owner z.session) z refl
+
 pub cleans : KeepsNumbers cleaned_up
 cleans a s x around = cleaned_keeps (scene_of a s x around)
 
@@ -99,4 +115,5 @@ numbers_grow act a b P keeps acted calls =
       owners = omega (arith, ap (λ (n : Numbers). n.owner) same);
       serials = omega (arith, ap (λ (n : Numbers). n.serial) same);
       calls = rw calls (omega arith);
+      descriptors = ap (λ (n : Numbers). n.descriptors) same;
     }

@@ -348,4 +348,4 @@ module _ (name : Text) (at n : ℕ) (a : Now) (P : List What → Type 0) (r : Re
       (performed_end 0 (element.Show name at n) (show_act name at n) a a P (does_show name at n) (record {
         leads = λ around. refl;
         says = λ around. subst (λ (xs : List ℕ). P (what.Bytes name at xs ∷ [])) (bytes_there r bytes (shown name at n (contexts_in a.store a.space)) is told) says;
-      }) keeps (nothing_moves a.store.tree a.space keeps.agrees) (record { contexts = omega arith; owners = omega arith; serials = omega arith; calls = omega arith }) refl (λ around. refl))
+      }) keeps (nothing_moves a.store.tree a.space keeps.agrees) (record { contexts = omega arith; owners = omega arith; serials = omega arith; calls = omega arith; descriptors = refl }) refl (λ around. refl))

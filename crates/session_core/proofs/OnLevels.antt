@@ -7,7 +7,7 @@ use Rattle.session_rules.specs.World.{Around, Moment, Scene}
 use Rattle.session_rules.specs.Acts.{Ended, in_order}
 use Rattle.session_rules.specs.Elements.{Element}
 use Rattle.session_rules.specs.Elements as element
-use Rattle.session_rules.specs.Ends.{aborted, cleaned_up, committed}
+use Rattle.session_rules.specs.Ends.{aborted, cleaned_up, committed, subcommitted}
 use Rattle.session_rules.specs.Calls.{Done, unfailing}
 use Rattle.session_rules.specs.Does.{does, does_all, done_behind, then_done}
 use Rattle.session_rules.specs.Asked.{asked, asked_all, asks_in}
@@ -17,7 +17,7 @@ use Rattle.session_core.specs.Answers.{Answers, at_calls}
 use Rattle.session_core.specs.declared.calls.Calls.{Calls}
 use Rattle.session_store.proofs.Ending.{moves_back}
 use Rattle.session_core.proofs.Answered.{does_one}
-use Rattle.session_core.proofs.Numbers.{KeepsNumbers, aborts, cleans, commits, numbers_grow, rolls}
+use Rattle.session_core.proofs.Numbers.{KeepsNumbers, aborts, cleans, commits, numbers_grow, rolls, subcommits}
 use Rattle.session_core.proofs.Performing.{moves_nothing, performed_end}
 
 -- elements that can't fail, one behind the other
@@ -50,11 +50,15 @@ does_commit : (w : Option ℕ) (m : Moment) → does w element.CommitTop m ≡ u
 unfolding does
 does_commit w m = refl
 
-does_abort : (w : Option ℕ) (m : Moment) → does w element.Abort m ≡ unfailing m aborted
+does_subcommit : (w : Option ℕ) (m : Moment) → does w element.Subcommit m ≡ unfailing m subcommitted
+unfolding does
+does_subcommit w m = refl
+
+pub does_abort : (w : Option ℕ) (m : Moment) → does w element.Abort m ≡ unfailing m aborted
 unfolding does
 does_abort w m = refl
 
-does_cleanup : (w : Option ℕ) (m : Moment) → does w element.Cleanup m ≡ unfailing m cleaned_up
+pub does_cleanup : (w : Option ℕ) (m : Moment) → does w element.Cleanup m ≡ unfailing m cleaned_up
 unfolding does
 does_cleanup w m = refl
 
@@ -67,6 +71,9 @@ module _ (a b : Now) (P : List What → Type 0) (keeps : Keeps b.store b.space) 
     (asks : Asks a.store.tree.account 0 a.space b.space) where
   pub commit_performed : Acted committed a.store b.store a.space b.space a.shelf b.shelf P → Performed 0 (element.CommitTop ∷ []) a b P None
   commit_performed acted = ended element.CommitTop committed does_commit commits a b P acted keeps moves calls (λ around. asks)
+
+  pub subcommit_performed : Acted subcommitted a.store b.store a.space b.space a.shelf b.shelf P → Performed 0 (element.Subcommit ∷ []) a b P None
+  subcommit_performed acted = ended element.Subcommit subcommitted does_subcommit subcommits a b P acted keeps moves calls (λ around. asks)
 
   pub abort_performed : Acted aborted a.store b.store a.space b.space a.shelf b.shelf P → Performed 0 (element.Abort ∷ []) a b P None
   abort_performed acted = ended element.Abort aborted does_abort aborts a b P acted keeps moves calls (λ around. asks)

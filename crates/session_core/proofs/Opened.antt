@@ -1,5 +1,5 @@
 -- What a caller needs that performs one line after another: where a session starts, and the room that a line leaves.
-use Rattle.std.proofs.Common.{◌≡◌, ℕ, ◌+◌, ◌*◌, ◌<◌, [], refl, ap, arith}
+use Rattle.std.proofs.Common.{◌≡◌, ℕ, ◌+◌, ◌*◌, ◌<◌, [], refl, ap, ◌∙◌, arith}
 use Rattle.addr_space.specs.Space.{Space, held}
 use Rattle.session_rules.specs.State.{SessionState, opening}
 use Rattle.session_store.specs.State.{session_of}
@@ -23,6 +23,7 @@ grows_once_more i a b c g h = record {
   owners = omega (arith, g.owners, h.owners);
   serials = omega (arith, g.serials, h.serials);
   calls = omega (arith, g.calls, h.calls);
+  descriptors = h.descriptors ∙ g.descriptors;
 }
 
 -- A session as it opens is between two lines, and has room.
@@ -33,7 +34,6 @@ opened_lines a e keeps stands =
     record {
       keeps = keeps;
       stands = λ around. record { stands = stands around; open_levels = rw (none) tt };
-      few = rw (none) (omega arith);
     }
 
 pub none_held : (s : Space) (account : ℕ) → s.regions ≡ [] → held s account ≡ 0

@@ -17,6 +17,7 @@ use Rattle.session_rules.specs.Calls.{fallible, unfailing}
 use Rattle.session_rules.specs.Does.{does}
 use Rattle.session_rules.specs.Asked.{asks_in}
 use Rattle.session_rules.specs.Transcript.{is_want}
+use Rattle.session_owners.specs.ResourceState.{ResourceState}
 use Rattle.session_store.specs.State.{StoreState, scene_of, session_of}
 use Rattle.session_store.specs.Calls.{Acted, ContextsAlone, Keeps, Refused}
 use Rattle.session_core.specs.declared.calls.Calls.{Calls}
@@ -41,7 +42,7 @@ pub moves_nothing : (a : TreeState) (s : Space) → Agrees a s → Moves a a s s
 moves_nothing a s h = record { agrees = h; account = refl; outside = λ n r. (λ z. z, λ z. z); accounts = refl; limit = refl; own = refl; others = λ n ne. refl }
 
 pub grows_nothing : (k : ℕ) (a : Now) → Grows k a a
-grows_nothing k a = record { contexts = omega arith; owners = omega arith; serials = omega arith; calls = omega arith }
+grows_nothing k a = record { contexts = omega arith; owners = omega arith; serials = omega arith; calls = omega arith; descriptors = refl }
 
 -- no element
 pub performed_none : (a : Now) (P : List What → Type 0) → Keeps a.store a.space → P [] → Performed 0 [] a a P None
@@ -69,6 +70,7 @@ performed_both j k xs ys a b c P Q R r x y joins = record {
     owners = omega (arith, x.grows.owners, y.grows.owners);
     serials = omega (arith, x.grows.serials, y.grows.serials);
     calls = omega (arith, x.grows.calls, y.grows.calls);
+    descriptors = y.grows.descriptors ∙ x.grows.descriptors;
   };
 }
 
@@ -96,6 +98,7 @@ performed_more j k xs a b P r le x = record {
     owners = omega (arith, le, x.grows.owners);
     serials = omega (arith, le, x.grows.serials);
     calls = omega (arith, le, x.grows.calls);
+    descriptors = x.grows.descriptors;
   };
 }
 
@@ -164,14 +167,16 @@ performed_act x act a b P is rises acted alone calls asks =
       owners = rw alone.owners (omega arith);
       serials = rw alone.owners (omega arith);
       calls = rw calls (omega arith);
+      descriptors = ap (λ (r : ResourceState). r.descriptors) alone.owners;
     }) calls asks
 
 -- the scene where a call was refused
 pub same_scene_in : (a b : Now) → Refused a.store b.store a.space b.space a.shelf b.shelf → (around : Around) → scene_in a around ≡ scene_in b around
 same_scene_in a b same around =
-    ap (λ (z : SessionState). record { session = z; around = record around { kinds = []; shelf = a.shelf; space = a.space.limit } }) (sym same.session)
-    ∙ ap (λ (y : ShelfState). record { session = session_of b.store b.space; around = record around { kinds = []; shelf = y; space = a.space.limit } }) (sym same.shelf)
-    ∙ ap (λ (n : ℕ). record { session = session_of b.store b.space; around = record around { kinds = []; shelf = b.shelf; space = n } }) (sym same.limit)
+    ap (λ (z : SessionState). record { session = z; around = record around { kinds = []; shelf = a.shelf; space = a.space.limit; descriptors = a.store.owners.descriptors } }) (sym same.session)
+    ∙ ap (λ (y : ShelfState). record { session = session_of b.store b.space; around = record around { kinds = []; shelf = y; space = a.space.limit; descriptors = a.store.owners.descriptors } }) (sym same.shelf)
+    ∙ ap (λ (n : ℕ). record { session = session_of b.store b.space; around = record around { kinds = []; shelf = b.shelf; space = n; descriptors = a.store.owners.descriptors } }) (sym same.limit)
+    ∙ ap (λ (c : StoreState). record { session = session_of b.store b.space; around = record around { kinds = []; shelf = b.shelf; space = b.space.limit; descriptors = c.owners.descriptors } }) (sym same.store)
 
 -- a fallible step
 module _ (x : Element) (own : Scene → Option Error) (act : Scene → Ended) (is : (w : Option ℕ) (m : Moment) → does w x m ≡ fallible w m (own m.scene) act) (a b : Now) (P : List What → Type 0)
@@ -205,6 +210,7 @@ module _ (x : Element) (own : Scene → Option Error) (act : Scene → Ended) (i
     owners = rw alone.owners (omega arith);
     serials = rw alone.owners (omega arith);
     calls = omega (arith, count_up);
+    descriptors = ap (λ (r : ResourceState). r.descriptors) alone.owners;
   }) asks
 
   -- that was refused: the session is as it was
@@ -226,6 +232,7 @@ module _ (x : Element) (own : Scene → Option Error) (act : Scene → Ended) (i
             owners = rw same.store (omega arith);
             serials = rw same.store (omega arith);
             calls = omega (arith, count_up);
+            descriptors = ap (λ (c : StoreState). c.owners.descriptors) same.store;
           };
         }
 

@@ -8,7 +8,7 @@ use Rattle.pgs_step.specs.declared.events.What.{What}
 use Rattle.pgs_step.specs.declared.ids.OwnerId.{OwnerId}
 use Rattle.addr_space.specs.Space.{Space}
 use Rattle.forest.specs.Forest.{has}
-use Rattle.owner_core.specs.Owners.{has_begun, owners_of}
+use Rattle.session_owners.specs.ResourceState.{has_begun, owners_of}
 use Rattle.session_rules.specs.State.{LevelState, SessionState, buffer_pin, level_owner}
 use Rattle.session_rules.specs.World.{Moment, Scene}
 use Rattle.session_rules.specs.Acts.{Ended, nothing, where_there}
@@ -45,20 +45,21 @@ does_take buffer w m = refl
 
 -- an owner has room for an item
 module _ (a b : Now) (P : List What → Type 0) (counted : b.calls ≡ record a.calls { count = a.calls.count + 1 }) (space : b.space ≡ a.space) (shelf : b.shelf ≡ a.shelf) (keeps : Keeps a.store a.space) (silent : P []) where
-  pub enlarge_done : (a.calls.count + 1 == a.calls.fail) ≡ false → b.store.tree ≡ a.store.tree → session_of b.store a.space ≡ session_of a.store a.space → Keeps b.store a.space
+  pub enlarge_done : (a.calls.count + 1 == a.calls.fail) ≡ false → b.store.tree ≡ a.store.tree → b.store.owners.descriptors ≡ a.store.owners.descriptors → session_of b.store a.space ≡ session_of a.store a.space → Keeps b.store a.space
       → Performed 1 (element.Enlarge OfLevel ∷ []) a b P None
-  enlarge_done goes tree session after =
+  enlarge_done goes tree descriptors session after =
       performed_made (element.Enlarge OfLevel) (λ _. None) nothing does_enlarge a b P counted 1 goes (λ around. refl) acted (subst (Keeps b.store) (sym space) after)
       (moves_same a.store.tree b.store.tree a.space b.space tree space keeps.agrees)
-      (grown 1 nothing a b P (λ s. record { contexts = omega arith; owners = omega arith; serials = omega arith }) acted (omega (arith, count_behind a b counted))) (λ around. ap (λ (s : Space). s.taken) space)
+      (grown 1 nothing a b P (λ s. record { contexts = omega arith; owners = omega arith; serials = omega arith; descriptors = refl }) acted (omega (arith, count_behind a b counted))) (λ around. ap (λ (s : Space). s.taken) space)
     where
       acted : Acted nothing a.store b.store a.space b.space a.shelf b.shelf P
       acted = record {
         leads = λ around.
-            ap (λ (z : SessionState). record { session = z; around = record around { kinds = []; shelf = a.shelf; space = a.space.limit } })
+            ap (λ (z : SessionState). record { session = z; around = record around { kinds = []; shelf = a.shelf; space = a.space.limit; descriptors = a.store.owners.descriptors } })
             (sym session ∙ ap (λ (s : Space). session_of b.store s) (sym space))
-            ∙ ap (λ (s : Space). record { session = session_of b.store b.space; around = record around { kinds = []; shelf = a.shelf; space = s.limit } }) (sym space)
-            ∙ ap (λ y. record { session = session_of b.store b.space; around = record around { kinds = []; shelf = y; space = b.space.limit } }) (sym shelf);
+            ∙ ap (λ (s : Space). record { session = session_of b.store b.space; around = record around { kinds = []; shelf = a.shelf; space = s.limit; descriptors = a.store.owners.descriptors } }) (sym space)
+            ∙ ap (λ y. record { session = session_of b.store b.space; around = record around { kinds = []; shelf = y; space = b.space.limit; descriptors = a.store.owners.descriptors } }) (sym shelf)
+            ∙ ap (λ (n : ℕ). record { session = session_of b.store b.space; around = record around { kinds = []; shelf = b.shelf; space = b.space.limit; descriptors = n } }) (sym descriptors);
         says = λ around. silent;
       }
 
@@ -80,8 +81,8 @@ take_rises : (buffer : ℕ) (s : Scene) → Rises 1 s (takes_pin buffer s).scene
 take_rises buffer s = go (level_owner s.session)
   where
     go : (o : Option ℕ) → Rises 1 s (where_there o (λ owner. item_taken owner buffer_pin buffer) s).scene
-    go None = record { contexts = omega arith; owners = omega arith; serials = omega arith }
-    go (Some n) = record { contexts = omega arith; owners = omega arith; serials = omega arith }
+    go None = record { contexts = omega arith; owners = omega arith; serials = omega arith; descriptors = refl }
+    go (Some n) = record { contexts = omega arith; owners = omega arith; serials = omega arith; descriptors = refl }
 
 -- the owner takes the pin
 pub take_done : (a b : Now) (P : List What → Type 0) → b.calls ≡ record a.calls { count = a.calls.count + 1 } → b.space ≡ a.space → (a.calls.count + 1 == a.calls.fail) ≡ false → (owner : OwnerId) (buffer : ℕ)

@@ -1,6 +1,6 @@
 -- What is done after an error, and at the end of a session.
-use Rattle.std.proofs.Common.{◌≡◌, ℕ, ◌≤◌, Bool, true, false, List, [], ◌∷◌, ◌++◌, length, Option, Some, None, refl, sym, ◌∙◌, ap, subst, arith, append-nil}
-use Rattle.std.specs.Prelude.{◌||◌, not}
+use Rattle.std.proofs.Common.{◌≡◌, ℕ, ◌+◌, ◌<◌, ◌≤◌, Bool, true, false, List, [], ◌∷◌, ◌++◌, length, Option, Some, None, refl, sym, ◌∙◌, ap, subst, arith, append-nil}
+use Rattle.std.specs.Prelude.{not}
 use Rattle.pgs_step.specs.declared.errors.Error.{Error}
 use Rattle.pgs_step.specs.declared.events.What.{What}
 use Rattle.pgs_step.specs.declared.events.What.TheVariants as what
@@ -10,12 +10,15 @@ use Rattle.session_rules.specs.State.{LevelState, first_of, is_aborted}
 use Rattle.session_rules.specs.World.{Scene}
 use Rattle.session_rules.specs.Acts.{Ended, in_order, nothing, where_so}
 use Rattle.session_rules.specs.Ends.{aborted, cleaned_up, given_up, recovered}
+use Rattle.subxact_stack.specs.declared.levels.Level.{Level}
 use Rattle.session_store.specs.State.{StoreState, levels_of, scene_of, session_of}
 use Rattle.context_tree.specs.State.{Moves}
+use Rattle.context_tree.proofs.Composed.{tree_more}
 use Rattle.session_store.specs.Calls.{Acted, Keeps}
 use Rattle.session_store.proofs.Deepest.{levels_long}
 use Rattle.session_core.specs.declared.shared.Shared.{Shared}
-use Rattle.session_core.specs.Performed.{Ends, Now, now}
+use Rattle.session_core.specs.Begun.{IsStarting}
+use Rattle.session_core.specs.Performed.{Ends, Now, now, scene_in}
 use Rattle.session_core.proofs.Numbers.{KeepsNumbers, numbers_grow}
 
 -- what is given up, of these levels
@@ -34,44 +37,64 @@ gives_aborted (k ∷ ls) l e is z = rw (was k l e is) refl
     was : (k l : LevelState) → Some k ≡ Some l → l.aborted ≡ true → k.aborted ≡ true
     was k l e is = let same : k ≡ l = cc e in ap (λ (l : LevelState). l.aborted) same ∙ is
 
--- what is given up of one level alone, which isn't aborted
-abbrev act_of : Bool → Bool → Scene → Ended
-act_of true implicit = in_order (aborted ∷ cleaned_up ∷ [])
-act_of false true = in_order (aborted ∷ cleaned_up ∷ [])
-act_of false false = aborted
-
-gives_of : (name : Option (List ℕ)) (c o : Option ℕ) (implicit starting : Bool)
-    → GivesUp (record { name = name; context = c; owner = o; implicit = implicit; aborted = false; starting = starting } ∷ []) (act_of starting implicit)
-gives_of name c o implicit true z =
-    ap (λ (es : List What). record { scene = (in_order (aborted ∷ cleaned_up ∷ []) z).scene; events = es }) (append-nil (in_order (aborted ∷ cleaned_up ∷ []) z).events)
-gives_of name c o true false z = refl
-gives_of name c o false false z = refl
-
-gives_level : (ls : List LevelState) (l : LevelState) → first_of ls ≡ Some l → length ls ≤ 1 → l.aborted ≡ false → GivesUp ls (act_of l.starting l.implicit)
-gives_level [] l e one is z = absurd (cc e)
-gives_level (k ∷ j ∷ ls) l e one is z = absurd (omega (arith, one))
-gives_level (k ∷ []) l e one is z =
+-- what is given up where the deepest isn't aborted
+pub gives_up : (ls : List LevelState) (l : LevelState) → first_of ls ≡ Some l → l.aborted ≡ false → GivesUp ls (given_up ls)
+gives_up [] l e active z = refl
+gives_up (k ∷ ls) l e active z =
     let same : k ≡ l = cc e in
-    let shut : l ≡ record l { aborted = false } = ap (λ (b : Bool). record l { aborted = b }) is in
-    subst (λ (x : LevelState). where_so (not (is_aborted (x ∷ []))) (given_up (x ∷ [])) z ≡ act_of l.starting l.implicit z) (sym (same ∙ shut))
-    (gives_of l.name l.context l.owner l.implicit l.starting z)
+    ap (λ (b : Bool). where_so (not b) (given_up (k ∷ ls)) z) (ap (λ (x : LevelState). x.aborted) same ∙ active)
 
--- it goes, or it aborts
-pub gives_goes : (ls : List LevelState) (l : LevelState) → first_of ls ≡ Some l → length ls ≤ 1 → l.aborted ≡ false → (l.starting || l.implicit) ≡ true → GivesUp ls (in_order (aborted ∷ cleaned_up ∷ []))
-gives_goes ls l e one is goes = go l.starting l.implicit goes (gives_level ls l e one is)
-  where
-    go : (starting implicit : Bool) → (starting || implicit) ≡ true → GivesUp ls (act_of starting implicit) → GivesUp ls (in_order (aborted ∷ cleaned_up ∷ []))
-    go true implicit e h = h
-    go false true e h = h
-    go false false e h = absurd (cc e)
+-- a level as its parts say
+abbrev level_of : LevelState → Bool → Bool → LevelState
+level_of l implicit starting = record { name = l.name; context = l.context; owner = l.owner; implicit = implicit; aborted = false; starting = starting }
 
-pub gives_stays : (ls : List LevelState) (l : LevelState) → first_of ls ≡ Some l → length ls ≤ 1 → l.aborted ≡ false → (l.starting || l.implicit) ≡ false → GivesUp ls aborted
-gives_stays ls l e one is stays = go l.starting l.implicit stays (gives_level ls l e one is)
+is_of : (k l : LevelState) (implicit starting : Bool) → Some k ≡ Some l → l.implicit ≡ implicit → l.aborted ≡ false → l.starting ≡ starting → k ≡ level_of l implicit starting
+is_of k l implicit starting e block active started =
+    let same : k ≡ l = cc e in
+    same
+    ∙ ap (λ (b : Bool). record l { implicit = b }) block
+    ∙ ap (λ (b : Bool). record l { implicit = implicit; aborted = b }) active
+    ∙ ap (λ (b : Bool). record l { implicit = implicit; aborted = false; starting = b }) started
+
+-- one that was begun for one command alone goes, and any other aborts
+pub gives_implicit : (ls : List LevelState) (l : LevelState) → first_of ls ≡ Some l → l.aborted ≡ false → l.starting ≡ false → l.implicit ≡ true → GivesUp ls (in_order (aborted ∷ cleaned_up ∷ []))
+gives_implicit [] l e active started alone z = absurd (cc e)
+gives_implicit (k ∷ ls) l e active started alone z =
+    ap (λ (x : LevelState). where_so (not (is_aborted (x ∷ ls))) (given_up (x ∷ ls)) z) (is_of k l true false e alone active started)
+
+pub gives_open : (ls : List LevelState) (l : LevelState) → first_of ls ≡ Some l → l.aborted ≡ false → l.starting ≡ false → l.implicit ≡ false → GivesUp ls aborted
+gives_open [] l e active started block z = absurd (cc e)
+gives_open (k ∷ ls) l e active started block z =
+    ap (λ (x : LevelState). where_so (not (is_aborted (x ∷ ls))) (given_up (x ∷ ls)) z) (is_of k l false false e block active started)
+
+pub is_starting : (ls : List LevelState) (l : LevelState) → first_of ls ≡ Some l → l.aborted ≡ false → l.starting ≡ true → IsStarting ls
+is_starting [] l e active started = absurd (cc e)
+is_starting (k ∷ ls) l e active started =
+    let same : k ≡ l = cc e in (ap (λ (x : LevelState). x.starting) same ∙ started, ap (λ (x : LevelState). x.aborted) same ∙ active)
+
+pub starting_some : (levels : List Level) → IsStarting (levels_of levels) → 0 < length levels
+starting_some levels h = go (levels_of levels) refl h
   where
-    go : (starting implicit : Bool) → (starting || implicit) ≡ false → GivesUp ls (act_of starting implicit) → GivesUp ls aborted
-    go true implicit e h = absurd (cc e)
-    go false true e h = absurd (cc e)
-    go false false e h = h
+    go : (ls : List LevelState) → levels_of levels ≡ ls → IsStarting ls → 0 < length levels
+    go [] e h = absurd h
+    go (l ∷ ls) e h = omega (arith, levels_long levels, ap length e)
+
+-- What is given up of a level that is being started: it is rolled back, and the level above it, where there is one, aborts.
+started_of : (l : LevelState) (ls : List LevelState) → IsStarting (l ∷ ls) → l ≡ level_of l l.implicit true
+started_of l ls h =
+    ap (λ (b : Bool). record l { aborted = b }) h.1 ∙ ap (λ (b : Bool). record l { aborted = false; starting = b }) h.0
+
+pub gives_start_alone : (ls : List LevelState) → IsStarting ls → length ls ≡ 1 → (z : Scene) → given_up ls z ≡ in_order (aborted ∷ cleaned_up ∷ []) z
+gives_start_alone [] h one z = absurd h
+gives_start_alone (l ∷ []) h one z =
+    ap (λ (x : LevelState). given_up (x ∷ []) z) (started_of l [] h)
+    ∙ ap (λ (es : List What). record { scene = (in_order (aborted ∷ cleaned_up ∷ []) z).scene; events = es }) (append-nil (in_order (aborted ∷ cleaned_up ∷ []) z).events)
+gives_start_alone (l ∷ k ∷ ls) h one z = absurd (omega (arith, one))
+
+pub gives_start : (ls : List LevelState) → IsStarting ls → 1 < length ls → (z : Scene) → given_up ls z ≡ in_order (in_order (aborted ∷ cleaned_up ∷ []) ∷ aborted ∷ []) z
+gives_start [] h more z = absurd h
+gives_start (l ∷ []) h more z = absurd (omega (arith, more))
+gives_start (l ∷ k ∷ ls) h more z = ap (λ (x : LevelState). given_up (x ∷ k ∷ ls) z) (started_of l (k ∷ ls) h)
 
 -- the error is said, and something is given up
 pub recovers : (O : Type 0) (emits : O → List What → O → Type 0) (more : (o p q : O) (xs ys : List What) → emits o xs p → emits p ys q → emits o (xs ++ ys) q)
@@ -87,26 +110,69 @@ recovers O emits more error act a b s t x y o p q gives said acted = record {
       (acted.says around));
 }
 
-pub recovery_ends : (O : Type 0) (emits : O → List What → O → Type 0) (more : (o p q : O) (xs ys : List What) → emits o xs p → emits p ys q → emits o (xs ++ ys) q)
-    (error : Error) (act : Scene → Ended) (a b : Now) (o p q : O) → KeepsNumbers act
-    → GivesUp (levels_of a.store.levels) act → emits o (what.Error error ∷ []) p → Acted act a.store b.store a.space b.space a.shelf b.shelf (λ events. emits p events q)
-    → Keeps b.store b.space → Moves a.store.tree b.store.tree a.space b.space → Asks a.store.tree.account 0 a.space b.space → b.calls ≡ a.calls → Ends (recovered error) a b (λ events. emits o events q)
-recovery_ends O emits more error act a b o p q numbers gives said acted keeps moves asks calls = record {
-  acted = recovers O emits more error act a.store b.store a.space b.space a.shelf b.shelf o p q gives said acted;
+pub ended : (act : Scene → Ended) (a b : Now) (P : List What → Type 0) → KeepsNumbers act → Acted act a.store b.store a.space b.space a.shelf b.shelf P
+    → Keeps b.store b.space → Moves a.store.tree b.store.tree a.space b.space → Asks a.store.tree.account 0 a.space b.space → b.calls ≡ a.calls → Ends act a b P
+ended act a b P numbers acted keeps moves asks calls = record {
+  acted = acted;
   keeps = keeps;
   moves = moves;
   asked = asks;
   calls = calls;
-  grows = numbers_grow act a b (λ events. emits p events q) numbers acted calls;
+  grows = numbers_grow act a b P numbers acted calls;
+}
+
+pub recovery_ends : (O : Type 0) (emits : O → List What → O → Type 0) (more : (o p q : O) (xs ys : List What) → emits o xs p → emits p ys q → emits o (xs ++ ys) q)
+    (error : Error) (act : Scene → Ended) (a b : Now) (o p q : O)
+    → GivesUp (levels_of a.store.levels) act → emits o (what.Error error ∷ []) p → Ends act a b (λ events. emits p events q) → Ends (recovered error) a b (λ events. emits o events q)
+recovery_ends O emits more error act a b o p q gives said did = record {
+  acted = recovers O emits more error act a.store b.store a.space b.space a.shelf b.shelf o p q gives said did.acted;
+  keeps = did.keeps;
+  moves = did.moves;
+  asked = did.asked;
+  calls = did.calls;
+  grows = did.grows;
+}
+
+-- the same by another name
+pub ends_as : (f h : Scene → Ended) (a b : Now) (P : List What → Type 0) → ((z : Scene) → f z ≡ h z) → Ends h a b P → Ends f a b P
+ends_as f h a b P same did = record {
+  acted = record {
+    leads = λ around. ap (λ (e : Ended). e.scene) (same (scene_in a around)) ∙ did.acted.leads around;
+    says = λ around. subst P (sym (ap (λ (e : Ended). e.events) (same (scene_in a around)))) (did.acted.says around);
+  };
+  keeps = did.keeps;
+  moves = did.moves;
+  asked = did.asked;
+  calls = did.calls;
+  grows = did.grows;
+}
+
+-- one act and then another
+pub ends_both : (f h : Scene → Ended) (a b c : Now) (P Q R : List What → Type 0) → Ends f a b P → Ends h b c Q → ((us vs : List What) → P us → Q vs → R (us ++ vs)) → Ends (in_order (f ∷ h ∷ [])) a c R
+ends_both f h a b c P Q R first next joins = record {
+  acted = record {
+    leads = λ around. ap (λ (z : Scene). (h z).scene) (first.acted.leads around) ∙ next.acted.leads around;
+    says = λ around.
+        subst (λ (es : List What). R ((f (scene_in a around)).events ++ es))
+        (ap (λ (z : Scene). (h z).events) (sym (first.acted.leads around)) ∙ sym (append-nil (h (f (scene_in a around)).scene).events))
+        (joins (f (scene_in a around)).events (h (scene_in b around)).events (first.acted.says around) (next.acted.says around));
+  };
+  keeps = next.keeps;
+  moves = tree_more a.store.tree b.store.tree c.store.tree a.space b.space c.space first.moves next.moves;
+  asked = subst (λ (n : ℕ). Asks n 0 b.space c.space) first.moves.account next.asked ∙ first.asked;
+  calls = next.calls ∙ first.calls;
+  grows = record {
+    contexts = omega (arith, first.grows.contexts, next.grows.contexts);
+    owners = omega (arith, first.grows.owners, next.grows.owners);
+    serials = omega (arith, first.grows.serials, next.grows.serials);
+    calls = omega (arith, first.grows.calls, next.grows.calls);
+    descriptors = next.grows.descriptors ∙ first.grows.descriptors;
+  };
 }
 
 -- nothing happened
 pub acted_nothing : (a : StoreState) (s : Space) (x : ShelfState) (Said : List What → Type 0) → Said [] → Acted nothing a a s s x x Said
 acted_nothing a s x Said h = record { leads = λ around. refl; says = λ around. h }
-
--- one level alone
-pub at_most_one : (store v : StoreState) → store ≡ v → length v.levels ≤ 1 → length (levels_of store.levels) ≤ 1
-at_most_one store v is one = subst (λ (n : ℕ). n ≤ 1) (sym (levels_long store.levels)) (subst (λ (a : StoreState). length a.levels ≤ 1) (sym is) one)
 
 -- a session is seen as its store
 module _ (store v : StoreState) (is : store ≡ v) where

@@ -14,7 +14,7 @@ use Rattle.addr_space.specs.Space.{Asks, Space}
 use Rattle.pgs_step.specs.declared.ids.CtxId.{CtxId}
 use Rattle.context_tree.specs.State.{TreeState, Agrees, Moves, stands_for}
 use Rattle.context_tree.specs.Making.{AsksInVain}
-use Rattle.owner_core.specs.Owners.{owners_of}
+use Rattle.session_owners.specs.ResourceState.{owners_of}
 use Rattle.owner_core.specs.declared.errors.OwnerError.{OwnerError}
 use Rattle.owner_core.specs.declared.errors.OwnerError.TheVariants as owner
 use Rattle.subxact_stack.specs.declared.levels.Level.{Level}
@@ -69,7 +69,7 @@ owners_are a around = refl
 module _ (name : Option Text) (implicit : Bool) (a b : Now) (P : List What → Type 0) (counted : b.calls ≡ record a.calls { count = a.calls.count + 1 }) (space : b.space ≡ a.space) (shelf : b.shelf ≡ a.shelf)
     (keeps : Keeps a.store a.space) where
   level_rises : (s : Scene) → Rises 1 s (level_made name implicit s).scene
-  level_rises s = record { contexts = omega arith; owners = omega arith; serials = omega arith }
+  level_rises s = record { contexts = omega arith; owners = omega arith; serials = omega arith; descriptors = refl }
 
   abbrev own_level : Scene → Option Error
   own_level scene = limit 1000 (depth scene.session)
@@ -110,7 +110,7 @@ module _ (name : Option Text) (implicit : Bool) (a b : Now) (P : List What → T
 module _ (a b : Now) (P : List What → Type 0) (counted : b.calls ≡ record a.calls { count = a.calls.count + 1 }) (goes : (a.calls.count + 1 == a.calls.fail) ≡ false)
     (keeps : Keeps b.store b.space) (moves : Moves a.store.tree b.store.tree a.space b.space) where
   context_rises : (s : Scene) → Rises 1 s (new_context_made LevelContext s).scene
-  context_rises s = record { contexts = omega arith; owners = omega arith; serials = omega arith }
+  context_rises s = record { contexts = omega arith; owners = omega arith; serials = omega arith; descriptors = refl }
 
   pub context_made_for : (u : Unit {0}) (r : Result (Unit {0}) TreeError) → r ≡ Ok u → create_refusal (left_in a.store a.space) (codes "CurTransactionContext") kind.Default true (contexts_in a.store a.space) ≡ None
       → Acted (new_context_made LevelContext) a.store b.store a.space b.space a.shelf b.shelf P → Asks a.store.tree.account 8192 a.space b.space → Performed 1 (element.MakeContext LevelContext ∷ []) a b P None
@@ -148,7 +148,7 @@ context_injected a b P counted space shelf keeps store silent e told =
 module _ (a b : Now) (P : List What → Type 0) (counted : b.calls ≡ record a.calls { count = a.calls.count + 1 }) (space : b.space ≡ a.space) (shelf : b.shelf ≡ a.shelf)
     (keeps : Keeps a.store a.space) where
   owner_rises : (s : Scene) → Rises 1 s (new_owner_made OfLevel s).scene
-  owner_rises s = record { contexts = omega arith; owners = omega arith; serials = omega arith }
+  owner_rises s = record { contexts = omega arith; owners = omega arith; serials = omega arith; descriptors = refl }
 
   abbrev own_owner : Scene → Option Error
   own_owner scene = limit 65536 (size scene.session.owners)
@@ -196,8 +196,8 @@ stands_rises : (s : Scene) → Rises 0 s (level_stands s).scene
 stands_rises s = go (level_context s.session)
   where
     go : (o : Option ℕ) → Rises 0 s (stood o s).scene
-    go None = record { contexts = omega arith; owners = omega arith; serials = omega arith }
-    go (Some n) = record { contexts = omega arith; owners = omega arith; serials = omega arith }
+    go None = record { contexts = omega arith; owners = omega arith; serials = omega arith; descriptors = refl }
+    go (Some n) = record { contexts = omega arith; owners = omega arith; serials = omega arith; descriptors = refl }
 
 moves_current : (a : TreeState) (id : CtxId) (s : Space) → Agrees (record a { current = id }) s → Moves a (record a { current = id }) s s
 unfolding stands_for

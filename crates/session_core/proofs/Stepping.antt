@@ -22,11 +22,12 @@ use Rattle.session_core.specs.Performed.{Now, Grows, Performed, scene_in}
 use Rattle.session_core.proofs.Performing.{performed_injected, performed_want}
 use Rattle.session_core.proofs.Standing.{empty_around}
 
--- how far an act raised what a session counts
+-- how far an act raised what a session counts; there are as many descriptors
 pub record Rises (k : ℕ) (s t : Scene) : Type 0 where
   pub contexts : t.session.next_context ≤ s.session.next_context + k
   pub owners : t.session.next_owner ≤ s.session.next_owner + k
   pub serials : t.session.next_serial ≤ s.session.next_serial + k
+  pub descriptors : t.around.descriptors ≡ s.around.descriptors
 
 pub grown : (k : ℕ) (act : Scene → Ended) (a b : Now) (P : List What → Type 0) → ((s : Scene) → Rises k s (act s).scene) → Acted act a.store b.store a.space b.space a.shelf b.shelf P
     → b.calls.count ≤ a.calls.count + k → Grows k a b
@@ -34,7 +35,7 @@ unfolding session_of
 grown k act a b P rises acted calls =
     let up : Rises k (scene_in a empty_around) (scene_in b empty_around) =
     subst (λ (z : Scene). Rises k (scene_in a empty_around) z) (acted.leads empty_around) (rises (scene_in a empty_around)) in
-    record { contexts = up.contexts; owners = up.owners; serials = up.serials; calls = calls }
+    record { contexts = up.contexts; owners = up.owners; serials = up.serials; calls = calls; descriptors = up.descriptors }
 
 -- the tree and the space are as they were, but for the current context
 moves_still : (a : TreeState) (s : Space) → Agrees a s → Moves a a s s

@@ -100,6 +100,7 @@ module _ (line : Option Command) (a : Now) where
         owners = omega (arith, h.grows.owners, ended.grows.owners);
         serials = omega (arith, h.grows.serials, ended.grows.serials);
         calls = omega (arith, h.grows.calls, ended.grows.calls);
+        descriptors = ended.grows.descriptors ∙ h.grows.descriptors;
       };
       fail = ap (λ (c : Calls). c.fail) ended.calls ∙ h.fail;
       calls = subst (λ (c : Calls). a.calls.count ≤ c.count) (sym ended.calls) h.answers.calls;

@@ -1,5 +1,5 @@
 -- A level that was begun, and the deepest level as steps need it.
-use Rattle.std.specs.Prelude.{◌≡◌, ℕ, Bool, List, [], ◌∷◌, Option, Some}
+use Rattle.std.specs.Prelude.{◌≡◌, ℕ, Bool, true, false, List, [], ◌∷◌, Option, Some}
 use Rattle.pgs_step.specs.declared.ids.OwnerId.{OwnerId}
 use Rattle.addr_space.specs.Space.{Space}
 use Rattle.session_rules.specs.State.{LevelState, level_owner}
@@ -18,6 +18,11 @@ pub record HasBegun (name : Option (List ℕ)) (implicit : Bool) (outer levels :
 abbrev pub InActiveLevel : List LevelState → Type 0
 InActiveLevel [] = ⊥
 InActiveLevel (level ∷ levels) = IsActive level
+
+-- the deepest level is being started, and isn't aborted
+abbrev pub IsStarting : List LevelState → Type 0
+IsStarting [] = ⊥
+IsStarting (level ∷ levels) = (level.starting ≡ true) × (level.aborted ≡ false)
 
 -- the owner of the deepest level
 abbrev pub IsLevelOwner : StoreState → OwnerId → Type 0

@@ -47,12 +47,13 @@ pub record HasRoom (k : ℕ) (n : Now) : Type 0 where
   pub serials : n.store.owners.next_serial + k < most_count
   pub calls : n.calls.count + k < most_count
 
--- no counter rose by more than so much
+-- no counter rose by more than so much, and there are as many descriptors
 pub record Grows (k : ℕ) (a b : Now) : Type 0 where
   pub contexts : b.store.tree.next ≤ a.store.tree.next + k
   pub owners : b.store.owners.next_owner ≤ a.store.owners.next_owner + k
   pub serials : b.store.owners.next_serial ≤ a.store.owners.next_serial + k
   pub calls : b.calls.count ≤ a.calls.count + k
+  pub descriptors : b.store.owners.descriptors ≡ a.store.owners.descriptors
 
 -- The account took so many bytes, or where memory was wanted any number of them, and no other account any.
 abbrev pub Takes : Bool → ℕ → ℕ → Space → Space → Type 0

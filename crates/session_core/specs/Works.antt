@@ -24,13 +24,16 @@ IsOnChunks (command.Put chunk at bytes) = Unit {0}
 IsOnChunks (command.Show chunk at length) = Unit {0}
 IsOnChunks other = ⊥
 
--- a command that works in a transaction: those, the ones on pins and references, and the one that fails
+-- a command that works in a transaction: those, the ones on pins, references and files, and the one that fails
 abbrev pub IsWork : Command → Type 0
 IsWork command.Raise = Unit {0}
 IsWork (command.Pin buffer) = Unit {0}
 IsWork (command.Unpin buffer) = Unit {0}
 IsWork (command.Reference class key) = Unit {0}
 IsWork (command.Unreference class key) = Unit {0}
+IsWork (command.Open file) = Unit {0}
+IsWork (command.Touch file) = Unit {0}
+IsWork (command.Close file) = Unit {0}
 IsWork (command.Context name parent kind) = Unit {0}
 IsWork (command.Switch name) = Unit {0}
 IsWork (command.OnReset name) = Unit {0}

@@ -1,12 +1,14 @@
 //! The refusals of calls as errors of commands.
 ghost use Rattle.std.specs.Prelude.{◌≡◌, ◌≢◌};
 ghost use Rattle.pgs_step.specs.declared.errors.Error.TheVariants as error;
+ghost use Rattle.file_table.specs.declared.files.FileError.TheVariants as file;
 ghost use Rattle.context_rules.specs.declared.errors.TreeError.TheVariants as tree;
 ghost use Rattle.session_rules.specs.Checks.{space_error, tree_error};
 ghost use Rattle.session_store.specs.declared.hooks.RegisterError.TheVariants as register;
 
 use chunk_header::CtxError;
 use context_rules::TreeError;
+use file_table::FileError;
 use pgs_step::Error;
 use session_store::RegisterError;
 
@@ -58,5 +60,16 @@ fn space_error(refusal: CtxError) -> Error
         CtxError::WrongSize => Error::WrongChunkSize,
         CtxError::Unsupported => Error::Unsupported,
         CtxError::Memory => Error::OutOfSpace,
+    }
+}
+
+/// The error of a file that wasn't opened, at that fallible call.
+pub(crate) fn open_error(refusal: FileError, call: u64) -> Error
+    ensures full { refusal ≡ file.TooMany → result ≡ error.LimitReached }
+    ensures other { refusal ≢ file.TooMany → result ≡ error.NoMemory call }
+{
+    match refusal {
+        FileError::TooMany => Error::LimitReached,
+        _ => Error::NoMemory(call),
     }
 }

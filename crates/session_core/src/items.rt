@@ -4,12 +4,13 @@ ghost use Rattle.pgs_command.specs.declared.commands.Command.TheVariants as comm
 ghost use Rattle.pgs_command.specs.Kinds.{class_kind};
 ghost use Rattle.addr_space.specs.Space.{Space};
 ghost use Rattle.reset_callbacks.specs.ShelfState.{ShelfState};
-ghost use Rattle.owner_core.specs.Owners.{IsLive, has_begun, owners_of, spare_of};
+ghost use Rattle.session_owners.specs.ResourceState.{IsLive, has_begun, owners_of, spare_of};
 ghost use Rattle.session_rules.specs.Elements as e;
 ghost use Rattle.session_rules.specs.Elements.{OfLevel};
 ghost use Rattle.session_rules.specs.State as rules;
-ghost use Rattle.session_rules.specs.State.{SessionState, buffer_pin};
+ghost use Rattle.session_rules.specs.State.{SessionState, buffer_pin, file_kind};
 ghost use Rattle.session_rules.specs.Works.{work_of};
+ghost use Rattle.session_owners.specs.Counted.{holds_file};
 ghost use Rattle.session_store.specs.State.{levels_of, session_of};
 ghost use Rattle.session_store.specs.Calls.{Keeps, StandsIn};
 ghost use Rattle.session_store.specs.Owned.{OwnersAlone};
@@ -17,6 +18,7 @@ ghost use Rattle.session_core.specs.Answers.{refusal_of};
 ghost use Rattle.session_core.specs.Begun.{InActiveLevel, IsLevelOwner};
 ghost use Rattle.session_core.specs.Performed.{now, HasRoom, IsBetweenSteps, Performed};
 
+use crate::errors::open_error;
 use crate::session::Session;
 use crate::shared::Shared;
 use pgs_command::ReferenceClass;
@@ -104,6 +106,68 @@ impl<H: ResetHook> Session<H> {
         self.give_back(class.kind(), key, shared, out)
     }
 
+    /// `open`: the owner of the deepest level takes a file, which gets a descriptor.
+    pub(crate) fn open_file<E: Emit>(
+        &mut self,
+        file: u32,
+        shared: &mut Shared<'_, H>,
+        out: &mut E,
+    ) -> Result<(), Error>
+        requires between { IsBetweenSteps (now self.old shared.old) }
+        requires room { HasRoom 2 (now self.old shared.old) }
+        requires active { InActiveLevel (levels_of self.old.levels) }
+        ensures performed { (session : SessionState) → Performed 2 (work_of (command.Open file) session) (now self.old shared.old) (now self.new shared.new) (λ events. E.emits out.old events out.new) (refusal_of result) }
+    {
+        if self.store.is_open(file) {
+            return Err(Error::NameTaken);
+        }
+        let owner = self.owner_of_level();
+        if let Err(error) = self.enlarge(owner, shared) {
+            return Err(error);
+        }
+        if let Err(error) = self.take_file(owner, file, shared, out) {
+            return Err(error);
+        }
+        Ok(())
+    }
+
+    /// `touch`: a file that the session has open is used, and gets a descriptor where it has none.
+    pub(crate) fn touch<E: Emit>(
+        &mut self,
+        file: u32,
+        shared: &mut Shared<'_, H>,
+        out: &mut E,
+    ) -> Result<(), Error>
+        requires between { IsBetweenSteps (now self.old shared.old) }
+        requires room { HasRoom 1 (now self.old shared.old) }
+        ensures performed { (session : SessionState) → Performed 1 (work_of (command.Touch file) session) (now self.old shared.old) (now self.new shared.new) (λ events. E.emits out.old events out.new) (refusal_of result) }
+    {
+        if !self.store.is_open(file) {
+            return Err(Error::NoSuchName);
+        }
+        if let Err(error) = shared.calls.next() {
+            return Err(error);
+        }
+        if let Err(_) = self.store.touch(file, out) {
+            return Err(Error::NoMemory(shared.calls.count));
+        }
+        Ok(())
+    }
+
+    /// `close`: the owner of the deepest level gives back a file, whose descriptor is closed.
+    pub(crate) fn close_file<E: Emit>(
+        &mut self,
+        file: u32,
+        shared: &mut Shared<'_, H>,
+        out: &mut E,
+    ) -> Result<(), Error>
+        requires between { IsBetweenSteps (now self.old shared.old) }
+        requires active { InActiveLevel (levels_of self.old.levels) }
+        ensures performed { (session : SessionState) → Performed 0 (work_of (command.Close file) session) (now self.old shared.old) (now self.new shared.new) (λ events. E.emits out.old events out.new) (refusal_of result) }
+    {
+        self.give_back(KindId::FILE, file, shared, out)
+    }
+
     /// The owner of the deepest level, which is active.
     fn owner_of_level(&self) -> OwnerId
         requires active { InActiveLevel (levels_of self.now.levels) }
@@ -159,6 +223,7 @@ impl<H: ResetHook> Session<H> {
         self.store.pin(owner, buffer, out);
         Ok(())
     }
+
     /// Takes a reference in room that was made before.
     fn take_reference<E: Emit>(
         &mut self,
@@ -181,6 +246,32 @@ impl<H: ResetHook> Session<H> {
         }
         if let Err(_) = self.store.add_reference(owner, class.kind(), key, out) {
             return Err(Error::NoMemory(shared.calls.count));
+        }
+        Ok(())
+    }
+
+    /// Takes a file in room that was made before. `LimitReached` comes where the session has 4,096 files open.
+    fn take_file<E: Emit>(
+        &mut self,
+        owner: OwnerId,
+        file: u32,
+        shared: &mut Shared<'_, H>,
+        out: &mut E,
+    ) -> Result<(), Error>
+        requires keeps { Keeps self.old shared.old.space.now }
+        requires room { HasRoom 1 (now self.old shared.old) }
+        requires owner { IsLevelOwner self.old owner }
+        requires live { IsLive self.old.owners owner }
+        requires spare { 1 ≤ spare_of owner.number self.old.owners }
+        requires not_begun { has_begun owner.number (owners_of self.old.owners) ≡ false }
+        requires closed { holds_file file (owners_of self.old.owners) ≡ false }
+        ensures performed { Performed 1 (e.Take OfLevel file_kind file ∷ []) (now self.old shared.old) (now self.new shared.new) (λ events. E.emits out.old events out.new) (refusal_of result) }
+    {
+        if let Err(error) = shared.calls.next() {
+            return Err(error);
+        }
+        if let Err(error) = self.store.open_file(owner, file, out) {
+            return Err(open_error(error, shared.calls.count));
         }
         Ok(())
     }

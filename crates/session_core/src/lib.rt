@@ -8,6 +8,7 @@ mod ends;
 mod errors;
 mod items;
 mod perform;
+mod savepoints;
 mod session;
 mod shared;
 mod transactions;
@@ -17,6 +18,3 @@ mod work;
 pub use calls::Calls;
 pub use session::{Session, StartError};
 pub use shared::Shared;
-
-#[cfg(test)]
-mod tests;

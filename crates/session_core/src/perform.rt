@@ -1,10 +1,9 @@
 //! Commands are performed.
-ghost use Rattle.std.specs.Prelude.{◌≡◌, ◌≤◌, ◌∷◌, ◌++◌, [], None, false, length, OnOk, OnErr};
+ghost use Rattle.std.specs.Prelude.{◌≡◌, ◌∷◌, [], None, length, OnOk, OnErr};
 ghost use Rattle.pgs_command.specs.Ranges.{IsInRange};
 ghost use Rattle.pgs_step.specs.declared.events.What.TheVariants as what;
 ghost use Rattle.session_rules.specs.Elements as element;
-ghost use Rattle.session_rules.specs.Commands.{elements_of, start};
-ghost use Rattle.session_rules.specs.State.{SessionState, is_aborted};
+ghost use Rattle.session_rules.specs.Commands.{elements_of};
 ghost use Rattle.session_rules.proofs.StepsStand.{IsWorking};
 ghost use Rattle.session_store.specs.State.{levels_of, session_of};
 ghost use Rattle.session_core.specs.Answers.{refusal_of};
@@ -36,7 +35,6 @@ impl<H: ResetHook> Session<H> {
         ensures performed { Performed 5 (elements_of command.now (session_of self.old shared.old.space.now)) (now self.old shared.old) (now self.new shared.new) (λ events. E.emits out.old events out.new) (refusal_of result) }
         ensures lines { OnOk result (IsBetweenLines (now self.new shared.new)) }
         ensures between { OnErr result (IsBetweenSteps (now self.new shared.new)) }
-        ensures few { length self.new.levels ≤ 1 }
     {
         self.perform_by_state(command, shared, out)
     }
@@ -53,7 +51,6 @@ impl<H: ResetHook> Session<H> {
         requires room { HasRoom 5 (now self.old shared.old) }
         ensures performed { Performed 5 (elements_of command.now (session_of self.old shared.old.space.now)) (now self.old shared.old) (now self.new shared.new) (λ events. E.emits out.old events out.new) (refusal_of result) }
         ensures between { OnErr result (IsBetweenSteps (now self.new shared.new)) }
-        ensures few { length self.new.levels ≤ 1 }
     {
         match self.store.deepest_level() {
             None => self.perform_idle(command, shared, out),
@@ -73,10 +70,9 @@ impl<H: ResetHook> Session<H> {
         requires block { IsInBlock self.old.levels }
         requires known { IsPerformed command.now }
         requires range { IsInRange command.now }
-        requires room { HasRoom 2 (now self.old shared.old) }
-        ensures performed { Performed 2 (elements_of command.now (session_of self.old shared.old.space.now)) (now self.old shared.old) (now self.new shared.new) (λ events. E.emits out.old events out.new) (refusal_of result) }
+        requires room { HasRoom 3 (now self.old shared.old) }
+        ensures performed { Performed 3 (elements_of command.now (session_of self.old shared.old.space.now)) (now self.old shared.old) (now self.new shared.new) (λ events. E.emits out.old events out.new) (refusal_of result) }
         ensures between { OnErr result (IsBetweenSteps (now self.new shared.new)) }
-        ensures few { length self.new.levels ≤ 1 }
     {
         match command {
             Command::Nothing => Ok(()),
@@ -92,30 +88,11 @@ impl<H: ResetHook> Session<H> {
                 self.roll_block_back(shared, out);
                 Ok(())
             }
+            Command::Savepoint(name) => self.begin(Some(*name), shared, out),
+            Command::Release(name) => self.release(name, shared, out),
+            Command::RollbackTo(name) => self.return_to(name, shared, out),
             _ => self.perform_work(command, shared, out),
         }
-    }
-
-    /// The block commits, and the last word.
-    fn commit_block<E: Emit>(&mut self, shared: &mut Shared<'_, H>, out: &mut E)
-        requires between { IsBetweenSteps (now self.old shared.old) }
-        requires one { length self.old.levels ≡ 1 }
-        ensures performed { Performed 0 (element.CommitTop ∷ element.Says what.Ok ∷ []) (now self.old shared.old) (now self.new shared.new) (λ events. E.emits out.old events out.new) None }
-        ensures few { length self.new.levels ≤ 1 }
-    {
-        self.commit_top(shared, out);
-        out.emit(What::Ok);
-    }
-
-    /// The block is rolled back, and the last word.
-    fn roll_block_back<E: Emit>(&mut self, shared: &mut Shared<'_, H>, out: &mut E)
-        requires between { IsBetweenSteps (now self.old shared.old) }
-        requires block { IsInBlock self.old.levels }
-        ensures performed { Performed 0 (element.Abort ∷ element.Cleanup ∷ element.Says what.Ok ∷ []) (now self.old shared.old) (now self.new shared.new) (λ events. E.emits out.old events out.new) None }
-        ensures few { length self.new.levels ≤ 1 }
-    {
-        self.roll_back(shared, out);
-        out.emit(What::Ok);
     }
 
     /// Performs a command where no transaction is open.
@@ -132,11 +109,10 @@ impl<H: ResetHook> Session<H> {
         requires room { HasRoom 5 (now self.old shared.old) }
         ensures performed { Performed 5 (elements_of command.now (session_of self.old shared.old.space.now)) (now self.old shared.old) (now self.new shared.new) (λ events. E.emits out.old events out.new) (refusal_of result) }
         ensures between { OnErr result (IsBetweenSteps (now self.new shared.new)) }
-        ensures few { length self.new.levels ≤ 1 }
     {
         match command {
             Command::Nothing => Ok(()),
-            Command::Begin => self.begin(shared, out),
+            Command::Begin => self.begin(None, shared, out),
             Command::Commit => {
                 say(What::NotInTransaction, out);
                 Ok(())
@@ -145,24 +121,11 @@ impl<H: ResetHook> Session<H> {
                 say(What::NotInTransaction, out);
                 Ok(())
             }
+            Command::Savepoint(_) | Command::Release(_) | Command::RollbackTo(_) => {
+                Err(Error::NoTransactionBlock)
+            }
             _ => self.perform_alone(command, shared, out),
         }
-    }
-
-    /// A transaction block begins, and the last word.
-    fn begin<E: Emit>(&mut self, shared: &mut Shared<'_, H>, out: &mut E) -> Result<(), Error>
-        requires between { IsBetweenSteps (now self.old shared.old) }
-        requires none { self.old.levels ≡ [] }
-        requires room { HasRoom 3 (now self.old shared.old) }
-        ensures performed { Performed 3 (start None false ++ (element.Says what.Ok ∷ [])) (now self.old shared.old) (now self.new shared.new) (λ events. E.emits out.old events out.new) (refusal_of result) }
-        ensures between { OnErr result (IsBetweenSteps (now self.new shared.new)) }
-        ensures few { length self.new.levels ≤ 1 }
-    {
-        if let Err(error) = self.start_level(None, false, shared, out) {
-            return Err(error);
-        }
-        out.emit(What::Ok);
-        Ok(())
     }
 
     /// Performs a command in a level that is begun for it alone.
@@ -179,7 +142,6 @@ impl<H: ResetHook> Session<H> {
         requires room { HasRoom 5 (now self.old shared.old) }
         ensures performed { Performed 5 (elements_of command.now (session_of self.old shared.old.space.now)) (now self.old shared.old) (now self.new shared.new) (λ events. E.emits out.old events out.new) (refusal_of result) }
         ensures between { OnErr result (IsBetweenSteps (now self.new shared.new)) }
-        ensures few { length self.new.levels ≤ 1 }
     {
         if let Err(error) = self.start_level(None, true, shared, out) {
             return Err(error);
@@ -187,8 +149,18 @@ impl<H: ResetHook> Session<H> {
         if let Err(error) = self.work(command, shared, out) {
             return Err(error);
         }
-        self.commit_block(shared, out);
+        self.commit_alone(shared, out);
         Ok(())
+    }
+
+    /// The only level commits, and the last word.
+    fn commit_alone<E: Emit>(&mut self, shared: &mut Shared<'_, H>, out: &mut E)
+        requires between { IsBetweenSteps (now self.old shared.old) }
+        requires one { length self.old.levels ≡ 1 }
+        ensures performed { Performed 0 (element.CommitTop ∷ element.Says what.Ok ∷ []) (now self.old shared.old) (now self.new shared.new) (λ events. E.emits out.old events out.new) None }
+    {
+        self.commit_top(shared, out);
+        out.emit(What::Ok);
     }
 
     /// Performs a command that works in a transaction block.
@@ -205,7 +177,6 @@ impl<H: ResetHook> Session<H> {
         requires room { HasRoom 2 (now self.old shared.old) }
         ensures performed { Performed 2 (elements_of command.now (session_of self.old shared.old.space.now)) (now self.old shared.old) (now self.new shared.new) (λ events. E.emits out.old events out.new) (refusal_of result) }
         ensures between { IsBetweenSteps (now self.new shared.new) }
-        ensures few { length self.new.levels ≤ length self.old.levels }
     {
         if let Err(error) = self.work(command, shared, out) {
             return Err(error);
@@ -214,7 +185,7 @@ impl<H: ResetHook> Session<H> {
         Ok(())
     }
 
-    /// Performs a command in an aborted transaction: only its end is taken.
+    /// Performs a command in an aborted transaction: only its end is taken, and the way back to a savepoint.
     fn perform_aborted<E: Emit>(
         &mut self,
         command: &Command,
@@ -224,33 +195,23 @@ impl<H: ResetHook> Session<H> {
         requires between { IsBetweenSteps (now self.old shared.old) }
         requires block { IsAbortedBlock self.old.levels }
         requires known { IsPerformed command.now }
-        ensures performed { Performed 0 (elements_of command.now (session_of self.old shared.old.space.now)) (now self.old shared.old) (now self.new shared.new) (λ events. E.emits out.old events out.new) (refusal_of result) }
+        requires room { HasRoom 3 (now self.old shared.old) }
+        ensures performed { Performed 3 (elements_of command.now (session_of self.old shared.old.space.now)) (now self.old shared.old) (now self.new shared.new) (λ events. E.emits out.old events out.new) (refusal_of result) }
         ensures between { OnErr result (IsBetweenSteps (now self.new shared.new)) }
-        ensures few { length self.new.levels ≤ 1 }
     {
         match command {
             Command::Nothing => Ok(()),
             Command::Commit => {
-                self.end_aborted(shared, out);
+                self.roll_block_back(shared, out);
                 Ok(())
             }
             Command::Rollback => {
-                self.end_aborted(shared, out);
+                self.roll_block_back(shared, out);
                 Ok(())
             }
+            Command::RollbackTo(name) => self.return_to(name, shared, out),
             _ => Err(Error::TransactionAborted),
         }
-    }
-
-    /// The end of an aborted transaction, and the last word.
-    fn end_aborted<E: Emit>(&mut self, shared: &mut Shared<'_, H>, out: &mut E)
-        requires between { IsBetweenSteps (now self.old shared.old) }
-        requires block { IsAbortedBlock self.old.levels }
-        ensures performed { Performed 0 (element.Cleanup ∷ element.Says what.Ok ∷ []) (now self.old shared.old) (now self.new shared.new) (λ events. E.emits out.old events out.new) None }
-        ensures few { length self.new.levels ≤ 1 }
-    {
-        self.clean_up(shared, out);
-        out.emit(What::Ok);
     }
 }
 

@@ -10,7 +10,7 @@ ghost use Rattle.context_tree.specs.State.{Moves, SameRegions, no_contexts};
 ghost use Rattle.session_rules.specs.State.{opening};
 ghost use Rattle.session_rules.specs.Parts.{contexts_become};
 ghost use Rattle.session_store.specs.State.{contexts_in, session_of};
-ghost use Rattle.session_store.specs.Calls.{Acted, ContextsAlone, IsSilent, Keeps, StandsIn};
+ghost use Rattle.session_store.specs.Calls.{Acted, ContextsAlone, IsSilent, Keeps, StandsIn, StaysBeside};
 ghost use Rattle.session_core.specs.declared.session.StartError.TheVariants as start_error;
 
 use addr_space::{Addr, Space};
@@ -51,14 +51,22 @@ impl<H: ResetHook> Model for Session<H> {
 }
 
 impl<H: ResetHook> Session<H> {
-    /// A session as it opens, in no transaction. The blocks of its contexts count for this account of the space.
+    /// A session as it opens, in no transaction. The blocks of its contexts count for this account of the space, and this many
+    /// of its files can have a descriptor.
     ///
     /// `NoSpace` comes where less than 65,536 bytes are left of the account; `Memory` may come in its place. A refused call leaves
     /// the space's regions as they were.
-    pub fn start(alloc: Global, account: u8, space: &mut Space) -> Result<Session<H>, StartError>
+    pub fn start(
+        alloc: Global,
+        account: u8,
+        descriptors: u8,
+        space: &mut Space,
+    ) -> Result<Session<H>, StartError>
         requires account { account < accounts space.old }
+        requires descriptors { 0 < descriptors }
         ensures session { IfOk result (λ session. session_of session space.new ≡ opening) }
         ensures account { IfOk result (λ session. session.tree.account ≡ account) }
+        ensures descriptors { IfOk result (λ session. session.owners.descriptors ≡ descriptors) }
         ensures levels { IfOk result (λ session. session.levels ≡ []) }
         ensures moves { IfOk result (λ session. Moves (no_contexts account) session.tree space.old space.new) }
         ensures keeps { held space.old account ≡ 0 → IfOk result (λ session. Keeps session space.new) }
@@ -68,18 +76,27 @@ impl<H: ResetHook> Session<H> {
         ensures refused { IfErr result (λ e. (e ≡ start_error.Memory) ⊎ (space.old.limit < held space.old account + 65536)) }
         ensures err_space { OnErr result (SameRegions space.old space.new) }
     {
-        match Store::open(alloc, account, space) {
+        match Store::open(alloc, account, descriptors, space) {
             Ok(store) => Ok(Session { store }),
             Err(TreeError::Memory) => Err(StartError::Memory),
             Err(_) => Err(StartError::NoSpace),
         }
     }
 
-    /// How many levels the transaction has; 0 where none is open.
+    /// How many levels the transaction has; 0 where none is open: `GetCurrentTransactionNestLevel`.
     pub fn depth(&self) -> u32
-        ensures { result ≡ length self.now.levels }
+        ensures depth { result ≡ length self.now.levels }
+        ensures at_most { result ≤ 1000 }
     {
         self.store.depth()
+    }
+
+    /// The law by which a caller keeps this session while another one, of another account, works in the same space. A caller names it
+    /// and cites it.
+    pub fn beside(&self)
+        ensures { StaysBeside self.now }
+    {
+        self.store.beside();
     }
 
     /// Where a live chunk is. The space has the chunk's known bytes there, and bytes that are written over them in the space

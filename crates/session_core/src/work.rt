@@ -57,6 +57,9 @@ impl<H: ResetHook> Session<H> {
             Command::Unpin(buffer) => self.unpin(*buffer, shared, out),
             Command::Reference { class, key } => self.reference(*class, *key, shared, out),
             Command::Unreference { class, key } => self.unreference(*class, *key, shared, out),
+            Command::Open(file) => self.open_file(*file, shared, out),
+            Command::Touch(file) => self.touch(*file, shared, out),
+            Command::Close(file) => self.close_file(*file, shared, out),
             Command::Alloc { .. }
             | Command::AllocZeroed { .. }
             | Command::Realloc { .. }

@@ -2,5 +2,7 @@ use Rattle.std.proofs.Common.{refl}
 use Rattle.session_core.proofs.ByState.{performed_ok}
 use Rattle.session_core.proofs.session.Session.commit_block.Goals as goal
 
-pub returns-clause-performed : goal.returns-clause-performed
-returns-clause-performed g c = performed_ok 0 _ _ _ _ _ _ c.commit_top.ensures.performed c.emit.ensures.emitted (λ us vs first second. g.met.E.Emit.emits_more _ _ _ _ _ _ first second refl)
+pub returns : goal.returns
+returns g c = record {
+  performed = performed_ok 0 _ _ _ _ _ _ c.commit_all.ensures.performed c.emit.ensures.emitted (λ us vs first second. g.met.E.Emit.emits_more _ _ _ _ _ _ first second refl);
+}

@@ -1,5 +1,5 @@
 use Rattle.std.proofs.Common.{◌≡◌, false, refl, sym, subst}
-use Rattle.owner_core.specs.Owners.{has_begun, owners_of}
+use Rattle.session_owners.specs.ResourceState.{has_begun, owners_of}
 use Rattle.session_store.specs.State.{StoreState}
 use Rattle.session_core.specs.Begun.{IsLevelOwner}
 use Rattle.session_core.specs.Performed.{now}
@@ -31,5 +31,5 @@ returns g c = record {
       seen c.self.inside.store c.args.self.now c.self.view_is 0 _ c.args.shared.now _ _ _
       (given_back c.args.kind c.args.key _ _ _ owner (subst (λ (a : StoreState). IsLevelOwner a owner) (sym c.self.view_is) c.owner_of_level-owner.ensures.owner) keeps refl refl
       _ (found_item _ c.give_back.result _ c.in_default.is (c.give_back.ensures.item unbegun))
-      c.in_default.ensures.alone.tree c.give_back.ensures.next_owner c.give_back.ensures.next_serial (c.in_default.ensures.alone.keeps space keeps) (c.in_default.ensures.acted space c.args.shared.now.shelf.now));
+      c.in_default.ensures.alone.tree c.give_back.ensures.next_owner c.give_back.ensures.next_serial c.give_back.ensures.descriptors (c.in_default.ensures.alone.keeps space keeps) (c.in_default.ensures.acted space c.args.shared.now.shelf.now));
 }

@@ -1,5 +1,5 @@
 use Rattle.std.proofs.Common.{subst}
-use Rattle.owner_core.specs.Owners as owners
+use Rattle.session_owners.specs.ResourceState as owners
 use Rattle.session_store.specs.State.{StoreState}
 use Rattle.session_core.proofs.Seen.{stands_of}
 use Rattle.session_core.proofs.Pinning.{owner_known}

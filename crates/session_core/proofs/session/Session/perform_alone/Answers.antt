@@ -1,7 +1,5 @@
-use Rattle.std.proofs.Common.{None, true, refl}
-use Rattle.session_rules.specs.State.{opening}
-use Rattle.session_core.proofs.Depth.{left_by_start, left_by_work}
-use Rattle.session_core.proofs.ByState.{alone_done, alone_refused, alone_unstarted, error_told, few_alone, few_begun, no_levels, none_told}
+use Rattle.std.proofs.Common.{refl}
+use Rattle.session_core.proofs.ByState.{alone_done, alone_refused, alone_unstarted, error_told, no_levels, none_told}
 use Rattle.session_core.proofs.session.Session.perform_alone.Goals as goal
 
 pub returns-in-Err-clause-performed : goal.returns-in-Err-clause-performed
@@ -17,13 +15,5 @@ returns-in-Err-work-clause-performed g c =
 pub returns-clause-performed : goal.returns-clause-performed
 returns-clause-performed g c =
     alone_done c.args.command.now _ c.requires.work (no_levels _ c.requires.none) _ _ _ _ _ _ _ _ (none_told 3 _ _ _ _ c.start_level.result _ c.in_default.is c.start_level.ensures.performed)
-    (λ session. none_told 2 _ _ _ _ c.work.result _ c.in_default-work.is (c.work.ensures.performed session)) c.commit_block.ensures.performed
+    (λ session. none_told 2 _ _ _ _ c.work.result _ c.in_default-work.is (c.work.ensures.performed session)) c.commit_alone.ensures.performed
     (λ us vs first second. g.met.E.Emit.emits_more _ _ _ _ _ _ first second refl) (λ us vs first second. g.met.E.Emit.emits_more _ _ _ _ _ _ first second refl)
-
-pub returns-in-Err-clause-few : goal.returns-in-Err-clause-few
-returns-in-Err-clause-few g c = few_begun _ _ c.requires.none (left_by_start None true _ _ _ _ c.start_level.ensures.performed)
-
-pub returns-in-Err-work-clause-few : goal.returns-in-Err-work-clause-few
-returns-in-Err-work-clause-few g c =
-    few_alone _ _ _ c.requires.none (left_by_start None true _ _ _ _ c.start_level.ensures.performed)
-    (left_by_work c.args.command.now opening _ _ _ _ c.requires.work (c.work.ensures.performed opening))

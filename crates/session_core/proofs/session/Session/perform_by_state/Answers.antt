@@ -1,4 +1,4 @@
-use Rattle.std.proofs.Common.{ap, ◌∙◌}
+use Rattle.std.proofs.Common.{◌≤◌, length, ap, ◌∙◌, subst}
 use Rattle.session_rules.specs.State.{first_of}
 use Rattle.session_store.specs.State.{StoreState, levels_of}
 use Rattle.session_core.proofs.BetweenLines.{aborted_block, block_of, steps_of_lines}
@@ -12,11 +12,11 @@ perform_aborted-requires-clause-between g c = steps_of_lines _ c.requires.lines
 
 pub perform_aborted-requires-clause-block : goal.perform_aborted-requires-clause-block
 perform_aborted-requires-clause-block g c =
-    aborted_block c.args.self.now.levels c.in-Some.level c.requires.lines.few (c.in-Some.ensures.level ∙ ap (λ (a : StoreState). first_of (levels_of a.levels)) c.self.view_is) c.if-level.true
+    aborted_block c.args.self.now.levels c.in-Some.level (c.in-Some.ensures.level ∙ ap (λ (a : StoreState). first_of (levels_of a.levels)) c.self.view_is) c.if-level.true
 
 pub perform_in_block-requires-clause-between : goal.perform_in_block-requires-clause-between
 perform_in_block-requires-clause-between g c = steps_of_lines _ c.requires.lines
 
 pub perform_in_block-requires-clause-block : goal.perform_in_block-requires-clause-block
 perform_in_block-requires-clause-block g c =
-    block_of _ c.in-Some.level c.requires.lines (c.in-Some.ensures.level ∙ ap (λ (a : StoreState). first_of (levels_of a.levels)) c.self.view_is) c.if-level.false
+    block_of _ c.in-Some.level c.requires.lines (subst (λ (v : StoreState). length v.levels ≤ 1000) c.self.view_is c.in-Some.ensures.at_most) (c.in-Some.ensures.level ∙ ap (λ (a : StoreState). first_of (levels_of a.levels)) c.self.view_is) c.if-level.false

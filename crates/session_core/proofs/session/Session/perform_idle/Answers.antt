@@ -1,7 +1,8 @@
 use Rattle.std.proofs.Common.{arith}
 use Rattle.pgs_command.specs.declared.commands.Command.TheVariants as command
 use Rattle.pgs_step.specs.declared.events.What.TheVariants as what
-use Rattle.session_core.proofs.ByState.{as_elements, begin_idle, commit_idle, in_none, no_levels, nothing_idle, of_command, performed_warned, rollback_idle}
+use Rattle.session_core.proofs.ByState.{as_elements, begin_idle, commit_idle, in_none, no_levels, nothing_idle, of_command, performed_warned, refused_idle, rollback_idle, savepoints_idle}
+use Rattle.session_core.proofs.LevelsBegin.{room_less}
 use Rattle.session_core.proofs.Performing.{performed_more, performed_none}
 use Rattle.session_core.proofs.session.Session.perform_idle.Goals as goal
 
@@ -32,3 +33,21 @@ returns-in-Rollback-clause-performed g c =
     (of_command c.args.command.now command.Rollback c.args.self.now c.args.shared.now.space.now _ c.in-Rollback.is
     (in_none command.Rollback _ rollback_idle c.args.self.now c.args.shared.now.space.now (no_levels _ c.requires.none)))
     (performed_more 0 5 _ _ _ _ _ (omega arith) (performed_warned what.NotInTransaction _ _ c.requires.between.keeps c.say-in-Rollback.ensures))
+
+pub begin-requires-clause-room : goal.begin-requires-clause-room
+begin-requires-clause-room g c = room_less 3 5 _ (omega arith) c.requires.room
+
+pub returns-in-Savepoint-clause-performed : goal.returns-in-Savepoint-clause-performed
+returns-in-Savepoint-clause-performed g c =
+    as_elements 5 _ _ _ _ _ _ (savepoints_idle c.args.command.now c.args.self.now c.args.shared.now.space.now c.in-Savepoint.is (no_levels _ c.requires.none))
+    (performed_more 0 5 _ _ _ _ _ (omega arith) (refused_idle _ _ c.requires.between.keeps (g.met.E.Emit.emits_none c.args.out.now)))
+
+pub returns-in-Savepoint-2-clause-performed : goal.returns-in-Savepoint-2-clause-performed
+returns-in-Savepoint-2-clause-performed g c =
+    as_elements 5 _ _ _ _ _ _ (savepoints_idle c.args.command.now c.args.self.now c.args.shared.now.space.now c.in-Savepoint.is (no_levels _ c.requires.none))
+    (performed_more 0 5 _ _ _ _ _ (omega arith) (refused_idle _ _ c.requires.between.keeps (g.met.E.Emit.emits_none c.args.out.now)))
+
+pub returns-in-Savepoint-3-clause-performed : goal.returns-in-Savepoint-3-clause-performed
+returns-in-Savepoint-3-clause-performed g c =
+    as_elements 5 _ _ _ _ _ _ (savepoints_idle c.args.command.now c.args.self.now c.args.shared.now.space.now c.in-Savepoint.is (no_levels _ c.requires.none))
+    (performed_more 0 5 _ _ _ _ _ (omega arith) (refused_idle _ _ c.requires.between.keeps (g.met.E.Emit.emits_none c.args.out.now)))

@@ -1,7 +1,5 @@
 use Rattle.std.proofs.Common.{refl}
 use Rattle.session_core.proofs.ByState.{error_told, none_told, work_stopped, work_then_ok}
-use Rattle.session_rules.specs.State.{opening}
-use Rattle.session_core.proofs.Depth.{left_by_work}
 use Rattle.session_core.proofs.session.Session.perform_work.Goals as goal
 
 pub returns : goal.returns
@@ -9,12 +7,10 @@ returns g c = record {
   performed = work_then_ok c.args.command.now _ _ c.requires.work c.requires.active _ _ _ (λ session. none_told 2 _ _ _ _ c.work.result _ c.in_default.is (c.work.ensures.performed session)) c.work.ensures.between.keeps
       c.emit.ensures.emitted (λ us vs first second. g.met.E.Emit.emits_more _ _ _ _ _ _ first second refl);
   between = c.work.ensures.between;
-  few = left_by_work c.args.command.now opening _ _ _ _ c.requires.work (c.work.ensures.performed opening);
 }
 
 pub returns-in-Err : goal.returns-in-Err
 returns-in-Err g c = record {
   performed = work_stopped c.args.command.now _ _ c.requires.work c.requires.active _ _ (λ session. error_told 2 _ _ _ _ c.work.result _ c.in-Err.is (c.work.ensures.performed session));
   between = c.work.ensures.between;
-  few = left_by_work c.args.command.now opening _ _ _ _ c.requires.work (c.work.ensures.performed opening);
 }

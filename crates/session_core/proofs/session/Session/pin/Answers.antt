@@ -1,6 +1,6 @@
 use Rattle.std.proofs.Common.{ap, ◌∙◌}
 use Rattle.forest.specs.Forest.{has}
-use Rattle.owner_core.specs.Owners.{has_begun}
+use Rattle.session_owners.specs.ResourceState.{has_begun}
 use Rattle.session_core.specs.Performed.{now}
 use Rattle.session_core.proofs.Pinning.{no_buffer, no_room, owner_there, owner_unbegun, owners_same, pinned}
 use Rattle.session_core.proofs.session.Session.pin.Goals as goal

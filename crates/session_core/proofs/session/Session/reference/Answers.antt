@@ -1,7 +1,7 @@
 use Rattle.std.proofs.Common.{ap, ◌∙◌}
 use Rattle.forest.specs.Forest.{has}
 use Rattle.pgs_command.specs.Kinds.{class_kind}
-use Rattle.owner_core.specs.Owners.{has_begun}
+use Rattle.session_owners.specs.ResourceState.{has_begun}
 use Rattle.session_core.specs.Performed.{now}
 use Rattle.session_core.proofs.HeldItems.{no_room_for, taken_in_room}
 use Rattle.session_core.proofs.Pinning.{owner_there, owner_unbegun, owners_same}

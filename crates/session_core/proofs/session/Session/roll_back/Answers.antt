@@ -1,6 +1,5 @@
-use Rattle.std.proofs.Common.{◌≡◌, false, length, refl, subst, sym}
-use Rattle.session_rules.specs.State.{is_aborted}
-use Rattle.session_store.specs.State.{StoreState, levels_of}
+use Rattle.std.proofs.Common.{◌<◌, length, refl, subst, sym}
+use Rattle.session_store.specs.State.{StoreState}
 use Rattle.session_core.specs.Performed.{now}
 use Rattle.session_core.proofs.Between.{between_of, roll_between}
 use Rattle.session_core.proofs.OnLevels.{roll_performed}
@@ -16,7 +15,6 @@ returns-clause-performed g c =
     (roll_performed _ _ _ c.roll_back.ensures.keeps c.roll_back.ensures.moves refl c.roll_back.ensures.asked c.roll_back.ensures.acted)
 
 pub returns-clause-between : goal.returns-clause-between
-returns-clause-between g c one active =
+returns-clause-between g c =
     roll_between (now c.self.inside.store c.args.shared.now) _ _ (between_of c.self.inside.store c.args.self.now c.self.view_is (λ store. now store c.args.shared.now) c.requires.between)
-    c.roll_back.ensures.keeps (subst (λ (v : StoreState). length v.levels ≡ 1) (sym c.self.view_is) one)
-    (subst (λ (v : StoreState). is_aborted (levels_of v.levels) ≡ false) (sym c.self.view_is) active) c.roll_back.ensures.acted
+    c.roll_back.ensures.keeps (subst (λ (v : StoreState). 0 < length v.levels) (sym c.self.view_is) c.requires.level) c.roll_back.ensures.acted

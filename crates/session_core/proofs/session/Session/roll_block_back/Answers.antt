@@ -1,9 +1,8 @@
 use Rattle.std.proofs.Common.{refl}
-use Rattle.session_core.proofs.ByState.{none_left, performed_ok}
+use Rattle.session_core.proofs.ByState.{performed_ok}
 use Rattle.session_core.proofs.session.Session.roll_block_back.Goals as goal
 
 pub returns : goal.returns
 returns g c = record {
-  performed = performed_ok 0 _ _ _ _ _ _ c.roll_back.ensures.performed c.emit.ensures.emitted (λ us vs first second. g.met.E.Emit.emits_more _ _ _ _ _ _ first second refl);
-  few = none_left _ _ c.requires.block.level c.roll_back.ensures.levels.0 c.requires.block.are c.roll_back.ensures.levels.1;
+  performed = performed_ok 0 _ _ _ _ _ _ c.roll_back_to.ensures.performed c.emit.ensures.emitted (λ us vs first second. g.met.E.Emit.emits_more _ _ _ _ _ _ first second refl);
 }

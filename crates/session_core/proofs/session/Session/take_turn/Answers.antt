@@ -3,8 +3,8 @@ use Rattle.session_core.proofs.BetweenLines.{steps_of_lines}
 use Rattle.session_core.proofs.Turning.{of_line, of_wanted, turned_bad, turned_err, turned_ok}
 use Rattle.session_core.proofs.session.Session.take_turn.Goals as goal
 
-pub recover-requires-clause-between : goal.recover-requires-clause-between
-recover-requires-clause-between g c = steps_of_lines _ c.requires.lines
+pub recover-requires : goal.recover-requires
+recover-requires g c = record { between = steps_of_lines _ c.requires.lines }
 
 pub returns-in_default-clause-turn : goal.returns-in_default-clause-turn
 returns-in_default-clause-turn g c = of_line _ None _ _ _ _ c.in_default.is (turned_bad _ _ _ c.requires.lines.keeps c.recover.ensures.did)

@@ -38,3 +38,12 @@ reference-requires-clause-active g c = in_active _ c.requires.active
 
 pub unreference-requires-clause-active : goal.unreference-requires-clause-active
 unreference-requires-clause-active g c = in_active _ c.requires.active
+
+pub returns-in-Open : goal.returns-in-Open
+returns-in-Open g c = record { performed = λ session. as_command 2 2 _ _ session _ _ _ _ (omega arith) c.in-Open.is (c.open_file.ensures.performed session) }
+
+pub returns-in-Touch : goal.returns-in-Touch
+returns-in-Touch g c = record { performed = λ session. as_command 1 2 _ _ session _ _ _ _ (omega arith) c.in-Touch.is (c.touch.ensures.performed session) }
+
+pub returns-in-Close : goal.returns-in-Close
+returns-in-Close g c = record { performed = λ session. as_command 0 2 _ _ session _ _ _ _ (omega arith) c.in-Close.is (c.close_file.ensures.performed session) }

@@ -1,0 +1,11 @@
+use Rattle.std.proofs.Common.{refl}
+use Rattle.session_core.proofs.LevelsBegin.{room_behind}
+use Rattle.session_core.proofs.Performing.{performed_both}
+use Rattle.session_core.proofs.session.Session.begin_again.Goals as goal
+
+pub start_level-requires-clause-room : goal.start_level-requires-clause-room
+start_level-requires-clause-room g c = room_behind 0 3 _ _ c.requires.room c.roll_back_to.ensures.performed.grows
+
+pub returns-clause-performed : goal.returns-clause-performed
+returns-clause-performed g c =
+    performed_both 0 3 _ _ _ _ _ _ _ _ _ c.roll_back_to.ensures.performed c.start_level.ensures.performed (λ us vs first second. g.met.E.Emit.emits_more _ _ _ _ _ _ first second refl)

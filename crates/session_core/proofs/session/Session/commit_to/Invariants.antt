@@ -1,0 +1,11 @@
+use Rattle.std.proofs.Common.{length}
+use Rattle.session_core.specs.Performed.{now}
+use Rattle.session_core.proofs.Rolling.{IsCommitting}
+use Rattle.session_core.proofs.session.Session.commit_to.Given as goal
+
+-- what is done and what remains is what is to be done in all
+abbrev pub invariant-loop-self : goal.invariant-loop-self
+invariant-loop-self g l = IsCommitting l.level (now l.initial.self l.initial.shared) (now l.self l.shared) (λ events. g.E.Emit.emits l.initial.out events l.out)
+
+abbrev pub decreases-loop-self : goal.decreases-loop-self
+decreases-loop-self g l = length l.self.levels
