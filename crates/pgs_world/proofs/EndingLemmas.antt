@@ -8,17 +8,15 @@ use Rattle.std.specs.Io.KnownBytes.{append_known, IsAtEnd}
 use Rattle.pgs_io.specs.Faults.{HasRisen}
 use Rattle.pgs_io.specs.Lines.{lines_of, ended_lines, onto_first, onto_ended, newline}
 use Rattle.pgs_step.specs.declared.events.Event.{Event}
-use Rattle.pgs_step.specs.declared.events.What.{What}
 use Rattle.reset_callbacks.specs.ShelfState.{ShelfState}
-use Rattle.session_rules.specs.Ends.{exited}
-use Rattle.session_rules.specs.Transcript.{Course, ended, errors_in, exits, of_session, transcript_by}
-use Rattle.session_rules.specs.World.{Scene, World, around}
+use Rattle.session_rules.specs.Transcript.{Course, ended, errors_in, transcript_by}
+use Rattle.session_rules.specs.World.{World}
 use Rattle.session_core.specs.Answers.{Fits}
-use Rattle.session_core.specs.Performed.{Ends, Now, scene_in}
 use Rattle.pgs_world.specs.declared.performing.End.{End}
 use Rattle.pgs_world.specs.declared.performing.End.TheVariants as end
 use Rattle.pgs_world.specs.Transcript.{Setting, course_of, shelf_after, transcript, text_of_transcript, EndsAt}
-use Rattle.pgs_world.specs.World.{world_in}
+use Rattle.pgs_world.specs.World.{HaveDescriptors, Run, world_in}
+use Rattle.pgs_world.specs.Turns.{AllExit}
 use Rattle.pgs_world.specs.Printing.{Gathering, Shows, Moves, GoesOn, FailsWithin}
 use Rattle.pgs_world.specs.Outcome.{most_bytes, HasGiven, AreWhole, refused_call, IsWhole, IsWanted, IsCutOff, IsTooLong, IsUnwritten}
 use Rattle.pgs_world.specs.Ending.{outcome_of, status_of}
@@ -336,36 +334,25 @@ module _ (setting : Setting) (n calls errors : ℕ) (left left' written written'
   sink_grew e true f h = refl
   sink_grew e false f h = let fit = a_fit calls e in absurd (omega (arith, h, (f.printed fit.0 fit.1).no_fault refl))
 
--- the surroundings of the session at its end
-abbrev at_exit : Now → Scene
-at_exit n = scene_in n (around 1 (world_in n))
-
--- the session's end behind a course
-events_of_end : (course : Course) (n : Now) → course.world ≡ world_in n → (ended course).events ≡ course.events ++ of_session 1 (exited (at_exit n)).events
-events_of_end course n there =
-    ap (λ (x : World). (exits 1 x.sessions (record { world = x; events = course.events; performed = course.performed; wanted = course.wanted })).events) there
-
-shelf_of_end : (course : Course) (n : Now) → course.world ≡ world_in n → (ended course).world.shelf ≡ (exited (at_exit n)).scene.around.shelf
-shelf_of_end course n there =
-    ap (λ (x : World). (exits 1 x.sessions (record { world = x; events = course.events; performed = course.performed; wanted = course.wanted })).world.shelf) there
-
--- the transcript, from the events of the lines and those of the session's end
-pub transcript_events : (setting : Setting) (w : Option ℕ) (lines : List (List ℕ)) (a b : Now) (P : List What → Type 0) (emitted : List Event → Type 0) → (course_of setting w lines).world ≡ world_in a
-    → Ends exited a b P → ((ys : List What) → P ys → emitted ((course_of setting w lines).events ++ of_session 1 ys)) → emitted (transcript setting w lines)
+-- the transcript, from the events of the lines and those of the ends of all sessions
+pub transcript_events : (descriptors : ℕ) (setting : Setting) (w : Option ℕ) (lines : List (List ℕ)) (a b : Run) (shown emitted : List Event → Type 0) → HaveDescriptors descriptors a → (course_of setting w lines).world ≡ world_in descriptors a
+    → AllExit a b shown → ((ys : List Event) → shown ys → emitted ((course_of setting w lines).events ++ ys)) → emitted (transcript setting w lines)
 unfolding transcript transcript_by course_of
-transcript_events setting w lines a b P emitted there ends joins =
-    subst emitted (sym (events_of_end (course_of setting w lines) a there)) (joins _ (ends.acted.says (around 1 (world_in a))))
+transcript_events descriptors setting w lines a b shown emitted has there ends joins =
+    let left = ends.leads descriptors has (course_of setting w lines) there in
+    subst emitted (sym left.1) (joins left.0 left.2)
 
--- the hooks behind the session's end
-pub hooks_of_end : (setting : Setting) (w : Option ℕ) (lines : List (List ℕ)) (a b : Now) (P : List What → Type 0) → (course_of setting w lines).world ≡ world_in a
-    → Ends exited a b P → b.shelf ≡ shelf_after setting w lines
+-- the hooks behind the ends of all sessions
+pub hooks_of_end : (descriptors : ℕ) (setting : Setting) (w : Option ℕ) (lines : List (List ℕ)) (a b : Run) (shown : List Event → Type 0) → HaveDescriptors descriptors a → (course_of setting w lines).world ≡ world_in descriptors a
+    → AllExit a b shown → b.shelf ≡ shelf_after setting w lines
 unfolding shelf_after
-hooks_of_end setting w lines a b P there ends =
-    sym (shelf_of_end (course_of setting w lines) a there ∙ ap (λ (s : Scene). s.around.shelf) (ends.acted.leads (around 1 (world_in a))))
+hooks_of_end descriptors setting w lines a b shown has there ends =
+    let left = ends.leads descriptors has (course_of setting w lines) there in
+    sym (ap (λ (x : World). x.shelf) left.3)
 
-pub ends_at : (setting : Setting) (calls n : ℕ) (wanted : Bool) (lines : List (List ℕ)) (there : Now) (emitted : List Event → Type 0) → wanted ≡ true → CourseAt (course_of setting (Some calls) lines) there emitted (length lines) wanted → n ≡ length lines
-    → EndsAt setting calls lines n
-ends_at setting calls n wanted lines there emitted h c count = record { wanted = c.wanted_is ∙ h; line_is = c.performed_is ∙ sym count }
+pub ends_at : (descriptors : ℕ) (setting : Setting) (calls n : ℕ) (wanted : Bool) (lines : List (List ℕ)) (there : Run) (emitted : List Event → Type 0) → wanted ≡ true
+    → CourseAt (course_of setting (Some calls) lines) descriptors there emitted (length lines) wanted → n ≡ length lines → EndsAt setting calls lines n
+ends_at descriptors setting calls n wanted lines there emitted h c count = record { wanted = c.wanted_is ∙ h; line_is = c.performed_is ∙ sym count }
 
 pub fits_wanted : (wanted : Bool) (calls : ℕ) → wanted ≡ true → Fits wanted calls (Some calls)
 fits_wanted true calls h = refl

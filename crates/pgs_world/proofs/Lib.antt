@@ -2,9 +2,13 @@ pub mod CountLemmas
 pub mod CourseLemmas
 pub mod EndingLemmas
 pub mod ErrorLemmas
+pub mod ExitLemmas
 pub mod HalfLines
+pub mod HookLemmas
 pub mod LoopLemmas
 pub mod ScriptLemmas
+pub mod SessionLemmas
 pub mod StartLemmas
 pub mod TakenLemmas
+pub mod TurnLemmas
 pub mod WorkedRows

@@ -1,29 +1,25 @@
 -- Which lines are performed.
-use Rattle.std.proofs.Common.{◌≡◌, ℕ, Bool, true, false, List, [], ◌∷◌, take, Option, None, refl, sym, ◌∙◌, ap}
-use Rattle.std.specs.Prelude.{◌==◌, codes}
-use Rattle.std.specs.List.{starts_with}
-use Rattle.pgs_io.specs.Lines.{IsKept}
+use Rattle.std.proofs.Common.{◌≡◌, ℕ, true, false, List, Some, None, Ok, Err, refl}
 use Rattle.pgs_command.specs.declared.commands.Command.{Command}
 use Rattle.pgs_command.specs.declared.commands.Command.TheVariants as command
+use Rattle.pgs_command.specs.declared.lines.BadLine.{BadLine}
+use Rattle.pgs_command.specs.declared.lines.Line.{Line}
 use Rattle.pgs_command.specs.Lines.{read_line}
 use Rattle.session_core.specs.Lines.{IsPerformed}
-use Rattle.pgs_world.specs.Script.{built, command_of, is_built}
+use Rattle.pgs_world.specs.Script.{is_built, reads, said_in}
 
--- the first 512 bytes of a line begin with `@` where the line does
-sign_of_front : (line : List ℕ) → starts_with ◌==◌ (take 512 line) (codes "@") ≡ starts_with ◌==◌ line (codes "@")
-sign_of_front [] = refl
-sign_of_front (b ∷ bs) = refl
+-- a line, by what it says and whether that is performed
+pub good_is_read : (bytes : List ℕ) (line : Line) → read_line bytes ≡ Ok line → is_built line.command ≡ true → record { session = line.session; command = Some line.command } ≡ said_in (reads bytes)
+unfolding reads
+good_is_read bytes line is performed = rw (is, performed) refl
 
-sign_kept : (line kept : List ℕ) (long sign : Bool) → IsKept line kept long → sign ≡ starts_with ◌==◌ kept (codes "@") → starts_with ◌==◌ line (codes "@") ≡ sign
-sign_kept line kept long sign k e = sym (e ∙ ap (λ z. starts_with ◌==◌ z (codes "@")) k.front ∙ sign_of_front line)
+pub other_is_bad : (bytes : List ℕ) (line : Line) → read_line bytes ≡ Ok line → is_built line.command ≡ false → record { session = line.session; command = None } ≡ said_in (reads bytes)
+unfolding reads
+other_is_bad bytes line is performed = rw (is, performed) refl
 
-pub signed_is_bad : (line kept : List ℕ) (long sign : Bool) → IsKept line kept long → sign ≡ starts_with ◌==◌ kept (codes "@") → sign ≡ true → None ≡ command_of line
-unfolding command_of
-signed_is_bad line kept long sign k e h = let s = sign_kept line kept long sign k e ∙ h in rw s refl
-
-pub unsigned_is_read : (line kept : List ℕ) (long sign : Bool) (command : Option Command) → IsKept line kept long → sign ≡ starts_with ◌==◌ kept (codes "@") → sign ≡ false → command ≡ built (read_line line) → command ≡ command_of line
-unfolding command_of
-unsigned_is_read line kept long sign command k e h c = let s = sign_kept line kept long sign k e ∙ h in rw s c
+pub bad_is_bad : (bytes : List ℕ) (bad : BadLine) → read_line bytes ≡ Err bad → record { session = bad.session; command = None } ≡ said_in (reads bytes)
+unfolding reads
+bad_is_bad bytes bad is = rw is refl
 
 -- a session performs each command that the program performs
 pub built_is_performed : (c : Command) → is_built c ≡ true → IsPerformed c
@@ -31,9 +27,9 @@ built_is_performed command.Nothing h = tt
 built_is_performed command.Begin h = tt
 built_is_performed command.Commit h = tt
 built_is_performed command.Rollback h = tt
-built_is_performed (command.Savepoint name) h = absurd (cc)
-built_is_performed (command.Release name) h = absurd (cc)
-built_is_performed (command.RollbackTo name) h = absurd (cc)
+built_is_performed (command.Savepoint name) h = tt
+built_is_performed (command.Release name) h = tt
+built_is_performed (command.RollbackTo name) h = tt
 built_is_performed command.Raise h = tt
 built_is_performed command.Report h = absurd (cc)
 built_is_performed command.Stat h = absurd (cc)
@@ -54,13 +50,13 @@ built_is_performed (command.Show chunk at length) h = tt
 built_is_performed (command.Pin buffer) h = tt
 built_is_performed (command.Unpin buffer) h = tt
 built_is_performed (command.Buffer buffer) h = absurd (cc)
-built_is_performed (command.Open file) h = absurd (cc)
-built_is_performed (command.Touch file) h = absurd (cc)
-built_is_performed (command.Close file) h = absurd (cc)
 built_is_performed (command.Lock object mode) h = absurd (cc)
 built_is_performed (command.Unlock object mode) h = absurd (cc)
 built_is_performed (command.Reference class key) h = tt
 built_is_performed (command.Unreference class key) h = tt
+built_is_performed (command.Open file) h = tt
+built_is_performed (command.Touch file) h = tt
+built_is_performed (command.Close file) h = tt
 built_is_performed (command.Acquire kind key) h = absurd (cc)
 built_is_performed (command.Drop kind key) h = absurd (cc)
 built_is_performed (command.Snapshot n) h = absurd (cc)

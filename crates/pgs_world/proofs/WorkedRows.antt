@@ -16,48 +16,57 @@ use Rattle.session_rules.specs.Commands.{elements_of}
 use Rattle.session_rules.specs.Does.{does, does_all}
 use Rattle.session_rules.specs.Ends.{recovered, exited}
 use Rattle.session_rules.specs.Transcript.{turn, course_by, transcript_by}
-use Rattle.pgs_world.specs.Script.{command_of}
-use Rattle.pgs_world.specs.Transcript.{Setting, options_for, transcript, text_of_transcript}
+use Rattle.pgs_world.specs.Script.{reads}
+use Rattle.pgs_world.specs.Transcript.{Setting, transcript, text_of_transcript}
 
--- a run with 16 MiB for its session and two hooks, of which this call fails; 0 is none
-abbrev setting : ℕ → Setting
-setting fail = record {
-  options = options_for 16777216 fail;
+-- a run of so many sessions with 16 MiB for each of them and two hooks, of which this call fails; 0 is none
+abbrev setting : ℕ → ℕ → Setting
+setting sessions fail = record {
+  options = record { sessions = sessions; space = 16777216; descriptors = 16; fail = fail };
   shelf = record { fresh = record { word = 1; runs = 0 } ∷ record { word = 2; runs = 0 } ∷ []; spent = []; out = 0 };
 }
 
 abbrev told : ℕ → List (List ℕ) → List ℕ
-told fail lines = text_of_transcript (transcript (setting fail) None lines)
+told fail lines = text_of_transcript (transcript (setting 1 fail) None lines)
+
+abbrev told_of_two : List (List ℕ) → List ℕ
+told_of_two lines = text_of_transcript (transcript (setting 2 0) None lines)
 
 pub committed : told 0 (codes "begin" ∷ codes "pin 7" ∷ codes "commit" ∷ [])
     ≡ codes "1 begin level 1\n1 create c6 TopTransactionContext in c1\n1 owner o1\n1 ok\n1 acquire buffer pin 7 #1 o1\n1 ok\n1 commit level 1\n1 warning resource was not closed: buffer pin 7 #1 o1\n1 release buffer pin 7 #1 o1\n1 owner o1 gone\n1 delete c6\n1 ok\n1 delete c5\n1 delete c4\n1 delete c3\n1 delete c2\n1 delete c1\n1 exit\n"
-unfolding text_of what_text kind_name error_text digits read_line table.command_of words_of number_between mode_of name_of kind_of is_reserved row_of command_of opening elements_of does does_all recovered exited turn course_by transcript_by transcript set.created set.stats set.take set.take_class set.take_own set.chunk_limit set.limit_class set.class_of set.class_up_to set.cut_off set.reused set.from_new set.block_size set.halved set.halved_by set.renewed set.cut_up set.cut_rest set.with_own up8 grown doubled
+unfolding text_of what_text kind_name error_text digits read_line table.command_of words_of number_between mode_of name_of kind_of is_reserved row_of reads opening elements_of does does_all recovered exited turn course_by transcript_by transcript set.created set.stats set.take set.take_class set.take_own set.chunk_limit set.limit_class set.class_of set.class_up_to set.cut_off set.reused set.from_new set.block_size set.halved set.halved_by set.renewed set.cut_up set.cut_rest set.with_own up8 grown doubled
 committed = refl
 
 pub rolled_back : told 0 (codes "begin" ∷ codes "pin 7" ∷ codes "# a comment" ∷ codes "rollback" ∷ [])
     ≡ codes "1 begin level 1\n1 create c6 TopTransactionContext in c1\n1 owner o1\n1 ok\n1 acquire buffer pin 7 #1 o1\n1 ok\n1 abort level 1\n1 release buffer pin 7 #1 o1\n1 cleanup level 1\n1 owner o1 gone\n1 delete c6\n1 ok\n1 delete c5\n1 delete c4\n1 delete c3\n1 delete c2\n1 delete c1\n1 exit\n"
-unfolding text_of what_text kind_name error_text digits read_line table.command_of words_of number_between mode_of name_of kind_of is_reserved row_of command_of opening elements_of does does_all recovered exited turn course_by transcript_by transcript set.created set.stats set.take set.take_class set.take_own set.chunk_limit set.limit_class set.class_of set.class_up_to set.cut_off set.reused set.from_new set.block_size set.halved set.halved_by set.renewed set.cut_up set.cut_rest set.with_own up8 grown doubled
+unfolding text_of what_text kind_name error_text digits read_line table.command_of words_of number_between mode_of name_of kind_of is_reserved row_of reads opening elements_of does does_all recovered exited turn course_by transcript_by transcript set.created set.stats set.take set.take_class set.take_own set.chunk_limit set.limit_class set.class_of set.class_up_to set.cut_off set.reused set.from_new set.block_size set.halved set.halved_by set.renewed set.cut_up set.cut_rest set.with_own up8 grown doubled
 rolled_back = refl
 
 pub no_such_buffer : told 0 (codes "begin" ∷ codes "pin 1024" ∷ codes "pin 1" ∷ [])
     ≡ codes "1 begin level 1\n1 create c6 TopTransactionContext in c1\n1 owner o1\n1 ok\n1 ERROR 22023 no such buffer\n1 abort level 1\n1 ERROR 25P02 transaction is aborted\n1 cleanup level 1\n1 owner o1 gone\n1 delete c6\n1 delete c5\n1 delete c4\n1 delete c3\n1 delete c2\n1 delete c1\n1 exit\n"
-unfolding text_of what_text kind_name error_text digits read_line table.command_of words_of number_between mode_of name_of kind_of is_reserved row_of command_of opening elements_of does does_all recovered exited turn course_by transcript_by transcript set.created set.stats set.take set.take_class set.take_own set.chunk_limit set.limit_class set.class_of set.class_up_to set.cut_off set.reused set.from_new set.block_size set.halved set.halved_by set.renewed set.cut_up set.cut_rest set.with_own up8 grown doubled
+unfolding text_of what_text kind_name error_text digits read_line table.command_of words_of number_between mode_of name_of kind_of is_reserved row_of reads opening elements_of does does_all recovered exited turn course_by transcript_by transcript set.created set.stats set.take set.take_class set.take_own set.chunk_limit set.limit_class set.class_of set.class_up_to set.cut_off set.reused set.from_new set.block_size set.halved set.halved_by set.renewed set.cut_up set.cut_rest set.with_own up8 grown doubled
 no_such_buffer = refl
 
--- lines that aren't performed yet, and a line that begins with `@`
+-- lines that aren't performed yet, and a line with a prefix
 pub bad_lines : told 0 (codes "begin" ∷ codes "lock 5 ShareLock" ∷ codes "report" ∷ codes "pin 1" ∷ codes "@1 rollback" ∷ codes "rollback" ∷ [])
-    ≡ codes "1 begin level 1\n1 create c6 TopTransactionContext in c1\n1 owner o1\n1 ok\n1 ERROR 42601 syntax error\n1 abort level 1\n1 ERROR 42601 syntax error\n1 ERROR 25P02 transaction is aborted\n1 ERROR 42601 syntax error\n1 cleanup level 1\n1 owner o1 gone\n1 delete c6\n1 ok\n1 delete c5\n1 delete c4\n1 delete c3\n1 delete c2\n1 delete c1\n1 exit\n"
-unfolding text_of what_text kind_name error_text digits read_line table.command_of words_of number_between mode_of name_of kind_of is_reserved row_of command_of opening elements_of does does_all recovered exited turn course_by transcript_by transcript set.created set.stats set.take set.take_class set.take_own set.chunk_limit set.limit_class set.class_of set.class_up_to set.cut_off set.reused set.from_new set.block_size set.halved set.halved_by set.renewed set.cut_up set.cut_rest set.with_own up8 grown doubled
+    ≡ codes "1 begin level 1\n1 create c6 TopTransactionContext in c1\n1 owner o1\n1 ok\n1 ERROR 42601 syntax error\n1 abort level 1\n1 ERROR 42601 syntax error\n1 ERROR 25P02 transaction is aborted\n1 cleanup level 1\n1 owner o1 gone\n1 delete c6\n1 ok\n1 warning there is no transaction in progress\n1 ok\n1 delete c5\n1 delete c4\n1 delete c3\n1 delete c2\n1 delete c1\n1 exit\n"
+unfolding text_of what_text kind_name error_text digits read_line table.command_of words_of number_between mode_of name_of kind_of is_reserved row_of reads opening elements_of does does_all recovered exited turn course_by transcript_by transcript set.created set.stats set.take set.take_class set.take_own set.chunk_limit set.limit_class set.class_of set.class_up_to set.cut_off set.reused set.from_new set.block_size set.halved set.halved_by set.renewed set.cut_up set.cut_rest set.with_own up8 grown doubled
 bad_lines = refl
 
 -- a context with two callbacks, the newest first, and an error behind it
 pub callbacks : told 0 (codes "begin" ∷ codes "context p CurTransactionContext default" ∷ codes "onreset p" ∷ codes "onreset p" ∷ codes "delete p" ∷ codes "raise" ∷ [])
     ≡ codes "1 begin level 1\n1 create c6 TopTransactionContext in c1\n1 owner o1\n1 ok\n1 create c7 p in c6\n1 ok\n1 hook 1 c7\n1 ok\n1 hook 2 c7\n1 ok\n1 callback 2 c7\n1 callback 1 c7\n1 delete c7\n1 ok\n1 ERROR P0001 raised\n1 abort level 1\n1 cleanup level 1\n1 owner o1 gone\n1 delete c6\n1 delete c5\n1 delete c4\n1 delete c3\n1 delete c2\n1 delete c1\n1 exit\n"
-unfolding text_of what_text kind_name error_text digits read_line table.command_of words_of number_between mode_of name_of kind_of is_reserved row_of command_of opening elements_of does does_all recovered exited turn course_by transcript_by transcript set.created set.stats set.take set.take_class set.take_own set.chunk_limit set.limit_class set.class_of set.class_up_to set.cut_off set.reused set.from_new set.block_size set.halved set.halved_by set.renewed set.cut_up set.cut_rest set.with_own up8 grown doubled
+unfolding text_of what_text kind_name error_text digits read_line table.command_of words_of number_between mode_of name_of kind_of is_reserved row_of reads opening elements_of does does_all recovered exited turn course_by transcript_by transcript set.created set.stats set.take set.take_class set.take_own set.chunk_limit set.limit_class set.class_of set.class_up_to set.cut_off set.reused set.from_new set.block_size set.halved set.halved_by set.renewed set.cut_up set.cut_rest set.with_own up8 grown doubled
 callbacks = refl
 
 -- the fifth fallible call fails
 pub a_call_fails : told 5 (codes "begin" ∷ codes "pin 7" ∷ codes "alloc a 100" ∷ [])
     ≡ codes "1 begin level 1\n1 create c6 TopTransactionContext in c1\n1 owner o1\n1 ok\n1 ERROR 53200 out of memory at call 5\n1 abort level 1\n1 ERROR 25P02 transaction is aborted\n1 cleanup level 1\n1 owner o1 gone\n1 delete c6\n1 delete c5\n1 delete c4\n1 delete c3\n1 delete c2\n1 delete c1\n1 exit\n"
-unfolding text_of what_text kind_name error_text digits read_line table.command_of words_of number_between mode_of name_of kind_of is_reserved row_of command_of opening elements_of does does_all recovered exited turn course_by transcript_by transcript set.created set.stats set.take set.take_class set.take_own set.chunk_limit set.limit_class set.class_of set.class_up_to set.cut_off set.reused set.from_new set.block_size set.halved set.halved_by set.renewed set.cut_up set.cut_rest set.with_own up8 grown doubled
+unfolding text_of what_text kind_name error_text digits read_line table.command_of words_of number_between mode_of name_of kind_of is_reserved row_of reads opening elements_of does does_all recovered exited turn course_by transcript_by transcript set.created set.stats set.take set.take_class set.take_own set.chunk_limit set.limit_class set.class_of set.class_up_to set.cut_off set.reused set.from_new set.block_size set.halved set.halved_by set.renewed set.cut_up set.cut_rest set.with_own up8 grown doubled
 a_call_fails = refl
+
+-- two sessions in turn, and a line for one that isn't there
+pub two_sessions : told_of_two (codes "begin" ∷ codes "@2 pin 7" ∷ codes "@2 begin" ∷ codes "rollback" ∷ codes "@3 pin 1" ∷ [])
+    ≡ codes "1 begin level 1\n1 create c6 TopTransactionContext in c1\n1 owner o1\n1 ok\n2 begin level 1\n2 create c6 TopTransactionContext in c1\n2 owner o1\n2 acquire buffer pin 7 #1 o1\n2 commit level 1\n2 warning resource was not closed: buffer pin 7 #1 o1\n2 release buffer pin 7 #1 o1\n2 owner o1 gone\n2 delete c6\n2 ok\n2 begin level 1\n2 create c7 TopTransactionContext in c1\n2 owner o2\n2 ok\n1 abort level 1\n1 cleanup level 1\n1 owner o1 gone\n1 delete c6\n1 ok\n3 ERROR 08003 no such session\n1 delete c5\n1 delete c4\n1 delete c3\n1 delete c2\n1 delete c1\n1 exit\n2 abort level 1\n2 cleanup level 1\n2 owner o2 gone\n2 delete c7\n2 delete c5\n2 delete c4\n2 delete c3\n2 delete c2\n2 delete c1\n2 exit\n"
+unfolding text_of what_text kind_name error_text digits read_line table.command_of words_of number_between mode_of name_of kind_of is_reserved row_of reads opening elements_of does does_all recovered exited turn course_by transcript_by transcript set.created set.stats set.take set.take_class set.take_own set.chunk_limit set.limit_class set.class_of set.class_up_to set.cut_off set.reused set.from_new set.block_size set.halved set.halved_by set.renewed set.cut_up set.cut_rest set.with_own up8 grown doubled
+two_sessions = refl

@@ -6,15 +6,15 @@ use Rattle.pgs_io.specs.Reading.{Reading, HasRead}
 use Rattle.pgs_step.specs.declared.events.Event.{Event}
 use Rattle.session_rules.specs.Transcript.{Course}
 use Rattle.session_core.specs.Answers.{Fits}
-use Rattle.session_core.specs.Lines.{IsBetweenLines}
 use Rattle.session_rules.specs.Asked.{asked_by}
-use Rattle.session_core.specs.Performed.{Now, Takes}
+use Rattle.addr_space.specs.Space.{risen, taken}
 use Rattle.pgs_world.specs.Script.{reads}
 use Rattle.pgs_world.specs.declared.performing.End.{End}
 use Rattle.pgs_world.specs.declared.performing.End.TheVariants as end
 use Rattle.pgs_world.specs.declared.performing.Ended.{Ended}
 use Rattle.pgs_world.specs.Transcript.{Setting, course_of}
-use Rattle.pgs_world.specs.World.{SameRun, setting_of, world_in}
+use Rattle.pgs_world.specs.World.{HaveDescriptors, Run, SameRun, setting_of, world_in}
+use Rattle.pgs_world.specs.Turns.{IsWithin}
 use Rattle.pgs_world.specs.Outcome.{HasGiven, most_bytes}
 
 -- whether the end came by a want of memory
@@ -30,36 +30,29 @@ is_wanted_in None = false
 is_wanted_in (Some end) = is_wanted end
 
 -- A course led to this run by events that were emitted.
-pub record CourseAt (course : Course) (n : Now) (emitted : List Event → Type 0) (performed : ℕ) (wanted : Bool) : Type 0 where
-  pub world_is : course.world ≡ world_in n
+pub record CourseAt (course : Course) (descriptors : ℕ) (run : Run) (emitted : List Event → Type 0) (performed : ℕ) (wanted : Bool) : Type 0 where
+  pub world_is : course.world ≡ world_in descriptors run
   pub events : emitted course.events
   pub performed_is : course.performed ≡ performed
   pub wanted_is : course.wanted ≡ wanted
 
 -- The lines led to this run by events that were emitted, whichever later call is refused for want of memory; or, where they met a want, by the refusal of the last call.
-abbrev pub CoursesAre : Setting → Bool → List (List ℕ) → Now → (List Event → Type 0) → Type 0
-CoursesAre setting wanted lines n emitted = (w : Option ℕ) → Fits wanted n.calls.count w → CourseAt (course_of setting w lines) n emitted (length lines) wanted
+abbrev pub CoursesAre : ℕ → Setting → Bool → List (List ℕ) → Run → (List Event → Type 0) → Type 0
+CoursesAre descriptors setting wanted lines run emitted = (w : Option ℕ) → Fits wanted run.calls.count w → CourseAt (course_of setting w lines) descriptors run emitted (length lines) wanted
 
--- no count of the session is above this bound for so many lines
-pub record IsBounded (lines : ℕ) (n : Now) : Type 0 where
-  pub calls : n.calls.count ≤ 5 * lines + 6
-  pub contexts : n.store.tree.next ≤ 5 * lines + 6
-  pub owners : n.store.owners.next_owner ≤ 5 * lines + 6
-  pub serials : n.store.owners.next_serial ≤ 5 * lines + 6
-
--- The session's account took what the lines ask, whichever later call is refused for want of memory; or, where they met a want, any number of bytes.
-abbrev pub TakesLines : Setting → Bool → List (List ℕ) → Now → Now → Type 0
-TakesLines setting wanted lines first n =
-    (w : Option ℕ) → Fits wanted n.calls.count w → Takes wanted first.store.tree.account (asked_by reads w setting.options [] setting.shelf lines 1) first.space n.space
+-- Each account took what the lines ask for the session that counts for it, whichever later call is refused for want of memory.
+abbrev pub TakesLines : Setting → List (List ℕ) → Run → Run → Type 0
+TakesLines setting lines first run =
+    (w : Option ℕ) → Fits false run.calls.count w → (account : ℕ) → taken run.space account ≡ risen (taken first.space account) (asked_by reads w setting.options [] setting.shelf lines (account + 1))
 
 -- The loop has performed these lines.
-pub record Stands (first : Now) (start now : Option (List ℕ)) (reader : Reading) (n : Now) (emitted : List Event → Type 0) (lines : List (List ℕ)) : Type 0 where
+pub record Stands (descriptors : ℕ) (first : Run) (start now : Option (List ℕ)) (reader : Reading) (run : Run) (emitted : List Event → Type 0) (lines : List (List ℕ)) : Type 0 where
   pub read : HasRead most_bytes start now reader lines
-  pub courses : CoursesAre (setting_of first) false lines n emitted
-  pub between : IsBetweenLines n
-  pub bounded : IsBounded (length lines) n
-  pub same : SameRun first n
-  pub taken : TakesLines (setting_of first) false lines first n
+  pub courses : CoursesAre descriptors (setting_of descriptors first) false lines run emitted
+  pub bounded : IsWithin (5 * length lines + 6) run
+  pub same : SameRun first run
+  pub has : HaveDescriptors descriptors run
+  pub taken : TakesLines (setting_of descriptors first) lines first run
 
 -- The bytes that were given have these lines, and perhaps more. Each has its newline among them, or the source is at its end.
 pub record AreFront (bytes : List ℕ) (lines : List (List ℕ)) (before after : Option (List ℕ)) : Type 0 where
@@ -78,16 +71,16 @@ EndIs end.TooLong bytes lines before after = (over : ℕ) × HasGiven (bytes ++ 
 EndIs end.Unwritten bytes lines before after = AreFront bytes lines before after
 
 -- what the loop did
-pub record Performs (first : Now) (ended : Ended) (before after : Option (List ℕ)) (n : Now) (emitted : List Event → Type 0) : Type 0 where
+pub record Performs (descriptors : ℕ) (first : Run) (ended : Ended) (before after : Option (List ℕ)) (run : Run) (emitted : List Event → Type 0) : Type 0 where
   pub bytes : List ℕ
   pub lines : List (List ℕ)
-  pub courses : CoursesAre (setting_of first) (is_wanted ended.end) lines n emitted
-  pub called : is_wanted ended.end ≡ true → 0 < n.calls.count
+  pub courses : CoursesAre descriptors (setting_of descriptors first) (is_wanted ended.end) lines run emitted
+  pub called : is_wanted ended.end ≡ true → 0 < run.calls.count
   pub count : ended.lines ≡ length lines
   pub how : EndIs ended.end bytes lines before after
-  pub between : IsBetweenLines n
-  pub same : SameRun first n
-  pub taken : TakesLines (setting_of first) (is_wanted ended.end) lines first n
+  pub same : SameRun first run
+  pub has : HaveDescriptors descriptors run
+  pub taken : is_wanted ended.end ≡ false → TakesLines (setting_of descriptors first) lines first run
 
 -- the ends that a line leads to
 abbrev pub IsLineEnd : End → Bool → Type 0

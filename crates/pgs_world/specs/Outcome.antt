@@ -1,13 +1,13 @@
 -- What a run did, by its status.
-use Rattle.std.specs.Prelude.{◌≡◌, ℕ, ◌+◌, ◌^◌, ◌<◌, ◌≤◌, ◌↔◌, ◌⊎◌, List, [], ◌∷◌, ◌++◌, length, take, codes, Option, Some, None, ◌==◌, if◌then◌else◌}
+use Rattle.std.specs.Prelude.{◌≡◌, ℕ, ◌+◌, ◌^◌, ◌<◌, ◌≤◌, ◌↔◌, ◌⊎◌, List, [], ◌∷◌, ◌++◌, length, take, codes, Option, Some, None, ◌==◌, nat_lt, if◌then◌else◌}
 use Rattle.std.specs.Io.KnownBytes.{prepend_known, append_known, IsAtEnd}
 use Rattle.pgs_io.specs.Lines.{lines_of, ended_lines}
 use Rattle.pgs_world.specs.declared.program.Outcome.{Outcome}
 use Rattle.reset_callbacks.specs.ShelfState.{ShelfState}
 use Rattle.pgs_options.specs.Options.{options_of}
 use Rattle.pgs_options.specs.declared.options.Options.{Options}
-use Rattle.addr_space.specs.Space.{Asks, Space}
-use Rattle.session_rules.specs.Asked.{asked_by}
+use Rattle.addr_space.specs.Space.{Space, risen, taken}
+use Rattle.session_rules.specs.Asked.{asked_by, asked_in_all}
 use Rattle.session_rules.specs.Transcript.{errors_in}
 use Rattle.pgs_world.specs.Script.{reads}
 use Rattle.pgs_world.specs.Transcript.{Setting, transcript, shelf_after, text_of_transcript, EndsAt}
@@ -48,16 +48,24 @@ pub record IsWhole (setting : Setting) (outcome : Outcome) (left left' written w
 abbrev pub CountsErrors : Setting → Outcome → Option (List ℕ) → Type 0
 CountsErrors setting outcome left = (bytes : List ℕ) → left ≡ Some bytes → outcome.errors ≡ errors_in (transcript setting None (lines_of bytes))
 
--- The account took what the lines of the bytes that a source had ask for session 1, and so many bytes besides; no other account took any.
-abbrev pub TakesAll : Setting → Option (List ℕ) → ℕ → ℕ → Space → Space → Type 0
-TakesAll setting left account more before after =
-    (bytes : List ℕ) → left ≡ Some bytes → Asks account (more + asked_by reads None setting.options [] setting.shelf (lines_of bytes) 1) before after
+-- Each account took what the lines of the bytes that a source had ask for the session that counts for it.
+abbrev pub TakesAsked : Setting → Option (List ℕ) → Space → Space → Type 0
+TakesAsked setting left before after =
+    (bytes : List ℕ) → left ≡ Some bytes → (account : ℕ) → taken after account ≡ risen (taken before account) (asked_by reads None setting.options [] setting.shelf (lines_of bytes) (account + 1))
+
+-- what a session asks that counts for this account, as it opens and by lines; nothing, where no session does
+abbrev pub asked_of : Setting → List (List ℕ) → ℕ → ℕ
+asked_of setting lines account = if nat_lt account setting.options.sessions then asked_in_all reads None setting.options [] setting.shelf lines (account + 1) else 0
+
+-- Each session's account took what the opening of the session and the lines of the bytes that a source had ask for it; no other account took any.
+abbrev pub TakesAll : Setting → Option (List ℕ) → Space → Space → Type 0
+TakesAll setting left before after = (bytes : List ℕ) → left ≡ Some bytes → (account : ℕ) → taken after account ≡ risen (taken before account) (asked_of setting (lines_of bytes) account)
 
 -- So many lines were given whole: the newline of each is among the bytes, or the source was at its end behind them. A byte past the most of a script is no part of a line.
 abbrev pub AreWhole : ℕ → List ℕ → Option (List ℕ) → Type 0
 AreWhole lines bytes left = (lines ≤ length (ended_lines (take most_bytes bytes))) ⊎ ((length bytes ≤ most_bytes) × IsAtEnd left)
 
--- Status 5 with a call: the transcript in which that call was refused, recovered from and followed by the session's end.
+-- Status 5 with a call: the transcript in which that call was refused, recovered from and followed by the ends of all sessions.
 pub record IsWanted (setting : Setting) (outcome : Outcome) (left left' written written' : Option (List ℕ)) (shelf' : ShelfState) : Type 0 where
   pub bytes : List ℕ
   pub given : HasGiven bytes left left'
@@ -108,7 +116,7 @@ pub record IsUnwritten (setting : Setting) (outcome : Outcome) (left left' writt
   pub errors : outcome.errors ≡ errors_in (transcript setting (refused_call outcome.call) (take outcome.lines (lines_of bytes)))
   pub hooks : shelf' ≡ shelf_after setting (refused_call outcome.call) (take outcome.lines (lines_of bytes))
 
--- Status 5 without a call: the session was not started, nothing was read or written, and the hooks are as they were.
+-- Status 5 without a call: not all sessions were started, nothing was read or written, and the hooks are as they were.
 pub record IsNotStarted (outcome : Outcome) (left left' written written' : Option (List ℕ)) (shelf shelf' : ShelfState) : Type 0 where
   pub hooks : shelf' ≡ shelf
   pub lines : outcome.lines ≡ 0

@@ -8,7 +8,7 @@ use Rattle.pgs_step.specs.declared.events.Event.{Event}
 use Rattle.session_rules.specs.Transcript.{of_session}
 use Rattle.pgs_world.specs.PrinterView.{ShowsEvents, TakesEvents, TakesBytes, seen}
 use Rattle.pgs_world.specs.Printing.{Moves}
-use Rattle.pgs_world.specs.PrintingLaws.{Prints-none, Prints-more, Moves-more, Shows-none, Shows-more, Shows-taken}
+use Rattle.pgs_world.specs.PrintingLaws.{Prints-none, Prints-more, Moves-more, Shows-none, Shows-more, Shows-taken, Shows-turned}
 
 module _ {K : Type 0} (written : K → Option (List ℕ)) (faults : K → ℕ) where
   pub TakesEvents-none : (a : Printer K) → TakesEvents written faults a [] a
@@ -40,12 +40,23 @@ module _ {K : Type 0} (written : K → Option (List ℕ)) (faults : K → ℕ) w
   pub ShowsEvents-none : (a : Printer K) → ShowsEvents written faults a [] a
   ShowsEvents-none a = record { same_sink = refl; shows = Shows-none (seen written faults a) }
 
-  -- events, and then those of the printer's session
-  pub ShowsEvents-more : (a b c : Printer K) (xs : List Event) (ys : List What) → ShowsEvents written faults a xs b → TakesEvents written faults b ys c → a.session ≡ 1 → ShowsEvents written faults a (xs ++ of_session 1 ys) c
-  ShowsEvents-more a b c xs ys p q one = record {
+  -- events, and then others
+  pub ShowsEvents-both : (a b c : Printer K) (xs ys : List Event) → ShowsEvents written faults a xs b → ShowsEvents written faults b ys c → ShowsEvents written faults a (xs ++ ys) c
+  ShowsEvents-both a b c xs ys p q = record {
     same_sink = q.same_sink ∙ p.same_sink;
-    shows = Shows-more (seen written faults a) (seen written faults b) (seen written faults c) xs (of_session 1 ys) p.shows (Shows-taken (seen written faults b) (seen written faults c) ys q.prints (p.shows.session ∙ one));
+    shows = Shows-more (seen written faults a) (seen written faults b) (seen written faults c) xs ys p.shows q.shows;
   }
+
+  -- what the printer takes of a session, once it has turned to it
+  pub ShowsEvents-turn : (a b c : Printer K) (n : ℕ) (ys : List What) → b ≡ record a { session = n } → TakesEvents written faults b ys c → ShowsEvents written faults a (of_session n ys) c
+  ShowsEvents-turn a b c n ys turned q =
+      let there : TakesEvents written faults (record a { session = n }) ys c = subst (λ (z : Printer K). TakesEvents written faults z ys c) turned q in
+      record {
+        same_sink = there.same_sink;
+        shows = Shows-more (seen written faults a) (record (seen written faults a) { session = n }) (seen written faults c) [] (of_session n ys)
+            (Shows-turned (seen written faults a) (seen written faults a) n [] (Shows-none (seen written faults a)))
+            (Shows-taken (record (seen written faults a) { session = n }) (seen written faults c) ys n there.prints refl);
+      }
 
   -- what is handed on brings no event
   pub ShowsEvents-flush : (a b c : Printer K) (xs : List Event) → ShowsEvents written faults a xs b → TakesBytes written faults b [] c → ShowsEvents written faults a xs c
@@ -56,7 +67,6 @@ module _ {K : Type 0} (written : K → Option (List ℕ)) (faults : K → ℕ) w
           (Moves-more a.failed b.failed c.failed (seen written faults a) (seen written faults b) (seen written faults c) (text_of_transcript xs) [] q.never_falls p.shows.bytes q.moves);
       never_falls = omega (arith, p.shows.never_falls, q.never_falls);
       errors = omega (arith, p.shows.errors, q.errors);
-      session = q.session ∙ p.shows.session;
     };
   }
 
@@ -69,6 +79,9 @@ module _ {K : Type 0} (written : K → Option (List ℕ)) (faults : K → ℕ) w
           (Moves-more a.failed b.failed c.failed (seen written faults a) (seen written faults b) (seen written faults c) (text_of_transcript xs) [] q.prints.never_falls p.shows.bytes q.prints.bytes);
       never_falls = omega (arith, p.shows.never_falls, q.prints.never_falls);
       errors = omega (arith, p.shows.errors, q.prints.errors);
-      session = q.prints.session ∙ p.shows.session;
     };
   }
+
+  -- events, then none, and then others
+  pub ShowsEvents-joined : (a b c d : Printer K) (xs ys : List Event) → ShowsEvents written faults a xs b → TakesEvents written faults b [] c → ShowsEvents written faults c ys d → ShowsEvents written faults a (xs ++ ys) d
+  ShowsEvents-joined a b c d xs ys p still q = ShowsEvents-both a c d xs ys (ShowsEvents-still a b c xs p still) q

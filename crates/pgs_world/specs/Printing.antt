@@ -58,4 +58,3 @@ pub record Shows (old : Gathering) (events : List Event) (new : Gathering) : Typ
   pub bytes : Moves old.failed new.failed old new (text_of_transcript events)
   pub never_falls : old.faults ≤ new.faults
   pub errors : min new.errors (2 ^ 64 - 1) ≡ min (old.errors + errors_in events) (2 ^ 64 - 1)
-  pub session : new.session ≡ old.session

@@ -97,7 +97,7 @@ errors_of_one_session n [] = refl
 errors_of_one_session n (what ∷ whats) = grind (arith, common_steps, errors_of_one_session n whats)
 
 pub Shows-none : (a : Gathering) → Shows a [] a
-Shows-none a = record { bytes = Moves-none a.failed a; never_falls = omega arith; errors = omega arith; session = refl }
+Shows-none a = record { bytes = Moves-none a.failed a; never_falls = omega arith; errors = omega arith }
 
 pub Shows-more : (a b c : Gathering) (xs ys : List Event) → Shows a xs b → Shows b ys c → Shows a (xs ++ ys) c
 Shows-more a b c xs ys p q = record {
@@ -105,14 +105,22 @@ Shows-more a b c xs ys p q = record {
       (Moves-more a.failed b.failed c.failed a b c (text_of_transcript xs) (text_of_transcript ys) q.never_falls p.bytes q.bytes);
   never_falls = omega (arith, p.never_falls, q.never_falls);
   errors = omega (arith, p.errors, q.errors, errors_in-append xs ys);
-  session = q.session ∙ p.session;
 }
 
 -- what a printer took of its session, as events of that session
-pub Shows-taken : (a b : Gathering) (whats : List What) → Prints a whats b → a.session ≡ 1 → Shows a (of_session 1 whats) b
-Shows-taken a b whats p one = record {
-  bytes = subst (Moves a.failed b.failed a b) (ap (λ (n : ℕ). texts_of [] n whats) one ∙ sym (text_of_one_session 1 whats)) p.bytes;
+pub Shows-taken : (a b : Gathering) (whats : List What) (n : ℕ) → Prints a whats b → a.session ≡ n → Shows a (of_session n whats) b
+Shows-taken a b whats n p is = record {
+  bytes = subst (Moves a.failed b.failed a b) (ap (λ (k : ℕ). texts_of [] k whats) is ∙ sym (text_of_one_session n whats)) p.bytes;
   never_falls = p.never_falls;
-  errors = omega (arith, p.errors, errors_of_one_session 1 whats);
-  session = p.session;
+  errors = omega (arith, p.errors, errors_of_one_session n whats);
 }
+
+-- a printer that turns to another session
+Moves-turned : (f g : Bool) (a b : Gathering) (n : ℕ) (text : List ℕ) → Moves f g a b text → Moves f g a (record b { session = n }) text
+Moves-turned false false a b n text m = record { hands = record { handed = m.hands.handed; parts = m.hands.parts; taken = m.hands.taken }; no_fault = m.no_fault }
+Moves-turned false true a b n text m = record { rest = m.rest; hands = record { handed = m.hands.handed; parts = m.hands.parts; taken = m.hands.taken }; risen = m.risen }
+Moves-turned true true a b n text m = record { silent = m.silent }
+Moves-turned true false a b n text m = m
+
+pub Shows-turned : (a b : Gathering) (n : ℕ) (xs : List Event) → Shows a xs b → Shows a xs (record b { session = n })
+Shows-turned a b n xs p = record { bytes = Moves-turned a.failed b.failed a b n (text_of_transcript xs) p.bytes; never_falls = p.never_falls; errors = p.errors }

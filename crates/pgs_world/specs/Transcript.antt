@@ -1,4 +1,4 @@
--- The transcript of a script, by the rules of a session.
+-- The transcript of a script, by the rules of sessions.
 use Rattle.std.specs.Prelude.{◌≡◌, ℕ, true, List, [], count_by, Option, Some}
 use Rattle.pgs_step.specs.declared.events.Event.{Event}
 use Rattle.pgs_step.specs.declared.events.What.{What}
@@ -14,23 +14,22 @@ pub record Setting : Type 0 where
   pub options : Options
   pub shelf : ShelfState
 
--- one session, with so many bytes of the space for its contexts and 16 descriptors; which fallible call fails, 0 for none
-abbrev pub options_for : ℕ → ℕ → Options
-options_for space fail = record { sessions = 1; space = space; descriptors = 16; fail = fail }
-
 -- what words ask for, and the hooks that are on the shelf
 abbrev pub setting_for : words.Options → ShelfState → Setting
-setting_for options shelf = record { options = options_for options.space options.fail; shelf = shelf }
+setting_for options shelf = record {
+  options = record { sessions = options.sessions; space = options.space; descriptors = options.descriptors; fail = options.fail };
+  shelf = shelf;
+}
 
 -- the course of a script; w is the number of the fallible call that is refused for want of memory, if any
 unfoldable pub course_of : Setting → Option ℕ → List (List ℕ) → Course
 course_of setting w lines = course_by reads w setting.options [] setting.shelf lines
 
--- the transcript of lines: their events, and then those of the session's end
+-- the transcript of lines: their events, and then those of the ends of all sessions
 unfoldable pub transcript : Setting → Option ℕ → List (List ℕ) → List Event
 transcript setting w lines = transcript_by reads w setting.options [] setting.shelf lines
 
--- the hooks behind the session's end
+-- the hooks behind the ends of all sessions
 unfoldable pub shelf_after : Setting → Option ℕ → List (List ℕ) → ShelfState
 shelf_after setting w lines = (ended (course_of setting w lines)).world.shelf
 

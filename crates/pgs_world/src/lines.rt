@@ -1,43 +1,48 @@
-//! Which lines of a script are performed.
-ghost use Rattle.std.specs.Prelude.{◌≡◌, ◌==◌, ℕ, List, codes, IfSome};
-ghost use Rattle.std.specs.List.{starts_with};
+//! What the lines of a script ask for.
+ghost use Rattle.std.specs.Prelude.{◌≡◌, ℕ, List, IfSome};
 ghost use Rattle.pgs_io.specs.Lines.{IsKept};
-ghost use Rattle.pgs_command.specs.Lines.{read_line};
-ghost use Rattle.pgs_command.specs.Ranges.{IsInRange};
+ghost use Rattle.pgs_command.specs.Ranges.{IsInRange, IsSession};
 ghost use Rattle.session_core.specs.Turns.{IsRead};
-ghost use Rattle.pgs_world.specs.Script.{is_built, built, command_of};
+ghost use Rattle.pgs_world.specs.Script.{is_built, reads, said_in};
 
 use pgs_command::{Command, parse_line};
 
-/// The command that a line asks for, or `None` where the line is bad.
-///
-/// `kept` are the first 512 bytes of the line, and `long` says whether it has more.
-pub(crate) fn read_command(kept: &[u8], long: bool) -> Option<Command>
-    ensures read { (line : List ℕ) → IsKept line kept.now long → result ≡ command_of line }
-    ensures performed { IsRead result }
-    ensures in_range { IfSome result IsInRange }
-{
-    if kept.starts_with(b"@") {
-        return None;
-    }
-    read_built(kept, long)
+/// What a line asks for.
+#[derive(Clone, Copy)]
+pub(crate) struct Said {
+    /// The session that the line is for, from 1.
+    pub(crate) session: u8,
+    /// What that is to perform, or `None` where the line is bad.
+    pub(crate) command: Option<Command>,
 }
 
-/// The command of a line, where it is performed.
-fn read_built(kept: &[u8], long: bool) -> Option<Command>
-    ensures read { (line : List ℕ) → IsKept line kept.now long → result ≡ built (read_line line) }
-    ensures performed { IsRead result }
-    ensures in_range { IfSome result IsInRange }
+/// What a line asks for.
+///
+/// `kept` are the first 512 bytes of the line, and `long` says whether it has more.
+pub(crate) fn read_line(kept: &[u8], long: bool) -> Said
+    ensures read { (line : List ℕ) → IsKept line kept.now long → result ≡ said_in (reads line) }
+    ensures session { IsSession result.session }
+    ensures performed { IsRead result.command }
+    ensures in_range { IfSome result.command IsInRange }
 {
     match parse_line(kept, long) {
         Ok(line) => {
             if is_built(&line.command) {
-                Some(line.command)
+                Said {
+                    session: line.session,
+                    command: Some(line.command),
+                }
             } else {
-                None
+                Said {
+                    session: line.session,
+                    command: None,
+                }
             }
         }
-        Err(_) => None,
+        Err(bad) => Said {
+            session: bad.session,
+            command: None,
+        },
     }
 }
 
@@ -51,11 +56,17 @@ fn is_built(command: &Command) -> bool
             | Command::Begin
             | Command::Commit
             | Command::Rollback
+            | Command::Savepoint(_)
+            | Command::Release(_)
+            | Command::RollbackTo(_)
             | Command::Raise
             | Command::Pin(_)
             | Command::Unpin(_)
             | Command::Reference { .. }
             | Command::Unreference { .. }
+            | Command::Open(_)
+            | Command::Touch(_)
+            | Command::Close(_)
             | Command::Context { .. }
             | Command::Switch(_)
             | Command::OnReset(_)

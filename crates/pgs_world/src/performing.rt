@@ -1,19 +1,18 @@
 //! Reads a script line by line, and performs each line.
-ghost use Rattle.std.specs.Prelude.{◌≡◌, ◌<◌, ◌≤◌, ◌+◌, ℕ, List, [], true, false, Option, Some, length, IfSome, IfNone};
+ghost use Rattle.std.specs.Prelude.{◌≡◌, ◌<◌, ◌+◌, ℕ, List, [], true, length, IfSome, IfNone};
 ghost use Rattle.pgs_io.specs.Faults.{HasRisen};
 ghost use Rattle.pgs_io.specs.Lines.{IsKept};
 ghost use Rattle.pgs_io.specs.Reading.{GivesLine, GivesLast, MeetsEnd, MeetsFault, MeetsLimit};
 ghost use Rattle.pgs_io.specs.Answers.{IfLine, IfLast, OnEnd, OnFault, OnTooMuch, OnNoFault};
-ghost use Rattle.session_core.specs.Lines.{IsBetweenLines};
-ghost use Rattle.session_core.specs.Performed.{now, HasRoom};
-ghost use Rattle.session_core.specs.Turns.{Turned};
-ghost use Rattle.pgs_world.specs.Script.{command_of};
+ghost use Rattle.pgs_world.specs.Script.{reads, said_in};
 ghost use Rattle.pgs_world.specs.PrinterView.{ShowsEvents, TakesEvents};
-ghost use Rattle.pgs_world.specs.World.{IsOpening};
+ghost use Rattle.pgs_world.specs.World.{run_of, AreStanding, HaveDescriptors, IsOpening};
+ghost use Rattle.pgs_world.specs.Turns.{HaveRoom, TakesTurn};
 ghost use Rattle.pgs_world.specs.Loop.{Performs, is_wanted_in, IsLineEnd, OnSourceFault, OnNoSourceFault, OnUnwritten};
 
-use crate::lines::read_command;
+use crate::lines::read_line;
 use crate::printer::Printer;
+use crate::sessions::take_turn;
 use pgs_io::{Buffered, LineBuf, LineReader, Next, Sink, Source};
 use reset_callbacks::ResetHook;
 use session_core::{Session, Shared};
@@ -45,15 +44,15 @@ pub(crate) struct Ended {
 
 /// Performs the lines of the source, up to its end or to the first failure.
 pub(crate) fn perform_lines<S: Source, K: Sink, H: ResetHook>(
-    session: &mut Session<H>,
+    sessions: &mut [Session<H>],
     src: &mut S,
     shared: &mut Shared<'_, H>,
     printer: &mut Printer<'_, K>,
 ) -> Ended
-    requires opening { IsOpening (now session.old shared.old) }
-    requires lines { IsBetweenLines (now session.old shared.old) }
-    requires session_1 { printer.old.session ≡ 1 }
-    ensures performs { Performs (now session.old shared.old) result (S.left src.old) (S.left src.new) (now session.new shared.new) (λ xs. ShowsEvents K.written K.faults printer.old xs printer.new) }
+    requires opening { IsOpening (run_of sessions.old shared.old) }
+    requires standing { AreStanding 0 (run_of sessions.old shared.old) }
+    ensures performs { (descriptors : ℕ) → HaveDescriptors descriptors (run_of sessions.old shared.old) → Performs descriptors (run_of sessions.old shared.old) result (S.left src.old) (S.left src.new) (run_of sessions.new shared.new) (λ xs. ShowsEvents K.written K.faults printer.old xs printer.new) }
+    ensures standing { AreStanding 0 (run_of sessions.new shared.new) }
     ensures fault { OnSourceFault result.end (HasRisen (S.faults src.old) (S.faults src.new)) }
     ensures no_fault { OnNoSourceFault result.end (S.faults src.new ≡ S.faults src.old) }
     ensures unwritten { OnUnwritten result.end (printer.new.failed ≡ true) }
@@ -70,14 +69,14 @@ pub(crate) fn perform_lines<S: Source, K: Sink, H: ResetHook>(
         };
         match next {
             Next::Line { long } => {
-                let end = perform_line(session, line.as_slice(), long, shared, printer);
+                let end = perform_line(sessions, line.as_slice(), long, shared, printer);
                 lines += 1;
                 if let Some(end) = end {
                     return Ended { end, lines };
                 }
             }
             Next::Last { long } => {
-                let end = perform_line(session, line.as_slice(), long, shared, printer);
+                let end = perform_line(sessions, line.as_slice(), long, shared, printer);
                 return Ended {
                     end: end.unwrap_or(End::Whole),
                     lines: lines + 1,
@@ -141,20 +140,20 @@ fn next_line<S: Source, K: Sink>(
 
 /// Performs a line of which `kept` are the first bytes, and answers whether the script ends with it.
 fn perform_line<K: Sink, H: ResetHook>(
-    session: &mut Session<H>,
+    sessions: &mut [Session<H>],
     kept: &[u8],
     long: bool,
     shared: &mut Shared<'_, H>,
     printer: &mut Printer<'_, K>,
 ) -> Option<End>
-    requires lines { IsBetweenLines (now session.old shared.old) }
-    requires room { HasRoom 5 (now session.old shared.old) }
+    requires standing { AreStanding 0 (run_of sessions.old shared.old) }
+    requires room { HaveRoom (run_of sessions.old shared.old) }
     ensures turn { (line : List ℕ) → IsKept line kept.now long
-        → Turned (command_of line) (now session.old shared.old) (now session.new shared.new) (λ xs. TakesEvents K.written K.faults printer.old xs printer.new) (is_wanted_in result) }
-    ensures lines { IsBetweenLines (now session.new shared.new) }
+        → TakesTurn (said_in (reads line)) (run_of sessions.old shared.old) (run_of sessions.new shared.new) (λ xs. ShowsEvents K.written K.faults printer.old xs printer.new) (is_wanted_in result) }
+    ensures standing { AreStanding 0 (run_of sessions.new shared.new) }
     ensures end { IfSome result (λ end. IsLineEnd end printer.new.failed) }
 {
-    let wanted = session.take_turn(read_command(kept, long), shared, printer);
+    let wanted = take_turn(sessions, read_line(kept, long), shared, printer);
     if wanted {
         return Some(End::Wanted);
     }

@@ -1,4 +1,4 @@
-//! Prints the events of a session.
+//! Prints the events of sessions.
 ghost use Rattle.std.specs.Prelude.{◌≡◌, ◌+◌, ◌≤◌, ◌-◌, ◌^◌, min, false, [], if◌then◌else◌};
 ghost use Rattle.arrayvec.specs.ArrayVec.{array_vec_len};
 ghost use Rattle.pgs_step.specs.Text.{text_of};
@@ -18,7 +18,7 @@ const PIECE: usize = 1024;
 /// The most bytes of a line of the transcript.
 const LINE: usize = 512;
 
-/// Prints the events of a session into a sink.
+/// Prints the events of sessions into a sink, of one session at a time.
 ///
 /// Its output is gathered: the sink gets it when `GATHERED` bytes are full and when `flush` is called. Once
 /// a write has failed nothing is written any more. The count of ERROR events stays at 2^64 - 1 once it
@@ -33,22 +33,28 @@ pub(crate) struct Printer<'a, K> {
 }
 
 impl<'a, K: Sink> Printer<'a, K> {
-    /// A printer for the events of a session, which has printed nothing.
-    pub(crate) fn new(sink: &'a mut K, session: u8) -> Printer<'a, K>
+    /// A printer for the events of session 1, which has printed nothing.
+    pub(crate) fn new(sink: &'a mut K) -> Printer<'a, K>
         ensures same_sink { result.sink.ghost_name ≡ sink.entry.ghost_name }
         ensures sink { result.sink.now ≡ sink.old }
         ensures gathered { result.gathered.items ≡ [] }
         ensures failed { result.failed ≡ false }
         ensures errors { result.errors ≡ 0 }
-        ensures session { result.session ≡ session }
     {
         Printer {
             sink,
             gathered: ArrayVec::new(),
             failed: false,
             errors: 0,
-            session,
+            session: 1,
         }
+    }
+
+    /// Prints the events of this session from now on.
+    pub(crate) fn turn_to(&mut self, session: u8)
+        ensures { self.new ≡ record self.old { session = session } }
+    {
+        self.session = session;
     }
 
     /// Whether a write has failed.

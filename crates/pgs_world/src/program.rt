@@ -1,23 +1,23 @@
 //! Runs a script from the bytes that are read to the bytes that are written.
-ghost use Rattle.std.specs.Prelude.{◌≡◌, ◌≢◌, ◌<◌, ◌≤◌, ◌⊎◌, ℕ, List, Some, [], length};
+ghost use Rattle.std.specs.Prelude.{◌≡◌, ◌≢◌, ◌<◌, ◌≤◌, ◌⊎◌, ℕ, List, Some, [], length, vec_capacity};
 ghost use Rattle.std.specs.Io.KnownBytes.{append_known};
 ghost use Rattle.pgs_io.specs.Faults.{HasRisen};
 ghost use Rattle.std.specs.Prelude.{map, None, ◌++◌, IfOk};
 ghost use Rattle.std.specs.Prelude.{string_bytes as string_text};
-ghost use Rattle.addr_space.specs.Space.{accounts, held};
+ghost use Rattle.addr_space.specs.Space.{accounts, held, risen, taken};
 ghost use Rattle.reset_callbacks.specs.Hook.{AreDistinct};
 ghost use Rattle.reset_callbacks.specs.ShelfState as shelf_state;
 ghost use Rattle.pgs_options.specs.Options.{options_of};
 ghost use Rattle.pgs_options.specs.declared.options.Options.{Options as Asked};
-ghost use Rattle.session_rules.specs.Asked.{asked_at_opening};
-ghost use Rattle.session_core.specs.Lines.{IsBetweenLines};
 ghost use Rattle.pgs_world.specs.Transcript.{setting_for};
-ghost use Rattle.pgs_world.specs.World.{first_in, setting_of, IsOpening};
-ghost use Rattle.pgs_world.specs.Outcome.{most_bytes, usage_line, AskFor, IsWhole, IsWanted, IsCutOff, IsTooLong, IsUnwritten, IsNotStarted, IsUsageFront, CountsErrors, TakesAll};
+ghost use Rattle.pgs_world.specs.World.{run_of, setting_at, setting_of, AreStanding, HaveDescriptors, IsOpening};
+ghost use Rattle.pgs_world.specs.Outcome.{most_bytes, usage_line, AskFor, IsWhole, IsWanted, IsCutOff, IsTooLong, IsUnwritten, IsNotStarted, IsUsageFront, CountsErrors, TakesAll, TakesAsked};
 ghost use Rattle.pgs_world.specs.Ending.{outcome_of, status_of, IsPlayed};
 
+use crate::nowhere::Nowhere;
 use crate::performing::{End, Ended, perform_lines};
 use crate::printer::Printer;
+use crate::sessions::{exit_all, start_sessions};
 use addr_space::Space;
 use pgs_io::{Sink, Source, put_all};
 use pgs_options::{Options, OptionsError, read_options};
@@ -25,12 +25,6 @@ use reset_callbacks::{ResetHook, Shelf};
 use session_core::{Calls, Session, Shared};
 use std::alloc::{AllocError, Global};
 use std::mem;
-
-/// The session that a line without a prefix is for.
-const SESSION: u8 = 1;
-
-/// The account of the space that the session's contexts count for.
-const ACCOUNT: u8 = 0;
 
 /// What refused words are answered with.
 const USAGE: &[u8] =
@@ -41,7 +35,7 @@ const USAGE: &[u8] =
 /// `status` is the exit status of the program: 0 for a transcript without an ERROR event, 1 for one with
 /// such an event, 2 for refused words, 3 for a source that failed, 4 for a sink that failed, 5 for a want of
 /// memory, 6 for a script of more than 2^24 bytes. `call` is the number of the fallible call that met a want
-/// of memory, counted from 1 over the whole run, and 0 where none did or where the session was not
+/// of memory, counted from 1 over the whole run, and 0 where none did or where not all sessions were
 /// started. `errors` counts the ERROR events, and `lines` the lines that were performed, those that say
 /// nothing among them.
 #[derive(Clone, Copy, Debug, PartialEq, Eq)]
@@ -63,9 +57,9 @@ const NOT_STARTED: Outcome = Outcome {
 /// Does all that the program `pgscript` does: it reads a script from the source and writes its transcript
 /// to the sink.
 ///
-/// `words` are those of the command line, without the program's name; pgs_options reads them. The session's
-/// contexts count for account 0 of the space, whose limit is set to what the words say. Its hooks come from
-/// the shelf, and each that ran is handed in there.
+/// `words` are those of the command line, without the program's name; pgs_options reads them. The contexts of
+/// session n count for account n - 1 of the space, whose limit is set to what the words say. The hooks of all
+/// sessions come from the shelf, and each that ran is handed in there.
 pub fn run<S: Source, K: Sink, H: ResetHook>(
     alloc: Global,
     words: &[String],
@@ -74,7 +68,7 @@ pub fn run<S: Source, K: Sink, H: ResetHook>(
     space: &mut Space,
     shelf: &mut Shelf<H>,
 ) -> Outcome
-    requires accounts { 0 < accounts space.old }
+    requires accounts { 64 ≤ accounts space.old }
     requires empty { (account : ℕ) → held space.old account ≡ 0 }
     requires hooks { AreDistinct (shelf_state.held shelf.old) }
 
@@ -83,8 +77,8 @@ pub fn run<S: Source, K: Sink, H: ResetHook>(
         → IsWhole (setting_for o shelf.old) result (S.left src.old) (S.left src.new) (K.written out.old) (K.written out.new) shelf.new }
     ensures counts { (o : Asked) → AskFor (map string_text words.now) o → (result.status ≡ 0) ⊎ (result.status ≡ 1) → CountsErrors (setting_for o shelf.old) result (S.left src.old) }
 
-    // The account took what the session's opening and the lines ask for, and no other account anything.
-    ensures taken { (o : Asked) → AskFor (map string_text words.now) o → (result.status ≡ 0) ⊎ (result.status ≡ 1) → TakesAll (setting_for o shelf.old) (S.left src.old) 0 asked_at_opening space.old space.new }
+    // Each session's account took what the session's opening and its lines ask for, and no other account anything.
+    ensures taken { (o : Asked) → AskFor (map string_text words.now) o → (result.status ≡ 0) ⊎ (result.status ≡ 1) → TakesAll (setting_for o shelf.old) (S.left src.old) space.old space.new }
 
     // Status 2: the words are refused, and nothing was read.
     ensures usage { result.status ≡ 2 → K.written out.new ≡ append_known (K.written out.old) usage_line }
@@ -106,7 +100,7 @@ pub fn run<S: Source, K: Sink, H: ResetHook>(
         → IsUnwritten (setting_for o shelf.old) result (S.left src.old) (S.left src.new) (K.written out.old) (K.written out.new) shelf.new }
     ensures usage_unwritten { options_of (map string_text words.now) ≡ None → result.status ≡ 4 → IsUsageFront (K.written out.old) (K.written out.new) }
 
-    // Status 5: memory was wanted, at the call that is named, or before the session had started.
+    // Status 5: memory was wanted, at the call that is named, or before all sessions had started.
     ensures wanted { (o : Asked) → AskFor (map string_text words.now) o → result.status ≡ 5 → 0 < result.call
         → IsWanted (setting_for o shelf.old) result (S.left src.old) (S.left src.new) (K.written out.old) (K.written out.new) shelf.new }
     ensures not_started { result.status ≡ 5 → result.call ≡ 0 → IsNotStarted result (S.left src.old) (S.left src.new) (K.written out.old) (K.written out.new) shelf.old shelf.new }
@@ -133,7 +127,7 @@ pub fn run<S: Source, K: Sink, H: ResetHook>(
     }
 }
 
-/// Starts the session, and plays the script.
+/// Lends space and shelf to the sessions, and plays the script.
 fn start<S: Source, K: Sink, H: ResetHook>(
     alloc: Global,
     options: &Options,
@@ -142,11 +136,13 @@ fn start<S: Source, K: Sink, H: ResetHook>(
     space: &mut Space,
     shelf: &mut Shelf<H>,
 ) -> Outcome
-    requires accounts { 0 < accounts space.old }
+    requires accounts { options.now.sessions ≤ accounts space.old }
+    requires some { 0 < options.now.sessions }
+    requires few { options.now.sessions ≤ 64 }
+    requires descriptors { 0 < options.now.descriptors }
     requires empty { (account : ℕ) → held space.old account ≡ 0 }
     requires hooks { AreDistinct (shelf_state.held shelf.old) }
-    requires limit { 131072 ≤ options.now.space }
-    ensures taken { (result.status ≡ 0) ⊎ (result.status ≡ 1) → TakesAll (setting_for options.now shelf.old) (S.left src.old) 0 asked_at_opening space.old space.new }
+    ensures taken { (result.status ≡ 0) ⊎ (result.status ≡ 1) → TakesAll (setting_for options.now shelf.old) (S.left src.old) space.old space.new }
     ensures whole { (result.status ≡ 0) ⊎ (result.status ≡ 1) → IsWhole (setting_for options.now shelf.old) result (S.left src.old) (S.left src.new) (K.written out.old) (K.written out.new) shelf.new }
     ensures source_fault { result.status ≡ 3 → HasRisen (S.faults src.old) (S.faults src.new) }
     ensures cut_off { result.status ≡ 3 → IsCutOff (setting_for options.now shelf.old) result (S.left src.old) (S.left src.new) (K.written out.old) (K.written out.new) shelf.new }
@@ -165,18 +161,45 @@ fn start<S: Source, K: Sink, H: ResetHook>(
     let Ok(places) = Places::new(alloc) else {
         return NOT_STARTED;
     };
-    space.set_limit(options.space as u64);
-    let Ok(session) = Session::start(alloc, ACCOUNT, space) else {
+    let Ok(sessions) = Vec::with_capacity(alloc, options.sessions as usize) else {
         return NOT_STARTED;
     };
-    let calls = Calls {
+    space.set_limit(options.space as u64);
+    let Places {
+        space: mut lent_space,
+        shelf: mut lent_shelf,
+    } = places;
+    mem::swap(space, &mut lent_space);
+    mem::swap(shelf, &mut lent_shelf);
+    let mut calls = Calls {
         count: 0,
         fail: options.fail as u64,
     };
-    play(session, calls, places, src, out, space, shelf)
+    let mut shared = Shared {
+        space: &mut lent_space,
+        shelf: &mut lent_shelf,
+        calls: &mut calls,
+    };
+    let outcome = play(
+        alloc,
+        options.sessions,
+        options.descriptors,
+        sessions,
+        src,
+        out,
+        &mut shared,
+    );
+    let Shared {
+        space: given_space,
+        shelf: given_shelf,
+        calls: _,
+    } = shared;
+    mem::swap(space, given_space);
+    mem::swap(shelf, given_shelf);
+    outcome
 }
 
-/// What stands in the places of the space and of the shelf while these are lent to the session.
+/// What stands in the places of the space and of the shelf while these are lent to the sessions.
 #[derive(Drop)]
 struct Places<H: ResetHook> {
     space: Space,
@@ -193,58 +216,100 @@ impl<H: ResetHook> Places<H> {
     }
 }
 
-/// Plays the script to its end, and ends the session.
+/// Starts so many sessions, each with so many descriptors, and plays the script with them. Where not all of them start, those that did end without a word.
 fn play<S: Source, K: Sink, H: ResetHook>(
-    mut session: Session<H>,
-    mut calls: Calls,
-    places: Places<H>,
+    alloc: Global,
+    count: u8,
+    descriptors: u8,
+    mut sessions: Vec<Session<H>>,
     src: &mut S,
     out: &mut K,
-    space: &mut Space,
-    shelf: &mut Shelf<H>,
+    shared: &mut Shared<'_, H>,
 ) -> Outcome
-    requires opening { IsOpening (first_in session space.old shelf.old calls) }
-    requires lines { IsBetweenLines (first_in session space.old shelf.old calls) }
-    ensures whole { (result.status ≡ 0) ⊎ (result.status ≡ 1) → IsWhole (setting_of (first_in session space.old shelf.old calls)) result (S.left src.old) (S.left src.new) (K.written out.old) (K.written out.new) shelf.new }
+    requires none { sessions.items ≡ [] }
+    requires some { 0 < count }
+    requires descriptors { 0 < descriptors }
+    requires reserved { count ≤ vec_capacity sessions }
+    requires few { count ≤ 64 }
+    requires accounts { count ≤ accounts shared.old.space.now }
+    requires empty { (account : ℕ) → held shared.old.space.now account ≡ 0 }
+    requires hooks { AreDistinct (shelf_state.held shared.old.shelf.now) }
+    requires calls { shared.old.calls.now.count ≡ 0 }
+    ensures taken { (result.status ≡ 0) ⊎ (result.status ≡ 1) → TakesAll (setting_at count descriptors shared.old) (S.left src.old) shared.old.space.now shared.new.space.now }
+    ensures whole { (result.status ≡ 0) ⊎ (result.status ≡ 1) → IsWhole (setting_at count descriptors shared.old) result (S.left src.old) (S.left src.new) (K.written out.old) (K.written out.new) shared.new.shelf.now }
     ensures source_fault { result.status ≡ 3 → HasRisen (S.faults src.old) (S.faults src.new) }
-    ensures cut_off { result.status ≡ 3 → IsCutOff (setting_of (first_in session space.old shelf.old calls)) result (S.left src.old) (S.left src.new) (K.written out.old) (K.written out.new) shelf.new }
-    ensures too_long { result.status ≡ 6 → IsTooLong (setting_of (first_in session space.old shelf.old calls)) result (S.left src.old) (S.left src.new) (K.written out.old) (K.written out.new) shelf.new }
+    ensures cut_off { result.status ≡ 3 → IsCutOff (setting_at count descriptors shared.old) result (S.left src.old) (S.left src.new) (K.written out.old) (K.written out.new) shared.new.shelf.now }
+    ensures too_long { result.status ≡ 6 → IsTooLong (setting_at count descriptors shared.old) result (S.left src.old) (S.left src.new) (K.written out.old) (K.written out.new) shared.new.shelf.now }
     ensures sink_fault { result.status ≡ 4 → HasRisen (K.faults out.old) (K.faults out.new) }
-    ensures unwritten { result.status ≡ 4 → IsUnwritten (setting_of (first_in session space.old shelf.old calls)) result (S.left src.old) (S.left src.new) (K.written out.old) (K.written out.new) shelf.new }
-    ensures wanted { result.status ≡ 5 → IsWanted (setting_of (first_in session space.old shelf.old calls)) result (S.left src.old) (S.left src.new) (K.written out.old) (K.written out.new) shelf.new }
+    ensures unwritten { result.status ≡ 4 → IsUnwritten (setting_at count descriptors shared.old) result (S.left src.old) (S.left src.new) (K.written out.old) (K.written out.new) shared.new.shelf.now }
+    ensures wanted { result.status ≡ 5 → 0 < result.call → IsWanted (setting_at count descriptors shared.old) result (S.left src.old) (S.left src.new) (K.written out.old) (K.written out.new) shared.new.shelf.now }
+    ensures not_started { result.status ≡ 5 → result.call ≡ 0 → IsNotStarted result (S.left src.old) (S.left src.new) (K.written out.old) (K.written out.new) shared.old.shelf.now shared.new.shelf.now }
+    ensures source_grew { S.faults src.old < S.faults src.new → (result.status ≡ 3) ⊎ (result.status ≡ 4) }
+    ensures sink_grew { K.faults out.old < K.faults out.new → result.status ≡ 4 }
+    ensures statuses { IsPlayed result.status }
+    ensures call { result.status ≢ 4 → result.status ≢ 5 → result.call ≡ 0 }
+    ensures given_back { (account : ℕ) → held shared.new.space.now account ≡ 0 }
+    ensures accounts { accounts shared.new.space.now ≡ accounts shared.old.space.now }
+{
+    let Ok(()) = start_sessions(alloc, count, descriptors, &mut sessions, shared.space) else {
+        end_unheard(&mut sessions, shared);
+        return NOT_STARTED;
+    };
+    play_started(&mut sessions, src, out, shared)
+}
+
+/// Plays the script to its end, and ends all sessions.
+fn play_started<S: Source, K: Sink, H: ResetHook>(
+    sessions: &mut [Session<H>],
+    src: &mut S,
+    out: &mut K,
+    shared: &mut Shared<'_, H>,
+) -> Outcome
+    requires opening { IsOpening (run_of sessions.old shared.old) }
+    requires standing { AreStanding 0 (run_of sessions.old shared.old) }
+    requires few { length sessions.old ≤ 64 }
+    ensures whole { (d : ℕ) → HaveDescriptors d (run_of sessions.old shared.old) → (result.status ≡ 0) ⊎ (result.status ≡ 1) → IsWhole (setting_of d (run_of sessions.old shared.old)) result (S.left src.old) (S.left src.new) (K.written out.old) (K.written out.new) shared.new.shelf.now }
+    ensures source_fault { result.status ≡ 3 → HasRisen (S.faults src.old) (S.faults src.new) }
+    ensures cut_off { (d : ℕ) → HaveDescriptors d (run_of sessions.old shared.old) → result.status ≡ 3 → IsCutOff (setting_of d (run_of sessions.old shared.old)) result (S.left src.old) (S.left src.new) (K.written out.old) (K.written out.new) shared.new.shelf.now }
+    ensures too_long { (d : ℕ) → HaveDescriptors d (run_of sessions.old shared.old) → result.status ≡ 6 → IsTooLong (setting_of d (run_of sessions.old shared.old)) result (S.left src.old) (S.left src.new) (K.written out.old) (K.written out.new) shared.new.shelf.now }
+    ensures sink_fault { result.status ≡ 4 → HasRisen (K.faults out.old) (K.faults out.new) }
+    ensures unwritten { (d : ℕ) → HaveDescriptors d (run_of sessions.old shared.old) → result.status ≡ 4 → IsUnwritten (setting_of d (run_of sessions.old shared.old)) result (S.left src.old) (S.left src.new) (K.written out.old) (K.written out.new) shared.new.shelf.now }
+    ensures wanted { (d : ℕ) → HaveDescriptors d (run_of sessions.old shared.old) → result.status ≡ 5 → IsWanted (setting_of d (run_of sessions.old shared.old)) result (S.left src.old) (S.left src.new) (K.written out.old) (K.written out.new) shared.new.shelf.now }
     ensures called { result.status ≡ 5 → 0 < result.call }
     ensures source_grew { S.faults src.old < S.faults src.new → (result.status ≡ 3) ⊎ (result.status ≡ 4) }
     ensures sink_grew { K.faults out.old < K.faults out.new → result.status ≡ 4 }
     ensures statuses { IsPlayed result.status }
     ensures call { result.status ≢ 4 → result.status ≢ 5 → result.call ≡ 0 }
-    ensures taken { (result.status ≡ 0) ⊎ (result.status ≡ 1) → TakesAll (setting_of (first_in session space.old shelf.old calls)) (S.left src.old) session.tree.account 0 space.old space.new }
-    ensures given_back { held space.new session.tree.account ≡ 0 }
-    ensures others { (account : ℕ) → ¬ (account ≡ session.tree.account) → held space.new account ≡ held space.old account }
-    ensures accounts { accounts space.new ≡ accounts space.old }
+    ensures taken { (d : ℕ) → HaveDescriptors d (run_of sessions.old shared.old) → (result.status ≡ 0) ⊎ (result.status ≡ 1) → TakesAsked (setting_of d (run_of sessions.old shared.old)) (S.left src.old) shared.old.space.now shared.new.space.now }
+    ensures given_back { (account : ℕ) → account < length sessions.old → held shared.new.space.now account ≡ 0 }
+    ensures others { (account : ℕ) → length sessions.old ≤ account → held shared.new.space.now account ≡ held shared.old.space.now account }
+    ensures accounts { accounts shared.new.space.now ≡ accounts shared.old.space.now }
 {
-    let Places {
-        space: mut lent_space,
-        shelf: mut lent_shelf,
-    } = places;
-    mem::swap(space, &mut lent_space);
-    mem::swap(shelf, &mut lent_shelf);
-    let mut shared = Shared {
-        space: &mut lent_space,
-        shelf: &mut lent_shelf,
-        calls: &mut calls,
-    };
-    let mut printer = Printer::new(out, SESSION);
-    let ended = perform_lines(&mut session, src, &mut shared, &mut printer);
-    session.exit(&mut shared, &mut printer);
+    let mut printer = Printer::new(out);
+    let ended = perform_lines(sessions, src, shared, &mut printer);
+    exit_all(sessions, shared, &mut printer);
     printer.flush();
-    let Shared {
-        space: given_space,
-        shelf: given_shelf,
-        calls,
-    } = shared;
-    mem::swap(space, given_space);
-    mem::swap(shelf, given_shelf);
-    made_outcome(ended, calls.count, printer.has_failed(), printer.errors())
+    made_outcome(
+        ended,
+        shared.calls.count,
+        printer.has_failed(),
+        printer.errors(),
+    )
+}
+
+/// Ends sessions as they opened, without a word.
+fn end_unheard<H: ResetHook>(sessions: &mut [Session<H>], shared: &mut Shared<'_, H>)
+    requires opening { IsOpening (run_of sessions.old shared.old) }
+    requires standing { AreStanding 0 (run_of sessions.old shared.old) }
+    requires few { length sessions.old ≤ 64 }
+    ensures shelf { shared.new.shelf.now ≡ shared.old.shelf.now }
+    ensures given_back { (account : ℕ) → account < length sessions.old → held shared.new.space.now account ≡ 0 }
+    ensures others { (account : ℕ) → length sessions.old ≤ account → held shared.new.space.now account ≡ held shared.old.space.now account }
+    ensures accounts { accounts shared.new.space.now ≡ accounts shared.old.space.now }
+{
+    let mut nowhere = Nowhere;
+    let mut printer = Printer::new(&mut nowhere);
+    exit_all(sessions, shared, &mut printer);
 }
 
 /// What the end of a script, the count of fallible calls, a failed write and the count of errors make.

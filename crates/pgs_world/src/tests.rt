@@ -66,7 +66,7 @@ fn play(
     let bytes = Vec::from_slice(alloc, script)?;
     let mut source = MemSource::new(bytes, piece, vec![in alloc; bad_read]?);
     let mut sink = MemSink::new(alloc, 262_144, vec![in alloc; bad_write]?)?;
-    let mut space = Space::new(alloc, 8, 0)?;
+    let mut space = Space::new(alloc, 64, 0)?;
     let mut shelf = six_hooks(alloc)?;
     let outcome = run(
         alloc,
@@ -105,7 +105,7 @@ struct Row {
 }
 
 #[test]
-fn ten_scripts(rt: HostRuntime) -> Result<(), Fail> {
+fn fourteen_scripts(rt: HostRuntime) -> Result<(), Fail> {
     for row in [
         Row {
             words: &[],
@@ -142,9 +142,9 @@ fn ten_scripts(rt: HostRuntime) -> Result<(), Fail> {
         Row {
             words: &[],
             script: b"begin\nlock 5 ShareLock\nreport\npin 1\n@1 rollback\nrollback\n",
-            transcript: b"1 begin level 1\n1 create c6 TopTransactionContext in c1\n1 owner o1\n1 ok\n1 ERROR 42601 syntax error\n1 abort level 1\n1 ERROR 42601 syntax error\n1 ERROR 25P02 transaction is aborted\n1 ERROR 42601 syntax error\n1 cleanup level 1\n1 owner o1 gone\n1 delete c6\n1 ok\n1 delete c5\n1 delete c4\n1 delete c3\n1 delete c2\n1 delete c1\n1 exit\n",
+            transcript: b"1 begin level 1\n1 create c6 TopTransactionContext in c1\n1 owner o1\n1 ok\n1 ERROR 42601 syntax error\n1 abort level 1\n1 ERROR 42601 syntax error\n1 ERROR 25P02 transaction is aborted\n1 cleanup level 1\n1 owner o1 gone\n1 delete c6\n1 ok\n1 warning there is no transaction in progress\n1 ok\n1 delete c5\n1 delete c4\n1 delete c3\n1 delete c2\n1 delete c1\n1 exit\n",
             status: 1,
-            errors: 4,
+            errors: 3,
             lines: 6,
         },
         Row {
@@ -185,6 +185,38 @@ fn ten_scripts(rt: HostRuntime) -> Result<(), Fail> {
             transcript: b"1 begin level 1\n1 create c6 TopTransactionContext in c1\n1 owner o1\n1 ok\n1 ok\n1 ERROR 53200 out of space\n1 abort level 1\n1 cleanup level 1\n1 owner o1 gone\n1 delete c6\n1 ok\n1 begin level 1\n1 create c7 TopTransactionContext in c1\n1 owner o2\n1 ok\n1 abort level 1\n1 cleanup level 1\n1 owner o2 gone\n1 delete c7\n1 delete c5\n1 delete c4\n1 delete c3\n1 delete c2\n1 delete c1\n1 exit\n",
             status: 1,
             errors: 1,
+            lines: 5,
+        },
+        Row {
+            words: &["--sessions", "2"],
+            script: b"begin\n@2 begin\n@2 pin 7\npin 8\n@2 raise\n@1 alloc a 10\nrollback\n@2 rollback\n",
+            transcript: b"1 begin level 1\n1 create c6 TopTransactionContext in c1\n1 owner o1\n1 ok\n2 begin level 1\n2 create c6 TopTransactionContext in c1\n2 owner o1\n2 ok\n2 acquire buffer pin 7 #1 o1\n2 ok\n1 acquire buffer pin 8 #1 o1\n1 ok\n2 ERROR P0001 raised\n2 abort level 1\n2 release buffer pin 7 #1 o1\n1 ok\n1 abort level 1\n1 release buffer pin 8 #1 o1\n1 cleanup level 1\n1 owner o1 gone\n1 delete c6\n1 ok\n2 cleanup level 1\n2 owner o1 gone\n2 delete c6\n2 ok\n1 delete c5\n1 delete c4\n1 delete c3\n1 delete c2\n1 delete c1\n1 exit\n2 delete c5\n2 delete c4\n2 delete c3\n2 delete c2\n2 delete c1\n2 exit\n",
+            status: 1,
+            errors: 1,
+            lines: 8,
+        },
+        Row {
+            words: &["--sessions", "2"],
+            script: b"begin\nonreset CurTransactionContext\n@2 begin\n@2 context w TopMemoryContext small\n@2 onreset w\ncommit\n@2 onreset CurTransactionContext\n",
+            transcript: b"1 begin level 1\n1 create c6 TopTransactionContext in c1\n1 owner o1\n1 ok\n1 hook 1 c6\n1 ok\n2 begin level 1\n2 create c6 TopTransactionContext in c1\n2 owner o1\n2 ok\n2 create c7 w in c1\n2 ok\n2 hook 2 c7\n2 ok\n1 commit level 1\n1 owner o1 gone\n1 callback 1 c6\n1 delete c6\n1 ok\n2 hook 3 c6\n2 ok\n1 delete c5\n1 delete c4\n1 delete c3\n1 delete c2\n1 delete c1\n1 exit\n2 abort level 1\n2 cleanup level 1\n2 owner o1 gone\n2 callback 3 c6\n2 delete c6\n2 callback 2 c7\n2 delete c7\n2 delete c5\n2 delete c4\n2 delete c3\n2 delete c2\n2 delete c1\n2 exit\n",
+            status: 0,
+            errors: 0,
+            lines: 7,
+        },
+        Row {
+            words: &["--sessions=2"],
+            script: b"@2 begin\n@3 pin 1\n@3 nonsense\n@2 # nothing\n@9 pin 1\n",
+            transcript: b"2 begin level 1\n2 create c6 TopTransactionContext in c1\n2 owner o1\n2 ok\n3 ERROR 08003 no such session\n3 ERROR 42601 syntax error\n2 ERROR 42601 syntax error\n2 abort level 1\n1 ERROR 42601 syntax error\n1 delete c5\n1 delete c4\n1 delete c3\n1 delete c2\n1 delete c1\n1 exit\n2 cleanup level 1\n2 owner o1 gone\n2 delete c6\n2 delete c5\n2 delete c4\n2 delete c3\n2 delete c2\n2 delete c1\n2 exit\n",
+            status: 1,
+            errors: 4,
+            lines: 5,
+        },
+        Row {
+            words: &["--sessions", "2", "--fail", "7"],
+            script: b"begin\n@2 begin\n@2 pin 1\nalloc a 10\n@2 pin 1\n",
+            transcript: b"1 begin level 1\n1 create c6 TopTransactionContext in c1\n1 owner o1\n1 ok\n2 begin level 1\n2 create c6 TopTransactionContext in c1\n2 owner o1\n2 ok\n2 ERROR 53200 out of memory at call 7\n2 abort level 1\n1 ok\n2 ERROR 25P02 transaction is aborted\n1 abort level 1\n1 cleanup level 1\n1 owner o1 gone\n1 delete c6\n1 delete c5\n1 delete c4\n1 delete c3\n1 delete c2\n1 delete c1\n1 exit\n2 cleanup level 1\n2 owner o1 gone\n2 delete c6\n2 delete c5\n2 delete c4\n2 delete c3\n2 delete c2\n2 delete c1\n2 exit\n",
+            status: 1,
+            errors: 2,
             lines: 5,
         },
     ] {
@@ -307,6 +339,33 @@ fn two_of_six_hooks_run(rt: HostRuntime) -> Result<(), Fail> {
         b"begin\nonreset CurTransactionContext\ncontext w TopMemoryContext small\nonreset w\nrollback\n";
     let played = play(rt.alloc(), &[], script, 64, 0, 0)?;
     assert_eq!(rt; (played.outcome.status, played.fresh), (0, 4));
+    Ok(())
+}
+
+/// All 64 sessions end, those without a line too, in the order of their numbers.
+#[test]
+fn the_most_sessions(rt: HostRuntime) -> Result<(), Fail> {
+    let alloc = rt.alloc();
+    let played = play(alloc, &["--sessions", "64"], b"@8 begin\n", 5, 0, 0)?;
+    let mut wanted = Vec::from_slice(
+        alloc,
+        b"8 begin level 1\n8 create c6 TopTransactionContext in c1\n8 owner o1\n8 ok\n",
+    )?;
+    for session in 1..65_u8 {
+        if session == 8 {
+            wanted.extend_from_slice(
+                b"8 abort level 1\n8 cleanup level 1\n8 owner o1 gone\n8 delete c6\n",
+            )?;
+        }
+        for context in ["c5", "c4", "c3", "c2", "c1"] {
+            let line = format!(in alloc; "{session} delete {context}\n")?;
+            wanted.extend_from_slice(line.as_bytes())?;
+        }
+        let line = format!(in alloc; "{session} exit\n")?;
+        wanted.extend_from_slice(line.as_bytes())?;
+    }
+    assert_eq!(rt; played.outcome.status, 0);
+    assert_eq!(rt; played.written.as_slice(), wanted.as_slice());
     Ok(())
 }
 

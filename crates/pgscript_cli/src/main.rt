@@ -23,7 +23,7 @@ use std::process::ExitCode;
 use std::{env, io};
 
 /// How many accounts the space has: one for each session that a run may have.
-const ACCOUNTS: u8 = 8;
+const ACCOUNTS: u8 = 64;
 
 /// How many hooks there are. Their words are 1, 2 and so on.
 const HOOKS: u64 = 4096;

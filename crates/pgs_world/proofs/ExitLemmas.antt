@@ -1,0 +1,208 @@
+-- What the ends of all sessions make of a run, from what each makes of its session.
+use Rattle.std.proofs.Common.{◌≡◌, ℕ, zero, suc, ◌+◌, ◌-◌, ◌<◌, inl, inr, List, [], ◌∷◌, ◌++◌, length, drop, Some, refl, sym, ap, ◌∙◌, subst, arith, append_assoc, append-nil}
+use Rattle.std.specs.Prelude.{slice_get, slice_set, replicate}
+use Rattle.std.proofs.lemmas.Bool.{cases_eq}
+use Rattle.std.proofs.lemmas.List.{length-map}
+use Rattle.pgs_step.specs.declared.events.Event.{Event}
+use Rattle.pgs_step.specs.declared.events.What.{What}
+use Rattle.addr_space.specs.Space.{Asks, held, taken}
+use Rattle.reset_callbacks.specs.Hook.{Hook}
+use Rattle.reset_callbacks.specs.ShelfState.{ShelfState}
+use Rattle.session_rules.specs.State.{SessionState, opening}
+use Rattle.session_rules.specs.World.{Around, Scene, World, around, with_scene}
+use Rattle.session_rules.specs.Acts.{Ended}
+use Rattle.session_rules.specs.Ends.{exited}
+use Rattle.session_rules.specs.Transcript.{Course, after_exit, at_start, ended, exits, of_session}
+use Rattle.session_rules.specs.HookCounts.{CountsHooks, HooksCounted}
+use Rattle.session_rules.proofs.HookLaws.{exited_counts_hooks}
+use Rattle.session_rules.proofs.HookSteps.{IsNumbered}
+use Rattle.session_rules.specs.Standing.{Stands}
+use Rattle.session_store.specs.State.{StoreState, session_of}
+use Rattle.session_store.specs.Calls.{StaysBeside}
+use Rattle.session_core.specs.declared.calls.Calls.{Calls}
+use Rattle.session_core.specs.Lines.{IsBetweenLines}
+use Rattle.session_core.specs.Performed.{Ends, scene_in}
+use Rattle.session_core.proofs.Standing.{empty_around}
+use Rattle.pgs_world.specs.World.{AreStanding, HaveDescriptors, IsOpening, Run, SameRun, one_of, sessions_in, world_in}
+use Rattle.pgs_world.specs.Turns.{AllExit}
+use Rattle.pgs_world.proofs.SessionLemmas.{Changed, each_behind, fit_behind, have_behind, lines_stay, place_set, same_behind, same_on, same_run, session_there, sessions_behind, world_behind}
+use Rattle.pgs_world.proofs.TurnLemmas.{took_other, took_own}
+
+-- A course whose lines are done, and where it stands once the sessions before this place have ended.
+pub record Remains (place : ℕ) (descriptors : ℕ) (run : Run) (shown : List Event → Type 0) (course : Course) : Type 0 where
+  pub middle : Course
+  pub rest : ended course ≡ exits (place + 1) (drop place (sessions_in run.stores run.space)) middle
+  pub world_is : middle.world ≡ world_in descriptors run
+  pub has : HaveDescriptors descriptors run
+  pub more : List Event
+  pub events : middle.events ≡ course.events ++ more
+  pub shows : shown more
+
+-- the sessions before this place have ended
+pub record HaveExited (place : ℕ) (a run : Run) (shown : List Event → Type 0) : Type 0 where
+  pub leads : (descriptors : ℕ) → HaveDescriptors descriptors a → (course : Course) → course.world ≡ world_in descriptors a → Remains place descriptors run shown course
+  pub calls : run.calls ≡ a.calls
+  pub given_back : (account : ℕ) → account < place → held run.space account ≡ 0
+  pub asks : (account : ℕ) → taken run.space account ≡ taken a.space account
+  pub same : SameRun a run
+
+pub none_exited : (a : Run) (shown : List Event → Type 0) → shown [] → HaveExited 0 a a shown
+none_exited a shown h = record {
+  leads = λ descriptors has course e. record {
+    middle = course;
+    rest = ap (λ (sessions : List SessionState). exits 1 sessions course) (ap (λ (x : World). x.sessions) e);
+    world_is = e;
+    has = has;
+    more = [];
+    events = sym (append-nil course.events);
+    shows = h;
+  };
+  calls = refl;
+  given_back = λ account less. absurd (omega (arith, less));
+  asks = λ account. refl;
+  same = same_run a;
+}
+
+-- what stands behind a place
+drop_at : {A : Type 0} (xs : List A) (place : ℕ) (x : A) → slice_get xs place ≡ Some x → drop place xs ≡ x ∷ drop (suc place) xs
+drop_at [] place x h = absurd (cc h)
+drop_at {A = A} (y ∷ ys) zero x h = let same : y ≡ x = cc h in ap (λ (z : A). z ∷ ys) same
+drop_at (y ∷ ys) (suc place) x h = drop_at ys place x h
+
+drop_set : {A : Type 0} (xs : List A) (place : ℕ) (y : A) → drop (suc place) (slice_set xs place y) ≡ drop (suc place) xs
+drop_set [] place y = refl
+drop_set (x ∷ xs) zero y = refl
+drop_set (x ∷ xs) (suc place) y = drop_set xs place y
+
+drop_all : {A : Type 0} (xs : List A) (n : ℕ) → n ≡ length xs → drop n xs ≡ []
+drop_all [] zero h = refl
+drop_all [] (suc n) h = refl
+drop_all (x ∷ xs) zero h = absurd (omega (arith, h))
+drop_all (x ∷ xs) (suc n) h = drop_all xs n (omega (arith, h))
+
+-- the contexts of a session that stands have different numbers, below the next one
+numbered_of : (s : Scene) → Stands s → IsNumbered s
+numbered_of s h = record { once = h.contexts.once; below = h.contexts.below }
+
+-- one session more ends
+module _ (start a b : Run) (place : ℕ) (store left : StoreState) (during : List What → Type 0) (before shown : List Event → Type 0)
+    (standing : AreStanding place a) (there : slice_get a.stores place ≡ Some store) (stores : b.stores ≡ slice_set a.stores place left)
+    (ends : Ends exited (one_of a store) (one_of b left) during) (empty : held b.space store.tree.account ≡ 0) (beside : StaysBeside left)
+    (joins : (xs : List Event) (ys : List What) → before xs → during ys → shown (xs ++ of_session (place + 1) ys)) where
+  change : Changed a b place store left
+  change = record { there = there; stores = stores; moves = ends.moves; descriptors_are = ends.grows.descriptors; fail = ap (λ (c : Calls). c.fail) ends.calls }
+
+  -- the end of the session in its surroundings there
+  abbrev ended_in : World → Ended
+  ended_in world = exited (record { session = session_of store a.space; around = around (place + 1) world })
+
+  -- the session there with so many descriptors as its share
+  abbrev scene_with : ℕ → ℕ → Scene
+  scene_with descriptors own = record { session = session_of store a.space; around = record (around (place + 1) (world_in descriptors a)) { descriptors = own } }
+
+  world_is : (descriptors : ℕ) → HaveDescriptors descriptors a → with_scene (place + 1) (ended_in (world_in descriptors a)).scene (world_in descriptors a) ≡ world_in descriptors b
+  world_is descriptors has =
+      let here : Around = around (place + 1) (world_in descriptors a) in
+      let led : (ended_in (world_in descriptors a)).scene ≡ scene_in (one_of b left) here =
+      subst (λ (n : ℕ). (exited (scene_with descriptors n)).scene ≡ scene_in (one_of b left) here) (has place store there) (ends.acted.leads here) in
+      ap (λ (s : Scene). with_scene (place + 1) s (world_in descriptors a)) led
+      ∙ ap (λ (c : Calls). record (with_scene (place + 1) (scene_in (one_of b left) here) (world_in descriptors a)) { calls = c.count }) (sym ends.calls)
+      ∙ world_behind a b place store left change standing.each descriptors (place + 1) here refl
+
+  told : (descriptors : ℕ) → HaveDescriptors descriptors a → during (ended_in (world_in descriptors a)).events
+  told descriptors has = subst (λ (n : ℕ). during (exited (scene_with descriptors n)).events) (has place store there) (ends.acted.says (around (place + 1) (world_in descriptors a)))
+
+  remains : (descriptors : ℕ) (course : Course) → Remains place descriptors a before course → Remains (place + 1) descriptors b shown course
+  remains descriptors course r =
+      let next : Course = after_exit (place + 1) r.middle (ended_in r.middle.world) in
+      let here = drop_at (sessions_in a.stores a.space) place (session_of store a.space) (session_there a place store there) in
+      let up : suc place ≡ place + 1 = omega arith in
+      let behind : drop (suc place) (sessions_in a.stores a.space) ≡ drop (place + 1) (sessions_in b.stores b.space) =
+      sym (drop_set (sessions_in a.stores a.space) place (session_of left b.space)) ∙ ap (drop (suc place)) (sym (sessions_behind a b place store left change standing.each))
+      ∙ ap (λ (n : ℕ). drop n (sessions_in b.stores b.space)) up in
+      record {
+        middle = next;
+        rest = r.rest ∙ ap (λ (sessions : List SessionState). exits (place + 1) sessions r.middle) here ∙ ap (λ (sessions : List SessionState). exits (place + 1 + 1) sessions next) behind;
+        world_is = ap (λ (x : World). with_scene (place + 1) (ended_in x).scene x) r.world_is ∙ world_is descriptors r.has;
+        has = have_behind a b place store left change standing.each descriptors r.has;
+        more = r.more ++ of_session (place + 1) (ended_in r.middle.world).events;
+        events = ap (λ (xs : List Event). xs ++ of_session (place + 1) (ended_in r.middle.world).events) r.events ∙ append_assoc course.events r.more (of_session (place + 1) (ended_in r.middle.world).events);
+        shows = joins r.more (ended_in r.middle.world).events r.shows (subst (λ (x : World). during (ended_in x).events) (sym r.world_is) (told descriptors r.has));
+      }
+
+  pub one_more_exited : HaveExited place start a before → HaveExited (place + 1) start b shown
+  one_more_exited h =
+      let own = standing.each place store there in
+      record {
+        leads = λ descriptors has course e. remains descriptors course (h.leads descriptors has course e);
+        calls = ends.calls ∙ h.calls;
+        given_back = λ account less. elim (cases_eq account place) [
+          | inl same ↦ ap (held b.space) (same ∙ sym own.account) ∙ empty
+          | inr other ↦ ends.moves.others account (λ e. other (e ∙ own.account)) ∙ h.given_back account (omega (arith, less, other))
+        ];
+        asks = λ account. elim (cases_eq account store.tree.account) [
+          | inl same ↦ took_own account 0 a.space b.space (subst (λ (n : ℕ). n < length a.space.taken) (sym same) own.keeps.agrees.account) (subst (λ (n : ℕ). Asks n 0 a.space b.space) (sym same) ends.asked) ∙ h.asks account
+          | inr other ↦ took_other store.tree.account account 0 a.space b.space other ends.asked ∙ h.asks account
+        ];
+        same = same_on start a b h.same (same_behind a b place store left change standing.each);
+      }
+
+  events_of : List What
+  events_of = (exited (scene_in (one_of a store) empty_around)).events
+
+  counts : HooksCounted (session_of store a.space).contexts a.shelf (session_of left b.space).contexts b.shelf events_of
+  unfolding events_of
+  counts =
+      let own : IsBetweenLines (one_of a store) = standing.lines place store (omega arith) there in
+      subst (λ (s : Scene). CountsHooks (scene_in (one_of a store) empty_around) s (exited (scene_in (one_of a store) empty_around)).events) (ends.acted.leads empty_around)
+      (exited_counts_hooks (scene_in (one_of a store) empty_around) (numbered_of (scene_in (one_of a store) empty_around) (own.stands empty_around).stands))
+
+  pub exit_standing : AreStanding (place + 1) b
+  exit_standing = record {
+    each = each_behind a b place store left change standing.each ends.keeps beside;
+    lines = λ j st from now. elim (place_set a.stores place left j st (ap (λ (all : List StoreState). slice_get all j) (sym stores) ∙ now)) [
+      | inl own ↦ absurd (omega (arith, own.0, from))
+      | inr other ↦ lines_stay a b place store left change standing.each standing.hooks events_of counts j st other.0 other.1 now (standing.lines j st (omega (arith, from)) other.1)
+    ];
+    hooks = fit_behind a b place store left change standing.each standing.hooks events_of counts;
+    alike = (standing.alike.0, have_behind a b place store left change standing.each standing.alike.0 standing.alike.1);
+  }
+
+-- all sessions have ended
+pub all_exited : (n : ℕ) (a b : Run) (shown : List Event → Type 0) → n ≡ length a.stores → HaveExited n a b shown → AllExit a b shown
+all_exited n a b shown all h = record {
+  leads = λ descriptors has course e.
+      let r = h.leads descriptors has course e in
+      let none : drop n (sessions_in b.stores b.space) ≡ [] = drop_all (sessions_in b.stores b.space) n (all ∙ sym h.same.sessions ∙ sym (length-map b.stores (λ (s : StoreState). session_of s b.space))) in
+      let done : ended course ≡ r.middle = r.rest ∙ ap (λ (sessions : List SessionState). exits (n + 1) sessions r.middle) none in (
+        r.more,
+        ap (λ (c : Course). c.events) done ∙ r.events,
+        r.shows,
+        ap (λ (c : Course). c.world) done ∙ r.world_is,
+      );
+  calls = h.calls;
+  given_back = λ account less. h.given_back account (omega (arith, less, all));
+  asks = h.asks;
+  same = h.same;
+}
+
+-- sessions as they opened leave the hooks as they are
+opening_leaves : (shelf : ShelfState) (scene_around : Around) → (exited (record { session = opening; around = record scene_around { shelf = shelf } })).scene.around.shelf ≡ shelf
+unfolding exited opening
+opening_leaves shelf scene_around =
+    ap (λ (spent : List Hook). record { fresh = shelf.fresh; spent = spent; out = shelf.out - 0 }) (append-nil shelf.spent)
+    ∙ ap (λ (out : ℕ). record { fresh = shelf.fresh; spent = shelf.spent; out = out }) (omega arith)
+
+pub exits_leave : (n count : ℕ) (course : Course) → (exits n (replicate count opening) course).world.shelf ≡ course.world.shelf
+exits_leave n zero course = refl
+exits_leave n (suc count) course =
+    exits_leave (n + 1) count (after_exit n course (exited (record { session = opening; around = around n course.world })))
+    ∙ opening_leaves course.world.shelf (around n course.world)
+
+pub opened_leave : (a b : Run) (shown : List Event → Type 0) (descriptors : ℕ) → HaveDescriptors descriptors a → IsOpening a → AllExit a b shown → b.shelf ≡ a.shelf
+opened_leave a b shown descriptors has opens ends =
+    let course : Course = at_start (world_in descriptors a) in
+    let left = ends.leads descriptors has course refl in
+    sym (ap (λ (x : World). x.shelf) left.3)
+    ∙ ap (λ (sessions : List SessionState). (exits 1 sessions course).world.shelf) opens.sessions
+    ∙ exits_leave 1 (length a.stores) course

@@ -1,0 +1,11 @@
+use Rattle.pgs_world.specs.PrinterView.{ShowsEvents}
+use Rattle.pgs_world.specs.World.{run_of, AreStanding}
+use Rattle.pgs_world.proofs.ExitLemmas.{HaveExited}
+use Rattle.pgs_world.proofs.sessions.exit_all.Given as goal
+
+-- the sessions before this place have ended, and the others stand
+abbrev pub invariant-loop-place : goal.invariant-loop-place
+invariant-loop-place g l = record {
+  standing : AreStanding l.place (run_of l.sessions l.shared);
+  exited : HaveExited l.place (run_of l.initial.sessions l.initial.shared) (run_of l.sessions l.shared) (λ xs. ShowsEvents g.K.Sink.written g.K.Sink.faults l.initial.printer xs l.printer);
+}

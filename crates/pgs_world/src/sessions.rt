@@ -1,0 +1,107 @@
+//! The sessions of a run: they start, take turns and end.
+ghost use Rattle.std.specs.Prelude.{◌≡◌, ◌<◌, ◌≤◌, ℕ, List, [], length, vec_capacity, OnOk, IfSome, if◌then◌else◌, nat_lt};
+ghost use Rattle.addr_space.specs.Space.{accounts, held, risen, taken};
+ghost use Rattle.pgs_command.specs.Ranges.{IsInRange, IsSession};
+ghost use Rattle.session_core.specs.Turns.{IsRead};
+ghost use Rattle.pgs_world.specs.PrinterView.{ShowsEvents};
+ghost use Rattle.pgs_world.specs.World.{run_of, AreStanding};
+ghost use Rattle.session_rules.specs.Transcript.{missing};
+ghost use Rattle.pgs_world.specs.Turns.{AllExit, AreOpened, HaveRoom, TakesTurn};
+
+use crate::lines::Said;
+use crate::printer::Printer;
+use addr_space::Space;
+use pgs_command::Command;
+use pgs_io::Sink;
+use pgs_step::{Emit, Error, What};
+use reset_callbacks::ResetHook;
+use session_core::{Session, Shared, StartError};
+use std::alloc::Global;
+
+/// Starts so many sessions, or those before the first that can't be started. Session n counts for account n - 1 of the space, and each
+/// has so many descriptors for its files.
+pub(crate) fn start_sessions<H: ResetHook>(
+    alloc: Global,
+    count: u8,
+    descriptors: u8,
+    sessions: &mut Vec<Session<H>>,
+    space: &mut Space,
+) -> Result<(), StartError>
+    requires none { sessions.old.items ≡ [] }
+    requires reserved { count ≤ vec_capacity sessions.old }
+    requires descriptors { 0 < descriptors }
+    requires accounts { count ≤ accounts space.old }
+    requires empty { (account : ℕ) → held space.old account ≡ 0 }
+    ensures opened { AreOpened descriptors space.old sessions.new.items space.new }
+    ensures all { OnOk result (length sessions.new.items ≡ count) }
+    ensures few { length sessions.new.items ≤ count }
+    ensures asked { OnOk result ((account : ℕ) → taken space.new account ≡ risen (taken space.old account) (if nat_lt account count then 65536 else 0)) }
+{
+    for account in 0..count {
+        match Session::start(alloc, account, descriptors, space) {
+            Ok(session) => {
+                session.beside();
+                sessions.push_reserved(session);
+            }
+            Err(error) => return Err(error),
+        }
+    }
+    Ok(())
+}
+
+/// The turn of a line: its session performs it. A line of a session that isn't there is nothing but its error.
+///
+/// Answers whether the line met a want of memory.
+pub(crate) fn take_turn<K: Sink, H: ResetHook>(
+    sessions: &mut [Session<H>],
+    said: Said,
+    shared: &mut Shared<'_, H>,
+    printer: &mut Printer<'_, K>,
+) -> bool
+    requires standing { AreStanding 0 (run_of sessions.old shared.old) }
+    requires session { IsSession said.session }
+    requires known { IsRead said.command }
+    requires range { IfSome said.command IsInRange }
+    requires room { HaveRoom (run_of sessions.old shared.old) }
+    ensures turn { TakesTurn said (run_of sessions.old shared.old) (run_of sessions.new shared.new) (λ xs. ShowsEvents K.written K.faults printer.old xs printer.new) result }
+    ensures standing { AreStanding 0 (run_of sessions.new shared.new) }
+{
+    printer.turn_to(said.session);
+    let place = said.session as usize - 1;
+    if place >= sessions.len() {
+        printer.emit(What::Error(missing_error(&said.command)));
+        return false;
+    }
+    let session = &mut sessions[place];
+    let wanted = session.take_turn(said.command, shared, printer);
+    session.beside();
+    wanted
+}
+
+/// The error of a line of a session that isn't there.
+fn missing_error(command: &Option<Command>) -> Error
+    ensures { result ≡ missing command.now }
+{
+    match command {
+        Some(_) => Error::NoSuchSession,
+        None => Error::SyntaxError,
+    }
+}
+
+/// All sessions end, in the order of their numbers.
+pub(crate) fn exit_all<K: Sink, H: ResetHook>(
+    sessions: &mut [Session<H>],
+    shared: &mut Shared<'_, H>,
+    printer: &mut Printer<'_, K>,
+)
+    requires standing { AreStanding 0 (run_of sessions.old shared.old) }
+    requires few { length sessions.old ≤ 64 }
+    ensures exits { AllExit (run_of sessions.old shared.old) (run_of sessions.new shared.new) (λ xs. ShowsEvents K.written K.faults printer.old xs printer.new) }
+{
+    for place in 0..sessions.len() {
+        printer.turn_to(place as u8 + 1);
+        let session = &mut sessions[place];
+        session.exit(shared, printer);
+        session.beside();
+    }
+}
