@@ -2,15 +2,16 @@
 use Rattle.std.specs.Prelude.{◌≡◌, ℕ, ◌+◌, ◌-◌, ◌<◌, ◌≤◌, true, false, List, [], ◌∷◌, codes, Option, Some}
 use Rattle.std.specs.Option.{option_map_or}
 use Rattle.pgs_step.specs.declared.ids.CtxId.{CtxId}
+use Rattle.pgs_step.specs.declared.events.What.{What}
 use Rattle.addr_space.specs.Space.{Space, held}
 use Rattle.reset_callbacks.specs.Hook.{Hook, AreDistinct}
 use Rattle.reset_callbacks.specs.ShelfState as shelf
 use Rattle.any_ctx.specs.declared.any.CtxKind.{CtxKind}
 use Rattle.any_ctx.specs.declared.any.CtxKind.TheVariants.{Default}
 use Rattle.context_report.specs.Lines.{no_total}
-use Rattle.context_rules.specs.Contexts.{Contexts, context_named, created, reparented}
-use Rattle.context_rules.specs.Chunks.{allocated, registered}
-use Rattle.context_rules.specs.Ends.{waiting}
+use Rattle.context_rules.specs.Contexts.{Contexts, context_named, created, created_events, reparented, reparented_events}
+use Rattle.context_rules.specs.Chunks.{allocated, registered, resized, zeros}
+use Rattle.context_rules.specs.Ends.{Ended, unchanged, waiting}
 use Rattle.context_rules.specs.Opening.{opening}
 use Rattle.context_rules.specs.Reports.{summed}
 use Rattle.context_tree.specs.State.{TreeState, Agrees, IsLive, stands_for, total_of}
@@ -65,13 +66,32 @@ number_of (Named name) contexts = context_named name contexts
 abbrev pub made_in : Option ℕ → ℕ → List ℕ → CtxKind → Contexts → Contexts
 made_in parent n name kind contexts = option_map_or (λ p. created p n name kind false contexts) parent contexts
 
+-- and what is said then
+abbrev pub made_events : Option ℕ → ℕ → List ℕ → List What
+made_events parent n name = option_map_or (λ p. created_events p n name) parent []
+
 -- a chunk more
 abbrev pub taken_in : Option ℕ → List ℕ → ℕ → Contexts → Contexts
 taken_in at chunk size contexts = option_map_or (λ n. allocated n (limit - total_of contexts) (Some chunk) size [] contexts) at contexts
 
+-- a chunk of zeros more
+abbrev pub zeroed_in : Option ℕ → List ℕ → ℕ → Contexts → Contexts
+zeroed_in at chunk size contexts = option_map_or (λ n. allocated n (limit - total_of contexts) (Some chunk) size (zeros size) contexts) at contexts
+
+-- a chunk of another size
+abbrev pub fitted : List ℕ → ℕ → Contexts → Contexts
+fitted chunk size contexts = resized (total_of contexts) limit chunk size contexts
+
 -- a context below another one
 abbrev pub moved_in : Option ℕ → Option ℕ → Contexts → Contexts
 moved_in at parent contexts = option_map_or (λ n. option_map_or (λ p. reparented n p contexts) parent contexts) at contexts
+
+abbrev pub moved_events : Option ℕ → Option ℕ → Contexts → List What
+moved_events at parent contexts = option_map_or (λ n. option_map_or (λ p. reparented_events n p contexts) parent []) at []
+
+-- what becomes of the contexts when one goes or is reset, if that is there
+abbrev pub ended_at : (ℕ → Contexts → Ended) → Option ℕ → Contexts → Ended
+ended_at end at contexts = option_map_or (λ n. end n contexts) at (unchanged contexts)
 
 -- hooks that have not run, by their words
 abbrev pub fresh_hook : ℕ → Hook

@@ -1,16 +1,18 @@
 //! A session's contexts in a space of their own.
-ghost use Rattle.std.specs.Prelude.{◌≡◌, ℕ, ◌+◌, ◌*◌, ◌<◌, false, true, Some, None, IfOk, OnOk};
+ghost use Rattle.std.specs.Prelude.{◌≡◌, ℕ, ◌+◌, ◌*◌, ◌<◌, length, false, true, Some, None, IfOk, OnOk, OnErr};
 ghost use Rattle.addr_space.specs.Space.{held as held_by};
-ghost use Rattle.forest.specs.Forest.{Empty, Once, has, removed, is_above};
+ghost use Rattle.pgs_step.specs.EventList.{KeepsMore};
+ghost use Rattle.forest.specs.Forest.{Empty, Once, has, removed, is_above, size};
 ghost use Rattle.reset_callbacks.specs.Hook.{AreDistinct};
 ghost use Rattle.reset_callbacks.specs.ShelfState.{held, taken};
 ghost use Rattle.any_ctx.specs.Kinds.{IsSlabSize};
-ghost use Rattle.context_rules.specs.Contexts.{created, reparented};
-ghost use Rattle.context_rules.specs.Chunks.{freed};
-ghost use Rattle.context_rules.specs.Ends.{gone};
-ghost use Rattle.context_rules.specs.Reports.{IsCountable};
-ghost use Rattle.context_tree.specs.State.{HooksFit, IsLive};
-ghost use Rattle.context_trials.specs.Standing.{Stands, begun, contexts_of, number_of, made_in, taken_in, moved_in, waits_at, AreSmall};
+ghost use Rattle.context_rules.specs.Contexts.{created, created_events};
+ghost use Rattle.context_rules.specs.Chunks.{freed, shown, written};
+ghost use Rattle.context_rules.specs.Ends.{gone, cleared, handed_in};
+ghost use Rattle.context_rules.specs.Refusals.{bytes_refusal};
+ghost use Rattle.context_rules.specs.Reports.{IsCountable, report};
+ghost use Rattle.context_tree.specs.State.{HooksFit, IsLive, error_of};
+ghost use Rattle.context_trials.specs.Standing.{Stands, begun, contexts_of, number_of, made_in, made_events, taken_in, zeroed_in, fitted, moved_in, moved_events, waits_at, ended_at, AreSmall};
 
 use addr_space::Space;
 use any_ctx::CtxKind;
@@ -119,6 +121,7 @@ impl Trial {
         ensures stands { Stands self.new }
         ensures live { IfOk result (IsLive self.new.tree) }
         ensures contexts { OnOk result (contexts_of self.new ≡ created parent.number self.old.tree.next name kind protected (contexts_of self.old)) }
+        ensures said { OnOk result (KeepsMore self.old.out (created_events parent.number self.old.tree.next name) self.new.out) }
         ensures next { OnOk result (self.new.tree.next ≡ self.old.tree.next + 1) }
         ensures shelf { self.new.shelf ≡ self.old.shelf }
     {
@@ -143,6 +146,7 @@ impl Trial {
         requires slab { IsSlabSize kind }
         ensures stands { Stands self.new }
         ensures contexts { OnOk result (contexts_of self.new ≡ made_in (number_of at (contexts_of self.old)) self.old.tree.next name kind (contexts_of self.old)) }
+        ensures said { OnOk result (KeepsMore self.old.out (made_events (number_of at (contexts_of self.old)) self.old.tree.next name) self.new.out) }
         ensures next { OnOk result (self.new.tree.next ≡ self.old.tree.next + 1) }
         ensures shelf { self.new.shelf ≡ self.old.shelf }
     {
@@ -204,7 +208,8 @@ impl Trial {
     /// Takes a chunk of zeros.
     pub fn alloc0(&mut self, at: At, chunk: Name, size: u64) -> Result<(), TreeError>
         requires { Stands self.old }
-        ensures { Stands self.new }
+        ensures stands { Stands self.new }
+        ensures contexts { OnOk result (contexts_of self.new ≡ zeroed_in (number_of at (contexts_of self.old)) chunk size (contexts_of self.old)) }
     {
         let id = self.find(at)?;
         self.tree.alloc0(&mut self.space, id, Some(chunk), size)?;
@@ -224,7 +229,8 @@ impl Trial {
     /// Gives a chunk another size.
     pub fn realloc(&mut self, chunk: &Name, size: u64) -> Result<(), TreeError>
         requires { Stands self.old }
-        ensures { Stands self.new }
+        ensures stands { Stands self.new }
+        ensures contexts { OnOk result (contexts_of self.new ≡ fitted chunk.now size (contexts_of self.old)) }
     {
         self.tree.realloc(&mut self.space, chunk, size)?;
         Ok(())
@@ -233,7 +239,8 @@ impl Trial {
     /// Writes bytes into a chunk.
     pub fn put(&mut self, chunk: &Name, place: u64, bytes: &[u8]) -> Result<(), TreeError>
         requires { Stands self.old }
-        ensures { Stands self.new }
+        ensures stands { Stands self.new }
+        ensures contexts { OnOk result (contexts_of self.new ≡ written chunk.now place bytes.now (contexts_of self.old)) }
     {
         self.tree.put(&mut self.space, chunk, place, bytes)?;
         Ok(())
@@ -242,7 +249,8 @@ impl Trial {
     /// Writes over the first two bytes of a chunk, in the space and past the tree, where both are known.
     pub fn overwrite(&mut self, chunk: &Name, bytes: [u8; 2]) -> Result<(), TreeError>
         requires { Stands self.old }
-        ensures { Stands self.new }
+        ensures stands { Stands self.new }
+        ensures contexts { OnOk result (contexts_of self.new ≡ written chunk.now 0 bytes (contexts_of self.old)) }
     {
         let mut known = [0; 2];
         self.tree.bytes(&self.space, chunk, 0, &mut known)?;
@@ -254,6 +262,9 @@ impl Trial {
     /// Reads bytes of a chunk, as many as `out` has.
     pub fn show(&self, chunk: &Name, place: u64, out: &mut [u8]) -> Result<(), TreeError>
         requires { Stands self.now }
+        ensures answer { error_of result ≡ bytes_refusal chunk.now place (length out.old) (contexts_of self.now) }
+        ensures bytes { OnOk result (out.new ≡ shown chunk.now place (length out.old) (contexts_of self.now)) }
+        ensures err { OnErr result (out.new ≡ out.old) }
     {
         self.tree.bytes(&self.space, chunk, place, out)
     }
@@ -279,7 +290,9 @@ impl Trial {
     /// Resets a context, where no hook waits.
     pub fn reset(&mut self, at: At) -> Result<(), TreeError>
         requires { Stands self.old }
-        ensures { Stands self.new }
+        ensures stands { Stands self.new }
+        ensures contexts { OnOk result (contexts_of self.new ≡ (ended_at cleared (number_of at (contexts_of self.old)) (contexts_of self.old)).contexts) }
+        ensures said { OnOk result (KeepsMore self.old.out (ended_at cleared (number_of at (contexts_of self.old)) (contexts_of self.old)).events self.new.out) }
     {
         let id = self.find(at)?;
         if self.hooked {
@@ -294,7 +307,9 @@ impl Trial {
     /// Deletes a context, where no hook waits.
     pub fn delete(&mut self, at: At) -> Result<(), TreeError>
         requires { Stands self.old }
-        ensures { Stands self.new }
+        ensures stands { Stands self.new }
+        ensures contexts { OnOk result (contexts_of self.new ≡ (ended_at gone (number_of at (contexts_of self.old)) (contexts_of self.old)).contexts) }
+        ensures said { OnOk result (KeepsMore self.old.out (ended_at gone (number_of at (contexts_of self.old)) (contexts_of self.old)).events self.new.out) }
     {
         let id = self.find(at)?;
         if self.hooked {
@@ -310,7 +325,10 @@ impl Trial {
     pub fn delete_hooked(&mut self, at: At) -> Result<(), TreeError>
         requires stands { Stands self.old }
         requires hooks { HooksFit (contexts_of self.old) self.old.shelf }
-        ensures { Stands self.new }
+        ensures stands { Stands self.new }
+        ensures contexts { OnOk result (contexts_of self.new ≡ (ended_at gone (number_of at (contexts_of self.old)) (contexts_of self.old)).contexts) }
+        ensures said { OnOk result (KeepsMore self.old.out (ended_at gone (number_of at (contexts_of self.old)) (contexts_of self.old)).events self.new.out) }
+        ensures shelf { OnOk result (self.new.shelf ≡ handed_in (ended_at gone (number_of at (contexts_of self.old)) (contexts_of self.old)).hooks self.old.shelf) }
     {
         let id = self.find(at)?;
         self.tree
@@ -325,6 +343,7 @@ impl Trial {
         requires { Stands self.old }
         ensures stands { Stands self.new }
         ensures contexts { OnOk result (contexts_of self.new ≡ moved_in (number_of at (contexts_of self.old)) (number_of parent (contexts_of self.old)) (contexts_of self.old)) }
+        ensures said { OnOk result (KeepsMore self.old.out (moved_events (number_of at (contexts_of self.old)) (number_of parent (contexts_of self.old)) (contexts_of self.old)) self.new.out) }
     {
         let id = self.find(at)?;
         let below = self.find(parent)?;
@@ -341,6 +360,7 @@ impl Trial {
         requires apart { is_above 6 1 (contexts_of self.old) ≡ false }
         ensures stands { Stands self.new }
         ensures contexts { OnOk result (contexts_of self.new ≡ removed 6 (contexts_of self.old)) }
+        ensures said { OnOk result (KeepsMore self.old.out (gone 6 (contexts_of self.old)).events self.new.out) }
     {
         let id = self.find(At::Level)?;
         if self.hooked {
@@ -357,7 +377,9 @@ impl Trial {
         requires stands { Stands self.old }
         requires there { has 1 (contexts_of self.old) ≡ true }
         requires last { removed 1 (contexts_of self.old) ≡ Empty }
-        ensures { Stands self.new }
+        ensures stands { Stands self.new }
+        ensures contexts { OnOk result (contexts_of self.new ≡ Empty) }
+        ensures said { OnOk result (KeepsMore self.old.out (gone 1 (contexts_of self.old)).events self.new.out) }
     {
         if self.hooked {
             return Err(TreeError::InUse);
@@ -375,28 +397,36 @@ impl Trial {
         requires countable { IsCountable (contexts_of self.old) }
         ensures stands { Stands self.new }
         ensures contexts { contexts_of self.new ≡ contexts_of self.old }
+        ensures said { KeepsMore self.old.out (report (contexts_of self.old)) self.new.out }
     {
         self.tree.report(&mut self.out);
     }
 
     /// What was said and kept.
-    pub fn events(&self) -> &[What] {
+    pub fn events(&self) -> &[What]
+        ensures { result.now ≡ self.now.out.events }
+    {
         self.out.events()
     }
 
     /// How much was said that wasn't kept.
-    pub fn missed(&self) -> u64 {
+    pub fn missed(&self) -> u64
+        ensures { result ≡ self.now.out.missed }
+    {
         self.out.missed()
     }
 
     /// How many hooks ran.
-    pub fn spent(&self) -> usize {
+    pub fn spent(&self) -> usize
+        ensures { result ≡ length self.now.shelf.spent }
+    {
         self.shelf.spent()
     }
 
     /// How many contexts live.
     pub fn count(&self) -> u64
-        ensures { Once (contexts_of self.now) }
+        ensures value { result ≡ size (contexts_of self.now) }
+        ensures once { Once (contexts_of self.now) }
     {
         self.tree.count()
     }

@@ -9,7 +9,7 @@ loop-preserved c = record {
   live = c.in_ok-last-2.ensures.live;
   small =
       small_next c.loop.self.tree.next c.make.new.self.tree.next (contexts_of c.make.new.self) c.in_ok-last-2.ensures.next
-      (small_made c.loop.last.number c.loop.self.tree.next (1048576 * c.loop.self.tree.next) c.args.name (contexts_of c.loop.self) (contexts_of c.make.new.self) c.in_ok-last-2.ensures.contexts c.count.ensures c.loop.invariant.small);
+      (small_made c.loop.last.number c.loop.self.tree.next (1048576 * c.loop.self.tree.next) c.args.name (contexts_of c.loop.self) (contexts_of c.make.new.self) c.in_ok-last-2.ensures.contexts c.count.ensures.once c.loop.invariant.small);
 }
 
 pub returns-clause-countable : goal.returns-clause-countable

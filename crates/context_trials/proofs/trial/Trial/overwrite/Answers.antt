@@ -13,8 +13,8 @@ place-at-requires c =
     let two : HasTwo (found c.args.chunk.now (contexts_of c.args.self.now)) = read_two c.args.chunk.now (contexts_of c.args.self.now) (sym (ap error_of c.in_ok-bytes.was) ∙ c.bytes.ensures.answer) in
     (c.args.self.now.space, chunk_there _ two)
 
-pub returns : goal.returns
-returns c =
+pub returns-clause-stands : goal.returns-clause-stands
+returns-clause-stands c =
     let two : HasTwo (found c.args.chunk.now (contexts_of c.args.self.now)) = read_two c.args.chunk.now (contexts_of c.args.self.now) (sym (ap error_of c.in_ok-bytes.was) ∙ c.bytes.ensures.answer) in
     let many : length c.args.bytes ≡ 2 = search rules in
     let wrote = c.place-at.ensures.written c.args.self.now.space c.write.new.self 0 c.args.bytes c.requires.sits.agrees (chunk_within _ c.args.bytes two many)
