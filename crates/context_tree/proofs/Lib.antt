@@ -29,3 +29,4 @@ pub mod Placing
 pub mod Opening
 pub mod Rooms
 pub mod Tried
+pub mod Asking

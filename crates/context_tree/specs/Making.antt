@@ -1,5 +1,5 @@
 -- What the making of a context does.
-use Rattle.std.specs.Prelude.{◌≡◌, ◌≢◌, ◌⊎◌, ℕ, ◌+◌, ◌-◌, Bool, not, nat_lt, List, Option, Some, None}
+use Rattle.std.specs.Prelude.{◌≡◌, ◌≢◌, ◌⊎◌, ℕ, ◌+◌, ◌-◌, ◌≤◌, Bool, not, nat_lt, List, Option, Some, None}
 use Rattle.pgs_step.specs.declared.ids.CtxId.{CtxId}
 use Rattle.addr_space.specs.Space.{Space, held, Asks}
 use Rattle.addr_space.specs.Footprint as foot
@@ -45,6 +45,14 @@ pub record CameBack (account : ℕ) (s t : Space) : Type 0 where
 -- What was asked for a context that wasn't made: nothing, or, where memory was wanted, its first block, which was given back.
 abbrev pub AsksInVain : TreeError → ℕ → ℕ → Space → Space → Type 0
 AsksInVain e account n s t = (Asks account 0 s t) ⊎ ((e ≡ Memory) × Asks account n s t)
+
+-- the account took a part of so many bytes, or none
+abbrev pub AsksPart : ℕ → ℕ → Space → Space → Type 0
+AsksPart account most s t = (n : ℕ) × (n ≤ most) × Asks account n s t
+
+-- What was asked for a tree that wasn't made: nothing, or, where memory was wanted, a part of what it asks, all of which was given back.
+abbrev pub AsksPartInVain : TreeError → ℕ → ℕ → Space → Space → Type 0
+AsksPartInVain e account most s t = (Asks account 0 s t) ⊎ ((e ≡ Memory) × AsksPart account most s t)
 
 -- a context was made in a tree, as `create` says
 pub record Added (a b : TreeState) (p : ℕ) (name : List ℕ) (kind : CtxKind) (protected : Bool) (id : CtxId) (s t : Space) : Type 0 where

@@ -1,7 +1,7 @@
 //! The making of a context.
 ghost use Rattle.std.specs.Prelude.{◌≡◌, ◌⊎◌, ℕ, ◌-◌, ◌<◌, false, Some, IfOk, IfErr, IfSome, OnOk, OnErr};
 ghost use Rattle.std.specs.Option.{option_map};
-ghost use Rattle.addr_space.specs.Space.{accounts, held};
+ghost use Rattle.addr_space.specs.Space.{accounts, held, Asks};
 ghost use Rattle.forest.specs.Forest.{at, has, size};
 ghost use Rattle.forest.specs.Forested.{IsPlaced};
 ghost use Rattle.any_ctx.specs.Kinds.{first_size, IsSlabSize};
@@ -79,7 +79,8 @@ pub fn grow<H: ResetHook>(
 pub fn give_all_back<H: ResetHook>(nodes: &mut LinkedForest<Node<H>>, space: &mut Space)
     requires agrees { (account : ℕ) × Agreeing (bare account nodes.old.forest) space.old }
     requires each { (n : ℕ) (k : Kept) → at n nodes.old.forest ≡ Some k → IsSoundContext k }
-    ensures { (account : ℕ) → Agreeing (bare account nodes.old.forest) space.old → AllMoves (bare account nodes.old.forest) (no_contexts account) space.old space.new }
+    ensures moves { (account : ℕ) → Agreeing (bare account nodes.old.forest) space.old → AllMoves (bare account nodes.old.forest) (no_contexts account) space.old space.new }
+    ensures asked { (account : ℕ) → Asks account 0 space.old space.new }
 {
     while let Some(root) = nodes.first() {
         let leaf = nodes.first_leaf(root);

@@ -15,7 +15,7 @@ ghost use Rattle.context_rules.specs.Reports as reports;
 ghost use Rattle.context_tree.specs.Calls.{Did, DidNothing};
 ghost use Rattle.context_tree.specs.State.{TreeState, IsLive, place_of, stands_for, no_contexts, Agrees, Moves, left_of, SameRegions, StaysPut, HooksFit, error_of};
 ghost use Rattle.context_tree.specs.Lookup.{Leads};
-ghost use Rattle.context_tree.specs.Making.{Added, AsksInVain, CameBack};
+ghost use Rattle.context_tree.specs.Making.{Added, AsksInVain, AsksPart, AsksPartInVain, CameBack};
 ghost use Rattle.context_node.specs.declared.chunk_id.ChunkId.{ChunkId as Id};
 
 use crate::making::{give_all_back, grow};
@@ -127,6 +127,7 @@ impl<H: ResetHook> ContextTree<H> {
         ensures served { OnOk result (held space.old account + 65536 ≤ space.old.limit) }
         ensures refused { IfErr result (λ e. (e ≡ TreeError.Memory) ⊎ ((e ≡ TreeError.Ctx CtxError.NoSpace) × (space.old.limit < held space.old account + 65536))) }
         ensures err_space { OnErr result (SameRegions space.old space.new) }
+        ensures err_asked { IfErr result (λ e. AsksPartInVain e account 65536 space.old space.new) }
     {
         if !space.fits(account, OPENING_BYTES) {
             return Err(TreeError::Ctx(CtxError::NoSpace));
@@ -153,6 +154,7 @@ impl<H: ResetHook> ContextTree<H> {
         ensures asked { OnOk result (Asks account 8192 space.old space.new) }
         ensures refused { IfErr result (λ e. e ≡ TreeError.Memory) }
         ensures err_space { OnErr result (CameBack account space.old space.new) }
+        ensures err_asked { IfErr result (λ e. AsksInVain e account 8192 space.old space.new) }
     {
         let mut nodes = LinkedForest::new(alloc);
         let new = NewContext {
@@ -188,6 +190,7 @@ impl<H: ResetHook> ContextTree<H> {
         ensures next { OnOk result (self.new.next ≡ 6) }
         ensures moves { Moves self.old self.new space.old space.new }
         ensures asked { OnOk result (Asks self.old.account 57344 space.old space.new) }
+        ensures err_asked { OnErr result (AsksPart self.old.account 57344 space.old space.new) }
     {
         self.add_own(space, b"ErrorContext", CtxKind::Error)?;
         self.add_own(space, b"CacheMemoryContext", CtxKind::Default)?;
@@ -211,6 +214,7 @@ impl<H: ResetHook> ContextTree<H> {
         ensures next { OnOk result (self.new.next ≡ self.old.next + 1) }
         ensures moves { Moves self.old self.new space.old space.new }
         ensures asked { OnOk result (Asks self.old.account (first_size kind) space.old space.new) }
+        ensures err_asked { OnErr result (AsksPart self.old.account (first_size kind) space.old space.new) }
     {
         let top = self.current;
         self.add(space, top, own_name(word), kind, true)?;
@@ -220,7 +224,8 @@ impl<H: ResetHook> ContextTree<H> {
     /// Gives back all that the tree has, and says nothing.
     fn give_up(self, space: &mut Space)
         requires { Agrees self space.old }
-        ensures { Moves self (no_contexts self.account) space.old space.new }
+        ensures moves { Moves self (no_contexts self.account) space.old space.new }
+        ensures asked { (account : ℕ) → Asks account 0 space.old space.new }
     {
         let ContextTree { mut nodes, .. } = self;
         give_all_back(&mut nodes, space);

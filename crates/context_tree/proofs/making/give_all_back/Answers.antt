@@ -1,4 +1,4 @@
-use Rattle.std.proofs.Common.{◌≡◌, ℕ, Some, ap, ◌∙◌, subst, arith}
+use Rattle.std.proofs.Common.{◌≡◌, ℕ, Some, refl, ap, ◌∙◌, subst, arith}
 use Rattle.forest.specs.Forest.{Forest, Empty, at, children, size}
 use Rattle.forest.proofs.Trees.{has_at, size_removed}
 use Rattle.context_node.specs.Kept.{Kept}
@@ -12,6 +12,7 @@ pub loop-root-init : goal.loop-root-init
 loop-root-init g c = record {
   agrees = c.requires.agrees;
   each = c.requires.each;
+  asked = λ account. refl;
   moves = λ account agrees. tree_none (bare account c.args.nodes.now.forest) c.args.space.now agrees;
 }
 
@@ -39,6 +40,7 @@ loop-root-preserved g c =
     record {
       agrees = (inv.agrees.0, (one_back inv.agrees.0 n k f h s t inv.agrees.1 once inv.each here leaf c.remove-node.ensures.forest c.give_back.ensures.moves).agrees);
       each = each_left inv.agrees.0 n k f h s t inv.agrees.1 once inv.each here leaf c.remove-node.ensures.forest c.give_back.ensures.moves;
+      asked = λ account. c.give_back.ensures.asked ∙ inv.asked account;
       moves = λ account agrees.
           let before = inv.moves account agrees in
           tree_more (bare account c.args.nodes.now.forest) (bare account f) (bare account h) c.args.space.now s t before
@@ -55,7 +57,10 @@ loop-root-smaller g c =
       size_removed n f c.first_leaf-leaf.ensures.once (has_at n f c.remove-node.result c.remove-node.ensures.value),
     )
 
-pub returns : goal.returns
-returns g c account agrees =
+pub returns-clause-moves : goal.returns-clause-moves
+returns-clause-moves g c account agrees =
     subst (λ (x : Forest Kept). Moves (bare account c.args.nodes.now.forest) (bare account x) c.args.space.now c.loop-root.space) (none_first c.loop-root.nodes.forest c.in_default.ensures)
     (c.loop-root.invariant.moves account agrees)
+
+pub returns-clause-asked : goal.returns-clause-asked
+returns-clause-asked g c account = c.loop-root.invariant.asked account

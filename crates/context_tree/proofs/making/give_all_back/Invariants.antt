@@ -1,5 +1,6 @@
 -- What is left agrees with the space, and what was given back made it move.
 use Rattle.std.proofs.Common.{◌≡◌, ℕ, Some}
+use Rattle.addr_space.specs.Space.{Asks}
 use Rattle.forest.specs.Forest.{at, size}
 use Rattle.context_node.specs.Kept.{Kept}
 use Rattle.context_node.specs.Soundness.{IsSoundContext}
@@ -11,6 +12,7 @@ abbrev pub invariant-loop-root : goal.invariant-loop-root
 invariant-loop-root g l = record {
   agrees : (account : ℕ) × Agrees (bare account l.nodes.forest) l.space;
   each : (n : ℕ) (k : Kept) → at n l.nodes.forest ≡ Some k → IsSoundContext k;
+  asked : (account : ℕ) → Asks account 0 l.initial.space l.space;
   moves : (account : ℕ) → Agrees (bare account l.initial.nodes.forest) l.initial.space → Moves (bare account l.initial.nodes.forest) (bare account l.nodes.forest) l.initial.space l.space;
 }
 

@@ -9,9 +9,9 @@ give_all_back-requires-clause-agrees g c =
     let a : TreeState = tree_of c.self.inside.nodes c.self.inside.account c.self.inside.current c.self.inside.next in
     (c.self.inside.account, agrees_bare a c.args.space.now (subst (λ (x : TreeState). Agrees x c.args.space.now) (sym c.self.view_is) c.requires))
 
-pub returns : goal.returns
-returns g c =
+pub returns-clause-moves : goal.returns-clause-moves
+returns-clause-moves g c =
     let a : TreeState = tree_of c.self.inside.nodes c.self.inside.account c.self.inside.current c.self.inside.next in
     subst (λ (x : TreeState). Moves x (no_contexts x.account) c.args.space.now c.give_all_back.new.space) c.self.view_is
     (moves_bare a (no_contexts c.self.inside.account) c.args.space.now c.give_all_back.new.space
-    (c.give_all_back.ensures c.self.inside.account (agrees_bare a c.args.space.now (subst (λ (x : TreeState). Agrees x c.args.space.now) (sym c.self.view_is) c.requires))))
+    (c.give_all_back.ensures.moves c.self.inside.account (agrees_bare a c.args.space.now (subst (λ (x : TreeState). Agrees x c.args.space.now) (sym c.self.view_is) c.requires))))

@@ -1,10 +1,12 @@
-use Rattle.std.proofs.Common.{◌≡◌, ℕ, Err, OnErr, sym, subst}
+use Rattle.std.proofs.Common.{◌≡◌, ℕ, Err, IfErr, OnErr, sym, subst}
 use Rattle.std.proofs.lemmas.Result.{err_from_is_err_and}
 use Rattle.addr_space.specs.Space.{Asks}
 use Rattle.addr_space.proofs.Asked.{Asks-more}
 use Rattle.context_rules.specs.declared.errors.TreeError.{TreeError}
 use Rattle.context_tree.specs.State.{no_contexts, SameRegions}
+use Rattle.context_tree.specs.Making.{AsksPart, AsksPartInVain}
 use Rattle.context_tree.proofs.Adding.{regions_back}
+use Rattle.context_tree.proofs.Asking.{opening_in_vain, topmost_in_vain}
 use Rattle.context_tree.proofs.Emptying.{tree_more}
 use Rattle.context_tree.proofs.Opening.{regions_same}
 use Rattle.context_tree.proofs.tree.ContextTree.new.Goals as goal
@@ -29,4 +31,17 @@ returns-in-Err-clause-err_space g c =
     regions_same c.args.account c.open.new.self.account c.args.space.now c.give_up.new.space
     (tree_more (no_contexts c.args.account) c.open.new.self (no_contexts c.open.new.self.account) c.args.space.now c.open.new.space c.give_up.new.space
     (tree_more (no_contexts c.args.account) c.in_ok-tree.tree c.open.new.self c.args.space.now c.topmost.new.space c.open.new.space c.in_ok-tree.ensures.moves c.open.ensures.moves)
-    c.give_up.ensures)
+    c.give_up.ensures.moves)
+
+pub returns-in_err-tree-clause-err_asked : goal.returns-in_err-tree-clause-err_asked
+returns-in_err-tree-clause-err_asked g c =
+    let e : TreeError = c.in_err-tree.field-0.0 in
+    let p : c.from_residual.result ≡ Err e = (let q = err_from_is_err_and c.from_residual.result c.from_residual.ensures.1 in cc) in
+    subst (λ r. IfErr r (λ x. AsksPartInVain x c.args.account 65536 c.args.space.now c.topmost.new.space)) (sym p)
+    (topmost_in_vain e c.args.account c.args.space.now c.topmost.new.space c.in_err-tree.ensures.err_asked)
+
+pub returns-in-Err-clause-err_asked : goal.returns-in-Err-clause-err_asked
+returns-in-Err-clause-err_asked g c =
+    opening_in_vain c.args.account c.args.space.now c.topmost.new.space c.open.new.space c.give_up.new.space c.in_ok-tree.ensures.asked
+    (subst (λ (a : ℕ). AsksPart a 57344 c.topmost.new.space c.open.new.space) c.in_ok-tree.ensures.account c.in-Err.ensures.err_asked)
+    (c.give_up.ensures.asked c.args.account)
