@@ -1,8 +1,7 @@
 -- Lemmas on hooks in rising order of their words.
-use Rattle.std.proofs.Common.{◌≡◌, ◌≢◌, ℕ, ◌+◌, ◌<◌, ◌≤◌, zero, suc, List, [], ◌∷◌, ◌++◌, length, map, get_or, All, refl, sym, ◌∙◌, ap, subst, arith, true, false, cond, nat_le}
-use Rattle.std.specs.List.{remove}
+use Rattle.std.proofs.Common.{◌≡◌, ◌≢◌, ℕ, ◌+◌, ◌<◌, ◌≤◌, List, [], ◌∷◌, ◌++◌, length, All, refl, sym, ◌∙◌, ap, arith, true, false, cond, nat_le}
 use Rattle.std.specs.List.Sorted.{IsPermutation}
-use Rattle.std.proofs.lemmas.List.Elements.{All-nil, All-cons, All-head, All-tail, All-weaker, All-map, All-from_get_or, All-push}
+use Rattle.std.proofs.lemmas.List.Elements.{All-nil, All-cons, All-head, All-tail, All-weaker, All-push}
 use Rattle.std.proofs.lemmas.List.Sorted.{All-permutation, IsPermutation-refl, IsPermutation-cons, IsPermutation-trans, IsPermutation-middle, IsPermutation-sym}
 use Rattle.reset_callbacks.specs.Hook.{Hook, Lacks, AreRising, AreDistinct, with_hook, in_order}
 
@@ -97,32 +96,6 @@ with_hooks-in_order (x ∷ xs) ys =
 pub in_order-append_in_order : (xs ys : List Hook) → in_order (xs ++ ys) ≡ in_order (in_order xs ++ ys)
 in_order-append_in_order xs ys =
     in_order-append xs ys ∙ (sym (with_hooks-in_order xs (in_order ys)) ∙ sym (in_order-append (in_order xs) ys))
-
--- the first of the hooks of the least word comes first
-pub in_order-remove :
-    {B : Type 0} (meaning : B → Hook) (xs : List B) (i : ℕ) (x : B) → i < length xs → x ≡ get_or xs i x →
-    ((k : ℕ) → k < i → (meaning x).word < (meaning (get_or xs k x)).word) →
-    ((k : ℕ) → k < length xs → (meaning x).word ≤ (meaning (get_or xs k x)).word) →
-    in_order (map meaning xs) ≡ meaning x ∷ in_order (map meaning (remove xs i))
-in_order-remove meaning [] i x within is first least = absurd (omega arith)
-in_order-remove meaning (y ∷ ys) zero x within is first least =
-    let at_least : Hook → Type 0 = λ other. (meaning x).word ≤ other.word in
-    let rest : All at_least (map meaning ys) =
-    All-map at_least meaning ys
-    (All-from_get_or (λ z. at_least (meaning z)) ys x (λ k below. least (suc k) (omega arith)))
-    in
-    let front : with_hook (meaning x) (in_order (map meaning ys)) ≡ meaning x ∷ in_order (map meaning ys) =
-    with_hook-first (meaning x) (in_order (map meaning ys)) (All-in_order at_least (map meaning ys) rest)
-    in
-    subst (λ z. with_hook (meaning z) (in_order (map meaning ys)) ≡ meaning x ∷ in_order (map meaning ys)) is front
-in_order-remove meaning (y ∷ ys) (suc i) x within is first least =
-    let below : (meaning x).word < (meaning y).word = first zero (omega arith) in
-    let rest : in_order (map meaning ys) ≡ meaning x ∷ in_order (map meaning (remove ys i)) =
-    in_order-remove meaning ys i x (omega arith) is (λ k under. first (suc k) (omega arith))
-    (λ k under. least (suc k) (omega arith))
-    in
-    ap (with_hook (meaning y)) rest
-    ∙ with_hook-behind (meaning y) (meaning x) (in_order (map meaning (remove ys i))) below
 
 pub Lacks-with_hook : (h : Hook) (xs : List Hook) (word : ℕ) → h.word ≢ word → Lacks xs word → Lacks (with_hook h xs) word
 Lacks-with_hook h xs word other lacks =

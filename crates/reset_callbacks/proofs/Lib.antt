@@ -1,4 +1,4 @@
 pub mod InOrder
-pub mod LeastSoFar
+pub mod Unique
 pub mod ShelfSteps
 pub mod PendingSteps

@@ -1,3 +1,2 @@
 pub mod Hook
-pub mod Least
 pub mod ShelfState

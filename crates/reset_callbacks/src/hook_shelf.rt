@@ -1,5 +1,5 @@
-ghost use Rattle.std.specs.Prelude.{◌≡◌, ◌<◌, ◌≤◌, [], ◌∷◌, length, map, IfOk, IfSome, IfNone, IsNone, ◌↔◌};
-ghost use Rattle.reset_callbacks.specs.Least.{IsFirstLeast};
+ghost use Rattle.std.specs.Prelude.{◌≡◌, ◌<◌, ◌≤◌, [], ◌∷◌, length, map, vec_len, vec_capacity, IfOk, IfSome, IfNone, IsNone, ◌↔◌};
+ghost use Rattle.std.specs.List.Sorted.{IsNonDecreasingBy, IsPermutation};
 ghost use Rattle.reset_callbacks.specs.Hook.{AreDistinct, AreRising, IsBelow, Lacks};
 ghost use Rattle.reset_callbacks.specs.ShelfState.{held, taken, finished, returned, renewed};
 
@@ -10,6 +10,7 @@ use std::marker::Model;
 /// The hooks of the program: those that may be taken, and those that have been.
 #[derive(Drop)]
 pub struct Shelf<H: ResetHook> {
+    // By falling words, so that the hook of the least word is the last.
     fresh: Vec<H>,
     spent: Vec<H>,
     // How many were taken and are neither finished nor put back. Each has its room in both lists.
@@ -17,14 +18,14 @@ pub struct Shelf<H: ResetHook> {
 }
 
 impl<H: ResetHook> Model for Shelf<H> {
-    ghost use Rattle.std.specs.Prelude.{◌+◌, ◌≤◌, ◌++◌, map, vec_len, vec_capacity};
-    ghost use Rattle.reset_callbacks.specs.Hook.{in_order, AreDistinct};
+    ghost use Rattle.std.specs.Prelude.{◌+◌, ◌≤◌, ◌++◌, map, reverse, vec_len, vec_capacity};
+    ghost use Rattle.reset_callbacks.specs.Hook.{AreDistinct, AreRising};
     ghost use Rattle.reset_callbacks.specs.ShelfState.{ShelfState};
 
     ghost Value = { ShelfState };
 
     ghost view = { λ s. record {
-      fresh = in_order (map H.hook_meaning s.fresh.items);
+      fresh = reverse (map H.hook_meaning s.fresh.items);
       spent = map H.hook_meaning s.spent.items;
       out = s.out;
     } };
@@ -32,13 +33,14 @@ impl<H: ResetHook> Model for Shelf<H> {
     ghost invariant = { λ s. record {
       fresh_room : vec_len s.fresh + vec_len s.spent + s.out ≤ vec_capacity s.fresh;
       spent_room : vec_len s.fresh + vec_len s.spent + s.out ≤ vec_capacity s.spent;
-      words_differ : AreDistinct (in_order (map H.hook_meaning s.fresh.items) ++ map H.hook_meaning s.spent.items);
+      rising : AreRising (reverse (map H.hook_meaning s.fresh.items));
+      words_differ : AreDistinct (reverse (map H.hook_meaning s.fresh.items) ++ map H.hook_meaning s.spent.items);
     } };
 }
 
 impl<H: ResetHook> Shelf<H> {
     /// A shelf of fresh hooks.
-    pub fn new(alloc: Global, fresh: Vec<H>) -> Result<Shelf<H>, AllocError>
+    pub fn new(alloc: Global, mut fresh: Vec<H>) -> Result<Shelf<H>, AllocError>
         requires { AreRising (map H.hook_meaning fresh.items) }
         ensures fresh { IfOk result (λ shelf. shelf.fresh ≡ map H.hook_meaning fresh.items) }
         ensures spent { IfOk result (λ shelf. shelf.spent ≡ []) }
@@ -46,6 +48,7 @@ impl<H: ResetHook> Shelf<H> {
         ensures words_differ { IfOk result (λ shelf. AreDistinct (held shelf)) }
     {
         let spent = Vec::with_capacity(alloc, fresh.len())?;
+        fresh.reverse();
         Ok(Shelf {
             fresh,
             spent,
@@ -63,8 +66,7 @@ impl<H: ResetHook> Shelf<H> {
         ensures unchanged { IfNone result (self.new ≡ self.old) }
         ensures words_differ { AreDistinct (held self.new) }
     {
-        let least = least_word(&self.fresh)?;
-        let hook = self.fresh.remove(least);
+        let hook = self.fresh.pop()?;
         self.out += 1;
         Some(hook)
     }
@@ -98,6 +100,8 @@ impl<H: ResetHook> Shelf<H> {
         ensures words_differ { AreDistinct (held self.new) }
     {
         self.fresh.append(&mut self.spent).unwrap();
+        sort_by_word(&mut self.fresh);
+        self.fresh.reverse();
     }
 
     /// How many hooks are fresh.
@@ -117,22 +121,12 @@ impl<H: ResetHook> Shelf<H> {
     }
 }
 
-// The index of the first hook of the least word.
-fn least_word<H: ResetHook>(hooks: &[H]) -> Option<usize>
-    ensures none { IsNone result ↔ (hooks.now ≡ []) }
-    ensures first { IfSome result (λ least. IsFirstLeast (map (λ hook. (H.hook_meaning hook).word) hooks.now) least) }
+// Sorts hooks by their words.
+fn sort_by_word<H: ResetHook>(hooks: &mut Vec<H>)
+    ensures moved { IsPermutation hooks.old.items hooks.new.items }
+    ensures rising { IsNonDecreasingBy (λ hook. (H.hook_meaning hook).word) hooks.new.items }
+    ensures len { vec_len hooks.new ≡ vec_len hooks.old }
+    ensures capacity { vec_capacity hooks.new ≡ vec_capacity hooks.old }
 {
-    if hooks.is_empty() {
-        return None;
-    }
-    let mut least = 0;
-    let mut word = hooks[0].word();
-    for at in 1..hooks.len() {
-        let other = hooks[at].word();
-        if other < word {
-            least = at;
-            word = other;
-        }
-    }
-    Some(least)
+    hooks.sort_unstable_by_key(|hook| hook.word());
 }

@@ -14,4 +14,4 @@ returns-clause-words_differ g c =
 
 pub invariant_of-self : goal.invariant_of-self
 invariant_of-self g c =
-    record { fresh_room = search rules; spent_room = search rules; words_differ = returns-clause-words_differ g c }
+    record { fresh_room = search rules; spent_room = search rules; rising = c.self.invariant.rising; words_differ = returns-clause-words_differ g c }
