@@ -4,11 +4,12 @@ use Rattle.std.specs.Prelude.{sum_by}
 use Rattle.std.specs.List.{find, list_any}
 use Rattle.std.specs.Option.{option_map_or}
 use Rattle.std.proofs.lemmas.Bool.{eqb-true, eqb-false, eq-eqb, and_parts}
+use Rattle.std.proofs.lemmas.Bool.Decides.{nat_tests}
 use Rattle.pgs_step.specs.declared.lock_modes.Mode.{Mode}
 use Rattle.pgs_step.specs.Mode.{mode_number}
 use Rattle.lock_shared.specs.Holdings.{same_lock}
 use Rattle.lock_local.specs.declared.recalled.LockTag.{LockTag}
-use Rattle.lock_local.specs.Locks.{Lock, SessionLocks, owner_count, count_of}
+use Rattle.lock_local.specs.Locks.{Lock, SessionLocks, owner_count, count_of, total}
 use Rattle.lock_local.specs.Counts.{HoldsOneMore, HoldsOneLess, HoldsNothing, HoldsBoth}
 use Rattle.lock_local.specs.Changes.{given_back}
 use Rattle.lock_local.specs.Recalled.{Recall, may_hold, Covers}
@@ -116,3 +117,11 @@ fit_lowered owner o m xs ys count fits none less = by_count (nat_eq count 0) ref
     by_count : (t : Bool) → nat_eq count 0 ≡ t → FitLocks ys
     by_count true e = subst FitLocks (sym (none (eqb-true count 0 e))) fits
     by_count false e = let more : count ≢ 0 = eqb-false count 0 e in fit_given_back owner o m xs (map (down owner o m) xs) ys fits refl (less (omega (arith, more)))
+
+-- no sum grows where a count is lowered
+pub taken_lowered : (xs ys : List Lock) (count taken : ℕ) → total xs ≤ taken → (count ≡ 0 → ys ≡ xs) → (0 < count → total ys + 1 ≡ total xs) → total ys ≤ taken
+taken_lowered xs ys count taken few none less = by_count (nat_eq count 0) refl
+  where
+    by_count : (t : Bool) → nat_eq count 0 ≡ t → total ys ≤ taken
+    by_count true e = omega (arith, few, ap total (none (eqb-true count 0 e)))
+    by_count false e = omega (arith, few, less (grind (arith, nat_tests)))

@@ -4,3 +4,4 @@ pub mod Places
 pub mod Changes
 pub mod Recalled
 pub mod Tagged
+pub mod Code

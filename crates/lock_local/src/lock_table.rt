@@ -34,7 +34,12 @@ pub struct LockTable {
     session: u8,
     locks: Vec<LocalLock>,
     recalled: Vec<OwnerLocks>,
+    /// How often a lock was taken since the session last gave up all: no sum of counts is greater.
+    taken: u64,
 }
+
+/// How often locks can be taken until the session gives up all.
+const MOST_TAKEN: u64 = 1 << 62;
 
 impl Model for LockTable {
     ghost use Rattle.std.specs.Prelude.{◌≤◌, ◌^◌};
@@ -45,7 +50,7 @@ impl Model for LockTable {
 
     ghost view = { λ t. record { session = t.session; locks = t.locks.items } };
 
-    ghost invariant = { λ t. record { fits : AreLocks t.locks.items × (total t.locks.items ≤ 2 ^ 62); covers : Covers t.recalled.items t.locks.items } };
+    ghost invariant = { λ t. record { fits : AreLocks t.locks.items × (total t.locks.items ≤ 2 ^ 62); covers : Covers t.recalled.items t.locks.items; taken : total t.locks.items ≤ t.taken } };
 }
 
 impl LockTable {
@@ -58,13 +63,15 @@ impl LockTable {
             session,
             locks: Vec::new(alloc),
             recalled: Vec::new(alloc),
+            taken: 0,
         }
     }
 
     /// The owner holds the object in this mode once more: PostgreSQL's `LockAcquire`.
     ///
     /// `Conflict` comes exactly where another session holds the object in a mode that conflicts. Where
-    /// none does, it may fail for want of memory.
+    /// none does, it may fail for want of memory, which it also says where locks were taken 2^62 times
+    /// since the session last gave up all.
     pub fn acquire<E: Emit>(
         &mut self,
         shared: &mut SharedLocks,
@@ -73,8 +80,7 @@ impl LockTable {
         mode: Mode,
         out: &mut E,
     ) -> Result<(), LockError>
-        requires agrees { Agrees self.old shared.old }
-        requires few { total self.old.locks < 2 ^ 62 }
+        requires { Agrees self.old shared.old }
         ensures conflict { (s : ℕ) (m : Mode) → IsErrOf result (LockError.Conflict s m) ↔ IsConflict shared.old object mode self.old.session s m }
         ensures held { IsErrOf result LockError.NotHeld → ⊥ }
 
@@ -202,6 +208,7 @@ impl LockTable {
         release_each(self.locks.as_slice(), self.session, top.number, shared, out);
         self.locks.clear();
         self.recalled.clear();
+        self.taken = 0;
     }
 
     /// Facts of every table, for proofs. It does nothing.
@@ -223,7 +230,7 @@ impl LockTable {
         self.locks.len() as u64
     }
 
-    /// The owner holds the lock once more. It fails for want of memory alone.
+    /// The owner holds the lock once more. It fails for want of memory, or where locks were taken too often.
     fn hold(
         &mut self,
         shared: &mut SharedLocks,
@@ -231,8 +238,7 @@ impl LockTable {
         object: u32,
         mode: Mode,
     ) -> Result<(), AllocError>
-        requires agrees { Agrees self.old shared.old }
-        requires few { total self.old.locks < 2 ^ 62 }
+        requires { Agrees self.old shared.old }
         ensures ok { OnOk result (self.new ≡ record self.old { locks = acquired owner object mode self.old.locks }) }
         ensures counts { OnOk result (HoldsOneMore self.old.locks self.new.locks object mode owner) }
         ensures wholes { OnOk result (WholeOneMore self.old.locks self.new.locks object mode) }
@@ -243,6 +249,9 @@ impl LockTable {
         ensures others { OthersStay self.old.session shared.old shared.new }
         ensures locks { AreLocks self.new.locks }
     {
+        if self.taken >= MOST_TAKEN {
+            return Err(AllocError);
+        }
         self.recalled.reserve(1)?;
         count_up(
             self.alloc,
@@ -254,6 +263,7 @@ impl LockTable {
             mode,
         )?;
         note(&mut self.recalled, owner, object, mode);
+        self.taken += 1;
         Ok(())
     }
 

@@ -166,7 +166,7 @@ some_is_conflict xs o w s None l = tt
 some_is_conflict xs o w s (Some c) l = conflict_from xs o w s c.0 c.1 l
 
 -- taking a holding off
-any_kept : {X : Type 0} (p q : X → Bool) → ((x : X) → q x ≡ true → p x ≡ false) → (xs : List X) → list_any q (filter (λ x. not (p x)) xs) ≡ list_any q xs
+pub any_kept : {X : Type 0} (p q : X → Bool) → ((x : X) → q x ≡ true → p x ≡ false) → (xs : List X) → list_any q (filter (λ x. not (p x)) xs) ≡ list_any q xs
 any_kept p q h [] = refl
 any_kept p q h (x ∷ xs) = by_test (p x) refl (any_kept p q h xs)
   where

@@ -1,1 +1,3 @@
 pub mod HoldingLemmas
+pub mod RankLemmas
+pub mod BesideLemmas

@@ -1,3 +1,4 @@
 pub mod ModeTable
 pub mod Holdings
 pub mod Blocking
+pub mod Ranked

@@ -2,6 +2,7 @@
 ghost use Rattle.std.specs.Prelude.{◌≡◌, ◌↔◌, [], true, false, not, filter, IsTrue, IsNone, IfSome, IsOk, OnOk, OnErr};
 ghost use Rattle.lock_shared.specs.Holdings.{holds, is_holding, Sets, IsFree, IsConflict};
 ghost use Rattle.lock_shared.specs.Blocking.{blocks, IsLeastOf, lesser_of};
+ghost use Rattle.lock_shared.specs.Ranked.{beside, least_conflict};
 
 use crate::mode_conflicts::conflicts;
 use pgs_step::Mode;
@@ -48,6 +49,7 @@ impl SharedLocks {
     pub fn conflict(&self, object: u32, mode: Mode, session: u8) -> Option<(u8, Mode)>
         ensures none { IsNone result ↔ IsFree self.now object mode session }
         ensures least { IfSome result (λ c. IsConflict self.now object mode session c.0 c.1) }
+        ensures beside { result ≡ least_conflict object mode (beside session self.now) }
     {
         least_blocking(self.holdings.as_slice(), object, mode, session)
     }

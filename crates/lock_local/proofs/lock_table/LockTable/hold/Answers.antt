@@ -2,21 +2,25 @@ use Rattle.std.proofs.Common.{◌≡◌, ◌<◌, ◌+◌, ◌^◌, ℕ, List, a
 use Rattle.lock_local.specs.Locks.{Lock, SessionLocks, total}
 use Rattle.lock_local.specs.Counts.{HoldsOneMore, WholeOneMore}
 use Rattle.lock_local.specs.Recalled.{Recall, Covers}
-use Rattle.lock_local.proofs.ChangeLemmas.{fit_acquired, total-acquired}
+use Rattle.lock_local.proofs.ChangeLemmas.{agrees_by, fit_acquired, total-acquired}
 use Rattle.lock_local.proofs.CountLemmas.{counts_more}
 use Rattle.lock_local.proofs.TotalLemmas.{wholes_more}
 use Rattle.lock_local.proofs.CoverLemmas.{covers_noted, by_view}
 use Rattle.lock_local.proofs.lock_table.LockTable.hold.Goals as goal
 
-few : (now : SessionLocks) (s : ℕ) (xs : List Lock) → record { session = s; locks = xs } ≡ now → total now.locks < 2 ^ 62 → total xs < 2 ^ 62
-few now s xs e l = omega (arith, l, ap (λ (t : SessionLocks). total t.locks) e)
+pub count_up-requires-clause-agrees : goal.count_up-requires-clause-agrees
+count_up-requires-clause-agrees c = agrees_by _ _ _ c.self.view_is c.requires
+
+pub returns-in_err-reserve-clause-agrees : goal.returns-in_err-reserve-clause-agrees
+returns-in_err-reserve-clause-agrees c = agrees_by _ _ _ c.self.view_is c.requires
 
 pub invariant_of-self-2 : goal.invariant_of-self-2
 invariant_of-self-2 c = record {
-  fits = fit_acquired c.args.owner c.args.object c.args.mode _ _ c.self.invariant.fits (few _ _ _ c.self.view_is c.requires.few) c.in_ok-count_up.ensures.ok;
+  fits = fit_acquired c.args.owner c.args.object c.args.mode _ _ c.self.invariant.fits (omega arith) c.in_ok-count_up.ensures.ok;
   covers = covers_noted c.reserve.new.self.items c.note.new.recalled.items c.self.inside.locks.items c.count_up.new.locks.items c.args.owner c.args.object c.args.mode
       (subst (λ (rs : List Recall). Covers rs c.self.inside.locks.items) (sym c.in_ok-reserve.ensures.items) c.self.invariant.covers)
       (counts_more c.args.owner c.args.object c.args.mode _ _ c.in_ok-count_up.ensures.ok) c.note.ensures.noted c.note.ensures.kept;
+  taken = omega (arith, c.self.invariant.taken, ap total c.in_ok-count_up.ensures.ok, total-acquired c.args.owner c.args.object c.args.mode c.self.inside.locks.items);
 }
 
 pub returns-clause-counts : goal.returns-clause-counts
@@ -29,4 +33,4 @@ pub returns-clause-total : goal.returns-clause-total
 returns-clause-total c = by_view (λ (zs : List Lock). total c.count_up.new.locks.items ≡ total zs + 1) _ _ _ c.self.view_is (ap total c.in_ok-count_up.ensures.ok ∙ total-acquired c.args.owner c.args.object c.args.mode c.self.inside.locks.items)
 
 pub returns-clause-locks : goal.returns-clause-locks
-returns-clause-locks c = (fit_acquired c.args.owner c.args.object c.args.mode _ _ c.self.invariant.fits (few _ _ _ c.self.view_is c.requires.few) c.in_ok-count_up.ensures.ok).0
+returns-clause-locks c = (fit_acquired c.args.owner c.args.object c.args.mode _ _ c.self.invariant.fits (omega arith) c.in_ok-count_up.ensures.ok).0

@@ -1,5 +1,5 @@
 use Rattle.lock_local.proofs.ChangeLemmas.{agrees_by}
-use Rattle.lock_local.proofs.CoverLemmas.{covers_lowered, fit_lowered}
+use Rattle.lock_local.proofs.CoverLemmas.{covers_lowered, fit_lowered, taken_lowered}
 use Rattle.lock_local.proofs.lock_table.LockTable.lower.Goals as goal
 
 pub count_down-count-requires-clause-agrees : goal.count_down-count-requires-clause-agrees
@@ -9,6 +9,7 @@ pub invariant_of-self : goal.invariant_of-self
 invariant_of-self c = record {
   fits = fit_lowered c.args.owner c.args.object c.args.mode _ _ c.count_down-count.result c.self.invariant.fits c.count_down-count.ensures.none c.count_down-count.ensures.held;
   covers = covers_lowered _ _ _ _ c.args.owner c.args.object c.args.mode c.count_down-count.result c.self.invariant.covers c.count_down-count.ensures.answer c.count_down-count.ensures.none c.count_down-count.ensures.counts c.forget_last.ensures.kept;
+  taken = taken_lowered _ _ c.count_down-count.result _ c.self.invariant.taken c.count_down-count.ensures.none c.count_down-count.ensures.total;
 }
 
 pub returns-clause-locks : goal.returns-clause-locks

@@ -1,4 +1,4 @@
-use Rattle.std.proofs.Common.{◌≡◌, List, ap, ◌∙◌}
+use Rattle.std.proofs.Common.{◌≡◌, List, ap, ◌∙◌, arith}
 use Rattle.lock_local.specs.Locks.{Lock, SessionLocks, total, is_held}
 use Rattle.lock_local.specs.Counts.{HoldsBoth, WholeStays}
 use Rattle.lock_local.proofs.ChangeLemmas.{fit_passed, is_held-passed}
@@ -11,6 +11,7 @@ pub invariant_of-self : goal.invariant_of-self
 invariant_of-self g c = record {
   fits = fit_passed c.args.from.number c.args.to.number _ _ c.self.invariant.fits c.pass_recalled.ensures.locks;
   covers = covers_passed c.self.inside.recalled.items c.hand_on.new.recalled.items c.self.inside.locks.items c.pass_recalled.new.locks.items c.args.from.number c.args.to.number c.self.invariant.covers (counts_both c.args.from.number c.args.to.number _ _ c.pass_recalled.ensures.locks) c.hand_on.ensures.kept;
+  taken = omega (arith, c.self.invariant.taken, totals_passed c.args.from.number c.args.to.number _ _ c.pass_recalled.ensures.locks);
 }
 
 pub returns-clause-held : goal.returns-clause-held

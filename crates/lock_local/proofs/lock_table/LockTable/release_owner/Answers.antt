@@ -1,4 +1,4 @@
-use Rattle.std.proofs.Common.{◌≡◌, ◌+◌, List, refl, map}
+use Rattle.std.proofs.Common.{◌≡◌, ◌+◌, List, refl, map, arith}
 use Rattle.lock_local.specs.Locks.{Lock, total, owner_total}
 use Rattle.lock_local.specs.Counts.{HoldsNothing, WholeLess}
 use Rattle.lock_local.specs.Changes.{without}
@@ -15,6 +15,7 @@ pub invariant_of-self : goal.invariant_of-self
 invariant_of-self g c = record {
   fits = fit_released c.args.owner.number c.self.inside.locks.items (map (without c.args.owner.number) c.self.inside.locks.items) _ c.self.invariant.fits refl c.give_up_recalled.ensures.locks;
   covers = covers_released c.self.inside.recalled.items c.take_out.new.recalled.items c.self.inside.locks.items c.give_up_recalled.new.locks.items c.args.owner.number c.self.invariant.covers (counts_released c.args.owner.number c.self.inside.locks.items c.give_up_recalled.new.locks.items c.give_up_recalled.ensures.locks) c.take_out.ensures.kept;
+  taken = omega (arith, c.self.invariant.taken, totals_released c.args.owner.number c.self.inside.locks.items c.give_up_recalled.new.locks.items c.give_up_recalled.ensures.locks);
 }
 
 pub returns-clause-counts : goal.returns-clause-counts
