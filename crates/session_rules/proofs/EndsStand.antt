@@ -7,6 +7,8 @@ use Rattle.pgs_step.specs.declared.errors.Error.{Error}
 use Rattle.reset_callbacks.specs.ShelfState.{ShelfState}
 use Rattle.context_rules.specs.Contexts.{Contexts, is_empty, is_protected}
 use Rattle.context_rules.specs.Ends.{gone, handed_in}
+use Rattle.owner_kinds.specs.KindTable.{KindTable, IsSound as IsSoundTable}
+use Rattle.owner_kinds.specs.KindShelf.{table_of}
 use Rattle.owner_core.specs.Owners.{OwnerTree}
 use Rattle.owner_core.proofs.Sounds.{once_of}
 use Rattle.snap_table.specs.Snapshots.{lowered}
@@ -15,7 +17,7 @@ use Rattle.session_rules.specs.World.{Scene}
 use Rattle.session_rules.specs.Acts.{Ended, changes, context_gone, for_each, in_order, switched, where_so, where_there}
 use Rattle.session_rules.specs.Releases.{owner_released}
 use Rattle.session_rules.specs.Ends.{aborted, cleaned_up, committed, empty_context_gone, exited, given_up, level_context_gone, level_owner_gone, level_popped, level_rolled_back, recovered, stack_popped, subcommitted, switched_up}
-use Rattle.session_rules.specs.Standing.{AreContexts, AreHooks, AreLevels, AreOpen, AreOuter, FitLevels, HasExited, IsLevel, IsMade, IsOpen, Stands, StandsBetweenLines}
+use Rattle.session_rules.specs.Standing.{AreContexts, AreHooks, AreLevels, AreOpen, AreOwners, AreOuter, FitLevels, HasExited, IsLevel, IsMade, IsOpen, Stands, StandsBetweenLines}
 use Rattle.session_rules.proofs.Forests.{has_left, parent_left}
 use Rattle.session_rules.proofs.ContextsKept.{IsSame, contexts_level_gone, nothing_left, protected_has, same_removed, stay_same, top_protected}
 use Rattle.session_rules.proofs.HooksKept.{conserves_gone, hooks_ended}
@@ -44,15 +46,16 @@ pub record Leaves (levels : List LevelState) (scene : Scene) : Type 0 where
   pub between : StandsBetweenLines scene
   pub are : scene.session.levels ≡ levels
 
--- tables don't matter
-pub stands_tabled : (x : Tables) (s : Scene) → Stands s → Stands (tabled x s)
-stands_tabled x s h = record {
+-- tables don't matter, as far as what never changes of kinds is the same
+pub stands_tabled : (x : Tables) (s : Scene) → table_of x.kinds ≡ table_of s.around.kinds → Stands s → Stands (tabled x s)
+stands_tabled x s same h = record {
   contexts = h.contexts;
   current = h.current;
   hooks = h.hooks;
   levels = h.levels;
   fit = h.fit;
-  owners = h.owners;
+  owners = subst (λ (kinds : KindTable). AreOwners kinds s.session.owners s.session.next_owner s.session.next_serial s.session.levels) (sym same) h.owners;
+  kinds = subst (λ (kinds : KindTable). IsSoundTable kinds) (sym same) h.kinds;
   portals = h.portals;
   plans = h.plans;
   snapshots = h.snapshots;
@@ -153,7 +156,8 @@ popped_stands level levels s c is h =
       hooks = both.1;
       levels = left;
       fit = fits_outer levels (without_context c t) (without_owner level.owner x) outer;
-      owners = owners_without level levels x s.session.next_owner s.session.next_serial level.owner refl (λ p e. (own.owner p e).there) h.owners;
+      owners = owners_without (table_of s.around.kinds) level levels x s.session.next_owner s.session.next_serial level.owner refl (λ p e. (own.owner p e).there) h.owners;
+      kinds = h.kinds;
       portals = refl;
       plans = refl;
       snapshots = refl;
@@ -187,20 +191,21 @@ cleaned_up_stands level levels s h =
 -- what a release of an owner, where there is one, leaves
 record HasGiven (o : Option ℕ) (s t : Scene) : Type 0 where
   tables : Tables
+  same : table_of tables.kinds ≡ table_of s.around.kinds
   owners : OwnerTree
-  left : HasLeft o s.session.owners owners
+  left : HasLeft (table_of s.around.kinds) o s.session.owners owners
   is : t ≡ with_owners owners (tabled tables s)
 
 gives : (commit top : Bool) (o : Option ℕ) (s : Scene) → s.session.plans ≡ [] → HasGiven o s (where_there o (owner_released commit top) s).scene
-gives commit top None s none = record { tables = tables_of s; owners = s.session.owners; left = refl; is = refl }
+gives commit top None s none = record { tables = tables_of s; same = refl; owners = s.session.owners; left = refl; is = refl }
 gives commit top (Some p) s none =
     let r : HasReleased p s (owner_released commit top p s).scene = release_is commit top p s none in
-    record { tables = r.tables; owners = r.owners; left = r.swept; is = r.is }
+    record { tables = r.tables; same = r.same; owners = r.owners; left = r.swept; is = r.is }
 
 -- level 1 commits
-without_left : (o : Option ℕ) (owners now : OwnerTree) → HasLeft o owners now → without_owner o now ≡ without_owner o owners
-without_left None owners now left = left
-without_left (Some p) owners now left = ap (removed p) left.is ∙ removed_swept (swept_by left.first left.second left.third) p owners
+without_left : (kinds : KindTable) (o : Option ℕ) (owners now : OwnerTree) → HasLeft kinds o owners now → without_owner o now ≡ without_owner o owners
+without_left kinds None owners now left = left
+without_left kinds (Some p) owners now left = ap (removed p) left.is ∙ removed_swept (swept_by kinds) p owners
 
 -- what a commit does behind the release
 abbrev behind_commit : Scene → Scene
@@ -216,20 +221,23 @@ behind_is name (Some n) (Some p) i a b s owners x = refl
 committed_is : (name : Option (List ℕ)) (c o : Option ℕ) (i a b : Bool) (s : Scene) → OnlyTables (popped c o [] s) (committed (settled (level_of name c o i a b ∷ []) s)).scene
 committed_is name c o i a b s =
     let start : Scene = settled (level_of name c o i a b ∷ []) s in
-    let g : HasGiven o start (where_there o (owner_released true true) start).scene = gives true true o start refl in (
-      g.tables,
-      ap behind_commit g.is
+    let g : HasGiven o start (where_there o (owner_released true true) start).scene = gives true true o start refl in
+    record {
+      tables = g.tables;
+      same = g.same;
+      is =
+          ap behind_commit g.is
           ∙ behind_is name c o i a b s g.owners g.tables
-          ∙ ap (λ (z : OwnerTree). tabled g.tables (with_owners z (popped c o [] s))) (without_left o s.session.owners g.owners g.left),
-    )
+          ∙ ap (λ (z : OwnerTree). tabled g.tables (with_owners z (popped c o [] s))) (without_left (table_of s.around.kinds) o s.session.owners g.owners g.left);
+    }
 
 -- Level 1 commits.
 pub committed_stands : (level : LevelState) (s : Scene) → Stands (settled (level ∷ []) s) → Leaves [] (committed (settled (level ∷ []) s)).scene
 committed_stands level s h =
     let c : OnlyTables (popped level.context level.owner [] s) (committed (settled (level ∷ []) s)).scene =
     committed_is level.name level.context level.owner level.implicit level.aborted level.starting s in
-    subst (Leaves []) (sym c.1) (record {
-      between = record { stands = stands_tabled c.0 (popped level.context level.owner [] s) (whole_stands level [] s h); open_levels = tt };
+    subst (Leaves []) (sym c.is) (record {
+      between = record { stands = stands_tabled c.tables (popped level.context level.owner [] s) c.same (whole_stands level [] s h); open_levels = tt };
       are = refl;
     })
 
@@ -272,12 +280,15 @@ merged_is : (name : Option (List ℕ)) (c o : Option ℕ) (i a st : Bool) (level
 merged_is name c o i a st levels s =
     let start : Scene = settled (level_of name c o i a st ∷ levels) s in
     let n : ℕ = length (level_of name c o i a st ∷ levels) in
-    let g : HasGiven o start (where_there o (owner_released true false) start).scene = gives true false o start refl in (
-      g.tables,
-      ap (behind_merge n) g.is
+    let g : HasGiven o start (where_there o (owner_released true false) start).scene = gives true false o start refl in
+    record {
+      tables = g.tables;
+      same = g.same;
+      is =
+          ap (behind_merge n) g.is
           ∙ merge_is n name c o i a st levels s g.owners g.tables
-          ∙ ap (λ (z : OwnerTree). tabled g.tables (with_owners z (popped (context_to_go c s.session.contexts) o levels s))) (without_left o s.session.owners g.owners g.left),
-    )
+          ∙ ap (λ (z : OwnerTree). tabled g.tables (with_owners z (popped (context_to_go c s.session.contexts) o levels s))) (without_left (table_of s.around.kinds) o s.session.owners g.owners g.left);
+    }
 
 context_to_go_is : (c : Option ℕ) (t : Contexts) (n : ℕ) → context_to_go c t ≡ Some n → c ≡ Some n
 context_to_go_is None t n e = absurd (cc e)
@@ -292,9 +303,9 @@ subcommitted_stands level levels s h =
     let c : Option ℕ = context_to_go level.context s.session.contexts in
     let m : OnlyTables (popped c level.owner levels s) (subcommitted (settled (level ∷ levels) s)).scene =
     merged_is level.name level.context level.owner level.implicit level.aborted level.starting levels s in
-    subst (Leaves levels) (sym m.1) (record {
+    subst (Leaves levels) (sym m.is) (record {
       between = record {
-        stands = stands_tabled m.0 (popped c level.owner levels s) (popped_stands level levels s c (λ n e. context_to_go_is level.context s.session.contexts n e) h);
+        stands = stands_tabled m.tables (popped c level.owner levels s) m.same (popped_stands level levels s c (λ n e. context_to_go_is level.context s.session.contexts n e) h);
         open_levels = outer_open levels h.fit.1;
       };
       are = refl;
@@ -310,8 +321,9 @@ behind_abort n z = (in_order (stack_popped n ∷ changes (λ session. record ses
 
 record HasShut (level : LevelState) (levels : List LevelState) (s t : Scene) : Type 0 where
   tables : Tables
+  same : table_of tables.kinds ≡ table_of s.around.kinds
   owners : OwnerTree
-  left : HasLeft level.owner s.session.owners owners
+  left : HasLeft (table_of s.around.kinds) level.owner s.session.owners owners
   is : t ≡ tabled tables (shut level levels owners s)
 
 aborted_is : (level : LevelState) (levels : List LevelState) (s : Scene) → HasShut level levels s (aborted (settled (level ∷ levels) s)).scene
@@ -319,14 +331,14 @@ aborted_is level levels s =
     let start : Scene = settled (level ∷ levels) (record s { session = record s.session { current = abort_context } }) in
     let n : ℕ = length (level ∷ levels) in
     let g : HasGiven level.owner start (where_there level.owner (owner_released false (n == 1)) start).scene = gives false (n == 1) level.owner start refl in
-    record { tables = g.tables; owners = g.owners; left = g.left; is = ap (behind_abort n) g.is }
+    record { tables = g.tables; same = g.same; owners = g.owners; left = g.left; is = ap (behind_abort n) g.is }
 
-shut_stands : (level : LevelState) (levels : List LevelState) (now : OwnerTree) (s : Scene) → level.aborted ≡ false → IsOpen level → HasLeft level.owner s.session.owners now
+shut_stands : (level : LevelState) (levels : List LevelState) (now : OwnerTree) (s : Scene) → level.aborted ≡ false → IsOpen level → HasLeft (table_of s.around.kinds) level.owner s.session.owners now
     → Stands (settled (level ∷ levels) s) → Stands (shut level levels now s)
 shut_stands level levels now s active open_level left h =
     let t : Contexts = s.session.contexts in
     let all : AreLevels (level ∷ levels) t now =
-    levels_stay (level ∷ levels) t t s.session.owners now (λ m i prot. stay_same t m prot) (λ m i there. left_still level.owner s.session.owners now left m there) h.levels in
+    levels_stay (level ∷ levels) t t s.session.owners now (λ m i prot. stay_same t m prot) (λ m i there. left_still (table_of s.around.kinds) level.owner s.session.owners now left m there) h.levels in
     record {
       contexts = h.contexts;
       current = protected_has abort_context t (h.contexts.own abort_context (omega arith) (omega arith)).protected;
@@ -338,13 +350,14 @@ shut_stands level levels now s active open_level left h =
           empty = λ n e. absurd (both_ways level.starting open_level.started e);
           alone = λ n e. absurd (both_ways level.starting open_level.started e);
           idle = λ n e. absurd (both_ways level.starting open_level.started e);
-          released = λ n _ e. left_nothing n s.session.owners now (subst (λ (o : Option ℕ). HasLeft o s.session.owners now) e left) h.owners.items;
+          released = λ n _ e. left_nothing (table_of s.around.kinds) n s.session.owners now h.kinds (subst (λ (o : Option ℕ). HasLeft (table_of s.around.kinds) o s.session.owners now) e left) h.owners.items;
           at_abort = λ _. refl;
           open_level = λ _. record { started = open_level.started; block = open_level.block };
         },
         h.fit.1,
       );
-      owners = owners_aborted level levels s.session.owners now s.session.next_owner s.session.next_serial level.owner refl active left h.owners;
+      owners = owners_aborted (table_of s.around.kinds) level levels s.session.owners now s.session.next_owner s.session.next_serial level.owner h.kinds refl active left h.owners;
+      kinds = h.kinds;
       portals = refl;
       plans = refl;
       snapshots = refl;
@@ -357,7 +370,7 @@ aborted_stands level levels s active open_level h =
     let a : HasShut level levels s (aborted (settled (level ∷ levels) s)).scene = aborted_is level levels s in
     subst (Leaves (record level { aborted = true } ∷ levels)) (sym a.is) (record {
       between = record {
-        stands = stands_tabled a.tables (shut level levels a.owners s) (shut_stands level levels a.owners s active open_level a.left h);
+        stands = stands_tabled a.tables (shut level levels a.owners s) a.same (shut_stands level levels a.owners s active open_level a.left h);
         open_levels = (record { started = open_level.started; block = open_level.block }, outer_open levels h.fit.1);
       };
       are = refl;
@@ -368,20 +381,23 @@ rolled_is : (level : LevelState) (levels : List LevelState) (s : Scene) → Only
 rolled_is level levels s = go level.aborted
   where
     go : (b : Bool) → OnlyTables (popped level.context level.owner levels s) (cleaned_up (where_so (not b) aborted (settled (level ∷ levels) s)).scene).scene
-    go true = (tables_of s, cleaned_up_is level levels s)
+    go true = record { tables = tables_of s; same = refl; is = cleaned_up_is level levels s }
     go false =
-        let a : HasShut level levels s (aborted (settled (level ∷ levels) s)).scene = aborted_is level levels s in (
-          a.tables,
-          ap (λ (z : Scene). (cleaned_up z).scene) a.is
+        let a : HasShut level levels s (aborted (settled (level ∷ levels) s)).scene = aborted_is level levels s in
+        record {
+          tables = a.tables;
+          same = a.same;
+          is =
+              ap (λ (z : Scene). (cleaned_up z).scene) a.is
               ∙ cleaned_up_is (record level { aborted = true }) levels (tabled a.tables (record s { session = record s.session { owners = a.owners; current = abort_context } }))
-              ∙ ap (λ (z : OwnerTree). tabled a.tables (with_owners z (popped level.context level.owner levels s))) (without_left level.owner s.session.owners a.owners a.left),
-        )
+              ∙ ap (λ (z : OwnerTree). tabled a.tables (with_owners z (popped level.context level.owner levels s))) (without_left (table_of s.around.kinds) level.owner s.session.owners a.owners a.left);
+        }
 
 rolled_stands : (level : LevelState) (levels : List LevelState) (s : Scene) → Stands (settled (level ∷ levels) s) → StandsBetweenLines (level_rolled_back level (settled (level ∷ levels) s)).scene
 rolled_stands level levels s h =
     let r : OnlyTables (popped level.context level.owner levels s) (level_rolled_back level (settled (level ∷ levels) s)).scene = rolled_is level levels s in
-    subst StandsBetweenLines (sym r.1) (record {
-      stands = stands_tabled r.0 (popped level.context level.owner levels s) (whole_stands level levels s h);
+    subst StandsBetweenLines (sym r.is) (record {
+      stands = stands_tabled r.tables (popped level.context level.owner levels s) r.same (whole_stands level levels s h);
       open_levels = outer_open levels h.fit.1;
     })
 
@@ -397,9 +413,9 @@ given_up_stands : (level : LevelState) (levels : List LevelState) (s : Scene) (b
     ]).scene
 given_up_stands level levels s true i e q active h =
     let r : OnlyTables (popped level.context level.owner levels s) (level_rolled_back level (settled (level ∷ levels) s)).scene = rolled_is level levels s in
-    subst (λ (z : Scene). StandsBetweenLines (where_there (first_of levels) (λ above. aborted) z).scene) (sym r.1)
-    (above_aborted levels (tabled r.0 (popped level.context level.owner levels s))
-    (stands_tabled r.0 (popped level.context level.owner levels s) (whole_stands level levels s h)) h.fit.1)
+    subst (λ (z : Scene). StandsBetweenLines (where_there (first_of levels) (λ above. aborted) z).scene) (sym r.is)
+    (above_aborted levels (tabled r.tables (popped level.context level.owner levels s))
+    (stands_tabled r.tables (popped level.context level.owner levels s) r.same (whole_stands level levels s h)) h.fit.1)
 given_up_stands level levels s false true e q active h = rolled_stands level levels s h
 given_up_stands level levels s false false e q active h = (aborted_stands level levels s active (record { started = e; block = q }) h).between
 
@@ -426,12 +442,12 @@ all_rolled : (levels : List LevelState) (s : Scene) → Stands (settled levels s
 all_rolled [] s h = record { left = s; stands = h; is = refl }
 all_rolled (level ∷ levels) s h =
     let r : OnlyTables (popped level.context level.owner levels s) (level_rolled_back level (settled (level ∷ levels) s)).scene = rolled_is level levels s in
-    let next : Scene = tabled r.0 (popped level.context level.owner levels s) in
-    let rest : HasRolled levels next = all_rolled levels next (stands_tabled r.0 (popped level.context level.owner levels s) (whole_stands level levels s h)) in
+    let next : Scene = tabled r.tables (popped level.context level.owner levels s) in
+    let rest : HasRolled levels next = all_rolled levels next (stands_tabled r.tables (popped level.context level.owner levels s) r.same (whole_stands level levels s h)) in
     record {
       left = rest.left;
       stands = rest.stands;
-      is = ap (λ (z : Scene). (for_each level_rolled_back levels z).scene) r.1 ∙ rest.is;
+      is = ap (λ (z : Scene). (for_each level_rolled_back levels z).scene) r.is ∙ rest.is;
     }
 
 no_nodes : {A : Type 0} (t : Forest A) → ((n : ℕ) → has n t ≡ true → ⊥) → t ≡ Empty

@@ -8,6 +8,7 @@ use Rattle.forest.specs.Walk.{swept}
 use Rattle.forest.proofs.Trees.{at_absent, has_of_removed, left_apart}
 use Rattle.forest.proofs.Moved.{above_by_parent, above_none}
 use Rattle.context_rules.specs.Contexts.{Contexts, is_protected}
+use Rattle.owner_kinds.specs.KindTable.{KindTable, IsSound as IsSoundTable}
 use Rattle.owner_core.specs.Owners.{Owner, OwnerTree, AllAt, HoldsNothing, has_begun}
 use Rattle.owner_core.proofs.Sounds.{once_of, sound_removed}
 use Rattle.session_rules.specs.State.{LevelState, abort_context, first_of, owner_of, top_context}
@@ -126,9 +127,9 @@ abbrev pub without_owner : Option ℕ → OwnerTree → OwnerTree
 without_owner None owners = owners
 without_owner (Some p) owners = removed p owners
 
-pub owners_without : (level : LevelState) (levels : List LevelState) (owners : OwnerTree) (a b : ℕ) (o : Option ℕ) → level.owner ≡ o → ((p : ℕ) → level.owner ≡ Some p → has p owners ≡ true)
-    → AreOwners owners a b (level ∷ levels) → AreOwners (without_owner o owners) a b levels
-owners_without level levels owners a b None e there h = record {
+pub owners_without : (kinds : KindTable) (level : LevelState) (levels : List LevelState) (owners : OwnerTree) (a b : ℕ) (o : Option ℕ) → level.owner ≡ o → ((p : ℕ) → level.owner ≡ Some p → has p owners ≡ true)
+    → AreOwners kinds owners a b (level ∷ levels) → AreOwners kinds (without_owner o owners) a b levels
+owners_without kinds level levels owners a b None e there h = record {
   sound = h.sound;
   each = λ n u. elim (h.each n u) [
     | inl i ↦ elim i [ inl q ↦ absurd (no_value level.owner n e q) | inr j ↦ inl j ]
@@ -137,7 +138,7 @@ owners_without level levels owners a b None e there h = record {
   begun = λ n u. let r = h.begun n u in absurd (no_value level.owner r.owner e r.is);
   items = h.items;
 }
-owners_without level levels owners a b (Some p) e there h =
+owners_without kinds level levels owners a b (Some p) e there h =
     let once : Once owners = once_of owners a b h.sound in
     let here : has p owners ≡ true = there p e in
     let outside : (n : ℕ) → has n (removed p owners) ≡ true → IsReleased level n owners → ⊥ = λ n u r.
@@ -162,30 +163,30 @@ owners_without level levels owners a b (Some p) e there h =
           let w = left_apart n p owners once here left in
           let was : has_begun n owners ≡ true = ap (λ (o : Option Owner). option_map_or (λ owner. owner.begun) o false) (sym (at_left n p owners once w.0 w.1)) ∙ u in
           absurd (outside n left (h.begun n was));
-      items = all_removed HasItems p owners h.items;
+      items = all_removed (HasItems kinds) p owners h.items;
     }
 
 -- what a release leaves of the deepest level's owner
-abbrev pub HasLeft : Option ℕ → OwnerTree → OwnerTree → Type 0
-HasLeft None owners now = now ≡ owners
-HasLeft (Some p) owners now = HasSwept p owners now
+abbrev pub HasLeft : KindTable → Option ℕ → OwnerTree → OwnerTree → Type 0
+HasLeft kinds None owners now = now ≡ owners
+HasLeft kinds (Some p) owners now = HasSwept kinds p owners now
 
 -- the deepest level is aborted
-pub owners_aborted : (level : LevelState) (levels : List LevelState) (owners now : OwnerTree) (a b : ℕ) (o : Option ℕ) → level.owner ≡ o → level.aborted ≡ false → HasLeft o owners now
-    → AreOwners owners a b (level ∷ levels) → AreOwners now a b (record level { aborted = true } ∷ levels)
-owners_aborted level levels owners now a b None e active left h =
-    subst (λ (z : OwnerTree). AreOwners z a b (record level { aborted = true } ∷ levels)) (sym left) (record {
+pub owners_aborted : (kinds : KindTable) (level : LevelState) (levels : List LevelState) (owners now : OwnerTree) (a b : ℕ) (o : Option ℕ) → IsSoundTable kinds → level.owner ≡ o → level.aborted ≡ false → HasLeft kinds o owners now
+    → AreOwners kinds owners a b (level ∷ levels) → AreOwners kinds now a b (record level { aborted = true } ∷ levels)
+owners_aborted kinds level levels owners now a b None sound e active left h =
+    subst (λ (z : OwnerTree). AreOwners kinds z a b (record level { aborted = true } ∷ levels)) (sym left) (record {
       sound = h.sound;
       each = λ n u. elim (h.each n u) [ inl i ↦ inl i | inr r ↦ absurd (both_ways level.aborted active r.aborted) ];
       begun = λ n u. let r = h.begun n u in absurd (both_ways level.aborted active r.aborted);
       items = h.items;
     })
-owners_aborted level levels owners now a b (Some p) e active left h =
+owners_aborted kinds level levels owners now a b (Some p) sound e active left h =
     let once : Once owners = once_of owners a b h.sound in
-    let f : Owner → Owner = swept_by left.first left.second left.third in
+    let f : Owner → Owner = swept_by kinds in
     let is : now ≡ swept f p owners = left.is in
     record {
-      sound = still_sound p owners now a b left h.sound;
+      sound = still_sound kinds p owners now a b left h.sound;
       each = λ n u. elim (h.each n (sym (ap (has n) is ∙ has_swept f n p owners) ∙ u)) [
         | inl i ↦ inl i
         | inr r ↦ absurd (both_ways level.aborted active r.aborted)
@@ -202,20 +203,20 @@ owners_aborted level levels owners now a b (Some p) e active left h =
                   absurd (both_ways level.aborted active r.aborted)
             ]
           ];
-      items = rw is (all_swept f HasItems p owners (still_items left.first left.second left.third) h.items);
+      items = rw is (all_swept f (HasItems kinds) p owners (λ owner. still_items kinds owner sound) h.items);
     }
 
 -- its owner and all below that hold nothing
-pub left_nothing : (p : ℕ) (owners now : OwnerTree) → HasSwept p owners now → AllNodes HasItems owners → AllAt HoldsNothing p now
-left_nothing p owners now left items =
-    let f : Owner → Owner = swept_by left.first left.second left.third in
-    rw left.is (swept_all f HasItems HoldsNothing (holds_nothing left.first left.second left.third) p owners items)
+pub left_nothing : (kinds : KindTable) (p : ℕ) (owners now : OwnerTree) → IsSoundTable kinds → HasSwept kinds p owners now → AllNodes (HasItems kinds) owners → AllAt HoldsNothing p now
+left_nothing kinds p owners now sound left items =
+    let f : Owner → Owner = swept_by kinds in
+    rw left.is (swept_all f (HasItems kinds) HoldsNothing (λ owner. holds_nothing kinds owner sound) p owners items)
 
 -- a release leaves the owners where they are
-pub left_still : (o : Option ℕ) (owners now : OwnerTree) → HasLeft o owners now → (m : ℕ) → has m owners ≡ true → IsStill m owners now
-left_still None owners now left m there = record { there = ap (has m) left ∙ there; parent = ap (parent_of m) left }
-left_still (Some p) owners now left m there =
-    let f : Owner → Owner = swept_by left.first left.second left.third in
+pub left_still : (kinds : KindTable) (o : Option ℕ) (owners now : OwnerTree) → HasLeft kinds o owners now → (m : ℕ) → has m owners ≡ true → IsStill m owners now
+left_still kinds None owners now left m there = record { there = ap (has m) left ∙ there; parent = ap (parent_of m) left }
+left_still kinds (Some p) owners now left m there =
+    let f : Owner → Owner = swept_by kinds in
     record {
       there = ap (has m) left.is ∙ has_swept f m p owners ∙ there;
       parent = ap (parent_of m) left.is ∙ parent_swept f m p owners;

@@ -36,3 +36,4 @@ pub mod HookElements
 pub mod HookCommands
 pub mod HookLaws
 pub mod HookExamples
+pub mod Locked

@@ -126,7 +126,7 @@ checked name s refusal n is e =
     no_error (refusal n) (ap (λ (o : Option ℕ). option_map tree_error (option_and_then refusal o)) (sym is) ∙ e)
 
 -- an act on a context that a name leads to
-pub at_name : (P : Scene → Type 0) (o : Option ℕ) (act : ℕ → Scene → Ended) (s : Scene) → P s → ((n : ℕ) → o ≡ Some n → P (act n s).scene) → P (where_there o act s).scene
+pub at_name : {A : Type 0} (P : Scene → Type 0) (o : Option A) (act : A → Scene → Ended) (s : Scene) → P s → ((n : A) → o ≡ Some n → P (act n s).scene) → P (where_there o act s).scene
 at_name P None act s before behind = before
 at_name P (Some n) act s before behind = behind n refl
 

@@ -5,6 +5,8 @@ use Rattle.forest.specs.Forest.{Once, has}
 use Rattle.reset_callbacks.specs.Hook.{AreDistinct}
 use Rattle.reset_callbacks.specs.ShelfState as shelf
 use Rattle.context_rules.specs.Opening as contexts
+use Rattle.owner_kinds.specs.KindTable.{IsSound}
+use Rattle.owner_kinds.specs.KindShelf.{table_of}
 use Rattle.session_rules.specs.State.{abort_context, opening}
 use Rattle.session_rules.specs.World.{Around}
 use Rattle.session_rules.specs.Standing.{AreContexts, IsOfSession, StandsBetweenLines}
@@ -43,10 +45,10 @@ first_contexts = record {
   );
 }
 
--- A session that opens stands, where the hooks of the shelf differ.
-pub opening_stands : (around : Around) → AreDistinct (shelf.held around.shelf) → StandsBetweenLines (record { session = opening; around = around })
+-- A session that opens stands, where the hooks of the shelf differ and the kinds are sound.
+pub opening_stands : (around : Around) → AreDistinct (shelf.held around.shelf) → IsSound (table_of around.kinds) → StandsBetweenLines (record { session = opening; around = around })
 unfolding opening
-opening_stands around differ = record {
+opening_stands around differ sound = record {
   stands = record {
     contexts = first_contexts;
     current = refl;
@@ -59,6 +61,7 @@ opening_stands around differ = record {
       begun = λ n u. absurd (cc u);
       items = tt;
     };
+    kinds = sound;
     portals = refl;
     plans = refl;
     snapshots = refl;

@@ -1,17 +1,21 @@
 -- What a release leaves: the owners without their items, and of all else only what tables count.
-use Rattle.std.proofs.Common.{◌≡◌, ℕ, ◌≤◌, Bool, true, false, Option, None, List, [], ◌∷◌, All, refl, sym, ap, ◌∙◌, subst, inl, inr, arith}
-use Rattle.std.specs.Prelude.{zero, suc, ◌-◌, not, filter}
-use Rattle.std.proofs.lemmas.Bool.{cases_Bool}
-use Rattle.std.proofs.lemmas.List.Elements.{All-nil, All-head, All-tail}
+use Rattle.std.proofs.Common.{◌≡◌, ◌≢◌, ℕ, ◌<◌, ◌≤◌, Bool, true, false, Option, None, List, [], ◌∷◌, length, slice_get, All, refl, sym, ap, ◌∙◌, subst, inl, inr, arith}
+use Rattle.std.specs.Prelude.{zero, suc, ◌-◌, not, filter, unwrap_or}
+use Rattle.std.specs.Option.{option_map}
+use Rattle.std.proofs.lemmas.Bool.{cases_Bool, le-ltb}
+use Rattle.std.proofs.lemmas.List.Elements.{All-nil, All-head, All-tail, All-filter}
 use Rattle.pgs_step.specs.declared.events.What.TheVariants as what
 use Rattle.pgs_step.specs.declared.ids.Item.{Item}
 use Rattle.pgs_step.specs.declared.ids.Phase.{Phase}
 use Rattle.pgs_step.specs.declared.ids.Phase.TheVariants.{BeforeLocks, Locks, AfterLocks}
 use Rattle.forest.specs.Walk.{swept}
 use Rattle.owner_kinds.specs.Kind.{Kind, changed_at, closed}
-use Rattle.owner_kinds.specs.KindTable.{KindTable, row_of}
+use Rattle.owner_kinds.specs.KindTable.{KindTable, row_of, IsSound as IsSoundTable}
 use Rattle.owner_kinds.specs.KindShelf.{table_of}
-use Rattle.owner_items.specs.Next.{is_of_phase}
+use Rattle.owner_kinds.specs.Place.{IsPlace}
+use Rattle.owner_kinds.specs.declared.kind_row.KindRow.{KindRow}
+use Rattle.owner_kinds.proofs.Places.{table-closed}
+use Rattle.owner_items.specs.Next.{is_of_phase, is_phase}
 use Rattle.owner_core.specs.Owners.{Owner, OwnerTree, HoldsNothing}
 use Rattle.owner_core.specs.Released.{own_released, released}
 use Rattle.owner_core.specs.Sound.{IsSound}
@@ -46,92 +50,122 @@ tables_of scene = record { locks = scene.session.locks; recent = scene.session.r
 abbrev pub with_owners : OwnerTree → Scene → Scene
 with_owners owners scene = record scene { session = record scene.session { owners = owners } }
 
--- a scene changed in its tables alone
-abbrev pub OnlyTables : Scene → Scene → Type 0
-OnlyTables s t = (x : Tables) × (t ≡ tabled x s)
+-- a scene changed in its tables alone, and in nothing that never changes of kinds
+pub record OnlyTables (s t : Scene) : Type 0 where
+  pub tables : Tables
+  pub same : table_of tables.kinds ≡ table_of s.around.kinds
+  pub is : t ≡ tabled tables s
+
+pub only_nothing : (s : Scene) → OnlyTables s s
+only_nothing s = record { tables = tables_of s; same = refl; is = refl }
+
+pub only_both : (s t z : Scene) → OnlyTables s t → OnlyTables t z → OnlyTables s z
+only_both s t z a b = record {
+  tables = b.tables;
+  same = b.same ∙ ap (λ (x : Scene). table_of x.around.kinds) a.is ∙ a.same;
+  is = b.is ∙ ap (tabled b.tables) a.is;
+}
 
 pub left_tables : (keeper : Keeper) (key : ℕ) (s : Scene) → s.session.plans ≡ [] → OnlyTables s (left_to keeper key s).scene
-left_tables NoOne key s none = (tables_of s, refl)
+left_tables NoOne key s none = only_nothing s
 left_tables ThePlans key s none =
     let e : plan_at key s.session.plans ≡ None = ap (plan_at key) none in
-    (tables_of s, ap (λ (o : Option StandingPlan). (where_there o (λ plan. plan_becomes (record plan { references = plan.references - 1 })) s).scene) e)
+    record {
+      tables = tables_of s;
+      same = refl;
+      is = ap (λ (o : Option StandingPlan). (where_there o (λ plan. plan_becomes (record plan { references = plan.references - 1 })) s).scene) e;
+    }
 left_tables TheDescriptors key s none = go (is_among key s.session.recent)
   where
     go : (b : Bool) → OnlyTables s (where_so b (λ scene. record {
       scene = record scene { session = record scene.session { recent = without key scene.session.recent } };
       events = what.DescriptorClosed key ∷ [];
     }) s).scene
-    go true = (record (tables_of s) { recent = without key s.session.recent }, refl)
-    go false = (tables_of s, refl)
-left_tables (TheKind place) key s none = (record (tables_of s) { kinds = changed_at place (closed key) s.around.kinds }, refl)
+    go true = record { tables = record (tables_of s) { recent = without key s.session.recent }; same = refl; is = refl }
+    go false = only_nothing s
+left_tables (TheKind place) key s none = record {
+  tables = record (tables_of s) { kinds = changed_at place (closed key) s.around.kinds };
+  same = table-closed s.around.kinds place key;
+  is = refl;
+}
 
 step_tables : (step : Step) (s : Scene) → s.session.plans ≡ [] → OnlyTables s (step_done step s).scene
-step_tables (Said event) s none = (tables_of s, refl)
+step_tables (Said event) s none = only_nothing s
 step_tables (GivesBack item) s none = left_tables (keeper_of item.kind) item.key s none
-step_tables (ReleasesLocks owner) s none = (record (tables_of s) { locks = locks.released owner s.session.locks }, refl)
-step_tables (PassesLocks from to) s none = (record (tables_of s) { locks = locks.passed from to s.session.locks }, refl)
-step_tables (ReleasesAllLocks top) s none = (record (tables_of s) { locks = [] }, refl)
+step_tables (ReleasesLocks owner) s none = record { tables = record (tables_of s) { locks = locks.released owner s.session.locks }; same = refl; is = refl }
+step_tables (PassesLocks from to) s none = record { tables = record (tables_of s) { locks = locks.passed from to s.session.locks }; same = refl; is = refl }
+step_tables (ReleasesAllLocks top) s none = record { tables = record (tables_of s) { locks = [] }; same = refl; is = refl }
 
 steps_tables : (steps : List Step) (s : Scene) → s.session.plans ≡ [] → OnlyTables s (for_each step_done steps s).scene
-steps_tables [] s none = (tables_of s, refl)
+steps_tables [] s none = only_nothing s
 steps_tables (step ∷ steps) s none =
     let a : OnlyTables s (step_done step s).scene = step_tables step s none in
-    let still : (step_done step s).scene.session.plans ≡ [] = ap (λ (z : Scene). z.session.plans) a.1 ∙ none in
+    let still : (step_done step s).scene.session.plans ≡ [] = ap (λ (z : Scene). z.session.plans) a.is ∙ none in
     let b : OnlyTables (step_done step s).scene (for_each step_done steps (step_done step s).scene).scene = steps_tables steps (step_done step s).scene still in
-    (b.0, b.1 ∙ ap (tabled b.0) a.1)
+    only_both s (step_done step s).scene (for_each step_done steps (step_done step s).scene).scene a b
 
--- one phase
-phase_tables : (commit top : Bool) (owner : ℕ) (phase : Phase) (s : Scene) → s.session.plans ≡ []
-    → (x : Tables) × ((phase_released commit top owner phase s).scene ≡ with_owners (released (table_of s.around.kinds) phase owner s.session.owners) (tabled x s))
-phase_tables commit top owner phase s none =
+-- one phase, by the kinds of the scene
+record HasPhase (kinds : KindTable) (owner : ℕ) (phase : Phase) (s t : Scene) : Type 0 where
+  tables : Tables
+  same : table_of tables.kinds ≡ table_of s.around.kinds
+  is : t ≡ with_owners (released kinds phase owner s.session.owners) (tabled tables s)
+
+phase_tables : (kinds : KindTable) (commit top : Bool) (owner : ℕ) (phase : Phase) (s : Scene) → s.session.plans ≡ [] → table_of s.around.kinds ≡ kinds
+    → HasPhase kinds owner phase s (phase_released commit top owner phase s).scene
+phase_tables kinds commit top owner phase s none e =
     let all : OnlyTables s (for_each step_done (release_steps (table_of s.around.kinds) phase commit top owner s.session.owners) s).scene =
     steps_tables (release_steps (table_of s.around.kinds) phase commit top owner s.session.owners) s none in
-    (all.0, ap (λ (z : Scene). with_owners (released (table_of s.around.kinds) phase owner z.session.owners) z) all.1)
+    record {
+      tables = all.tables;
+      same = all.same;
+      is =
+          ap (λ (z : Scene). with_owners (released (table_of s.around.kinds) phase owner z.session.owners) z) all.is
+          ∙ ap (λ (k : KindTable). with_owners (released k phase owner s.session.owners) (tabled all.tables s)) e;
+    }
 
 -- what the three phases leave of an owner
-abbrev pub swept_by : KindTable → KindTable → KindTable → Owner → Owner
-swept_by a b c owner = own_released c AfterLocks (own_released b Locks (own_released a BeforeLocks owner))
+abbrev pub swept_by : KindTable → Owner → Owner
+swept_by kinds owner = own_released kinds AfterLocks (own_released kinds Locks (own_released kinds BeforeLocks owner))
 
-pub record HasSwept (p : ℕ) (owners : OwnerTree) (now : OwnerTree) : Type 0 where
-  pub first : KindTable
-  pub second : KindTable
-  pub third : KindTable
-  pub is : now ≡ swept (swept_by first second third) p owners
-  pub phases : now ≡ released third AfterLocks p (released second Locks p (released first BeforeLocks p owners))
+-- an owner with all below it went through the three phases
+pub record HasSwept (kinds : KindTable) (p : ℕ) (owners now : OwnerTree) : Type 0 where
+  pub is : now ≡ swept (swept_by kinds) p owners
+  pub phases : now ≡ released kinds AfterLocks p (released kinds Locks p (released kinds BeforeLocks p owners))
 
 -- an owner is released
 pub record HasReleased (p : ℕ) (s t : Scene) : Type 0 where
   pub tables : Tables
+  pub same : table_of tables.kinds ≡ table_of s.around.kinds
   pub owners : OwnerTree
-  pub swept : HasSwept p s.session.owners owners
+  pub swept : HasSwept (table_of s.around.kinds) p s.session.owners owners
   pub is : t ≡ with_owners owners (tabled tables s)
+
+-- the three phases as one
+pub released_swept : (kinds : KindTable) (p : ℕ) (owners : OwnerTree)
+    → released kinds AfterLocks p (released kinds Locks p (released kinds BeforeLocks p owners)) ≡ swept (swept_by kinds) p owners
+released_swept kinds p owners =
+    ap (released kinds AfterLocks p) (both_swept (own_released kinds BeforeLocks) (own_released kinds Locks) p owners)
+    ∙ both_swept (λ (x : Owner). own_released kinds Locks (own_released kinds BeforeLocks x)) (own_released kinds AfterLocks) p owners
 
 pub release_is : (commit top : Bool) (p : ℕ) (s : Scene) → s.session.plans ≡ [] → HasReleased p s (owner_released commit top p s).scene
 release_is commit top p s none =
-    let one = phase_tables commit top p BeforeLocks s none in
-    let a : Scene = with_owners (released (table_of s.around.kinds) BeforeLocks p s.session.owners) (tabled one.0 s) in
-    let two = phase_tables commit top p Locks a none in
-    let b : Scene = with_owners (released (table_of a.around.kinds) Locks p a.session.owners) (tabled two.0 a) in
-    let three = phase_tables commit top p AfterLocks b none in
-    let c : Scene = with_owners (released (table_of b.around.kinds) AfterLocks p b.session.owners) (tabled three.0 b) in
-    let first : (phase_released commit top p BeforeLocks s).scene ≡ a = one.1 in
+    let kinds : KindTable = table_of s.around.kinds in
+    let one : HasPhase kinds p BeforeLocks s (phase_released commit top p BeforeLocks s).scene = phase_tables kinds commit top p BeforeLocks s none refl in
+    let a : Scene = with_owners (released kinds BeforeLocks p s.session.owners) (tabled one.tables s) in
+    let two : HasPhase kinds p Locks a (phase_released commit top p Locks a).scene = phase_tables kinds commit top p Locks a none one.same in
+    let b : Scene = with_owners (released kinds Locks p a.session.owners) (tabled two.tables a) in
+    let three : HasPhase kinds p AfterLocks b (phase_released commit top p AfterLocks b).scene = phase_tables kinds commit top p AfterLocks b none (two.same ∙ one.same) in
+    let c : Scene = with_owners (released kinds AfterLocks p b.session.owners) (tabled three.tables b) in
+    let first : (phase_released commit top p BeforeLocks s).scene ≡ a = one.is in
     let second : (phase_released commit top p Locks (phase_released commit top p BeforeLocks s).scene).scene ≡ b =
-    ap (λ (z : Scene). (phase_released commit top p Locks z).scene) first ∙ two.1 in
+    ap (λ (z : Scene). (phase_released commit top p Locks z).scene) first ∙ two.is in
     let third : (owner_released commit top p s).scene ≡ c =
-    ap (λ (z : Scene). (phase_released commit top p AfterLocks z).scene) second ∙ three.1 in
+    ap (λ (z : Scene). (phase_released commit top p AfterLocks z).scene) second ∙ three.is in
     record {
-      tables = three.0;
+      tables = three.tables;
+      same = three.same ∙ two.same ∙ one.same;
       owners = c.session.owners;
-      swept = record {
-        first = table_of s.around.kinds;
-        second = table_of one.0.kinds;
-        third = table_of two.0.kinds;
-        is =
-            ap (released (table_of two.0.kinds) AfterLocks p)
-            (both_swept (own_released (table_of s.around.kinds) BeforeLocks) (own_released (table_of one.0.kinds) Locks) p s.session.owners)
-            ∙ both_swept (λ (x : Owner). own_released (table_of one.0.kinds) Locks (own_released (table_of s.around.kinds) BeforeLocks x)) (own_released (table_of two.0.kinds) AfterLocks) p s.session.owners;
-        phases = refl;
-      };
+      swept = record { is = released_swept kinds p s.session.owners; phases = refl };
       is = third;
     }
 
@@ -149,38 +183,65 @@ one_of_eight P a b c d e f g h (suc (suc (suc (suc (suc (suc (suc (suc zero)))))
 one_of_eight P a b c d e f g h (suc (suc (suc (suc (suc (suc (suc (suc (suc k))))))))) l u = absurd (omega arith)
 
 -- what isn't released before the locks is released behind them
-abbrev IsLast : KindTable → KindTable → ℕ → ℕ → ℕ → Type 0
-IsLast a c key serial k =
-    is_of_phase a BeforeLocks (record { kind = record { 0 = k }; key = key; serial = serial }) ≡ false
-    → is_of_phase c AfterLocks (record { kind = record { 0 = k }; key = key; serial = serial }) ≡ true
+abbrev IsLast : KindTable → ℕ → ℕ → ℕ → Type 0
+IsLast kinds key serial k =
+    is_of_phase kinds BeforeLocks (record { kind = record { 0 = k }; key = key; serial = serial }) ≡ false
+    → is_of_phase kinds AfterLocks (record { kind = record { 0 = k }; key = key; serial = serial }) ≡ true
 
-last_of_eight : (a c : KindTable) (key serial k : ℕ) → 1 ≤ k → k ≤ 8 → IsLast a c key serial k
+last_of_eight : (kinds : KindTable) (key serial k : ℕ) → 1 ≤ k → k ≤ 8 → IsLast kinds key serial k
 unfolding row_of
-last_of_eight a c key serial k l u =
-    one_of_eight (IsLast a c key serial) (λ e. sym e) (λ e. sym e) (λ _. refl) (λ _. refl) (λ _. refl) (λ _. refl) (λ _. refl) (λ _. refl) k l u
+last_of_eight kinds key serial k l u =
+    one_of_eight (IsLast kinds key serial) (λ e. sym e) (λ e. sym e) (λ _. refl) (λ _. refl) (λ _. refl) (λ _. refl) (λ _. refl) (λ _. refl) k l u
 
-released_last : (a c : KindTable) (item : Item) → IsItem item → is_of_phase a BeforeLocks item ≡ false → is_of_phase c AfterLocks item ≡ true
-released_last a c item is e = last_of_eight a c item.key item.serial item.kind.0 is.kind.from is.kind.to e
+-- the same of the rows of extension kinds: none of them is released with the locks
+abbrev in_phase : Phase → Option KindRow → Bool
+in_phase phase o = unwrap_or (option_map (is_phase phase) (option_map (λ r. r.phase) o)) false
 
-none_left : (a c : KindTable) (items : List Item) → All IsItem items
-    → filter (λ item. not (is_of_phase c AfterLocks item)) (filter (λ item. not (is_of_phase a BeforeLocks item)) items) ≡ []
-none_left a c [] h = refl
-none_left a c (item ∷ items) h =
-    let rest = none_left a c items (All-tail IsItem item items h) in
-    elim (cases_Bool (is_of_phase a BeforeLocks item)) [
+last_phase : (phase : Phase) → phase ≢ Locks → is_phase BeforeLocks phase ≡ false → is_phase AfterLocks phase ≡ true
+last_phase BeforeLocks other e = sym e
+last_phase Locks other e = absurd (other refl)
+last_phase AfterLocks other e = refl
+
+last_of_rows : (rows : List KindRow) (i : ℕ) → All IsPlace rows → i < length rows → in_phase BeforeLocks (slice_get rows i) ≡ false → in_phase AfterLocks (slice_get rows i) ≡ true
+last_of_rows [] i places within e = absurd (omega arith)
+last_of_rows (r ∷ rs) zero places within e = last_phase r.phase (All-head IsPlace r rs places).0 e
+last_of_rows (r ∷ rs) (suc i) places within e = last_of_rows rs i (All-tail IsPlace r rs places) (omega arith) e
+
+last_of_kinds : (kinds : KindTable) (key serial k : ℕ) → IsSoundTable kinds → 16 ≤ k → k - 16 < length kinds.rows → IsLast kinds key serial k
+unfolding row_of
+last_of_kinds kinds key serial k sound high within = rw (le-ltb k 16 high) (last_of_rows kinds.rows (k - 16) sound.places within)
+
+released_last : (kinds : KindTable) (item : Item) → IsSoundTable kinds → IsItem kinds item → is_of_phase kinds BeforeLocks item ≡ false → is_of_phase kinds AfterLocks item ≡ true
+released_last kinds item sound is e = elim is.kind [
+  | inl own ↦ last_of_eight kinds item.key item.serial item.kind.0 own.from own.to e
+  | inr extension ↦ last_of_kinds kinds item.key item.serial item.kind.0 sound extension.from extension.placed e
+]
+
+none_left : (kinds : KindTable) (items : List Item) → IsSoundTable kinds → All (IsItem kinds) items
+    → filter (λ item. not (is_of_phase kinds AfterLocks item)) (filter (λ item. not (is_of_phase kinds BeforeLocks item)) items) ≡ []
+none_left kinds [] sound h = refl
+none_left kinds (item ∷ items) sound h =
+    let rest = none_left kinds items sound (All-tail (IsItem kinds) item items h) in
+    elim (cases_Bool (is_of_phase kinds BeforeLocks item)) [
       | inl y ↦ rw y rest
-      | inr y ↦ rw (y, released_last a c item (All-head IsItem item items h) y) rest
+      | inr y ↦ rw (y, released_last kinds item sound (All-head (IsItem kinds) item items h) y) rest
     ]
 
-pub holds_nothing : (a b c : KindTable) (owner : Owner) → HasItems owner → HoldsNothing (swept_by a b c owner)
-holds_nothing a b c owner h = none_left a c owner.items h
+pub holds_nothing : (kinds : KindTable) (owner : Owner) → IsSoundTable kinds → HasItems kinds owner → HoldsNothing (swept_by kinds owner)
+holds_nothing kinds owner sound h = none_left kinds owner.items sound h
 
-pub still_items : (a b c : KindTable) (owner : Owner) → HasItems owner → HasItems (swept_by a b c owner)
-still_items a b c owner h = rw (none_left a c owner.items h) (All-nil IsItem)
+pub still_items : (kinds : KindTable) (owner : Owner) → IsSoundTable kinds → HasItems kinds owner → HasItems kinds (swept_by kinds owner)
+still_items kinds owner sound h = rw (none_left kinds owner.items sound h) (All-nil (IsItem kinds))
 
-pub still_sound : (p : ℕ) (owners now : OwnerTree) (next_owner next_serial : ℕ) → HasSwept p owners now → IsSound owners next_owner next_serial → IsSound now next_owner next_serial
-still_sound p owners now next_owner next_serial s h =
+-- each phase leaves known items
+pub phase_items : (kinds : KindTable) (phase : Phase) (owner : Owner) → HasItems kinds owner → HasItems kinds (own_released kinds phase owner)
+phase_items kinds Locks owner h = h
+phase_items kinds BeforeLocks owner h = All-filter (λ item. not (is_of_phase kinds BeforeLocks item)) (IsItem kinds) owner.items h
+phase_items kinds AfterLocks owner h = All-filter (λ item. not (is_of_phase kinds AfterLocks item)) (IsItem kinds) owner.items h
+
+pub still_sound : (kinds : KindTable) (p : ℕ) (owners now : OwnerTree) (next_owner next_serial : ℕ) → HasSwept kinds p owners now → IsSound owners next_owner next_serial → IsSound now next_owner next_serial
+still_sound kinds p owners now next_owner next_serial s h =
     subst (λ (z : OwnerTree). IsSound z next_owner next_serial) (sym s.phases)
-    (sound_released s.third AfterLocks p (released s.second Locks p (released s.first BeforeLocks p owners)) next_owner next_serial
-    (sound_released s.second Locks p (released s.first BeforeLocks p owners) next_owner next_serial
-    (sound_released s.first BeforeLocks p owners next_owner next_serial h)))
+    (sound_released kinds AfterLocks p (released kinds Locks p (released kinds BeforeLocks p owners)) next_owner next_serial
+    (sound_released kinds Locks p (released kinds BeforeLocks p owners) next_owner next_serial
+    (sound_released kinds BeforeLocks p owners next_owner next_serial h)))

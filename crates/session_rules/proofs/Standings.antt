@@ -1,5 +1,5 @@
 -- What callers take from a session that stands.
-use Rattle.std.proofs.Common.{◌≡◌, ◌≢◌, ◌↔◌, ℕ, ◌≤◌, ◌<◌, true, false, Option, Some, None, List, [], ◌∷◌, All, refl, ap, ◌∙◌, inl, inr, arith}
+use Rattle.std.proofs.Common.{◌≡◌, ◌≢◌, ◌↔◌, ℕ, ◌≤◌, ◌<◌, true, false, Option, Some, None, List, [], ◌∷◌, All, refl, sym, ap, ◌∙◌, subst, inl, inr, arith}
 use Rattle.std.specs.Prelude.{unwrap_or}
 use Rattle.std.proofs.lemmas.Bool.{cases_eq, ne_eqb, both_ways, false_from_ne_true}
 use Rattle.std.proofs.lemmas.List.Elements.{All-nil, All-cons, All-head, All-tail}
@@ -7,12 +7,13 @@ use Rattle.forest.specs.Forest.{Empty, Node, has, children, parent_of, AllNodes}
 use Rattle.forest.proofs.Moved.{above_none}
 use Rattle.pgs_step.specs.declared.ids.Item.{Item}
 use Rattle.context_rules.specs.Refusals.{is_within}
-use Rattle.owner_kinds.specs.KindTable.{IsKind, KindTable}
+use Rattle.owner_kinds.specs.KindTable.{IsKind, IsSound, KindTable}
+use Rattle.owner_kinds.specs.KindShelf.{table_of}
 use Rattle.owner_core.specs.Owners.{OwnerTree, has_begun}
 use Rattle.session_rules.specs.State.{LevelState, SessionState, abort_context, context_of, first_of, owner_of, top_context}
 use Rattle.session_rules.specs.World.{Around, Scene}
 use Rattle.session_rules.specs.Making.{level_parent}
-use Rattle.session_rules.specs.Standing.{AreHooks, AreLevels, AreOuter, HasItems, IsItem, Stands, StandsBetweenLines}
+use Rattle.session_rules.specs.Standing.{AreHooks, AreLevels, AreOuter, AreOwners, HasItems, IsItem, Stands, StandsBetweenLines}
 use Rattle.session_rules.proofs.Guarded.{top_parent}
 use Rattle.session_rules.proofs.ContextsKept.{own, protected_has, top_protected}
 use Rattle.session_rules.proofs.LevelsKept.{is_there, no_value, outer_contexts}
@@ -57,30 +58,31 @@ top_owner level levels s p h e = go levels h.fit.1 (h.levels.0.owner p e).parent
 pub not_begun : (level : LevelState) (levels : List LevelState) (s : Scene) (n : ℕ) → Stands (settled (level ∷ levels) s) → level.aborted ≡ false → has_begun n s.session.owners ≡ false
 not_begun level levels s n h active = false_from_ne_true (has_begun n s.session.owners) (λ u. both_ways level.aborted active (h.owners.begun n u).aborted)
 
--- All items are of kinds that each table knows.
-kinds_known : (table : KindTable) (items : List Item) → All IsItem items → All (λ item. IsKind table item.kind) items
+-- All items are of kinds that the table knows.
+kinds_known : (table : KindTable) (items : List Item) → All (IsItem table) items → All (λ item. IsKind table item.kind) items
 kinds_known table [] h = All-nil (λ (item : Item). IsKind table item.kind)
 kinds_known table (item ∷ items) h =
-    All-cons (λ (item : Item). IsKind table item.kind) item items (inl (All-head IsItem item items h).kind) (kinds_known table items (All-tail IsItem item items h))
+    All-cons (λ (item : Item). IsKind table item.kind) item items (All-head (IsItem table) item items h).kind (kinds_known table items (All-tail (IsItem table) item items h))
 
-pub items_known : (table : KindTable) (owners : OwnerTree) → AllNodes HasItems owners → AllNodes (λ owner. All (λ item. IsKind table item.kind) owner.items) owners
+pub items_known : (table : KindTable) (owners : OwnerTree) → AllNodes (HasItems table) owners → AllNodes (λ owner. All (λ item. IsKind table item.kind) owner.items) owners
 items_known table Empty h = tt
 items_known table (Node n owner below beside) h = (kinds_known table owner.items h.0, items_known table below h.1, items_known table beside h.2)
 
--- A session that stands does so in other surroundings, where its hooks fit the shelf there.
-pub stands_elsewhere : (session : SessionState) (a b : Around) → AreHooks session.contexts b.shelf → Stands (record { session = session; around = a }) → Stands (record { session = session; around = b })
-stands_elsewhere session a b hooks h = record {
+-- A session that stands does so in other surroundings, where its hooks fit the shelf there, and what never changes of kinds is the same.
+pub stands_elsewhere : (session : SessionState) (a b : Around) → AreHooks session.contexts b.shelf → table_of b.kinds ≡ table_of a.kinds → Stands (record { session = session; around = a }) → Stands (record { session = session; around = b })
+stands_elsewhere session a b hooks same h = record {
   contexts = h.contexts;
   current = h.current;
   hooks = hooks;
   levels = h.levels;
   fit = h.fit;
-  owners = h.owners;
+  kinds = subst (λ (kinds : KindTable). IsSound kinds) (sym same) h.kinds;
+  owners = subst (λ (kinds : KindTable). AreOwners kinds session.owners session.next_owner session.next_serial session.levels) (sym same) h.owners;
   portals = h.portals;
   plans = h.plans;
   snapshots = h.snapshots;
 }
 
-pub stands_between_elsewhere : (session : SessionState) (a b : Around) → AreHooks session.contexts b.shelf → StandsBetweenLines (record { session = session; around = a })
+pub stands_between_elsewhere : (session : SessionState) (a b : Around) → AreHooks session.contexts b.shelf → table_of b.kinds ≡ table_of a.kinds → StandsBetweenLines (record { session = session; around = a })
     → StandsBetweenLines (record { session = session; around = b })
-stands_between_elsewhere session a b hooks h = record { stands = stands_elsewhere session a b hooks h.stands; open_levels = h.open_levels }
+stands_between_elsewhere session a b hooks same h = record { stands = stands_elsewhere session a b hooks same h.stands; open_levels = h.open_levels }

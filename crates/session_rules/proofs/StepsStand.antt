@@ -17,6 +17,8 @@ use Rattle.any_ctx.specs.declared.any.CtxKind.TheVariants as kind
 use Rattle.context_rules.specs.Contexts as rules
 use Rattle.context_rules.specs.Contexts.{Chunk, Context, Contexts, Found, created, found, is_protected, new_context}
 use Rattle.context_rules.specs.Chunks.{allocated, freed, freed_in, from_ok, refitted, resized, resized_in, served, with_changed, with_chunk, with_size, without, written, written_over, zeros}
+use Rattle.owner_kinds.specs.KindTable.{KindTable}
+use Rattle.owner_kinds.specs.KindShelf.{table_of}
 use Rattle.owner_core.specs.Owners.{Owner, OwnerTree, has_begun, items_of}
 use Rattle.owner_core.specs.Owners as owners
 use Rattle.owner_core.specs.Sound.{IsSound, one_below}
@@ -106,6 +108,7 @@ contexts_step s h working u next current x c stay there hooks = record {
       levels_stay s.session.levels s.session.contexts u s.session.owners s.session.owners (λ m i prot. stay m prot) (λ m i there. record { there = there; parent = refl }) h.levels;
   fit = fit_working s.session.levels s.session.contexts u s.session.owners s.session.owners s.session.current current working h.fit;
   owners = h.owners;
+  kinds = h.kinds;
   portals = h.portals;
   plans = h.plans;
   snapshots = h.snapshots;
@@ -217,6 +220,7 @@ level_made_stands name implicit s h outer alone = record {
     begun = λ n u. absurd (not_released_outer s.session.levels n s.session.owners outer (h.owners.begun n u));
     items = h.owners.items;
   };
+  kinds = h.kinds;
   portals = h.portals;
   plans = h.plans;
   snapshots = h.snapshots;
@@ -284,6 +288,7 @@ level_context_stands level levels s starting none h =
         begun = λ n u. let r : IsReleased level n x = h.owners.begun n u in record { aborted = r.aborted; owner = r.owner; is = r.is; within = r.within };
         items = h.owners.items;
       };
+      kinds = h.kinds;
       portals = refl;
       plans = refl;
       snapshots = refl;
@@ -309,7 +314,7 @@ pub record IsNewOwner (o : Option ℕ) (n : ℕ) (x y : OwnerTree) : Type 0 wher
   pub others : (m : ℕ) → m ≢ n → at m y ≡ at m x
   pub had : (m : ℕ) → m ≢ n → has m y ≡ has m x
   pub parents : (m : ℕ) → m ≢ n → parent_of m y ≡ parent_of m x
-  pub items : AllNodes HasItems x → AllNodes HasItems y
+  pub items : (kinds : KindTable) → AllNodes (HasItems kinds) x → AllNodes (HasItems kinds) y
 
 new_owner_is : (o : Option ℕ) (n : ℕ) (x : OwnerTree) → Once x → has n x ≡ false → ((p : ℕ) → o ≡ Some p → has p x ≡ true) → IsNewOwner o n x (owners.created o n x)
 new_owner_is None n x once new there = record {
@@ -320,7 +325,7 @@ new_owner_is None n x once new there = record {
   others = λ m ne. rw (ne_eqb n m (λ e. ne (sym e))) refl;
   had = λ m ne. rw (ne_eqb n m (λ e. ne (sym e))) refl;
   parents = λ m ne. refl;
-  items = λ h. (All-nil IsItem, tt, h);
+  items = λ kinds h. (All-nil (IsItem kinds), tt, h);
 }
 new_owner_is (Some p) n x once new there =
     let u : has p x ≡ true = there p refl in
@@ -332,7 +337,7 @@ new_owner_is (Some p) n x once new there =
       others = λ m ne. at_put_other m p n new_owner Empty x ne refl;
       had = λ m ne. has_put_other m p n new_owner Empty x ne refl;
       parents = λ m ne. parent_put_other m p n new_owner Empty x ne refl;
-      items = λ h. all_put HasItems p n new_owner Empty x (All-nil IsItem) tt h;
+      items = λ kinds h. all_put (HasItems kinds) p n new_owner Empty x (All-nil (IsItem kinds)) tt h;
     }
 
 -- The owner of a level that is being started is made.
@@ -401,8 +406,9 @@ level_owner_stands level levels s starting none few h =
               let r = h.owners.begun m z in
               absurd (no_value level.owner r.owner none r.is)
         ];
-        items = new.items h.owners.items;
+        items = new.items (table_of s.around.kinds) h.owners.items;
       };
+      kinds = h.kinds;
       portals = refl;
       plans = refl;
       snapshots = refl;
@@ -439,6 +445,7 @@ level_stands_stands level levels s active made h =
         begun = λ n u. let r : IsReleased level n x = h.owners.begun n u in record { aborted = r.aborted; owner = r.owner; is = r.is; within = r.within };
         items = h.owners.items;
       };
+      kinds = h.kinds;
       portals = refl;
       plans = refl;
       snapshots = refl;

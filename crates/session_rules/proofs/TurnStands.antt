@@ -10,7 +10,7 @@ use Rattle.pgs_step.specs.declared.events.What.TheVariants as what
 use Rattle.pgs_command.specs.declared.commands.Command.{Command}
 use Rattle.pgs_command.specs.declared.commands.Command.TheVariants as command
 use Rattle.pgs_command.specs.Kinds.{class_kind}
-use Rattle.session_rules.specs.State.{LevelState, SessionState, buffer_pin, file_kind, is_aborted}
+use Rattle.session_rules.specs.State.{LevelState, SessionState, buffer_pin, file_kind, is_aborted, snapshot_reference}
 use Rattle.session_rules.specs.World.{Scene, Moment}
 use Rattle.session_rules.specs.Elements as element
 use Rattle.session_rules.specs.Elements.{Check, Element, InCurrent, LevelContext, OfLevel, Text}
@@ -28,7 +28,8 @@ use Rattle.session_rules.specs.Transcript.{line_elements, turn, turn_of}
 use Rattle.session_rules.specs.Standing.{AreOpen, AreOuter, FitLevels, IsActive, IsOpen, Stands, StandsBetweenLines}
 use Rattle.session_rules.proofs.EndsStand.{Leaves, outer_open, recovered_stands}
 use Rattle.session_rules.proofs.StepsStand.{IsWorking, Works, abort_stands, alloc_works, below_limit, cleanup_stands, commit_stands, enlarge_works, free_works, level_context_stands, level_made_stands, level_owner_stands, level_stands_stands, merge_stands, nothing_works, own_refusal, put_works, realloc_works, settled_as}
-use Rattle.session_rules.proofs.ItemsStand.{class_item, class_unkept, file_works, give_back_works, pin_works, take_works, touch_works}
+use Rattle.owner_kinds.specs.KindShelf.{table_of}
+use Rattle.session_rules.proofs.ItemsStand.{class_item, class_unkept, file_works, give_back_named_works, give_back_works, lock_works, pin_works, snapshot_item, take_named_works, take_works, touch_works, unlock_works}
 use Rattle.session_rules.proofs.NamesStand.{delete_children_works, delete_works, make_script_context_works, register_works, reparent_works, reset_only_works, reset_works, switch_works}
 
 -- What some elements led to: whatever refused them the session stands, and where nothing did, more is known of it.
@@ -138,7 +139,7 @@ is_buffer : (buffer : ℕ) (b : Bool) (error : Error) → nat_lt buffer 1024 ≡
 is_buffer buffer true error e h = ltb-true buffer 1024 e
 is_buffer buffer false error e h = absurd (cc h)
 
--- the commands on contexts, chunks, pins, files and references, and `raise`
+-- the commands on contexts, chunks, pins, files, references, extension kinds, registered snapshots and locks, and `raise`
 abbrev pub IsWork : Command → Type 0
 IsWork command.Raise = Unit {0}
 IsWork command.Report = Unit {0}
@@ -164,6 +165,12 @@ IsWork (command.Touch file) = Unit {0}
 IsWork (command.Close file) = Unit {0}
 IsWork (command.Reference class key) = Unit {0}
 IsWork (command.Unreference class key) = Unit {0}
+IsWork (command.Acquire kind key) = Unit {0}
+IsWork (command.Drop kind key) = Unit {0}
+IsWork (command.Snapshot snapshot) = Unit {0}
+IsWork (command.Unsnapshot snapshot) = Unit {0}
+IsWork (command.Lock object mode) = Unit {0}
+IsWork (command.Unlock object mode) = Unit {0}
 IsWork other = ⊥
 
 -- the same and those on transactions
@@ -254,10 +261,30 @@ module _ (w : Option ℕ) (levels : List LevelState) (active : IsWorking levels)
   work_leads (command.Reference class key) session is moment at =
       behind_work w levels (At levels) (element.Enlarge OfLevel) _ moment at (enlarge_works w moment at.stands)
       (λ m k. behind_work w levels (At levels) (element.Take OfLevel (class_kind class) key) [] m k
-      (take_works w m k.stands (working_at levels m.scene active k) (class_kind class) key (class_unkept class) (class_item class key)) (λ m k. nothing_more w levels m k))
+      (take_works w m k.stands (working_at levels m.scene active k) (class_kind class) key (class_unkept class) (class_item (table_of m.scene.around.kinds) class key)) (λ m k. nothing_more w levels m k))
   work_leads (command.Unreference class key) session is moment at =
       behind_check w levels (At levels) (element.Holds (class_kind class) key) _ moment at
       (λ m k _. behind_work w levels (At levels) (element.GiveBack (class_kind class) key) [] m k (give_back_works w m k.stands (working_at levels m.scene active k) (class_kind class) key) (λ m k. nothing_more w levels m k))
+  work_leads (command.Acquire kind key) session is moment at =
+      behind_check w levels (At levels) (element.IsKind kind) _ moment at
+      (λ m k _. behind_work w levels (At levels) (element.Enlarge OfLevel) _ m k (enlarge_works w m k.stands)
+      (λ m k. behind_work w levels (At levels) (element.TakeNamed kind key) [] m k (take_named_works w m k.stands (working_at levels m.scene active k) kind key) (λ m k. nothing_more w levels m k)))
+  work_leads (command.Drop kind key) session is moment at =
+      behind_check w levels (At levels) (element.IsKind kind) _ moment at
+      (λ m k _. behind_check w levels (At levels) (element.HoldsNamed kind key) _ m k
+      (λ m k _. behind_work w levels (At levels) (element.GiveBackNamed kind key) [] m k (give_back_named_works w m k.stands (working_at levels m.scene active k) kind key) (λ m k. nothing_more w levels m k)))
+  work_leads (command.Snapshot snapshot) session is moment at =
+      behind_work w levels (At levels) (element.Enlarge OfLevel) _ moment at (enlarge_works w moment at.stands)
+      (λ m k. behind_work w levels (At levels) (element.Take OfLevel snapshot_reference snapshot) [] m k
+      (take_works w m k.stands (working_at levels m.scene active k) snapshot_reference snapshot refl (snapshot_item (table_of m.scene.around.kinds) snapshot)) (λ m k. nothing_more w levels m k))
+  work_leads (command.Unsnapshot snapshot) session is moment at =
+      behind_check w levels (At levels) (element.Holds snapshot_reference snapshot) _ moment at
+      (λ m k _. behind_work w levels (At levels) (element.GiveBack snapshot_reference snapshot) [] m k (give_back_works w m k.stands (working_at levels m.scene active k) snapshot_reference snapshot) (λ m k. nothing_more w levels m k))
+  work_leads (command.Lock object mode) session is moment at =
+      behind_work w levels (At levels) (element.TakeLock OfLevel object mode) [] moment at (lock_works w moment at.stands (working_at levels moment.scene active at) object mode) (λ m k. nothing_more w levels m k)
+  work_leads (command.Unlock object mode) session is moment at =
+      behind_check w levels (At levels) (element.HoldsLock object mode) _ moment at
+      (λ m k _. behind_work w levels (At levels) (element.Unlock object mode) [] m k (unlock_works w m k.stands (working_at levels m.scene active k) object mode) (λ m k. nothing_more w levels m k))
   work_leads other session is moment at = absurd is
 
 -- a level as it is being begun

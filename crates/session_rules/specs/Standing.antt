@@ -7,7 +7,9 @@ use Rattle.reset_callbacks.specs.ShelfState as shelf
 use Rattle.reset_callbacks.specs.ShelfState.{ShelfState}
 use Rattle.context_rules.specs.Contexts.{Context, Contexts, is_protected, is_empty}
 use Rattle.context_rules.specs.Ends.{waiting}
-use Rattle.owner_kinds.specs.KindTable.{IsBuiltIn}
+use Rattle.owner_kinds.specs.KindTable.{KindTable, IsKind}
+use Rattle.owner_kinds.specs.KindTable as kind_table
+use Rattle.owner_kinds.specs.KindShelf.{table_of}
 use Rattle.owner_core.specs.Owners.{Owner, OwnerTree, AllAt, HoldsNothing, has_begun, items_of}
 use Rattle.owner_core.specs.Sound.{IsSound}
 use Rattle.session_rules.specs.State.{LevelState, abort_context, first_of, owner_of, top_context}
@@ -101,12 +103,12 @@ FitLevels [] contexts owners current = current ≡ top_context
 FitLevels (level ∷ levels) contexts owners current = IsDeepest level contexts owners current × AreOuter levels
 
 -- an item is of a known kind, and there is a buffer of a pin's number
-pub record IsItem (item : Item) : Type 0 where
-  pub kind : IsBuiltIn item.kind
+pub record IsItem (kinds : KindTable) (item : Item) : Type 0 where
+  pub kind : IsKind kinds item.kind
   pub buffer : item.kind.0 ≡ 1 → item.key < 1024
 
-abbrev pub HasItems : Owner → Type 0
-HasItems owner = All IsItem owner.items
+abbrev pub HasItems : KindTable → Owner → Type 0
+HasItems kinds owner = All (IsItem kinds) owner.items
 
 -- the owner of one of the levels
 abbrev pub IsOwner : ℕ → List LevelState → Type 0
@@ -130,11 +132,11 @@ WasReleased n (level ∷ levels) owners = IsReleased level n owners
 
 -- The owners: each number and each serial stands once and is below the next one, each owner is a level's or was left to an
 -- aborted one, and only there has a release begun.
-pub record AreOwners (owners : OwnerTree) (next_owner next_serial : ℕ) (levels : List LevelState) : Type 0 where
+pub record AreOwners (kinds : KindTable) (owners : OwnerTree) (next_owner next_serial : ℕ) (levels : List LevelState) : Type 0 where
   pub sound : IsSound owners next_owner next_serial
   pub each : (n : ℕ) → has n owners ≡ true → IsOwner n levels ⊎ WasReleased n levels owners
   pub begun : (n : ℕ) → has_begun n owners ≡ true → WasReleased n levels owners
-  pub items : AllNodes HasItems owners
+  pub items : AllNodes (HasItems kinds) owners
 
 -- A session in its surroundings between two of its steps. No step yet makes a portal, a plan or an active snapshot.
 pub record Stands (scene : Scene) : Type 0 where
@@ -143,7 +145,8 @@ pub record Stands (scene : Scene) : Type 0 where
   pub hooks : AreHooks scene.session.contexts scene.around.shelf
   pub levels : AreLevels scene.session.levels scene.session.contexts scene.session.owners
   pub fit : FitLevels scene.session.levels scene.session.contexts scene.session.owners scene.session.current
-  pub owners : AreOwners scene.session.owners scene.session.next_owner scene.session.next_serial scene.session.levels
+  pub kinds : kind_table.IsSound (table_of scene.around.kinds)
+  pub owners : AreOwners (table_of scene.around.kinds) scene.session.owners scene.session.next_owner scene.session.next_serial scene.session.levels
   pub portals : scene.session.portals ≡ []
   pub plans : scene.session.plans ≡ []
   pub snapshots : scene.session.snapshots ≡ []
