@@ -2,7 +2,7 @@
 use Rattle.std.proofs.Common.{◌≡◌, ◌≢◌, ℕ, ◌+◌, ◌<◌, ◌≤◌, length, replicate, get_or, find, cond, Bool, true, false, List, [], ◌∷◌, Option, Some, None, refl, ◌∙◌, ap, arith, inl, inr}
 use Rattle.std.specs.Prelude.{◌==◌, ◌&&◌, if◌then◌else◌, slice_set, slice_index}
 use Rattle.std.proofs.lemmas.Grind.{common_steps}
-use Rattle.std.proofs.lemmas.Bool.{cases_Bool, eqb-true, ne_eqb}
+use Rattle.std.proofs.lemmas.Bool.{cases_Bool, eqb-true, le-ltb, lt-ltb, ne_eqb}
 use Rattle.std.proofs.lemmas.Bool.Decides.{nat_tests}
 use Rattle.pgs_step.specs.declared.ids.Item.{Item}
 use Rattle.pgs_step.specs.declared.ids.KindId.{KindId}
@@ -21,7 +21,8 @@ use Rattle.owner_core.proofs.Releasing.{held_changed}
 use Rattle.owner_core.proofs.Sounds.{total_removed, total_swept}
 use Rattle.ref_table.specs.References.{RefersOneMore, references_of}
 use Rattle.file_table.specs.Files.{Files, OpensOneLess, OpensOneMore, opens}
-use Rattle.session_owners.specs.Tables.{Held, times_held}
+use Rattle.owner_kinds.specs.KindShelf as shelf
+use Rattle.session_owners.specs.Tables.{Held, Lending, times_held, times_lent}
 
 module _ (kind : KindId) (key : ℕ) where
   used : Owner → ℕ
@@ -208,3 +209,10 @@ none_held held kind key p r f =
     go true c = zeros_at key 1024
     go false true = refl
     go false false = refl
+
+-- what a release works on counts built-in kinds in the tables, and extension kinds by what they hold
+pub lent_low : (lending : Lending) (kind : KindId) (key : ℕ) → kind.0 < 16 → times_lent lending kind key ≡ times_held lending.held kind key
+lent_low lending kind key low = rw (lt-ltb kind.0 16 low) refl
+
+pub lent_high : (lending : Lending) (kind : KindId) (key : ℕ) → 16 ≤ kind.0 → times_lent lending kind key ≡ shelf.times_held lending.kinds kind key
+lent_high lending kind key high = rw (le-ltb kind.0 16 high) refl

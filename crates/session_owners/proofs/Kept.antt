@@ -2,7 +2,7 @@
 use Rattle.std.proofs.Common.{◌≡◌, ◌↔◌, Bool, ℕ, ◌+◌, ◌<◌, ◌≤◌, find, length, length-set, replicate, true, false, List, [], ◌∷◌, Option, Some, None, Result, Ok, Err, OnOk, OnErr, refl, sym, ◌∙◌, ap, subst, arith, inl, inr}
 use Rattle.std.specs.Prelude.{◌==◌, ◌&&◌, if◌then◌else◌, slice_set, slice_index}
 use Rattle.std.specs.Option.{ok_or, option_map, option_map_or}
-use Rattle.std.proofs.lemmas.Bool.{cases_Bool, cases_lt}
+use Rattle.std.proofs.lemmas.Bool.{cases_Bool, cases_lt, ne_eqb}
 use Rattle.std.proofs.lemmas.List.Elements.{All-nil, All-cons}
 use Rattle.std.proofs.lemmas.List.{length-replicate}
 use Rattle.pgs_step.specs.declared.ids.Item.{Item}
@@ -24,9 +24,11 @@ use Rattle.owner_core.proofs.Sounds.{once_of, sound_created, sound_forgotten, so
 use Rattle.owner_core.proofs.Swept.{all_swept}
 use Rattle.session_rules.proofs.Guarded.{all_changed}
 use Rattle.file_table.specs.Files.{OpensOneMore, opened_file}
-use Rattle.session_owners.specs.Tables.{Held, built_in_kinds, times_held}
+use Rattle.owner_kinds.specs.KindTable.{KindTable}
+use Rattle.owner_kinds.specs.KindShelf as shelf
+use Rattle.session_owners.specs.Tables.{Held, Lending, times_held, times_lent}
 use Rattle.session_owners.specs.Counted.{HoldsCounted, IsCounted, IsHeld}
-use Rattle.session_owners.proofs.Counts.{held_created, held_forgotten, held_released, held_remembered, held_removed, held_subtree, none_held, times_held-opened, times_held-pinned, times_held-same}
+use Rattle.session_owners.proofs.Counts.{lent_high, lent_low, held_created, held_forgotten, held_released, held_remembered, held_removed, held_subtree, none_held, times_held-opened, times_held-pinned, times_held-same}
 use Rattle.session_owners.proofs.Left.{items_left}
 
 -- what a call keeps of the owners
@@ -65,13 +67,13 @@ items_removed n (Node k b below beside) all =
 counted : (new : OwnerTable) (counts : Held) (owners : OwnerTree) (next_owner next_serial : ℕ)
     → owners_of new ≡ owners → new.next_owner ≡ next_owner → new.next_serial ≡ next_serial
     → IsSound owners next_owner next_serial → AllNodes HoldsCounted owners → length counts.pins ≡ 1024
-    → ((kind : KindId) (key : ℕ) → times_held counts kind key ≡ held kind key owners) → ((kind : KindId) (key : ℕ) → held kind key owners < next_serial)
+    → ((kind : KindId) (key : ℕ) → kind.0 < 16 → times_held counts kind key ≡ held kind key owners) → ((kind : KindId) (key : ℕ) → held kind key owners < next_serial)
     → total counts.references < next_serial → IsCounted new counts
 counted new counts owners next_owner next_serial e f g sound items buffers times few references = record {
   sound = rw (e, f, g) sound;
   items = rw e items;
   buffers = buffers;
-  counted = λ kind key. rw e (times kind key);
+  counted = λ kind key low. rw e (times kind key low);
   few = λ kind key. rw (e, g) (few kind key);
   references = rw g references;
 }
@@ -81,7 +83,7 @@ counted_opening table counts t p r f = record {
   sound = rw t (record { numbers = λ n. omega arith; serials = λ n. omega arith; few = omega arith });
   items = subst (AllNodes HoldsCounted) (sym (ap owners_of t)) tt;
   buffers = ap length p ∙ length-replicate {A = ℕ} 1024 0;
-  counted = λ kind key. none_held counts kind key p r f ∙ ap (λ (z : OwnerTable). held kind key (owners_of z)) (sym t);
+  counted = λ kind key low. none_held counts kind key p r f ∙ ap (λ (z : OwnerTable). held kind key (owners_of z)) (sym t);
   few = λ kind key. omega (arith, ap (λ (z : OwnerTable). held kind key (owners_of z)) t, ap (λ (z : OwnerTable). z.next_serial) t);
   references = let none : total counts.references ≡ 0 = ap (λ (z : List ((ℕ × ℕ) × ℕ)). total z) r in omega (arith, none, ap (λ (z : OwnerTable). z.next_serial) t);
 }
@@ -98,13 +100,13 @@ counted_made old new counts parent (Ok owner) s e f g many refused =
     counted new counts (created parent old.next_owner (owners_of old)) (old.next_owner + 1) old.next_serial e f g
     (sound_created parent (owners_of old) old.next_owner old.next_serial s.sound few)
     (items_created parent old.next_owner (owners_of old) s.items) s.buffers
-    (λ kind key. s.counted kind key ∙ sym (held_created kind key parent old.next_owner (owners_of old)))
+    (λ kind key low. s.counted kind key low ∙ sym (held_created kind key parent old.next_owner (owners_of old)))
     (λ kind key. omega (arith, held_created kind key parent old.next_owner (owners_of old), s.few kind key))
     s.references
 counted_made old new counts parent (Err error) s e f g many refused = subst (λ (t : OwnerTable). IsCounted t counts) (sym refused) s
 
 -- an owner with room is there
-there : (n : ℕ) (table : OwnerTable) → 1 ≤ spare_of n table → (a : Owner) × (at n (owners_of table) ≡ Some a)
+pub there : (n : ℕ) (table : OwnerTable) → 1 ≤ spare_of n table → (a : Owner) × (at n (owners_of table) ≡ Some a)
 there n table h = go (at n table.rooms) refl
   where
     go : (o : Option Roomy) → at n table.rooms ≡ o → (a : Owner) × (at n (owners_of table) ≡ Some a)
@@ -114,7 +116,7 @@ there n table h = go (at n table.rooms) refl
 -- an item more
 pub counted_taken : (old new : OwnerTable) (counts counts' : Held) (n : ℕ) (kind : KindId) (key : ℕ) → IsCounted old counts → 1 ≤ spare_of n old → IsHeld (record { kind = kind; key = key; serial = old.next_serial })
     → length counts'.pins ≡ 1024 → total counts'.references ≤ total counts.references + 1
-    → ((k : KindId) (j : ℕ) → times_held counts' k j ≡ times_held counts k j + (if (kind.0 == k.0) && (key == j) then 1 else 0))
+    → ((k : KindId) (j : ℕ) → k.0 < 16 → times_held counts' k j ≡ times_held counts k j + (if (kind.0 == k.0) && (key == j) then 1 else 0))
     → owners_of new ≡ remembered n (record { kind = kind; key = key; serial = old.next_serial }) (owners_of old)
     → new.next_owner ≡ old.next_owner → new.next_serial ≡ old.next_serial + 1 → IsCounted new counts'
 counted_taken old new counts counts' n kind key s spare is buffers references more e f g =
@@ -124,7 +126,7 @@ counted_taken old new counts counts' n kind key s spare is buffers references mo
     counted new counts' (remembered n item (owners_of old)) old.next_owner (old.next_serial + 1) e f g
     (sound_remembered n w.0 item (owners_of old) old.next_owner old.next_serial s.sound w.1 refl)
     (items_remembered n item (owners_of old) is s.items) buffers
-    (λ k j. more k j ∙ ap (λ (z : ℕ). z + (if (kind.0 == k.0) && (key == j) then 1 else 0)) (s.counted k j) ∙ sym (held_remembered k j n item w.0 (owners_of old) o w.1))
+    (λ k j low. more k j low ∙ ap (λ (z : ℕ). z + (if (kind.0 == k.0) && (key == j) then 1 else 0)) (s.counted k j low) ∙ sym (held_remembered k j n item w.0 (owners_of old) o w.1))
     (λ k j. elim (cases_Bool ((kind.0 == k.0) && (key == j))) [
       | inl y ↦ let up = held_remembered k j n item w.0 (owners_of old) o w.1 in omega (arith, s.few k j, rw y at up)
       | inr y ↦ let up = held_remembered k j n item w.0 (owners_of old) o w.1 in omega (arith, s.few k j, rw y at up)
@@ -140,7 +142,7 @@ counted_pinned old new counts counts' n buffer s spare small set e f g =
     counted_taken old new counts counts' n (record { 0 = 1 }) buffer s spare (inl (record { kind = refl; buffer = small }))
     (ap (λ (z : Held). length z.pins) set ∙ length-set counts.pins buffer (slice_index counts.pins buffer + 1) ∙ s.buffers)
     (let same : total counts'.references ≡ total counts.references = ap (λ (z : Held). total z.references) set in omega (arith, same))
-    (λ k j. ap (λ (z : Held). times_held z k j) set ∙ times_held-pinned counts buffer k j (omega (arith, s.buffers, small)))
+    (λ k j low. ap (λ (z : Held). times_held z k j) set ∙ times_held-pinned counts buffer k j (omega (arith, s.buffers, small)))
     e f g
 
 -- a file more
@@ -151,9 +153,18 @@ pub counted_opened : (old new : OwnerTable) (counts counts' : Held) (n file : �
 counted_opened old new counts counts' n file s spare set more e f g =
     let pins : counts'.pins ≡ counts.pins = ap (λ (z : Held). z.pins) set in
     let references : counts'.references ≡ counts.references = ap (λ (z : Held). z.references) set in
-    counted_taken old new counts counts' n (record { 0 = 8 }) file s spare (inr (inr refl)) (ap length pins ∙ s.buffers)
+    counted_taken old new counts counts' n (record { 0 = 8 }) file s spare (inr (inr (inl refl))) (ap length pins ∙ s.buffers)
     (omega (arith, ap (λ (z : List ((ℕ × ℕ) × ℕ)). total z) references))
-    (λ k j. times_held-opened counts counts' file k j pins references more)
+    (λ k j low. times_held-opened counts counts' file k j pins references more)
+    e f g
+
+-- an item of an extension kind more, which only that kind counts
+pub counted_extended : (old new : OwnerTable) (counts : Held) (n : ℕ) (kind : KindId) (key : ℕ) → IsCounted old counts → 1 ≤ spare_of n old → 16 ≤ kind.0
+    → owners_of new ≡ remembered n (record { kind = kind; key = key; serial = old.next_serial }) (owners_of old)
+    → new.next_owner ≡ old.next_owner → new.next_serial ≡ old.next_serial + 1 → IsCounted new counts
+counted_extended old new counts n kind key s spare high e f g =
+    counted_taken old new counts counts n kind key s spare (inr (inr (inr high))) s.buffers (omega arith)
+    (λ k j low. let other : (kind.0 == k.0) ≡ false = ne_eqb kind.0 k.0 (λ z. omega (arith, z, low, high)) in rw other (omega arith))
     e f g
 
 -- the same items, with other descriptors
@@ -162,7 +173,7 @@ counted_touched table counts counts' s pins references opened = record {
   sound = s.sound;
   items = s.items;
   buffers = ap length pins ∙ s.buffers;
-  counted = λ kind key. times_held-same counts counts' kind key pins references opened ∙ s.counted kind key;
+  counted = λ kind key low. times_held-same counts counts' kind key pins references opened ∙ s.counted kind key low;
   few = s.few;
   references = omega (arith, ap (λ (z : List ((ℕ × ℕ) × ℕ)). total z) references, s.references);
 }
@@ -172,12 +183,21 @@ with_item : (test : Item → Bool) (o : Option Owner) (item : Item) → find tes
 with_item test None item e = absurd (cc e)
 with_item test (Some a) item e = (a, refl, e)
 
-held_some : (n : ℕ) (kind : KindId) (key : ℕ) (item : Item) (old : OwnerTable) (counts : Held) → IsCounted old counts → find (is_of kind key) (items_of n (owners_of old)) ≡ Some item
-    → (k : KindId) (j : ℕ) → held k j (forgotten n kind key (owners_of old)) + uses k j (item ∷ []) ≡ times_held counts k j
-held_some n kind key item old counts s found k j =
+pub held_found : (n : ℕ) (kind : KindId) (key : ℕ) (item : Item) (old : OwnerTable) (counts : Held) → IsCounted old counts → find (is_of kind key) (items_of n (owners_of old)) ≡ Some item
+    → (k : KindId) (j : ℕ) → held k j (forgotten n kind key (owners_of old)) + uses k j (item ∷ []) ≡ held k j (owners_of old)
+held_found n kind key item old counts s found k j =
     let w = with_item (is_of kind key) (at n (owners_of old)) item found in
     let o : Once (owners_of old) = once_of (owners_of old) old.next_owner old.next_serial s.sound in
-    held_forgotten k j n kind key item w.0 (owners_of old) o w.1 w.2 ∙ sym (s.counted k j)
+    held_forgotten k j n kind key item w.0 (owners_of old) o w.1 w.2
+
+-- as much as a session's owners hold is counted in its tables and by the kinds that serve it
+pub lent_enough : (table : OwnerTable) (lending : Lending) (kind : KindId) (key : ℕ) → IsCounted table lending.held
+    → ((kind : KindId) (key : ℕ) → 16 ≤ kind.0 → held kind key (owners_of table) ≤ shelf.times_held lending.kinds kind key) → held kind key (owners_of table) ≤ times_lent lending kind key
+lent_enough table lending kind key s served =
+    elim (cases_lt kind.0 16) [
+      | inl low ↦ let own : times_lent lending kind key ≡ times_held lending.held kind key = lent_low lending kind key low in omega (arith, own, s.counted kind key low)
+      | inr high ↦ let own : times_lent lending kind key ≡ shelf.times_held lending.kinds kind key = lent_high lending kind key high in omega (arith, own, served kind key high)
+    ]
 
 -- the item that was found
 pub found_given : (begun : Bool) (o : Option Item) (r : Result Item OwnerError) (item : Item) → r ≡ Ok item → (begun ≡ false → r ≡ ok_or o NotOwned) → (begun ≡ true → r ≡ Err Releasing) → o ≡ Some item
@@ -188,40 +208,45 @@ found_given false (Some x) r item ok held releasing =
     let same : item ≡ x = cc z in
     ap (λ (y : Item). Some y) (sym same)
 
-pub is_counted : (n : ℕ) (kind : KindId) (key : ℕ) (item : Item) (old : OwnerTable) (counts : Held) → IsCounted old counts → find (is_of kind key) (items_of n (owners_of old)) ≡ Some item
-    → 0 < times_held counts item.kind item.key
-is_counted n kind key item old counts s found = omega (arith, held_some n kind key item old counts s found item.kind item.key, uses_own item)
+pub is_counted : (n : ℕ) (kind : KindId) (key : ℕ) (item : Item) (old : OwnerTable) (lending : Lending) → IsCounted old lending.held
+    → ((kind : KindId) (key : ℕ) → 16 ≤ kind.0 → held kind key (owners_of old) ≤ shelf.times_held lending.kinds kind key)
+    → find (is_of kind key) (items_of n (owners_of old)) ≡ Some item → 0 < times_lent lending item.kind item.key
+is_counted n kind key item old lending s served found =
+    omega (arith, held_found n kind key item old lending.held s found item.kind item.key, lent_enough old lending item.kind item.key s served, uses_own item)
 
-pub counted_given : (old new : OwnerTable) (counts counts' : Held) (n : ℕ) (kind : KindId) (key : ℕ) (item : Item) → IsCounted old counts → find (is_of kind key) (items_of n (owners_of old)) ≡ Some item
-    → length counts'.pins ≡ 1024 → total counts'.references ≤ total counts.references
-    → ((k : KindId) (j : ℕ) → times_held counts' k j + uses k j (item ∷ []) ≡ times_held counts k j)
-    → owners_of new ≡ forgotten n kind key (owners_of old) → new.next_owner ≡ old.next_owner → new.next_serial ≡ old.next_serial → IsCounted new counts'
-counted_given old new counts counts' n kind key item s found buffers references fewer e f g =
+pub counted_given : (old new : OwnerTable) (lending lending' : Lending) (n : ℕ) (kind : KindId) (key : ℕ) (item : Item) → IsCounted old lending.held
+    → find (is_of kind key) (items_of n (owners_of old)) ≡ Some item
+    → length lending'.held.pins ≡ 1024 → total lending'.held.references ≤ total lending.held.references
+    → ((k : KindId) (j : ℕ) → times_lent lending' k j + uses k j (item ∷ []) ≡ times_lent lending k j)
+    → owners_of new ≡ forgotten n kind key (owners_of old) → new.next_owner ≡ old.next_owner → new.next_serial ≡ old.next_serial → IsCounted new lending'.held
+counted_given old new lending lending' n kind key item s found buffers references fewer e f g =
     let w = with_item (is_of kind key) (at n (owners_of old)) item found in
-    counted new counts' (forgotten n kind key (owners_of old)) old.next_owner old.next_serial e f g
+    counted new lending'.held (forgotten n kind key (owners_of old)) old.next_owner old.next_serial e f g
     (sound_forgotten n w.0 (is_of kind key) (owners_of old) old.next_owner old.next_serial s.sound w.1)
     (all_changed HoldsCounted n _ (owners_of old) (λ a h. All-without IsHeld (is_of kind key) a.items h) s.items) buffers
-    (λ k j. omega (arith, fewer k j, held_some n kind key item old counts s found k j))
-    (λ k j. omega (arith, held_some n kind key item old counts s found k j, s.counted k j, s.few k j))
+    (λ k j low. omega (arith, fewer k j, lent_low lending k j low, lent_low lending' k j low, held_found n kind key item old lending.held s found k j, s.counted k j low))
+    (λ k j. omega (arith, held_found n kind key item old lending.held s found k j, s.few k j))
     (omega (arith, references, s.references))
 
 -- what a release asks for
-pub asked_counts : (table : OwnerTable) (counts : Held) (n : ℕ) → IsCounted table counts → (kind : KindId) (key : ℕ) → held kind key (subtree_of n (owners_of table)) ≤ times_held counts kind key
-asked_counts table counts n s kind key =
-    omega (arith, s.counted kind key, held_subtree kind key n (owners_of table) (once_of (owners_of table) table.next_owner table.next_serial s.sound))
+pub asked_counts : (table : OwnerTable) (lending : Lending) (n : ℕ) → IsCounted table lending.held
+    → ((kind : KindId) (key : ℕ) → 16 ≤ kind.0 → held kind key (owners_of table) ≤ shelf.times_held lending.kinds kind key)
+    → (kind : KindId) (key : ℕ) → held kind key (subtree_of n (owners_of table)) ≤ times_lent lending kind key
+asked_counts table lending n s served kind key =
+    omega (arith, lent_enough table lending kind key s served, held_subtree kind key n (owners_of table) (once_of (owners_of table) table.next_owner table.next_serial s.sound))
 
 -- a phase was released
-pub counted_released : (old new : OwnerTable) (counts counts' : Held) (n : ℕ) (phase : Phase) → IsCounted old counts
-    → owners_of new ≡ released built_in_kinds phase n (owners_of old) → new.next_owner ≡ old.next_owner → new.next_serial ≡ old.next_serial → length counts'.pins ≡ 1024
-    → total counts'.references ≤ total counts.references
-    → ((kind : KindId) (key : ℕ) → times_held counts' kind key + held kind key (owners_of old) ≡ times_held counts kind key + held kind key (owners_of new))
-    → IsCounted new counts'
-counted_released old new counts counts' n phase s e f g buffers references times =
-    counted new counts' (released built_in_kinds phase n (owners_of old)) old.next_owner old.next_serial e f g
-    (sound_released built_in_kinds phase n (owners_of old) old.next_owner old.next_serial s.sound)
-    (all_swept HoldsCounted (own_released built_in_kinds phase) (items_left phase) n (owners_of old) s.items) buffers
-    (λ kind key. omega (arith, times kind key, s.counted kind key, ap (held kind key) e))
-    (λ kind key. omega (arith, held_released kind key built_in_kinds phase n (owners_of old), s.few kind key))
+pub counted_released : (kinds : KindTable) (old new : OwnerTable) (lending lending' : Lending) (n : ℕ) (phase : Phase) → IsCounted old lending.held
+    → owners_of new ≡ released kinds phase n (owners_of old) → new.next_owner ≡ old.next_owner → new.next_serial ≡ old.next_serial → length lending'.held.pins ≡ 1024
+    → total lending'.held.references ≤ total lending.held.references
+    → ((kind : KindId) (key : ℕ) → times_lent lending' kind key + held kind key (owners_of old) ≡ times_lent lending kind key + held kind key (owners_of new))
+    → IsCounted new lending'.held
+counted_released kinds old new lending lending' n phase s e f g buffers references times =
+    counted new lending'.held (released kinds phase n (owners_of old)) old.next_owner old.next_serial e f g
+    (sound_released kinds phase n (owners_of old) old.next_owner old.next_serial s.sound)
+    (all_swept HoldsCounted (own_released kinds phase) (items_left kinds phase) n (owners_of old) s.items) buffers
+    (λ kind key low. omega (arith, times kind key, lent_low lending kind key low, lent_low lending' kind key low, s.counted kind key low, ap (held kind key) e))
+    (λ kind key. omega (arith, held_released kind key kinds phase n (owners_of old), s.few kind key))
     (omega (arith, references, s.references))
 
 -- an owner without items was discarded
@@ -232,6 +257,6 @@ counted_gone old new counts n s empty e f g =
     counted new counts (removed n (owners_of old)) old.next_owner old.next_serial e f g
     (sound_removed n (owners_of old) old.next_owner old.next_serial s.sound)
     (items_removed n (owners_of old) s.items) s.buffers
-    (λ kind key. s.counted kind key ∙ sym (held_removed kind key n (owners_of old) o empty))
+    (λ kind key low. s.counted kind key low ∙ sym (held_removed kind key n (owners_of old) o empty))
     (λ kind key. omega (arith, held_removed kind key n (owners_of old) o empty, s.few kind key))
     s.references

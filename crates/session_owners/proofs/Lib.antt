@@ -1,6 +1,10 @@
+pub mod Balances
 pub mod TableSteps
+pub mod Names
 pub mod Counts
 pub mod Kept
 pub mod Acts
 pub mod Left
 pub mod OpenFiles
+pub mod Remembered
+pub mod LockActs

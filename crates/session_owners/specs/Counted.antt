@@ -6,6 +6,7 @@ use Rattle.pgs_step.specs.declared.ids.Item.{Item}
 use Rattle.pgs_step.specs.declared.ids.KindId.{KindId}
 use Rattle.pgs_step.specs.declared.ids.Phase.TheVariants.{BeforeLocks, Locks, AfterLocks}
 use Rattle.forest.specs.Forest.{AllNodes}
+use Rattle.owner_kinds.specs.KindTable.{KindTable}
 use Rattle.owner_items.specs.ItemList.{is_of}
 use Rattle.owner_core.specs.Owners.{Owner, OwnerTable, OwnerTree, held, owners_of}
 use Rattle.owner_core.specs.Released.{released}
@@ -13,7 +14,7 @@ use Rattle.owner_core.specs.Sound.{IsSoundTable}
 use Rattle.session_rules.specs.State.{file_kind}
 use Rattle.session_rules.specs.Counts.{all_items, distinct, keys_of}
 use Rattle.session_rules.specs.Releases.{NoOne, keeper_of}
-use Rattle.session_owners.specs.Tables.{Held, built_in_kinds, times_held}
+use Rattle.session_owners.specs.Tables.{Held, times_held}
 
 -- the item is a pin of one of the buffers
 pub record IsPin (item : Item) : Type 0 where
@@ -26,19 +27,20 @@ pub record IsReference (kind : KindId) : Type 0 where
   pub to : kind.0 ≤ 8
   pub unkept : keeper_of kind ≡ NoOne
 
--- an item that is counted: a pin, a reference or an open file
+-- an item that is counted: a pin, a reference, an open file, or what an extension kind holds
 abbrev pub IsHeld : Item → Type 0
-IsHeld item = IsPin item ⊎ (IsReference item.kind ⊎ (item.kind.0 ≡ 8))
+IsHeld item = IsPin item ⊎ (IsReference item.kind ⊎ ((item.kind.0 ≡ 8) ⊎ (16 ≤ item.kind.0)))
 
 abbrev pub HoldsCounted : Owner → Type 0
 HoldsCounted owner = All IsHeld owner.items
 
--- The owners hold pins, references and files, each just as often as it is counted, and of each fewer than serials were given.
+-- The owners hold pins, references and files, each just as often as it is counted, and what extension kinds hold; of each fewer than
+-- serials were given.
 pub record IsCounted (table : OwnerTable) (counts : Held) : Type 0 where
   pub sound : IsSoundTable table
   pub items : AllNodes HoldsCounted (owners_of table)
   pub buffers : length counts.pins ≡ 1024
-  pub counted : (kind : KindId) (key : ℕ) → times_held counts kind key ≡ held kind key (owners_of table)
+  pub counted : (kind : KindId) (key : ℕ) → kind.0 < 16 → times_held counts kind key ≡ held kind key (owners_of table)
   pub few : (kind : KindId) (key : ℕ) → held kind key (owners_of table) < table.next_serial
   pub references : total counts.references < table.next_serial
 
@@ -50,6 +52,5 @@ abbrev pub files_held : OwnerTree → List ℕ
 files_held owners = distinct (keys_of file_kind (all_items owners))
 
 -- the owners once the one of this number and all below it were released, in the three phases
-abbrev pub all_released : ℕ → OwnerTree → OwnerTree
-all_released n owners =
-    released built_in_kinds AfterLocks n (released built_in_kinds Locks n (released built_in_kinds BeforeLocks n owners))
+abbrev pub all_released : KindTable → ℕ → OwnerTree → OwnerTree
+all_released kinds n owners = released kinds AfterLocks n (released kinds Locks n (released kinds BeforeLocks n owners))

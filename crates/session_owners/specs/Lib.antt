@@ -1,4 +1,5 @@
 pub mod ResourceState
+pub mod Commons
 pub mod Tables
 pub mod TableLaws
 pub mod Counted

@@ -6,11 +6,13 @@ use Rattle.pgs_step.specs.declared.ids.OwnerId.{OwnerId}
 use Rattle.forest.specs.Forest.{Forest, at}
 use Rattle.forest.specs.Code.{forest_code}
 use Rattle.file_table.specs.Files.{Files}
+use Rattle.lock_local.specs.Locks.{Lock, SessionLocks}
+use Rattle.lock_local.specs.Code.{lock_code}
 use Rattle.owner_core.specs.TableCode.{roomy_code}
 pub use Rattle.owner_core.specs.Owners.{Owner, OwnerTree, Roomy, AllAt, HoldsNothing, created, entered, forgotten, has_begun, held, items_of, remembered, tree_of}
 
 -- the owners with their room, where each lies, the numbers that the next owner and the next item get, the files that have a
--- descriptor, the most recently used first, and how many descriptors there are
+-- descriptor, the most recently used first, how many descriptors there are, and the session's number and its locks
 pub record ResourceState : Type 0 where
   pub rooms : Forest Roomy
   pub places : Forest ℕ
@@ -18,17 +20,23 @@ pub record ResourceState : Type 0 where
   pub next_serial : ℕ
   pub recent : List ℕ
   pub descriptors : ℕ
+  pub session : ℕ
+  pub locks : List Lock
 
 abbrev pub resource_code : Coded ResourceState
 resource_code =
-    code_by (Forest Roomy × (Forest ℕ × (ℕ × (ℕ × (List ℕ × ℕ)))))
-    (coded× (forest_code roomy_code) (coded× (forest_code coded_ℕ) (coded× coded_ℕ (coded× coded_ℕ (coded× (coded_list coded_ℕ) coded_ℕ)))))
-    (λ r. (r.rooms, (r.places, (r.next_owner, (r.next_serial, (r.recent, r.descriptors))))))
-    (λ p. record { rooms = p.0; places = p.1.0; next_owner = p.1.1.0; next_serial = p.1.1.1.0; recent = p.1.1.1.1.0; descriptors = p.1.1.1.1.1 }) (λ _. refl)
+    code_by (Forest Roomy × (Forest ℕ × (ℕ × (ℕ × (List ℕ × (ℕ × (ℕ × List Lock)))))))
+    (coded× (forest_code roomy_code) (coded× (forest_code coded_ℕ) (coded× coded_ℕ (coded× coded_ℕ (coded× (coded_list coded_ℕ) (coded× coded_ℕ (coded× coded_ℕ (coded_list lock_code))))))))
+    (λ r. (r.rooms, (r.places, (r.next_owner, (r.next_serial, (r.recent, (r.descriptors, (r.session, r.locks))))))))
+    (λ p. record { rooms = p.0; places = p.1.0; next_owner = p.1.1.0; next_serial = p.1.1.1.0; recent = p.1.1.1.1.0; descriptors = p.1.1.1.1.1.0; session = p.1.1.1.1.1.1.0; locks = p.1.1.1.1.1.1.1 }) (λ _. refl)
 
 -- the owners alone
 abbrev pub owners_of : ResourceState → OwnerTree
 owners_of state = tree_of state.rooms
+
+-- the session's number and its locks
+abbrev pub locks_of : ResourceState → SessionLocks
+locks_of state = record { session = state.session; locks = state.locks }
 
 -- the owner is there, at this slot
 abbrev pub IsLive : ResourceState → OwnerId → Type 0

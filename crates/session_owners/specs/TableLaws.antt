@@ -4,11 +4,14 @@ use Rattle.std.proofs.Common.{refl, sym, ap, ◌∙◌, subst, arith}
 use Rattle.std.proofs.lemmas.List.{append_assoc}
 use Rattle.pgs_step.specs.declared.events.What.{What}
 use Rattle.owner_core.specs.Steps.{Step, Said}
-use Rattle.file_table.specs.Files.{Files}
+use Rattle.lock_local.specs.Locks.{Lock, SessionLocks, OthersStay}
+use Rattle.lock_shared.specs.declared.shared_locks.Holding.{Holding}
+use Rattle.owner_kinds.specs.Kind.{Kind}
 use Rattle.session_rules.specs.World.{Scene}
 use Rattle.session_rules.specs.Acts.{Ended, and_then, behind, for_each}
 use Rattle.session_rules.specs.Releases.{step_done}
-use Rattle.session_owners.specs.Tables.{FilesFit, Held, TablesDo, with_recent}
+use Rattle.session_owners.specs.Commons.{LocksBalance}
+use Rattle.session_owners.specs.Tables.{Lending, TablesDo, TablesFit, with_lending, with_tables}
 
 -- some steps and then others
 steps_both : (ss ts : List Step) (scene : Scene) → for_each step_done (ss ++ ts) scene ≡ and_then (for_each step_done ss scene) (for_each step_done ts)
@@ -20,31 +23,59 @@ steps_both (step ∷ ss) ts scene =
     ap (behind first.events) (steps_both ss ts first.scene)
     ∙ ap (λ (events : List What). record { scene = third.scene; events = events }) (sym (append_assoc first.events second.events third.events))
 
-still_fits : (old new : Files) (scene : Scene) → FilesFit old scene → FilesFit new (with_recent new.recent scene)
-still_fits old new scene fit = record { recent = refl; kinds = fit.kinds; locks = fit.locks; plans = fit.plans }
+still_fits : (old new : Lending) (scene : Scene) → TablesFit old scene → TablesFit new (with_lending new scene)
+still_fits old new scene fit = record { recent = refl; kinds = refl; locks = refl; plans = fit.plans }
 
--- the files of a scene are those that it has
-pub recent_is : (recent : List ℕ) (scene : Scene) → scene.session.recent ≡ recent → scene ≡ with_recent recent scene
-recent_is recent scene is = ap (λ (z : List ℕ). with_recent z scene) is
+pub tables_same : (scene : Scene) (fs gs : List ℕ) (ks js : List Kind) (ls ms : List Lock) → fs ≡ gs → ks ≡ js → ls ≡ ms → with_tables fs ks ls scene ≡ with_tables gs js ms scene
+tables_same scene fs gs ks js ls ms e f g = rw (e, f, g) refl
 
-pub TablesDo-nothing : (a : Held) → TablesDo a [] [] a
-TablesDo-nothing a = record { leads = λ scene fit. recent_is a.files.recent scene fit.recent; says = λ scene fit. refl; descriptors = refl; fewer = omega arith }
+-- the files, kinds and locks of a scene are those that it has
+pub lending_is : (lending : Lending) (scene : Scene) → scene.session.recent ≡ lending.held.files.recent → scene.around.kinds ≡ lending.kinds → scene.session.locks ≡ lending.locks → scene ≡ with_lending lending scene
+lending_is lending scene recent kinds locks = tables_same scene scene.session.recent lending.held.files.recent scene.around.kinds lending.kinds scene.session.locks lending.locks recent kinds locks
 
-pub TablesDo-said : (a : Held) (event : What) → TablesDo a (Said event ∷ []) (event ∷ []) a
-TablesDo-said a event = record { leads = λ scene fit. recent_is a.files.recent scene fit.recent; says = λ scene fit. refl; descriptors = refl; fewer = omega arith }
+-- nothing is done to locks, and one thing behind another
+pub LocksBalance-nothing : (a : SessionLocks) (c : List Holding) → LocksBalance a a c c
+LocksBalance-nothing a c = record { session = refl; agrees = λ h. h; in_order = λ h. h; others = λ o m s other. refl }
 
-pub TablesDo-more : (a b c : Held) (ss ts both : List Step) (xs ys all : List What) → TablesDo a ss xs b → TablesDo b ts ys c → ss ++ ts ≡ both → xs ++ ys ≡ all → TablesDo a both all c
+pub LocksBalance-more : (a b e : SessionLocks) (c d f : List Holding) → LocksBalance a b c d → LocksBalance b e d f → LocksBalance a e c f
+LocksBalance-more a b e c d f p q = record {
+  session = q.session ∙ p.session;
+  agrees = λ h. q.agrees (p.agrees h);
+  in_order = λ h. q.in_order (p.in_order h);
+  others = λ o m s other. subst (λ (n : ℕ). OthersStay n d f) p.session q.others o m s other ∙ p.others o m s other;
+}
+
+pub TablesDo-nothing : (a : Lending) → TablesDo a [] [] a
+TablesDo-nothing a = record {
+  leads = λ scene fit. lending_is a scene fit.recent fit.kinds fit.locks;
+  says = λ scene fit. refl;
+  descriptors = refl;
+  fewer = omega arith;
+  limits = refl;
+}
+
+pub TablesDo-said : (a : Lending) (event : What) → TablesDo a (Said event ∷ []) (event ∷ []) a
+TablesDo-said a event = record {
+  leads = λ scene fit. lending_is a scene fit.recent fit.kinds fit.locks;
+  says = λ scene fit. refl;
+  descriptors = refl;
+  fewer = omega arith;
+  limits = refl;
+}
+
+pub TablesDo-more : (a b c : Lending) (ss ts both : List Step) (xs ys all : List What) → TablesDo a ss xs b → TablesDo b ts ys c → ss ++ ts ≡ both → xs ++ ys ≡ all → TablesDo a both all c
 TablesDo-more a b c ss ts both xs ys all p q e f =
     subst (λ (steps : List Step). TablesDo a steps all c) e (subst (λ (events : List What). TablesDo a (ss ++ ts) events c) f (record {
       leads = λ scene fit.
           ap (λ (z : Ended). z.scene) (steps_both ss ts scene)
           ∙ ap (λ (s : Scene). (for_each step_done ts s).scene) (p.leads scene fit)
-          ∙ q.leads (with_recent b.files.recent scene) (still_fits a.files b.files scene fit);
+          ∙ q.leads (with_lending b scene) (still_fits a b scene fit);
       says = λ scene fit.
           ap (λ (z : Ended). z.events) (steps_both ss ts scene)
           ∙ ap (λ (events : List What). events ++ (for_each step_done ts (for_each step_done ss scene).scene).events) (p.says scene fit)
           ∙ ap (λ (s : Scene). xs ++ (for_each step_done ts s).events) (p.leads scene fit)
-          ∙ ap (λ (events : List What). xs ++ events) (q.says (with_recent b.files.recent scene) (still_fits a.files b.files scene fit));
+          ∙ ap (λ (events : List What). xs ++ events) (q.says (with_lending b scene) (still_fits a b scene fit));
       descriptors = q.descriptors ∙ p.descriptors;
       fewer = omega (arith, p.fewer, q.fewer);
+      limits = q.limits ∙ p.limits;
     }))

@@ -1,5 +1,5 @@
--- How often a session holds each item, and what the tables of these do in a release.
-use Rattle.std.specs.Prelude.{◌≡◌, ℕ, ◌≤◌, ◌==◌, if◌then◌else◌, List, [], slice_index}
+-- How often a session holds each item, and what the tables of these and the extension kinds do in a release.
+use Rattle.std.specs.Prelude.{◌≡◌, ℕ, ◌≤◌, ◌==◌, nat_lt, if◌then◌else◌, List, [], map, slice_index}
 use Rattle.std.specs.Coded.{Coded, code_by, coded×, coded_ℕ, coded_list}
 use Rattle.std.proofs.Common.{refl}
 use Rattle.counts.specs.Counts.{total}
@@ -7,15 +7,13 @@ use Rattle.ref_table.specs.References.{references_of}
 use Rattle.file_table.specs.Files.{Files, opens}
 use Rattle.pgs_step.specs.declared.events.What.{What}
 use Rattle.pgs_step.specs.declared.ids.KindId.{KindId}
-use Rattle.owner_kinds.specs.KindTable.{KindTable}
+use Rattle.owner_kinds.specs.Kind.{Kind}
+use Rattle.owner_kinds.specs.KindShelf as shelf
 use Rattle.owner_core.specs.Steps.{Step}
+use Rattle.lock_local.specs.Locks.{Lock}
 use Rattle.session_rules.specs.World.{Scene}
 use Rattle.session_rules.specs.Acts.{for_each}
 use Rattle.session_rules.specs.Releases.{step_done}
-
--- the kinds of the program: those that are built in alone
-abbrev pub built_in_kinds : KindTable
-built_in_kinds = record { names = []; rows = [] }
 
 -- What is held: how often each buffer is pinned, of each class and key that references are held to how many, and the open
 -- files.
@@ -37,22 +35,40 @@ abbrev pub times_held : Held → KindId → ℕ → ℕ
 times_held held kind key =
     if kind.0 == 1 then slice_index held.pins key else (if kind.0 == 8 then opens held.files key else references_of held.references kind key)
 
--- The files of a scene that have a descriptor are these, and there is nothing that lines cannot take yet: no lock, plan or kind
--- of an extension.
-pub record FilesFit (files : Files) (scene : Scene) : Type 0 where
-  pub recent : scene.session.recent ≡ files.recent
-  pub kinds : scene.around.kinds ≡ []
-  pub locks : scene.session.locks ≡ []
+-- what a release works on: a session's tables, the extension kinds, and the session's locks
+pub record Lending : Type 0 where
+  pub held : Held
+  pub kinds : List Kind
+  pub locks : List Lock
+
+abbrev pub lending_of : Held → List Kind → List Lock → Lending
+lending_of held kinds locks = record { held = held; kinds = kinds; locks = locks }
+
+-- how often a kind and a key are held there: what is built in is counted in the tables, and extension kinds hold their own keys
+abbrev pub times_lent : Lending → KindId → ℕ → ℕ
+times_lent lending kind key = if nat_lt kind.0 16 then times_held lending.held kind key else shelf.times_held lending.kinds kind key
+
+-- The files of a scene that have a descriptor are these, its kinds and locks are these, and there is nothing that lines cannot take
+-- yet: no plan.
+pub record TablesFit (lending : Lending) (scene : Scene) : Type 0 where
+  pub recent : scene.session.recent ≡ lending.held.files.recent
+  pub kinds : scene.around.kinds ≡ lending.kinds
+  pub locks : scene.session.locks ≡ lending.locks
   pub plans : scene.session.plans ≡ []
 
--- the scene with these files that have a descriptor
-abbrev pub with_recent : List ℕ → Scene → Scene
-with_recent recent scene = record scene { session = record scene.session { recent = recent } }
+-- the scene with these files that have a descriptor, these kinds and these locks
+abbrev pub with_tables : List ℕ → List Kind → List Lock → Scene → Scene
+with_tables recent kinds locks scene = record scene { session = record scene.session { recent = recent; locks = locks }; around = record scene.around { kinds = kinds } }
 
--- The tables took these steps, with these events in all, as the session's rules say, and references became no more. How often each
--- item is held is told where it is given back.
-pub record TablesDo (old : Held) (steps : List Step) (events : List What) (new : Held) : Type 0 where
-  pub leads : (scene : Scene) → FilesFit old.files scene → (for_each step_done steps scene).scene ≡ with_recent new.files.recent scene
-  pub says : (scene : Scene) → FilesFit old.files scene → (for_each step_done steps scene).events ≡ events
-  pub descriptors : new.files.descriptors ≡ old.files.descriptors
-  pub fewer : total new.references ≤ total old.references
+-- the scene with the files, kinds and locks of a lending
+abbrev pub with_lending : Lending → Scene → Scene
+with_lending lending scene = with_tables lending.held.files.recent lending.kinds lending.locks scene
+
+-- The tables, the kinds and the locks took these steps, with these events in all, as the session's rules say, and references became no more.
+-- How often each item is held is told where it is given back.
+pub record TablesDo (old : Lending) (steps : List Step) (events : List What) (new : Lending) : Type 0 where
+  pub leads : (scene : Scene) → TablesFit old scene → (for_each step_done steps scene).scene ≡ with_lending new scene
+  pub says : (scene : Scene) → TablesFit old scene → (for_each step_done steps scene).events ≡ events
+  pub descriptors : new.held.files.descriptors ≡ old.held.files.descriptors
+  pub fewer : total new.held.references ≤ total old.held.references
+  pub limits : map (λ k. k.limit) new.kinds ≡ map (λ k. k.limit) old.kinds

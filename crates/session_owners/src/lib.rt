@@ -2,9 +2,12 @@
 //! in the terms of the session's rules: which of its acts it is.
 #![tactic(auto)]
 
+mod commons;
+mod lent;
 mod resources;
 mod tables;
 
+pub use commons::Commons;
 pub use resources::Resources;
 
 #[cfg(test)]

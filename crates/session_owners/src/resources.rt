@@ -1,5 +1,5 @@
 //! The owners of a session together with the tables of what they hold.
-ghost use Rattle.std.specs.Prelude.{◌≡◌, ◌↔◌, ◌≢◌, ℕ, ◌+◌, ◌<◌, ◌≤◌, ◌^◌, true, false, [], ◌∷◌, find, length, IfErr, IfOk, IfSome, OnOk, OnErr, None};
+ghost use Rattle.std.specs.Prelude.{◌≡◌, ◌↔◌, ◌≢◌, ℕ, ◌+◌, ◌-◌, ◌<◌, ◌≤◌, ◌^◌, true, false, [], ◌∷◌, find, length, slice_get, IfErr, IfOk, IfSome, IsErrOf, IsOkUnless, OnOk, OnErr, Some, None};
 ghost use Rattle.std.specs.Option.{option_map, ok_or};
 ghost use Rattle.forest.specs.Forest.{Empty, has, at, size, parent_of, removed, AllNodes};
 ghost use Rattle.owner_items.specs.ItemList.{is_of};
@@ -7,17 +7,29 @@ ghost use Rattle.owner_core.specs.Sound.{IsSound};
 ghost use Rattle.owner_core.specs.Released.{released};
 ghost use Rattle.session_rules.specs.State.{buffer_pin, file_kind};
 ghost use Rattle.session_rules.specs.Making.{owner_made};
-ghost use Rattle.session_rules.specs.Taking.{descriptor_given, item_taken};
+ghost use Rattle.session_rules.specs.Taking.{descriptor_given, item_taken, lock_taken};
+ghost use Rattle.session_rules.specs.Parts.{lock_given_back};
+ghost use Rattle.lock_shared.specs.Ranked.{beside, least_conflict};
+ghost use Rattle.lock_local.specs.declared.errors.LockError.TheVariants.{Conflict, NotHeld};
+ghost use Rattle.lock_local.specs.Locks.{count_of};
+ghost use Rattle.pgs_step.specs.declared.lock_modes.Mode.{Mode as LockMode};
 ghost use Rattle.session_rules.specs.Releases.{phase_released, owner_released, owner_gone, item_released};
-ghost use Rattle.session_owners.specs.Tables.{built_in_kinds};
+ghost use Rattle.owner_kinds.specs.Kind.{IsFull};
+ghost use Rattle.owner_kinds.specs.KindShelf.{table_of};
+ghost use Rattle.owner_kinds.specs.KindTable.{IsExtension};
 ghost use Rattle.session_owners.specs.Counted.{HoldsCounted, IsReference, all_released, files_held, holds_file};
 ghost use Rattle.session_owners.specs.ResourceState.{owners_of, IsLive, has_begun, items_of, spare_of, created, entered, forgotten, remembered, AllAt, HoldsNothing};
+ghost use Rattle.session_owners.specs.Commons.{Balances, CommonState, Serves};
 ghost use Rattle.session_owners.specs.Fitting.{Acted};
 
+use crate::commons::Commons;
+use crate::lent::Lent;
 use crate::tables::Tables;
 use file_table::FileError;
+use lock_local::{LockError, LockTable};
 use owner_core::{OwnerError, Owners, Release};
-use pgs_step::{Emit, Item, KindId, OwnerId, Phase};
+use owner_kinds::{ExtKind, KindError};
+use pgs_step::{Emit, Item, KindId, Mode, OwnerId, Phase};
 use std::alloc::{AllocError, Global};
 use std::marker::Model;
 
@@ -30,6 +42,7 @@ use std::marker::Model;
 pub struct Resources {
     owners: Owners,
     tables: Tables,
+    locks: LockTable,
 }
 
 impl Model for Resources {
@@ -41,21 +54,22 @@ impl Model for Resources {
 
     ghost use Rattle.session_owners.specs.Counted.{IsCounted};
 
-    ghost view = { λ r. record { rooms = r.owners.rooms; places = r.owners.places; next_owner = r.owners.next_owner; next_serial = r.owners.next_serial; recent = r.tables.files.recent; descriptors = r.tables.files.descriptors } };
+    ghost view = { λ r. record { rooms = r.owners.rooms; places = r.owners.places; next_owner = r.owners.next_owner; next_serial = r.owners.next_serial; recent = r.tables.files.recent; descriptors = r.tables.files.descriptors; session = r.locks.session; locks = r.locks.locks } };
 
     ghost invariant = { λ r. IsCounted r.owners r.tables };
 }
 
 impl Resources {
-    /// No owner, no buffer is pinned, no reference is held and no file is open, and this many files can have a descriptor.
-    /// It fails for want of memory alone.
-    pub fn new(alloc: Global, descriptors: u8) -> Result<Resources, AllocError>
+    /// No owner, no buffer is pinned, no reference and no lock is held and no file is open, and this many files can have a
+    /// descriptor. It is the session of this number that will hold the locks. It fails for want of memory alone.
+    pub fn new(alloc: Global, session: u8, descriptors: u8) -> Result<Resources, AllocError>
         requires descriptors { 0 < descriptors }
-        ensures begins { IfOk result (λ resources. resources ≡ record { rooms = Empty; places = Empty; next_owner = 1; next_serial = 1; recent = []; descriptors = descriptors }) }
+        ensures begins { IfOk result (λ resources. resources ≡ record { rooms = Empty; places = Empty; next_owner = 1; next_serial = 1; recent = []; descriptors = descriptors; session = session; locks = [] }) }
     {
         Ok(Resources {
             owners: Owners::new(alloc),
             tables: Tables::new(alloc, descriptors)?,
+            locks: LockTable::new(alloc, session),
         })
     }
 
@@ -77,7 +91,8 @@ impl Resources {
         ensures places { IfOk result (λ owner. self.new.places ≡ entered (option_map (λ p. p.number) parent) owner.number owner.slot self.old.places) }
         ensures next_owner { OnOk result (self.new.next_owner ≡ self.old.next_owner + 1) }
         ensures next_serial { self.new.next_serial ≡ self.old.next_serial }
-        ensures acted { OnOk result (Acted (owner_made (option_map (λ p. p.number) parent)) self.old self.new (λ events. E.emits out.old events out.new)) }
+        ensures acted { OnOk result ((commons : CommonState) → Acted (owner_made (option_map (λ p. p.number) parent)) self.old self.new commons commons (λ events. E.emits out.old events out.new)) }
+        ensures balances { (commons : CommonState) → Balances self.old self.new commons commons }
         ensures others { (other : ℕ) → other ≢ self.old.next_owner → spare_of other self.new ≡ spare_of other self.old }
         ensures fresh { has self.old.next_owner (owners_of self.old) ≡ false }
         ensures too_many { (result ≡ Err OwnerError.TooMany) ↔ (65536 ≤ size (owners_of self.old)) }
@@ -103,6 +118,8 @@ impl Resources {
         ensures next_serial { self.new.next_serial ≡ self.old.next_serial }
         ensures recent { self.new.recent ≡ self.old.recent }
         ensures descriptors { self.new.descriptors ≡ self.old.descriptors }
+        ensures locks { self.new.locks ≡ self.old.locks }
+        ensures balances { (commons : CommonState) → Balances self.old self.new commons commons }
         ensures releasing { (result ≡ Err OwnerError.Releasing) ↔ (has_begun owner.number (owners_of self.old) ≡ true) }
         ensures refused { OnErr result (self.new ≡ self.old) }
         ensures not_too_many { result ≢ Err OwnerError.TooMany }
@@ -124,7 +141,8 @@ impl Resources {
         ensures places { self.new.places ≡ self.old.places }
         ensures next_owner { self.new.next_owner ≡ self.old.next_owner }
         ensures next_serial { self.new.next_serial ≡ self.old.next_serial + 1 }
-        ensures acted { Acted (item_taken owner.number buffer_pin buffer) self.old self.new (λ events. E.emits out.old events out.new) }
+        ensures acted { (commons : CommonState) → Acted (item_taken owner.number buffer_pin buffer) self.old self.new commons commons (λ events. E.emits out.old events out.new) }
+        ensures balances { (commons : CommonState) → Balances self.old self.new commons commons }
     {
         self.tables.pin(buffer);
         self.owners.remember(owner, KindId::BUFFER_PIN, buffer, out);
@@ -150,7 +168,8 @@ impl Resources {
         ensures places { self.new.places ≡ self.old.places }
         ensures next_owner { self.new.next_owner ≡ self.old.next_owner }
         ensures next_serial { OnOk result (self.new.next_serial ≡ self.old.next_serial + 1) }
-        ensures acted { OnOk result (Acted (item_taken owner.number class key) self.old self.new (λ events. E.emits out.old events out.new)) }
+        ensures acted { OnOk result ((commons : CommonState) → Acted (item_taken owner.number class key) self.old self.new commons commons (λ events. E.emits out.old events out.new)) }
+        ensures balances { (commons : CommonState) → Balances self.old self.new commons commons }
         ensures refused { OnErr result (self.new ≡ self.old) }
         ensures silent { OnErr result (out.new ≡ out.old) }
     {
@@ -176,7 +195,8 @@ impl Resources {
         ensures others { (other : ℕ) → other ≢ owner.number → spare_of other self.new ≡ spare_of other self.old }
         ensures owners { OnOk result (owners_of self.new ≡ remembered owner.number (record { kind = file_kind; key = file; serial = self.old.next_serial }) (owners_of self.old)) }
         ensures places { self.new.places ≡ self.old.places }
-        ensures acted { OnOk result (Acted (item_taken owner.number file_kind file) self.old self.new (λ events. E.emits out.old events out.new)) }
+        ensures acted { OnOk result ((commons : CommonState) → Acted (item_taken owner.number file_kind file) self.old self.new commons commons (λ events. E.emits out.old events out.new)) }
+        ensures balances { (commons : CommonState) → Balances self.old self.new commons commons }
         ensures too_many { (result ≡ Err FileError.TooMany) ↔ (4096 ≤ length (files_held (owners_of self.old))) }
         ensures causes { (result ≢ Err FileError.Taken) × (result ≢ Err FileError.NoFile) }
         ensures refused { OnErr result (self.new ≡ self.old) }
@@ -195,7 +215,8 @@ impl Resources {
         requires open { holds_file file (owners_of self.old) ≡ true }
         ensures owners { owners_of self.new ≡ owners_of self.old }
         ensures places { self.new.places ≡ self.old.places }
-        ensures acted { OnOk result (Acted (descriptor_given file) self.old self.new (λ events. E.emits out.old events out.new)) }
+        ensures acted { OnOk result ((commons : CommonState) → Acted (descriptor_given file) self.old self.new commons commons (λ events. E.emits out.old events out.new)) }
+        ensures balances { (commons : CommonState) → Balances self.old self.new commons commons }
         ensures causes { IfErr result (λ error. error ≡ FileError.Memory) }
         ensures refused { OnErr result (self.new ≡ self.old) }
         ensures silent { OnErr result (out.new ≡ out.old) }
@@ -210,17 +231,109 @@ impl Resources {
         self.tables.is_open(file)
     }
 
-    /// The owner forgets its newest item of this kind and key, and that is given back: `ResourceOwnerForget`.
+    /// An extension kind opens a key, and the owner remembers it, in room that `enlarge` has made.
     ///
-    /// `Releasing` comes where the owner's release has begun, else `NotOwned` where it has no such item.
-    pub fn give_back<E: Emit>(
+    /// `Full` comes exactly where the kind holds as many keys as it may, else `Memory` where memory is refused.
+    pub fn take_extension<K: ExtKind, E: Emit>(
         &mut self,
         owner: OwnerId,
         kind: KindId,
         key: u32,
+        commons: &mut Commons<K>,
+        out: &mut E,
+    ) -> Result<(), KindError>
+        requires live { IsLive self.old owner }
+        requires spare { 1 ≤ spare_of owner.number self.old }
+        requires not_begun { has_begun owner.number (owners_of self.old) ≡ false }
+        requires kind { IsExtension (table_of commons.old.kinds) kind }
+        requires serial { self.old.next_serial < 2 ^ 62 }
+        requires serves { Serves self.old commons.old }
+        ensures others { (other : ℕ) → other ≢ owner.number → spare_of other self.new ≡ spare_of other self.old }
+        ensures owners { OnOk result (owners_of self.new ≡ remembered owner.number (record { kind = kind; key = key; serial = self.old.next_serial }) (owners_of self.old)) }
+        ensures places { self.new.places ≡ self.old.places }
+        ensures next_owner { self.new.next_owner ≡ self.old.next_owner }
+        ensures next_serial { OnOk result (self.new.next_serial ≡ self.old.next_serial + 1) }
+        ensures acted { OnOk result (Acted (item_taken owner.number kind key) self.old self.new commons.old commons.new (λ events. E.emits out.old events out.new)) }
+        ensures balances { Balances self.old self.new commons.old commons.new }
+        ensures serves { Serves self.new commons.new }
+        ensures full { (result ≡ Err KindError.Full) ↔ IfSome (slice_get commons.old.kinds (kind.0 - 16)) IsFull }
+        ensures refused { OnErr result (self.new ≡ self.old) }
+        ensures untouched { OnErr result (commons.new ≡ commons.old) }
+        ensures silent { OnErr result (out.new ≡ out.old) }
+    {
+        if let Err(error) = commons.kinds.open(kind, key) {
+            return Err(error);
+        }
+        self.owners.remember(owner, kind, key, out);
+        Ok(())
+    }
+
+    /// The owner holds the object in this mode once more: `LockAcquire`.
+    ///
+    /// `Conflict` comes exactly where another session holds the object in a mode that conflicts, and names the least such
+    /// session and its least such mode. Else `Memory` comes where memory is refused.
+    pub fn lock<K: ExtKind, E: Emit>(
+        &mut self,
+        owner: OwnerId,
+        object: u32,
+        mode: Mode,
+        commons: &mut Commons<K>,
+        out: &mut E,
+    ) -> Result<(), LockError>
+        requires { Serves self.old commons.old }
+        ensures conflict { (s : ℕ) (m : LockMode) → IsErrOf result (LockError.Conflict s m) ↔ (least_conflict object mode (beside self.old.session commons.old.locks) ≡ Some (s, m)) }
+        ensures held { IsErrOf result LockError.NotHeld → ⊥ }
+        ensures locks_alone { self.new ≡ record self.old { locks = self.new.locks } }
+        ensures acted { OnOk result (Acted (lock_taken object mode owner.number) self.old self.new commons.old commons.new (λ events. E.emits out.old events out.new)) }
+        ensures balances { Balances self.old self.new commons.old commons.new }
+        ensures serves { Serves self.new commons.new }
+        ensures refused { OnErr result (self.new ≡ self.old) }
+        ensures untouched { OnErr result (commons.new ≡ commons.old) }
+        ensures silent { OnErr result (out.new ≡ out.old) }
+    {
+        self.locks
+            .acquire(&mut commons.locks, owner, object, mode, out)
+    }
+
+    /// The owner holds the object in this mode once less: `LockRelease`.
+    ///
+    /// `NotHeld` comes exactly where the owner doesn't hold it.
+    pub fn unlock<K: ExtKind, E: Emit>(
+        &mut self,
+        owner: OwnerId,
+        object: u32,
+        mode: Mode,
+        commons: &mut Commons<K>,
+        out: &mut E,
+    ) -> Result<(), LockError>
+        requires { Serves self.old commons.old }
+        ensures not_held { IsErrOf result LockError.NotHeld ↔ (count_of self.old.locks object mode owner.number ≡ 0) }
+        ensures only_not_held { IsOkUnless result LockError.NotHeld }
+        ensures locks_alone { self.new ≡ record self.old { locks = self.new.locks } }
+        ensures acted { OnOk result (Acted (lock_given_back object mode owner.number) self.old self.new commons.old commons.new (λ events. E.emits out.old events out.new)) }
+        ensures balances { Balances self.old self.new commons.old commons.new }
+        ensures serves { Serves self.new commons.new }
+        ensures refused { OnErr result (self.new ≡ self.old) }
+        ensures untouched { OnErr result (commons.new ≡ commons.old) }
+        ensures silent { OnErr result (out.new ≡ out.old) }
+    {
+        self.locks
+            .release(&mut commons.locks, owner, object, mode, out)
+    }
+
+    /// The owner forgets its newest item of this kind and key, and that is given back: `ResourceOwnerForget`.
+    ///
+    /// `Releasing` comes where the owner's release has begun, else `NotOwned` where it has no such item.
+    pub fn give_back<K: ExtKind, E: Emit>(
+        &mut self,
+        owner: OwnerId,
+        kind: KindId,
+        key: u32,
+        commons: &mut Commons<K>,
         out: &mut E,
     ) -> Result<Item, OwnerError>
         requires live { IsLive self.old owner }
+        requires serves { Serves self.old commons.old }
         ensures item { has_begun owner.number (owners_of self.old) ≡ false → result ≡ ok_or (find (is_of kind key) (items_of owner.number (owners_of self.old))) OwnerError.NotOwned }
         ensures releasing { has_begun owner.number (owners_of self.old) ≡ true → result ≡ Err OwnerError.Releasing }
         ensures others { (other : ℕ) → other ≢ owner.number → spare_of other self.new ≡ spare_of other self.old }
@@ -229,15 +342,24 @@ impl Resources {
         ensures next_owner { self.new.next_owner ≡ self.old.next_owner }
         ensures next_serial { self.new.next_serial ≡ self.old.next_serial }
         ensures descriptors { self.new.descriptors ≡ self.old.descriptors }
-        ensures acted { OnOk result (Acted (item_released owner.number kind key) self.old self.new (λ events. E.emits out.old events out.new)) }
+        ensures acted { OnOk result (Acted (item_released owner.number kind key) self.old self.new commons.old commons.new (λ events. E.emits out.old events out.new)) }
+        ensures balances { Balances self.old self.new commons.old commons.new }
+        ensures serves { Serves self.new commons.new }
         ensures refused { OnErr result (self.new ≡ self.old) }
+        ensures untouched { OnErr result (commons.new ≡ commons.old) }
         ensures silent { OnErr result (out.new ≡ out.old) }
     {
         let item = match self.owners.forget(owner, kind, key, out) {
             Ok(item) => item,
             Err(error) => return Err(error),
         };
-        self.tables.give_back(item, out);
+        let mut lent = Lent {
+            tables: &mut self.tables,
+            kinds: &mut commons.kinds,
+            locks: &mut self.locks,
+            shared: &mut commons.locks,
+        };
+        lent.give_back(item, out);
         Ok(item)
     }
 
@@ -246,41 +368,60 @@ impl Resources {
     ///
     /// `top` says that the owner is the topmost one. At commit each item's release stands behind its warning. It
     /// takes no memory.
-    pub fn release<E: Emit>(&mut self, owner: OwnerId, commit: bool, top: bool, out: &mut E)
+    pub fn release<K: ExtKind, E: Emit>(
+        &mut self,
+        owner: OwnerId,
+        commit: bool,
+        top: bool,
+        commons: &mut Commons<K>,
+        out: &mut E,
+    )
         requires live { IsLive self.old owner }
         requires top { (top ≡ true) ↔ (parent_of owner.number (owners_of self.old) ≡ None) }
-        ensures owners { owners_of self.new ≡ all_released owner.number (owners_of self.old) }
+        requires serves { Serves self.old commons.old }
+        ensures owners { owners_of self.new ≡ all_released (table_of commons.old.kinds) owner.number (owners_of self.old) }
         ensures nothing_left { AllAt HoldsNothing owner.number (owners_of self.new) }
         ensures places { self.new.places ≡ self.old.places }
         ensures next_owner { self.new.next_owner ≡ self.old.next_owner }
         ensures next_serial { self.new.next_serial ≡ self.old.next_serial }
-        ensures acted { Acted (owner_released commit top owner.number) self.old self.new (λ events. E.emits out.old events out.new) }
+        ensures acted { Acted (owner_released commit top owner.number) self.old self.new commons.old commons.new (λ events. E.emits out.old events out.new) }
+        ensures balances { Balances self.old self.new commons.old commons.new }
+        ensures serves { Serves self.new commons.new }
     {
-        self.release_phase(owner, Phase::BeforeLocks, commit, top, out);
-        self.release_phase(owner, Phase::Locks, commit, top, out);
-        self.release_phase(owner, Phase::AfterLocks, commit, top, out);
+        self.release_phase(owner, Phase::BeforeLocks, commit, top, commons, out);
+        self.release_phase(owner, Phase::Locks, commit, top, commons, out);
+        self.release_phase(owner, Phase::AfterLocks, commit, top, commons, out);
     }
 
     /// Releases a phase of the owner and of all below it.
-    fn release_phase<E: Emit>(
+    fn release_phase<K: ExtKind, E: Emit>(
         &mut self,
         owner: OwnerId,
         phase: Phase,
         commit: bool,
         top: bool,
+        commons: &mut Commons<K>,
         out: &mut E,
     )
         requires live { IsLive self.old owner }
         requires top { (top ≡ true) ↔ (parent_of owner.number (owners_of self.old) ≡ None) }
-        ensures owners { owners_of self.new ≡ released built_in_kinds phase owner.number (owners_of self.old) }
-        ensures items { AllNodes HoldsCounted (owners_of self.old) }
+        requires serves { Serves self.old commons.old }
+        ensures owners { owners_of self.new ≡ released (table_of commons.old.kinds) phase owner.number (owners_of self.old) }
         ensures places { self.new.places ≡ self.old.places }
         ensures next_owner { self.new.next_owner ≡ self.old.next_owner }
         ensures next_serial { self.new.next_serial ≡ self.old.next_serial }
-        ensures acted { Acted (phase_released commit top owner.number phase) self.old self.new (λ events. E.emits out.old events out.new) }
+        ensures acted { Acted (phase_released commit top owner.number phase) self.old self.new commons.old commons.new (λ events. E.emits out.old events out.new) }
+        ensures balances { Balances self.old self.new commons.old commons.new }
+        ensures serves { Serves self.new commons.new }
     {
+        let mut lent = Lent {
+            tables: &mut self.tables,
+            kinds: &mut commons.kinds,
+            locks: &mut self.locks,
+            shared: &mut commons.locks,
+        };
         self.owners
-            .release(owner, phase, commit, top, &mut self.tables, out);
+            .release(owner, phase, commit, top, &mut lent, out);
     }
 
     /// Takes the owner out, with all below it, which hold nothing any more: `ResourceOwnerDelete`.
@@ -291,7 +432,8 @@ impl Resources {
         ensures stays { (other : ℕ) → has other (owners_of self.new) ≡ true → at other self.new.places ≡ at other self.old.places }
         ensures next_owner { self.new.next_owner ≡ self.old.next_owner }
         ensures next_serial { self.new.next_serial ≡ self.old.next_serial }
-        ensures acted { Acted (owner_gone owner.number) self.old self.new (λ events. E.emits out.old events out.new) }
+        ensures acted { (commons : CommonState) → Acted (owner_gone owner.number) self.old self.new commons commons (λ events. E.emits out.old events out.new) }
+        ensures balances { (commons : CommonState) → Balances self.old self.new commons commons }
     {
         self.owners.discard(owner, out);
     }

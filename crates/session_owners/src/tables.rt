@@ -1,15 +1,19 @@
-//! How often a session pins each buffer and holds each reference, its open files, and the kinds of resources that there are.
-ghost use Rattle.std.specs.Prelude.{◌≡◌, ◌≢◌, ◌↔◌, ◌<◌, ◌+◌, ◌^◌, [], ℕ, List, false, length, slice_index, slice_set, replicate, IsTrue, IfOk, OnOk, OnErr};
+//! How often a session pins each buffer and holds each reference, and its open files.
+ghost use Rattle.std.specs.Prelude.{◌≡◌, ◌≢◌, ◌↔◌, ◌<◌, ◌+◌, ◌^◌, [], ◌∷◌, ℕ, List, false, length, slice_index, slice_set, replicate, IsTrue, IfOk, OnOk, OnErr};
 ghost use Rattle.counts.specs.Counts.{total};
+ghost use Rattle.pgs_step.specs.declared.ids.KindId.{KindId as Kind};
+ghost use Rattle.pgs_step.specs.declared.events.What.{What};
+ghost use Rattle.owner_items.specs.ItemList.{uses};
+ghost use Rattle.owner_core.specs.Steps.{GivesBack};
+ghost use Rattle.owner_kinds.specs.Kind.{Kind as ExtensionKind};
+ghost use Rattle.session_owners.specs.Tables.{lending_of, times_held, TablesDo};
+ghost use Rattle.lock_local.specs.Locks.{Lock};
 ghost use Rattle.ref_table.specs.References.{RefersOneMore};
 ghost use Rattle.file_table.specs.Descriptors.{is_among};
 ghost use Rattle.file_table.specs.Files.{IsSound, OpensOneLess, OpensOneMore, closed_file, closing_events, opened_file, opening_events, opens, touch_events, touched_file};
-ghost use Rattle.session_owners.specs.Tables.{built_in_kinds, times_held, TablesDo};
 
 use file_table::{FileError, FileTable};
-use owner_core::Release;
-use owner_kinds::{CountedKind, KindShelf};
-use pgs_step::{Emit, Item, KindId, OwnerId};
+use pgs_step::{Emit, Item, KindId};
 use ref_table::RefTable;
 use std::alloc::{AllocError, Global};
 use std::marker::Model;
@@ -17,18 +21,16 @@ use std::marker::Model;
 /// How many buffers there are.
 pub(crate) const BUFFERS: u32 = 1024;
 
-/// The session's counts of pins of each buffer and of references, its open files, and the shelf of extension kinds, which
-/// is empty.
+/// The session's counts of pins of each buffer and of references, and its open files.
 #[derive(Drop)]
 pub(crate) struct Tables {
     pins: Vec<u64>,
     references: RefTable,
     files: FileTable,
-    kinds: KindShelf<CountedKind>,
 }
 
 impl Model for Tables {
-    ghost use Rattle.std.specs.Prelude.{[], ◌≡◌};
+    ghost use Rattle.std.specs.Prelude.{◌≡◌};
     ghost use Rattle.std.specs.Vec.{vec_len};
     ghost use Rattle.session_owners.specs.Tables.{Held, held_code};
 
@@ -38,7 +40,7 @@ impl Model for Tables {
 
     ghost view = { λ t. record { pins = t.pins.items; references = t.references; files = t.files } };
 
-    ghost invariant = { λ t. record { buffers : vec_len t.pins ≡ 1024; no_kind : t.kinds ≡ [] } };
+    ghost invariant = { λ t. vec_len t.pins ≡ 1024 };
 }
 
 impl Tables {
@@ -58,7 +60,6 @@ impl Tables {
             pins: vec![in alloc; 0; BUFFERS as usize]?,
             references: RefTable::new(alloc),
             files,
-            kinds: KindShelf::new(alloc, Vec::new(alloc))?,
         })
     }
 
@@ -144,24 +145,15 @@ impl Tables {
     {
         self.files.laws();
     }
-}
 
-impl Release for Tables {
-    type Extension = CountedKind;
-
-    ghost IsFit = { λ tables. length tables.pins ≡ 1024 };
-
-    ghost counted = { times_held };
-
-    ghost kind_table = { λ _. built_in_kinds };
-
-    ghost does = { TablesDo };
-
-    fn kinds(&self) -> &KindShelf<CountedKind> {
-        &self.kinds
-    }
-
-    fn give_back<E: Emit>(&mut self, item: Item, out: &mut E) {
+    /// Gives a pin, a reference or a file back.
+    pub(crate) fn give_back<E: Emit>(&mut self, item: Item, out: &mut E)
+        requires built_in { item.kind.0 < 16 }
+        requires counted { 0 < times_held self.old item.kind item.key }
+        ensures buffers { length self.new.pins ≡ 1024 }
+        ensures counted { (kind : Kind) (key : ℕ) → times_held self.new kind key + uses kind key (item ∷ []) ≡ times_held self.old kind key }
+        ensures done { (kinds : List ExtensionKind) (locks : List Lock) → (events : List What) × TablesDo (lending_of self.old kinds locks) (GivesBack item ∷ []) events (lending_of self.new kinds locks) × E.emits out.old events out.new }
+    {
         if item.kind == KindId::BUFFER_PIN {
             self.pins[item.key as usize] -= 1;
             return;
@@ -174,19 +166,4 @@ impl Release for Tables {
             Err(_) => unreachable!(),
         }
     }
-
-    // No line acquires a lock.
-    fn release_owner<E: Emit>(&mut self, _owner: OwnerId, out: &mut E) {}
-
-    fn pass_owner<E: Emit>(&mut self, _from: OwnerId, _to: OwnerId, out: &mut E) {}
-
-    fn release_all<E: Emit>(&mut self, _top: OwnerId, out: &mut E) {}
-
-    ghost use Rattle.session_owners.specs.TableLaws.{TablesDo-nothing, TablesDo-said, TablesDo-more};
-
-    ghost does_nothing = { TablesDo-nothing };
-
-    ghost does_said = { TablesDo-said };
-
-    ghost does_more = { TablesDo-more };
 }

@@ -1,13 +1,49 @@
+use Rattle.std.proofs.Common.{List, ap, refl, subst, sym}
+use Rattle.pgs_step.specs.declared.events.What.{What}
+use Rattle.session_rules.specs.Releases.{item_released}
+use Rattle.session_owners.specs.Commons.{CommonState}
+use Rattle.session_owners.specs.Fitting.{Acted}
+use Rattle.session_owners.specs.ResourceState.{ResourceState, owners_of}
+use Rattle.session_owners.specs.Tables.{lending_of}
+use Rattle.session_owners.proofs.Acts.{acted_given, state_of}
+use Rattle.session_owners.proofs.Balances.{balances_given, locks_moved, served, serves_still}
 use Rattle.session_owners.proofs.Kept.{counted_given, found_given, is_counted}
 use Rattle.session_owners.proofs.resources.Resources.give_back.Goals as goal
 
 pub give_back-requires-clause-counted : goal.give_back-requires-clause-counted
 give_back-requires-clause-counted g c =
-    is_counted c.args.owner.number c.args.kind c.args.key c.in-Ok.item c.self.inside.owners c.self.inside.tables c.self.invariant
+    is_counted c.args.owner.number c.args.kind c.args.key c.in-Ok.item c.self.inside.owners (lending_of c.self.inside.tables c.commons.inside.kinds c.self.inside.locks.locks) c.self.invariant
+    (served c.self.inside.owners c.args.self.now c.args.commons.now c.commons.inside.kinds (sym (ap owners_of c.self.view_is)) (sym (ap (λ (z : CommonState). z.kinds) c.commons.view_is)) c.requires.serves)
     (found_given _ _ c.forget.result c.in-Ok.item c.in-Ok.is c.forget.ensures.item c.forget.ensures.releasing)
 
 pub invariant_of-self-2 : goal.invariant_of-self-2
 invariant_of-self-2 g c =
-    counted_given c.self.inside.owners _ c.self.inside.tables _ c.args.owner.number c.args.kind c.args.key c.in-Ok.item c.self.invariant
+    counted_given c.self.inside.owners _ (lending_of c.self.inside.tables c.commons.inside.kinds c.self.inside.locks.locks) (lending_of c.give_back.new.self.tables.now c.give_back.new.self.kinds.now c.give_back.new.self.locks.now.locks) c.args.owner.number c.args.kind c.args.key c.in-Ok.item c.self.invariant
     (found_given _ _ c.forget.result c.in-Ok.item c.in-Ok.is c.forget.ensures.item c.forget.ensures.releasing)
-    c.give_back.ensures.fit c.give_back.ensures.done.1.fewer c.give_back.ensures.counted c.in-Ok.ensures.owners c.forget.ensures.next_owner c.forget.ensures.next_serial
+    c.give_back.ensures.fit.0 c.give_back.ensures.done.1.5.fewer c.give_back.ensures.counted c.in-Ok.ensures.owners c.forget.ensures.next_owner c.forget.ensures.next_serial
+
+pub returns-clause-acted : goal.returns-clause-acted
+returns-clause-acted g c =
+    let done = c.give_back.ensures.done in
+    let was : ResourceState = state_of c.self.inside.owners c.self.inside.tables.files c.self.inside.locks in
+    let now : ResourceState = state_of c.forget.new.self c.give_back.new.self.tables.now.files c.give_back.new.self.locks.now in
+    let before : CommonState = record { kinds = c.commons.inside.kinds; locks = c.commons.inside.locks } in
+    let behind : CommonState = record { kinds = c.give_back.new.self.kinds.now; locks = c.give_back.new.self.shared.now } in
+    let says : List What → Type 0 = λ (events : List What). g.E.Emit.emits c.args.out.now events c.give_back.new.out in
+    subst (λ (a : ResourceState). Acted (item_released c.args.owner.number c.args.kind c.args.key) a now c.args.commons.now behind says) c.self.view_is
+    (subst (λ (z : CommonState). Acted (item_released c.args.owner.number c.args.kind c.args.key) was now z behind says) c.commons.view_is
+    (acted_given was now before behind (lending_of c.self.inside.tables c.commons.inside.kinds c.self.inside.locks.locks) (lending_of c.give_back.new.self.tables.now c.give_back.new.self.kinds.now c.give_back.new.self.locks.now.locks) refl refl refl refl done.1.5.descriptors refl refl done.1.4
+    c.args.owner.number c.args.kind c.args.key c.in-Ok.item done.0 says
+    (found_given _ _ c.forget.result c.in-Ok.item c.in-Ok.is c.forget.ensures.item c.forget.ensures.releasing)
+    c.in-Ok.ensures.owners c.forget.ensures.next_owner c.forget.ensures.next_serial done.1.5 (g.met.E.Emit.emits_more _ _ _ _ _ _ c.in-Ok.ensures.emits done.2 refl)))
+
+pub returns-clause-balances : goal.returns-clause-balances
+returns-clause-balances g c =
+    balances_given c.self.inside.owners _ _ _ _ (lending_of c.self.inside.tables c.commons.inside.kinds c.self.inside.locks.locks) (lending_of c.give_back.new.self.tables.now c.give_back.new.self.kinds.now c.give_back.new.self.locks.now.locks) c.args.owner.number c.args.kind c.args.key c.in-Ok.item c.self.invariant
+    (sym (ap owners_of c.self.view_is)) (sym (ap (λ (z : CommonState). z.kinds) c.commons.view_is)) refl
+    (found_given _ _ c.forget.result c.in-Ok.item c.in-Ok.is c.forget.ensures.item c.forget.ensures.releasing)
+    c.in-Ok.ensures.owners c.give_back.ensures.kinds c.give_back.ensures.done.1.5.limits c.give_back.ensures.counted
+    (locks_moved (state_of c.self.inside.owners c.self.inside.tables.files c.self.inside.locks) _ _ (record { kinds = c.commons.inside.kinds; locks = c.commons.inside.locks }) _ _ c.self.view_is c.commons.view_is c.give_back.ensures.done.1.4)
+
+pub returns-clause-serves : goal.returns-clause-serves
+returns-clause-serves g c = serves_still _ _ _ _ c.requires.serves (returns-clause-balances g c)

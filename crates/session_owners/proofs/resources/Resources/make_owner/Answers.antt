@@ -1,8 +1,17 @@
+use Rattle.std.proofs.Common.{ap, refl, sym}
 use Rattle.std.specs.Option.{option_map}
 use Rattle.session_owners.proofs.Kept.{counted_made}
+use Rattle.session_owners.specs.ResourceState.{owners_of}
+use Rattle.session_owners.proofs.Acts.{state_of}
+use Rattle.session_owners.proofs.Balances.{balances_made, locks_stay}
 use Rattle.session_owners.proofs.resources.Resources.make_owner.Goals as goal
 
 pub invariant_of-self : goal.invariant_of-self
 invariant_of-self g c =
     counted_made c.self.inside.owners _ _ (option_map (λ p. p.number) c.args.parent) c.create.result c.self.invariant
     c.create.ensures.owners c.create.ensures.next_owner c.create.ensures.next_serial c.create.ensures.too_many c.create.ensures.refused
+
+pub returns-clause-balances : goal.returns-clause-balances
+returns-clause-balances g c =
+    λ commons. balances_made c.self.inside.owners c.create.new.self _ _ commons (option_map (λ p. p.number) c.args.parent) c.create.result (sym (ap owners_of c.self.view_is)) refl c.create.ensures.owners c.create.ensures.refused
+    (locks_stay (state_of c.self.inside.owners c.self.inside.tables.files c.self.inside.locks) _ _ commons.locks c.self.view_is refl)

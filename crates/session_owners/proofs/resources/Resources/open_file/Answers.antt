@@ -1,4 +1,4 @@
-use Rattle.std.proofs.Common.{◌≡◌, ◌≢◌, ◌↔◌, ◌≤◌, false, length, Result, Ok, Err, ap, subst, sym, ◌∙◌}
+use Rattle.std.proofs.Common.{◌≡◌, ◌≢◌, ◌↔◌, ◌≤◌, false, length, Result, Ok, Err, ap, inl, refl, subst, sym, ◌∙◌, arith}
 use Rattle.file_table.specs.declared.files.FileError.{FileError}
 use Rattle.file_table.specs.declared.files.FileError.TheVariants.{NoFile, Taken, TooMany}
 use Rattle.owner_core.specs.Owners as owners
@@ -7,6 +7,8 @@ use Rattle.session_owners.specs.Counted.{files_held, holds_file}
 use Rattle.session_owners.specs.ResourceState.{ResourceState, owners_of, spare_of}
 use Rattle.session_owners.proofs.Kept.{counted_opened}
 use Rattle.session_owners.proofs.OpenFiles.{full, not_taken}
+use Rattle.session_owners.proofs.Acts.{state_of}
+use Rattle.session_owners.proofs.Balances.{balances_same, balances_taken, locks_stay}
 use Rattle.session_owners.proofs.resources.Resources.open_file.Goals as goal
 
 pub returns-in-Err-clause-too_many : goal.returns-in-Err-clause-too_many
@@ -15,14 +17,14 @@ returns-in-Err-clause-too_many g c =
     let closed : holds_file c.args.file t ≡ false = ap (λ (state : ResourceState). holds_file c.args.file (owners_of state)) c.self.view_is ∙ c.requires.closed in
     subst (λ (state : ResourceState). (Err c.in-Err.error ≡ Err TooMany) ↔ (4096 ≤ length (files_held (owners_of state)))) c.self.view_is
     (subst (λ (r : Result (Unit {0}) FileError). (r ≡ Err TooMany) ↔ (4096 ≤ length (files_held t))) c.in-Err.is
-    (full c.self.inside.tables.files t c.args.file c.open_file.result c.laws.ensures.sound (λ key. c.self.invariant.counted file_kind key) closed c.open_file.ensures.too_many))
+    (full c.self.inside.tables.files t c.args.file c.open_file.result c.laws.ensures.sound (λ key. c.self.invariant.counted file_kind key (omega arith)) closed c.open_file.ensures.too_many))
 
 pub returns-in-Err-clause-causes : goal.returns-in-Err-clause-causes
 returns-in-Err-clause-causes g c =
     let t = owners.owners_of c.self.inside.owners in
     let closed : holds_file c.args.file t ≡ false = ap (λ (state : ResourceState). holds_file c.args.file (owners_of state)) c.self.view_is ∙ c.requires.closed in
     subst (λ (r : Result (Unit {0}) FileError). (r ≢ Err Taken) × (r ≢ Err NoFile)) c.in-Err.is
-    (not_taken c.self.inside.tables.files t c.args.file c.open_file.result (c.self.invariant.counted file_kind c.args.file) closed c.open_file.ensures.taken c.open_file.ensures.no_other)
+    (not_taken c.self.inside.tables.files t c.args.file c.open_file.result (c.self.invariant.counted file_kind c.args.file (omega arith)) closed c.open_file.ensures.taken c.open_file.ensures.no_other)
 
 pub invariant_of-self-2 : goal.invariant_of-self-2
 invariant_of-self-2 g c =
@@ -36,4 +38,16 @@ returns-clause-too_many g c =
     let closed : holds_file c.args.file t ≡ false = ap (λ (state : ResourceState). holds_file c.args.file (owners_of state)) c.self.view_is ∙ c.requires.closed in
     subst (λ (state : ResourceState). (Ok (tt {0}) ≡ Err TooMany) ↔ (4096 ≤ length (files_held (owners_of state)))) c.self.view_is
     (subst (λ (r : Result (Unit {0}) FileError). (r ≡ Err TooMany) ↔ (4096 ≤ length (files_held t))) c.in_default.is
-    (full c.self.inside.tables.files t c.args.file c.open_file.result c.laws.ensures.sound (λ key. c.self.invariant.counted file_kind key) closed c.open_file.ensures.too_many))
+    (full c.self.inside.tables.files t c.args.file c.open_file.result c.laws.ensures.sound (λ key. c.self.invariant.counted file_kind key (omega arith)) closed c.open_file.ensures.too_many))
+
+pub returns-clause-balances : goal.returns-clause-balances
+returns-clause-balances g c =
+    λ commons. balances_taken c.self.inside.owners c.self.inside.tables _ _ commons c.args.owner.number (record { kind = file_kind; key = c.args.file; serial = c.self.inside.owners.next_serial }) c.self.invariant
+    (subst (λ (t : ResourceState). 1 ≤ spare_of c.args.owner.number t) (sym c.self.view_is) c.requires.spare)
+    (sym (ap owners_of c.self.view_is)) (omega arith) (λ kinds. record { kind = inl (record { from = omega arith; to = omega arith }); buffer = λ e. absurd (omega (arith, e)) }) c.remember.ensures.owners
+    (locks_stay (state_of c.self.inside.owners c.self.inside.tables.files c.self.inside.locks) _ _ commons.locks c.self.view_is refl)
+
+pub returns-in-Err-clause-balances : goal.returns-in-Err-clause-balances
+returns-in-Err-clause-balances g c =
+    λ commons. balances_same _ _ commons (ap owners_of c.self.view_is)
+    (locks_stay (state_of c.self.inside.owners c.self.inside.tables.files c.self.inside.locks) _ _ commons.locks c.self.view_is refl)

@@ -1,52 +1,58 @@
-use Rattle.std.proofs.Common.{List, refl, subst}
-use Rattle.pgs_step.specs.declared.events.What.{What}
-use Rattle.session_rules.specs.Releases.{phase_released}
-use Rattle.session_owners.specs.ResourceState.{ResourceState}
-use Rattle.session_owners.specs.Fitting.{Acted}
-use Rattle.session_owners.proofs.Acts.{acted_phase}
+use Rattle.std.proofs.Common.{List, ap, refl, subst, sym}
 use Rattle.std.specs.Prelude.{All}
+use Rattle.pgs_step.specs.declared.events.What.{What}
 use Rattle.pgs_step.specs.declared.ids.Item.{Item}
+use Rattle.owner_kinds.specs.KindShelf.{table_of}
 use Rattle.owner_kinds.specs.KindTable.{IsKind}
 use Rattle.owner_core.specs.Owners.{owners_of}
 use Rattle.owner_core.proofs.Swept.{all_below}
-use Rattle.session_owners.specs.Tables.{built_in_kinds}
-use Rattle.session_owners.proofs.Left.{kinds_known}
+use Rattle.session_rules.specs.Releases.{phase_released}
+use Rattle.session_rules.proofs.Standings.{items_known}
+use Rattle.session_owners.specs.Commons.{CommonState}
+use Rattle.session_owners.specs.Fitting.{Acted}
+use Rattle.session_owners.specs.ResourceState as state
+use Rattle.session_owners.specs.ResourceState.{ResourceState}
+use Rattle.session_owners.specs.Tables.{lending_of}
+use Rattle.session_owners.proofs.Acts.{acted_phase, state_of}
+use Rattle.session_owners.proofs.Balances.{balances_released, known_items, locks_moved, served, serves_still}
 use Rattle.session_owners.proofs.Kept.{asked_counts, counted_released}
 use Rattle.session_owners.proofs.resources.Resources.release_phase.Goals as goal
 
 pub release-requires-clause-kinds : goal.release-requires-clause-kinds
 release-requires-clause-kinds g c =
-    all_below (λ o. All (λ (item : Item). IsKind built_in_kinds item.kind) o.items) c.args.owner.number (owners_of c.self.inside.owners)
-    (kinds_known (owners_of c.self.inside.owners) c.self.invariant.items)
+    all_below (λ o. All (λ (item : Item). IsKind (table_of c.commons.inside.kinds) item.kind) o.items) c.args.owner.number (owners_of c.self.inside.owners)
+    (items_known (table_of c.commons.inside.kinds) (owners_of c.self.inside.owners)
+    (known_items c.self.inside.owners c.args.self.now c.args.commons.now c.commons.inside.kinds (sym (ap state.owners_of c.self.view_is)) (sym (ap (λ (z : CommonState). z.kinds) c.commons.view_is)) c.requires.serves))
 
 pub release-requires-clause-counted : goal.release-requires-clause-counted
-release-requires-clause-counted g c = asked_counts c.self.inside.owners c.self.inside.tables c.args.owner.number c.self.invariant
+release-requires-clause-counted g c =
+    asked_counts c.self.inside.owners (lending_of c.self.inside.tables c.commons.inside.kinds c.self.inside.locks.locks) c.args.owner.number c.self.invariant
+    (served c.self.inside.owners c.args.self.now c.args.commons.now c.commons.inside.kinds (sym (ap state.owners_of c.self.view_is)) (sym (ap (λ (z : CommonState). z.kinds) c.commons.view_is)) c.requires.serves)
 
 pub invariant_of-self : goal.invariant_of-self
 invariant_of-self g c =
-    counted_released c.self.inside.owners _ c.self.inside.tables _ c.args.owner.number c.args.phase c.self.invariant
-    c.release.ensures.owners c.release.ensures.next_owner c.release.ensures.next_serial c.release.ensures.fit c.release.ensures.steps.1.fewer c.release.ensures.counted
+    counted_released (table_of c.commons.inside.kinds) c.self.inside.owners _ (lending_of c.self.inside.tables c.commons.inside.kinds c.self.inside.locks.locks) (lending_of c.release.new.table.tables.now c.release.new.table.kinds.now c.release.new.table.locks.now.locks) c.args.owner.number c.args.phase c.self.invariant
+    c.release.ensures.owners c.release.ensures.next_owner c.release.ensures.next_serial c.release.ensures.fit.0 c.release.ensures.steps.1.5.fewer c.release.ensures.counted
 
 pub returns-clause-acted : goal.returns-clause-acted
 returns-clause-acted g c =
     let done = c.release.ensures.steps in
-    let was : ResourceState = record {
-      rooms = c.self.inside.owners.rooms;
-      places = c.self.inside.owners.places;
-      next_owner = c.self.inside.owners.next_owner;
-      next_serial = c.self.inside.owners.next_serial;
-      recent = c.self.inside.tables.files.recent;
-      descriptors = c.self.inside.tables.files.descriptors;
-    } in
-    let now : ResourceState = record {
-      rooms = c.release.new.self.rooms;
-      places = c.release.new.self.places;
-      next_owner = c.release.new.self.next_owner;
-      next_serial = c.release.new.self.next_serial;
-      recent = c.release.new.table.files.recent;
-      descriptors = c.release.new.table.files.descriptors;
-    } in
+    let was : ResourceState = state_of c.self.inside.owners c.self.inside.tables.files c.self.inside.locks in
+    let now : ResourceState = state_of c.release.new.self c.release.new.table.tables.now.files c.release.new.table.locks.now in
+    let before : CommonState = record { kinds = c.commons.inside.kinds; locks = c.commons.inside.locks } in
+    let behind : CommonState = record { kinds = c.release.new.table.kinds.now; locks = c.release.new.table.shared.now } in
     let says : List What → Type 0 = λ (events : List What). g.E.Emit.emits c.args.out.now events c.release.new.out in
-    subst (λ (a : ResourceState). Acted (phase_released c.args.commit c.args.top c.args.owner.number c.args.phase) a now says) c.self.view_is
-    (acted_phase was now c.self.inside.tables c.release.new.table refl refl done.1.descriptors c.args.commit c.args.top c.args.owner.number c.args.phase done.0 says
-    c.release.ensures.owners c.release.ensures.next_owner c.release.ensures.next_serial done.1 done.2)
+    subst (λ (a : ResourceState). Acted (phase_released c.args.commit c.args.top c.args.owner.number c.args.phase) a now c.args.commons.now behind says) c.self.view_is
+    (subst (λ (z : CommonState). Acted (phase_released c.args.commit c.args.top c.args.owner.number c.args.phase) was now z behind says) c.commons.view_is
+    (acted_phase was now before behind (lending_of c.self.inside.tables c.commons.inside.kinds c.self.inside.locks.locks) (lending_of c.release.new.table.tables.now c.release.new.table.kinds.now c.release.new.table.locks.now.locks) refl refl refl refl done.1.5.descriptors refl refl done.1.4
+    c.args.commit c.args.top c.args.owner.number c.args.phase done.0 says c.release.ensures.owners c.release.ensures.next_owner c.release.ensures.next_serial done.1.5 done.2))
+
+pub returns-clause-balances : goal.returns-clause-balances
+returns-clause-balances g c =
+    balances_released c.self.inside.owners _ _ _ _ (lending_of c.self.inside.tables c.commons.inside.kinds c.self.inside.locks.locks) (lending_of c.release.new.table.tables.now c.release.new.table.kinds.now c.release.new.table.locks.now.locks) c.args.owner.number c.args.phase
+    (sym (ap state.owners_of c.self.view_is)) (sym (ap (λ (z : CommonState). z.kinds) c.commons.view_is)) refl
+    c.release.ensures.owners c.release.ensures.kinds c.release.ensures.steps.1.5.limits c.release.ensures.counted
+    (locks_moved (state_of c.self.inside.owners c.self.inside.tables.files c.self.inside.locks) _ _ (record { kinds = c.commons.inside.kinds; locks = c.commons.inside.locks }) _ _ c.self.view_is c.commons.view_is c.release.ensures.steps.1.4)
+
+pub returns-clause-serves : goal.returns-clause-serves
+returns-clause-serves g c = serves_still _ _ _ _ c.requires.serves (returns-clause-balances g c)

@@ -1,0 +1,18 @@
+use Rattle.std.proofs.Common.{[], refl}
+use Rattle.session_owners.specs.TableLaws.{LocksBalance-nothing}
+use Rattle.session_owners.proofs.TableSteps.{does_leave}
+use Rattle.session_owners.proofs.lent.LentRelease.give_back.Goals as goal
+
+pub returns-then-item-ge-FIRST_EXTENSION-clause-done :
+    goal.returns-then-item-ge-FIRST_EXTENSION-clause-done
+returns-then-item-ge-FIRST_EXTENSION-clause-done g c = (
+  [],
+  (refl, refl, refl, refl, LocksBalance-nothing c.args.self.now.locks.now c.args.self.now.shared.now, does_leave c.args.self.now.tables.now c.args.self.now.kinds.now c.close.new.self c.args.self.now.locks.now.locks c.args.item c.if-item-ge-FIRST_EXTENSION.true c.close.ensures.after),
+  g.met.E.Emit.emits_none c.args.out.now,
+)
+
+pub returns-else-item-ge-FIRST_EXTENSION-clause-done :
+    goal.returns-else-item-ge-FIRST_EXTENSION-clause-done
+returns-else-item-ge-FIRST_EXTENSION-clause-done g c =
+    let done = c.give_back.ensures.done c.args.self.now.kinds.now c.args.self.now.locks.now.locks in
+    (done.0, (refl, refl, refl, refl, LocksBalance-nothing c.args.self.now.locks.now c.args.self.now.shared.now, done.1), done.2)
