@@ -15,6 +15,8 @@ use Rattle.session_rules.specs.World.{Scene}
 use Rattle.session_rules.specs.Acts.{Ended, context_gone, in_order, switched}
 use Rattle.session_rules.specs.Standing.{Stands}
 use Rattle.session_rules.proofs.ContextsKept.{nothing_left}
+use Rattle.session_owners.specs.Commons.{CommonState}
+use Rattle.session_owners.proofs.Balances.{balances_more}
 use Rattle.session_store.specs.State.{StoreState, scene_of, session_of}
 use Rattle.session_store.specs.Placed.{IsPlaced, LevelLies}
 use Rattle.session_store.specs.Calls.{Acted, IsSilent, Keeps, StandsIn}
@@ -24,23 +26,24 @@ use Rattle.session_store.proofs.Sums.{held_is}
 use Rattle.session_store.proofs.Ending.{keeps_left}
 
 -- one act in silence, and then another
-acted_two : (f h : Scene → Ended) (a b c : StoreState) (s t u : Space) (x y z : ShelfState) (Said : List What → Type 0) → Acted f a b s t x y IsSilent → Acted h b c t u y z Said → Acted (in_order (f ∷ h ∷ [])) a c s u x z Said
-acted_two f h a b c s t u x y z Said first second = record {
+acted_two : (f h : Scene → Ended) (a b c : StoreState) (s t u : Space) (x y z : ShelfState) (commons : CommonState) (Said : List What → Type 0) → Acted f a b s t x y commons commons IsSilent → Acted h b c t u y z commons commons Said → Acted (in_order (f ∷ h ∷ [])) a c s u x z commons commons Said
+acted_two f h a b c s t u x y z commons Said first second = record {
   leads = λ around. ap (λ (w : Scene). (h w).scene) (first.leads around) ∙ second.leads around;
   says = λ around.
       subst Said
       (sym
-      (ap (λ (es : List What). es ++ ((h (f (scene_of a s x around)).scene).events ++ [])) (first.says around)
-      ∙ append-nil (h (f (scene_of a s x around)).scene).events
+      (ap (λ (es : List What). es ++ ((h (f (scene_of a s x commons around)).scene).events ++ [])) (first.says around)
+      ∙ append-nil (h (f (scene_of a s x commons around)).scene).events
       ∙ ap (λ (w : Scene). (h w).events) (first.leads around)))
       (second.says around);
+  balances = balances_more _ _ _ _ _ _ first.balances second.balances;
 }
 
-module _ (a : StoreState) (s : Space) (x : ShelfState) (top : CtxId) (number : top.number ≡ 1) (stands : StandsIn a s x) where
+module _ (a : StoreState) (s : Space) (x : ShelfState) (commons : CommonState) (top : CtxId) (number : top.number ≡ 1) (stands : StandsIn a s x commons) where
   all_gone : removed top.number (stands_for a.tree s) ≡ Empty
   unfolding session_of
   all_gone =
-      let h : Stands (scene_of a s x nowhere) = stands nowhere in
+      let h : Stands (scene_of a s x commons nowhere) = stands nowhere in
       ap (λ (n : ℕ). removed n (stands_for a.tree s)) number ∙ nothing_left (stands_for a.tree s) a.tree.next h.contexts
 
   pub top_apart : (tree : TreeState) → tree ≡ record a.tree { current = top }
@@ -64,9 +67,9 @@ module _ (a : StoreState) (s : Space) (x : ShelfState) (top : CtxId) (number : t
         let k = keeps_left a top b a.owners a.levels s t keeps did.moves in
         ap (held t) (sym did.moves.account) ∙ k.held ∙ held_is (record { tree = b; owners = a.owners; levels = a.levels }) t ∙ ap total_of left_empty
 
-    pub closed : (Said : List What → Type 0) → Said (gone top.number (stands_for (record a.tree { current = top }) s)).events
-        → Acted (in_order (switched 1 ∷ context_gone 1 ∷ [])) a (record { tree = b; owners = a.owners; levels = a.levels }) s t x y Said
-    closed Said says =
-        subst (λ (n : ℕ). Acted (in_order (switched n ∷ context_gone n ∷ [])) a (record { tree = b; owners = a.owners; levels = a.levels }) s t x y Said) number
-        (acted_two (switched top.number) (context_gone top.number) a (record a { tree = record a.tree { current = top } }) (record { tree = b; owners = a.owners; levels = a.levels }) s s t x x y Said
-        (switch_acted a top s x) (did_acted (gone top.number) (record a { tree = record a.tree { current = top } }) b s t x y Said did says))
+    pub closed : (m : CommonState) (Said : List What → Type 0) → Said (gone top.number (stands_for (record a.tree { current = top }) s)).events
+        → Acted (in_order (switched 1 ∷ context_gone 1 ∷ [])) a (record { tree = b; owners = a.owners; levels = a.levels }) s t x y m m Said
+    closed m Said says =
+        subst (λ (n : ℕ). Acted (in_order (switched n ∷ context_gone n ∷ [])) a (record { tree = b; owners = a.owners; levels = a.levels }) s t x y m m Said) number
+        (acted_two (switched top.number) (context_gone top.number) a (record a { tree = record a.tree { current = top } }) (record { tree = b; owners = a.owners; levels = a.levels }) s s t x x y m Said
+        (switch_acted a top s x m) (did_acted (gone top.number) (record a { tree = record a.tree { current = top } }) b s t x y m Said did says))

@@ -23,6 +23,7 @@ use Rattle.session_rules.specs.Acts.{context_gone, where_so, where_there}
 use Rattle.session_rules.specs.Standing.{Stands}
 use Rattle.session_rules.proofs.EndsStand.{settled}
 use Rattle.session_rules.proofs.Standings.{current_outside, top_owner}
+use Rattle.session_owners.specs.Commons.{CommonState}
 use Rattle.session_store.specs.State.{StoreState, level_state, levels_of, only_empty, scene_of, session_of}
 use Rattle.session_store.specs.Placed.{IsPlaced, LevelLies, Lies}
 use Rattle.session_store.specs.Calls.{Keeps, StandsIn}
@@ -58,13 +59,13 @@ pub alone : (levels outer : List Level) (level : Level) → levels ≡ outer ++ 
 alone levels [] level e one = refl
 alone levels (x ∷ xs) level e one = absurd (omega (arith, one, ap length e, length-append (x ∷ xs) (level ∷ [])))
 
-module _ (a : StoreState) (s : Space) (x : ShelfState) (outer : List Level) (level : Level) (e : a.levels ≡ outer ++ level ∷ []) (stands : StandsIn a s x) where
+module _ (a : StoreState) (s : Space) (x : ShelfState) (commons : CommonState) (outer : List Level) (level : Level) (e : a.levels ≡ outer ++ level ∷ []) (stands : StandsIn a s x commons) where
   -- the owner of the deepest level is a topmost one exactly where that is level 1
   pub owner_top : (b : Bool) → b ≡ (length a.levels == 1) → IfSome level.owner (λ o. (b ≡ true) ↔ (parent_of o.number (owners_of a.owners) ≡ None))
   unfolding session_of
   owner_top b is =
       if_some level.owner (λ id f.
-      let t = top_owner (level_state level) (levels_of outer) (scene_of a s x nowhere) id.number (stands_deep a s x outer level e stands) (ap (option_map (λ (o : OwnerId). o.number)) f) in
+      let t = top_owner (level_state level) (levels_of outer) (scene_of a s x commons nowhere) id.number (stands_deep a s x commons outer level e stands) (ap (option_map (λ (o : OwnerId). o.number)) f) in
       let long : length a.levels ≡ length outer + 1 = ap length e ∙ length-append outer (level ∷ []) in (
         λ y. t.0 (no_levels outer (let one : length a.levels ≡ 1 = eqb-true (length a.levels) 1 (sym is ∙ y) in omega (arith, one, long))),
         λ top. is ∙ eq-eqb (length a.levels) 1 (omega (arith, long, levels_long outer, ap length (t.1 top))),
@@ -76,14 +77,14 @@ module _ (a : StoreState) (s : Space) (x : ShelfState) (outer : List Level) (lev
   gone_apart up is =
       if_some level.context (λ id f.
       subst (λ (n : ℕ). is_within id.number n (stands_for a.tree s) ≡ false) (sym is)
-      (current_outside (level_state level) (levels_of outer) (scene_of a s x nowhere) id.number (stands_deep a s x outer level e stands) (ap (option_map (λ (c : CtxId). c.number)) f)))
+      (current_outside (level_state level) (levels_of outer) (scene_of a s x commons nowhere) id.number (stands_deep a s x commons outer level e stands) (ap (option_map (λ (c : CtxId). c.number)) f)))
 
   -- an aborted level's owner holds nothing
   pub released_nothing : is_aborted (levels_of a.levels) ≡ true → IfSome level.owner (λ o. AllAt HoldsNothing o.number (owners_of a.owners))
   unfolding session_of
   released_nothing aborted =
       let was : level.aborted ≡ true = sym (ap is_aborted (ap levels_of e ∙ levels_are outer level)) ∙ aborted in
-      let h : Stands (settled (level_state level ∷ levels_of outer) (scene_of a s x nowhere)) = stands_deep a s x outer level e stands in
+      let h : Stands (settled (level_state level ∷ levels_of outer) (scene_of a s x commons nowhere)) = stands_deep a s x commons outer level e stands in
       if_some level.owner (λ id f. h.fit.0.released id.number was (ap (option_map (λ (o : OwnerId). o.number)) f))
 
 -- what holds of a context holds of it where it is empty

@@ -19,6 +19,7 @@ use Rattle.subxact_stack.specs.declared.levels.Level.{Level}
 use Rattle.session_rules.specs.World.{Around}
 use Rattle.session_rules.specs.Standing.{AreLevels, Stands}
 use Rattle.session_rules.proofs.ContextsKept.{protected_has}
+use Rattle.session_owners.specs.Commons.{CommonState}
 use Rattle.session_store.specs.State.{StoreState, level_state, scene_of, session_of}
 use Rattle.session_store.specs.Placed.{IsPlaced, LevelLies, Lies}
 use Rattle.session_store.specs.Calls.{ContextsAlone, Keeps, StandsIn}
@@ -56,10 +57,10 @@ abbrev pub nowhere : Around
 nowhere = record { kinds = []; shelf = record { fresh = []; spent = []; out = 0 }; pinned = []; locked = []; space = 0; descriptors = 0 }
 
 -- where the session stands, they are
-pub are_there : (a : StoreState) (s : Space) (x : ShelfState) → StandsIn a s x → AreThere a.tree a.levels
+pub are_there : (a : StoreState) (s : Space) (x : ShelfState) (commons : CommonState) → StandsIn a s x commons → AreThere a.tree a.levels
 unfolding session_of
-are_there a s x stands =
-    let h : Stands (scene_of a s x nowhere) = stands nowhere in
+are_there a s x commons stands =
+    let h : Stands (scene_of a s x commons nowhere) = stands nowhere in
     record {
       current = sym (has_kept a.tree.current.number a.tree s) ∙ h.current;
       levels = all_reverse (IsThere a.tree) a.levels (levels_there a.tree s (owners_of a.owners) (reverse a.levels) h.levels);
@@ -150,12 +151,13 @@ level_live tree table levels n level placed there e =
     some_both level.context (λ id lies here. lies here) lies.context (at_level (IsThere tree) levels n level there.levels e)
 
 -- the store that holds the tree
-pub alone_on : (a : StoreState) (b : TreeState) (s t : Space) → Keeps a s → Goes a.tree b s t → ContextsAlone a (record a { tree = b }) s t
+pub alone_on : (a : StoreState) (b : TreeState) (s t : Space) (commons : CommonState) → Keeps a s → Goes a.tree b s t → ContextsAlone a (record a { tree = b }) s t commons commons
 unfolding session_of
-alone_on a b s t k goes = record {
+alone_on a b s t commons k goes = record {
   keeps = keeps_on a b s t k goes.moves;
   moves = goes.moves;
   owners = refl;
+  commons = refl;
   levels = refl;
   stays = λ id live was now. goes.stays id.number (sym (has_kept id.number a.tree s) ∙ was) (sym (has_kept id.number b t) ∙ now) ∙ live;
 }
@@ -173,11 +175,12 @@ moves_switch a id s agrees = record {
   others = λ account differ. refl;
 }
 
-pub switch_alone : (a : StoreState) (id : CtxId) (s : Space) → Keeps a s → ContextsAlone a (record a { tree = record a.tree { current = id } }) s s
-switch_alone a id s k = record {
+pub switch_alone : (a : StoreState) (id : CtxId) (s : Space) (commons : CommonState) → Keeps a s → ContextsAlone a (record a { tree = record a.tree { current = id } }) s s commons commons
+switch_alone a id s commons k = record {
   keeps = keeps_on a (record a.tree { current = id }) s s k (moves_switch a.tree id s k.agrees);
   moves = moves_switch a.tree id s k.agrees;
   owners = refl;
+  commons = refl;
   levels = refl;
   stays = λ other live was now. live;
 }

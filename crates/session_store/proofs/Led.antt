@@ -16,19 +16,21 @@ use Rattle.context_tree.specs.Calls.{Did, DidNothing}
 use Rattle.context_tree.specs.State.{TreeState, SameRegions, StaysPut, left_of, stands_for}
 use Rattle.context_tree.proofs.Adding.{stands_still}
 use Rattle.session_owners.specs.ResourceState.{owners_of}
+use Rattle.session_owners.specs.Commons.{CommonState, seen_by}
 use Rattle.session_rules.specs.State.{first_of}
 use Rattle.session_rules.specs.World.{Around, Scene}
 use Rattle.session_rules.specs.Acts.{of_contexts, switched, where_there}
 use Rattle.session_rules.specs.Making.{context_made}
 use Rattle.session_rules.specs.Parts.{context_moved, contexts_become}
 use Rattle.session_rules.specs.Taking.{chunk_resized, hook_waits, memory_taken}
+use Rattle.session_owners.proofs.Balances.{balances_none}
 use Rattle.session_store.specs.State.{StoreState, left_in, levels_of, scene_of, session_of}
 use Rattle.session_store.specs.Calls.{Acted, IsSilent, Keeps, Refused}
 use Rattle.session_store.proofs.Sums.{left_is}
 
 -- a scene, by what calls on contexts change
-abbrev pub scene_by : StoreState → Around → Contexts → ℕ → ℕ → ShelfState → ℕ → Scene
-scene_by a around contexts current next x limit = record {
+abbrev pub scene_by : StoreState → Around → Contexts → ℕ → ℕ → ShelfState → CommonState → ℕ → Scene
+scene_by a around contexts current next x commons limit = record {
   session = record {
     contexts = contexts;
     current = current;
@@ -36,125 +38,133 @@ scene_by a around contexts current next x limit = record {
     owners = owners_of a.owners;
     next_owner = a.owners.next_owner;
     next_serial = a.owners.next_serial;
-    locks = [];
+    locks = a.owners.locks;
     levels = levels_of a.levels;
     portals = [];
     snapshots = [];
     plans = [];
     recent = a.owners.recent;
   };
-  around = record around { kinds = []; shelf = x; space = limit; descriptors = a.owners.descriptors };
+  around = record (seen_by a.owners commons around) { shelf = x; space = limit; descriptors = a.owners.descriptors };
 }
 
-pub same_scene : (a : StoreState) (around : Around) (c d : Contexts) (i j m n : ℕ) (x y : ShelfState) (k l : ℕ) → c ≡ d → i ≡ j → m ≡ n → x ≡ y → k ≡ l → scene_by a around c i m x k ≡ scene_by a around d j n y l
-same_scene a around c d i j m n x y k l p q r u v =
-    ap (λ (z : Contexts). scene_by a around z i m x k) p
-    ∙ ap (λ (z : ℕ). scene_by a around d z m x k) q
-    ∙ ap (λ (z : ℕ). scene_by a around d j z x k) r
-    ∙ ap (λ (z : ShelfState). scene_by a around d j n z k) u
-    ∙ ap (λ (z : ℕ). scene_by a around d j n y z) v
+pub same_scene : (a : StoreState) (around : Around) (c d : Contexts) (i j m n : ℕ) (x y : ShelfState) (commons : CommonState) (k l : ℕ) → c ≡ d → i ≡ j → m ≡ n → x ≡ y → k ≡ l → scene_by a around c i m x commons k ≡ scene_by a around d j n y commons l
+same_scene a around c d i j m n x y commons k l p q r u v =
+    ap (λ (z : Contexts). scene_by a around z i m x commons k) p
+    ∙ ap (λ (z : ℕ). scene_by a around d z m x commons k) q
+    ∙ ap (λ (z : ℕ). scene_by a around d j z x commons k) r
+    ∙ ap (λ (z : ShelfState). scene_by a around d j n z commons k) u
+    ∙ ap (λ (z : ℕ). scene_by a around d j n y commons z) v
 
 -- contexts went or were reset
-pub did_acted : (end : Contexts → ends.Ended) (a : StoreState) (b : TreeState) (s t : Space) (x y : ShelfState) (Said : List What → Type 0) → Did (end (stands_for a.tree s)) a.tree b s t x y → Said (end (stands_for a.tree s)).events
-    → Acted (λ scene. of_contexts (end scene.session.contexts) scene) a (record a { tree = b }) s t x y Said
+pub did_acted : (end : Contexts → ends.Ended) (a : StoreState) (b : TreeState) (s t : Space) (x y : ShelfState) (commons : CommonState) (Said : List What → Type 0) → Did (end (stands_for a.tree s)) a.tree b s t x y → Said (end (stands_for a.tree s)).events
+    → Acted (λ scene. of_contexts (end scene.session.contexts) scene) a (record a { tree = b }) s t x y commons commons Said
 unfolding session_of
-did_acted end a b s t x y Said did says = record {
+did_acted end a b s t x y commons Said did says = record {
   leads = λ around.
-      same_scene a around (end (stands_for a.tree s)).contexts (stands_for b t) a.tree.current.number b.current.number a.tree.next b.next (handed_in (end (stands_for a.tree s)).hooks x) y s.limit t.limit
+      same_scene a around (end (stands_for a.tree s)).contexts (stands_for b t) a.tree.current.number b.current.number a.tree.next b.next (handed_in (end (stands_for a.tree s)).hooks x) y commons s.limit t.limit
       (sym did.contexts) (ap (λ (id : CtxId). id.number) (sym did.current)) (sym did.next) (sym did.shelf) (sym did.moves.limit);
   says = λ around. says;
+  balances = balances_none a.owners commons;
 }
 
 -- the contexts change alone
 module _ (a : StoreState) (b : TreeState) (s t : Space) (limit : t.limit ≡ s.limit) where
-  become : (u : Contexts) (x : ShelfState) (around : Around) → stands_for b t ≡ u → StaysPut a.tree b
-      → scene_by a around u a.tree.current.number a.tree.next x s.limit ≡ scene_by a around (stands_for b t) b.current.number b.next x t.limit
-  become u x around is put =
-      same_scene a around u (stands_for b t) a.tree.current.number b.current.number a.tree.next b.next x x s.limit t.limit
+  become : (u : Contexts) (x : ShelfState) (commons : CommonState) (around : Around) → stands_for b t ≡ u → StaysPut a.tree b
+      → scene_by a around u a.tree.current.number a.tree.next x commons s.limit ≡ scene_by a around (stands_for b t) b.current.number b.next x commons t.limit
+  become u x commons around is put =
+      same_scene a around u (stands_for b t) a.tree.current.number b.current.number a.tree.next b.next x x commons s.limit t.limit
       (sym is) (ap (λ (id : CtxId). id.number) (sym put.current)) (sym put.next) refl (sym limit)
 
   -- a chunk is taken
   pub taken_acted : (chunk : Option (List ℕ)) (size : ℕ) (zeroed : Bool) (n : ℕ) → Keeps a s → stands_for b t ≡ allocated n (left_of a.tree s) chunk size (if zeroed then zeros size else []) (stands_for a.tree s) → StaysPut a.tree b
-      → (x : ShelfState) → Acted (memory_taken chunk size zeroed n) a (record a { tree = b }) s t x x IsSilent
+      → (x : ShelfState) (commons : CommonState) → Acted (memory_taken chunk size zeroed n) a (record a { tree = b }) s t x x commons commons IsSilent
   unfolding session_of
-  taken_acted chunk size zeroed n keeps is put x = record {
+  taken_acted chunk size zeroed n keeps is put x commons = record {
     leads = λ around.
-        become (allocated n (left_in a s) chunk size (if zeroed then zeros size else []) (stands_for a.tree s)) x around
+        become (allocated n (left_in a s) chunk size (if zeroed then zeros size else []) (stands_for a.tree s)) x commons around
         (is ∙ ap (λ (left : ℕ). allocated n left chunk size (if zeroed then zeros size else []) (stands_for a.tree s)) (left_is a s keeps)) put;
     says = λ around. refl;
+    balances = balances_none a.owners commons;
   }
 
   -- a chunk gets another size
   pub resized_acted : (chunk : List ℕ) (size : ℕ) → Keeps a s → stands_for b t ≡ resized (held s a.tree.account) s.limit chunk size (stands_for a.tree s) → StaysPut a.tree b
-      → (x : ShelfState) → Acted (chunk_resized chunk size) a (record a { tree = b }) s t x x IsSilent
+      → (x : ShelfState) (commons : CommonState) → Acted (chunk_resized chunk size) a (record a { tree = b }) s t x x commons commons IsSilent
   unfolding session_of
-  resized_acted chunk size keeps is put x = record {
+  resized_acted chunk size keeps is put x commons = record {
     leads = λ around.
-        become _ x around (is ∙ ap (λ (held : ℕ). resized held s.limit chunk size (stands_for a.tree s)) keeps.held) put;
+        become _ x commons around (is ∙ ap (λ (held : ℕ). resized held s.limit chunk size (stands_for a.tree s)) keeps.held) put;
     says = λ around. refl;
+    balances = balances_none a.owners commons;
   }
 
   -- some change
-  pub change_acted : (change : Contexts → Contexts) → stands_for b t ≡ change (stands_for a.tree s) → StaysPut a.tree b → (x : ShelfState) → Acted (contexts_become change) a (record a { tree = b }) s t x x IsSilent
+  pub change_acted : (change : Contexts → Contexts) → stands_for b t ≡ change (stands_for a.tree s) → StaysPut a.tree b → (x : ShelfState) (commons : CommonState) → Acted (contexts_become change) a (record a { tree = b }) s t x x commons commons IsSilent
   unfolding session_of
-  change_acted change is put x = record { leads = λ around. become (change (stands_for a.tree s)) x around is put; says = λ around. refl }
+  change_acted change is put x commons = record { leads = λ around. become (change (stands_for a.tree s)) x commons around is put; says = λ around. refl; balances = balances_none a.owners commons }
 
   -- a context is made
   pub made_acted : (parent : ℕ) (name : List ℕ) (kind : CtxKind) (Said : List What → Type 0) → stands_for b t ≡ created parent a.tree.next name kind false (stands_for a.tree s) → b.current ≡ a.tree.current → b.next ≡ a.tree.next + 1
-      → Said (created_events parent a.tree.next name) → (x : ShelfState) → Acted (context_made parent name false kind) a (record a { tree = b }) s t x x Said
+      → Said (created_events parent a.tree.next name) → (x : ShelfState) (commons : CommonState) → Acted (context_made parent name false kind) a (record a { tree = b }) s t x x commons commons Said
   unfolding session_of
-  made_acted parent name kind Said is current next says x = record {
+  made_acted parent name kind Said is current next says x commons = record {
     leads = λ around.
-        same_scene a around (created parent a.tree.next name kind false (stands_for a.tree s)) (stands_for b t) a.tree.current.number b.current.number (a.tree.next + 1) b.next x x s.limit t.limit
+        same_scene a around (created parent a.tree.next name kind false (stands_for a.tree s)) (stands_for b t) a.tree.current.number b.current.number (a.tree.next + 1) b.next x x commons s.limit t.limit
         (sym is) (ap (λ (id : CtxId). id.number) (sym current)) (sym next) refl (sym limit);
     says = λ around. says;
+    balances = balances_none a.owners commons;
   }
 
   -- a context moves
   pub moved_acted : (n parent : ℕ) (Said : List What → Type 0) → stands_for b t ≡ reparented n parent (stands_for a.tree s) → b.current ≡ a.tree.current → b.next ≡ a.tree.next → Said (reparented_events n parent (stands_for a.tree s))
-      → (x : ShelfState) → Acted (context_moved n parent) a (record a { tree = b }) s t x x Said
+      → (x : ShelfState) (commons : CommonState) → Acted (context_moved n parent) a (record a { tree = b }) s t x x commons commons Said
   unfolding session_of
-  moved_acted n parent Said is current next says x = record {
+  moved_acted n parent Said is current next says x commons = record {
     leads = λ around.
-        same_scene a around (reparented n parent (stands_for a.tree s)) (stands_for b t) a.tree.current.number b.current.number a.tree.next b.next x x s.limit t.limit
+        same_scene a around (reparented n parent (stands_for a.tree s)) (stands_for b t) a.tree.current.number b.current.number a.tree.next b.next x x commons s.limit t.limit
         (sym is) (ap (λ (id : CtxId). id.number) (sym current)) (sym next) refl (sym limit);
     says = λ around. says;
+    balances = balances_none a.owners commons;
   }
 
   -- a hook waits
-  pub waits_acted : (n : ℕ) (hook : Hook) (x y : ShelfState) (Said : List What → Type 0) → first_of x.fresh ≡ Some hook → y ≡ taken x → stands_for b t ≡ registered n hook (stands_for a.tree s) → StaysPut a.tree b
-      → Said (what.Hook hook.word n ∷ []) → Acted (λ scene. where_there (first_of scene.around.shelf.fresh) (hook_waits n) scene) a (record a { tree = b }) s t x y Said
+  pub waits_acted : (n : ℕ) (hook : Hook) (x y : ShelfState) (commons : CommonState) (Said : List What → Type 0) → first_of x.fresh ≡ Some hook → y ≡ taken x → stands_for b t ≡ registered n hook (stands_for a.tree s) → StaysPut a.tree b
+      → Said (what.Hook hook.word n ∷ []) → Acted (λ scene. where_there (first_of scene.around.shelf.fresh) (hook_waits n) scene) a (record a { tree = b }) s t x y commons commons Said
   unfolding session_of
-  waits_acted n hook x y Said first after is put says = record {
+  waits_acted n hook x y commons Said first after is put says = record {
     leads = λ around.
-        ap (λ (o : Option Hook). (where_there o (hook_waits n) (scene_of a s x around)).scene) first
-        ∙ same_scene a around (registered n hook (stands_for a.tree s)) (stands_for b t) a.tree.current.number b.current.number a.tree.next b.next (taken x) y s.limit t.limit
+        ap (λ (o : Option Hook). (where_there o (hook_waits n) (scene_of a s x commons around)).scene) first
+        ∙ same_scene a around (registered n hook (stands_for a.tree s)) (stands_for b t) a.tree.current.number b.current.number a.tree.next b.next (taken x) y commons s.limit t.limit
         (sym is) (ap (λ (id : CtxId). id.number) (sym put.current)) (sym put.next) (sym after) (sym limit);
-    says = λ around. subst (λ (o : Option Hook). Said (where_there o (hook_waits n) (scene_of a s x around)).events) (sym first) says;
+    says = λ around. subst (λ (o : Option Hook). Said (where_there o (hook_waits n) (scene_of a s x commons around)).events) (sym first) says;
+    balances = balances_none a.owners commons;
   }
 
 -- the current context is another one
-pub switch_acted : (a : StoreState) (id : CtxId) (s : Space) (x : ShelfState) → Acted (switched id.number) a (record a { tree = record a.tree { current = id } }) s s x x IsSilent
+pub switch_acted : (a : StoreState) (id : CtxId) (s : Space) (x : ShelfState) (commons : CommonState) → Acted (switched id.number) a (record a { tree = record a.tree { current = id } }) s s x x commons commons IsSilent
 unfolding session_of stands_for
-switch_acted a id s x = record { leads = λ around. refl; says = λ around. refl }
+switch_acted a id s x commons = record { leads = λ around. refl; says = λ around. refl; balances = balances_none a.owners commons }
 
 -- a call was refused
-pub refused_same : (a : StoreState) (b : TreeState) (s t : Space) (x y : ShelfState) → b ≡ a.tree → t ≡ s → y ≡ x → Refused a (record a { tree = b }) s t x y
-refused_same a b s t x y same still shelf = record {
+pub refused_same : (a : StoreState) (b : TreeState) (s t : Space) (x y : ShelfState) (commons : CommonState) → b ≡ a.tree → t ≡ s → y ≡ x → Refused a (record a { tree = b }) s t x y commons commons
+refused_same a b s t x y commons same still shelf = record {
   store = ap (λ (z : TreeState). record a { tree = z }) same;
   shelf = shelf;
+  commons = refl;
   session = ap (λ (z : TreeState). session_of (record a { tree = z }) t) same ∙ ap (session_of a) still;
   limit = ap (λ (z : Space). z.limit) still;
 }
 
-pub refused_nothing : (a : StoreState) (b : TreeState) (s t : Space) (x y : ShelfState) → DidNothing a.tree b s t x y → Refused a (record a { tree = b }) s t x y
-refused_nothing a b s t x y did = refused_same a b s t x y did.tree did.space did.shelf
+pub refused_nothing : (a : StoreState) (b : TreeState) (s t : Space) (x y : ShelfState) (commons : CommonState) → DidNothing a.tree b s t x y → Refused a (record a { tree = b }) s t x y commons commons
+refused_nothing a b s t x y commons did = refused_same a b s t x y commons did.tree did.space did.shelf
 
-pub refused_regions : (a : StoreState) (b : TreeState) (s t : Space) (x : ShelfState) → b ≡ a.tree → SameRegions s t → Refused a (record a { tree = b }) s t x x
+pub refused_regions : (a : StoreState) (b : TreeState) (s t : Space) (x : ShelfState) (commons : CommonState) → b ≡ a.tree → SameRegions s t → Refused a (record a { tree = b }) s t x x commons commons
 unfolding session_of
-refused_regions a b s t x same regions = record {
+refused_regions a b s t x commons same regions = record {
   store = ap (λ (z : TreeState). record a { tree = z }) same;
   shelf = refl;
+  commons = refl;
   session = ap (λ (z : TreeState). session_of (record a { tree = z }) t) same ∙ ap (λ (z : Contexts). record (session_of a s) { contexts = z }) (stands_still s t regions a.tree);
   limit = regions.limit;
 }

@@ -29,6 +29,8 @@ use Rattle.session_rules.proofs.EndsStand.{settled}
 use Rattle.session_rules.proofs.Standings.{own_there}
 use Rattle.session_owners.specs.Fitting as fitting
 use Rattle.session_owners.specs.Fitting.{OwnersFit, with_owners}
+use Rattle.session_owners.specs.Commons.{Balances, CommonState, seen_by}
+use Rattle.session_owners.proofs.Balances.{balances_none}
 use Rattle.session_store.specs.State.{StoreState, level_state, levels_of, scene_of, session_of}
 use Rattle.session_store.specs.Placed.{IsPlaced, LevelLies, Lies}
 use Rattle.session_store.specs.Calls.{Acted, IsSilent, Keeps, StandsIn}
@@ -50,20 +52,24 @@ keeps_current a id o ls s k = record {
 }
 
 -- the scene with other levels
-abbrev pub leveled : StoreState → List LevelState → Space → ShelfState → Around → Scene
-leveled a ls s x around = record { session = record (session_of a s) { levels = ls }; around = record around { kinds = []; shelf = x; space = s.limit; descriptors = a.owners.descriptors } }
+abbrev pub leveled : StoreState → List LevelState → Space → ShelfState → CommonState → Around → Scene
+leveled a ls s x commons around = record {
+  session = record (session_of a s) { levels = ls };
+  around = record (seen_by a.owners commons around) { shelf = x; space = s.limit; descriptors = a.owners.descriptors };
+}
 
-pub scene_leveled : (a : StoreState) (ls : List LevelState) (s : Space) (x : ShelfState) (around : Around) → levels_of a.levels ≡ ls → scene_of a s x around ≡ leveled a ls s x around
+pub scene_leveled : (a : StoreState) (ls : List LevelState) (s : Space) (x : ShelfState) (commons : CommonState) (around : Around) → levels_of a.levels ≡ ls → scene_of a s x commons around ≡ leveled a ls s x commons around
 unfolding session_of
-scene_leveled a ls s x around e = ap (λ (z : List LevelState). leveled a z s x around) e
+scene_leveled a ls s x commons around e = ap (λ (z : List LevelState). leveled a z s x commons around) e
 
 -- a level begins
-pub begun_acted : (a : StoreState) (name : Option (List ℕ)) (implicit : Bool) (s : Space) (x : ShelfState) (Said : List What → Type 0) → Said (what.BeginLevel (length a.levels + 1) ∷ [])
-    → Acted (level_made name implicit) a (record a { levels = a.levels ++ new_level name implicit ∷ [] }) s s x x Said
+pub begun_acted : (a : StoreState) (name : Option (List ℕ)) (implicit : Bool) (s : Space) (x : ShelfState) (commons : CommonState) (Said : List What → Type 0) → Said (what.BeginLevel (length a.levels + 1) ∷ [])
+    → Acted (level_made name implicit) a (record a { levels = a.levels ++ new_level name implicit ∷ [] }) s s x x commons commons Said
 unfolding session_of
-begun_acted a name implicit s x Said says = record {
-  leads = λ around. ap (λ (ls : List LevelState). leveled a ls s x around) (sym (levels_are a.levels (new_level name implicit)));
+begun_acted a name implicit s x commons Said says = record {
+  leads = λ around. ap (λ (ls : List LevelState). leveled a ls s x commons around) (sym (levels_are a.levels (new_level name implicit)));
   says = λ around. subst (λ (n : ℕ). Said (what.BeginLevel (n + 1) ∷ [])) (sym (levels_long a.levels)) says;
+  balances = balances_none a.owners commons;
 }
 
 pub begun_placed : (tree : TreeState) (table : ResourceState) (levels : List Level) (name : Option (List ℕ)) (implicit : Bool) → IsPlaced tree table levels → IsPlaced tree table (levels ++ new_level name implicit ∷ [])
@@ -73,12 +79,12 @@ begun_placed tree table levels name implicit placed = record {
 }
 
 -- a level stands
-module _ (a : StoreState) (outer : List Level) (s : Space) (x : ShelfState) where
+module _ (a : StoreState) (outer : List Level) (s : Space) (x : ShelfState) (commons : CommonState) where
   stood : (name : Option (List ℕ)) (c : Option CtxId) (o : Option OwnerId) (implicit aborted starting : Bool) (around : Around)
       → let old : Level = record { name = name; context = c; owner = o; implicit = implicit; aborted = aborted; starting = starting } in
-      level_stands (leveled a (level_state old ∷ levels_of outer) s x around)
+      level_stands (leveled a (level_state old ∷ levels_of outer) s x commons around)
       ≡ record {
-        scene = leveled (record a { tree = record a.tree { current = unwrap_or c a.tree.current } }) (level_state (record old { starting = false }) ∷ levels_of outer) s x around;
+        scene = leveled (record a { tree = record a.tree { current = unwrap_or c a.tree.current } }) (level_state (record old { starting = false }) ∷ levels_of outer) s x commons around;
         events = [];
       }
   unfolding session_of stands_for
@@ -86,38 +92,40 @@ module _ (a : StoreState) (outer : List Level) (s : Space) (x : ShelfState) wher
   stood name (Some id) o implicit aborted starting around = refl
 
   pub stood_acted : (level : Level) → a.levels ≡ outer ++ level ∷ []
-      → Acted level_stands a (record a { tree = record a.tree { current = unwrap_or level.context a.tree.current }; levels = outer ++ record level { starting = false } ∷ [] }) s s x x IsSilent
+      → Acted level_stands a (record a { tree = record a.tree { current = unwrap_or level.context a.tree.current }; levels = outer ++ record level { starting = false } ∷ [] }) s s x x commons commons IsSilent
   unfolding session_of
   stood_acted level e = record {
     leads = λ around.
-        ap (λ (z : Scene). (level_stands z).scene) (scene_leveled a (level_state level ∷ levels_of outer) s x around (ap levels_of e ∙ levels_are outer level))
+        ap (λ (z : Scene). (level_stands z).scene) (scene_leveled a (level_state level ∷ levels_of outer) s x commons around (ap levels_of e ∙ levels_are outer level))
         ∙ ap (λ (z : Ended). z.scene) (stood level.name level.context level.owner level.implicit level.aborted level.starting around)
-        ∙ ap (λ (ls : List LevelState). leveled (record a { tree = record a.tree { current = unwrap_or level.context a.tree.current } }) ls s x around) (sym (levels_are outer (record level { starting = false })));
+        ∙ ap (λ (ls : List LevelState). leveled (record a { tree = record a.tree { current = unwrap_or level.context a.tree.current } }) ls s x commons around) (sym (levels_are outer (record level { starting = false })));
     says = λ around.
-        ap (λ (z : Scene). (level_stands z).events) (scene_leveled a (level_state level ∷ levels_of outer) s x around (ap levels_of e ∙ levels_are outer level))
+        ap (λ (z : Scene). (level_stands z).events) (scene_leveled a (level_state level ∷ levels_of outer) s x commons around (ap levels_of e ∙ levels_are outer level))
         ∙ ap (λ (z : Ended). z.events) (stood level.name level.context level.owner level.implicit level.aborted level.starting around);
+    balances = balances_none a.owners commons;
   }
 
 -- the owner of a level is made
-pub owner_acted : (a : StoreState) (outer : List Level) (level : Level) (s : Space) (x : ShelfState) (p : ResourceState) (id : OwnerId) (parent : Option ℕ) (Said : List What → Type 0) → a.levels ≡ outer ++ level ∷ []
-    → parent ≡ owner_of (first_of (levels_of outer)) → id.number ≡ a.owners.next_owner → fitting.Acted (owner_made parent) a.owners p Said
-    → Acted (new_owner_made OfLevel) a (record a { owners = p; levels = outer ++ record level { owner = Some id } ∷ [] }) s s x x Said
+pub owner_acted : (a : StoreState) (outer : List Level) (level : Level) (s : Space) (x : ShelfState) (commons : CommonState) (p : ResourceState) (id : OwnerId) (parent : Option ℕ) (Said : List What → Type 0) → a.levels ≡ outer ++ level ∷ []
+    → parent ≡ owner_of (first_of (levels_of outer)) → id.number ≡ a.owners.next_owner → fitting.Acted (owner_made parent) a.owners p commons commons Said → Balances a.owners p commons commons
+    → Acted (new_owner_made OfLevel) a (record a { owners = p; levels = outer ++ record level { owner = Some id } ∷ [] }) s s x x commons commons Said
 unfolding session_of
-owner_acted a outer level s x p id parent Said e up number made = record {
+owner_acted a outer level s x commons p id parent Said e up number made balances = record {
   leads = λ around.
-      let z : Scene = leveled a (level_state level ∷ levels_of outer) s x around in
-      ap (λ (z : Scene). (new_owner_made OfLevel z).scene) (scene_leveled a (level_state level ∷ levels_of outer) s x around (ap levels_of e ∙ levels_are outer level))
+      let z : Scene = leveled a (level_state level ∷ levels_of outer) s x commons around in
+      ap (λ (z : Scene). (new_owner_made OfLevel z).scene) (scene_leveled a (level_state level ∷ levels_of outer) s x commons around (ap levels_of e ∙ levels_are outer level))
       ∙ ap (λ (o : Option ℕ). let y : Scene = (owner_made o z).scene in record y { session = record y.session { levels = deepest_changed (λ old. record old { owner = Some a.owners.next_owner }) y.session.levels } }) (sym up)
       ∙ ap (λ (y : Scene). record y { session = record y.session { levels = deepest_changed (λ old. record old { owner = Some a.owners.next_owner }) y.session.levels } })
-      (made.leads z (record { owners = refl; next_owner = refl; next_serial = refl; kinds = refl; locks = refl; plans = refl; recent = refl; descriptors = refl }))
-      ∙ ap (λ (n : ℕ). leveled (record a { owners = p }) (record (level_state level) { owner = Some n } ∷ levels_of outer) s x around) (sym number)
-      ∙ ap (λ (ls : List LevelState). leveled (record a { owners = p }) ls s x around) (sym (levels_are outer (record level { owner = Some id })));
+      (made.leads z (record { owners = refl; next_owner = refl; next_serial = refl; kinds = refl; locked = refl; locks = refl; plans = refl; recent = refl; descriptors = refl }))
+      ∙ ap (λ (n : ℕ). leveled (record a { owners = p }) (record (level_state level) { owner = Some n } ∷ levels_of outer) s x commons around) (sym number)
+      ∙ ap (λ (ls : List LevelState). leveled (record a { owners = p }) ls s x commons around) (sym (levels_are outer (record level { owner = Some id })));
   says = λ around.
-      let z : Scene = leveled a (level_state level ∷ levels_of outer) s x around in
-      subst (λ (z : Scene). Said (new_owner_made OfLevel z).events) (sym (scene_leveled a (level_state level ∷ levels_of outer) s x around (ap levels_of e ∙ levels_are outer level)))
+      let z : Scene = leveled a (level_state level ∷ levels_of outer) s x commons around in
+      subst (λ (z : Scene). Said (new_owner_made OfLevel z).events) (sym (scene_leveled a (level_state level ∷ levels_of outer) s x commons around (ap levels_of e ∙ levels_are outer level)))
       (subst (λ (o : Option ℕ). Said ((owner_made o z).events ++ [])) up
       (subst Said (sym (append-nil (owner_made parent z).events))
-      (made.says z (record { owners = refl; next_owner = refl; next_serial = refl; kinds = refl; locks = refl; plans = refl; recent = refl; descriptors = refl }))));
+      (made.says z (record { owners = refl; next_owner = refl; next_serial = refl; kinds = refl; locked = refl; locks = refl; plans = refl; recent = refl; descriptors = refl }))));
+  balances = balances;
 }
 
 -- the owner of a level, once it is made, is there
@@ -131,10 +139,10 @@ owners_there contexts table (level ∷ levels) h =
     (if_some level.owner (λ id e. (h.0.owner id.number (ap (option_map (λ (o : OwnerId). o.number)) e)).there))
     (owners_there contexts table levels h.1)
 
-pub have_owners : (a : StoreState) (s : Space) (x : ShelfState) → StandsIn a s x → All (HasOwner a.owners) a.levels
+pub have_owners : (a : StoreState) (s : Space) (x : ShelfState) (commons : CommonState) → StandsIn a s x commons → All (HasOwner a.owners) a.levels
 unfolding session_of
-have_owners a s x stands =
-    let h : Stands (scene_of a s x nowhere) = stands nowhere in
+have_owners a s x commons stands =
+    let h : Stands (scene_of a s x commons nowhere) = stands nowhere in
     all_reverse (HasOwner a.owners) a.levels (owners_there (stands_for a.tree s) a.owners (reverse a.levels) h.levels)
 
 -- a level's context and owner lie where their ids say
@@ -146,19 +154,19 @@ owner_live tree table level lies there =
     some_both level.owner (λ id l h. l (sym (mapped-has (λ (r : Roomy). r.owner) id.number table.rooms) ∙ h)) lies.owner there
 
 -- the session with its deepest level apart
-pub stands_deep : (a : StoreState) (s : Space) (x : ShelfState) (outer : List Level) (level : Level) → a.levels ≡ outer ++ level ∷ [] → StandsIn a s x
-    → Stands (settled (level_state level ∷ levels_of outer) (scene_of a s x nowhere))
+pub stands_deep : (a : StoreState) (s : Space) (x : ShelfState) (commons : CommonState) (outer : List Level) (level : Level) → a.levels ≡ outer ++ level ∷ [] → StandsIn a s x commons
+    → Stands (settled (level_state level ∷ levels_of outer) (scene_of a s x commons nowhere))
 unfolding session_of
-stands_deep a s x outer level e stands =
-    subst (λ (ls : List LevelState). Stands (settled ls (scene_of a s x nowhere))) (ap levels_of e ∙ levels_are outer level) (stands nowhere)
+stands_deep a s x commons outer level e stands =
+    subst (λ (ls : List LevelState). Stands (settled ls (scene_of a s x commons nowhere))) (ap levels_of e ∙ levels_are outer level) (stands nowhere)
 
-pub top_there : (a : StoreState) (s : Space) (x : ShelfState) → StandsIn a s x → has 1 (stands_for a.tree s) ≡ true
+pub top_there : (a : StoreState) (s : Space) (x : ShelfState) (commons : CommonState) → StandsIn a s x commons → has 1 (stands_for a.tree s) ≡ true
 unfolding session_of
-top_there a s x stands = own_there (scene_of a s x nowhere) (stands nowhere) 1 (let e : 1 ≤ 1 = omega arith in e) (let e : 1 ≤ 5 = omega arith in e)
+top_there a s x commons stands = own_there (scene_of a s x commons nowhere) (stands nowhere) 1 (let e : 1 ≤ 1 = omega arith in e) (let e : 1 ≤ 5 = omega arith in e)
 
-pub abort_there : (a : StoreState) (s : Space) (x : ShelfState) → StandsIn a s x → has 5 (stands_for a.tree s) ≡ true
+pub abort_there : (a : StoreState) (s : Space) (x : ShelfState) (commons : CommonState) → StandsIn a s x commons → has 5 (stands_for a.tree s) ≡ true
 unfolding session_of
-abort_there a s x stands = own_there (scene_of a s x nowhere) (stands nowhere) 5 (let e : 1 ≤ 5 = omega arith in e) (let e : 5 ≤ 5 = omega arith in e)
+abort_there a s x commons stands = own_there (scene_of a s x commons nowhere) (stands nowhere) 5 (let e : 1 ≤ 5 = omega arith in e) (let e : 5 ≤ 5 = omega arith in e)
 
 -- the levels lie once the deepest is another one
 pub deepest_placed : (tree tree' : TreeState) (table table' : ResourceState) (levels outer : List Level) (level new : Level) → IsPlaced tree table levels → levels ≡ outer ++ level ∷ []
@@ -208,12 +216,12 @@ parent_number (Some level) = go level.context
     go (Some n) = refl
 
 -- the owner of the level above
-pub above_live : (a : StoreState) (s : Space) (x : ShelfState) (n : ℕ) (above : Option Level) → IsPlaced a.tree a.owners a.levels → StandsIn a s x → above ≡ level_at a.levels n → IfSome (option_and_then (λ level. level.owner) above) (owners.IsLive a.owners)
-above_live a s x n None placed stands e = tt
-above_live a s x n (Some level) placed stands e =
+pub above_live : (a : StoreState) (s : Space) (x : ShelfState) (commons : CommonState) (n : ℕ) (above : Option Level) → IsPlaced a.tree a.owners a.levels → StandsIn a s x commons → above ≡ level_at a.levels n → IfSome (option_and_then (λ level. level.owner) above) (owners.IsLive a.owners)
+above_live a s x commons n None placed stands e = tt
+above_live a s x commons n (Some level) placed stands e =
     owner_live a.tree a.owners level
     (all_level (LevelLies a.tree a.owners) a.levels n level placed.levels (sym e))
-    (all_level (HasOwner a.owners) a.levels n level (have_owners a s x stands) (sym e))
+    (all_level (HasOwner a.owners) a.levels n level (have_owners a s x commons stands) (sym e))
 
 number_of : (o : Option Level) → option_map (λ (id : OwnerId). id.number) (option_and_then (λ level. level.owner) o) ≡ owner_of (option_map level_state o)
 number_of None = refl
@@ -227,8 +235,8 @@ above_owner a outer level e =
     ∙ ap owner_of (above_is outer level)
 
 -- a scene by what the making of a level's context changes
-abbrev pub scene_made : StoreState → ShelfState → Around → Contexts → ℕ → ℕ → List LevelState → ℕ → Scene
-scene_made a x around contexts current next levels limit = record {
+abbrev pub scene_made : StoreState → ShelfState → CommonState → Around → Contexts → ℕ → ℕ → List LevelState → ℕ → Scene
+scene_made a x commons around contexts current next levels limit = record {
   session = record {
     contexts = contexts;
     current = current;
@@ -236,31 +244,31 @@ scene_made a x around contexts current next levels limit = record {
     owners = owners_of a.owners;
     next_owner = a.owners.next_owner;
     next_serial = a.owners.next_serial;
-    locks = [];
+    locks = a.owners.locks;
     levels = levels;
     portals = [];
     snapshots = [];
     plans = [];
     recent = a.owners.recent;
   };
-  around = record around { kinds = []; shelf = x; space = limit; descriptors = a.owners.descriptors };
+  around = record (seen_by a.owners commons around) { shelf = x; space = limit; descriptors = a.owners.descriptors };
 }
 
-pub made_same : (a : StoreState) (x : ShelfState) (around : Around) (c d : Contexts) (i j m n : ℕ) (ls ks : List LevelState) (k l : ℕ) → c ≡ d → i ≡ j → m ≡ n → ls ≡ ks → k ≡ l → scene_made a x around c i m ls k ≡ scene_made a x around d j n ks l
-made_same a x around c d i j m n ls ks k l p q r u v =
-    ap (λ (z : Contexts). scene_made a x around z i m ls k) p
-    ∙ ap (λ (z : ℕ). scene_made a x around d z m ls k) q
-    ∙ ap (λ (z : ℕ). scene_made a x around d j z ls k) r
-    ∙ ap (λ (z : List LevelState). scene_made a x around d j n z k) u
-    ∙ ap (λ (z : ℕ). scene_made a x around d j n ks z) v
+pub made_same : (a : StoreState) (x : ShelfState) (commons : CommonState) (around : Around) (c d : Contexts) (i j m n : ℕ) (ls ks : List LevelState) (k l : ℕ) → c ≡ d → i ≡ j → m ≡ n → ls ≡ ks → k ≡ l → scene_made a x commons around c i m ls k ≡ scene_made a x commons around d j n ks l
+made_same a x commons around c d i j m n ls ks k l p q r u v =
+    ap (λ (z : Contexts). scene_made a x commons around z i m ls k) p
+    ∙ ap (λ (z : ℕ). scene_made a x commons around d z m ls k) q
+    ∙ ap (λ (z : ℕ). scene_made a x commons around d j z ls k) r
+    ∙ ap (λ (z : List LevelState). scene_made a x commons around d j n z k) u
+    ∙ ap (λ (z : ℕ). scene_made a x commons around d j n ks z) v
 
 -- the context of a level is made
-pub context_acted : (a : StoreState) (outer : List Level) (level : Level) (b : TreeState) (s t : Space) (x : ShelfState) (id : CtxId) (parent : ℕ) (name : List ℕ) (Said : List What → Type 0) → a.levels ≡ outer ++ level ∷ []
+pub context_acted : (a : StoreState) (outer : List Level) (level : Level) (b : TreeState) (s t : Space) (x : ShelfState) (commons : CommonState) (id : CtxId) (parent : ℕ) (name : List ℕ) (Said : List What → Type 0) → a.levels ≡ outer ++ level ∷ []
     → parent ≡ level_parent (first_of (levels_of outer)) → name ≡ level_context_name (first_of (levels_of outer)) → id.number ≡ a.tree.next
     → stands_for b t ≡ created parent a.tree.next name kind.Default true (stands_for a.tree s) → b.current ≡ a.tree.current → b.next ≡ a.tree.next + 1 → t.limit ≡ s.limit → Said (created_events parent a.tree.next name)
-    → Acted (new_context_made LevelContext) a (record a { tree = b; levels = outer ++ record level { context = Some id } ∷ [] }) s t x x Said
+    → Acted (new_context_made LevelContext) a (record a { tree = b; levels = outer ++ record level { context = Some id } ∷ [] }) s t x x commons commons Said
 unfolding session_of
-context_acted a outer level b s t x id parent name Said e up called number is current next limit says =
+context_acted a outer level b s t x commons id parent name Said e up called number is current next limit says =
     let p : ℕ = level_parent (first_of (levels_of outer)) in
     let n : List ℕ = level_context_name (first_of (levels_of outer)) in
     let was : created p a.tree.next n kind.Default true (stands_for a.tree s) ≡ stands_for b t =
@@ -270,15 +278,16 @@ context_acted a outer level b s t x id parent name Said e up called number is cu
     ap (λ (m : ℕ). record (level_state level) { context = Some m } ∷ levels_of outer) (sym number) ∙ sym (levels_are outer (record level { context = Some id })) in
     record {
       leads = λ around.
-          ap (λ (z : Scene). (new_context_made LevelContext z).scene) (scene_leveled a (level_state level ∷ levels_of outer) s x around (ap levels_of e ∙ levels_are outer level))
-          ∙ made_same a x around (created p a.tree.next n kind.Default true (stands_for a.tree s)) (stands_for b t) a.tree.current.number b.current.number (a.tree.next + 1) b.next
+          ap (λ (z : Scene). (new_context_made LevelContext z).scene) (scene_leveled a (level_state level ∷ levels_of outer) s x commons around (ap levels_of e ∙ levels_are outer level))
+          ∙ made_same a x commons around (created p a.tree.next n kind.Default true (stands_for a.tree s)) (stands_for b t) a.tree.current.number b.current.number (a.tree.next + 1) b.next
           (record (level_state level) { context = Some a.tree.next } ∷ levels_of outer) (levels_of (outer ++ record level { context = Some id } ∷ [])) s.limit t.limit
           was (ap (λ (i : CtxId). i.number) (sym current)) (sym next) levels (sym limit);
       says = λ around.
-          subst (λ (z : Scene). Said (new_context_made LevelContext z).events) (sym (scene_leveled a (level_state level ∷ levels_of outer) s x around (ap levels_of e ∙ levels_are outer level)))
+          subst (λ (z : Scene). Said (new_context_made LevelContext z).events) (sym (scene_leveled a (level_state level ∷ levels_of outer) s x commons around (ap levels_of e ∙ levels_are outer level)))
           (subst (λ (q : ℕ). Said (created_events q a.tree.next n ++ [])) up
           (subst (λ (m : List ℕ). Said (created_events parent a.tree.next m ++ [])) called
           (subst Said (sym (append-nil (created_events parent a.tree.next name))) says)));
+      balances = balances_none a.owners commons;
     }
 
 pub above_in : (a : StoreState) (outer : List Level) (level : Level) (above : Option Level) → a.levels ≡ outer ++ level ∷ [] → above ≡ level_at a.levels (length a.levels - 1) → option_map level_state above ≡ first_of (levels_of outer)

@@ -5,6 +5,8 @@ use Rattle.forest.specs.Forest.{Empty}
 use Rattle.context_rules.specs.Contexts.{Contexts}
 use Rattle.context_rules.specs.Opening as contexts
 use Rattle.context_tree.specs.State.{TreeState, Moves, no_contexts, stands_for, total_of}
+use Rattle.owner_kinds.specs.KindShelf.{table_of}
+use Rattle.owner_kinds.specs.KindTable.{IsSound}
 use Rattle.session_owners.specs.ResourceState.{ResourceState, owners_of}
 use Rattle.subxact_stack.specs.declared.levels.Level.{Level}
 use Rattle.reset_callbacks.specs.Hook.{AreDistinct}
@@ -14,6 +16,7 @@ use Rattle.session_rules.specs.State.{SessionState, opening}
 use Rattle.session_rules.specs.World.{Around}
 use Rattle.session_rules.specs.Standing.{Stands}
 use Rattle.session_rules.proofs.OpeningStands.{opening_stands}
+use Rattle.session_owners.specs.Commons.{CommonState, seen_by}
 use Rattle.session_store.specs.State.{StoreState, levels_of, session_of}
 use Rattle.session_store.specs.Calls.{Keeps, StandsIn}
 use Rattle.session_store.proofs.Sums.{held_is}
@@ -27,7 +30,7 @@ session_by contexts current next owners levels = record {
   owners = owners_of owners;
   next_owner = owners.next_owner;
   next_serial = owners.next_serial;
-  locks = [];
+  locks = owners.locks;
   levels = levels_of levels;
   portals = [];
   snapshots = [];
@@ -35,15 +38,15 @@ session_by contexts current next owners levels = record {
   recent = owners.recent;
 }
 
-pub opens : (tree : TreeState) (owners : ResourceState) (levels : List Level) (s : Space) (descriptors : ℕ) → stands_for tree s ≡ contexts.opening → tree.current.number ≡ 1 → tree.next ≡ 6
-    → owners ≡ record { rooms = Empty; places = Empty; next_owner = 1; next_serial = 1; recent = []; descriptors = descriptors } → levels ≡ [] → session_of (record { tree = tree; owners = owners; levels = levels }) s ≡ opening
+pub opens : (tree : TreeState) (owners : ResourceState) (levels : List Level) (s : Space) (session descriptors : ℕ) → stands_for tree s ≡ contexts.opening → tree.current.number ≡ 1 → tree.next ≡ 6
+    → owners ≡ record { rooms = Empty; places = Empty; next_owner = 1; next_serial = 1; recent = []; descriptors = descriptors; session = session; locks = [] } → levels ≡ [] → session_of (record { tree = tree; owners = owners; levels = levels }) s ≡ opening
 unfolding session_of opening
-opens tree owners levels s descriptors p q r u v =
+opens tree owners levels s session descriptors p q r u v =
     ap (λ (z : Contexts). session_by z tree.current.number tree.next owners levels) p
     ∙ ap (λ (z : ℕ). session_by contexts.opening z tree.next owners levels) q
     ∙ ap (λ (z : ℕ). session_by contexts.opening 1 z owners levels) r
     ∙ ap (λ (z : ResourceState). session_by contexts.opening 1 6 z levels) u
-    ∙ ap (λ (z : List Level). session_by contexts.opening 1 6 (record { rooms = Empty; places = Empty; next_owner = 1; next_serial = 1; recent = []; descriptors = descriptors }) z) v
+    ∙ ap (λ (z : List Level). session_by contexts.opening 1 6 (record { rooms = Empty; places = Empty; next_owner = 1; next_serial = 1; recent = []; descriptors = descriptors; session = session; locks = [] }) z) v
 
 -- what the account holds are the blocks of its contexts, where it held nothing before
 pub keeps_opened : (a : StoreState) (account : ℕ) (s t : Space) → Moves (no_contexts account) a.tree s t → a.tree.account ≡ account → held s account ≡ 0 → Keeps a t
@@ -55,8 +58,8 @@ keeps_opened a account s t moves is none = record {
       ap (held t) is ∙ now ∙ sym (held_is a t);
 }
 
--- it stands, where the hooks of the shelf differ
-pub stands_opened : (a : StoreState) (s : Space) (x : ShelfState) → session_of a s ≡ opening → AreDistinct (shelf.held x) → StandsIn a s x
-stands_opened a s x is differ around =
-    let surroundings : Around = record around { kinds = []; shelf = x; space = s.limit; descriptors = a.owners.descriptors } in
-    subst (λ (session : SessionState). Stands (record { session = session; around = surroundings })) (sym is) (opening_stands surroundings differ).stands
+-- it stands, where the hooks of the shelf differ and the kinds of the commons are sound
+pub stands_opened : (a : StoreState) (s : Space) (x : ShelfState) (commons : CommonState) → session_of a s ≡ opening → AreDistinct (shelf.held x) → IsSound (table_of commons.kinds) → StandsIn a s x commons
+stands_opened a s x commons is differ sound around =
+    let surroundings : Around = record (seen_by a.owners commons around) { shelf = x; space = s.limit; descriptors = a.owners.descriptors } in
+    subst (λ (session : SessionState). Stands (record { session = session; around = surroundings })) (sym is) (opening_stands surroundings differ sound).stands

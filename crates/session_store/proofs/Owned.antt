@@ -17,21 +17,24 @@ use Rattle.context_tree.specs.State.{TreeState, stands_for}
 use Rattle.session_owners.specs.ResourceState as ids
 use Rattle.session_owners.specs.ResourceState.{Owner, ResourceState, OwnerTree, Roomy, owners_of}
 use Rattle.owner_core.specs.Released.{own_released}
+use Rattle.owner_kinds.specs.KindTable.{KindTable}
 use Rattle.subxact_stack.specs.Levels.{level_at}
 use Rattle.subxact_stack.specs.declared.levels.Level.{Level}
-use Rattle.session_rules.specs.State.{file_kind, first_of, owner_of}
+use Rattle.lock_shared.specs.Ranked.{beside}
+use Rattle.lock_local.specs.Locks.{Lock}
+use Rattle.session_rules.specs.State.{SessionState, file_kind, first_of, owner_of}
 use Rattle.session_rules.specs.Counts.{holds}
 use Rattle.session_rules.specs.World.{Around, Scene}
-use Rattle.session_rules.specs.Acts.{Ended}
+use Rattle.session_rules.specs.Acts.{Ended, nothing}
 use Rattle.session_rules.specs.Standing.{AreLevels, Stands}
 use Rattle.session_rules.proofs.Swept.{has_swept}
 use Rattle.session_owners.specs.Counted.{all_released, holds_file}
 use Rattle.session_owners.specs.Fitting as own
 use Rattle.session_owners.specs.Fitting.{OwnersFit}
-use Rattle.session_owners.specs.Tables.{built_in_kinds}
+use Rattle.session_owners.specs.Commons.{Balances, CommonState, seen_by}
 use Rattle.session_store.specs.State.{StoreState, level_state, levels_of, scene_of, session_of}
 use Rattle.session_store.specs.Placed.{IsPlaced, LevelLies, OwnerLies}
-use Rattle.session_store.specs.Calls.{Acted, Keeps, StandsIn}
+use Rattle.session_store.specs.Calls.{Acted, IsSilent, Keeps, StandsIn}
 use Rattle.session_store.specs.Owned.{OwnersAlone}
 use Rattle.session_store.proofs.Answered.{some_both, some_more}
 use Rattle.session_store.proofs.Lists.{all_reverse, first_map, first_reverse}
@@ -66,11 +69,12 @@ placed_owners tree a b levels placed go = record { current = placed.current; lev
 pub keeps_owners : (a : StoreState) (b : ResourceState) (s : Space) → Keeps a s → Keeps (record a { owners = b }) s
 keeps_owners a b s k = record { agrees = k.agrees; held = k.held ∙ held_is a s ∙ sym (held_is (record a { owners = b }) s) }
 
-pub owners_alone : (a : StoreState) (b : ResourceState) → OwnersGo a.owners b → OwnersAlone a (record a { owners = b })
-owners_alone a b go = record {
+pub owners_alone : (a : StoreState) (b : ResourceState) (c d : CommonState) → OwnersGo a.owners b → Balances a.owners b c d → OwnersAlone a (record a { owners = b }) c d
+owners_alone a b c d go balances = record {
   tree = refl;
   levels = refl;
   keeps = keeps_owners a b;
+  balances = balances;
   stays = λ id live now. go.stays id.number now ∙ live;
 }
 
@@ -92,11 +96,11 @@ pub go_answered : {A E : Type 0} (r : Result A E) (a b : ResourceState) (owner :
 go_answered (Ok x) a b owner f is same places = go_changed a b owner f is places
 go_answered (Err e) a b owner f is same places = go_same a b (ap owners_of same) places
 
-pub go_released : (a b : ResourceState) (owner : ℕ) → owners_of b ≡ all_released owner (owners_of a) → b.places ≡ a.places → OwnersGo a b
-go_released a b owner is places =
-    let one = own_released built_in_kinds BeforeLocks in
-    let two = own_released built_in_kinds Locks in
-    let three = own_released built_in_kinds AfterLocks in
+pub go_released : (table : KindTable) (a b : ResourceState) (owner : ℕ) → owners_of b ≡ all_released table owner (owners_of a) → b.places ≡ a.places → OwnersGo a b
+go_released table a b owner is places =
+    let one = own_released table BeforeLocks in
+    let two = own_released table Locks in
+    let three = own_released table AfterLocks in
     record {
       had = λ n there.
           sym (has_swept one n owner (owners_of a)) ∙ sym (has_swept two n owner (swept one owner (owners_of a)))
@@ -123,10 +127,10 @@ owners_there contexts table [] h = All-nil (HasOwner table)
 owners_there contexts table (level ∷ levels) h =
     All-cons (HasOwner table) level levels (owner_there table level.owner (λ n e. (h.0.owner n e).there)) (owners_there contexts table levels h.1)
 
-pub have_owners : (a : StoreState) (s : Space) (x : ShelfState) → StandsIn a s x → All (HasOwner a.owners) a.levels
+pub have_owners : (a : StoreState) (s : Space) (x : ShelfState) (commons : CommonState) → StandsIn a s x commons → All (HasOwner a.owners) a.levels
 unfolding session_of
-have_owners a s x stands =
-    let h : Stands (scene_of a s x nowhere) = stands nowhere in
+have_owners a s x commons stands =
+    let h : Stands (scene_of a s x commons nowhere) = stands nowhere in
     all_reverse (HasOwner a.owners) a.levels (owners_there (stands_for a.tree s) a.owners (reverse a.levels) h.levels)
 
 pub level_owner_live : (tree : TreeState) (table : ResourceState) (levels : List Level) (n : ℕ) (level : Level) → IsPlaced tree table levels → All (HasOwner table) levels → level_at levels n ≡ Some level → IfSome level.owner (ids.IsLive table)
@@ -135,16 +139,17 @@ level_owner_live tree table levels n level placed there e =
     some_both level.owner (λ id lies here. lies (sym (has_rooms id.number table) ∙ here)) lies.owner (at_level (HasOwner table) levels n level there e)
 
 -- the store's owners are those of each scene of it
-owners_fit : (a : StoreState) (s : Space) (x : ShelfState) (around : Around) → OwnersFit a.owners (scene_of a s x around)
+owners_fit : (a : StoreState) (s : Space) (x : ShelfState) (commons : CommonState) (around : Around) → OwnersFit a.owners commons (scene_of a s x commons around)
 unfolding session_of
-owners_fit a s x around = record { owners = refl; next_owner = refl; next_serial = refl; recent = refl; descriptors = refl; kinds = refl; locks = refl; plans = refl }
+owners_fit a s x commons around = record { owners = refl; next_owner = refl; next_serial = refl; recent = refl; descriptors = refl; kinds = refl; locked = refl; locks = refl; plans = refl }
 
 -- an act on owners
-pub owners_acted : (act : Scene → Ended) (a : StoreState) (b : ResourceState) (s : Space) (x : ShelfState) (Said : List What → Type 0) → own.Acted act a.owners b Said → Acted act a (record a { owners = b }) s s x x Said
+pub owners_acted : (act : Scene → Ended) (a : StoreState) (b : ResourceState) (s : Space) (x : ShelfState) (c d : CommonState) (Said : List What → Type 0) → own.Acted act a.owners b c d Said → Balances a.owners b c d → Acted act a (record a { owners = b }) s s x x c d Said
 unfolding session_of
-owners_acted act a b s x Said h = record {
-  leads = λ around. h.leads (scene_of a s x around) (owners_fit a s x around);
-  says = λ around. h.says (scene_of a s x around) (owners_fit a s x around);
+owners_acted act a b s x c d Said h balances = record {
+  leads = λ around. h.leads (scene_of a s x c around) (owners_fit a s x c around);
+  says = λ around. h.says (scene_of a s x c around) (owners_fit a s x c around);
+  balances = balances;
 }
 
 -- the deepest level by its place
@@ -158,26 +163,39 @@ owner_number None = refl
 owner_number (Some level) = refl
 
 -- the owners' room is no matter
-pub same_session : (a : StoreState) (b : ResourceState) (s : Space) → owners_of b ≡ owners_of a.owners → b.next_owner ≡ a.owners.next_owner → b.next_serial ≡ a.owners.next_serial → b.recent ≡ a.owners.recent → session_of (record a { owners = b }) s ≡ session_of a s
+pub same_session : (a : StoreState) (b : ResourceState) (s : Space) → owners_of b ≡ owners_of a.owners → b.next_owner ≡ a.owners.next_owner → b.next_serial ≡ a.owners.next_serial → b.recent ≡ a.owners.recent → b.locks ≡ a.owners.locks → session_of (record a { owners = b }) s ≡ session_of a s
 unfolding session_of
-same_session a b s p q r f =
-    ap (λ (z : OwnerTree). record (session_of a s) { owners = z; next_owner = b.next_owner; next_serial = b.next_serial; recent = b.recent }) p
-    ∙ ap (λ (z : ℕ). record (session_of a s) { next_owner = z; next_serial = b.next_serial; recent = b.recent }) q
-    ∙ ap (λ (z : ℕ). record (session_of a s) { next_serial = z; recent = b.recent }) r
-    ∙ ap (λ (z : List ℕ). record (session_of a s) { recent = z }) f
+same_session a b s p q r f l =
+    ap (λ (z : OwnerTree). record (session_of a s) { owners = z; next_owner = b.next_owner; next_serial = b.next_serial; recent = b.recent; locks = b.locks }) p
+    ∙ ap (λ (z : ℕ). record (session_of a s) { next_owner = z; next_serial = b.next_serial; recent = b.recent; locks = b.locks }) q
+    ∙ ap (λ (z : ℕ). record (session_of a s) { next_serial = z; recent = b.recent; locks = b.locks }) r
+    ∙ ap (λ (z : List ℕ). record (session_of a s) { recent = z; locks = b.locks }) f
+    ∙ ap (λ (z : List Lock). record (session_of a s) { locks = z }) l
+
+-- only the owners' room is another one
+pub room_acted : (a : StoreState) (b : ResourceState) (s : Space) (x : ShelfState) (commons : CommonState) → session_of (record a { owners = b }) s ≡ session_of a s → b.descriptors ≡ a.owners.descriptors → Balances a.owners b commons commons
+    → Acted nothing a (record a { owners = b }) s s x x commons commons IsSilent
+room_acted a b s x commons session descriptors balances = record {
+  leads = λ around.
+      ap (λ (z : SessionState). record { session = z; around = record (seen_by a.owners commons around) { shelf = x; space = s.limit; descriptors = a.owners.descriptors } }) (sym session)
+      ∙ ap (λ (n : ℕ). record { session = session_of (record a { owners = b }) s; around = record (seen_by a.owners commons around) { shelf = x; space = s.limit; descriptors = n } }) (sym descriptors)
+      ∙ ap (λ (n : ℕ). record { session = session_of (record a { owners = b }) s; around = record around { kinds = commons.kinds; locked = beside n commons.locks; shelf = x; space = s.limit; descriptors = b.descriptors } }) (sym balances.locks.session);
+  says = λ around. refl;
+  balances = balances;
+}
 
 module _ (tree : TreeState) (owners : ResourceState) (levels : List Level) (v : StoreState) (is : record { tree = tree; owners = owners; levels = levels } ≡ v) where
   -- what is known of the value, of the field
   pub owner_in : (id : OwnerId) → ids.IsLive v.owners id → ids.IsLive owners id
   owner_in id live = subst (λ (a : StoreState). ids.IsLive a.owners id) (sym is) live
 
-  pub owners_after : (act : Scene → Ended) (b : ResourceState) (s : Space) (x : ShelfState) (Said : List What → Type 0) → own.Acted act owners b Said → Acted act v (record { tree = tree; owners = b; levels = levels }) s s x x Said
-  owners_after act b s x Said h =
-      subst (λ (a : StoreState). Acted act a (record { tree = tree; owners = b; levels = levels }) s s x x Said) is (owners_acted act (record { tree = tree; owners = owners; levels = levels }) b s x Said h)
+  pub owners_after : (act : Scene → Ended) (b : ResourceState) (s : Space) (x : ShelfState) (c d : CommonState) (Said : List What → Type 0) → own.Acted act owners b c d Said → Balances owners b c d → Acted act v (record { tree = tree; owners = b; levels = levels }) s s x x c d Said
+  owners_after act b s x c d Said h balances =
+      subst (λ (a : StoreState). Acted act a (record { tree = tree; owners = b; levels = levels }) s s x x c d Said) is (owners_acted act (record { tree = tree; owners = owners; levels = levels }) b s x c d Said h balances)
 
-  pub owners_alone_after : (b : ResourceState) → OwnersGo owners b → OwnersAlone v (record { tree = tree; owners = b; levels = levels })
-  owners_alone_after b go =
-      subst (λ (a : StoreState). OwnersAlone a (record { tree = tree; owners = b; levels = levels })) is (owners_alone (record { tree = tree; owners = owners; levels = levels }) b go)
+  pub owners_alone_after : (b : ResourceState) (c d : CommonState) → OwnersGo owners b → Balances owners b c d → OwnersAlone v (record { tree = tree; owners = b; levels = levels }) c d
+  owners_alone_after b c d go balances =
+      subst (λ (a : StoreState). OwnersAlone a (record { tree = tree; owners = b; levels = levels }) c d) is (owners_alone (record { tree = tree; owners = owners; levels = levels }) b c d go balances)
 
 -- a session holds a file where its owners do
 pub file_held : (a : StoreState) (file : ℕ) (s : Space) → holds_file file (owners_of a.owners) ≡ holds file_kind file (session_of a s)

@@ -21,6 +21,7 @@ use Rattle.session_rules.specs.Releases.{owner_gone, owner_released}
 use Rattle.session_rules.specs.Ends.{aborted, cleaned_up, committed, empty_context_gone, level_context_gone, level_owner_gone, level_popped, level_released, stack_popped, subcommitted, switched_up}
 use Rattle.session_rules.specs.Portals.{portal_aborted, portal_closed, portal_passed}
 use Rattle.session_owners.specs.Fitting as fitting
+use Rattle.session_owners.specs.Commons.{Balances, CommonState}
 use Rattle.session_store.specs.State.{StoreState, level_state, levels_of, only_empty, session_of}
 use Rattle.session_store.specs.Calls.{Acted}
 use Rattle.session_store.proofs.Ending.{only_gone}
@@ -36,21 +37,22 @@ number_in owner = option_map (λ (id : OwnerId). id.number) owner
 
 module _ (O : Type 0) (emits : O → List What → O → Type 0) where
   -- the same at each scene that the store's session is, once the levels are others
-  pub acted_went : (act : Scene → Ended) (a b : StoreState) (before : List Level) (ls ks : List LevelState) (s t : Space) (x y : ShelfState) (o p : O) → levels_of a.levels ≡ ls → levels_of b.levels ≡ ks
-      → ((around : Around) → Went O emits act (leveled a ls s x around) (leveled (record b { levels = before }) ks t y around) o p) → Acted act a b s t x y (λ events. emits o events p)
+  pub acted_went : (act : Scene → Ended) (a b : StoreState) (before : List Level) (ls ks : List LevelState) (s t : Space) (x y : ShelfState) (c d : CommonState) (o p : O) → levels_of a.levels ≡ ls → levels_of b.levels ≡ ks
+      → ((around : Around) → Went O emits act (leveled a ls s x c around) (leveled (record b { levels = before }) ks t y d around) o p) → Balances a.owners b.owners c d → Acted act a b s t x y c d (λ events. emits o events p)
   unfolding session_of
-  acted_went act a b before ls ks s t x y o p e f went = record {
-    leads = λ around. ap (λ (z : Scene). (act z).scene) (scene_leveled a ls s x around e) ∙ (let w = went around in w.leads) ∙ sym (scene_leveled b ks t y around f);
-    says = λ around. subst (λ (z : Scene). emits o (act z).events p) (sym (scene_leveled a ls s x around e)) (let w = went around in w.says);
+  acted_went act a b before ls ks s t x y c d o p e f went balances = record {
+    leads = λ around. ap (λ (z : Scene). (act z).scene) (scene_leveled a ls s x c around e) ∙ (let w = went around in w.leads) ∙ sym (scene_leveled b ks t y d around f);
+    says = λ around. subst (λ (z : Scene). emits o (act z).events p) (sym (scene_leveled a ls s x c around e)) (let w = went around in w.says);
+    balances = balances;
   }
 
   -- what an act does to the owners
-  went_owners : (act : Scene → Ended) (a : StoreState) (p : ResourceState) (ls : List LevelState) (s : Space) (x : ShelfState) (around : Around) (o q : O) → fitting.Acted act a.owners p (λ events. emits o events q)
-      → Went O emits act (leveled a ls s x around) (leveled (record a { owners = p }) ls s x around) o q
+  went_owners : (act : Scene → Ended) (a : StoreState) (p : ResourceState) (ls : List LevelState) (s : Space) (x : ShelfState) (c d : CommonState) (around : Around) (o q : O) → fitting.Acted act a.owners p c d (λ events. emits o events q)
+      → Went O emits act (leveled a ls s x c around) (leveled (record a { owners = p }) ls s x d around) o q
   unfolding session_of
-  went_owners act a p ls s x around o q made =
-      let fit : fitting.OwnersFit a.owners (leveled a ls s x around) = record { owners = refl; next_owner = refl; next_serial = refl; recent = refl; descriptors = refl; kinds = refl; locks = refl; plans = refl } in
-      record { leads = made.leads (leveled a ls s x around) fit; says = made.says (leveled a ls s x around) fit }
+  went_owners act a p ls s x c d around o q made =
+      let fit : fitting.OwnersFit a.owners c (leveled a ls s x c around) = record { owners = refl; next_owner = refl; next_serial = refl; recent = refl; descriptors = refl; kinds = refl; locked = refl; locks = refl; plans = refl } in
+      record { leads = made.leads (leveled a ls s x c around) fit; says = made.says (leveled a ls s x c around) fit }
 
   module _ (none : (o : O) → emits o [] o) where
     went_silent : (act : Scene → Ended) (a b : Scene) (o : O) → act a ≡ record { scene = b; events = [] } → Went O emits act a b o o
@@ -60,23 +62,23 @@ module _ (O : Type 0) (emits : O → List What → O → Type 0) where
     went_end a o = record { leads = refl; says = none o }
 
     -- what becomes of a level's context
-    went_dropped : (a : StoreState) (b : TreeState) (s t : Space) (x y : ShelfState) (context : Option CtxId) (ls : List LevelState) (around : Around) (o p : O)
+    went_dropped : (a : StoreState) (b : TreeState) (s t : Space) (x y : ShelfState) (context : Option CtxId) (ls : List LevelState) (commons : CommonState) (around : Around) (o p : O)
         → MatchOption context (DidNothing a.tree b s t x y) (λ id. Did (gone id.number (stands_for a.tree s)) a.tree b s t x y)
         → MatchOption context (p ≡ o) (λ id. emits o (gone id.number (stands_for a.tree s)).events p)
-        → Went O emits (λ scene. where_there (option_map (λ (id : CtxId). id.number) context) context_gone scene) (leveled a ls s x around) (leveled (record a { tree = b }) ls t y around) o p
+        → Went O emits (λ scene. where_there (option_map (λ (id : CtxId). id.number) context) context_gone scene) (leveled a ls s x commons around) (leveled (record a { tree = b }) ls t y commons around) o p
     unfolding session_of
-    went_dropped a b s t x y None ls around o p did says = record {
+    went_dropped a b s t x y None ls commons around o p did says = record {
       leads =
-          ap (λ (z : TreeState). leveled (record a { tree = z }) ls s x around) (sym did.tree)
-          ∙ ap (λ (z : Space). leveled (record a { tree = b }) ls z x around) (sym did.space)
-          ∙ ap (λ (z : ShelfState). leveled (record a { tree = b }) ls t z around) (sym did.shelf);
+          ap (λ (z : TreeState). leveled (record a { tree = z }) ls s x commons around) (sym did.tree)
+          ∙ ap (λ (z : Space). leveled (record a { tree = b }) ls z x commons around) (sym did.space)
+          ∙ ap (λ (z : ShelfState). leveled (record a { tree = b }) ls t z commons around) (sym did.shelf);
       says = subst (λ (z : O). emits o [] z) (sym says) (none o);
     }
-    went_dropped a b s t x y (Some id) ls around o p did says = record {
+    went_dropped a b s t x y (Some id) ls commons around o p did says = record {
       leads =
-          made_same a (handed_in (gone id.number (stands_for a.tree s)).hooks x) around (gone id.number (stands_for a.tree s)).contexts (stands_for b t) a.tree.current.number b.current.number a.tree.next b.next ls ls s.limit t.limit
+          made_same a (handed_in (gone id.number (stands_for a.tree s)).hooks x) commons around (gone id.number (stands_for a.tree s)).contexts (stands_for b t) a.tree.current.number b.current.number a.tree.next b.next ls ls s.limit t.limit
           (sym did.contexts) (ap (λ (i : CtxId). i.number) (sym did.current)) (sym did.next) refl (sym did.moves.limit)
-          ∙ ap (λ (z : ShelfState). scene_made a z around (stands_for b t) b.current.number b.next ls t.limit) (sym did.shelf);
+          ∙ ap (λ (z : ShelfState). scene_made a z commons around (stands_for b t) b.current.number b.next ls t.limit) (sym did.shelf);
       says = says;
     }
 
@@ -88,21 +90,21 @@ module _ (O : Type 0) (emits : O → List What → O → Type 0) where
       }
 
       -- the deepest level aborts
-      pub aborted_went : (a : StoreState) (outer : List LevelState) (level : Level) (s : Space) (x : ShelfState) (around : Around) (context : CtxId) (p : ResourceState) (o0 o1 o2 : O)
+      pub aborted_went : (a : StoreState) (outer : List LevelState) (level : Level) (s : Space) (x : ShelfState) (commons behind : CommonState) (around : Around) (context : CtxId) (p : ResourceState) (o0 o1 o2 : O)
           → emits o0 (what.AbortLevel (length (level_state level ∷ outer)) ∷ []) o1 → context.number ≡ 5
-          → fitting.Acted (λ scene. where_there (number_in level.owner) (owner_released false (length (level_state level ∷ outer) == 1)) scene) a.owners p (λ events. emits o1 events o2)
-          → Went O emits aborted (leveled a (level_state level ∷ outer) s x around)
-          (leveled (record a { tree = record a.tree { current = context }; owners = p }) (level_state (record level { aborted = true }) ∷ outer) s x around) o0 o2
+          → fitting.Acted (λ scene. where_there (number_in level.owner) (owner_released false (length (level_state level ∷ outer) == 1)) scene) a.owners p commons behind (λ events. emits o1 events o2)
+          → Went O emits aborted (leveled a (level_state level ∷ outer) s x commons around)
+          (leveled (record a { tree = record a.tree { current = context }; owners = p }) (level_state (record level { aborted = true }) ∷ outer) s x behind around) o0 o2
       unfolding session_of stands_for
-      aborted_went a outer level s x around context p o0 o1 o2 said five made =
+      aborted_went a outer level s x commons behind around context p o0 o1 o2 said five made =
           let n : ℕ = length (level_state level ∷ outer) in
           let ls : List LevelState = level_state level ∷ outer in
           let c : StoreState = record a { tree = record a.tree { current = context } } in
-          let z0 : Scene = leveled a ls s x around in
-          let z1 : Scene = leveled c ls s x around in
-          let z2 : Scene = leveled (record c { owners = p }) ls s x around in
-          let z3 : Scene = leveled (record c { owners = p }) (level_state (record level { aborted = true }) ∷ outer) s x around in
-          let released = went_owners (λ scene. where_there (number_in level.owner) (owner_released false (n == 1)) scene) c p ls s x around o1 o2 made in
+          let z0 : Scene = leveled a ls s x commons around in
+          let z1 : Scene = leveled c ls s x commons around in
+          let z2 : Scene = leveled (record c { owners = p }) ls s x behind around in
+          let z3 : Scene = leveled (record c { owners = p }) (level_state (record level { aborted = true }) ∷ outer) s x behind around in
+          let released = went_owners (λ scene. where_there (number_in level.owner) (owner_released false (n == 1)) scene) c p ls s x commons behind around o1 o2 made in
           let k1 : List (Scene → Ended) = changes (λ session. record session { levels = deepest_changed (λ old. record old { aborted = true }) session.levels }) ∷ [] in
           let k2 : List (Scene → Ended) = stack_popped n ∷ k1 in
           let k3 : List (Scene → Ended) = level_released false (n == 1) ∷ k2 in
@@ -120,25 +122,25 @@ module _ (O : Type 0) (emits : O → List What → O → Type 0) where
           record { leads = all.leads; says = all.says }
 
       -- the deepest level is cleaned up
-      pub cleaned_went : (a : StoreState) (outer : List LevelState) (level : Level) (s t : Space) (x y : ShelfState) (around : Around) (up : CtxId) (b : TreeState) (q : ResourceState) (o0 o1 o2 o3 : O)
+      pub cleaned_went : (a : StoreState) (outer : List LevelState) (level : Level) (s t : Space) (x y : ShelfState) (commons : CommonState) (around : Around) (up : CtxId) (b : TreeState) (q : ResourceState) (o0 o1 o2 o3 : O)
           → emits o0 (what.CleanupLevel (length (level_state level ∷ outer)) ∷ []) o1
-          → fitting.Acted (λ scene. where_there (number_in level.owner) owner_gone scene) a.owners q (λ events. emits o1 events o2)
+          → fitting.Acted (λ scene. where_there (number_in level.owner) owner_gone scene) a.owners q commons commons (λ events. emits o1 events o2)
           → up.number ≡ unwrap_or (context_of (first_of outer)) 1
           → MatchOption level.context (DidNothing (record a.tree { current = up }) b s t x y) (λ id. Did (gone id.number (stands_for (record a.tree { current = up }) s)) (record a.tree { current = up }) b s t x y)
           → MatchOption level.context (o3 ≡ o2) (λ id. emits o2 (gone id.number (stands_for (record a.tree { current = up }) s)).events o3)
-          → Went O emits cleaned_up (leveled a (level_state level ∷ outer) s x around) (leveled (record a { tree = b; owners = q }) outer t y around) o0 o3
+          → Went O emits cleaned_up (leveled a (level_state level ∷ outer) s x commons around) (leveled (record a { tree = b; owners = q }) outer t y commons around) o0 o3
       unfolding session_of stands_for
-      cleaned_went a outer level s t x y around up b q o0 o1 o2 o3 said made above did says =
+      cleaned_went a outer level s t x y commons around up b q o0 o1 o2 o3 said made above did says =
           let n : ℕ = length (level_state level ∷ outer) in
           let ls : List LevelState = level_state level ∷ outer in
           let c : StoreState = record a { tree = record a.tree { current = up }; owners = q } in
-          let z0 : Scene = leveled a ls s x around in
-          let z1 : Scene = leveled (record a { owners = q }) ls s x around in
-          let z2 : Scene = leveled c ls s x around in
-          let z3 : Scene = leveled (record c { tree = b }) ls t y around in
-          let z4 : Scene = leveled (record c { tree = b }) outer t y around in
-          let left = went_owners (λ scene. where_there (number_in level.owner) owner_gone scene) a q ls s x around o1 o2 made in
-          let dropped = went_dropped c b s t x y level.context ls around o2 o3 did says in
+          let z0 : Scene = leveled a ls s x commons around in
+          let z1 : Scene = leveled (record a { owners = q }) ls s x commons around in
+          let z2 : Scene = leveled c ls s x commons around in
+          let z3 : Scene = leveled (record c { tree = b }) ls t y commons around in
+          let z4 : Scene = leveled (record c { tree = b }) outer t y commons around in
+          let left = went_owners (λ scene. where_there (number_in level.owner) owner_gone scene) a q ls s x commons commons around o1 o2 made in
+          let dropped = went_dropped c b s t x y level.context ls commons around o2 o3 did says in
           let portal : OpenPortal → Scene → Ended = λ p. where_so (p.created == n) (in_order (where_there p.context context_gone ∷ portal_gone p.name ∷ [])) in
           let k1 : List (Scene → Ended) = level_popped ∷ [] in
           let k2 : List (Scene → Ended) = level_context_gone ∷ k1 in
@@ -155,50 +157,50 @@ module _ (O : Type 0) (emits : O → List What → O → Type 0) where
           record { leads = all.leads; says = all.says }
 
       -- the deepest level is rolled back
-      pub rolled_went : (a : StoreState) (outer : List LevelState) (level : Level) (s t : Space) (x y : ShelfState) (around : Around) (up : CtxId) (b : TreeState) (p q : ResourceState) (o0 o1 o2 o3 o4 o5 : O)
+      pub rolled_went : (a : StoreState) (outer : List LevelState) (level : Level) (s t : Space) (x y : ShelfState) (commons behind : CommonState) (around : Around) (up : CtxId) (b : TreeState) (p q : ResourceState) (o0 o1 o2 o3 o4 o5 : O)
           → emits o0 (what.AbortLevel (length (level_state level ∷ outer)) ∷ []) o1
-          → fitting.Acted (λ scene. where_there (number_in level.owner) (owner_released false (length (level_state level ∷ outer) == 1)) scene) a.owners p (λ events. emits o1 events o2)
+          → fitting.Acted (λ scene. where_there (number_in level.owner) (owner_released false (length (level_state level ∷ outer) == 1)) scene) a.owners p commons behind (λ events. emits o1 events o2)
           → emits o2 (what.CleanupLevel (length (level_state level ∷ outer)) ∷ []) o3
-          → fitting.Acted (λ scene. where_there (number_in level.owner) owner_gone scene) p q (λ events. emits o3 events o4)
+          → fitting.Acted (λ scene. where_there (number_in level.owner) owner_gone scene) p q behind behind (λ events. emits o3 events o4)
           → up.number ≡ unwrap_or (context_of (first_of outer)) 1
           → MatchOption level.context (DidNothing (record a.tree { current = up }) b s t x y) (λ id. Did (gone id.number (stands_for (record a.tree { current = up }) s)) (record a.tree { current = up }) b s t x y)
           → MatchOption level.context (o5 ≡ o4) (λ id. emits o4 (gone id.number (stands_for (record a.tree { current = up }) s)).events o5)
-          → Went O emits (in_order (aborted ∷ cleaned_up ∷ [])) (leveled a (level_state level ∷ outer) s x around) (leveled (record a { tree = b; owners = q }) outer t y around) o0 o5
-      rolled_went a outer level s t x y around up b p q o0 o1 o2 o3 o4 o5 first given then left above did says =
+          → Went O emits (in_order (aborted ∷ cleaned_up ∷ [])) (leveled a (level_state level ∷ outer) s x commons around) (leveled (record a { tree = b; owners = q }) outer t y behind around) o0 o5
+      rolled_went a outer level s t x y commons behind around up b p q o0 o1 o2 o3 o4 o5 first given then left above did says =
           let id : CtxId = record a.tree.current { number = 5 } in
           let shut : Level = record level { aborted = true } in
           let c : StoreState = record a { tree = record a.tree { current = id }; owners = p } in
-          let z0 : Scene = leveled a (level_state level ∷ outer) s x around in
-          let z1 : Scene = leveled c (level_state shut ∷ outer) s x around in
-          let z2 : Scene = leveled (record a { tree = b; owners = q }) outer t y around in
+          let z0 : Scene = leveled a (level_state level ∷ outer) s x commons around in
+          let z1 : Scene = leveled c (level_state shut ∷ outer) s x behind around in
+          let z2 : Scene = leveled (record a { tree = b; owners = q }) outer t y behind around in
           went_then aborted (cleaned_up ∷ []) z0 z1 z2 o0 o2 o5
-          (aborted_went a outer level s x around id p o0 o1 o2 first refl given)
+          (aborted_went a outer level s x commons behind around id p o0 o1 o2 first refl given)
           (went_then cleaned_up [] z1 z2 z2 o2 o5 o5
-          (cleaned_went c outer shut s t x y around up b q o2 o3 o4 o5 then left above did says)
+          (cleaned_went c outer shut s t x y behind around up b q o2 o3 o4 o5 then left above did says)
           (went_end z2 o5))
 
       -- level 1 commits
-      pub committed_went : (a : StoreState) (level : Level) (s t : Space) (x y : ShelfState) (around : Around) (top : CtxId) (b : TreeState) (p q : ResourceState) (o0 o1 o2 o3 o4 : O)
+      pub committed_went : (a : StoreState) (level : Level) (s t : Space) (x y : ShelfState) (commons behind : CommonState) (around : Around) (top : CtxId) (b : TreeState) (p q : ResourceState) (o0 o1 o2 o3 o4 : O)
           → emits o0 (what.CommitLevel 1 ∷ []) o1
-          → fitting.Acted (λ scene. where_there (number_in level.owner) (owner_released true true) scene) a.owners p (λ events. emits o1 events o2)
-          → fitting.Acted (λ scene. where_there (number_in level.owner) owner_gone scene) p q (λ events. emits o2 events o3)
+          → fitting.Acted (λ scene. where_there (number_in level.owner) (owner_released true true) scene) a.owners p commons behind (λ events. emits o1 events o2)
+          → fitting.Acted (λ scene. where_there (number_in level.owner) owner_gone scene) p q behind behind (λ events. emits o2 events o3)
           → top.number ≡ 1
           → MatchOption level.context (DidNothing (record a.tree { current = top }) b s t x y) (λ id. Did (gone id.number (stands_for (record a.tree { current = top }) s)) (record a.tree { current = top }) b s t x y)
           → MatchOption level.context (o4 ≡ o3) (λ id. emits o3 (gone id.number (stands_for (record a.tree { current = top }) s)).events o4)
-          → Went O emits committed (leveled a (level_state level ∷ []) s x around) (leveled (record a { tree = b; owners = q }) [] t y around) o0 o4
+          → Went O emits committed (leveled a (level_state level ∷ []) s x commons around) (leveled (record a { tree = b; owners = q }) [] t y behind around) o0 o4
       unfolding session_of stands_for
-      committed_went a level s t x y around top b p q o0 o1 o2 o3 o4 said first second one did says =
+      committed_went a level s t x y commons behind around top b p q o0 o1 o2 o3 o4 said first second one did says =
           let ls : List LevelState = level_state level ∷ [] in
           let c : StoreState = record a { tree = record a.tree { current = top }; owners = q } in
-          let z0 : Scene = leveled a ls s x around in
-          let z1 : Scene = leveled (record a { owners = p }) ls s x around in
-          let z2 : Scene = leveled (record a { owners = q }) ls s x around in
-          let z3 : Scene = leveled c ls s x around in
-          let z4 : Scene = leveled (record c { tree = b }) ls t y around in
-          let z5 : Scene = leveled (record c { tree = b }) [] t y around in
-          let released = went_owners (λ scene. where_there (number_in level.owner) (owner_released true true) scene) a p ls s x around o1 o2 first in
-          let left = went_owners (λ scene. where_there (number_in level.owner) owner_gone scene) (record a { owners = p }) q ls s x around o2 o3 second in
-          let dropped = went_dropped c b s t x y level.context ls around o3 o4 did says in
+          let z0 : Scene = leveled a ls s x commons around in
+          let z1 : Scene = leveled (record a { owners = p }) ls s x behind around in
+          let z2 : Scene = leveled (record a { owners = q }) ls s x behind around in
+          let z3 : Scene = leveled c ls s x behind around in
+          let z4 : Scene = leveled (record c { tree = b }) ls t y behind around in
+          let z5 : Scene = leveled (record c { tree = b }) [] t y behind around in
+          let released = went_owners (λ scene. where_there (number_in level.owner) (owner_released true true) scene) a p ls s x commons behind around o1 o2 first in
+          let left = went_owners (λ scene. where_there (number_in level.owner) owner_gone scene) (record a { owners = p }) q ls s x behind behind around o2 o3 second in
+          let dropped = went_dropped c b s t x y level.context ls behind around o3 o4 did says in
           let k1 : List (Scene → Ended) = level_popped ∷ [] in
           let k2 : List (Scene → Ended) = level_context_gone ∷ k1 in
           let k3 : List (Scene → Ended) = switched 1 ∷ k2 in
@@ -218,29 +220,29 @@ module _ (O : Type 0) (emits : O → List What → O → Type 0) where
           record { leads = all.leads; says = all.says }
 
       -- the deepest level commits, which isn't level 1
-      pub subcommitted_went : (a : StoreState) (outer : List LevelState) (level : Level) (s t : Space) (x y : ShelfState) (around : Around) (up : CtxId) (kept : Option CtxId) (b : TreeState) (p q : ResourceState) (o0 o1 o2 o3 o4 : O)
+      pub subcommitted_went : (a : StoreState) (outer : List LevelState) (level : Level) (s t : Space) (x y : ShelfState) (commons behind : CommonState) (around : Around) (up : CtxId) (kept : Option CtxId) (b : TreeState) (p q : ResourceState) (o0 o1 o2 o3 o4 : O)
           → emits o0 (what.CommitLevel (length (level_state level ∷ outer)) ∷ []) o1
-          → fitting.Acted (λ scene. where_there (number_in level.owner) (owner_released true false) scene) a.owners p (λ events. emits o1 events o2)
-          → fitting.Acted (λ scene. where_there (number_in level.owner) owner_gone scene) p q (λ events. emits o2 events o3)
+          → fitting.Acted (λ scene. where_there (number_in level.owner) (owner_released true false) scene) a.owners p commons behind (λ events. emits o1 events o2)
+          → fitting.Acted (λ scene. where_there (number_in level.owner) owner_gone scene) p q behind behind (λ events. emits o2 events o3)
           → up.number ≡ unwrap_or (context_of (first_of outer)) 1
           → kept ≡ only_empty level.context (stands_for (record a.tree { current = up }) s)
           → MatchOption kept (DidNothing (record a.tree { current = up }) b s t x y) (λ id. Did (gone id.number (stands_for (record a.tree { current = up }) s)) (record a.tree { current = up }) b s t x y)
           → MatchOption kept (o4 ≡ o3) (λ id. emits o3 (gone id.number (stands_for (record a.tree { current = up }) s)).events o4)
-          → Went O emits subcommitted (leveled a (level_state level ∷ outer) s x around) (leveled (record a { tree = b; owners = q }) outer t y around) o0 o4
+          → Went O emits subcommitted (leveled a (level_state level ∷ outer) s x commons around) (leveled (record a { tree = b; owners = q }) outer t y behind around) o0 o4
       unfolding session_of stands_for
-      subcommitted_went a outer level s t x y around up kept b p q o0 o1 o2 o3 o4 said first second above empty did says =
+      subcommitted_went a outer level s t x y commons behind around up kept b p q o0 o1 o2 o3 o4 said first second above empty did says =
           let n : ℕ = length (level_state level ∷ outer) in
           let ls : List LevelState = level_state level ∷ outer in
           let c : StoreState = record a { tree = record a.tree { current = up }; owners = q } in
-          let z0 : Scene = leveled a ls s x around in
-          let z1 : Scene = leveled (record a { owners = p }) ls s x around in
-          let z2 : Scene = leveled (record a { owners = q }) ls s x around in
-          let z3 : Scene = leveled c ls s x around in
-          let z4 : Scene = leveled (record c { tree = b }) ls t y around in
-          let z5 : Scene = leveled (record c { tree = b }) outer t y around in
-          let released = went_owners (λ scene. where_there (number_in level.owner) (owner_released true false) scene) a p ls s x around o1 o2 first in
-          let left = went_owners (λ scene. where_there (number_in level.owner) owner_gone scene) (record a { owners = p }) q ls s x around o2 o3 second in
-          let dropped = went_dropped c b s t x y kept ls around o3 o4 did says in
+          let z0 : Scene = leveled a ls s x commons around in
+          let z1 : Scene = leveled (record a { owners = p }) ls s x behind around in
+          let z2 : Scene = leveled (record a { owners = q }) ls s x behind around in
+          let z3 : Scene = leveled c ls s x behind around in
+          let z4 : Scene = leveled (record c { tree = b }) ls t y behind around in
+          let z5 : Scene = leveled (record c { tree = b }) outer t y behind around in
+          let released = went_owners (λ scene. where_there (number_in level.owner) (owner_released true false) scene) a p ls s x commons behind around o1 o2 first in
+          let left = went_owners (λ scene. where_there (number_in level.owner) owner_gone scene) (record a { owners = p }) q ls s x behind behind around o2 o3 second in
+          let dropped = went_dropped c b s t x y kept ls behind around o3 o4 did says in
           let same : empty_context_gone z3 ≡ where_there (option_map (λ (id : CtxId). id.number) kept) context_gone z3 =
           only_gone level.context z3 ∙ ap (λ (k : Option CtxId). where_there (option_map (λ (id : CtxId). id.number) k) context_gone z3) (sym empty) in
           let lower : Scene → Ended = changes (λ session. record session { snapshots = map (lowered n) session.snapshots }) in

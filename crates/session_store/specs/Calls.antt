@@ -1,4 +1,4 @@
--- What calls make of a store, its space and the shelf of hooks.
+-- What calls make of a store, its space, the shelf of hooks and the commons of the run.
 use Rattle.std.specs.Prelude.{◌≡◌, ◌≢◌, true, List, []}
 use Rattle.pgs_step.specs.declared.ids.CtxId.{CtxId}
 use Rattle.pgs_step.specs.declared.events.What.{What}
@@ -9,6 +9,7 @@ use Rattle.context_tree.specs.State.{Agrees, IsLive, Moves, TreeState}
 use Rattle.session_rules.specs.World.{Around, Scene}
 use Rattle.session_rules.specs.Acts.{Ended}
 use Rattle.session_rules.specs.Standing.{Stands}
+use Rattle.session_owners.specs.Commons.{Balances, CommonState}
 use Rattle.session_store.specs.State.{StoreState, contexts_in, held_in, scene_of, session_of}
 
 -- The space has what the contexts have in it, and what the account holds are their blocks.
@@ -23,14 +24,15 @@ StaysBeside store =
     (a b : TreeState) (s t : Space) → Moves a b s t → Agrees a s → Keeps store s → a.account ≢ store.tree.account
     → Keeps store t × (session_of store t ≡ session_of store s)
 
--- the session stands in any surroundings with this shelf
-abbrev pub StandsIn : StoreState → Space → ShelfState → Type 0
-StandsIn store s x = (around : Around) → Stands (scene_of store s x around)
+-- the session stands in any surroundings with this shelf and these commons
+abbrev pub StandsIn : StoreState → Space → ShelfState → CommonState → Type 0
+StandsIn store s x c = (around : Around) → Stands (scene_of store s x c around)
 
--- An act led from one store, space and shelf to others, in any surroundings, and what it said is so.
-pub record Acted (act : Scene → Ended) (a b : StoreState) (s t : Space) (x y : ShelfState) (Said : List What → Type 0) : Type 0 where
-  pub leads : (around : Around) → (act (scene_of a s x around)).scene ≡ scene_of b t y around
-  pub says : (around : Around) → Said (act (scene_of a s x around)).events
+-- An act led from one store, space, shelf and commons to others, in any surroundings, what it said is so, and the commons are in balance.
+pub record Acted (act : Scene → Ended) (a b : StoreState) (s t : Space) (x y : ShelfState) (c d : CommonState) (Said : List What → Type 0) : Type 0 where
+  pub leads : (around : Around) → (act (scene_of a s x c around)).scene ≡ scene_of b t y d around
+  pub says : (around : Around) → Said (act (scene_of a s x c around)).events
+  pub balances : Balances a.owners b.owners c d
 
 -- nothing was said
 abbrev pub IsSilent : List What → Type 0
@@ -38,16 +40,18 @@ IsSilent events = events ≡ []
 
 -- Of a store the contexts changed and nothing else: the space has what they have, it keeps what isn't theirs, and what is there still
 -- lies where it did.
-pub record ContextsAlone (a b : StoreState) (s t : Space) : Type 0 where
+pub record ContextsAlone (a b : StoreState) (s t : Space) (c d : CommonState) : Type 0 where
   pub keeps : Keeps b t
   pub moves : Moves a.tree b.tree s t
   pub owners : b.owners ≡ a.owners
+  pub commons : d ≡ c
   pub levels : b.levels ≡ a.levels
   pub stays : (id : CtxId) → IsLive a.tree id → has id.number (contexts_in a s) ≡ true → has id.number (contexts_in b t) ≡ true → IsLive b.tree id
 
--- The call was refused: the store and the shelf are as they were, and the session is.
-pub record Refused (a b : StoreState) (s t : Space) (x y : ShelfState) : Type 0 where
+-- The call was refused: the store, the shelf and the commons are as they were, and the session is.
+pub record Refused (a b : StoreState) (s t : Space) (x y : ShelfState) (c d : CommonState) : Type 0 where
   pub store : b ≡ a
   pub shelf : y ≡ x
+  pub commons : d ≡ c
   pub session : session_of b t ≡ session_of a s
   pub limit : t.limit ≡ s.limit

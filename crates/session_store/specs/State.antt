@@ -7,6 +7,7 @@ use Rattle.pgs_step.specs.declared.ids.CtxId.{CtxId}
 use Rattle.context_rules.specs.Contexts.{Contexts, is_empty}
 use Rattle.context_tree.specs.State.{TreeState, stands_for}
 use Rattle.session_owners.specs.ResourceState.{ResourceState, owners_of}
+use Rattle.session_owners.specs.Commons.{CommonState, seen_by}
 use Rattle.subxact_stack.specs.declared.levels.Level.{Level}
 use Rattle.session_rules.specs.State.{LevelState, SessionState}
 use Rattle.session_rules.specs.World.{Around, Scene}
@@ -33,7 +34,7 @@ level_state level = record {
 abbrev pub levels_of : List Level → List LevelState
 levels_of levels = map level_state (reverse levels)
 
--- The session that a store and its space stand for. No step yet makes a lock, a portal, an active snapshot or a plan.
+-- The session that a store and its space stand for. No step yet makes a portal, an active snapshot or a plan.
 unfoldable pub session_of : StoreState → Space → SessionState
 session_of store s = record {
   contexts = stands_for store.tree s;
@@ -42,7 +43,7 @@ session_of store s = record {
   owners = owners_of store.owners;
   next_owner = store.owners.next_owner;
   next_serial = store.owners.next_serial;
-  locks = [];
+  locks = store.owners.locks;
   levels = levels_of store.levels;
   portals = [];
   snapshots = [];
@@ -54,10 +55,13 @@ session_of store s = record {
 abbrev pub contexts_in : StoreState → Space → Contexts
 contexts_in store s = (session_of store s).contexts
 
--- The session in its surroundings, with a shelf of hooks and no extension kind: as many bytes of the space are its share as its limit
--- says, and as many descriptors as its store has.
-abbrev pub scene_of : StoreState → Space → ShelfState → Around → Scene
-scene_of store s x around = record { session = session_of store s; around = record around { kinds = []; shelf = x; space = s.limit; descriptors = store.owners.descriptors } }
+-- The session in its surroundings, with a shelf of hooks and the commons of the run: as many bytes of the space are its share as its
+-- limit says, and as many descriptors as its store has.
+abbrev pub scene_of : StoreState → Space → ShelfState → CommonState → Around → Scene
+scene_of store s x c around = record {
+  session = session_of store s;
+  around = record (seen_by store.owners c around) { shelf = x; space = s.limit; descriptors = store.owners.descriptors };
+}
 
 -- the bytes that the session's contexts hold, and what is left of its share of the space
 abbrev pub held_in : StoreState → Space → ℕ

@@ -9,6 +9,7 @@ ghost use Rattle.context_rules.specs.Refusals.{alloc_refusal, bytes_refusal, fre
 ghost use Rattle.context_tree.specs.State.{error_of};
 ghost use Rattle.session_rules.specs.Taking.{chunk_resized, memory_taken};
 ghost use Rattle.session_rules.specs.Parts.{contexts_become};
+ghost use Rattle.session_owners.specs.Commons.{CommonState};
 ghost use Rattle.session_store.specs.State.{contexts_in, held_in, left_in};
 ghost use Rattle.session_store.specs.Calls.{Acted, ContextsAlone, IsSilent, Keeps, Refused, StandsIn};
 
@@ -30,13 +31,13 @@ impl<H: ResetHook> Store<H> {
         size: u64,
     ) -> Result<(), TreeError>
         requires keeps { Keeps self.old space.old }
-        requires stands { (x : ShelfState) × StandsIn self.old space.old x }
-        ensures acted { OnOk result ((x : ShelfState) → Acted (memory_taken chunk size false self.old.tree.current.number) self.old self.new space.old space.new x x IsSilent) }
-        ensures alone { ContextsAlone self.old self.new space.old space.new }
+        requires stands { (x : ShelfState) × ((c : CommonState) × StandsIn self.old space.old x c) }
+        ensures acted { OnOk result ((x : ShelfState) (c : CommonState) → Acted (memory_taken chunk size false self.old.tree.current.number) self.old self.new space.old space.new x x c c IsSilent) }
+        ensures alone { (c : CommonState) → ContextsAlone self.old self.new space.old space.new c c }
         ensures asked { OnOk result (Asks self.old.tree.account (asked self.old.tree.current.number (left_in self.old space.old) size (contexts_in self.old space.old)) space.old space.new) }
         ensures served { OnOk result (alloc_refusal self.old.tree.current.number (left_in self.old space.old) chunk size (contexts_in self.old space.old) ≡ None) }
         ensures cause { IfErr result (λ e. (e ≡ TreeError.Memory) ⊎ (alloc_refusal self.old.tree.current.number (left_in self.old space.old) chunk size (contexts_in self.old space.old) ≡ Some e)) }
-        ensures refused { OnErr result ((x : ShelfState) → Refused self.old self.new space.old space.new x x) }
+        ensures refused { OnErr result ((x : ShelfState) (c : CommonState) → Refused self.old self.new space.old space.new x x c c) }
         ensures err_space { OnErr result (space.new ≡ space.old) }
     {
         let at = self.tree.current();
@@ -51,13 +52,13 @@ impl<H: ResetHook> Store<H> {
         size: u64,
     ) -> Result<(), TreeError>
         requires keeps { Keeps self.old space.old }
-        requires stands { (x : ShelfState) × StandsIn self.old space.old x }
-        ensures acted { OnOk result ((x : ShelfState) → Acted (memory_taken chunk size true self.old.tree.current.number) self.old self.new space.old space.new x x IsSilent) }
-        ensures alone { ContextsAlone self.old self.new space.old space.new }
+        requires stands { (x : ShelfState) × ((c : CommonState) × StandsIn self.old space.old x c) }
+        ensures acted { OnOk result ((x : ShelfState) (c : CommonState) → Acted (memory_taken chunk size true self.old.tree.current.number) self.old self.new space.old space.new x x c c IsSilent) }
+        ensures alone { (c : CommonState) → ContextsAlone self.old self.new space.old space.new c c }
         ensures asked { OnOk result (Asks self.old.tree.account (asked self.old.tree.current.number (left_in self.old space.old) size (contexts_in self.old space.old)) space.old space.new) }
         ensures served { OnOk result (alloc_refusal self.old.tree.current.number (left_in self.old space.old) chunk size (contexts_in self.old space.old) ≡ None) }
         ensures cause { IfErr result (λ e. (e ≡ TreeError.Memory) ⊎ (alloc_refusal self.old.tree.current.number (left_in self.old space.old) chunk size (contexts_in self.old space.old) ≡ Some e)) }
-        ensures refused { OnErr result ((x : ShelfState) → Refused self.old self.new space.old space.new x x) }
+        ensures refused { OnErr result ((x : ShelfState) (c : CommonState) → Refused self.old self.new space.old space.new x x c c) }
         ensures err_space { OnErr result (space.new ≡ space.old) }
     {
         let at = self.tree.current();
@@ -70,13 +71,13 @@ impl<H: ResetHook> Store<H> {
     /// in place of any of them.
     pub fn realloc(&mut self, space: &mut Space, chunk: &Name, size: u64) -> Result<(), TreeError>
         requires keeps { Keeps self.old space.old }
-        requires stands { (x : ShelfState) × StandsIn self.old space.old x }
-        ensures acted { OnOk result ((x : ShelfState) → Acted (chunk_resized chunk.now size) self.old self.new space.old space.new x x IsSilent) }
-        ensures alone { ContextsAlone self.old self.new space.old space.new }
+        requires stands { (x : ShelfState) × ((c : CommonState) × StandsIn self.old space.old x c) }
+        ensures acted { OnOk result ((x : ShelfState) (c : CommonState) → Acted (chunk_resized chunk.now size) self.old self.new space.old space.new x x c c IsSilent) }
+        ensures alone { (c : CommonState) → ContextsAlone self.old self.new space.old space.new c c }
         ensures asked { OnOk result (Asks self.old.tree.account (resized_asked (held_in self.old space.old) space.old.limit chunk.now size (contexts_in self.old space.old)) space.old space.new) }
         ensures served { OnOk result (realloc_refusal (held_in self.old space.old) space.old.limit chunk.now size (contexts_in self.old space.old) ≡ None) }
         ensures cause { IfErr result (λ e. (e ≡ TreeError.Memory) ⊎ (realloc_refusal (held_in self.old space.old) space.old.limit chunk.now size (contexts_in self.old space.old) ≡ Some e)) }
-        ensures refused { OnErr result ((x : ShelfState) → Refused self.old self.new space.old space.new x x) }
+        ensures refused { OnErr result ((x : ShelfState) (c : CommonState) → Refused self.old self.new space.old space.new x x c c) }
         ensures err_space { OnErr result (space.new ≡ space.old) }
     {
         self.tree.realloc(space, chunk, size)
@@ -87,12 +88,12 @@ impl<H: ResetHook> Store<H> {
     /// `NoName` comes where no chunk has the name, and `Ctx(Unsupported)` in a Bump.
     pub fn free(&mut self, space: &mut Space, chunk: &Name) -> Result<(), TreeError>
         requires keeps { Keeps self.old space.old }
-        requires stands { (x : ShelfState) × StandsIn self.old space.old x }
+        requires stands { (x : ShelfState) × ((c : CommonState) × StandsIn self.old space.old x c) }
         ensures answer { error_of result ≡ free_refusal chunk.now (contexts_in self.old space.old) }
-        ensures acted { OnOk result ((x : ShelfState) → Acted (contexts_become (freed chunk.now)) self.old self.new space.old space.new x x IsSilent) }
-        ensures alone { ContextsAlone self.old self.new space.old space.new }
+        ensures acted { OnOk result ((x : ShelfState) (c : CommonState) → Acted (contexts_become (freed chunk.now)) self.old self.new space.old space.new x x c c IsSilent) }
+        ensures alone { (c : CommonState) → ContextsAlone self.old self.new space.old space.new c c }
         ensures asked { Asks self.old.tree.account 0 space.old space.new }
-        ensures refused { OnErr result ((x : ShelfState) → Refused self.old self.new space.old space.new x x) }
+        ensures refused { OnErr result ((x : ShelfState) (c : CommonState) → Refused self.old self.new space.old space.new x x c c) }
         ensures err_space { OnErr result (space.new ≡ space.old) }
     {
         self.tree.free(space, chunk)
@@ -111,12 +112,12 @@ impl<H: ResetHook> Store<H> {
         bytes: &[u8],
     ) -> Result<(), TreeError>
         requires keeps { Keeps self.old space.old }
-        requires stands { (x : ShelfState) × StandsIn self.old space.old x }
+        requires stands { (x : ShelfState) × ((c : CommonState) × StandsIn self.old space.old x c) }
         ensures answer { error_of result ≡ put_refusal chunk.now at (length bytes.now) (contexts_in self.old space.old) }
-        ensures acted { OnOk result ((x : ShelfState) → Acted (contexts_become (written chunk.now at bytes.now)) self.old self.new space.old space.new x x IsSilent) }
-        ensures alone { ContextsAlone self.old self.new space.old space.new }
+        ensures acted { OnOk result ((x : ShelfState) (c : CommonState) → Acted (contexts_become (written chunk.now at bytes.now)) self.old self.new space.old space.new x x c c IsSilent) }
+        ensures alone { (c : CommonState) → ContextsAlone self.old self.new space.old space.new c c }
         ensures asked { Asks self.old.tree.account 0 space.old space.new }
-        ensures refused { OnErr result ((x : ShelfState) → Refused self.old self.new space.old space.new x x) }
+        ensures refused { OnErr result ((x : ShelfState) (c : CommonState) → Refused self.old self.new space.old space.new x x c c) }
         ensures err_space { OnErr result (space.new ≡ space.old) }
     {
         self.tree.put(space, chunk, at, bytes)
@@ -153,8 +154,8 @@ impl<H: ResetHook> Store<H> {
     pub fn place(&self, chunk: &Name) -> Addr
         requires { (s : Space) × IsSome (found chunk.now (contexts_in self.now s)) }
         ensures known { (s : Space) → Keeps self.now s → IfSome (found chunk.now (contexts_in self.now s)) (λ f. HasBytes s result f.chunk.known) }
-        ensures alone { (s t : Space) (offset : ℕ) (bytes : List ℕ) → Keeps self.now s → IfSome (found chunk.now (contexts_in self.now s)) (λ f. offset + length bytes ≤ length f.chunk.known) → Changes s t result.region (overwritten (region_at s result.region) (result.offset + offset) (map Some bytes)) → ContextsAlone self.now self.now s t }
-        ensures written { (s t : Space) (offset : ℕ) (bytes : List ℕ) → Keeps self.now s → IfSome (found chunk.now (contexts_in self.now s)) (λ f. offset + length bytes ≤ length f.chunk.known) → Changes s t result.region (overwritten (region_at s result.region) (result.offset + offset) (map Some bytes)) → (x : ShelfState) → Acted (contexts_become (written chunk.now offset bytes)) self.now self.now s t x x IsSilent }
+        ensures alone { (s t : Space) (offset : ℕ) (bytes : List ℕ) → Keeps self.now s → IfSome (found chunk.now (contexts_in self.now s)) (λ f. offset + length bytes ≤ length f.chunk.known) → Changes s t result.region (overwritten (region_at s result.region) (result.offset + offset) (map Some bytes)) → (c : CommonState) → ContextsAlone self.now self.now s t c c }
+        ensures written { (s t : Space) (offset : ℕ) (bytes : List ℕ) → Keeps self.now s → IfSome (found chunk.now (contexts_in self.now s)) (λ f. offset + length bytes ≤ length f.chunk.known) → Changes s t result.region (overwritten (region_at s result.region) (result.offset + offset) (map Some bytes)) → (x : ShelfState) (c : CommonState) → Acted (contexts_become (written chunk.now offset bytes)) self.now self.now s t x x c c IsSilent }
     {
         self.tree.place(chunk)
     }

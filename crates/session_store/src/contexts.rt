@@ -8,6 +8,7 @@ ghost use Rattle.context_tree.specs.State.{IsLive, error_of};
 ghost use Rattle.context_tree.specs.Making.{AsksInVain};
 ghost use Rattle.session_rules.specs.Making.{context_made};
 ghost use Rattle.session_rules.specs.Parts.{context_moved};
+ghost use Rattle.session_owners.specs.Commons.{CommonState};
 ghost use Rattle.session_store.specs.State.{contexts_in, left_in};
 ghost use Rattle.session_store.specs.Calls.{Acted, ContextsAlone, Keeps, Refused, StandsIn};
 
@@ -32,18 +33,18 @@ impl<H: ResetHook> Store<H> {
         out: &mut E,
     ) -> Result<CtxId, TreeError>
         requires keeps { Keeps self.old space.old }
-        requires stands { (x : ShelfState) × StandsIn self.old space.old x }
+        requires stands { (x : ShelfState) × ((c : CommonState) × StandsIn self.old space.old x c) }
         requires live { IsLive self.old.tree parent }
         requires slab { IsSlabSize kind }
         requires room { self.old.tree.next < 2 ^ 62 }
         ensures number { IfOk result (λ id. id.number ≡ self.old.tree.next) }
         ensures live { IfOk result (IsLive self.new.tree) }
-        ensures acted { OnOk result ((x : ShelfState) → Acted (context_made parent.number name false kind) self.old self.new space.old space.new x x (λ events. E.emits out.old events out.new)) }
-        ensures alone { ContextsAlone self.old self.new space.old space.new }
+        ensures acted { OnOk result ((x : ShelfState) (c : CommonState) → Acted (context_made parent.number name false kind) self.old self.new space.old space.new x x c c (λ events. E.emits out.old events out.new)) }
+        ensures alone { (c : CommonState) → ContextsAlone self.old self.new space.old space.new c c }
         ensures asked { OnOk result (Asks self.old.tree.account (first_size kind) space.old space.new) }
         ensures served { OnOk result (create_refusal (left_in self.old space.old) name kind false (contexts_in self.old space.old) ≡ None) }
         ensures cause { IfErr result (λ e. (e ≡ TreeError.Memory) ⊎ (create_refusal (left_in self.old space.old) name kind false (contexts_in self.old space.old) ≡ Some e)) }
-        ensures refused { OnErr result ((x : ShelfState) → Refused self.old self.new space.old space.new x x) }
+        ensures refused { OnErr result ((x : ShelfState) (c : CommonState) → Refused self.old self.new space.old space.new x x c c) }
         ensures err_asked { IfErr result (λ e. AsksInVain e self.old.tree.account (first_size kind) space.old space.new) }
         ensures silent { OnErr result (out.new ≡ out.old) }
     {
@@ -60,12 +61,12 @@ impl<H: ResetHook> Store<H> {
         parent: CtxId,
         out: &mut E,
     ) -> Result<(), TreeError>
-        requires stands { (s : Space) × ((x : ShelfState) × StandsIn self.old s x) }
+        requires stands { (s : Space) × ((x : ShelfState) × ((c : CommonState) × StandsIn self.old s x c)) }
         requires live { IsLive self.old.tree at }
         requires parent { IsLive self.old.tree parent }
         ensures answer { (s : Space) → error_of result ≡ set_parent_refusal at.number parent.number (contexts_in self.old s) }
-        ensures acted { OnOk result ((s : Space) (x : ShelfState) → Acted (context_moved at.number parent.number) self.old self.new s s x x (λ events. E.emits out.old events out.new)) }
-        ensures alone { (s : Space) → Keeps self.old s → ContextsAlone self.old self.new s s }
+        ensures acted { OnOk result ((s : Space) (x : ShelfState) (c : CommonState) → Acted (context_moved at.number parent.number) self.old self.new s s x x c c (λ events. E.emits out.old events out.new)) }
+        ensures alone { (s : Space) (c : CommonState) → Keeps self.old s → ContextsAlone self.old self.new s s c c }
         ensures err { OnErr result (self.new ≡ self.old) }
         ensures silent { OnErr result (out.new ≡ out.old) }
     {

@@ -4,6 +4,7 @@ ghost use Rattle.addr_space.specs.Space.{Asks};
 ghost use Rattle.context_rules.specs.Refusals.{delete_refusal, reset_only_refusal, reset_refusal};
 ghost use Rattle.context_tree.specs.State.{IsLive, error_of};
 ghost use Rattle.session_rules.specs.Acts.{children_gone, context_cleared, context_cleared_alone, context_gone};
+ghost use Rattle.session_owners.specs.Commons.{CommonState};
 ghost use Rattle.session_store.specs.State.{contexts_in};
 ghost use Rattle.session_store.specs.Calls.{Acted, ContextsAlone, Keeps, Refused, StandsIn};
 
@@ -26,13 +27,13 @@ impl<H: ResetHook> Store<H> {
         out: &mut E,
     ) -> Result<(), TreeError>
         requires keeps { Keeps self.old space.old }
-        requires stands { StandsIn self.old space.old shelf.old }
+        requires stands { (c : CommonState) × StandsIn self.old space.old shelf.old c }
         requires live { IsLive self.old.tree at }
         ensures answer { error_of result ≡ reset_refusal at.number self.old.tree.current.number (contexts_in self.old space.old) }
-        ensures acted { OnOk result (Acted (context_cleared at.number) self.old self.new space.old space.new shelf.old shelf.new (λ events. E.emits out.old events out.new)) }
-        ensures alone { ContextsAlone self.old self.new space.old space.new }
+        ensures acted { OnOk result ((c : CommonState) → Acted (context_cleared at.number) self.old self.new space.old space.new shelf.old shelf.new c c (λ events. E.emits out.old events out.new)) }
+        ensures alone { (c : CommonState) → ContextsAlone self.old self.new space.old space.new c c }
         ensures asked { Asks self.old.tree.account 0 space.old space.new }
-        ensures refused { OnErr result (Refused self.old self.new space.old space.new shelf.old shelf.new) }
+        ensures refused { OnErr result ((c : CommonState) → Refused self.old self.new space.old space.new shelf.old shelf.new c c) }
         ensures silent { OnErr result (out.new ≡ out.old) }
     {
         self.tree.reset(space, shelf, at, out)
@@ -49,13 +50,13 @@ impl<H: ResetHook> Store<H> {
         out: &mut E,
     ) -> Result<(), TreeError>
         requires keeps { Keeps self.old space.old }
-        requires stands { StandsIn self.old space.old shelf.old }
+        requires stands { (c : CommonState) × StandsIn self.old space.old shelf.old c }
         requires live { IsLive self.old.tree at }
         ensures answer { error_of result ≡ reset_only_refusal at.number (contexts_in self.old space.old) }
-        ensures acted { OnOk result (Acted (context_cleared_alone at.number) self.old self.new space.old space.new shelf.old shelf.new (λ events. E.emits out.old events out.new)) }
-        ensures alone { ContextsAlone self.old self.new space.old space.new }
+        ensures acted { OnOk result ((c : CommonState) → Acted (context_cleared_alone at.number) self.old self.new space.old space.new shelf.old shelf.new c c (λ events. E.emits out.old events out.new)) }
+        ensures alone { (c : CommonState) → ContextsAlone self.old self.new space.old space.new c c }
         ensures asked { Asks self.old.tree.account 0 space.old space.new }
-        ensures refused { OnErr result (Refused self.old self.new space.old space.new shelf.old shelf.new) }
+        ensures refused { OnErr result ((c : CommonState) → Refused self.old self.new space.old space.new shelf.old shelf.new c c) }
         ensures silent { OnErr result (out.new ≡ out.old) }
     {
         self.tree.reset_only(space, shelf, at, out)
@@ -73,13 +74,13 @@ impl<H: ResetHook> Store<H> {
         out: &mut E,
     ) -> Result<(), TreeError>
         requires keeps { Keeps self.old space.old }
-        requires stands { StandsIn self.old space.old shelf.old }
+        requires stands { (c : CommonState) × StandsIn self.old space.old shelf.old c }
         requires live { IsLive self.old.tree at }
         ensures answer { error_of result ≡ delete_refusal at.number self.old.tree.current.number (contexts_in self.old space.old) }
-        ensures acted { OnOk result (Acted (context_gone at.number) self.old self.new space.old space.new shelf.old shelf.new (λ events. E.emits out.old events out.new)) }
-        ensures alone { ContextsAlone self.old self.new space.old space.new }
+        ensures acted { OnOk result ((c : CommonState) → Acted (context_gone at.number) self.old self.new space.old space.new shelf.old shelf.new c c (λ events. E.emits out.old events out.new)) }
+        ensures alone { (c : CommonState) → ContextsAlone self.old self.new space.old space.new c c }
         ensures asked { Asks self.old.tree.account 0 space.old space.new }
-        ensures refused { OnErr result (Refused self.old self.new space.old space.new shelf.old shelf.new) }
+        ensures refused { OnErr result ((c : CommonState) → Refused self.old self.new space.old space.new shelf.old shelf.new c c) }
         ensures silent { OnErr result (out.new ≡ out.old) }
     {
         self.tree.delete(space, shelf, at, out)
@@ -94,13 +95,13 @@ impl<H: ResetHook> Store<H> {
         out: &mut E,
     ) -> Result<(), TreeError>
         requires keeps { Keeps self.old space.old }
-        requires stands { StandsIn self.old space.old shelf.old }
+        requires stands { (c : CommonState) × StandsIn self.old space.old shelf.old c }
         requires live { IsLive self.old.tree at }
         ensures answer { error_of result ≡ reset_refusal at.number self.old.tree.current.number (contexts_in self.old space.old) }
-        ensures acted { OnOk result (Acted (children_gone at.number) self.old self.new space.old space.new shelf.old shelf.new (λ events. E.emits out.old events out.new)) }
-        ensures alone { ContextsAlone self.old self.new space.old space.new }
+        ensures acted { OnOk result ((c : CommonState) → Acted (children_gone at.number) self.old self.new space.old space.new shelf.old shelf.new c c (λ events. E.emits out.old events out.new)) }
+        ensures alone { (c : CommonState) → ContextsAlone self.old self.new space.old space.new c c }
         ensures asked { Asks self.old.tree.account 0 space.old space.new }
-        ensures refused { OnErr result (Refused self.old self.new space.old space.new shelf.old shelf.new) }
+        ensures refused { OnErr result ((c : CommonState) → Refused self.old self.new space.old space.new shelf.old shelf.new c c) }
         ensures silent { OnErr result (out.new ≡ out.old) }
     {
         self.tree.delete_children(space, shelf, at, out)

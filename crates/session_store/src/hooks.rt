@@ -5,6 +5,7 @@ ghost use Rattle.context_tree.specs.State.{IsLive};
 ghost use Rattle.session_rules.specs.State.{first_of};
 ghost use Rattle.session_rules.specs.Acts.{where_there};
 ghost use Rattle.session_rules.specs.Taking.{hook_waits};
+ghost use Rattle.session_owners.specs.Commons.{CommonState};
 ghost use Rattle.session_store.specs.Calls.{Acted, ContextsAlone, Keeps, StandsIn};
 
 use crate::store::Store;
@@ -30,10 +31,10 @@ impl<H: ResetHook> Store<H> {
         at: CtxId,
         out: &mut E,
     ) -> Result<(), RegisterError>
-        requires stands { (s : Space) × StandsIn self.old s shelf.old }
+        requires stands { (s : Space) × ((c : CommonState) × StandsIn self.old s shelf.old c) }
         requires live { IsLive self.old.tree at }
-        ensures acted { OnOk result ((s : Space) → Acted (λ scene. where_there (first_of scene.around.shelf.fresh) (hook_waits at.number) scene) self.old self.new s s shelf.old shelf.new (λ events. E.emits out.old events out.new)) }
-        ensures alone { (s : Space) → Keeps self.old s → ContextsAlone self.old self.new s s }
+        ensures acted { OnOk result ((s : Space) (c : CommonState) → Acted (λ scene. where_there (first_of scene.around.shelf.fresh) (hook_waits at.number) scene) self.old self.new s s shelf.old shelf.new c c (λ events. E.emits out.old events out.new)) }
+        ensures alone { (s : Space) (c : CommonState) → Keeps self.old s → ContextsAlone self.old self.new s s c c }
         ensures no_hook { (result ≡ Err RegisterError.NoHook) ↔ (shelf.old.fresh ≡ []) }
         ensures err { OnErr result (self.new ≡ self.old) }
         ensures err_shelf { OnErr result (shelf.new ≡ shelf.old) }

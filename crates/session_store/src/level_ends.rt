@@ -17,6 +17,7 @@ ghost use Rattle.session_rules.specs.Acts.{context_gone, in_order, switched, whe
 ghost use Rattle.session_rules.specs.Releases.{owner_gone, owner_released};
 ghost use Rattle.session_rules.specs.Ends.{aborted, cleaned_up, committed, subcommitted};
 ghost use Rattle.session_owners.specs.Fitting as fitting;
+ghost use Rattle.session_owners.specs.Commons.{Balances, CommonState, Serves};
 ghost use Rattle.session_store.specs.State.{levels_of, only_empty};
 ghost use Rattle.session_store.specs.Calls.{Acted, Keeps, StandsIn};
 
@@ -24,28 +25,32 @@ use crate::levels::deepest;
 use crate::store::Store;
 use addr_space::Space;
 use context_tree::ContextTree;
+use owner_kinds::ExtKind;
 use pgs_step::{CtxId, Emit, OwnerId, What};
 use reset_callbacks::{ResetHook, Shelf};
-use session_owners::Resources;
+use session_owners::{Commons, Resources};
 
 /// Releases all that an owner holds, and all below it, if there is one.
-fn release_owner<E: Emit>(
+fn release_owner<K: ExtKind, E: Emit>(
     resources: &mut Resources,
     owner: Option<OwnerId>,
     commit: bool,
     top: bool,
+    commons: &mut Commons<K>,
     out: &mut E,
 )
     requires live { IfSome owner (owners.IsLive resources.old) }
     requires top { IfSome owner (λ o. (top ≡ true) ↔ (parent_of o.number (owners_of resources.old) ≡ None)) }
-    ensures acted { fitting.Acted (λ scene. where_there (option_map (λ o. o.number) owner) (owner_released commit top) scene) resources.old resources.new (λ events. E.emits out.old events out.new) }
+    requires serves { Serves resources.old commons.old }
+    ensures acted { fitting.Acted (λ scene. where_there (option_map (λ o. o.number) owner) (owner_released commit top) scene) resources.old resources.new commons.old commons.new (λ events. E.emits out.old events out.new) }
+    ensures balances { Balances resources.old resources.new commons.old commons.new }
     ensures nothing_left { IfSome owner (λ o. AllAt HoldsNothing o.number (owners_of resources.new)) }
     ensures places { resources.new.places ≡ resources.old.places }
     ensures stays { (n : ℕ) → has n (owners_of resources.new) ≡ has n (owners_of resources.old) }
 {
     match owner {
         None => {}
-        Some(owner) => resources.release(owner, commit, top, out),
+        Some(owner) => resources.release(owner, commit, top, commons, out),
     }
 }
 
@@ -53,7 +58,8 @@ fn release_owner<E: Emit>(
 fn discard_owner<E: Emit>(resources: &mut Resources, owner: Option<OwnerId>, out: &mut E)
     requires live { IfSome owner (owners.IsLive resources.old) }
     requires empty { IfSome owner (λ o. AllAt HoldsNothing o.number (owners_of resources.old)) }
-    ensures acted { fitting.Acted (λ scene. where_there (option_map (λ o. o.number) owner) owner_gone scene) resources.old resources.new (λ events. E.emits out.old events out.new) }
+    ensures acted { (c : CommonState) → fitting.Acted (λ scene. where_there (option_map (λ o. o.number) owner) owner_gone scene) resources.old resources.new c c (λ events. E.emits out.old events out.new) }
+    ensures balances { (c : CommonState) → Balances resources.old resources.new c c }
     ensures stays { (n : ℕ) → has n (owners_of resources.new) ≡ true → at n resources.new.places ≡ at n resources.old.places }
 {
     match owner {
@@ -106,10 +112,11 @@ fn if_empty<H: ResetHook>(tree: &ContextTree<H>, context: Option<CtxId>) -> Opti
 impl<H: ResetHook> Store<H> {
     /// Aborts the deepest level: all that its owner holds is released. The context for aborts is the current one then:
     /// `AbortTransaction` and `AbortSubTransaction`. It takes no memory.
-    pub fn abort<E: Emit>(&mut self, out: &mut E)
+    pub fn abort<K: ExtKind, E: Emit>(&mut self, commons: &mut Commons<K>, out: &mut E)
         requires level { 0 < length self.old.levels }
-        requires stands { (s : Space) × ((x : ShelfState) × StandsIn self.old s x) }
-        ensures acted { (s : Space) (x : ShelfState) → Acted aborted self.old self.new s s x x (λ events. E.emits out.old events out.new) }
+        requires stands { (s : Space) × ((x : ShelfState) × StandsIn self.old s x commons.old) }
+        requires serves { Serves self.old.owners commons.old }
+        ensures acted { (s : Space) (x : ShelfState) → Acted aborted self.old self.new s s x x commons.old commons.new (λ events. E.emits out.old events out.new) }
         ensures keeps { (s : Space) → Keeps self.old s → Keeps self.new s }
         ensures levels { self.new.levels ≡ with_deepest (λ level. record level { aborted = true }) self.old.levels }
         ensures tree { self.new.tree ≡ record self.old.tree { current = self.new.tree.current } }
@@ -119,7 +126,7 @@ impl<H: ResetHook> Store<H> {
         out.emit(What::AbortLevel(number));
         let context = self.tree.abort_context();
         self.tree.switch(context);
-        release_owner(&mut self.owners, owner, false, number == 1, out);
+        release_owner(&mut self.owners, owner, false, number == 1, commons, out);
         self.levels.mark_aborted();
     }
 
@@ -128,10 +135,10 @@ impl<H: ResetHook> Store<H> {
     /// `CleanupSubTransaction`. It takes no memory.
     pub fn clean_up<E: Emit>(&mut self, space: &mut Space, shelf: &mut Shelf<H>, out: &mut E)
         requires keeps { Keeps self.old space.old }
-        requires stands { StandsIn self.old space.old shelf.old }
+        requires stands { (c : CommonState) × StandsIn self.old space.old shelf.old c }
         requires level { 0 < length self.old.levels }
         requires aborted { is_aborted (levels_of self.old.levels) ≡ true }
-        ensures acted { Acted cleaned_up self.old self.new space.old space.new shelf.old shelf.new (λ events. E.emits out.old events out.new) }
+        ensures acted { (c : CommonState) → Acted cleaned_up self.old self.new space.old space.new shelf.old shelf.new c c (λ events. E.emits out.old events out.new) }
         ensures keeps { Keeps self.new space.new }
         ensures moves { Moves self.old.tree self.new.tree space.old space.new }
         ensures asked { Asks self.old.tree.account 0 space.old space.new }
@@ -150,11 +157,18 @@ impl<H: ResetHook> Store<H> {
     /// Rolls the deepest level back, which need not be whole: all that its owner holds is released, and then the owner, the
     /// level's context and the level go. The context of the level above is the current one then, or the topmost one. It takes
     /// no memory.
-    pub fn roll_back<E: Emit>(&mut self, space: &mut Space, shelf: &mut Shelf<H>, out: &mut E)
+    pub fn roll_back<K: ExtKind, E: Emit>(
+        &mut self,
+        space: &mut Space,
+        shelf: &mut Shelf<H>,
+        commons: &mut Commons<K>,
+        out: &mut E,
+    )
         requires keeps { Keeps self.old space.old }
-        requires stands { StandsIn self.old space.old shelf.old }
+        requires stands { StandsIn self.old space.old shelf.old commons.old }
+        requires serves { Serves self.old.owners commons.old }
         requires level { 0 < length self.old.levels }
-        ensures acted { Acted (in_order (aborted ∷ cleaned_up ∷ [])) self.old self.new space.old space.new shelf.old shelf.new (λ events. E.emits out.old events out.new) }
+        ensures acted { Acted (in_order (aborted ∷ cleaned_up ∷ [])) self.old self.new space.old space.new shelf.old shelf.new commons.old commons.new (λ events. E.emits out.old events out.new) }
         ensures keeps { Keeps self.new space.new }
         ensures moves { Moves self.old.tree self.new.tree space.old space.new }
         ensures asked { Asks self.old.tree.account 0 space.old space.new }
@@ -165,7 +179,14 @@ impl<H: ResetHook> Store<H> {
         let level = deepest(&self.levels);
         let _ = self.levels.pop();
         out.emit(What::AbortLevel(number));
-        release_owner(&mut self.owners, level.owner, false, number == 1, out);
+        release_owner(
+            &mut self.owners,
+            level.owner,
+            false,
+            number == 1,
+            commons,
+            out,
+        );
         out.emit(What::CleanupLevel(number));
         discard_owner(&mut self.owners, level.owner, out);
         self.tree.switch(above);
@@ -174,11 +195,18 @@ impl<H: ResetHook> Store<H> {
 
     /// Commits level 1: what its owner still holds is released with a warning, and then the owner, the level's context and the
     /// level go. The topmost context is the current one then: `CommitTransaction`. It takes no memory.
-    pub fn commit_top<E: Emit>(&mut self, space: &mut Space, shelf: &mut Shelf<H>, out: &mut E)
+    pub fn commit_top<K: ExtKind, E: Emit>(
+        &mut self,
+        space: &mut Space,
+        shelf: &mut Shelf<H>,
+        commons: &mut Commons<K>,
+        out: &mut E,
+    )
         requires keeps { Keeps self.old space.old }
-        requires stands { StandsIn self.old space.old shelf.old }
+        requires stands { StandsIn self.old space.old shelf.old commons.old }
+        requires serves { Serves self.old.owners commons.old }
         requires level { length self.old.levels ≡ 1 }
-        ensures acted { Acted committed self.old self.new space.old space.new shelf.old shelf.new (λ events. E.emits out.old events out.new) }
+        ensures acted { Acted committed self.old self.new space.old space.new shelf.old shelf.new commons.old commons.new (λ events. E.emits out.old events out.new) }
         ensures keeps { Keeps self.new space.new }
         ensures moves { Moves self.old.tree self.new.tree space.old space.new }
         ensures asked { Asks self.old.tree.account 0 space.old space.new }
@@ -187,7 +215,7 @@ impl<H: ResetHook> Store<H> {
         let level = deepest(&self.levels);
         let _ = self.levels.pop();
         out.emit(What::CommitLevel(1));
-        release_owner(&mut self.owners, level.owner, true, true, out);
+        release_owner(&mut self.owners, level.owner, true, true, commons, out);
         discard_owner(&mut self.owners, level.owner, out);
         let top = self.tree.top();
         self.tree.switch(top);
@@ -197,11 +225,18 @@ impl<H: ResetHook> Store<H> {
     /// Commits the deepest level, which isn't level 1: what its owner still holds is released with a warning, and then the owner
     /// and the level go. The context of the level above is the current one then, and the level's own context stays, as a context
     /// below that, unless no memory was taken there and no context stands below it: `CommitSubTransaction`. It takes no memory.
-    pub fn subcommit<E: Emit>(&mut self, space: &mut Space, shelf: &mut Shelf<H>, out: &mut E)
+    pub fn subcommit<K: ExtKind, E: Emit>(
+        &mut self,
+        space: &mut Space,
+        shelf: &mut Shelf<H>,
+        commons: &mut Commons<K>,
+        out: &mut E,
+    )
         requires keeps { Keeps self.old space.old }
-        requires stands { StandsIn self.old space.old shelf.old }
+        requires stands { StandsIn self.old space.old shelf.old commons.old }
+        requires serves { Serves self.old.owners commons.old }
         requires level { 1 < length self.old.levels }
-        ensures acted { Acted subcommitted self.old self.new space.old space.new shelf.old shelf.new (λ events. E.emits out.old events out.new) }
+        ensures acted { Acted subcommitted self.old self.new space.old space.new shelf.old shelf.new commons.old commons.new (λ events. E.emits out.old events out.new) }
         ensures keeps { Keeps self.new space.new }
         ensures moves { Moves self.old.tree self.new.tree space.old space.new }
         ensures asked { Asks self.old.tree.account 0 space.old space.new }
@@ -212,7 +247,7 @@ impl<H: ResetHook> Store<H> {
         let level = deepest(&self.levels);
         let _ = self.levels.pop();
         out.emit(What::CommitLevel(number));
-        release_owner(&mut self.owners, level.owner, true, false, out);
+        release_owner(&mut self.owners, level.owner, true, false, commons, out);
         discard_owner(&mut self.owners, level.owner, out);
         self.tree.switch(above);
         let context = if_empty(&self.tree, level.context);
@@ -223,9 +258,10 @@ impl<H: ResetHook> Store<H> {
     /// account holds nothing then: `MemoryContextDelete` of `TopMemoryContext`. It takes no memory.
     pub fn close<E: Emit>(&mut self, space: &mut Space, shelf: &mut Shelf<H>, out: &mut E)
         requires keeps { Keeps self.old space.old }
-        requires stands { StandsIn self.old space.old shelf.old }
+        requires stands { (c : CommonState) × StandsIn self.old space.old shelf.old c }
         requires level { self.old.levels ≡ [] }
-        ensures acted { Acted (in_order (switched top_context ∷ context_gone top_context ∷ [])) self.old self.new space.old space.new shelf.old shelf.new (λ events. E.emits out.old events out.new) }
+        ensures acted { (c : CommonState) → Acted (in_order (switched top_context ∷ context_gone top_context ∷ [])) self.old self.new space.old space.new shelf.old shelf.new c c (λ events. E.emits out.old events out.new) }
+        ensures owners { self.new.owners ≡ self.old.owners }
         ensures keeps { Keeps self.new space.new }
         ensures moves { Moves self.old.tree self.new.tree space.old space.new }
         ensures asked { Asks self.old.tree.account 0 space.old space.new }

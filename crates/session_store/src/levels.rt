@@ -18,6 +18,7 @@ ghost use Rattle.session_rules.specs.Commands.{savepoint};
 ghost use Rattle.session_rules.specs.Elements.{LevelContext, OfLevel};
 ghost use Rattle.session_rules.specs.Making.{level_made, level_context_name, level_parent, new_context_made, new_owner_made};
 ghost use Rattle.session_rules.specs.Parts.{level_stands};
+ghost use Rattle.session_owners.specs.Commons.{CommonState};
 ghost use Rattle.session_store.specs.State.{contexts_in, left_in, level_state, levels_of};
 ghost use Rattle.session_store.specs.Calls.{Acted, IsSilent, Keeps, Refused, StandsIn};
 
@@ -114,7 +115,7 @@ impl<H: ResetHook> Store<H> {
         out: &mut E,
     ) -> Result<(), LevelError>
         ensures store { OnOk result (self.new ≡ record self.old { levels = self.old.levels ++ new_level name implicit ∷ [] }) }
-        ensures acted { OnOk result ((s : Space) (x : ShelfState) → Acted (level_made name implicit) self.old self.new s s x x (λ events. E.emits out.old events out.new)) }
+        ensures acted { OnOk result ((s : Space) (x : ShelfState) (c : CommonState) → Acted (level_made name implicit) self.old self.new s s x x c c (λ events. E.emits out.old events out.new)) }
         ensures keeps { (s : Space) → Keeps self.old s → Keeps self.new s }
         ensures too_many { (result ≡ Err LevelError.TooMany) ↔ (length self.old.levels ≡ 1000) }
         ensures err { OnErr result (self.new ≡ self.old) }
@@ -131,8 +132,8 @@ impl<H: ResetHook> Store<H> {
     /// The deepest level is whole: its context becomes the current one.
     pub fn level_stands(&mut self)
         requires level { 0 < length self.old.levels }
-        requires stands { (s : Space) × ((x : ShelfState) × StandsIn self.old s x) }
-        ensures acted { (s : Space) (x : ShelfState) → Acted level_stands self.old self.new s s x x IsSilent }
+        requires stands { (s : Space) × ((x : ShelfState) × ((c : CommonState) × StandsIn self.old s x c)) }
+        ensures acted { (s : Space) (x : ShelfState) (c : CommonState) → Acted level_stands self.old self.new s s x x c c IsSilent }
         ensures keeps { (s : Space) → Keeps self.old s → Keeps self.new s }
         ensures tree { self.new.tree ≡ record self.old.tree { current = self.new.tree.current } }
         ensures owners { self.new.owners ≡ self.old.owners }
@@ -145,7 +146,7 @@ impl<H: ResetHook> Store<H> {
     /// The context of the level above the deepest, and where there is no such level the topmost one.
     pub(crate) fn context_above(&self) -> CtxId
         requires level { 0 < length self.now.levels }
-        requires stands { (s : Space) × ((x : ShelfState) × StandsIn self.now s x) }
+        requires stands { (s : Space) × ((x : ShelfState) × ((c : CommonState) × StandsIn self.now s x c)) }
         ensures number { result.number ≡ level_parent (first_of (drop 1 (levels_of self.now.levels))) }
         ensures live { IsLive self.now.tree result }
     {
@@ -169,16 +170,16 @@ impl<H: ResetHook> Store<H> {
     ) -> Result<(), TreeError>
         requires keeps { Keeps self.old space.old }
         requires level { 0 < length self.old.levels }
-        requires stands { (x : ShelfState) × StandsIn self.old space.old x }
+        requires stands { (x : ShelfState) × ((c : CommonState) × StandsIn self.old space.old x c) }
         requires room { self.old.tree.next < 2 ^ 62 }
-        ensures acted { OnOk result ((x : ShelfState) → Acted (new_context_made LevelContext) self.old self.new space.old space.new x x (λ events. E.emits out.old events out.new)) }
+        ensures acted { OnOk result ((x : ShelfState) (c : CommonState) → Acted (new_context_made LevelContext) self.old self.new space.old space.new x x c c (λ events. E.emits out.old events out.new)) }
         ensures keeps { Keeps self.new space.new }
         ensures moves { Moves self.old.tree self.new.tree space.old space.new }
         ensures owners { self.new.owners ≡ self.old.owners }
         ensures asked { OnOk result (Asks self.old.tree.account (first_size kind.Default) space.old space.new) }
         ensures served { OnOk result (create_refusal (left_in self.old space.old) (codes "CurTransactionContext") kind.Default true (contexts_in self.old space.old) ≡ None) }
         ensures cause { IfErr result (λ e. (e ≡ TreeError.Memory) ⊎ (create_refusal (left_in self.old space.old) (codes "CurTransactionContext") kind.Default true (contexts_in self.old space.old) ≡ Some e)) }
-        ensures refused { OnErr result ((x : ShelfState) → Refused self.old self.new space.old space.new x x) }
+        ensures refused { OnErr result ((x : ShelfState) (c : CommonState) → Refused self.old self.new space.old space.new x x c c) }
         ensures err_asked { IfErr result (λ e. AsksInVain e self.old.tree.account (first_size kind.Default) space.old space.new) }
         ensures silent { OnErr result (out.new ≡ out.old) }
     {
@@ -201,9 +202,9 @@ impl<H: ResetHook> Store<H> {
     /// `TooMany` comes where as many owners live as can, `Memory` where memory is refused.
     pub fn make_level_owner<E: Emit>(&mut self, out: &mut E) -> Result<(), OwnerError>
         requires level { 0 < length self.old.levels }
-        requires stands { (s : Space) × ((x : ShelfState) × StandsIn self.old s x) }
+        requires stands { (s : Space) × ((x : ShelfState) × ((c : CommonState) × StandsIn self.old s x c)) }
         requires room { self.old.owners.next_owner < 2 ^ 62 }
-        ensures acted { OnOk result ((s : Space) (x : ShelfState) → Acted (new_owner_made OfLevel) self.old self.new s s x x (λ events. E.emits out.old events out.new)) }
+        ensures acted { OnOk result ((s : Space) (x : ShelfState) (c : CommonState) → Acted (new_owner_made OfLevel) self.old self.new s s x x c c (λ events. E.emits out.old events out.new)) }
         ensures keeps { (s : Space) → Keeps self.old s → Keeps self.new s }
         ensures tree { self.new.tree ≡ self.old.tree }
         ensures too_many { (result ≡ Err OwnerError.TooMany) ↔ (65536 ≤ size (owners_of self.old.owners)) }

@@ -5,6 +5,8 @@ ghost use Rattle.addr_space.specs.Space.{Space, accounts, held, Asks};
 ghost use Rattle.reset_callbacks.specs.Hook.{AreDistinct};
 ghost use Rattle.reset_callbacks.specs.ShelfState as shelf;
 ghost use Rattle.reset_callbacks.specs.ShelfState.{ShelfState};
+ghost use Rattle.owner_kinds.specs.KindShelf.{table_of};
+ghost use Rattle.owner_kinds.specs.KindTable.{IsSound};
 ghost use Rattle.context_rules.specs.Names.{same_name};
 ghost use Rattle.context_rules.specs.Contexts.{is_protected};
 ghost use Rattle.context_tree.specs.State.{IsLive, Moves, SameRegions, no_contexts};
@@ -12,6 +14,7 @@ ghost use Rattle.session_rules.specs.State.{opening};
 ghost use Rattle.session_rules.specs.Lookup.{context_named};
 ghost use Rattle.session_rules.specs.Acts.{switched};
 ghost use Rattle.subxact_stack.specs.Levels.{level_at};
+ghost use Rattle.session_owners.specs.Commons.{CommonState};
 ghost use Rattle.session_store.specs.State.{contexts_in, session_of};
 ghost use Rattle.session_store.specs.Calls.{Acted, ContextsAlone, IsSilent, Keeps, StandsIn, StaysBeside};
 
@@ -54,14 +57,15 @@ impl<H: ResetHook> Model for Store<H> {
 }
 
 impl<H: ResetHook> Store<H> {
-    /// A session as it opens, in no transaction. Its contexts count for this account of the space, and this many of its files
-    /// can have a descriptor.
+    /// A session as it opens, in no transaction. Its contexts count for this account of the space, it holds locks under this
+    /// number, and this many of its files can have a descriptor.
     ///
     /// `Ctx(NoSpace)` comes where less than 65,536 bytes are left of the account, and `Memory` may come. A refused call
     /// leaves the space's regions as they were.
     pub fn open(
         alloc: Global,
         account: u8,
+        session: u8,
         descriptors: u8,
         space: &mut Space,
     ) -> Result<Store<H>, TreeError>
@@ -69,16 +73,17 @@ impl<H: ResetHook> Store<H> {
         requires descriptors { 0 < descriptors }
         ensures session { IfOk result (λ store. session_of store space.new ≡ opening) }
         ensures account { IfOk result (λ store. store.tree.account ≡ account) }
+        ensures number { IfOk result (λ store. store.owners.session ≡ session) }
         ensures descriptors { IfOk result (λ store. store.owners.descriptors ≡ descriptors) }
         ensures moves { IfOk result (λ store. Moves (no_contexts account) store.tree space.old space.new) }
         ensures keeps { held space.old account ≡ 0 → IfOk result (λ store. Keeps store space.new) }
-        ensures stands { (x : ShelfState) → AreDistinct (shelf.held x) → IfOk result (λ store. StandsIn store space.new x) }
+        ensures stands { (x : ShelfState) (c : CommonState) → AreDistinct (shelf.held x) → IsSound (table_of c.kinds) → IfOk result (λ store. StandsIn store space.new x c) }
         ensures asked { OnOk result (Asks account 65536 space.old space.new) }
         ensures served { OnOk result (held space.old account + 65536 ≤ space.old.limit) }
         ensures refused { IfErr result (λ e. (e ≡ TreeError.Memory) ⊎ ((e ≡ TreeError.Ctx CtxError.NoSpace) × (space.old.limit < held space.old account + 65536))) }
         ensures err_space { OnErr result (SameRegions space.old space.new) }
     {
-        let owners = match Resources::new(alloc, descriptors) {
+        let owners = match Resources::new(alloc, session, descriptors) {
             Ok(owners) => owners,
             Err(_) => return Err(TreeError::Memory),
         };
@@ -96,7 +101,7 @@ impl<H: ResetHook> Store<H> {
     /// one that a script made.
     pub fn named(&self, name: &Name) -> Option<CtxId>
         ensures named { (s : Space) → option_map (λ id. id.number) result ≡ context_named name.now (session_of self.now s) }
-        ensures live { (s : Space) (x : ShelfState) → StandsIn self.now s x → IfSome result (IsLive self.now.tree) }
+        ensures live { (s : Space) (x : ShelfState) (c : CommonState) → StandsIn self.now s x c → IfSome result (IsLive self.now.tree) }
     {
         if is_word(name, b"TopMemoryContext") {
             return Some(self.tree.top());
@@ -116,7 +121,7 @@ impl<H: ResetHook> Store<H> {
     /// The context of the level of that number, where there is one and it has one.
     fn level_context(&self, level: u32) -> Option<CtxId>
         ensures context { result ≡ option_and_then (λ found. found.context) (level_at self.now.levels level) }
-        ensures live { (s : Space) (x : ShelfState) → StandsIn self.now s x → IfSome result (IsLive self.now.tree) }
+        ensures live { (s : Space) (x : ShelfState) (c : CommonState) → StandsIn self.now s x c → IfSome result (IsLive self.now.tree) }
     {
         match self.levels.at(level) {
             Some(found) => found.context,
@@ -127,7 +132,7 @@ impl<H: ResetHook> Store<H> {
     /// The current context: `CurrentMemoryContext`.
     pub fn current(&self) -> CtxId
         ensures current { result ≡ self.now.tree.current }
-        ensures live { (s : Space) (x : ShelfState) → StandsIn self.now s x → IsLive self.now.tree result }
+        ensures live { (s : Space) (x : ShelfState) (c : CommonState) → StandsIn self.now s x c → IsLive self.now.tree result }
     {
         self.tree.current()
     }
@@ -152,8 +157,8 @@ impl<H: ResetHook> Store<H> {
     pub fn switch(&mut self, to: CtxId)
         requires live { IsLive self.old.tree to }
         ensures store { self.new ≡ record self.old { tree = record self.old.tree { current = to } } }
-        ensures acted { (s : Space) (x : ShelfState) → Acted (switched to.number) self.old self.new s s x x IsSilent }
-        ensures alone { (s : Space) → Keeps self.old s → ContextsAlone self.old self.new s s }
+        ensures acted { (s : Space) (x : ShelfState) (c : CommonState) → Acted (switched to.number) self.old self.new s s x x c c IsSilent }
+        ensures alone { (s : Space) (c : CommonState) → Keeps self.old s → ContextsAlone self.old self.new s s c c }
     {
         self.tree.switch(to);
     }

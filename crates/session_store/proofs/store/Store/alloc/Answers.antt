@@ -16,19 +16,19 @@ alloc-requires-clause-agrees g c = agrees_in _ _ _ _ c.self.view_is c.args.space
 
 pub alloc-requires-clause-live : goal.alloc-requires-clause-live
 alloc-requires-clause-live g c =
-    let there = there_in _ _ _ _ c.self.view_is c.args.space.now c.requires.stands.0 c.requires.stands.1 in
+    let there = there_in _ _ _ _ c.self.view_is c.args.space.now c.requires.stands.0 c.requires.stands.1.0 c.requires.stands.1.1 in
     subst (λ (id : CtxId). IsLive c.self.inside.tree id) (sym c.current-at.ensures) (c.self.invariant.current there.current)
 
 pub invariant_of-self : goal.invariant_of-self
 invariant_of-self g c =
-    placed_after _ _ _ _ c.self.view_is _ _ _ c.requires.stands.0 c.requires.stands.1 c.self.invariant (goes_put _ _ _ _ c.alloc.ensures.moves c.alloc.ensures.stays)
+    placed_after _ _ _ _ c.self.view_is _ _ _ c.requires.stands.0 c.requires.stands.1.0 c.requires.stands.1.1 c.self.invariant (goes_put _ _ _ _ c.alloc.ensures.moves c.alloc.ensures.stays)
 
 pub returns-clause-acted : goal.returns-clause-acted
 returns-clause-acted g c =
     taken_after _ _ _ _ c.self.view_is _ _ _ c.alloc.result c.args.chunk c.args.size false c.current-at.result c.current-at.ensures c.requires.keeps c.alloc.ensures.contexts c.alloc.ensures.stays c.alloc.ensures.moves.limit
 
 pub returns-clause-alone : goal.returns-clause-alone
-returns-clause-alone g c = alone_after _ _ _ _ c.self.view_is _ _ _ c.requires.keeps (goes_put _ _ _ _ c.alloc.ensures.moves c.alloc.ensures.stays)
+returns-clause-alone g c commons = alone_after _ _ _ _ c.self.view_is _ _ _ commons c.requires.keeps (goes_put _ _ _ _ c.alloc.ensures.moves c.alloc.ensures.stays)
 
 pub returns-clause-asked : goal.returns-clause-asked
 returns-clause-asked g c =

@@ -16,19 +16,19 @@ alloc0-requires-clause-agrees g c = agrees_in _ _ _ _ c.self.view_is c.args.spac
 
 pub alloc0-requires-clause-live : goal.alloc0-requires-clause-live
 alloc0-requires-clause-live g c =
-    let there = there_in _ _ _ _ c.self.view_is c.args.space.now c.requires.stands.0 c.requires.stands.1 in
+    let there = there_in _ _ _ _ c.self.view_is c.args.space.now c.requires.stands.0 c.requires.stands.1.0 c.requires.stands.1.1 in
     subst (λ (id : CtxId). IsLive c.self.inside.tree id) (sym c.current-at.ensures) (c.self.invariant.current there.current)
 
 pub invariant_of-self : goal.invariant_of-self
 invariant_of-self g c =
-    placed_after _ _ _ _ c.self.view_is _ _ _ c.requires.stands.0 c.requires.stands.1 c.self.invariant (goes_put _ _ _ _ c.alloc0.ensures.moves c.alloc0.ensures.stays)
+    placed_after _ _ _ _ c.self.view_is _ _ _ c.requires.stands.0 c.requires.stands.1.0 c.requires.stands.1.1 c.self.invariant (goes_put _ _ _ _ c.alloc0.ensures.moves c.alloc0.ensures.stays)
 
 pub returns-clause-acted : goal.returns-clause-acted
 returns-clause-acted g c =
     taken_after _ _ _ _ c.self.view_is _ _ _ c.alloc0.result c.args.chunk c.args.size true c.current-at.result c.current-at.ensures c.requires.keeps c.alloc0.ensures.contexts c.alloc0.ensures.stays c.alloc0.ensures.moves.limit
 
 pub returns-clause-alone : goal.returns-clause-alone
-returns-clause-alone g c = alone_after _ _ _ _ c.self.view_is _ _ _ c.requires.keeps (goes_put _ _ _ _ c.alloc0.ensures.moves c.alloc0.ensures.stays)
+returns-clause-alone g c commons = alone_after _ _ _ _ c.self.view_is _ _ _ commons c.requires.keeps (goes_put _ _ _ _ c.alloc0.ensures.moves c.alloc0.ensures.stays)
 
 pub returns-clause-asked : goal.returns-clause-asked
 returns-clause-asked g c =

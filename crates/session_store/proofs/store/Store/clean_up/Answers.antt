@@ -31,11 +31,11 @@ drop_context-requires-clause-agrees g c =
 pub drop_context-requires-clause-hooks : goal.drop_context-requires-clause-hooks
 drop_context-requires-clause-hooks g c =
     subst (λ (t : TreeState). HooksFit (stands_for t c.args.space.now) c.args.shelf.now) (sym c.switch.ensures)
-    (hooks_current c.self.inside.tree c.context_above-above.result c.args.space.now c.args.shelf.now (hooks_in _ _ _ _ c.self.view_is c.args.space.now c.args.shelf.now c.requires.stands))
+    (hooks_current c.self.inside.tree c.context_above-above.result c.args.space.now c.args.shelf.now (hooks_in _ _ _ _ c.self.view_is c.args.space.now c.args.shelf.now c.requires.stands.0 c.requires.stands.1))
 
 pub drop_context-requires-clause-live : goal.drop_context-requires-clause-live
 drop_context-requires-clause-live g c =
-    let there = there_in _ _ _ _ c.self.view_is _ _ c.requires.stands in
+    let there = there_in _ _ _ _ c.self.view_is _ _ c.requires.stands.0 c.requires.stands.1 in
     let lies = all_deepest (LevelLies c.self.inside.tree c.self.inside.owners) c.self.inside.levels c.deepest-level.ensures.0 c.deepest-level.result c.deepest-level.ensures.1 c.self.invariant.levels in
     let is = all_deepest (IsThere c.self.inside.tree) c.self.inside.levels c.deepest-level.ensures.0 c.deepest-level.result c.deepest-level.ensures.1 there.levels in
     subst (λ (t : TreeState). IfSome c.deepest-level.result.context (IsLive t)) (sym c.switch.ensures) (context_live c.self.inside.tree c.self.inside.owners c.deepest-level.result lies.1 is.1)
@@ -60,13 +60,13 @@ discard_owner-requires-clause-live g c =
     let a : StoreState = record { tree = c.self.inside.tree; owners = c.self.inside.owners; levels = c.self.inside.levels } in
     let outer : List Level = c.deepest-level.ensures.0 in
     let lies = all_deepest (LevelLies a.tree a.owners) a.levels outer c.deepest-level.result c.deepest-level.ensures.1 c.self.invariant.levels in
-    let has = all_deepest (HasOwner a.owners) a.levels outer c.deepest-level.result c.deepest-level.ensures.1 (have_owners a _ _ (stands_in _ _ _ _ c.self.view_is _ _ c.requires.stands)) in
+    let has = all_deepest (HasOwner a.owners) a.levels outer c.deepest-level.result c.deepest-level.ensures.1 (have_owners a _ _ c.requires.stands.0 (stands_in _ _ _ _ c.self.view_is _ _ c.requires.stands.0 c.requires.stands.1)) in
     owner_live a.tree a.owners c.deepest-level.result lies.1 has.1
 
 pub discard_owner-requires-clause-empty : goal.discard_owner-requires-clause-empty
 discard_owner-requires-clause-empty g c =
     let a : StoreState = record { tree = c.self.inside.tree; owners = c.self.inside.owners; levels = c.self.inside.levels } in
-    released_nothing a c.args.space.now c.args.shelf.now c.deepest-level.ensures.0 c.deepest-level.result c.deepest-level.ensures.1 (stands_in _ _ _ _ c.self.view_is _ _ c.requires.stands)
+    released_nothing a c.args.space.now c.args.shelf.now c.requires.stands.0 c.deepest-level.ensures.0 c.deepest-level.result c.deepest-level.ensures.1 (stands_in _ _ _ _ c.self.view_is _ _ c.requires.stands.0 c.requires.stands.1)
     (subst (λ (v : StoreState). is_aborted (levels_of v.levels) ≡ true) (sym c.self.view_is) c.requires.aborted)
 
 pub drop_context-requires-clause-apart : goal.drop_context-requires-clause-apart
@@ -79,24 +79,24 @@ drop_context-requires-clause-apart g c =
     ∙ ap (λ (ls : List LevelState). level_parent (first_of (drop 1 ls))) is ∙ sym (parent_number (first_of (levels_of outer))) in
     subst (λ (t : TreeState). IfSome c.deepest-level.result.context (λ id. is_within id.number t.current.number (stands_for t c.args.space.now) ≡ false)) (sym c.switch.ensures)
     (apart_current a.tree c.context_above-above.result c.args.space.now c.deepest-level.result.context
-    (gone_apart a c.args.space.now c.args.shelf.now outer c.deepest-level.result c.deepest-level.ensures.1 (stands_in _ _ _ _ c.self.view_is _ _ c.requires.stands) c.context_above-above.result.number above))
+    (gone_apart a c.args.space.now c.args.shelf.now c.requires.stands.0 outer c.deepest-level.result c.deepest-level.ensures.1 (stands_in _ _ _ _ c.self.view_is _ _ c.requires.stands.0 c.requires.stands.1) c.context_above-above.result.number above))
 
 pub invariant_of-self : goal.invariant_of-self
 invariant_of-self g c =
     let a : StoreState = record { tree = c.self.inside.tree; owners = c.self.inside.owners; levels = c.self.inside.levels } in
     let outer : List Level = c.deepest-level.ensures.0 in
     let up : CtxId = c.context_above-above.result in
-    let there = there_in _ _ _ _ c.self.view_is _ _ c.requires.stands in
+    let there = there_in _ _ _ _ c.self.view_is _ _ c.requires.stands.0 c.requires.stands.1 in
     left_placed a.tree c.drop_context.new.tree a.owners c.discard_owner.new.resources
     (λ n still. c.drop_context.ensures.stays n still ∙ ap (λ (t : TreeState). place_of t n) c.switch.ensures) c.discard_owner.ensures.stays
     a.levels outer c.pop.new.self c.deepest-level.result up c.deepest-level.ensures.1
     (popped_is a.levels outer c.pop.new.self c.deepest-level.result c.pop.result c.deepest-level.ensures.1 c.pop.ensures.popped c.pop.ensures.some)
-    c.self.invariant.levels there.levels (have_owners a _ _ (stands_in _ _ _ _ c.self.view_is _ _ c.requires.stands))
+    c.self.invariant.levels there.levels (have_owners a _ _ c.requires.stands.0 (stands_in _ _ _ _ c.self.view_is _ _ c.requires.stands.0 c.requires.stands.1))
     (live_in _ _ _ _ c.self.view_is up c.context_above-above.ensures.live)
     (c.drop_context.ensures.current ∙ ap (λ (t : TreeState). t.current) c.switch.ensures)
 
 pub returns-clause-acted : goal.returns-clause-acted
-returns-clause-acted g c =
+returns-clause-acted g c commons =
     let a : StoreState = record { tree = c.self.inside.tree; owners = c.self.inside.owners; levels = c.self.inside.levels } in
     let outer : List Level = c.deepest-level.ensures.0 in
     let level : Level = c.deepest-level.result in
@@ -111,12 +111,12 @@ returns-clause-acted g c =
     c.context_above-above.ensures.number ∙ ap (λ (v : StoreState). level_parent (first_of (drop 1 (levels_of v.levels)))) (sym c.self.view_is)
     ∙ ap (λ (ls : List LevelState). level_parent (first_of (drop 1 ls))) is ∙ sym (parent_number (first_of (levels_of outer))) in
     let b : StoreState = record { tree = c.drop_context.new.tree; owners = c.discard_owner.new.resources; levels = c.pop.new.self } in
-    subst (λ (v : StoreState). Acted cleaned_up v b s t c.args.shelf.now c.drop_context.new.shelf (λ events. g.E.Emit.emits c.args.out.now events c.drop_context.new.out)) c.self.view_is
-    (acted_went _ (λ o events p. g.E.Emit.emits o events p) cleaned_up a b a.levels ls (levels_of outer) s t c.args.shelf.now c.drop_context.new.shelf c.args.out.now c.drop_context.new.out is (ap levels_of new)
+    subst (λ (v : StoreState). Acted cleaned_up v b s t c.args.shelf.now c.drop_context.new.shelf commons commons (λ events. g.E.Emit.emits c.args.out.now events c.drop_context.new.out)) c.self.view_is
+    (acted_went _ (λ o events p. g.E.Emit.emits o events p) cleaned_up a b a.levels ls (levels_of outer) s t c.args.shelf.now c.drop_context.new.shelf commons commons c.args.out.now c.drop_context.new.out is (ap levels_of new)
     (λ around. cleaned_went _ (λ o events p. g.E.Emit.emits o events p) g.met.E.Emit.emits_none (λ o p q xs ys h k. g.met.E.Emit.emits_more _ _ _ _ _ _ h k refl)
-    a (levels_of outer) level s t c.args.shelf.now c.drop_context.new.shelf around up c.drop_context.new.tree c.discard_owner.new.resources
+    a (levels_of outer) level s t c.args.shelf.now c.drop_context.new.shelf commons around up c.drop_context.new.tree c.discard_owner.new.resources
     c.args.out.now c.emit.new.self c.discard_owner.new.out c.drop_context.new.out
     (subst (λ (n : ℕ). g.E.Emit.emits c.args.out.now (what.CleanupLevel n ∷ []) c.emit.new.self) number c.emit.ensures.emitted)
-    c.discard_owner.ensures.acted above
+    (c.discard_owner.ensures.acted commons) above
     (subst (λ (u : TreeState). MatchOption level.context (DidNothing u c.drop_context.new.tree s t c.args.shelf.now c.drop_context.new.shelf) (λ id. Did (gone id.number (stands_for u s)) u c.drop_context.new.tree s t c.args.shelf.now c.drop_context.new.shelf)) c.switch.ensures c.drop_context.ensures.did)
-    (subst (λ (u : TreeState). MatchOption level.context (c.drop_context.new.out ≡ c.discard_owner.new.out) (λ id. g.E.Emit.emits c.discard_owner.new.out (gone id.number (stands_for u s)).events c.drop_context.new.out)) c.switch.ensures c.drop_context.ensures.emits)))
+    (subst (λ (u : TreeState). MatchOption level.context (c.drop_context.new.out ≡ c.discard_owner.new.out) (λ id. g.E.Emit.emits c.discard_owner.new.out (gone id.number (stands_for u s)).events c.drop_context.new.out)) c.switch.ensures c.drop_context.ensures.emits)) (c.discard_owner.ensures.balances commons))

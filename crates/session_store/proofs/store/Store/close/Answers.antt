@@ -17,7 +17,7 @@ use Rattle.session_store.proofs.store.Store.close.Goals as goal
 pub switch-requires : goal.switch-requires
 switch-requires g c =
     let a : StoreState = record { tree = c.self.inside.tree; owners = c.self.inside.owners; levels = c.self.inside.levels } in
-    c.top-top.ensures.stands c.args.space.now (top_there a c.args.space.now c.args.shelf.now (stands_in _ _ _ _ c.self.view_is _ _ c.requires.stands))
+    c.top-top.ensures.stands c.args.space.now (top_there a c.args.space.now c.args.shelf.now c.requires.stands.0 (stands_in _ _ _ _ c.self.view_is _ _ c.requires.stands.0 c.requires.stands.1))
 
 pub gone-requires-clause-agrees : goal.gone-requires-clause-agrees
 gone-requires-clause-agrees g c =
@@ -28,33 +28,33 @@ pub gone-requires-clause-live : goal.gone-requires-clause-live
 gone-requires-clause-live g c =
     let a : StoreState = record { tree = c.self.inside.tree; owners = c.self.inside.owners; levels = c.self.inside.levels } in
     subst (λ (t : TreeState). IsLive t c.top-top.result) (sym c.switch.ensures)
-    (c.top-top.ensures.stands c.args.space.now (top_there a c.args.space.now c.args.shelf.now (stands_in _ _ _ _ c.self.view_is _ _ c.requires.stands)))
+    (c.top-top.ensures.stands c.args.space.now (top_there a c.args.space.now c.args.shelf.now c.requires.stands.0 (stands_in _ _ _ _ c.self.view_is _ _ c.requires.stands.0 c.requires.stands.1)))
 
 pub gone-requires-clause-hooks : goal.gone-requires-clause-hooks
 gone-requires-clause-hooks g c =
     subst (λ (t : TreeState). HooksFit (stands_for t c.args.space.now) c.args.shelf.now) (sym c.switch.ensures)
-    (hooks_current c.self.inside.tree c.top-top.result c.args.space.now c.args.shelf.now (hooks_in _ _ _ _ c.self.view_is c.args.space.now c.args.shelf.now c.requires.stands))
+    (hooks_current c.self.inside.tree c.top-top.result c.args.space.now c.args.shelf.now (hooks_in _ _ _ _ c.self.view_is c.args.space.now c.args.shelf.now c.requires.stands.0 c.requires.stands.1))
 
 pub gone-requires-clause-apart : goal.gone-requires-clause-apart
 gone-requires-clause-apart g c =
     let a : StoreState = record { tree = c.self.inside.tree; owners = c.self.inside.owners; levels = c.self.inside.levels } in
-    top_apart a c.args.space.now c.args.shelf.now c.top-top.result c.top-top.ensures.number (stands_in _ _ _ _ c.self.view_is _ _ c.requires.stands) c.switch.new.self c.switch.ensures
+    top_apart a c.args.space.now c.args.shelf.now c.requires.stands.0 c.top-top.result c.top-top.ensures.number (stands_in _ _ _ _ c.self.view_is _ _ c.requires.stands.0 c.requires.stands.1) c.switch.new.self c.switch.ensures
 
 pub invariant_of-self : goal.invariant_of-self
 invariant_of-self g c =
     let a : StoreState = record { tree = c.self.inside.tree; owners = c.self.inside.owners; levels = c.self.inside.levels } in
     let did : Did (gone c.top-top.result.number (stands_for (record a.tree { current = c.top-top.result }) c.args.space.now)) (record a.tree { current = c.top-top.result }) c.gone.new.self c.args.space.now c.gone.new.space c.args.shelf.now c.gone.new.shelf =
     subst (λ (u : TreeState). Did (gone c.top-top.result.number (stands_for u c.args.space.now)) u c.gone.new.self c.args.space.now c.gone.new.space c.args.shelf.now c.gone.new.shelf) c.switch.ensures c.gone.ensures.did in
-    placed_nowhere a c.args.space.now c.args.shelf.now c.top-top.result c.top-top.ensures.number (stands_in _ _ _ _ c.self.view_is _ _ c.requires.stands) c.gone.new.self c.gone.new.space c.gone.new.shelf did
+    placed_nowhere a c.args.space.now c.args.shelf.now c.requires.stands.0 c.top-top.result c.top-top.ensures.number (stands_in _ _ _ _ c.self.view_is _ _ c.requires.stands.0 c.requires.stands.1) c.gone.new.self c.gone.new.space c.gone.new.shelf did
     (subst (λ (v : StoreState). v.levels ≡ []) (sym c.self.view_is) c.requires.level)
 
 pub returns-clause-acted : goal.returns-clause-acted
-returns-clause-acted g c =
+returns-clause-acted g c commons =
     let a : StoreState = record { tree = c.self.inside.tree; owners = c.self.inside.owners; levels = c.self.inside.levels } in
     let did : Did (gone c.top-top.result.number (stands_for (record a.tree { current = c.top-top.result }) c.args.space.now)) (record a.tree { current = c.top-top.result }) c.gone.new.self c.args.space.now c.gone.new.space c.args.shelf.now c.gone.new.shelf =
     subst (λ (u : TreeState). Did (gone c.top-top.result.number (stands_for u c.args.space.now)) u c.gone.new.self c.args.space.now c.gone.new.space c.args.shelf.now c.gone.new.shelf) c.switch.ensures c.gone.ensures.did in
-    subst (λ (v : StoreState). Acted (in_order (switched top_context ∷ context_gone top_context ∷ [])) v (record { tree = c.gone.new.self; owners = a.owners; levels = a.levels }) c.args.space.now c.gone.new.space c.args.shelf.now c.gone.new.shelf (λ events. g.E.Emit.emits c.args.out.now events c.gone.new.out)) c.self.view_is
-    (closed a c.args.space.now c.args.shelf.now c.top-top.result c.top-top.ensures.number (stands_in _ _ _ _ c.self.view_is _ _ c.requires.stands) c.gone.new.self c.gone.new.space c.gone.new.shelf did
+    subst (λ (v : StoreState). Acted (in_order (switched top_context ∷ context_gone top_context ∷ [])) v (record { tree = c.gone.new.self; owners = a.owners; levels = a.levels }) c.args.space.now c.gone.new.space c.args.shelf.now c.gone.new.shelf commons commons (λ events. g.E.Emit.emits c.args.out.now events c.gone.new.out)) c.self.view_is
+    (closed a c.args.space.now c.args.shelf.now c.requires.stands.0 c.top-top.result c.top-top.ensures.number (stands_in _ _ _ _ c.self.view_is _ _ c.requires.stands.0 c.requires.stands.1) c.gone.new.self c.gone.new.space c.gone.new.shelf did commons
     (λ events. g.E.Emit.emits c.args.out.now events c.gone.new.out)
     (subst (λ (u : TreeState). g.E.Emit.emits c.args.out.now (gone c.top-top.result.number (stands_for u c.args.space.now)).events c.gone.new.out) c.switch.ensures c.gone.ensures.emits))
 
@@ -76,5 +76,5 @@ returns-clause-held g c =
     let did : Did (gone c.top-top.result.number (stands_for (record a.tree { current = c.top-top.result }) c.args.space.now)) (record a.tree { current = c.top-top.result }) c.gone.new.self c.args.space.now c.gone.new.space c.args.shelf.now c.gone.new.shelf =
     subst (λ (u : TreeState). Did (gone c.top-top.result.number (stands_for u c.args.space.now)) u c.gone.new.self c.args.space.now c.gone.new.space c.args.shelf.now c.gone.new.shelf) c.switch.ensures c.gone.ensures.did in
     subst (λ (v : StoreState). held c.gone.new.space v.tree.account ≡ 0) c.self.view_is
-    (holds_nothing a c.args.space.now c.args.shelf.now c.top-top.result c.top-top.ensures.number (stands_in _ _ _ _ c.self.view_is _ _ c.requires.stands) c.gone.new.self c.gone.new.space c.gone.new.shelf did
+    (holds_nothing a c.args.space.now c.args.shelf.now c.requires.stands.0 c.top-top.result c.top-top.ensures.number (stands_in _ _ _ _ c.self.view_is _ _ c.requires.stands.0 c.requires.stands.1) c.gone.new.self c.gone.new.space c.gone.new.shelf did
     (keeps_in _ _ _ _ c.self.view_is c.args.space.now c.requires.keeps))

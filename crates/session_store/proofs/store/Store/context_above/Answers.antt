@@ -18,17 +18,17 @@ pub returns-in-None-clause-live : goal.returns-in-None-clause-live
 returns-in-None-clause-live g c =
     subst (λ (a : StoreState). IsLive a.tree c.top.result) c.self.view_is
     (c.top.ensures.stands c.requires.stands.0
-    (top_there (record { tree = c.self.inside.tree; owners = c.self.inside.owners; levels = c.self.inside.levels }) _ _ (stands_in _ _ _ _ c.self.view_is _ _ c.requires.stands.1.1)))
+    (top_there (record { tree = c.self.inside.tree; owners = c.self.inside.owners; levels = c.self.inside.levels }) _ _ c.requires.stands.1.1.0 (stands_in _ _ _ _ c.self.view_is _ _ c.requires.stands.1.1.0 c.requires.stands.1.1.1)))
 
 pub returns-in-None-context-clause-live : goal.returns-in-None-context-clause-live
 returns-in-None-context-clause-live g c =
     subst (λ (a : StoreState). IsLive a.tree c.top-in-None-context.result) c.self.view_is
     (c.top-in-None-context.ensures.stands c.requires.stands.0
-    (top_there (record { tree = c.self.inside.tree; owners = c.self.inside.owners; levels = c.self.inside.levels }) _ _ (stands_in _ _ _ _ c.self.view_is _ _ c.requires.stands.1.1)))
+    (top_there (record { tree = c.self.inside.tree; owners = c.self.inside.owners; levels = c.self.inside.levels }) _ _ c.requires.stands.1.1.0 (stands_in _ _ _ _ c.self.view_is _ _ c.requires.stands.1.1.0 c.requires.stands.1.1.1)))
 
 pub returns-in-Some-context-clause-live : goal.returns-in-Some-context-clause-live
 returns-in-Some-context-clause-live g c =
-    let there = there_in _ _ _ _ c.self.view_is _ _ c.requires.stands.1.1 in
+    let there = there_in _ _ _ _ c.self.view_is _ _ c.requires.stands.1.1.0 c.requires.stands.1.1.1 in
     let at = sym c.above.ensures ∙ c.in-Some.is in
     let live = context_live c.self.inside.tree c.self.inside.owners c.in-Some.level
     (all_level (LevelLies c.self.inside.tree c.self.inside.owners) c.self.inside.levels _ c.in-Some.level c.self.invariant.levels at)

@@ -22,7 +22,7 @@ create-requires-clause-room g c = subst (λ (a : StoreState). a.tree.next < 2 ^ 
 
 pub invariant_of-self : goal.invariant_of-self
 invariant_of-self g c =
-    placed_after _ _ _ _ c.self.view_is _ _ _ c.requires.stands.0 c.requires.stands.1 c.self.invariant
+    placed_after _ _ _ _ c.self.view_is _ _ _ c.requires.stands.0 c.requires.stands.1.0 c.requires.stands.1.1 c.self.invariant
     (goes_made _ _ _ _ c.create.ensures.moves c.create.ensures.stays c.create.ensures.fresh c.create.ensures.current)
 
 pub returns-clause-number : goal.returns-clause-number
@@ -34,8 +34,8 @@ returns-clause-acted g c =
     c.create.ensures.contexts c.create.ensures.next c.create.ensures.emits c.create.ensures.current c.create.ensures.moves.limit
 
 pub returns-clause-alone : goal.returns-clause-alone
-returns-clause-alone g c =
-    alone_after _ _ _ _ c.self.view_is _ _ _ c.requires.keeps (goes_made _ _ _ _ c.create.ensures.moves c.create.ensures.stays c.create.ensures.fresh c.create.ensures.current)
+returns-clause-alone g c commons =
+    alone_after _ _ _ _ c.self.view_is _ _ _ commons c.requires.keeps (goes_made _ _ _ _ c.create.ensures.moves c.create.ensures.stays c.create.ensures.fresh c.create.ensures.current)
 
 pub returns-clause-asked : goal.returns-clause-asked
 returns-clause-asked g c =

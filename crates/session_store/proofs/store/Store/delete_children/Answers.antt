@@ -14,12 +14,12 @@ pub delete_children-requires-clause-live : goal.delete_children-requires-clause-
 delete_children-requires-clause-live g c = live_in _ _ _ _ c.self.view_is c.args.at c.requires.live
 
 pub delete_children-requires-clause-hooks : goal.delete_children-requires-clause-hooks
-delete_children-requires-clause-hooks g c = hooks_in _ _ _ _ c.self.view_is c.args.space.now c.args.shelf.now c.requires.stands
+delete_children-requires-clause-hooks g c = hooks_in _ _ _ _ c.self.view_is c.args.space.now c.args.shelf.now c.requires.stands.0 c.requires.stands.1
 
 pub invariant_of-self : goal.invariant_of-self
 invariant_of-self g c =
     let n = c.args.at.number in
-    placed_after _ _ _ _ c.self.view_is _ _ _ c.args.shelf.now c.requires.stands c.self.invariant
+    placed_after _ _ _ _ c.self.view_is _ _ _ c.args.shelf.now c.requires.stands.0 c.requires.stands.1 c.self.invariant
     (goes_after _ _ _ _ c.self.view_is _ _ _ _ _ c.delete_children.result (children_gone n (stands_for c.self.inside.tree c.args.space.now)) c.requires.keeps c.delete_children.ensures.did c.delete_children.ensures.err)
 
 pub returns-clause-answer : goal.returns-clause-answer
@@ -31,8 +31,8 @@ returns-clause-acted g c =
     acted_after _ _ _ _ c.self.view_is _ _ _ _ _ c.delete_children.result (children_gone c.args.at.number) (λ events. g.E.Emit.emits c.args.out.now events c.delete_children.new.out) c.delete_children.ensures.did c.delete_children.ensures.emits
 
 pub returns-clause-alone : goal.returns-clause-alone
-returns-clause-alone g c =
-    alone_after _ _ _ _ c.self.view_is _ _ _ c.requires.keeps
+returns-clause-alone g c commons =
+    alone_after _ _ _ _ c.self.view_is _ _ _ commons c.requires.keeps
     (goes_after _ _ _ _ c.self.view_is _ _ _ _ _ c.delete_children.result (children_gone c.args.at.number (stands_for c.self.inside.tree c.args.space.now)) c.requires.keeps c.delete_children.ensures.did c.delete_children.ensures.err)
 
 pub returns-clause-asked : goal.returns-clause-asked

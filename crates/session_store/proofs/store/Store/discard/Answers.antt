@@ -7,7 +7,7 @@ pub invariant_of-self : goal.invariant_of-self
 invariant_of-self g c = placed_owners _ _ _ _ c.self.invariant (go_gone _ _ _ c.discard.ensures.owners c.discard.ensures.stays)
 
 pub returns-clause-acted : goal.returns-clause-acted
-returns-clause-acted g c s x = owners_after _ _ _ _ c.self.view_is (owner_gone c.args.owner.number) _ s x (λ events. g.E.Emit.emits c.args.out.now events c.discard.new.out) c.discard.ensures.acted
+returns-clause-acted g c s x commons = owners_after _ _ _ _ c.self.view_is (owner_gone c.args.owner.number) _ s x commons commons (λ events. g.E.Emit.emits c.args.out.now events c.discard.new.out) (c.discard.ensures.acted commons) (c.discard.ensures.balances commons)
 
 pub returns-clause-alone : goal.returns-clause-alone
-returns-clause-alone g c = owners_alone_after _ _ _ _ c.self.view_is _ (go_gone _ _ _ c.discard.ensures.owners c.discard.ensures.stays)
+returns-clause-alone g c commons = owners_alone_after _ _ _ _ c.self.view_is _ commons commons (go_gone _ _ _ c.discard.ensures.owners c.discard.ensures.stays) (c.discard.ensures.balances commons)

@@ -2,8 +2,10 @@
 use Rattle.std.proofs.Common.{◌≡◌, ◌≢◌, ◌↔◌, ℕ, true, Err, ap, ◌∙◌, subst}
 use Rattle.session_owners.specs.ResourceState.{has_begun, owners_of, spare_of}
 use Rattle.owner_core.specs.declared.errors.OwnerError.TheVariants.{Releasing}
+use Rattle.session_rules.specs.Acts.{nothing}
+use Rattle.session_store.specs.Calls.{Acted, IsSilent}
 use Rattle.session_store.specs.State.{StoreState, session_of}
-use Rattle.session_store.proofs.Owned.{go_same, owner_in, owners_alone_after, placed_owners, same_session}
+use Rattle.session_store.proofs.Owned.{go_same, owner_in, owners_alone_after, placed_owners, room_acted, same_session}
 use Rattle.session_store.proofs.store.Store.enlarge.Goals as goal
 
 pub enlarge-requires : goal.enlarge-requires
@@ -18,12 +20,19 @@ returns-clause-others g c =
 
 pub returns-clause-session : goal.returns-clause-session
 returns-clause-session g c s =
-    same_session (record { tree = c.self.inside.tree; owners = c.self.inside.owners; levels = c.self.inside.levels }) c.enlarge.new.self s c.enlarge.ensures.owners c.enlarge.ensures.next_owner c.enlarge.ensures.next_serial c.enlarge.ensures.recent
+    same_session (record { tree = c.self.inside.tree; owners = c.self.inside.owners; levels = c.self.inside.levels }) c.enlarge.new.self s c.enlarge.ensures.owners c.enlarge.ensures.next_owner c.enlarge.ensures.next_serial c.enlarge.ensures.recent c.enlarge.ensures.locks
     ∙ ap (λ (a : StoreState). session_of a s) c.self.view_is
 
 pub returns-clause-alone : goal.returns-clause-alone
-returns-clause-alone g c = owners_alone_after _ _ _ _ c.self.view_is _ (go_same _ _ c.enlarge.ensures.owners c.enlarge.ensures.places)
+returns-clause-alone g c commons = owners_alone_after _ _ _ _ c.self.view_is _ commons commons (go_same _ _ c.enlarge.ensures.owners c.enlarge.ensures.places) (c.enlarge.ensures.balances commons)
 
 pub returns-clause-releasing : goal.returns-clause-releasing
 returns-clause-releasing g c =
     subst (λ (a : StoreState). (c.enlarge.result ≡ Err Releasing) ↔ (has_begun c.args.owner.number (owners_of a.owners) ≡ true)) c.self.view_is c.enlarge.ensures.releasing
+
+pub returns-clause-acted : goal.returns-clause-acted
+returns-clause-acted g c s x commons =
+    let a : StoreState = record { tree = c.self.inside.tree; owners = c.self.inside.owners; levels = c.self.inside.levels } in
+    subst (λ (v : StoreState). Acted nothing v (record a { owners = c.enlarge.new.self }) s s x x commons commons IsSilent) c.self.view_is
+    (room_acted a c.enlarge.new.self s x commons (same_session a c.enlarge.new.self s c.enlarge.ensures.owners c.enlarge.ensures.next_owner c.enlarge.ensures.next_serial c.enlarge.ensures.recent c.enlarge.ensures.locks)
+    c.enlarge.ensures.descriptors (c.enlarge.ensures.balances commons))

@@ -13,7 +13,7 @@ free-requires g c = record { agrees = agrees_in _ _ _ _ c.self.view_is c.args.sp
 
 pub invariant_of-self : goal.invariant_of-self
 invariant_of-self g c =
-    placed_after _ _ _ _ c.self.view_is _ _ _ c.requires.stands.0 c.requires.stands.1 c.self.invariant (goes_put _ _ _ _ c.free.ensures.moves c.free.ensures.stays)
+    placed_after _ _ _ _ c.self.view_is _ _ _ c.requires.stands.0 c.requires.stands.1.0 c.requires.stands.1.1 c.self.invariant (goes_put _ _ _ _ c.free.ensures.moves c.free.ensures.stays)
 
 pub returns-clause-answer : goal.returns-clause-answer
 unfolding session_of
@@ -24,7 +24,7 @@ returns-clause-acted g c =
     change_after _ _ _ _ c.self.view_is _ _ _ c.free.result (freed c.args.chunk.now) c.free.ensures.contexts c.free.ensures.stays c.free.ensures.moves.limit
 
 pub returns-clause-alone : goal.returns-clause-alone
-returns-clause-alone g c = alone_after _ _ _ _ c.self.view_is _ _ _ c.requires.keeps (goes_put _ _ _ _ c.free.ensures.moves c.free.ensures.stays)
+returns-clause-alone g c commons = alone_after _ _ _ _ c.self.view_is _ _ _ commons c.requires.keeps (goes_put _ _ _ _ c.free.ensures.moves c.free.ensures.stays)
 
 pub returns-clause-refused : goal.returns-clause-refused
 returns-clause-refused g c = same_after _ _ _ _ c.self.view_is _ _ _ c.free.result c.free.ensures.err c.free.ensures.err_space

@@ -16,7 +16,7 @@ use Rattle.session_store.proofs.store.Store.level_stands.Goals as goal
 
 pub switch_to-requires : goal.switch_to-requires
 switch_to-requires g c =
-    let there = there_in _ _ _ _ c.self.view_is _ _ c.requires.stands.1.1 in
+    let there = there_in _ _ _ _ c.self.view_is _ _ c.requires.stands.1.1.0 c.requires.stands.1.1.1 in
     let lies = all_deepest (LevelLies c.self.inside.tree c.self.inside.owners) c.self.inside.levels c.deepest.ensures.0 c.deepest.result c.deepest.ensures.1 c.self.invariant.levels in
     let is = all_deepest (IsThere c.self.inside.tree) c.self.inside.levels c.deepest.ensures.0 c.deepest.result c.deepest.ensures.1 there.levels in
     context_live c.self.inside.tree c.self.inside.owners c.deepest.result lies.1 is.1
@@ -25,8 +25,8 @@ pub invariant_of-self : goal.invariant_of-self
 invariant_of-self g c =
     let tree = c.self.inside.tree in
     let to = unwrap_or c.deepest.result.context tree.current in
-    let there = there_in _ _ _ _ c.self.view_is _ _ c.requires.stands.1.1 in
-    let owned = have_owners (record { tree = tree; owners = c.self.inside.owners; levels = c.self.inside.levels }) _ _ (stands_in _ _ _ _ c.self.view_is _ _ c.requires.stands.1.1) in
+    let there = there_in _ _ _ _ c.self.view_is _ _ c.requires.stands.1.1.0 c.requires.stands.1.1.1 in
+    let owned = have_owners (record { tree = tree; owners = c.self.inside.owners; levels = c.self.inside.levels }) _ _ c.requires.stands.1.1.0 (stands_in _ _ _ _ c.self.view_is _ _ c.requires.stands.1.1.0 c.requires.stands.1.1.1) in
     let lies = all_deepest (LevelLies tree c.self.inside.owners) c.self.inside.levels c.deepest.ensures.0 c.deepest.result c.deepest.ensures.1 c.self.invariant.levels in
     let is = all_deepest (IsThere tree) c.self.inside.levels c.deepest.ensures.0 c.deepest.result c.deepest.ensures.1 there.levels in
     subst (λ (t : TreeState). IsPlaced t c.self.inside.owners c.started.new.self) (sym c.switch_to.ensures)
@@ -38,14 +38,14 @@ invariant_of-self g c =
     (current_lies tree c.deepest.result.context (context_live tree c.self.inside.owners c.deepest.result lies.1 is.1) c.self.invariant.current)))
 
 pub returns-clause-acted : goal.returns-clause-acted
-returns-clause-acted g c s x =
+returns-clause-acted g c s x commons =
     let a : StoreState = record { tree = c.self.inside.tree; owners = c.self.inside.owners; levels = c.self.inside.levels } in
     let outer : List Level = c.deepest.ensures.0 in
-    subst (λ (v : StoreState). Acted level_stands v (record { tree = c.switch_to.new.tree; owners = c.self.inside.owners; levels = c.started.new.self }) s s x x IsSilent) c.self.view_is
-    (subst (λ (t : TreeState). Acted level_stands a (record { tree = t; owners = c.self.inside.owners; levels = c.started.new.self }) s s x x IsSilent) (sym c.switch_to.ensures)
-    (subst (λ (ls : List Level). Acted level_stands a (record { tree = record a.tree { current = unwrap_or c.deepest.result.context a.tree.current }; owners = c.self.inside.owners; levels = ls }) s s x x IsSilent)
+    subst (λ (v : StoreState). Acted level_stands v (record { tree = c.switch_to.new.tree; owners = c.self.inside.owners; levels = c.started.new.self }) s s x x commons commons IsSilent) c.self.view_is
+    (subst (λ (t : TreeState). Acted level_stands a (record { tree = t; owners = c.self.inside.owners; levels = c.started.new.self }) s s x x commons commons IsSilent) (sym c.switch_to.ensures)
+    (subst (λ (ls : List Level). Acted level_stands a (record { tree = record a.tree { current = unwrap_or c.deepest.result.context a.tree.current }; owners = c.self.inside.owners; levels = ls }) s s x x commons commons IsSilent)
     (sym (deepest_new (λ level. record level { starting = false }) c.self.inside.levels outer c.deepest.result c.started.new.self c.started.ensures c.deepest.ensures.1))
-    (stood_acted a outer s x c.deepest.result c.deepest.ensures.1)))
+    (stood_acted a outer s x commons c.deepest.result c.deepest.ensures.1)))
 
 pub returns-clause-keeps : goal.returns-clause-keeps
 returns-clause-keeps g c s keeps =

@@ -8,7 +8,7 @@ use Rattle.session_store.proofs.Through.{stands_in}
 use Rattle.session_store.proofs.store.Store.owner_at.Goals as goal
 
 pub returns-in-Some-clause-live : goal.returns-in-Some-clause-live
-returns-in-Some-clause-live g c s x stands =
+returns-in-Some-clause-live g c s x commons stands =
     let a : StoreState = record { tree = c.self.inside.tree; owners = c.self.inside.owners; levels = c.self.inside.levels } in
     subst (λ (v : StoreState). IfSome c.in-Some.found.now.owner (IsLive v.owners)) c.self.view_is
-    (level_owner_live _ _ _ c.args.level c.in-Some.found.now c.self.invariant (have_owners a s x (stands_in _ _ _ _ c.self.view_is s x stands)) (sym c.at.ensures ∙ ap option_copied c.in-Some.is))
+    (level_owner_live _ _ _ c.args.level c.in-Some.found.now c.self.invariant (have_owners a s x commons (stands_in _ _ _ _ c.self.view_is s x commons stands)) (sym c.at.ensures ∙ ap option_copied c.in-Some.is))

@@ -13,7 +13,7 @@ put-requires g c = record { agrees = agrees_in _ _ _ _ c.self.view_is c.args.spa
 
 pub invariant_of-self : goal.invariant_of-self
 invariant_of-self g c =
-    placed_after _ _ _ _ c.self.view_is _ _ _ c.requires.stands.0 c.requires.stands.1 c.self.invariant (goes_put _ _ _ _ c.put.ensures.moves c.put.ensures.stays)
+    placed_after _ _ _ _ c.self.view_is _ _ _ c.requires.stands.0 c.requires.stands.1.0 c.requires.stands.1.1 c.self.invariant (goes_put _ _ _ _ c.put.ensures.moves c.put.ensures.stays)
 
 pub returns-clause-answer : goal.returns-clause-answer
 unfolding session_of
@@ -24,7 +24,7 @@ returns-clause-acted g c =
     change_after _ _ _ _ c.self.view_is _ _ _ c.put.result (written c.args.chunk.now c.args.at c.args.bytes.now) c.put.ensures.contexts c.put.ensures.stays c.put.ensures.moves.limit
 
 pub returns-clause-alone : goal.returns-clause-alone
-returns-clause-alone g c = alone_after _ _ _ _ c.self.view_is _ _ _ c.requires.keeps (goes_put _ _ _ _ c.put.ensures.moves c.put.ensures.stays)
+returns-clause-alone g c commons = alone_after _ _ _ _ c.self.view_is _ _ _ commons c.requires.keeps (goes_put _ _ _ _ c.put.ensures.moves c.put.ensures.stays)
 
 pub returns-clause-refused : goal.returns-clause-refused
 returns-clause-refused g c = same_after _ _ _ _ c.self.view_is _ _ _ c.put.result c.put.ensures.err c.put.ensures.err_space

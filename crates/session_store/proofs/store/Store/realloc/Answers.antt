@@ -14,14 +14,14 @@ realloc-requires g c = record { agrees = agrees_in _ _ _ _ c.self.view_is c.args
 
 pub invariant_of-self : goal.invariant_of-self
 invariant_of-self g c =
-    placed_after _ _ _ _ c.self.view_is _ _ _ c.requires.stands.0 c.requires.stands.1 c.self.invariant (goes_put _ _ _ _ c.realloc.ensures.moves c.realloc.ensures.stays)
+    placed_after _ _ _ _ c.self.view_is _ _ _ c.requires.stands.0 c.requires.stands.1.0 c.requires.stands.1.1 c.self.invariant (goes_put _ _ _ _ c.realloc.ensures.moves c.realloc.ensures.stays)
 
 pub returns-clause-acted : goal.returns-clause-acted
 returns-clause-acted g c =
     resized_after _ _ _ _ c.self.view_is _ _ _ c.realloc.result c.args.chunk.now c.args.size c.requires.keeps c.realloc.ensures.contexts c.realloc.ensures.stays c.realloc.ensures.moves.limit
 
 pub returns-clause-alone : goal.returns-clause-alone
-returns-clause-alone g c = alone_after _ _ _ _ c.self.view_is _ _ _ c.requires.keeps (goes_put _ _ _ _ c.realloc.ensures.moves c.realloc.ensures.stays)
+returns-clause-alone g c commons = alone_after _ _ _ _ c.self.view_is _ _ _ commons c.requires.keeps (goes_put _ _ _ _ c.realloc.ensures.moves c.realloc.ensures.stays)
 
 pub returns-clause-asked : goal.returns-clause-asked
 returns-clause-asked g c =

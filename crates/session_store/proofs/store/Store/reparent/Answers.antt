@@ -16,7 +16,7 @@ set_parent-requires-clause-parent g c = live_in _ _ _ _ c.self.view_is c.args.pa
 
 pub invariant_of-self : goal.invariant_of-self
 invariant_of-self g c =
-    placed_on _ _ _ _ c.self.invariant (there_in _ _ _ _ c.self.view_is c.requires.stands.0 c.requires.stands.1.0 c.requires.stands.1.1) (λ n was now. c.set_parent.ensures.places n) c.set_parent.ensures.current
+    placed_on _ _ _ _ c.self.invariant (there_in _ _ _ _ c.self.view_is c.requires.stands.0 c.requires.stands.1.0 c.requires.stands.1.1.0 c.requires.stands.1.1.1) (λ n was now. c.set_parent.ensures.places n) c.set_parent.ensures.current
 
 pub returns-clause-answer : goal.returns-clause-answer
 unfolding session_of
@@ -29,8 +29,8 @@ returns-clause-acted g c =
     c.set_parent.ensures.contexts c.set_parent.ensures.emits c.set_parent.ensures.current c.set_parent.ensures.next
 
 pub returns-clause-alone : goal.returns-clause-alone
-returns-clause-alone g c s keeps =
-    alone_after _ _ _ _ c.self.view_is _ _ _ keeps
+returns-clause-alone g c s commons keeps =
+    alone_after _ _ _ _ c.self.view_is _ _ _ commons keeps
     (record { moves = c.set_parent.ensures.moves s (agrees_in _ _ _ _ c.self.view_is s keeps); stays = λ n was now. c.set_parent.ensures.places n; current = c.set_parent.ensures.current })
 
 pub returns-clause-err : goal.returns-clause-err

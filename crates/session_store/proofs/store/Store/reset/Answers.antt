@@ -14,12 +14,12 @@ pub reset-requires-clause-live : goal.reset-requires-clause-live
 reset-requires-clause-live g c = live_in _ _ _ _ c.self.view_is c.args.at c.requires.live
 
 pub reset-requires-clause-hooks : goal.reset-requires-clause-hooks
-reset-requires-clause-hooks g c = hooks_in _ _ _ _ c.self.view_is c.args.space.now c.args.shelf.now c.requires.stands
+reset-requires-clause-hooks g c = hooks_in _ _ _ _ c.self.view_is c.args.space.now c.args.shelf.now c.requires.stands.0 c.requires.stands.1
 
 pub invariant_of-self : goal.invariant_of-self
 invariant_of-self g c =
     let n = c.args.at.number in
-    placed_after _ _ _ _ c.self.view_is _ _ _ c.args.shelf.now c.requires.stands c.self.invariant
+    placed_after _ _ _ _ c.self.view_is _ _ _ c.args.shelf.now c.requires.stands.0 c.requires.stands.1 c.self.invariant
     (goes_after _ _ _ _ c.self.view_is _ _ _ _ _ c.reset.result (cleared n (stands_for c.self.inside.tree c.args.space.now)) c.requires.keeps c.reset.ensures.did c.reset.ensures.err)
 
 pub returns-clause-answer : goal.returns-clause-answer
@@ -31,8 +31,8 @@ returns-clause-acted g c =
     acted_after _ _ _ _ c.self.view_is _ _ _ _ _ c.reset.result (cleared c.args.at.number) (λ events. g.E.Emit.emits c.args.out.now events c.reset.new.out) c.reset.ensures.did c.reset.ensures.emits
 
 pub returns-clause-alone : goal.returns-clause-alone
-returns-clause-alone g c =
-    alone_after _ _ _ _ c.self.view_is _ _ _ c.requires.keeps
+returns-clause-alone g c commons =
+    alone_after _ _ _ _ c.self.view_is _ _ _ commons c.requires.keeps
     (goes_after _ _ _ _ c.self.view_is _ _ _ _ _ c.reset.result (cleared c.args.at.number (stands_for c.self.inside.tree c.args.space.now)) c.requires.keeps c.reset.ensures.did c.reset.ensures.err)
 
 pub returns-clause-asked : goal.returns-clause-asked
