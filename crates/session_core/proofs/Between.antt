@@ -4,6 +4,7 @@ use Rattle.std.specs.Prelude.{◌==◌}
 use Rattle.addr_space.specs.Space.{Space}
 use Rattle.forest.specs.Forest.{removed}
 use Rattle.owner_core.specs.Owners.{OwnerTree}
+use Rattle.owner_kinds.specs.KindShelf.{table_of}
 use Rattle.pgs_step.specs.declared.errors.Error.{Error}
 use Rattle.pgs_step.specs.declared.events.What.{What}
 use Rattle.reset_callbacks.specs.ShelfState.{ShelfState}
@@ -17,6 +18,8 @@ use Rattle.session_rules.proofs.EndsStand.{aborted_stands, cleaned_up_stands, co
 use Rattle.session_rules.proofs.Releasing.{HasReleased, OnlyTables, release_is, swept_by, tabled, tables_of, with_owners}
 use Rattle.session_rules.proofs.StepsStand.{settled_as}
 use Rattle.session_rules.proofs.Swept.{removed_swept}
+use Rattle.session_owners.specs.Commons.{CommonState}
+use Rattle.session_owners.proofs.Balances.{serves_still}
 use Rattle.session_store.specs.State.{StoreState, levels_of, scene_of, session_of}
 use Rattle.session_store.specs.Calls.{Acted, Keeps, StandsIn}
 use Rattle.session_store.proofs.Deepest.{levels_long}
@@ -53,22 +56,24 @@ module _ (name : Option (List ℕ)) (i a st : Bool) (levels : List LevelState) (
 
   rolled_owned : (c : Option ℕ) (p : ℕ) → HasReleased p (released p c) (owner_released false (suc (length levels) == 1) p (released p c)).scene
       → OnlyTables (cleaned_up (whole c (Some p))).scene (in_order (aborted ∷ cleaned_up ∷ []) (whole c (Some p))).scene
-  rolled_owned None p r = (
-    r.tables,
-    ap (behind_release (suc (length levels))) r.is
-        ∙ ap (λ (z : OwnerTree). tabled r.tables (with_owners z (cleaned_up (whole None (Some p))).scene))
-        (ap (removed p) r.swept.is ∙ removed_swept (swept_by r.swept.first r.swept.second r.swept.third) p s.session.owners),
-  )
-  rolled_owned (Some n) p r = (
-    r.tables,
-    ap (behind_release (suc (length levels))) r.is
-        ∙ ap (λ (z : OwnerTree). tabled r.tables (with_owners z (cleaned_up (whole (Some n) (Some p))).scene))
-        (ap (removed p) r.swept.is ∙ removed_swept (swept_by r.swept.first r.swept.second r.swept.third) p s.session.owners),
-  )
+  rolled_owned None p r = record {
+    tables = r.tables;
+    same = r.same;
+    is =
+        ap (behind_release (suc (length levels))) r.is
+        ∙ ap (λ (z : OwnerTree). tabled r.tables (with_owners z (cleaned_up (whole None (Some p))).scene)) (ap (removed p) r.swept.is ∙ removed_swept (swept_by (table_of s.around.kinds)) p s.session.owners);
+  }
+  rolled_owned (Some n) p r = record {
+    tables = r.tables;
+    same = r.same;
+    is =
+        ap (behind_release (suc (length levels))) r.is
+        ∙ ap (λ (z : OwnerTree). tabled r.tables (with_owners z (cleaned_up (whole (Some n) (Some p))).scene)) (ap (removed p) r.swept.is ∙ removed_swept (swept_by (table_of s.around.kinds)) p s.session.owners);
+  }
 
   rolled_is : (c o : Option ℕ) → OnlyTables (cleaned_up (whole c o)).scene (in_order (aborted ∷ cleaned_up ∷ []) (whole c o)).scene
-  rolled_is None None = (tables_of s, refl)
-  rolled_is (Some n) None = (tables_of s, refl)
+  rolled_is None None = record { tables = tables_of s; same = refl; is = refl }
+  rolled_is (Some n) None = record { tables = tables_of s; same = refl; is = refl }
   rolled_is None (Some p) = rolled_owned None p (release_is false (suc (length levels) == 1) p (released p None) refl)
   rolled_is (Some n) (Some p) = rolled_owned (Some n) p (release_is false (suc (length levels) == 1) p (released p (Some n)) refl)
 
@@ -77,55 +82,58 @@ rolled_stands level levels s h =
     let r : OnlyTables (cleaned_up (settled (level ∷ levels) s)).scene (in_order (aborted ∷ cleaned_up ∷ []) (settled (level ∷ levels) s)).scene =
     rolled_is level.name level.implicit level.aborted level.starting levels s level.context level.owner in
     let left = cleaned_up_stands level levels s h in
-    subst Stands (sym r.1) (stands_tabled r.0 (cleaned_up (settled (level ∷ levels) s)).scene left.between.stands)
+    subst Stands (sym r.is) (stands_tabled r.tables (cleaned_up (settled (level ∷ levels) s)).scene r.same left.between.stands)
 
-stood : (act : Scene → Ended) (a b : StoreState) (s t : Space) (x y : ShelfState) (P : List What → Type 0) → Acted act a b s t x y P → ((around : Around) → Stands (act (scene_of a s x around)).scene) → StandsIn b t y
-stood act a b s t x y P acted stands around = subst Stands (acted.leads around) (stands around)
+stood : (act : Scene → Ended) (a b : StoreState) (s t : Space) (x y : ShelfState) (c d : CommonState) (P : List What → Type 0) → Acted act a b s t x y c d P → ((around : Around) → Stands (act (scene_of a s x c around)).scene) → StandsIn b t y d
+stood act a b s t x y c d P acted stands around = subst Stands (acted.leads around) (stands around)
 
 module _ (a b : Now) (P : List What → Type 0) (between : IsBetweenSteps a) (keeps : Keeps b.store b.space) where
-  pub commit_between : length a.store.levels ≡ 1 → Acted committed a.store b.store a.space b.space a.shelf b.shelf P → IsBetweenSteps b
+  pub commit_between : length a.store.levels ≡ 1 → Acted committed a.store b.store a.space b.space a.shelf b.shelf a.commons b.commons P → IsBetweenSteps b
   unfolding session_of
   commit_between one acted =
       let only = alone_of (levels_of a.store.levels) (levels_long a.store.levels ∙ one) in
       record {
         keeps = keeps;
-        stands = stood committed a.store b.store a.space b.space a.shelf b.shelf P acted
-            (λ around. settled_as (λ (w : Scene). Stands (committed w).scene) (scene_of a.store a.space a.shelf around) (only.0 ∷ []) (between.stands around) only.1
-            (λ k. let left = committed_stands only.0 (scene_of a.store a.space a.shelf around) k in left.between.stands));
+        serves = serves_still _ _ _ _ between.serves acted.balances;
+        stands = stood committed a.store b.store a.space b.space a.shelf b.shelf a.commons b.commons P acted
+            (λ around. settled_as (λ (w : Scene). Stands (committed w).scene) (scene_of a.store a.space a.shelf a.commons around) (only.0 ∷ []) (between.stands around) only.1
+            (λ k. let left = committed_stands only.0 (scene_of a.store a.space a.shelf a.commons around) k in left.between.stands));
       }
 
   -- the deepest level ends in one way or another
   ended_between : (act : Scene → Ended) → ((level : LevelState) (levels : List LevelState) (s : Scene) → Stands (settled (level ∷ levels) s) → Stands (act (settled (level ∷ levels) s)).scene)
-      → 0 < length a.store.levels → Acted act a.store b.store a.space b.space a.shelf b.shelf P → IsBetweenSteps b
+      → 0 < length a.store.levels → Acted act a.store b.store a.space b.space a.shelf b.shelf a.commons b.commons P → IsBetweenSteps b
   unfolding session_of
   ended_between act stands some acted =
       let d = deepest_of (levels_of a.store.levels) (subst (λ (n : ℕ). 0 < n) (sym (levels_long a.store.levels)) some) in
       record {
         keeps = keeps;
-        stands = stood act a.store b.store a.space b.space a.shelf b.shelf P acted
-            (λ around. settled_as (λ (w : Scene). Stands (act w).scene) (scene_of a.store a.space a.shelf around) (d.deepest ∷ d.above) (between.stands around) d.are
-            (λ k. stands d.deepest d.above (scene_of a.store a.space a.shelf around) k));
+        serves = serves_still _ _ _ _ between.serves acted.balances;
+        stands = stood act a.store b.store a.space b.space a.shelf b.shelf a.commons b.commons P acted
+            (λ around. settled_as (λ (w : Scene). Stands (act w).scene) (scene_of a.store a.space a.shelf a.commons around) (d.deepest ∷ d.above) (between.stands around) d.are
+            (λ k. stands d.deepest d.above (scene_of a.store a.space a.shelf a.commons around) k));
       }
 
-  pub clean_between : 0 < length a.store.levels → Acted cleaned_up a.store b.store a.space b.space a.shelf b.shelf P → IsBetweenSteps b
+  pub clean_between : 0 < length a.store.levels → Acted cleaned_up a.store b.store a.space b.space a.shelf b.shelf a.commons b.commons P → IsBetweenSteps b
   clean_between some acted = ended_between cleaned_up (λ level levels s h. let left = cleaned_up_stands level levels s h in left.between.stands) some acted
 
-  pub subcommit_between : 0 < length a.store.levels → Acted subcommitted a.store b.store a.space b.space a.shelf b.shelf P → IsBetweenSteps b
+  pub subcommit_between : 0 < length a.store.levels → Acted subcommitted a.store b.store a.space b.space a.shelf b.shelf a.commons b.commons P → IsBetweenSteps b
   subcommit_between some acted = ended_between subcommitted (λ level levels s h. let left = subcommitted_stands level levels s h in left.between.stands) some acted
 
-  pub roll_between : 0 < length a.store.levels → Acted (in_order (aborted ∷ cleaned_up ∷ [])) a.store b.store a.space b.space a.shelf b.shelf P → IsBetweenSteps b
+  pub roll_between : 0 < length a.store.levels → Acted (in_order (aborted ∷ cleaned_up ∷ [])) a.store b.store a.space b.space a.shelf b.shelf a.commons b.commons P → IsBetweenSteps b
   roll_between some acted = ended_between (in_order (aborted ∷ cleaned_up ∷ [])) rolled_stands some acted
 
-  abort_of : (l : LevelState) (ls : List LevelState) → levels_of a.store.levels ≡ l ∷ ls → l.aborted ≡ false → IsOpen l → Acted aborted a.store b.store a.space b.space a.shelf b.shelf P → IsBetweenSteps b
+  abort_of : (l : LevelState) (ls : List LevelState) → levels_of a.store.levels ≡ l ∷ ls → l.aborted ≡ false → IsOpen l → Acted aborted a.store b.store a.space b.space a.shelf b.shelf a.commons b.commons P → IsBetweenSteps b
   unfolding session_of
   abort_of l ls are active open_level acted = record {
     keeps = keeps;
-    stands = stood aborted a.store b.store a.space b.space a.shelf b.shelf P acted
-        (λ around. settled_as (λ (w : Scene). Stands (aborted w).scene) (scene_of a.store a.space a.shelf around) (l ∷ ls) (between.stands around) are
-        (λ k. let left = aborted_stands l ls (scene_of a.store a.space a.shelf around) active open_level k in left.between.stands));
+    serves = serves_still _ _ _ _ between.serves acted.balances;
+    stands = stood aborted a.store b.store a.space b.space a.shelf b.shelf a.commons b.commons P acted
+        (λ around. settled_as (λ (w : Scene). Stands (aborted w).scene) (scene_of a.store a.space a.shelf a.commons around) (l ∷ ls) (between.stands around) are
+        (λ k. let left = aborted_stands l ls (scene_of a.store a.space a.shelf a.commons around) active open_level k in left.between.stands));
   }
 
-  pub abort_between : Acted aborted a.store b.store a.space b.space a.shelf b.shelf P → IfSome (first_of (levels_of a.store.levels)) (λ level. level.aborted ≡ false → IsOpen level → IsBetweenSteps b)
+  pub abort_between : Acted aborted a.store b.store a.space b.space a.shelf b.shelf a.commons b.commons P → IfSome (first_of (levels_of a.store.levels)) (λ level. level.aborted ≡ false → IsOpen level → IsBetweenSteps b)
   abort_between acted = go (levels_of a.store.levels) refl
     where
       go : (ls : List LevelState) → levels_of a.store.levels ≡ ls → IfSome (first_of ls) (λ level. level.aborted ≡ false → IsOpen level → IsBetweenSteps b)
@@ -136,7 +144,8 @@ module _ (a b : Now) (P : List What → Type 0) (between : IsBetweenSteps a) (ke
 pub recovery_lines : (error : Error) (a b : Now) (P : List What → Type 0) → IsBetweenSteps a → Ends (recovered error) a b P → IsBetweenLines b
 recovery_lines error a b P between did = record {
   keeps = did.keeps;
-  stands = λ around. subst StandsBetweenLines (did.acted.leads around) (recovered_stands error (scene_of a.store a.space a.shelf around) (between.stands around));
+  serves = serves_still _ _ _ _ between.serves did.balances;
+  stands = λ around. subst StandsBetweenLines (did.acted.leads around) (recovered_stands error (scene_of a.store a.space a.shelf a.commons around) (between.stands around));
 }
 
 -- a session is seen as its store

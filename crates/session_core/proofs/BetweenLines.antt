@@ -17,6 +17,7 @@ use Rattle.session_rules.specs.Does.{does_all}
 use Rattle.session_rules.specs.Transcript.{turn, turn_of}
 use Rattle.session_rules.proofs.TurnStands as rules
 use Rattle.session_rules.proofs.TurnStands.{turn_stands}
+use Rattle.session_owners.proofs.Balances.{serves_still}
 use Rattle.session_store.specs.State.{StoreState, levels_of, level_state, session_of}
 use Rattle.session_store.proofs.Deepest.{levels_long}
 use Rattle.session_core.specs.Answers.{at_calls, refusal_of}
@@ -25,7 +26,7 @@ use Rattle.session_core.specs.Lines.{IsAbortedBlock, IsBetweenLines, IsInBlock, 
 use Rattle.session_core.specs.Performed.{Now, IsBetweenSteps, Performed, scene_in}
 
 pub steps_of_lines : (a : Now) → IsBetweenLines a → IsBetweenSteps a
-steps_of_lines a h = record { keeps = h.keeps; stands = λ around. let z : StandsBetweenLines (scene_in a around) = h.stands around in z.stands }
+steps_of_lines a h = record { keeps = h.keeps; serves = h.serves; stands = λ around. let z : StandsBetweenLines (scene_in a around) = h.stands around in z.stands }
 
 -- no level
 pub none_of : (levels : List Level) (o : Option Level) → o ≡ None → option_map level_state o ≡ first_of (levels_of levels) → levels ≡ []
@@ -87,6 +88,12 @@ is_here (command.Pin buffer) h = tt
 is_here (command.Unpin buffer) h = tt
 is_here (command.Reference class key) h = tt
 is_here (command.Unreference class key) h = tt
+is_here (command.Acquire kind key) h = tt
+is_here (command.Drop kind key) h = tt
+is_here (command.Snapshot snapshot) h = tt
+is_here (command.Unsnapshot snapshot) h = tt
+is_here (command.Lock object mode) h = tt
+is_here (command.Unlock object mode) h = tt
 is_here (command.Open file) h = tt
 is_here (command.Touch file) h = tt
 is_here (command.Close file) h = tt
@@ -116,6 +123,7 @@ pub lines_behind : (c : Command) (a b : Now) (P : List What → Type 0) (r : Res
 lines_behind c a b P (Err e) known lines done = tt
 lines_behind c a b P (Ok u) known lines done = record {
   keeps = done.keeps;
+  serves = serves_still _ _ _ _ lines.serves done.balances;
   stands = λ around.
       let moment : Moment = at_calls (scene_in a) a.calls.count a.calls.fail around in
       let stands : StandsBetweenLines (turn None (Some c) moment).moment.scene = turn_stands None c moment (is_here c known) (lines.stands around) in

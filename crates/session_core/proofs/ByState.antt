@@ -16,6 +16,7 @@ use Rattle.session_rules.specs.Works.{work_of}
 use Rattle.session_rules.specs.Calls.{unfailing}
 use Rattle.session_rules.specs.Does.{does}
 use Rattle.subxact_stack.specs.declared.levels.Level.{Level}
+use Rattle.session_owners.proofs.Balances.{balances_none}
 use Rattle.session_store.specs.State.{StoreState, levels_of, session_of}
 use Rattle.session_store.proofs.Deepest.{levels_long}
 use Rattle.session_store.specs.Calls.{Acted, Keeps}
@@ -40,6 +41,12 @@ worked (command.Pin buffer) session h = refl
 worked (command.Unpin buffer) session h = refl
 worked (command.Reference class key) session h = refl
 worked (command.Unreference class key) session h = refl
+worked (command.Acquire kind key) session h = refl
+worked (command.Drop kind key) session h = refl
+worked (command.Snapshot snapshot) session h = refl
+worked (command.Unsnapshot snapshot) session h = refl
+worked (command.Lock object mode) session h = refl
+worked (command.Unlock object mode) session h = refl
 worked (command.Open file) session h = refl
 worked (command.Touch file) session h = refl
 worked (command.Close file) session h = refl
@@ -75,8 +82,8 @@ does_say : (event : What) (w : Option ℕ) (m : Moment) → does w (element.Says
 unfolding does
 does_say event w m = refl
 
-says : (event : What) (a : Now) (P : List What → Type 0) → P (event ∷ []) → Acted (say event) a.store a.store a.space a.space a.shelf a.shelf P
-says event a P h = record { leads = λ around. refl; says = λ around. h }
+says : (event : What) (a : Now) (P : List What → Type 0) → P (event ∷ []) → Acted (say event) a.store a.store a.space a.space a.shelf a.shelf a.commons a.commons P
+says event a P h = record { leads = λ around. refl; says = λ around. h; balances = balances_none a.store.owners a.commons }
 
 pub performed_say : (event : What) (a : Now) (P : List What → Type 0) → Keeps a.store a.space → P (event ∷ []) → Performed 0 (element.Says event ∷ []) a a P None
 performed_say event a P keeps h =
@@ -247,6 +254,12 @@ work_aborted (command.Pin buffer) h level levels session = refl
 work_aborted (command.Unpin buffer) h level levels session = refl
 work_aborted (command.Reference class key) h level levels session = refl
 work_aborted (command.Unreference class key) h level levels session = refl
+work_aborted (command.Acquire kind key) h level levels session = refl
+work_aborted (command.Drop kind key) h level levels session = refl
+work_aborted (command.Snapshot snapshot) h level levels session = refl
+work_aborted (command.Unsnapshot snapshot) h level levels session = refl
+work_aborted (command.Lock object mode) h level levels session = refl
+work_aborted (command.Unlock object mode) h level levels session = refl
 work_aborted (command.Open file) h level levels session = refl
 work_aborted (command.Touch file) h level levels session = refl
 work_aborted (command.Close file) h level levels session = refl
@@ -324,6 +337,12 @@ others_aborted (command.Pin buffer) h nothing commit rollback back level levels 
 others_aborted (command.Unpin buffer) h nothing commit rollback back level levels session = work_aborted (command.Unpin buffer) h level levels session
 others_aborted (command.Reference class key) h nothing commit rollback back level levels session = work_aborted (command.Reference class key) h level levels session
 others_aborted (command.Unreference class key) h nothing commit rollback back level levels session = work_aborted (command.Unreference class key) h level levels session
+others_aborted (command.Acquire kind key) h nothing commit rollback back level levels session = work_aborted (command.Acquire kind key) h level levels session
+others_aborted (command.Drop kind key) h nothing commit rollback back level levels session = work_aborted (command.Drop kind key) h level levels session
+others_aborted (command.Snapshot snapshot) h nothing commit rollback back level levels session = work_aborted (command.Snapshot snapshot) h level levels session
+others_aborted (command.Unsnapshot snapshot) h nothing commit rollback back level levels session = work_aborted (command.Unsnapshot snapshot) h level levels session
+others_aborted (command.Lock object mode) h nothing commit rollback back level levels session = work_aborted (command.Lock object mode) h level levels session
+others_aborted (command.Unlock object mode) h nothing commit rollback back level levels session = work_aborted (command.Unlock object mode) h level levels session
 others_aborted (command.Open file) h nothing commit rollback back level levels session = work_aborted (command.Open file) h level levels session
 others_aborted (command.Touch file) h nothing commit rollback back level levels session = work_aborted (command.Touch file) h level levels session
 others_aborted (command.Close file) h nothing commit rollback back level levels session = work_aborted (command.Close file) h level levels session
@@ -375,6 +394,12 @@ idle_work (command.Pin buffer) h session = refl
 idle_work (command.Unpin buffer) h session = refl
 idle_work (command.Reference class key) h session = refl
 idle_work (command.Unreference class key) h session = refl
+idle_work (command.Acquire kind key) h session = refl
+idle_work (command.Drop kind key) h session = refl
+idle_work (command.Snapshot snapshot) h session = refl
+idle_work (command.Unsnapshot snapshot) h session = refl
+idle_work (command.Lock object mode) h session = refl
+idle_work (command.Unlock object mode) h session = refl
 idle_work (command.Open file) h session = refl
 idle_work (command.Touch file) h session = refl
 idle_work (command.Close file) h session = refl

@@ -25,6 +25,7 @@ use Rattle.session_rules.specs.Checks.{failure, refusal_at, space_error, tree_er
 use Rattle.session_rules.specs.Lookup.{context_named}
 use Rattle.session_rules.specs.Parts.{at_context}
 use Rattle.session_rules.specs.Transcript.{is_want}
+use Rattle.session_owners.specs.Commons.{CommonState}
 use Rattle.session_store.specs.State.{StoreState, contexts_in, scene_of, session_of}
 use Rattle.session_store.specs.Calls.{Acted, ContextsAlone, Keeps, Refused}
 use Rattle.session_core.specs.declared.calls.Calls.{Calls}
@@ -48,7 +49,7 @@ fails check rest a P e keeps h plain refused = performed_stop 0 (element.Checks 
 
 -- what was refused where nothing changed
 pub unchanged : (k : ℕ) (es : List Element) (a b : Now) (P : List What → Type 0) (r : Option Error) → Performed k es a a P r
-    → Refused a.store b.store a.space b.space a.shelf b.shelf → Keeps b.store b.space → Moves a.store.tree b.store.tree a.space b.space → b.calls ≡ a.calls
+    → Refused a.store b.store a.space b.space a.shelf b.shelf a.commons b.commons → Keeps b.store b.space → Moves a.store.tree b.store.tree a.space b.space → b.calls ≡ a.calls
     → Asks a.store.tree.account 0 a.space b.space → Performed k es a b P r
 unchanged k es a b P r x same keeps moves calls asks = record {
   answers = subst (λ (n : ℕ). Answers es (scene_in a) (scene_in b) a.calls.count n a.calls.fail P r) (ap (λ (c : Calls). c.count) (sym calls))
@@ -56,6 +57,7 @@ unchanged k es a b P r x same keeps moves calls asks = record {
   fail = ap (λ (c : Calls). c.fail) calls;
   keeps = keeps;
   moves = moves;
+  balances = rw (same.store, same.commons) x.balances;
   taken = λ around w f.
       takes_on (wants r) a.store.tree.account (asked_all w es (at_calls (scene_in a) a.calls.count a.calls.fail around)) a.space a.space b.space
       (x.taken around w (subst (λ (c : Calls). Fits (wants r) c.count w) calls f)) (sym asks);
@@ -81,11 +83,12 @@ pub refused_at : (name : Text) (session : SessionState) (n : ℕ) (refusal : ℕ
 refused_at name session n refusal e = ap (λ (o : Option ℕ). option_map tree_error (option_and_then refusal o)) e
 
 -- an act on the context of a name that is there
-pub acted_at : (name : Text) (n : ℕ) (act : ℕ → Scene → Ended) (a b : StoreState) (s t : Space) (x y : ShelfState) (P : List What → Type 0) → context_named name (session_of a s) ≡ Some n
-    → Acted (act n) a b s t x y P → Acted (at_context name act) a b s t x y P
-acted_at name n act a b s t x y P e h = record {
-  leads = λ around. ap (λ (o : Option ℕ). (where_there o act (scene_of a s x around)).scene) e ∙ h.leads around;
-  says = λ around. subst (λ (o : Option ℕ). P (where_there o act (scene_of a s x around)).events) (sym e) (h.says around);
+pub acted_at : (name : Text) (n : ℕ) (act : ℕ → Scene → Ended) (a b : StoreState) (s t : Space) (x y : ShelfState) (c d : CommonState) (P : List What → Type 0) → context_named name (session_of a s) ≡ Some n
+    → Acted (act n) a b s t x y c d P → Acted (at_context name act) a b s t x y c d P
+acted_at name n act a b s t x y c d P e h = record {
+  leads = λ around. ap (λ (o : Option ℕ). (where_there o act (scene_of a s x c around)).scene) e ∙ h.leads around;
+  says = λ around. subst (λ (o : Option ℕ). P (where_there o act (scene_of a s x c around)).events) (sym e) (h.says around);
+  balances = h.balances;
 }
 
 -- no refusal of a call is a want of memory, as rules tell it
@@ -118,14 +121,14 @@ module _ (name : Text) (check : Check) (x : Element) (act : ℕ → Scene → En
       go (Some n) = raises n scene
 
   module _ (a b : Now) (n : ℕ) (P : List What → Type 0) (found : context_named name (session_of a.store a.space) ≡ Some n) (keeps : Keeps a.store a.space) (calls : b.calls ≡ a.calls)
-      (alone : ContextsAlone a.store b.store a.space b.space) (quiet : (scene : Scene) → asks_in x scene ≡ 0) (asks : Asks a.store.tree.account 0 a.space b.space) where
+      (alone : ContextsAlone a.store b.store a.space b.space a.commons b.commons) (quiet : (scene : Scene) → asks_in x scene ≡ 0) (asks : Asks a.store.tree.account 0 a.space b.space) where
     pub on_context : (r : Result (Unit {0}) TreeError) → ((around : Around) → failure check (scene_in a around) ≡ option_map tree_error (error_of r))
-        → OnOk r (Acted (act n) a.store b.store a.space b.space a.shelf b.shelf P) → OnErr r (Refused a.store b.store a.space b.space a.shelf b.shelf) → OnErr r (P [])
+        → OnOk r (Acted (act n) a.store b.store a.space b.space a.shelf b.shelf a.commons b.commons P) → OnErr r (Refused a.store b.store a.space b.space a.shelf b.shelf a.commons b.commons) → OnErr r (P [])
         → Performed 0 (element.Checks (element.IsContext name) ∷ element.Checks check ∷ x ∷ []) a b P (option_map tree_error (error_of r))
     on_context (Ok u) may acted same silent =
         passes 0 (element.IsContext name) (element.Checks check ∷ x ∷ []) a b P None keeps (λ around. there name (scene_in a around) n found)
         (passes 0 check (x ∷ []) a b P None keeps may
-        (performed_act x (at_context name act) a b P is at_raises (acted_at name n act a.store b.store a.space b.space a.shelf b.shelf P found acted) alone calls
+        (performed_act x (at_context name act) a b P is at_raises (acted_at name n act a.store b.store a.space b.space a.shelf b.shelf a.commons b.commons P found acted) alone calls
         (λ around. subst (λ (k : ℕ). Asks a.store.tree.account k a.space b.space) (sym (quiet (scene_in a around))) asks)))
     on_context (Err e) may acted same silent =
         unchanged 0 (element.Checks (element.IsContext name) ∷ element.Checks check ∷ x ∷ []) a b P (Some (tree_error e))

@@ -20,6 +20,8 @@ use Rattle.session_rules.specs.Does.{does, does_all, done_behind, then_done}
 use Rattle.session_rules.specs.Elements.{Element}
 use Rattle.session_rules.specs.Elements as element
 use Rattle.session_rules.specs.Ends.{aborted, cleaned_up, exited, level_rolled_back}
+use Rattle.session_owners.specs.Commons.{CommonState}
+use Rattle.session_owners.proofs.Balances.{balances_more}
 use Rattle.session_store.specs.State.{StoreState, levels_of, scene_of, session_of}
 use Rattle.session_store.specs.Calls.{Acted, Keeps}
 use Rattle.session_core.specs.Answers.{at_calls}
@@ -82,10 +84,12 @@ ends_of es act a b P does asks done =
       acted = record {
         leads = λ around. ap (λ (n : Moment). n.scene) (behind around);
         says = λ around. subst P (ap (λ (d : Done). d.events) (does (m around))) (done.answers.says around None tt);
+        balances = done.balances;
       };
       keeps = done.keeps;
       moves = done.moves;
       asked = subst (λ (n : ℕ). Asks a.store.tree.account n a.space b.space) (asks (m nowhere)) (done.taken nowhere None tt);
+      balances = done.balances;
       calls = ap (λ (n : ℕ). record { count = n; fail = b.calls.fail }) count ∙ ap (λ (n : ℕ). record { count = a.calls.count; fail = n }) done.fail;
       grows = done.grows;
     }
@@ -95,7 +99,15 @@ unfolding session_of
 rolled_ends a b P done =
     let d : Ends (for_each level_rolled_back (levels_of a.store.levels)) a b P =
     ends_of (rolled_back_to 1 (levels_of a.store.levels)) (for_each level_rolled_back (levels_of a.store.levels)) a b P (rolled_does (levels_of a.store.levels)) (rolled_asks (levels_of a.store.levels)) done in
-    record { acted = record { leads = d.acted.leads; says = d.acted.says }; keeps = d.keeps; moves = d.moves; asked = d.asked; calls = d.calls; grows = d.grows }
+    record {
+      acted = record { leads = d.acted.leads; says = d.acted.says; balances = d.balances };
+      keeps = d.keeps;
+      moves = d.moves;
+      asked = d.asked;
+      balances = d.balances;
+      calls = d.calls;
+      grows = d.grows;
+    }
 
 -- no level is left
 pub none_below : (levels : List Level) → length levels < 1 → levels ≡ []
@@ -107,33 +119,35 @@ abbrev pub closing : Scene → Ended
 closing = in_order (switched 1 ∷ context_gone 1 ∷ [])
 
 pub closing_keeps : KeepsNumbers closing
-closing_keeps a s x around = refl
+closing_keeps a s x c around = refl
 
 module _ (O : Type 0) (emits : O → List What → O → Type 0) (more : (o p q : O) (xs ys : List What) → emits o xs p → emits p ys q → emits o (xs ++ ys) q) (o p q r : O) where
-  exits : (a b c : StoreState) (s t u : Space) (x y z : ShelfState) → Acted all_rolled a b s t x y (λ events. emits o events p) → Acted closing b c t u y z (λ events. emits p events q) → emits q (what.Exit ∷ []) r
-      → Acted exited a c s u x z (λ events. emits o events r)
+  exits : (a b c : StoreState) (s t u : Space) (x y z : ShelfState) (k l m : CommonState) → Acted all_rolled a b s t x y k l (λ events. emits o events p) → Acted closing b c t u y z l m (λ events. emits p events q) → emits q (what.Exit ∷ []) r
+      → Acted exited a c s u x z k m (λ events. emits o events r)
   unfolding exited
-  exits a b c s t u x y z first second said = record {
+  exits a b c s t u x y z k l m first second said = record {
     leads = λ around. ap (λ (w : Scene). (closing w).scene) (first.leads around) ∙ second.leads around;
     says = λ around.
-        let w : Scene = (all_rolled (scene_of a s x around)).scene in
-        let v : Scene = scene_of b t y around in
-        more o p r (all_rolled (scene_of a s x around)).events ((context_gone 1 (switched 1 w).scene).events ++ what.Exit ∷ []) (first.says around)
+        let w : Scene = (all_rolled (scene_of a s x k around)).scene in
+        let v : Scene = scene_of b t y l around in
+        more o p r (all_rolled (scene_of a s x k around)).events ((context_gone 1 (switched 1 w).scene).events ++ what.Exit ∷ []) (first.says around)
         (subst (λ (es : List What). emits p es r)
         (ap (λ (es : List What). es ++ what.Exit ∷ [])
-        (append-nil (context_gone 1 (switched 1 v).scene).events ∙ ap (λ (k : Scene). (context_gone 1 (switched 1 k).scene).events) (sym (first.leads around))))
+        (append-nil (context_gone 1 (switched 1 v).scene).events ∙ ap (λ (h : Scene). (context_gone 1 (switched 1 h).scene).events) (sym (first.leads around))))
         (more p q r (closing v).events (what.Exit ∷ []) (second.says around) said));
+    balances = balances_more _ _ _ _ _ _ first.balances second.balances;
   }
 
-  pub session_exits : (a b c : Now) → Ends all_rolled a b (λ events. emits o events p) → Acted closing b.store c.store b.space c.space b.shelf c.shelf (λ events. emits p events q) → Keeps c.store c.space
+  pub session_exits : (a b c : Now) → Ends all_rolled a b (λ events. emits o events p) → Acted closing b.store c.store b.space c.space b.shelf c.shelf b.commons c.commons (λ events. emits p events q) → Keeps c.store c.space
       → Moves b.store.tree c.store.tree b.space c.space → Asks b.store.tree.account 0 b.space c.space → c.calls ≡ b.calls → emits q (what.Exit ∷ []) r → Ends exited a c (λ events. emits o events r)
   session_exits a b c first acted keeps moves asks calls said =
       let grows : Grows 0 b c = numbers_grow closing b c (λ events. emits p events q) closing_keeps acted calls in
       record {
-        acted = exits a.store b.store c.store a.space b.space c.space a.shelf b.shelf c.shelf first.acted acted said;
+        acted = exits a.store b.store c.store a.space b.space c.space a.shelf b.shelf c.shelf a.commons b.commons c.commons first.acted acted said;
         keeps = keeps;
         moves = tree_more a.store.tree b.store.tree c.store.tree a.space b.space c.space first.moves moves;
         asked = asks ∙ first.asked;
+        balances = balances_more _ _ _ _ _ _ first.balances acted.balances;
         calls = calls ∙ first.calls;
         grows = record {
           contexts = omega (arith, first.grows.contexts, grows.contexts);

@@ -16,7 +16,7 @@ use Rattle.owner_items.specs.ItemList.{is_of}
 use Rattle.owner_core.specs.declared.errors.OwnerError.{OwnerError}
 use Rattle.owner_core.specs.declared.errors.OwnerError.TheVariants.{NotOwned}
 use Rattle.session_owners.specs.ResourceState.{items_of, owners_of}
-use Rattle.session_rules.specs.State.{level_owner}
+use Rattle.session_rules.specs.State.{level_owner, snapshot_reference}
 use Rattle.session_rules.specs.World.{Moment, Scene}
 use Rattle.session_rules.specs.Acts.{Ended, in_order, where_there}
 use Rattle.session_rules.specs.Elements.{OfLevel}
@@ -28,7 +28,6 @@ use Rattle.session_rules.specs.Lookup.{newest, newest_of_level}
 use Rattle.session_rules.specs.Parts.{at_owner}
 use Rattle.session_rules.specs.Releases.{Keeper, NoOne, item_released, keeper_of}
 use Rattle.session_rules.specs.Taking.{item_taken, remembers, take_refused, taken_by}
-use Rattle.session_rules.proofs.ItemsStand.{class_unkept}
 use Rattle.session_owners.specs.Counted.{IsReference}
 use Rattle.session_store.specs.State.{StoreState, session_of}
 use Rattle.session_store.specs.Calls.{Acted, Keeps}
@@ -37,7 +36,7 @@ use Rattle.session_core.specs.Performed.{Now, Performed, scene_in}
 use Rattle.session_core.proofs.Commands.{fails, passes, unchanged}
 use Rattle.session_core.proofs.Performing.{performed_both, performed_end, performed_made, performed_more, performed_stop}
 use Rattle.session_core.proofs.Pinning.{performed_said}
-use Rattle.session_core.proofs.Stepping.{Rises, count_behind, grown, moves_same, step_injected, step_wants, still_asks, still_keeps, still_moves, still_refused, still_some}
+use Rattle.session_core.proofs.Stepping.{Rises, count_behind, grown, lent, moves_same, step_injected, step_wants, still_asks, still_keeps, still_moves, still_refused, still_some}
 
 abbrev takes_item : KindId → ℕ → Scene → Ended
 takes_item kind key = at_owner OfLevel (λ owner. item_taken owner kind key)
@@ -62,12 +61,12 @@ class_counted Catcache = record { from = omega arith; to = omega arith; unkept =
 class_counted CatcacheList = record { from = omega arith; to = omega arith; unkept = refl }
 class_counted TupleDescriptor = record { from = omega arith; to = omega arith; unkept = refl }
 
-pub kind_unkept : (class : ReferenceClass) (kind : KindId) → kind ≡ class_kind class → keeper_of kind ≡ NoOne
-kind_unkept class kind is = ap keeper_of is ∙ class_unkept class
+pub snapshot_counted : IsReference snapshot_reference
+snapshot_counted = record { from = omega arith; to = omega arith; unkept = refl }
 
 -- the owner takes an item that only owners keep count of
 module _ (kind : KindId) (key : ℕ) (a b : Now) (P : List What → Type 0) (counted : b.calls ≡ record a.calls { count = a.calls.count + 1 }) (space : b.space ≡ a.space) (keeps : Keeps a.store a.space) where
-  module _ (shelf : b.shelf ≡ a.shelf) (silent : P []) (store : b.store ≡ a.store) where
+  module _ (shelf : lent b ≡ lent a) (silent : P []) (store : b.store ≡ a.store) where
     pub take_item_injected : (e : Error) → (e ≡ Injected (a.calls.count + 1)) × ((a.calls.count + 1 == a.calls.fail) ≡ true) → Performed 1 (element.Take OfLevel kind key ∷ []) a b P (Some e)
     take_item_injected e told =
         step_injected (element.Take OfLevel kind key) (λ s. take_refused (keeper_of kind) s) (takes_item kind key) (does_take kind key) a b P counted (still_refused a b store space shelf)
@@ -79,22 +78,24 @@ module _ (kind : KindId) (key : ℕ) (a b : Now) (P : List What → Type 0) (cou
         (still_keeps a b store space shelf keeps) (still_moves a b store space shelf keeps) silent goes (still_some a b store space shelf)
 
   pub take_item_done : keeper_of kind ≡ NoOne → (a.calls.count + 1 == a.calls.fail) ≡ false → (owner : OwnerId) → IsLevelOwner a.store owner → b.store.tree ≡ a.store.tree → Keeps b.store b.space
-      → Acted (item_taken owner.number kind key) a.store b.store a.space b.space a.shelf b.shelf P → Performed 1 (element.Take OfLevel kind key ∷ []) a b P None
+      → Acted (item_taken owner.number kind key) a.store b.store a.space b.space a.shelf b.shelf a.commons b.commons P → Performed 1 (element.Take OfLevel kind key ∷ []) a b P None
   take_item_done unkept goes owner is tree after taken =
       performed_made (element.Take OfLevel kind key) (λ s. take_refused (keeper_of kind) s) (takes_item kind key) (does_take kind key) a b P counted 1 goes
       (λ around. ap (λ (k : Keeper). take_refused k (scene_in a around)) unkept) acted after
       (moves_same a.store.tree b.store.tree a.space b.space tree space keeps.agrees)
       (grown 1 (takes_item kind key) a b P (take_rises kind key unkept) acted (omega (arith, count_behind a b counted))) (λ around. ap (λ (s : Space). s.taken) space)
     where
-      acted : Acted (takes_item kind key) a.store b.store a.space b.space a.shelf b.shelf P
+      acted : Acted (takes_item kind key) a.store b.store a.space b.space a.shelf b.shelf a.commons b.commons P
       acted = record {
         leads = λ around. ap (λ (o : Option ℕ). (where_there o (λ n. item_taken n kind key) (scene_in a around)).scene) (is a.space) ∙ taken.leads around;
         says = λ around. subst (λ (o : Option ℕ). P (where_there o (λ n. item_taken n kind key) (scene_in a around)).events) (sym (is a.space)) (taken.says around);
+        balances = taken.balances;
       }
 
 -- a kind by another name
-pub take_as : (kind other : KindId) (key : ℕ) (a b : Now) (P : List What → Type 0) (r : Option Error) → kind ≡ other → Performed 1 (element.Take OfLevel kind key ∷ []) a b P r → Performed 1 (element.Take OfLevel other key ∷ []) a b P r
-take_as kind other key a b P r is h = subst (λ (z : KindId). Performed 1 (element.Take OfLevel z key ∷ []) a b P r) is h
+pub takes_as : (kind other : KindId) (key : ℕ) (a b : Now) (P : List What → Type 0) (r : Option Error) → kind ≡ other → Performed 2 (element.Enlarge OfLevel ∷ element.Take OfLevel kind key ∷ []) a b P r
+    → Performed 2 (element.Enlarge OfLevel ∷ element.Take OfLevel other key ∷ []) a b P r
+takes_as kind other key a b P r is h = subst (λ (z : KindId). Performed 2 (element.Enlarge OfLevel ∷ element.Take OfLevel z key ∷ []) a b P r) is h
 
 pub give_as : (kind other : KindId) (key : ℕ) (a b : Now) (P : List What → Type 0) (r : Option Error) → kind ≡ other → Performed 0 (element.Checks (element.Holds kind key) ∷ element.GiveBack kind key ∷ []) a b P r
     → Performed 0 (element.Checks (element.Holds other key) ∷ element.GiveBack other key ∷ []) a b P r
@@ -143,7 +144,7 @@ module _ (kind : KindId) (key : ℕ) (a b : Now) (P : List What → Type 0) (own
   -- the owner gives its newest item back
   pub given_back : (item : Item) → find (is_of kind key) (items_of owner.number (owners_of a.store.owners)) ≡ Some item → b.store.tree ≡ a.store.tree
       → b.store.owners.next_owner ≡ a.store.owners.next_owner → b.store.owners.next_serial ≡ a.store.owners.next_serial → b.store.owners.descriptors ≡ a.store.owners.descriptors → Keeps b.store b.space
-      → Acted (item_released owner.number kind key) a.store b.store a.space b.space a.shelf b.shelf P → Performed 0 (element.Checks (element.Holds kind key) ∷ element.GiveBack kind key ∷ []) a b P None
+      → Acted (item_released owner.number kind key) a.store b.store a.space b.space a.shelf b.shelf a.commons b.commons P → Performed 0 (element.Checks (element.Holds kind key) ∷ element.GiveBack kind key ∷ []) a b P None
   given_back item found tree next_owner next_serial descriptors after given =
       passes 0 (element.Holds kind key) (element.GiveBack kind key ∷ []) a b P None keeps
       (λ around. ap (λ (o : Option Item). unless (is_some o) error.NotHeld) (newest_is a.store a.space owner kind key is ∙ found))
@@ -156,14 +157,15 @@ module _ (kind : KindId) (key : ℕ) (a b : Now) (P : List What → Type 0) (own
         descriptors = descriptors;
       }) calls (λ around. ap (λ (s : Space). s.taken) space))
     where
-      acted : Acted (gives_back kind key) a.store b.store a.space b.space a.shelf b.shelf P
+      acted : Acted (gives_back kind key) a.store b.store a.space b.space a.shelf b.shelf a.commons b.commons P
       acted = record {
         leads = λ around. ap (λ (o : Option ℕ). (where_there o (λ n. item_released n kind key) (scene_in a around)).scene) (is a.space) ∙ given.leads around;
         says = λ around. subst (λ (o : Option ℕ). P (where_there o (λ n. item_released n kind key) (scene_in a around)).events) (sym (is a.space)) (given.says around);
+        balances = given.balances;
       }
 
   -- it has none
-  pub not_held : find (is_of kind key) (items_of owner.number (owners_of a.store.owners)) ≡ None → P [] → b.store ≡ a.store → b.shelf ≡ a.shelf
+  pub not_held : find (is_of kind key) (items_of owner.number (owners_of a.store.owners)) ≡ None → P [] → b.store ≡ a.store → lent b ≡ lent a
       → Performed 0 (element.Checks (element.Holds kind key) ∷ element.GiveBack kind key ∷ []) a b P (Some error.NotHeld)
   not_held missing silent store shelf =
       unchanged 0 (element.Checks (element.Holds kind key) ∷ element.GiveBack kind key ∷ []) a b P (Some error.NotHeld)

@@ -107,7 +107,7 @@ module _ (name : Option Text) (implicit : Bool) (outer : List LevelState) (k : �
   behind es levels Q is done leads =
       let all : (around : Around) (w : Option ℕ) → Leads Q (does_all w es (at_calls (scene_in a) a.calls.count a.calls.fail around)) =
       λ around w. leads w (at_calls (scene_in a) a.calls.count a.calls.fail around) (subst (λ (ls : List LevelState). At ls (scene_in a around)) is (at_levels a around h)) in
-      (stands_behind k es a b P r Q done all, λ none. known_behind k es a b P r Q done all none empty_around)
+      (stands_behind k es a b P r Q done all h.serves, λ none. known_behind k es a b P r Q done all none empty_around)
 
   pub level_behind : levels_of a.store.levels ≡ outer → AreOuter outer → (implicit ≡ true → outer ≡ []) → Performed k (element.MakeLevel name implicit ∷ []) a b P r
       → IsBetweenSteps b × (r ≡ None → levels_of b.store.levels ≡ begun name implicit None None true ∷ outer)

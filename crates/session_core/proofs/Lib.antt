@@ -19,9 +19,11 @@ pub mod Exited
 pub mod Pinning
 pub mod HeldItems
 pub mod OnFiles
+pub mod OnKinds
 pub mod Between
 pub mod BetweenLines
 pub mod Rolling
 pub mod Turning
 pub mod Opened
 pub mod Charged
+pub mod OnLocks

@@ -12,6 +12,7 @@ use Rattle.session_rules.specs.Acts.{Ended, changes, context_gone, for_each, in_
 use Rattle.session_rules.specs.Releases.{owner_gone, owner_released}
 use Rattle.session_rules.specs.Ends.{aborted, cleaned_up, committed, empty_context_gone, level_owner_gone, level_released, stack_popped, subcommitted, switched_up}
 use Rattle.session_rules.proofs.Releasing.{release_is}
+use Rattle.session_owners.specs.Commons.{CommonState}
 use Rattle.session_store.specs.State.{StoreState, scene_of, session_of}
 use Rattle.session_store.specs.Calls.{Acted}
 use Rattle.session_core.specs.Performed.{Grows, Now}
@@ -64,12 +65,12 @@ cleaned_keeps s =
 
 -- an act that keeps the numbers of the store's scenes
 abbrev pub KeepsNumbers : (Scene → Ended) → Type 0
-KeepsNumbers act = (a : StoreState) (s : Space) (x : ShelfState) (around : Around) → numbers (act (scene_of a s x around)).scene ≡ numbers (scene_of a s x around)
+KeepsNumbers act = (a : StoreState) (s : Space) (x : ShelfState) (c : CommonState) (around : Around) → numbers (act (scene_of a s x c around)).scene ≡ numbers (scene_of a s x c around)
 
 pub commits : KeepsNumbers committed
 unfolding session_of
-commits a s x around =
-    let z : Scene = scene_of a s x around in
+commits a s x c around =
+    let z : Scene = scene_of a s x c around in
     let r : Scene = (level_released true true z).scene in
     let g : Scene = (level_owner_gone (stack_popped 1 r).scene).scene in
     context_keeps (level_context (switched top_context g).scene.session) (switched top_context g).scene
@@ -82,34 +83,34 @@ empty_keeps s =
 
 pub subcommits : KeepsNumbers subcommitted
 unfolding session_of
-subcommits a s x around =
-    let z : Scene = scene_of a s x around in
+subcommits a s x c around =
+    let z : Scene = scene_of a s x c around in
     let r : Scene = (level_released true false z).scene in
     let l : Scene = (changes (λ session. record session { snapshots = map (lowered (depth z.session)) session.snapshots }) r).scene in
     let g : Scene = (switched_up (level_owner_gone l).scene).scene in
     empty_keeps g ∙ owner_keeps (level_owner l.session) l ∙ released_keeps true false (level_owner z.session) z refl
 
 pub cleans : KeepsNumbers cleaned_up
-cleans a s x around = cleaned_keeps (scene_of a s x around)
+cleans a s x c around = cleaned_keeps (scene_of a s x c around)
 
 pub aborts : KeepsNumbers aborted
 unfolding session_of
-aborts a s x around =
-    let z : Scene = (switched abort_context (scene_of a s x around)).scene in
+aborts a s x c around =
+    let z : Scene = (switched abort_context (scene_of a s x c around)).scene in
     released_keeps false (length z.session.levels == 1) (level_owner z.session) z refl
 
 pub rolls : KeepsNumbers (in_order (aborted ∷ cleaned_up ∷ []))
-rolls a s x around = cleaned_keeps (aborted (scene_of a s x around)).scene ∙ aborts a s x around
+rolls a s x c around = cleaned_keeps (aborted (scene_of a s x c around)).scene ∙ aborts a s x c around
 
 pub nothing_keeps : KeepsNumbers nothing
-nothing_keeps a s x around = refl
+nothing_keeps a s x c around = refl
 
 -- what such an act did raised none of them
-pub numbers_grow : (act : Scene → Ended) (a b : Now) (P : List What → Type 0) → KeepsNumbers act → Acted act a.store b.store a.space b.space a.shelf b.shelf P → b.calls ≡ a.calls → Grows 0 a b
+pub numbers_grow : (act : Scene → Ended) (a b : Now) (P : List What → Type 0) → KeepsNumbers act → Acted act a.store b.store a.space b.space a.shelf b.shelf a.commons b.commons P → b.calls ≡ a.calls → Grows 0 a b
 unfolding session_of
 numbers_grow act a b P keeps acted calls =
-    let same : numbers (scene_of b.store b.space b.shelf nowhere) ≡ numbers (scene_of a.store a.space a.shelf nowhere) =
-    ap numbers (sym (acted.leads nowhere)) ∙ keeps a.store a.space a.shelf nowhere in
+    let same : numbers (scene_of b.store b.space b.shelf b.commons nowhere) ≡ numbers (scene_of a.store a.space a.shelf a.commons nowhere) =
+    ap numbers (sym (acted.leads nowhere)) ∙ keeps a.store a.space a.shelf a.commons nowhere in
     record {
       contexts = omega (arith, ap (λ (n : Numbers). n.context) same);
       owners = omega (arith, ap (λ (n : Numbers). n.owner) same);

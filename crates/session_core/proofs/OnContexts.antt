@@ -44,26 +44,26 @@ does_delete_children name w m = refl
 
 -- what a command on the context of a name did
 module _ (name : Text) (a b : Now) (n : ℕ) (P : List What → Type 0) (r : Result (Unit {0}) TreeError) (found : context_named name (session_of a.store a.space) ≡ Some n) (keeps : Keeps a.store a.space)
-    (calls : b.calls ≡ a.calls) (alone : ContextsAlone a.store b.store a.space b.space) (same : OnErr r (Refused a.store b.store a.space b.space a.shelf b.shelf)) (silent : OnErr r (P [])) (asks : Asks a.store.tree.account 0 a.space b.space) where
-  pub reset_performed : error_of r ≡ reset_refusal n a.store.tree.current.number (contexts_in a.store a.space) → OnOk r (Acted (context_cleared n) a.store b.store a.space b.space a.shelf b.shelf P)
+    (calls : b.calls ≡ a.calls) (alone : ContextsAlone a.store b.store a.space b.space a.commons b.commons) (same : OnErr r (Refused a.store b.store a.space b.space a.shelf b.shelf a.commons b.commons)) (silent : OnErr r (P [])) (asks : Asks a.store.tree.account 0 a.space b.space) where
+  pub reset_performed : error_of r ≡ reset_refusal n a.store.tree.current.number (contexts_in a.store a.space) → OnOk r (Acted (context_cleared n) a.store b.store a.space b.space a.shelf b.shelf a.commons b.commons P)
       → Performed 0 (element.Checks (element.IsContext name) ∷ element.Checks (element.MayReset name) ∷ element.Reset name ∷ []) a b P (option_map tree_error (error_of r))
   reset_performed answer acted =
       on_context name (element.MayReset name) (element.Reset name) context_cleared (does_reset name) (λ m scene. omega arith) a b n P found keeps calls alone (λ scene. refl) asks r
       (λ around. may_reset name a n around found ∙ ap (option_map tree_error) (sym answer)) acted same silent
 
-  pub reset_only_performed : error_of r ≡ reset_only_refusal n (contexts_in a.store a.space) → OnOk r (Acted (context_cleared_alone n) a.store b.store a.space b.space a.shelf b.shelf P)
+  pub reset_only_performed : error_of r ≡ reset_only_refusal n (contexts_in a.store a.space) → OnOk r (Acted (context_cleared_alone n) a.store b.store a.space b.space a.shelf b.shelf a.commons b.commons P)
       → Performed 0 (element.Checks (element.IsContext name) ∷ element.Checks (element.MayResetOnly name) ∷ element.ResetOnly name ∷ []) a b P (option_map tree_error (error_of r))
   reset_only_performed answer acted =
       on_context name (element.MayResetOnly name) (element.ResetOnly name) context_cleared_alone (does_reset_only name) (λ m scene. omega arith) a b n P found keeps calls alone (λ scene. refl) asks r
       (λ around. may_reset_only name a n around found ∙ ap (option_map tree_error) (sym answer)) acted same silent
 
-  pub delete_performed : error_of r ≡ delete_refusal n a.store.tree.current.number (contexts_in a.store a.space) → OnOk r (Acted (context_gone n) a.store b.store a.space b.space a.shelf b.shelf P)
+  pub delete_performed : error_of r ≡ delete_refusal n a.store.tree.current.number (contexts_in a.store a.space) → OnOk r (Acted (context_gone n) a.store b.store a.space b.space a.shelf b.shelf a.commons b.commons P)
       → Performed 0 (element.Checks (element.IsContext name) ∷ element.Checks (element.MayDelete name) ∷ element.Delete name ∷ []) a b P (option_map tree_error (error_of r))
   delete_performed answer acted =
       on_context name (element.MayDelete name) (element.Delete name) context_gone (does_delete name) (λ m scene. omega arith) a b n P found keeps calls alone (λ scene. refl) asks r
       (λ around. may_delete name a n around found ∙ ap (option_map tree_error) (sym answer)) acted same silent
 
-  pub delete_children_performed : error_of r ≡ reset_refusal n a.store.tree.current.number (contexts_in a.store a.space) → OnOk r (Acted (children_gone n) a.store b.store a.space b.space a.shelf b.shelf P)
+  pub delete_children_performed : error_of r ≡ reset_refusal n a.store.tree.current.number (contexts_in a.store a.space) → OnOk r (Acted (children_gone n) a.store b.store a.space b.space a.shelf b.shelf a.commons b.commons P)
       → Performed 0 (element.Checks (element.IsContext name) ∷ element.Checks (element.MayReset name) ∷ element.DeleteChildren name ∷ []) a b P (option_map tree_error (error_of r))
   delete_children_performed answer acted =
       on_context name (element.MayReset name) (element.DeleteChildren name) children_gone (does_delete_children name) (λ m scene. omega arith) a b n P found keeps calls alone (λ scene. refl) asks r

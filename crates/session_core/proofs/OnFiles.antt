@@ -30,7 +30,7 @@ use Rattle.session_core.specs.Performed.{Now, Performed, scene_in}
 use Rattle.session_core.proofs.Commands.{fails, passes}
 use Rattle.session_core.proofs.HeldItems.{no_room_for, taken_in_room}
 use Rattle.session_core.proofs.Performing.{performed_made, performed_more, performed_own}
-use Rattle.session_core.proofs.Stepping.{Rises, count_behind, grown, limit_free, limit_reached, moves_same, step_injected, step_wants, still_asks, still_keeps, still_moves, still_refused, still_some}
+use Rattle.session_core.proofs.Stepping.{Rises, count_behind, grown, lent, limit_free, limit_reached, moves_same, step_injected, step_wants, still_asks, still_keeps, still_moves, still_refused, still_some}
 
 abbrev takes_file : ℕ → Scene → Ended
 takes_file file = at_owner OfLevel (λ owner. item_taken owner file_kind file)
@@ -72,7 +72,7 @@ module _ (a : Now) where
 
 -- the owner takes a file
 module _ (file : ℕ) (a b : Now) (P : List What → Type 0) (counted : b.calls ≡ record a.calls { count = a.calls.count + 1 }) (space : b.space ≡ a.space) (keeps : Keeps a.store a.space) where
-  module _ (shelf : b.shelf ≡ a.shelf) (silent : P []) (store : b.store ≡ a.store) where
+  module _ (shelf : lent b ≡ lent a) (silent : P []) (store : b.store ≡ a.store) where
     pub take_file_injected : (e : Error) → (e ≡ Injected (a.calls.count + 1)) × ((a.calls.count + 1 == a.calls.fail) ≡ true) → Performed 1 (element.Take OfLevel file_kind file ∷ []) a b P (Some e)
     take_file_injected e told =
         step_injected (element.Take OfLevel file_kind file) (λ s. take_refused TheDescriptors s) (takes_file file) (does_take_file file) a b P counted (still_refused a b store space shelf)
@@ -99,19 +99,20 @@ module _ (file : ℕ) (a b : Now) (P : List What → Type 0) (counted : b.calls 
         (still_keeps a b store space shelf keeps) (still_moves a b store space shelf keeps) silent goes (still_some a b store space shelf)
 
   pub take_file_done : ((around : Around) → take_refused TheDescriptors (scene_in a around) ≡ None) → (a.calls.count + 1 == a.calls.fail) ≡ false → (owner : OwnerId) → IsLevelOwner a.store owner
-      → b.store.tree ≡ a.store.tree → Keeps b.store b.space → Acted (item_taken owner.number file_kind file) a.store b.store a.space b.space a.shelf b.shelf P → Performed 1 (element.Take OfLevel file_kind file ∷ []) a b P None
+      → b.store.tree ≡ a.store.tree → Keeps b.store b.space → Acted (item_taken owner.number file_kind file) a.store b.store a.space b.space a.shelf b.shelf a.commons b.commons P → Performed 1 (element.Take OfLevel file_kind file ∷ []) a b P None
   take_file_done few goes owner is tree after taken =
       performed_made (element.Take OfLevel file_kind file) (λ s. take_refused TheDescriptors s) (takes_file file) (does_take_file file) a b P counted 1 goes few acted after
       (moves_same a.store.tree b.store.tree a.space b.space tree space keeps.agrees)
       (grown 1 (takes_file file) a b P (file_rises file) acted (omega (arith, count_behind a b counted))) (λ around. ap (λ (s : Space). s.taken) space)
     where
-      acted : Acted (takes_file file) a.store b.store a.space b.space a.shelf b.shelf P
+      acted : Acted (takes_file file) a.store b.store a.space b.space a.shelf b.shelf a.commons b.commons P
       acted = record {
         leads = λ around. ap (λ (o : Option ℕ). (where_there o (λ n. item_taken n file_kind file) (scene_in a around)).scene) (is a.space) ∙ taken.leads around;
         says = λ around. subst (λ (o : Option ℕ). P (where_there o (λ n. item_taken n file_kind file) (scene_in a around)).events) (sym (is a.space)) (taken.says around);
+        balances = taken.balances;
       }
 
-  pub touch_done : (a.calls.count + 1 == a.calls.fail) ≡ false → b.store.tree ≡ a.store.tree → Keeps b.store b.space → Acted (descriptor_given file) a.store b.store a.space b.space a.shelf b.shelf P
+  pub touch_done : (a.calls.count + 1 == a.calls.fail) ≡ false → b.store.tree ≡ a.store.tree → Keeps b.store b.space → Acted (descriptor_given file) a.store b.store a.space b.space a.shelf b.shelf a.commons b.commons P
       → Performed 1 (element.Touch file ∷ []) a b P None
   touch_done goes tree after acted =
       performed_made (element.Touch file) (λ _. None) (descriptor_given file) (does_touch file) a b P counted 1 goes (λ around. refl) acted after
@@ -119,7 +120,7 @@ module _ (file : ℕ) (a b : Now) (P : List What → Type 0) (counted : b.calls 
       (grown 1 (descriptor_given file) a b P (touch_rises file) acted (omega (arith, count_behind a b counted))) (λ around. ap (λ (s : Space). s.taken) space)
 
 -- a file that wasn't opened, by the error that this is told as
-pub open_refused : (file : ℕ) (a b : Now) (P : List What → Type 0) → b.calls ≡ record a.calls { count = a.calls.count + 1 } → b.space ≡ a.space → Keeps a.store a.space → b.shelf ≡ a.shelf → P [] → b.store ≡ a.store
+pub open_refused : (file : ℕ) (a b : Now) (P : List What → Type 0) → b.calls ≡ record a.calls { count = a.calls.count + 1 } → b.space ≡ a.space → Keeps a.store a.space → lent b ≡ lent a → P [] → b.store ≡ a.store
     → (a.calls.count + 1 == a.calls.fail) ≡ false → (r : Result (Unit {0}) FileError) (e : FileError) (t : Error) → r ≡ Err e → (r ≡ Err TooMany) ↔ (4096 ≤ many a)
     → (e ≡ TooMany → t ≡ LimitReached) → (e ≢ TooMany → t ≡ NoMemory b.calls.count) → Performed 1 (element.Take OfLevel file_kind file ∷ []) a b P (Some t)
 open_refused file a b P counted space keeps shelf silent store goes r TooMany t is much full other =

@@ -42,7 +42,7 @@ answers_two fail es act S T n P is leads says = record {
 
 -- the end of a level
 ended : (x : Element) (act : Scene → Ended) → ((w : Option ℕ) (m : Moment) → does w x m ≡ unfailing m act) → KeepsNumbers act → (a b : Now) (P : List What → Type 0)
-    → Acted act a.store b.store a.space b.space a.shelf b.shelf P → Keeps b.store b.space → Moves a.store.tree b.store.tree a.space b.space → b.calls ≡ a.calls
+    → Acted act a.store b.store a.space b.space a.shelf b.shelf a.commons b.commons P → Keeps b.store b.space → Moves a.store.tree b.store.tree a.space b.space → b.calls ≡ a.calls
     → ((around : Around) → Asks a.store.tree.account (asks_in x (scene_in a around)) a.space b.space) → Performed 0 (x ∷ []) a b P None
 ended x act is numbers a b P acted keeps moves calls asks = performed_end 0 x act a b P is acted keeps moves (numbers_grow act a b P numbers acted calls) calls asks
 
@@ -69,19 +69,19 @@ two_ask w m = refl
 
 module _ (a b : Now) (P : List What → Type 0) (keeps : Keeps b.store b.space) (moves : Moves a.store.tree b.store.tree a.space b.space) (calls : b.calls ≡ a.calls)
     (asks : Asks a.store.tree.account 0 a.space b.space) where
-  pub commit_performed : Acted committed a.store b.store a.space b.space a.shelf b.shelf P → Performed 0 (element.CommitTop ∷ []) a b P None
+  pub commit_performed : Acted committed a.store b.store a.space b.space a.shelf b.shelf a.commons b.commons P → Performed 0 (element.CommitTop ∷ []) a b P None
   commit_performed acted = ended element.CommitTop committed does_commit commits a b P acted keeps moves calls (λ around. asks)
 
-  pub subcommit_performed : Acted subcommitted a.store b.store a.space b.space a.shelf b.shelf P → Performed 0 (element.Subcommit ∷ []) a b P None
+  pub subcommit_performed : Acted subcommitted a.store b.store a.space b.space a.shelf b.shelf a.commons b.commons P → Performed 0 (element.Subcommit ∷ []) a b P None
   subcommit_performed acted = ended element.Subcommit subcommitted does_subcommit subcommits a b P acted keeps moves calls (λ around. asks)
 
-  pub abort_performed : Acted aborted a.store b.store a.space b.space a.shelf b.shelf P → Performed 0 (element.Abort ∷ []) a b P None
+  pub abort_performed : Acted aborted a.store b.store a.space b.space a.shelf b.shelf a.commons b.commons P → Performed 0 (element.Abort ∷ []) a b P None
   abort_performed acted = ended element.Abort aborted does_abort aborts a b P acted keeps moves calls (λ around. asks)
 
-  pub cleanup_performed : Acted cleaned_up a.store b.store a.space b.space a.shelf b.shelf P → Performed 0 (element.Cleanup ∷ []) a b P None
+  pub cleanup_performed : Acted cleaned_up a.store b.store a.space b.space a.shelf b.shelf a.commons b.commons P → Performed 0 (element.Cleanup ∷ []) a b P None
   cleanup_performed acted = ended element.Cleanup cleaned_up does_cleanup cleans a b P acted keeps moves calls (λ around. asks)
 
-  pub roll_performed : Acted (in_order (aborted ∷ cleaned_up ∷ [])) a.store b.store a.space b.space a.shelf b.shelf P → Performed 0 (element.Abort ∷ element.Cleanup ∷ []) a b P None
+  pub roll_performed : Acted (in_order (aborted ∷ cleaned_up ∷ [])) a.store b.store a.space b.space a.shelf b.shelf a.commons b.commons P → Performed 0 (element.Abort ∷ element.Cleanup ∷ []) a b P None
   roll_performed acted = record {
     answers = subst (λ (n : ℕ). Answers (element.Abort ∷ element.Cleanup ∷ []) (scene_in a) (scene_in b) a.calls.count n a.calls.fail P None) (ap (λ (c : Calls). c.count) (sym calls))
         (answers_two a.calls.fail (element.Abort ∷ element.Cleanup ∷ []) (in_order (aborted ∷ cleaned_up ∷ [])) (scene_in a) (scene_in b) a.calls.count P
@@ -90,6 +90,7 @@ module _ (a b : Now) (P : List What → Type 0) (keeps : Keeps b.store b.space) 
     keeps = keeps;
     moves = moves;
     taken = λ around w f. subst (λ (n : ℕ). Asks a.store.tree.account n a.space b.space) (sym (two_ask w (at_calls (scene_in a) a.calls.count a.calls.fail around))) asks;
+    balances = acted.balances;
     grows = numbers_grow (in_order (aborted ∷ cleaned_up ∷ [])) a b P rolls acted calls;
   }
 

@@ -26,6 +26,7 @@ use Rattle.session_rules.specs.Lookup.{context_named}
 use Rattle.session_rules.specs.Parts.{at_context, context_moved}
 use Rattle.session_rules.specs.Calls.{fallible, unfailing}
 use Rattle.session_rules.specs.Does.{does}
+use Rattle.session_owners.specs.Commons.{CommonState}
 use Rattle.session_store.specs.declared.hooks.RegisterError.{RegisterError}
 use Rattle.session_store.specs.declared.hooks.RegisterError.TheVariants as register
 use Rattle.session_store.specs.State.{StoreState, contexts_in, left_in, session_of}
@@ -36,8 +37,8 @@ use Rattle.session_core.proofs.Performing.{Raises, performed_act, performed_inje
 use Rattle.session_core.proofs.Commands.{acted_at, at_raises, fails, on_no_context, may_move, passes, there, tree_error_plain, unchanged}
 
 -- another way to say what was said
-pub acted_said : (act : Scene → Ended) (a b : StoreState) (s t : Space) (x y : ShelfState) (P Q : List What → Type 0) → ((events : List What) → P events → Q events) → Acted act a b s t x y P → Acted act a b s t x y Q
-acted_said act a b s t x y P Q all h = record { leads = h.leads; says = λ around. all _ (h.says around) }
+pub acted_said : (act : Scene → Ended) (a b : StoreState) (s t : Space) (x y : ShelfState) (c d : CommonState) (P Q : List What → Type 0) → ((events : List What) → P events → Q events) → Acted act a b s t x y c d P → Acted act a b s t x y c d Q
+acted_said act a b s t x y c d P Q all h = record { leads = h.leads; says = λ around. all _ (h.says around); balances = h.balances }
 
 does_switch : (name : Text) (w : Option ℕ) (m : Moment) → does w (element.Switch name) m ≡ unfailing m (at_context name switched)
 unfolding does
@@ -52,14 +53,14 @@ unfolding does
 does_register name w m = refl
 
 module _ (name : Text) (a b : Now) (n : ℕ) (P : List What → Type 0) (found : context_named name (session_of a.store a.space) ≡ Some n) (keeps : Keeps a.store a.space)
-    (alone : ContextsAlone a.store b.store a.space b.space) (asks : Asks a.store.tree.account 0 a.space b.space) where
-  pub switch_performed : b.calls ≡ a.calls → Acted (switched n) a.store b.store a.space b.space a.shelf b.shelf P
+    (alone : ContextsAlone a.store b.store a.space b.space a.commons b.commons) (asks : Asks a.store.tree.account 0 a.space b.space) where
+  pub switch_performed : b.calls ≡ a.calls → Acted (switched n) a.store b.store a.space b.space a.shelf b.shelf a.commons b.commons P
       → Performed 0 (element.Checks (element.IsContext name) ∷ element.Switch name ∷ []) a b P None
   switch_performed calls acted =
       passes 0 (element.IsContext name) (element.Switch name ∷ []) a b P None keeps (λ around. there name (scene_in a around) n found)
       (performed_act (element.Switch name) (at_context name switched) a b P (does_switch name)
       (at_raises name (element.IsContext name) (element.Switch name) switched (does_switch name) (λ m scene. omega arith))
-      (acted_at name n switched a.store b.store a.space b.space a.shelf b.shelf P found acted) alone calls (λ around. asks))
+      (acted_at name n switched a.store b.store a.space b.space a.shelf b.shelf a.commons b.commons P found acted) alone calls (λ around. asks))
 
   -- a context moves below another one
   module _ (parent : Text) (p : ℕ) (parent_found : context_named parent (session_of a.store a.space) ≡ Some p) (r : Result (Unit {0}) TreeError) where
@@ -73,13 +74,13 @@ module _ (name : Text) (a b : Now) (n : ℕ) (P : List What → Type 0) (found :
         go None = omega arith
         go (Some q) = omega arith
 
-    pub reparent_performed : b.calls ≡ a.calls → OnErr r (Refused a.store b.store a.space b.space a.shelf b.shelf) → OnErr r (P [])
-        → error_of r ≡ set_parent_refusal n p (contexts_in a.store a.space) → OnOk r (Acted (context_moved n p) a.store b.store a.space b.space a.shelf b.shelf P)
+    pub reparent_performed : b.calls ≡ a.calls → OnErr r (Refused a.store b.store a.space b.space a.shelf b.shelf a.commons b.commons) → OnErr r (P [])
+        → error_of r ≡ set_parent_refusal n p (contexts_in a.store a.space) → OnOk r (Acted (context_moved n p) a.store b.store a.space b.space a.shelf b.shelf a.commons b.commons P)
         → Performed 0 (element.Checks (element.IsContext name) ∷ element.Checks (element.IsContext parent) ∷ element.Checks (element.MayMove name parent) ∷ element.Reparent name parent ∷ []) a b P (option_map tree_error (error_of r))
     reparent_performed calls same silent answer acted = go r answer acted same silent
       where
-        go : (r : Result (Unit {0}) TreeError) → error_of r ≡ set_parent_refusal n p (contexts_in a.store a.space) → OnOk r (Acted (context_moved n p) a.store b.store a.space b.space a.shelf b.shelf P)
-            → OnErr r (Refused a.store b.store a.space b.space a.shelf b.shelf) → OnErr r (P [])
+        go : (r : Result (Unit {0}) TreeError) → error_of r ≡ set_parent_refusal n p (contexts_in a.store a.space) → OnOk r (Acted (context_moved n p) a.store b.store a.space b.space a.shelf b.shelf a.commons b.commons P)
+            → OnErr r (Refused a.store b.store a.space b.space a.shelf b.shelf a.commons b.commons) → OnErr r (P [])
             → Performed 0 (element.Checks (element.IsContext name) ∷ element.Checks (element.IsContext parent) ∷ element.Checks (element.MayMove name parent) ∷ element.Reparent name parent ∷ []) a b P (option_map tree_error (error_of r))
         go (Ok u) answer acted same silent =
             passes 0 (element.IsContext name) _ a b P None keeps (λ around. there name (scene_in a around) n found)
@@ -87,7 +88,7 @@ module _ (name : Text) (a b : Now) (n : ℕ) (P : List What → Type 0) (found :
             (passes 0 (element.MayMove name parent) (element.Reparent name parent ∷ []) a b P None keeps (λ around. may_move name parent a n p around found parent_found ∙ ap (option_map tree_error) (sym answer))
             (performed_act (element.Reparent name parent) (at_context name moves_to) a b P (does_reparent name parent)
             (at_raises name (element.MayMove name parent) (element.Reparent name parent) moves_to (does_reparent name parent) moves_raise)
-            (acted_at name n moves_to a.store b.store a.space b.space a.shelf b.shelf P found (acted_at parent p (context_moved n) a.store b.store a.space b.space a.shelf b.shelf P parent_found acted)) alone calls (λ around. asks))))
+            (acted_at name n moves_to a.store b.store a.space b.space a.shelf b.shelf a.commons b.commons P found (acted_at parent p (context_moved n) a.store b.store a.space b.space a.shelf b.shelf a.commons b.commons P parent_found acted)) alone calls (λ around. asks))))
         go (Err e) answer acted same silent =
             unchanged 0 _ a b P (Some (tree_error e))
             (passes 0 (element.IsContext name) _ a a P (Some (tree_error e)) keeps (λ around. there name (scene_in a around) n found)
@@ -108,13 +109,14 @@ module _ (name : Text) (a b : Now) (n : ℕ) (P : List What → Type 0) (found :
         go (Some m) None = omega arith
         go (Some m) (Some h) = omega arith
 
-    register_acted : Acted (waits n) a.store b.store a.space b.space a.shelf b.shelf P → Acted (hook_registered name) a.store b.store a.space b.space a.shelf b.shelf P
+    register_acted : Acted (waits n) a.store b.store a.space b.space a.shelf b.shelf a.commons b.commons P → Acted (hook_registered name) a.store b.store a.space b.space a.shelf b.shelf a.commons b.commons P
     register_acted h = record {
       leads = λ around. ap (λ (o : Option ℕ). (where_there o (λ m. where_there (first_of a.shelf.fresh) (hook_waits m)) (scene_in a around)).scene) found ∙ h.leads around;
       says = λ around. subst (λ (o : Option ℕ). P (where_there o (λ m. where_there (first_of a.shelf.fresh) (hook_waits m)) (scene_in a around)).events) (sym found) (h.says around);
+      balances = h.balances;
     }
 
-    pub register_performed : (a.calls.count + 1 == a.calls.fail) ≡ false → (h : Hook) → first_of a.shelf.fresh ≡ Some h → Acted (waits n) a.store b.store a.space b.space a.shelf b.shelf P
+    pub register_performed : (a.calls.count + 1 == a.calls.fail) ≡ false → (h : Hook) → first_of a.shelf.fresh ≡ Some h → Acted (waits n) a.store b.store a.space b.space a.shelf b.shelf a.commons b.commons P
         → Performed 1 (element.Checks (element.IsContext name) ∷ element.Register name ∷ []) a b P None
     register_performed goes h fresh acted =
         passes 1 (element.IsContext name) (element.Register name ∷ []) a b P None keeps (λ around. there name (scene_in a around) n found)
@@ -122,7 +124,7 @@ module _ (name : Text) (a b : Now) (n : ℕ) (P : List What → Type 0) (found :
         (λ around. ap (λ (o : Option Hook). option_map_or (λ hook. None) o (Some error.LimitReached)) fresh)
         (register_acted acted) alone (λ around. asks))
 
-    module _ (same : Refused a.store b.store a.space b.space a.shelf b.shelf) (silent : P []) where
+    module _ (same : Refused a.store b.store a.space b.space a.shelf b.shelf a.commons b.commons) (silent : P []) where
       pub register_none : (a.calls.count + 1 == a.calls.fail) ≡ false → a.shelf.fresh ≡ []
           → Performed 1 (element.Checks (element.IsContext name) ∷ element.Register name ∷ []) a b P (Some error.LimitReached)
       register_none goes none =
@@ -151,7 +153,7 @@ module _ (name : Text) (a b : Now) (n : ℕ) (P : List What → Type 0) (found :
 
     -- where a hook waits now, there was a fresh one
     pub register_done : (r : Result (Unit {0}) RegisterError) (u : Unit {0}) → (a.calls.count + 1 == a.calls.fail) ≡ false → r ≡ Ok u → ((r ≡ Err register.NoHook) ↔ (a.shelf.fresh ≡ []))
-        → Acted (waits n) a.store b.store a.space b.space a.shelf b.shelf P → Performed 1 (element.Checks (element.IsContext name) ∷ element.Register name ∷ []) a b P None
+        → Acted (waits n) a.store b.store a.space b.space a.shelf b.shelf a.commons b.commons P → Performed 1 (element.Checks (element.IsContext name) ∷ element.Register name ∷ []) a b P None
     register_done r u goes is no_hook acted = go a.shelf.fresh refl
       where
         go : (hooks : List Hook) → a.shelf.fresh ≡ hooks → Performed 1 (element.Checks (element.IsContext name) ∷ element.Register name ∷ []) a b P None
@@ -168,10 +170,10 @@ no_parent name parent rest a n P found none keeps silent =
     passes 0 (element.IsContext name) (element.Checks (element.IsContext parent) ∷ rest) a a P (Some error.NoSuchName) keeps (λ around. there name (scene_in a around) n found)
     (on_no_context parent rest a P none keeps silent)
 
--- what holds in any space and with any shelf holds here
-pub here : {A E : Type 0} (P : Space → ShelfState → Type 0) (r : Result A E) (s : Space) (x : ShelfState) → OnOk r ((t : Space) (y : ShelfState) → P t y) → OnOk r (P s x)
-here P (Ok a) s x all = all s x
-here P (Err e) s x all = all
+-- what holds in any space, with any shelf and any commons holds here
+pub here : {A E : Type 0} (P : Space → ShelfState → CommonState → Type 0) (r : Result A E) (s : Space) (x : ShelfState) (c : CommonState) → OnOk r ((t : Space) (y : ShelfState) (d : CommonState) → P t y d) → OnOk r (P s x c)
+here P (Ok a) s x c all = all s x c
+here P (Err e) s x c all = all
 
 -- what holds with any space holds in this one
 pub there_in : {A E : Type 0} (P : Space → Type 0) (r : Result A E) (s : Space) → OnOk r ((t : Space) → P t) → OnOk r (P s)
@@ -229,7 +231,7 @@ module _ (name parent : Text) (kind : CtxKind) where
         passes 0 (element.ContextIsNew name) _ a a P (Some error.NoSuchName) keeps (λ around. ap (λ (t : Bool). unless (not t) error.NameTaken) free)
         (on_no_context parent _ a P none keeps silent)
 
-    module _ (n : ℕ) (found : context_named parent (session_of a.store a.space) ≡ Some n) (counted : b.calls ≡ record a.calls { count = a.calls.count + 1 }) (alone : ContextsAlone a.store b.store a.space b.space) where
+    module _ (n : ℕ) (found : context_named parent (session_of a.store a.space) ≡ Some n) (counted : b.calls ≡ record a.calls { count = a.calls.count + 1 }) (alone : ContextsAlone a.store b.store a.space b.space a.commons b.commons) where
       abbrev new : NewContext
       new = element.ScriptContext name parent kind
 
@@ -245,20 +247,21 @@ module _ (name parent : Text) (kind : CtxKind) where
           go None = omega arith
           go (Some p) = omega arith
 
-      made_at : Acted (context_made n name false kind) a.store b.store a.space b.space a.shelf b.shelf P → Acted (new_context_made new) a.store b.store a.space b.space a.shelf b.shelf P
+      made_at : Acted (context_made n name false kind) a.store b.store a.space b.space a.shelf b.shelf a.commons b.commons P → Acted (new_context_made new) a.store b.store a.space b.space a.shelf b.shelf a.commons b.commons P
       made_at h = record {
         leads = λ around. ap (λ (o : Option ℕ). (where_there o (λ p. context_made p name false kind) (scene_in a around)).scene) found ∙ h.leads around;
         says = λ around. subst (λ (o : Option ℕ). P (where_there o (λ p. context_made p name false kind) (scene_in a around)).events) (sym found) (h.says around);
+        balances = h.balances;
       }
 
       pub make_done : (a.calls.count + 1 == a.calls.fail) ≡ false → create_refusal (left_in a.store a.space) name kind false (contexts_in a.store a.space) ≡ None
-          → Acted (context_made n name false kind) a.store b.store a.space b.space a.shelf b.shelf P → Asks a.store.tree.account (first_size kind) a.space b.space → Performed 1 made a b P None
+          → Acted (context_made n name false kind) a.store b.store a.space b.space a.shelf b.shelf a.commons b.commons P → Asks a.store.tree.account (first_size kind) a.space b.space → Performed 1 made a b P None
       make_done goes served acted asks =
           checked None (performed_step (element.MakeContext new) (new_context_refused new) (new_context_made new) (does_make new) a b P counted raises_one goes
           (λ around. ap (option_map tree_error) served) (made_at acted) alone
           (λ around. subst (λ (o : Option ℕ). Asks a.store.tree.account (option_map_or (λ p. first_size kind) o 0) a.space b.space) (sym found) asks))
 
-      module _ (same : Refused a.store b.store a.space b.space a.shelf b.shelf) (silent : P []) where
+      module _ (same : Refused a.store b.store a.space b.space a.shelf b.shelf a.commons b.commons) (silent : P []) where
         pub make_injected : (a.calls.count + 1 == a.calls.fail) ≡ true → Asks a.store.tree.account 0 a.space b.space → Performed 1 made a b P (Some (error.Injected (a.calls.count + 1)))
         make_injected failing asks =
             checked (Some (error.Injected (a.calls.count + 1)))

@@ -1,7 +1,13 @@
 -- What a caller needs that performs one line after another: where a session starts, and the room that a line leaves.
-use Rattle.std.proofs.Common.{◌≡◌, ℕ, ◌+◌, ◌*◌, ◌<◌, [], refl, ap, ◌∙◌, arith}
+use Rattle.std.proofs.Common.{◌≡◌, false, ℕ, ◌+◌, ◌*◌, ◌<◌, [], refl, ap, ◌∙◌, arith}
 use Rattle.addr_space.specs.Space.{Space, held}
+use Rattle.pgs_step.specs.declared.lock_modes.Mode.{Mode}
+use Rattle.lock_shared.specs.Holdings.{holds}
 use Rattle.session_rules.specs.State.{SessionState, opening}
+use Rattle.session_owners.specs.Commons.{Serves}
+use Rattle.owner_kinds.specs.KindShelf.{table_of}
+use Rattle.owner_kinds.specs.KindTable.{IsSound}
+use Rattle.session_owners.proofs.Balances.{serves_nothing}
 use Rattle.session_store.specs.State.{session_of}
 use Rattle.session_store.specs.Calls.{Keeps, StandsIn}
 use Rattle.session_core.specs.Lines.{IsBetweenLines}
@@ -27,14 +33,20 @@ grows_once_more i a b c g h = record {
 }
 
 -- A session as it opens is between two lines, and has room.
-pub opened_lines : (a : Now) → session_of a.store a.space ≡ opening → Keeps a.store a.space → StandsIn a.store a.space a.shelf → IsBetweenLines a
+pub opened_lines : (a : Now) → session_of a.store a.space ≡ opening → Keeps a.store a.space → Serves a.store.owners a.commons → StandsIn a.store a.space a.shelf a.commons → IsBetweenLines a
 unfolding session_of
-opened_lines a e keeps stands =
+opened_lines a e keeps serves stands =
     let none : a.store.levels ≡ [] = opened_levels a.store a.space e in
     record {
       keeps = keeps;
+      serves = serves;
       stands = λ around. record { stands = stands around; open_levels = rw (none) tt };
     }
+
+-- It holds nothing of the commons, where nothing is held for it.
+pub opened_serves : (a : Now) → session_of a.store a.space ≡ opening → IsSound (table_of a.commons.kinds) → ((o : ℕ) (m : Mode) → holds a.commons.locks o m a.store.owners.session ≡ false) → Serves a.store.owners a.commons
+unfolding session_of opening
+opened_serves a e sound free = serves_nothing a.store.owners a.commons (ap (λ (s : SessionState). s.owners) e) sound (ap (λ (s : SessionState). s.locks) e) free
 
 pub none_held : (s : Space) (account : ℕ) → s.regions ≡ [] → held s account ≡ 0
 unfolding held

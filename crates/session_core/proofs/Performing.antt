@@ -18,6 +18,8 @@ use Rattle.session_rules.specs.Does.{does}
 use Rattle.session_rules.specs.Asked.{asks_in}
 use Rattle.session_rules.specs.Transcript.{is_want}
 use Rattle.session_owners.specs.ResourceState.{ResourceState}
+use Rattle.session_owners.specs.Commons.{CommonState, seen_by}
+use Rattle.session_owners.proofs.Balances.{balances_more, balances_none}
 use Rattle.session_store.specs.State.{StoreState, scene_of, session_of}
 use Rattle.session_store.specs.Calls.{Acted, ContextsAlone, Keeps, Refused}
 use Rattle.session_core.specs.declared.calls.Calls.{Calls}
@@ -52,6 +54,7 @@ performed_none a P keeps h = record {
   keeps = keeps;
   moves = moves_nothing a.store.tree a.space keeps.agrees;
   taken = taken_none a;
+  balances = balances_none a.store.owners a.commons;
   grows = grows_nothing 0 a;
 }
 
@@ -65,6 +68,7 @@ performed_both j k xs ys a b c P Q R r x y joins = record {
   keeps = y.keeps;
   moves = tree_more a.store.tree b.store.tree c.store.tree a.space b.space c.space x.moves y.moves;
   taken = taken_both xs ys a b c P Q r x.answers y.answers x.fail x.moves.account x.taken y.taken;
+  balances = balances_more _ _ _ _ _ _ x.balances y.balances;
   grows = record {
     contexts = omega (arith, x.grows.contexts, y.grows.contexts);
     owners = omega (arith, x.grows.owners, y.grows.owners);
@@ -82,6 +86,7 @@ performed_stop k xs ys a b P e x = record {
   keeps = x.keeps;
   moves = x.moves;
   taken = taken_stop xs ys a b P e x.answers x.taken;
+  balances = x.balances;
   grows = x.grows;
 }
 
@@ -93,6 +98,7 @@ performed_more j k xs a b P r le x = record {
   keeps = x.keeps;
   moves = x.moves;
   taken = x.taken;
+  balances = x.balances;
   grows = record {
     contexts = omega (arith, le, x.grows.contexts);
     owners = omega (arith, le, x.grows.owners);
@@ -111,6 +117,7 @@ performed_check check a P keeps h passes = record {
   keeps = keeps;
   moves = moves_nothing a.store.tree a.space keeps.agrees;
   taken = taken_one (element.Checks check) a a P None (answers_check a.calls.fail check (scene_in a) a.calls.count P h passes) (λ around. refl);
+  balances = balances_none a.store.owners a.commons;
   grows = grows_nothing 0 a;
 }
 
@@ -123,6 +130,7 @@ performed_fails check a P e keeps h own fails = record {
   moves = moves_nothing a.store.tree a.space keeps.agrees;
   taken = taken_one (element.Checks check) a a P (Some e) (answers_fails a.calls.fail check (scene_in a) a.calls.count P e h own fails)
       (λ around. takes_nothing (is_want e) a.store.tree.account a.space a.space refl);
+  balances = balances_none a.store.owners a.commons;
   grows = grows_nothing 0 a;
 }
 
@@ -131,10 +139,10 @@ abbrev pub Raises : ℕ → (Scene → Ended) → Type 0
 Raises k act = (scene : Scene) → (act scene).scene.session.next_context ≤ scene.session.next_context + k
 
 -- how far an act raised the number of the next context
-raised : (k : ℕ) (act : Scene → Ended) (a b : StoreState) (s t : Space) (x y : ShelfState) (P : List What → Type 0) → Raises k act → Acted act a b s t x y P → Around → b.tree.next ≤ a.tree.next + k
+raised : (k : ℕ) (act : Scene → Ended) (a b : StoreState) (s t : Space) (x y : ShelfState) (c d : CommonState) (P : List What → Type 0) → Raises k act → Acted act a b s t x y c d P → Around → b.tree.next ≤ a.tree.next + k
 unfolding session_of
-raised k act a b s t x y P rises h around =
-    let up : (act (scene_of a s x around)).scene.session.next_context ≤ a.tree.next + k = rises (scene_of a s x around) in
+raised k act a b s t x y c d P rises h around =
+    let up : (act (scene_of a s x c around)).scene.session.next_context ≤ a.tree.next + k = rises (scene_of a s x c around) in
     subst (λ (z : Scene). z.session.next_context ≤ a.tree.next + k) (h.leads around) up
 
 pub nowhere : Around
@@ -142,7 +150,7 @@ nowhere = record { kinds = []; shelf = record { fresh = []; spent = []; out = 0 
 
 -- what can't fail
 pub performed_end : (k : ℕ) (x : Element) (act : Scene → Ended) (a b : Now) (P : List What → Type 0) → ((w : Option ℕ) (m : Moment) → does w x m ≡ unfailing m act)
-    → Acted act a.store b.store a.space b.space a.shelf b.shelf P → Keeps b.store b.space → Moves a.store.tree b.store.tree a.space b.space → Grows k a b → b.calls ≡ a.calls
+    → Acted act a.store b.store a.space b.space a.shelf b.shelf a.commons b.commons P → Keeps b.store b.space → Moves a.store.tree b.store.tree a.space b.space → Grows k a b → b.calls ≡ a.calls
     → ((around : Around) → Asks a.store.tree.account (asks_in x (scene_in a around)) a.space b.space) → Performed k (x ∷ []) a b P None
 performed_end k x act a b P is acted keeps moves grows calls asks =
     let answers : Answers (x ∷ []) (scene_in a) (scene_in b) a.calls.count b.calls.count a.calls.fail P None =
@@ -154,16 +162,17 @@ performed_end k x act a b P is acted keeps moves grows calls asks =
       keeps = keeps;
       moves = moves;
       taken = taken_one x a b P None answers asks;
+      balances = acted.balances;
       grows = grows;
     }
 
 -- the same, on contexts alone
 pub performed_act : (x : Element) (act : Scene → Ended) (a b : Now) (P : List What → Type 0) → ((w : Option ℕ) (m : Moment) → does w x m ≡ unfailing m act) → Raises 0 act
-    → Acted act a.store b.store a.space b.space a.shelf b.shelf P → ContextsAlone a.store b.store a.space b.space → b.calls ≡ a.calls
+    → Acted act a.store b.store a.space b.space a.shelf b.shelf a.commons b.commons P → ContextsAlone a.store b.store a.space b.space a.commons b.commons → b.calls ≡ a.calls
     → ((around : Around) → Asks a.store.tree.account (asks_in x (scene_in a around)) a.space b.space) → Performed 0 (x ∷ []) a b P None
 performed_act x act a b P is rises acted alone calls asks =
     performed_end 0 x act a b P is acted alone.keeps alone.moves (record {
-      contexts = raised 0 act a.store b.store a.space b.space a.shelf b.shelf P rises acted nowhere;
+      contexts = raised 0 act a.store b.store a.space b.space a.shelf b.shelf a.commons b.commons P rises acted nowhere;
       owners = rw alone.owners (omega arith);
       serials = rw alone.owners (omega arith);
       calls = rw calls (omega arith);
@@ -171,12 +180,16 @@ performed_act x act a b P is rises acted alone calls asks =
     }) calls asks
 
 -- the scene where a call was refused
-pub same_scene_in : (a b : Now) → Refused a.store b.store a.space b.space a.shelf b.shelf → (around : Around) → scene_in a around ≡ scene_in b around
+abbrev scene_with : SessionState → ResourceState → CommonState → ShelfState → ℕ → Around → Scene
+scene_with session owners commons x limit around = record { session = session; around = record (seen_by owners commons around) { shelf = x; space = limit; descriptors = owners.descriptors } }
+
+pub same_scene_in : (a b : Now) → Refused a.store b.store a.space b.space a.shelf b.shelf a.commons b.commons → (around : Around) → scene_in a around ≡ scene_in b around
 same_scene_in a b same around =
-    ap (λ (z : SessionState). record { session = z; around = record around { kinds = []; shelf = a.shelf; space = a.space.limit; descriptors = a.store.owners.descriptors } }) (sym same.session)
-    ∙ ap (λ (y : ShelfState). record { session = session_of b.store b.space; around = record around { kinds = []; shelf = y; space = a.space.limit; descriptors = a.store.owners.descriptors } }) (sym same.shelf)
-    ∙ ap (λ (n : ℕ). record { session = session_of b.store b.space; around = record around { kinds = []; shelf = b.shelf; space = n; descriptors = a.store.owners.descriptors } }) (sym same.limit)
-    ∙ ap (λ (c : StoreState). record { session = session_of b.store b.space; around = record around { kinds = []; shelf = b.shelf; space = b.space.limit; descriptors = c.owners.descriptors } }) (sym same.store)
+    ap (λ (z : SessionState). scene_with z a.store.owners a.commons a.shelf a.space.limit around) (sym same.session)
+    ∙ ap (λ (y : ShelfState). scene_with (session_of b.store b.space) a.store.owners a.commons y a.space.limit around) (sym same.shelf)
+    ∙ ap (λ (c : CommonState). scene_with (session_of b.store b.space) a.store.owners c b.shelf a.space.limit around) (sym same.commons)
+    ∙ ap (λ (n : ℕ). scene_with (session_of b.store b.space) a.store.owners b.commons b.shelf n around) (sym same.limit)
+    ∙ ap (λ (c : StoreState). scene_with (session_of b.store b.space) c.owners b.commons b.shelf b.space.limit around) (sym same.store)
 
 -- a fallible step
 module _ (x : Element) (own : Scene → Option Error) (act : Scene → Ended) (is : (w : Option ℕ) (m : Moment) → does w x m ≡ fallible w m (own m.scene) act) (a b : Now) (P : List What → Type 0)
@@ -186,7 +199,7 @@ module _ (x : Element) (own : Scene → Option Error) (act : Scene → Ended) (i
 
   -- that was done
   pub performed_made : (k : ℕ) → (a.calls.count + 1 == a.calls.fail) ≡ false → ((around : Around) → own (scene_in a around) ≡ None)
-      → Acted act a.store b.store a.space b.space a.shelf b.shelf P → Keeps b.store b.space → Moves a.store.tree b.store.tree a.space b.space → Grows k a b
+      → Acted act a.store b.store a.space b.space a.shelf b.shelf a.commons b.commons P → Keeps b.store b.space → Moves a.store.tree b.store.tree a.space b.space → Grows k a b
       → ((around : Around) → Asks a.store.tree.account (asks_in x (scene_in a around)) a.space b.space) → Performed k (x ∷ []) a b P None
   performed_made k goes free acted keeps moves grows asks =
       let answers : Answers (x ∷ []) (scene_in a) (scene_in b) a.calls.count b.calls.count a.calls.fail P None =
@@ -198,15 +211,16 @@ module _ (x : Element) (own : Scene → Option Error) (act : Scene → Ended) (i
         keeps = keeps;
         moves = moves;
         taken = taken_one x a b P None answers asks;
+        balances = acted.balances;
         grows = grows;
       }
 
   -- that was done, on contexts alone
   pub performed_step : Raises 1 act → (a.calls.count + 1 == a.calls.fail) ≡ false → ((around : Around) → own (scene_in a around) ≡ None)
-      → Acted act a.store b.store a.space b.space a.shelf b.shelf P → ContextsAlone a.store b.store a.space b.space
+      → Acted act a.store b.store a.space b.space a.shelf b.shelf a.commons b.commons P → ContextsAlone a.store b.store a.space b.space a.commons b.commons
       → ((around : Around) → Asks a.store.tree.account (asks_in x (scene_in a around)) a.space b.space) → Performed 1 (x ∷ []) a b P None
   performed_step rises goes free acted alone asks = performed_made 1 goes free acted alone.keeps alone.moves (record {
-    contexts = raised 1 act a.store b.store a.space b.space a.shelf b.shelf P rises acted nowhere;
+    contexts = raised 1 act a.store b.store a.space b.space a.shelf b.shelf a.commons b.commons P rises acted nowhere;
     owners = rw alone.owners (omega arith);
     serials = rw alone.owners (omega arith);
     calls = omega (arith, count_up);
@@ -214,7 +228,7 @@ module _ (x : Element) (own : Scene → Option Error) (act : Scene → Ended) (i
   }) asks
 
   -- that was refused: the session is as it was
-  module _ (same : Refused a.store b.store a.space b.space a.shelf b.shelf) (keeps : Keeps b.store b.space) (moves : Moves a.store.tree b.store.tree a.space b.space) where
+  module _ (same : Refused a.store b.store a.space b.space a.shelf b.shelf a.commons b.commons) (keeps : Keeps b.store b.space) (moves : Moves a.store.tree b.store.tree a.space b.space) where
     refused : (e : Error) → Answers (x ∷ []) (scene_in a) (scene_in a) a.calls.count (a.calls.count + 1) a.calls.fail P (Some e) → Takes (is_want e) a.store.tree.account 0 a.space b.space
         → Performed 1 (x ∷ []) a b P (Some e)
     refused e answers takes =
@@ -227,6 +241,7 @@ module _ (x : Element) (own : Scene → Option Error) (act : Scene → Ended) (i
           keeps = keeps;
           moves = moves;
           taken = taken_one x a b P (Some e) told (λ around. takes);
+          balances = rw (same.store, same.commons) (balances_none a.store.owners a.commons);
           grows = record {
             contexts = rw same.store (omega arith);
             owners = rw same.store (omega arith);

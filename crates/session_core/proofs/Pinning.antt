@@ -30,7 +30,7 @@ use Rattle.session_core.specs.Performed.{Now, IsBetweenSteps, Performed, scene_i
 use Rattle.session_core.proofs.Commands.{fails, passes}
 use Rattle.session_core.proofs.Performing.{performed_both, performed_made, performed_more, performed_stop}
 use Rattle.session_core.proofs.Standing.{empty_around}
-use Rattle.session_core.proofs.Stepping.{Rises, count_behind, grown, moves_same, step_injected, step_wants, still_asks, still_keeps, still_moves, still_refused, still_some}
+use Rattle.session_core.proofs.Stepping.{Rises, count_behind, grown, lent, moves_same, step_injected, step_wants, still_asks, still_keeps, still_moves, still_refused, still_some}
 
 does_enlarge : (w : Option ℕ) (m : Moment) → does w (element.Enlarge OfLevel) m ≡ fallible w m None nothing
 unfolding does
@@ -44,24 +44,13 @@ unfolding does
 does_take buffer w m = refl
 
 -- an owner has room for an item
-module _ (a b : Now) (P : List What → Type 0) (counted : b.calls ≡ record a.calls { count = a.calls.count + 1 }) (space : b.space ≡ a.space) (shelf : b.shelf ≡ a.shelf) (keeps : Keeps a.store a.space) (silent : P []) where
-  pub enlarge_done : (a.calls.count + 1 == a.calls.fail) ≡ false → b.store.tree ≡ a.store.tree → b.store.owners.descriptors ≡ a.store.owners.descriptors → session_of b.store a.space ≡ session_of a.store a.space → Keeps b.store a.space
+module _ (a b : Now) (P : List What → Type 0) (counted : b.calls ≡ record a.calls { count = a.calls.count + 1 }) (space : b.space ≡ a.space) (shelf : lent b ≡ lent a) (keeps : Keeps a.store a.space) (silent : P []) where
+  pub enlarge_done : (a.calls.count + 1 == a.calls.fail) ≡ false → b.store.tree ≡ a.store.tree → Acted nothing a.store b.store a.space b.space a.shelf b.shelf a.commons b.commons P → Keeps b.store a.space
       → Performed 1 (element.Enlarge OfLevel ∷ []) a b P None
-  enlarge_done goes tree descriptors session after =
+  enlarge_done goes tree acted after =
       performed_made (element.Enlarge OfLevel) (λ _. None) nothing does_enlarge a b P counted 1 goes (λ around. refl) acted (subst (Keeps b.store) (sym space) after)
       (moves_same a.store.tree b.store.tree a.space b.space tree space keeps.agrees)
       (grown 1 nothing a b P (λ s. record { contexts = omega arith; owners = omega arith; serials = omega arith; descriptors = refl }) acted (omega (arith, count_behind a b counted))) (λ around. ap (λ (s : Space). s.taken) space)
-    where
-      acted : Acted nothing a.store b.store a.space b.space a.shelf b.shelf P
-      acted = record {
-        leads = λ around.
-            ap (λ (z : SessionState). record { session = z; around = record around { kinds = []; shelf = a.shelf; space = a.space.limit; descriptors = a.store.owners.descriptors } })
-            (sym session ∙ ap (λ (s : Space). session_of b.store s) (sym space))
-            ∙ ap (λ (s : Space). record { session = session_of b.store b.space; around = record around { kinds = []; shelf = a.shelf; space = s.limit; descriptors = a.store.owners.descriptors } }) (sym space)
-            ∙ ap (λ y. record { session = session_of b.store b.space; around = record around { kinds = []; shelf = y; space = b.space.limit; descriptors = a.store.owners.descriptors } }) (sym shelf)
-            ∙ ap (λ (n : ℕ). record { session = session_of b.store b.space; around = record around { kinds = []; shelf = b.shelf; space = b.space.limit; descriptors = n } }) (sym descriptors);
-        says = λ around. silent;
-      }
 
   module _ (store : b.store ≡ a.store) where
     pub enlarge_injected : (e : Error) → (e ≡ Injected (a.calls.count + 1)) × ((a.calls.count + 1 == a.calls.fail) ≡ true) → Performed 1 (element.Enlarge OfLevel ∷ []) a b P (Some e)
@@ -86,17 +75,18 @@ take_rises buffer s = go (level_owner s.session)
 
 -- the owner takes the pin
 pub take_done : (a b : Now) (P : List What → Type 0) → b.calls ≡ record a.calls { count = a.calls.count + 1 } → b.space ≡ a.space → (a.calls.count + 1 == a.calls.fail) ≡ false → (owner : OwnerId) (buffer : ℕ)
-    → IsLevelOwner a.store owner → b.store.tree ≡ a.store.tree → Keeps a.store a.space → Keeps b.store b.space → Acted (item_taken owner.number buffer_pin buffer) a.store b.store a.space b.space a.shelf b.shelf P
+    → IsLevelOwner a.store owner → b.store.tree ≡ a.store.tree → Keeps a.store a.space → Keeps b.store b.space → Acted (item_taken owner.number buffer_pin buffer) a.store b.store a.space b.space a.shelf b.shelf a.commons b.commons P
     → Performed 1 (element.Take OfLevel buffer_pin buffer ∷ []) a b P None
 take_done a b P counted space goes owner buffer is tree keeps after taken =
     performed_made (element.Take OfLevel buffer_pin buffer) (take_refused (keeper_of buffer_pin)) (takes_pin buffer) (does_take buffer) a b P counted 1 goes (λ around. refl) acted after
     (moves_same a.store.tree b.store.tree a.space b.space tree space keeps.agrees)
     (grown 1 (takes_pin buffer) a b P (take_rises buffer) acted (omega (arith, count_behind a b counted))) (λ around. ap (λ (s : Space). s.taken) space)
   where
-    acted : Acted (takes_pin buffer) a.store b.store a.space b.space a.shelf b.shelf P
+    acted : Acted (takes_pin buffer) a.store b.store a.space b.space a.shelf b.shelf a.commons b.commons P
     acted = record {
       leads = λ around. ap (λ (o : Option ℕ). (where_there o (λ n. item_taken n buffer_pin buffer) (scene_in a around)).scene) (is a.space) ∙ taken.leads around;
       says = λ around. subst (λ (o : Option ℕ). P (where_there o (λ n. item_taken n buffer_pin buffer) (scene_in a around)).events) (sym (is a.space)) (taken.says around);
+      balances = taken.balances;
     }
 
 -- a space without anything in it
@@ -159,6 +149,7 @@ performed_said k es a b P Q r all h = record {
   keeps = h.keeps;
   moves = h.moves;
   taken = h.taken;
+  balances = h.balances;
   grows = h.grows;
 }
 

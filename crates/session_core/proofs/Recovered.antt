@@ -11,6 +11,8 @@ use Rattle.session_rules.specs.World.{Scene}
 use Rattle.session_rules.specs.Acts.{Ended, in_order, nothing, where_so}
 use Rattle.session_rules.specs.Ends.{aborted, cleaned_up, given_up, recovered}
 use Rattle.subxact_stack.specs.declared.levels.Level.{Level}
+use Rattle.session_owners.specs.Commons.{CommonState}
+use Rattle.session_owners.proofs.Balances.{balances_more, balances_none}
 use Rattle.session_store.specs.State.{StoreState, levels_of, scene_of, session_of}
 use Rattle.context_tree.specs.State.{Moves}
 use Rattle.context_tree.proofs.Composed.{tree_more}
@@ -98,25 +100,27 @@ gives_start (l ∷ k ∷ ls) h more z = ap (λ (x : LevelState). given_up (x ∷
 
 -- the error is said, and something is given up
 pub recovers : (O : Type 0) (emits : O → List What → O → Type 0) (more : (o p q : O) (xs ys : List What) → emits o xs p → emits p ys q → emits o (xs ++ ys) q)
-    (error : Error) (act : Scene → Ended) (a b : StoreState) (s t : Space) (x y : ShelfState) (o p q : O)
-    → GivesUp (levels_of a.levels) act → emits o (what.Error error ∷ []) p → Acted act a b s t x y (λ events. emits p events q) → Acted (recovered error) a b s t x y (λ events. emits o events q)
+    (error : Error) (act : Scene → Ended) (a b : StoreState) (s t : Space) (x y : ShelfState) (c d : CommonState) (o p q : O)
+    → GivesUp (levels_of a.levels) act → emits o (what.Error error ∷ []) p → Acted act a b s t x y c d (λ events. emits p events q) → Acted (recovered error) a b s t x y c d (λ events. emits o events q)
 unfolding recovered session_of
-recovers O emits more error act a b s t x y o p q gives said acted = record {
-  leads = λ around. ap (λ (e : Ended). e.scene) (gives (scene_of a s x around)) ∙ acted.leads around;
+recovers O emits more error act a b s t x y c d o p q gives said acted = record {
+  leads = λ around. ap (λ (e : Ended). e.scene) (gives (scene_of a s x c around)) ∙ acted.leads around;
   says = λ around.
       more o p q (what.Error error ∷ []) _ said
       (subst (λ (es : List What). emits p es q)
-      (sym (append-nil (where_so (not (is_aborted (levels_of a.levels))) (given_up (levels_of a.levels)) (scene_of a s x around)).events ∙ ap (λ (e : Ended). e.events) (gives (scene_of a s x around))))
+      (sym (append-nil (where_so (not (is_aborted (levels_of a.levels))) (given_up (levels_of a.levels)) (scene_of a s x c around)).events ∙ ap (λ (e : Ended). e.events) (gives (scene_of a s x c around))))
       (acted.says around));
+  balances = acted.balances;
 }
 
-pub ended : (act : Scene → Ended) (a b : Now) (P : List What → Type 0) → KeepsNumbers act → Acted act a.store b.store a.space b.space a.shelf b.shelf P
+pub ended : (act : Scene → Ended) (a b : Now) (P : List What → Type 0) → KeepsNumbers act → Acted act a.store b.store a.space b.space a.shelf b.shelf a.commons b.commons P
     → Keeps b.store b.space → Moves a.store.tree b.store.tree a.space b.space → Asks a.store.tree.account 0 a.space b.space → b.calls ≡ a.calls → Ends act a b P
 ended act a b P numbers acted keeps moves asks calls = record {
   acted = acted;
   keeps = keeps;
   moves = moves;
   asked = asks;
+  balances = acted.balances;
   calls = calls;
   grows = numbers_grow act a b P numbers acted calls;
 }
@@ -125,10 +129,11 @@ pub recovery_ends : (O : Type 0) (emits : O → List What → O → Type 0) (mor
     (error : Error) (act : Scene → Ended) (a b : Now) (o p q : O)
     → GivesUp (levels_of a.store.levels) act → emits o (what.Error error ∷ []) p → Ends act a b (λ events. emits p events q) → Ends (recovered error) a b (λ events. emits o events q)
 recovery_ends O emits more error act a b o p q gives said did = record {
-  acted = recovers O emits more error act a.store b.store a.space b.space a.shelf b.shelf o p q gives said did.acted;
+  acted = recovers O emits more error act a.store b.store a.space b.space a.shelf b.shelf a.commons b.commons o p q gives said did.acted;
   keeps = did.keeps;
   moves = did.moves;
   asked = did.asked;
+  balances = did.balances;
   calls = did.calls;
   grows = did.grows;
 }
@@ -139,10 +144,12 @@ ends_as f h a b P same did = record {
   acted = record {
     leads = λ around. ap (λ (e : Ended). e.scene) (same (scene_in a around)) ∙ did.acted.leads around;
     says = λ around. subst P (sym (ap (λ (e : Ended). e.events) (same (scene_in a around)))) (did.acted.says around);
+    balances = did.acted.balances;
   };
   keeps = did.keeps;
   moves = did.moves;
   asked = did.asked;
+  balances = did.balances;
   calls = did.calls;
   grows = did.grows;
 }
@@ -156,10 +163,12 @@ ends_both f h a b c P Q R first next joins = record {
         subst (λ (es : List What). R ((f (scene_in a around)).events ++ es))
         (ap (λ (z : Scene). (h z).events) (sym (first.acted.leads around)) ∙ sym (append-nil (h (f (scene_in a around)).scene).events))
         (joins (f (scene_in a around)).events (h (scene_in b around)).events (first.acted.says around) (next.acted.says around));
+    balances = balances_more _ _ _ _ _ _ first.balances next.balances;
   };
   keeps = next.keeps;
   moves = tree_more a.store.tree b.store.tree c.store.tree a.space b.space c.space first.moves next.moves;
   asked = subst (λ (n : ℕ). Asks n 0 b.space c.space) first.moves.account next.asked ∙ first.asked;
+  balances = balances_more _ _ _ _ _ _ first.balances next.balances;
   calls = next.calls ∙ first.calls;
   grows = record {
     contexts = omega (arith, first.grows.contexts, next.grows.contexts);
@@ -171,13 +180,13 @@ ends_both f h a b c P Q R first next joins = record {
 }
 
 -- nothing happened
-pub acted_nothing : (a : StoreState) (s : Space) (x : ShelfState) (Said : List What → Type 0) → Said [] → Acted nothing a a s s x x Said
-acted_nothing a s x Said h = record { leads = λ around. refl; says = λ around. h }
+pub acted_nothing : (a : StoreState) (s : Space) (x : ShelfState) (c : CommonState) (Said : List What → Type 0) → Said [] → Acted nothing a a s s x x c c Said
+acted_nothing a s x c Said h = record { leads = λ around. refl; says = λ around. h; balances = balances_none a.owners c }
 
 -- a session is seen as its store
 module _ (store v : StoreState) (is : store ≡ v) where
-  pub ends_seen : {Z : Type 0} (act : Scene → Ended) (shared : Shared Z) (b : Now) (P : List What → Type 0) → Ends act (now store shared) b P → Ends act (now v shared) b P
+  pub ends_seen : {Z W : Type 0} (act : Scene → Ended) (shared : Shared Z W) (b : Now) (P : List What → Type 0) → Ends act (now store shared) b P → Ends act (now v shared) b P
   ends_seen act shared b P h = subst (λ (a : StoreState). Ends act (now a shared) b P) is h
 
-  pub ends_same : {Z : Type 0} (act : Scene → Ended) (shared : Shared Z) (P : List What → Type 0) → Ends act (now store shared) (now store shared) P → Ends act (now v shared) (now v shared) P
+  pub ends_same : {Z W : Type 0} (act : Scene → Ended) (shared : Shared Z W) (P : List What → Type 0) → Ends act (now store shared) (now store shared) P → Ends act (now v shared) (now v shared) P
   ends_same act shared P h = subst (λ (a : StoreState). Ends act (now a shared) (now a shared) P) is h

@@ -1,5 +1,5 @@
 -- A session is seen as its store.
-use Rattle.std.proofs.Common.{◌≡◌, ℕ, List, [], Option, Some, None, OnErr, Result, Ok, Err, refl, sym, ap, subst}
+use Rattle.std.proofs.Common.{◌≡◌, ℕ, List, [], Option, Some, None, OnErr, OnOk, Result, Ok, Err, refl, sym, ap, subst}
 use Rattle.std.specs.Option.{option_map}
 use Rattle.pgs_step.specs.declared.errors.Error.{Error}
 use Rattle.pgs_step.specs.declared.events.What.{What}
@@ -9,6 +9,7 @@ use Rattle.context_rules.specs.declared.errors.TreeError.{TreeError}
 use Rattle.context_tree.specs.State.{error_of}
 use Rattle.session_rules.specs.Elements.{Element}
 use Rattle.session_rules.specs.Checks.{tree_error}
+use Rattle.session_owners.specs.Commons.{CommonState, Serves}
 use Rattle.session_store.specs.State.{StoreState, session_of}
 use Rattle.session_store.specs.Calls.{ContextsAlone, Keeps, Refused, StandsIn}
 use Rattle.session_core.specs.declared.calls.Calls.{Calls}
@@ -18,23 +19,26 @@ use Rattle.session_core.proofs.Performing.{moves_nothing}
 
 module _ (store v : StoreState) (is : store ≡ v) where
   -- what was performed from the store was performed from the value
-  pub seen : {Z : Type 0} (k : ℕ) (es : List Element) (shared : Shared Z) (b : Now) (P : List What → Type 0) (r : Option Error) → Performed k es (now store shared) b P r → Performed k es (now v shared) b P r
+  pub seen : {Z W : Type 0} (k : ℕ) (es : List Element) (shared : Shared Z W) (b : Now) (P : List What → Type 0) (r : Option Error) → Performed k es (now store shared) b P r → Performed k es (now v shared) b P r
   seen k es shared b P r h = subst (λ (a : StoreState). Performed k es (now a shared) b P r) is h
 
   -- the same, where nothing changed
-  pub seen_same : {Z : Type 0} (k : ℕ) (es : List Element) (shared : Shared Z) (P : List What → Type 0) (r : Option Error) → Performed k es (now store shared) (now store shared) P r → Performed k es (now v shared) (now v shared) P r
+  pub seen_same : {Z W : Type 0} (k : ℕ) (es : List Element) (shared : Shared Z W) (P : List What → Type 0) (r : Option Error) → Performed k es (now store shared) (now store shared) P r → Performed k es (now v shared) (now v shared) P r
   seen_same k es shared P r h = subst (λ (a : StoreState). Performed k es (now a shared) (now a shared) P r) is h
 
   -- the same, where the store didn't change
-  pub seen_still : {Z : Type 0} (k : ℕ) (es : List Element) (shared : Shared Z) (s : Space) (x : ShelfState) (c : Calls) (P : List What → Type 0) (r : Option Error)
-      → Performed k es (now store shared) (record { store = store; space = s; shelf = x; calls = c }) P r → Performed k es (now v shared) (record { store = v; space = s; shelf = x; calls = c }) P r
-  seen_still k es shared s x c P r h = subst (λ (a : StoreState). Performed k es (now a shared) (record { store = a; space = s; shelf = x; calls = c }) P r) is h
+  pub seen_still : {Z W : Type 0} (k : ℕ) (es : List Element) (shared : Shared Z W) (s : Space) (x : ShelfState) (m : CommonState) (c : Calls) (P : List What → Type 0) (r : Option Error)
+      → Performed k es (now store shared) (record { store = store; space = s; shelf = x; commons = m; calls = c }) P r → Performed k es (now v shared) (record { store = v; space = s; shelf = x; commons = m; calls = c }) P r
+  seen_still k es shared s x m c P r h = subst (λ (a : StoreState). Performed k es (now a shared) (record { store = a; space = s; shelf = x; commons = m; calls = c }) P r) is h
 
   pub keeps_of : (s : Space) → Keeps v s → Keeps store s
   keeps_of s h = subst (λ (a : StoreState). Keeps a s) (sym is) h
 
-  pub stands_of : (s : Space) (x : ShelfState) → StandsIn v s x → StandsIn store s x
-  stands_of s x h = subst (λ (a : StoreState). StandsIn a s x) (sym is) h
+  pub stands_of : (s : Space) (x : ShelfState) (c : CommonState) → StandsIn v s x c → StandsIn store s x c
+  stands_of s x c h = subst (λ (a : StoreState). StandsIn a s x c) (sym is) h
+
+  pub serves_of : (c : CommonState) → Serves v.owners c → Serves store.owners c
+  serves_of c h = subst (λ (a : StoreState). Serves a.owners c) (sym is) h
 
 -- the answer of a call on contexts as an answer of the session
 pub answered_ok : (k : ℕ) (es : List Element) (a b : Now) (P : List What → Type 0) (r : Result (Unit {0}) TreeError) (u : Unit {0}) → r ≡ Ok u → Performed k es a b P (option_map tree_error (error_of r)) → Performed k es a b P None
@@ -50,17 +54,17 @@ silent_where emits (Ok a) x y nothing same = same
 silent_where emits (Err e) x y nothing same = subst (λ o. emits x [] o) (sym same) nothing
 
 -- nothing changed
-pub nothing_changed : (a b : StoreState) (s : Space) (x : ShelfState) → b ≡ a → Refused a b s s x x
-nothing_changed a b s x same = record { store = same; shelf = refl; session = ap (λ (c : StoreState). session_of c s) same; limit = refl }
+pub nothing_changed : (a b : StoreState) (s : Space) (x : ShelfState) (c : CommonState) → b ≡ a → Refused a b s s x x c c
+nothing_changed a b s x c same = record { store = same; shelf = refl; commons = refl; session = ap (λ (z : StoreState). session_of z s) same; limit = refl }
 
 -- where the store is as it was the call changed nothing
-pub refused_still : {A E : Type 0} (r : Result A E) (a b : StoreState) (s : Space) (x : ShelfState) → OnErr r (b ≡ a) → OnErr r (Refused a b s s x x)
-refused_still (Ok u) a b s x same = same
-refused_still (Err e) a b s x same = nothing_changed a b s x same
+pub refused_still : {A E : Type 0} (r : Result A E) (a b : StoreState) (s : Space) (x : ShelfState) (c : CommonState) → OnErr r (b ≡ a) → OnErr r (Refused a b s s x x c c)
+refused_still (Ok u) a b s x c same = same
+refused_still (Err e) a b s x c same = nothing_changed a b s x c same
 
 -- contexts that didn't change
-pub alone_same : (a : StoreState) (s : Space) → Keeps a s → ContextsAlone a a s s
-alone_same a s keeps = record { keeps = keeps; moves = moves_nothing a.tree s keeps.agrees; owners = refl; levels = refl; stays = λ id live had has. live }
+pub alone_same : (a : StoreState) (s : Space) (c : CommonState) → Keeps a s → ContextsAlone a a s s c c
+alone_same a s c keeps = record { keeps = keeps; moves = moves_nothing a.tree s keeps.agrees; owners = refl; commons = refl; levels = refl; stays = λ id live had has. live }
 
 -- an error by another name
 pub told_as : (k : ℕ) (es : List Element) (a b : Now) (P : List What → Type 0) (e t : Error) → t ≡ e → Performed k es a b P (Some e) → Performed k es a b P (Some t)
@@ -75,5 +79,14 @@ err_of (Ok a) e is p = absurd (other is)
     other z = cc z
 
 -- the store and the shelf are as they were
-pub both_still : (a b : StoreState) (s : Space) (x y : ShelfState) → b ≡ a → y ≡ x → Refused a b s s x y
-both_still a b s x y store shelf = record { store = store; shelf = shelf; session = ap (λ (c : StoreState). session_of c s) store; limit = refl }
+pub both_still : (a b : StoreState) (s : Space) (x y : ShelfState) (c : CommonState) → b ≡ a → y ≡ x → Refused a b s s x y c c
+both_still a b s x y c store shelf = record { store = store; shelf = shelf; commons = refl; session = ap (λ (z : StoreState). session_of z s) store; limit = refl }
+
+-- what was answered of any commons, of these
+pub ok_with : {A E : Type 0} (F : CommonState → Type 0) (r : Result A E) (c : CommonState) → OnOk r ((d : CommonState) → F d) → OnOk r (F c)
+ok_with F (Ok a) c h = h c
+ok_with F (Err e) c h = tt
+
+pub err_with : {A E : Type 0} (F : CommonState → Type 0) (r : Result A E) (c : CommonState) → OnErr r ((d : CommonState) → F d) → OnErr r (F c)
+err_with F (Ok a) c h = tt
+err_with F (Err e) c h = h c

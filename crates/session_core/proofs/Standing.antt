@@ -11,6 +11,8 @@ use Rattle.session_rules.specs.Standing.{Stands}
 use Rattle.session_rules.specs.Works.{work_of}
 use Rattle.session_rules.proofs.StepsStand.{IsWorking}
 use Rattle.session_rules.proofs.TurnStands.{At, IsWork, Leads, work_leads}
+use Rattle.session_owners.specs.Commons.{Serves}
+use Rattle.session_owners.proofs.Balances.{serves_still}
 use Rattle.session_store.specs.State.{levels_of, session_of}
 use Rattle.session_core.specs.Answers.{Fits, at_calls, wants}
 use Rattle.session_core.specs.Begun.{HasBegun, InActiveLevel}
@@ -34,9 +36,10 @@ empty_around = record { kinds = []; shelf = record { fresh = []; spent = []; out
 module _ (k : ℕ) (es : List Element) (a b : Now) (P : List What → Type 0) (r : Option Error) (Q : Scene → Type 0) (done : Performed k es a b P r)
     (leads : (around : Around) (w : Option ℕ) → Leads Q (does_all w es (at_calls (scene_in a) a.calls.count a.calls.fail around))) where
   -- whatever refused them, the session stands
-  pub stands_behind : IsBetweenSteps b
-  stands_behind = record {
+  pub stands_behind : Serves a.store.owners a.commons → IsBetweenSteps b
+  stands_behind serves = record {
     keeps = done.keeps;
+    serves = serves_still _ _ _ _ serves done.balances;
     stands = λ around.
         subst (λ (m : Moment). Stands m.scene) (done.answers.moment around (fitting (wants r) b.calls.count) (fitting_fits (wants r) b.calls.count))
         (leads around (fitting (wants r) b.calls.count)).stands;
@@ -72,7 +75,7 @@ module _ (k : ℕ) (c : Command) (session : SessionState) (is : IsWork c) (a b :
   leads around w = work_leads w (levels_of a.store.levels) (is_working (levels_of a.store.levels) active) c session is (at_calls (scene_in a) a.calls.count a.calls.fail around) (at_levels a around h)
 
   pub work_stands : IsBetweenSteps b
-  work_stands = stands_behind k (work_of c session) a b P r (At (levels_of a.store.levels)) done leads
+  work_stands = stands_behind k (work_of c session) a b P r (At (levels_of a.store.levels)) done leads h.serves
 
   pub work_levels : r ≡ None → levels_of b.store.levels ≡ levels_of a.store.levels
   work_levels none =

@@ -38,7 +38,7 @@ use Rattle.session_core.specs.Performed.{Now, Performed, scene_in}
 use Rattle.session_core.proofs.Commands.{tree_error_plain}
 use Rattle.session_core.proofs.Takings.{none_in_vain, some_in_vain}
 use Rattle.session_core.proofs.Performing.{performed_end, performed_made, performed_own}
-use Rattle.session_core.proofs.Stepping.{Rises, count_behind, grown, limit_free, limit_reached, memory_or_not, moves_same, step_injected, step_wants, still_asks, still_keeps, still_moves, still_refused, still_some}
+use Rattle.session_core.proofs.Stepping.{Rises, count_behind, grown, lent, limit_free, limit_reached, memory_or_not, moves_same, step_injected, step_wants, still_asks, still_keeps, still_moves, still_refused, still_some}
 
 does_make_level : (name : Option Text) (implicit : Bool) (w : Option ℕ) (m : Moment) → does w (element.MakeLevel name implicit) m ≡ fallible w m (limit 1000 (depth m.scene.session)) (level_made name implicit)
 unfolding does
@@ -66,7 +66,7 @@ unfolding session_of
 owners_are a around = refl
 
 -- A level is pushed.
-module _ (name : Option Text) (implicit : Bool) (a b : Now) (P : List What → Type 0) (counted : b.calls ≡ record a.calls { count = a.calls.count + 1 }) (space : b.space ≡ a.space) (shelf : b.shelf ≡ a.shelf)
+module _ (name : Option Text) (implicit : Bool) (a b : Now) (P : List What → Type 0) (counted : b.calls ≡ record a.calls { count = a.calls.count + 1 }) (space : b.space ≡ a.space) (shelf : lent b ≡ lent a)
     (keeps : Keeps a.store a.space) where
   level_rises : (s : Scene) → Rises 1 s (level_made name implicit s).scene
   level_rises s = record { contexts = omega arith; owners = omega arith; serials = omega arith; descriptors = refl }
@@ -75,7 +75,7 @@ module _ (name : Option Text) (implicit : Bool) (a b : Now) (P : List What → T
   own_level scene = limit 1000 (depth scene.session)
 
   pub level_pushed : (r : Result (Unit {0}) LevelError) (u : Unit {0}) → (a.calls.count + 1 == a.calls.fail) ≡ false → r ≡ Ok u → ((r ≡ Err level.TooMany) ↔ (length a.store.levels ≡ 1000)) → length a.store.levels ≤ 1000
-      → (ls : List Level) → b.store ≡ record a.store { levels = ls } → Keeps b.store b.space → Acted (level_made name implicit) a.store b.store a.space b.space a.shelf b.shelf P
+      → (ls : List Level) → b.store ≡ record a.store { levels = ls } → Keeps b.store b.space → Acted (level_made name implicit) a.store b.store a.space b.space a.shelf b.shelf a.commons b.commons P
       → Performed 1 (element.MakeLevel name implicit ∷ []) a b P None
   level_pushed r u goes is too_many most ls store after acted =
       performed_made (element.MakeLevel name implicit) own_level (level_made name implicit) (does_make_level name implicit) a b P counted 1 goes
@@ -113,13 +113,13 @@ module _ (a b : Now) (P : List What → Type 0) (counted : b.calls ≡ record a.
   context_rises s = record { contexts = omega arith; owners = omega arith; serials = omega arith; descriptors = refl }
 
   pub context_made_for : (u : Unit {0}) (r : Result (Unit {0}) TreeError) → r ≡ Ok u → create_refusal (left_in a.store a.space) (codes "CurTransactionContext") kind.Default true (contexts_in a.store a.space) ≡ None
-      → Acted (new_context_made LevelContext) a.store b.store a.space b.space a.shelf b.shelf P → Asks a.store.tree.account 8192 a.space b.space → Performed 1 (element.MakeContext LevelContext ∷ []) a b P None
+      → Acted (new_context_made LevelContext) a.store b.store a.space b.space a.shelf b.shelf a.commons b.commons P → Asks a.store.tree.account 8192 a.space b.space → Performed 1 (element.MakeContext LevelContext ∷ []) a b P None
   context_made_for u r is free acted asks =
       performed_made (element.MakeContext LevelContext) (new_context_refused LevelContext) (new_context_made LevelContext) does_make_context a b P counted 1 goes
       (λ around. ap (option_map tree_error) free) acted keeps moves
       (grown 1 (new_context_made LevelContext) a b P context_rises acted (omega (arith, count_behind a b counted))) (λ around. asks)
 
-  pub context_not_made : Refused a.store b.store a.space b.space a.shelf b.shelf → P [] → (e : TreeError) (t : Error)
+  pub context_not_made : Refused a.store b.store a.space b.space a.shelf b.shelf a.commons b.commons → P [] → (e : TreeError) (t : Error)
       → (e ≡ tree.Memory) ⊎ (create_refusal (left_in a.store a.space) (codes "CurTransactionContext") kind.Default true (contexts_in a.store a.space) ≡ Some e)
       → (e ≡ tree.Memory → t ≡ NoMemory b.calls.count) → (e ≢ tree.Memory → t ≡ tree_error e) → AsksInVain e a.store.tree.account 8192 a.space b.space → Performed 1 (element.MakeContext LevelContext ∷ []) a b P (Some t)
   context_not_made same silent e t cause memory other vain =
@@ -138,14 +138,14 @@ module _ (a b : Now) (P : List What → Type 0) (counted : b.calls ≡ record a.
       own_cause n (inl m) = absurd (n m)
       own_cause n (inr c) = c
 
-pub context_injected : (a b : Now) (P : List What → Type 0) → b.calls ≡ record a.calls { count = a.calls.count + 1 } → b.space ≡ a.space → b.shelf ≡ a.shelf → Keeps a.store a.space → b.store ≡ a.store → P []
+pub context_injected : (a b : Now) (P : List What → Type 0) → b.calls ≡ record a.calls { count = a.calls.count + 1 } → b.space ≡ a.space → lent b ≡ lent a → Keeps a.store a.space → b.store ≡ a.store → P []
     → (e : Error) → (e ≡ Injected (a.calls.count + 1)) × ((a.calls.count + 1 == a.calls.fail) ≡ true) → Performed 1 (element.MakeContext LevelContext ∷ []) a b P (Some e)
 context_injected a b P counted space shelf keeps store silent e told =
     step_injected (element.MakeContext LevelContext) (new_context_refused LevelContext) (new_context_made LevelContext) does_make_context a b P counted (still_refused a b store space shelf) (still_keeps a b store space shelf keeps)
     (still_moves a b store space shelf keeps) silent e told (still_asks a b store space shelf)
 
 -- The owner of a level is made.
-module _ (a b : Now) (P : List What → Type 0) (counted : b.calls ≡ record a.calls { count = a.calls.count + 1 }) (space : b.space ≡ a.space) (shelf : b.shelf ≡ a.shelf)
+module _ (a b : Now) (P : List What → Type 0) (counted : b.calls ≡ record a.calls { count = a.calls.count + 1 }) (space : b.space ≡ a.space) (shelf : lent b ≡ lent a)
     (keeps : Keeps a.store a.space) where
   owner_rises : (s : Scene) → Rises 1 s (new_owner_made OfLevel s).scene
   owner_rises s = record { contexts = omega arith; owners = omega arith; serials = omega arith; descriptors = refl }
@@ -154,7 +154,7 @@ module _ (a b : Now) (P : List What → Type 0) (counted : b.calls ≡ record a.
   own_owner scene = limit 65536 (size scene.session.owners)
 
   pub owner_made_for : (u : Unit {0}) (r : Result (Unit {0}) OwnerError) → (a.calls.count + 1 == a.calls.fail) ≡ false → r ≡ Ok u → ((r ≡ Err owner.TooMany) ↔ (65536 ≤ size (owners_of a.store.owners)))
-      → b.store.tree ≡ a.store.tree → Keeps b.store b.space → Acted (new_owner_made OfLevel) a.store b.store a.space b.space a.shelf b.shelf P → Performed 1 (element.MakeOwner OfLevel ∷ []) a b P None
+      → b.store.tree ≡ a.store.tree → Keeps b.store b.space → Acted (new_owner_made OfLevel) a.store b.store a.space b.space a.shelf b.shelf a.commons b.commons P → Performed 1 (element.MakeOwner OfLevel ∷ []) a b P None
   owner_made_for u r goes is too_many tree after acted =
       performed_made (element.MakeOwner OfLevel) own_owner (new_owner_made OfLevel) does_make_owner a b P counted 1 goes
       (λ around. ap (limit 65536) (owners_are a around) ∙ limit_free 65536 (size (owners_of a.store.owners)) less)
@@ -209,7 +209,7 @@ moves_to a b s t is same h =
     (subst (λ (c : TreeState). Moves a c s s) (sym is) (moves_current a b.current s (subst (λ (c : TreeState). Agrees c s) is (subst (Agrees b) same h))))
 
 pub stood_performed : (a b : Now) (P : List What → Type 0) → b.calls ≡ a.calls → b.space ≡ a.space → Keeps b.store b.space → b.store.tree ≡ record a.store.tree { current = b.store.tree.current }
-    → Acted level_stands a.store b.store a.space b.space a.shelf b.shelf P → Performed 0 (element.LevelStands ∷ []) a b P None
+    → Acted level_stands a.store b.store a.space b.space a.shelf b.shelf a.commons b.commons P → Performed 0 (element.LevelStands ∷ []) a b P None
 stood_performed a b P calls space keeps tree acted =
     performed_end 0 element.LevelStands level_stands a b P does_level_stands acted keeps (moves_to a.store.tree b.store.tree a.space b.space tree space keeps.agrees)
     (grown 0 level_stands a b P stands_rises acted (omega (arith, ap (λ (c : Calls). c.count) calls))) calls (λ around. ap (λ (s : Space). s.taken) space)

@@ -6,6 +6,7 @@ use Rattle.pgs_step.specs.declared.errors.Error.{Error}
 use Rattle.pgs_step.specs.declared.errors.Error.TheVariants.{Injected, LimitReached, NoMemory}
 use Rattle.pgs_step.specs.declared.events.What.{What}
 use Rattle.addr_space.specs.Space.{Asks, Space}
+use Rattle.reset_callbacks.specs.ShelfState.{ShelfState}
 use Rattle.context_rules.specs.declared.errors.TreeError.{TreeError}
 use Rattle.context_rules.specs.declared.errors.TreeError.TheVariants as tree
 use Rattle.context_tree.specs.State.{TreeState, Agrees, Moves}
@@ -15,6 +16,7 @@ use Rattle.session_rules.specs.Elements.{Element}
 use Rattle.session_rules.specs.Calls.{fallible}
 use Rattle.session_rules.specs.Does.{does}
 use Rattle.session_rules.specs.Making.{limit}
+use Rattle.session_owners.specs.Commons.{CommonState}
 use Rattle.session_store.specs.State.{StoreState, session_of}
 use Rattle.session_store.specs.Calls.{Acted, Keeps, Refused}
 use Rattle.session_core.specs.declared.calls.Calls.{Calls}
@@ -29,7 +31,7 @@ pub record Rises (k : ℕ) (s t : Scene) : Type 0 where
   pub serials : t.session.next_serial ≤ s.session.next_serial + k
   pub descriptors : t.around.descriptors ≡ s.around.descriptors
 
-pub grown : (k : ℕ) (act : Scene → Ended) (a b : Now) (P : List What → Type 0) → ((s : Scene) → Rises k s (act s).scene) → Acted act a.store b.store a.space b.space a.shelf b.shelf P
+pub grown : (k : ℕ) (act : Scene → Ended) (a b : Now) (P : List What → Type 0) → ((s : Scene) → Rises k s (act s).scene) → Acted act a.store b.store a.space b.space a.shelf b.shelf a.commons b.commons P
     → b.calls.count ≤ a.calls.count + k → Grows k a b
 unfolding session_of
 grown k act a b P rises acted calls =
@@ -69,7 +71,7 @@ count_behind a b counted = ap (λ (c : Calls). c.count) counted
 
 -- a fallible call that was refused
 module _ (x : Element) (own : Scene → Option Error) (act : Scene → Ended) (is : (w : Option ℕ) (m : Moment) → does w x m ≡ fallible w m (own m.scene) act) (a b : Now) (P : List What → Type 0)
-    (counted : b.calls ≡ record a.calls { count = a.calls.count + 1 }) (same : Refused a.store b.store a.space b.space a.shelf b.shelf) (keeps : Keeps b.store b.space)
+    (counted : b.calls ≡ record a.calls { count = a.calls.count + 1 }) (same : Refused a.store b.store a.space b.space a.shelf b.shelf a.commons b.commons) (keeps : Keeps b.store b.space)
     (moves : Moves a.store.tree b.store.tree a.space b.space) (silent : P []) where
   pub step_injected : (e : Error) → (e ≡ Injected (a.calls.count + 1)) × ((a.calls.count + 1 == a.calls.fail) ≡ true) → Asks a.store.tree.account 0 a.space b.space → Performed 1 (x ∷ []) a b P (Some e)
   step_injected e told asks =
@@ -79,12 +81,17 @@ module _ (x : Element) (own : Scene → Option Error) (act : Scene → Ended) (i
   step_wants goes some =
       subst (λ (n : ℕ). Performed 1 (x ∷ []) a b P (Some (NoMemory n))) (sym (count_behind a b counted)) (performed_want x own act is a b P counted same keeps moves goes silent some)
 
--- the store, the space and the shelf are as they were
-module _ (a b : Now) (store : b.store ≡ a.store) (space : b.space ≡ a.space) (shelf : b.shelf ≡ a.shelf) where
-  pub still_refused : Refused a.store b.store a.space b.space a.shelf b.shelf
+-- what a run lends besides the space
+abbrev pub lent : Now → ShelfState × CommonState
+lent n = (n.shelf, n.commons)
+
+-- the store, the space and what else is lent are as they were
+module _ (a b : Now) (store : b.store ≡ a.store) (space : b.space ≡ a.space) (shelf : lent b ≡ lent a) where
+  pub still_refused : Refused a.store b.store a.space b.space a.shelf b.shelf a.commons b.commons
   still_refused = record {
     store = store;
-    shelf = shelf;
+    shelf = ap (λ (p : ShelfState × CommonState). p.0) shelf;
+    commons = ap (λ (p : ShelfState × CommonState). p.1) shelf;
     session = ap (λ (c : StoreState). session_of c b.space) store ∙ ap (λ (s : Space). session_of a.store s) space;
     limit = ap (λ (s : Space). s.limit) space;
   }

@@ -13,6 +13,7 @@ use Rattle.session_rules.specs.Elements as element
 use Rattle.session_rules.specs.Ends.{recovered}
 use Rattle.session_rules.specs.Transcript.{Turn, is_want, line_elements, turn, turn_of}
 use Rattle.session_rules.specs.World.{Around, Moment}
+use Rattle.session_owners.proofs.Balances.{balances_more}
 use Rattle.session_store.specs.Calls.{Keeps}
 use Rattle.session_store.specs.State.{session_of}
 use Rattle.session_core.specs.declared.calls.Calls.{Calls}
@@ -60,6 +61,7 @@ module _ (line : Option Command) (a : Now) where
     wanted_is = λ around w f. let t = ok_is b P h around w f in t.wanted_is;
     moves = h.moves;
     taken = ok_taken b P h;
+    balances = h.balances;
     grows = h.grows;
     fail = h.fail;
     calls = h.answers.calls;
@@ -95,6 +97,7 @@ module _ (line : Option Command) (a : Now) where
       wanted_is = λ around w f. let t = err_is around w f in t.wanted_is;
       moves = tree_more a.store.tree m.store.tree b.store.tree a.space m.space b.space h.moves ended.moves;
       taken = err_taken;
+      balances = balances_more _ _ _ _ _ _ h.balances ended.balances;
       grows = record {
         contexts = omega (arith, h.grows.contexts, ended.grows.contexts);
         owners = omega (arith, h.grows.owners, ended.grows.owners);

@@ -2,6 +2,7 @@
 use Rattle.std.specs.Prelude.{◌≡◌, ◌<◌, ◌≤◌, length, true, List}
 use Rattle.subxact_stack.specs.declared.levels.Level.{Level}
 use Rattle.session_rules.specs.State.{is_aborted}
+use Rattle.session_owners.specs.Commons.{Serves}
 use Rattle.session_store.specs.State.{levels_of}
 use Rattle.pgs_command.specs.declared.commands.Command.{Command}
 use Rattle.pgs_command.specs.declared.commands.Command.TheVariants as command
@@ -15,6 +16,7 @@ use Rattle.session_core.specs.Works.{IsWork}
 -- alone.
 pub record IsBetweenLines (n : Now) : Type 0 where
   pub keeps : Keeps n.store n.space
+  pub serves : Serves n.store.owners n.commons
   pub stands : (around : Around) → StandsBetweenLines (scene_in n around)
 
 -- a command that a session performs: one that works in a transaction, or one on transactions themselves

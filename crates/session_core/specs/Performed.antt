@@ -9,32 +9,35 @@ use Rattle.session_rules.specs.World.{Around, Scene}
 use Rattle.session_rules.specs.Acts.{Ended}
 use Rattle.session_rules.specs.Elements.{Element}
 use Rattle.session_rules.specs.Asked.{asked_all}
+use Rattle.session_owners.specs.Commons.{Balances, CommonState, Serves}
 use Rattle.session_store.specs.State.{StoreState, scene_of}
 use Rattle.session_store.specs.Calls.{Acted, Keeps, StandsIn}
 use Rattle.session_core.specs.declared.calls.Calls.{Calls}
 use Rattle.session_core.specs.declared.shared.Shared.{Shared}
 use Rattle.session_core.specs.Answers.{Answers, Fits, at_calls, wants}
 
--- where a call meets a session: its store, the space, the shelf of hooks, and the fallible calls of the run
+-- where a call meets a session: its store, the space, the shelf of hooks, the commons, and the fallible calls of the run
 pub record Now : Type 0 where
   pub store : StoreState
   pub space : Space
   pub shelf : ShelfState
+  pub commons : CommonState
   pub calls : Calls
 
 -- a store with what is lent to the session
-abbrev pub now : {Z : Type 0} → StoreState → Shared Z → Now
-now store shared = record { store = store; space = shared.space.now; shelf = shared.shelf.now; calls = shared.calls.now }
+abbrev pub now : {Z W : Type 0} → StoreState → Shared Z W → Now
+now store shared = record { store = store; space = shared.space.now; shelf = shared.shelf.now; commons = shared.commons.now; calls = shared.calls.now }
 
 -- the session in its surroundings
 abbrev pub scene_in : Now → Around → Scene
-scene_in n = scene_of n.store n.space n.shelf
+scene_in n = scene_of n.store n.space n.shelf n.commons
 
--- A session between two of its steps: the space has what its contexts have, its account holds their blocks and no more, and the session
--- stands.
+-- A session between two of its steps: the space has what its contexts have, its account holds their blocks and no more, the commons hold
+-- what its owners hold of them, and the session stands.
 pub record IsBetweenSteps (n : Now) : Type 0 where
   pub keeps : Keeps n.store n.space
-  pub stands : StandsIn n.store n.space n.shelf
+  pub serves : Serves n.store.owners n.commons
+  pub stands : StandsIn n.store n.space n.shelf n.commons
 
 -- what a counter may be
 abbrev pub most_count : ℕ
@@ -67,21 +70,24 @@ Taken elements a b refusal =
     → Takes (wants refusal) a.store.tree.account (asked_all w elements (at_calls (scene_in a) a.calls.count a.calls.fail around)) a.space b.space
 
 -- The elements were performed, up to the first that was refused, and were answered and told so. The space keeps what isn't the session's, the
--- session's account holds the blocks of its contexts and no more, it took what the elements ask, and no counter rose by more than k.
+-- session's account holds the blocks of its contexts and no more, it took what the elements ask, the commons are in balance, and no counter
+-- rose by more than k.
 pub record Performed (k : ℕ) (elements : List Element) (a b : Now) (Said : List What → Type 0) (refusal : Option Error) : Type 0 where
   pub answers : Answers elements (scene_in a) (scene_in b) a.calls.count b.calls.count a.calls.fail Said refusal
   pub fail : b.calls.fail ≡ a.calls.fail
   pub keeps : Keeps b.store b.space
   pub moves : Moves a.store.tree b.store.tree a.space b.space
   pub taken : Taken elements a b refusal
+  pub balances : Balances a.store.owners b.store.owners a.commons b.commons
   pub grows : Grows k a b
 
 -- An act was done that is no element of a command. The space keeps what isn't the session's, the session's account holds the blocks of its
--- contexts and no more, it took nothing, no call was counted, and no counter rose.
+-- contexts and no more, it took nothing, the commons are in balance, no call was counted, and no counter rose.
 pub record Ends (act : Scene → Ended) (a b : Now) (Said : List What → Type 0) : Type 0 where
-  pub acted : Acted act a.store b.store a.space b.space a.shelf b.shelf Said
+  pub acted : Acted act a.store b.store a.space b.space a.shelf b.shelf a.commons b.commons Said
   pub keeps : Keeps b.store b.space
   pub moves : Moves a.store.tree b.store.tree a.space b.space
   pub asked : Asks a.store.tree.account 0 a.space b.space
+  pub balances : Balances a.store.owners b.store.owners a.commons b.commons
   pub calls : b.calls ≡ a.calls
   pub grows : Grows 0 a b

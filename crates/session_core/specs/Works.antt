@@ -24,13 +24,19 @@ IsOnChunks (command.Put chunk at bytes) = Unit {0}
 IsOnChunks (command.Show chunk at length) = Unit {0}
 IsOnChunks other = ⊥
 
--- a command that works in a transaction: those, the ones on pins, references and files, and the one that fails
+-- a command that works in a transaction: those, the ones on pins, references, extension kinds, snapshots, locks and files, and the one that fails
 abbrev pub IsWork : Command → Type 0
 IsWork command.Raise = Unit {0}
 IsWork (command.Pin buffer) = Unit {0}
 IsWork (command.Unpin buffer) = Unit {0}
 IsWork (command.Reference class key) = Unit {0}
 IsWork (command.Unreference class key) = Unit {0}
+IsWork (command.Acquire kind key) = Unit {0}
+IsWork (command.Drop kind key) = Unit {0}
+IsWork (command.Snapshot snapshot) = Unit {0}
+IsWork (command.Unsnapshot snapshot) = Unit {0}
+IsWork (command.Lock object mode) = Unit {0}
+IsWork (command.Unlock object mode) = Unit {0}
 IsWork (command.Open file) = Unit {0}
 IsWork (command.Touch file) = Unit {0}
 IsWork (command.Close file) = Unit {0}

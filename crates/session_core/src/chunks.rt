@@ -16,17 +16,18 @@ use crate::session::Session;
 use crate::shared::Shared;
 use addr_space::Space;
 use context_rules::TreeError;
+use owner_kinds::ExtKind;
 use pgs_step::{ChunkBytes, Emit, Error, Name, What};
 use reset_callbacks::ResetHook;
 use session_store::Store;
 
 impl<H: ResetHook> Session<H> {
     /// `alloc`: takes a chunk in the current context.
-    pub(crate) fn alloc<E: Emit>(
+    pub(crate) fn alloc<K: ExtKind, E: Emit>(
         &mut self,
         chunk: Name,
         size: u32,
-        shared: &mut Shared<'_, H>,
+        shared: &mut Shared<'_, H, K>,
         out: &mut E,
     ) -> Result<(), Error>
         requires between { IsBetweenSteps (now self.old shared.old) }
@@ -46,11 +47,11 @@ impl<H: ResetHook> Session<H> {
     }
 
     /// `alloc0`: takes a chunk whose bytes are 0.
-    pub(crate) fn alloc_zeroed<E: Emit>(
+    pub(crate) fn alloc_zeroed<K: ExtKind, E: Emit>(
         &mut self,
         chunk: Name,
         size: u32,
-        shared: &mut Shared<'_, H>,
+        shared: &mut Shared<'_, H, K>,
         out: &mut E,
     ) -> Result<(), Error>
         requires between { IsBetweenSteps (now self.old shared.old) }
@@ -73,11 +74,11 @@ impl<H: ResetHook> Session<H> {
     }
 
     /// `realloc`: gives a chunk another size.
-    pub(crate) fn realloc<E: Emit>(
+    pub(crate) fn realloc<K: ExtKind, E: Emit>(
         &mut self,
         chunk: &Name,
         size: u32,
-        shared: &mut Shared<'_, H>,
+        shared: &mut Shared<'_, H, K>,
         out: &mut E,
     ) -> Result<(), Error>
         requires between { IsBetweenSteps (now self.old shared.old) }
@@ -97,10 +98,10 @@ impl<H: ResetHook> Session<H> {
     }
 
     /// `free`: frees a chunk.
-    pub(crate) fn free<E: Emit>(
+    pub(crate) fn free<K: ExtKind, E: Emit>(
         &mut self,
         chunk: &Name,
-        shared: &mut Shared<'_, H>,
+        shared: &mut Shared<'_, H, K>,
         out: &mut E,
     ) -> Result<(), Error>
         requires between { IsBetweenSteps (now self.old shared.old) }
@@ -113,12 +114,12 @@ impl<H: ResetHook> Session<H> {
     }
 
     /// `put`: writes bytes into a chunk.
-    pub(crate) fn put<E: Emit>(
+    pub(crate) fn put<K: ExtKind, E: Emit>(
         &mut self,
         chunk: &Name,
         at: u32,
         bytes: &ChunkBytes,
-        shared: &mut Shared<'_, H>,
+        shared: &mut Shared<'_, H, K>,
         out: &mut E,
     ) -> Result<(), Error>
         requires between { IsBetweenSteps (now self.old shared.old) }
@@ -132,12 +133,12 @@ impl<H: ResetHook> Session<H> {
     }
 
     /// `show`: shows bytes of a chunk.
-    pub(crate) fn show<E: Emit>(
+    pub(crate) fn show<K: ExtKind, E: Emit>(
         &mut self,
         chunk: Name,
         at: u32,
         length: u8,
-        shared: &mut Shared<'_, H>,
+        shared: &mut Shared<'_, H, K>,
         out: &mut E,
     ) -> Result<(), Error>
         requires between { IsBetweenSteps (now self.old shared.old) }

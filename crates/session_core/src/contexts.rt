@@ -11,18 +11,19 @@ use crate::errors::{call_error, register_error, tree_error};
 use crate::session::Session;
 use crate::shared::Shared;
 use any_ctx::CtxKind;
+use owner_kinds::ExtKind;
 use pgs_command::ContextKind;
 use pgs_step::{Emit, Error, Name};
 use reset_callbacks::ResetHook;
 
 impl<H: ResetHook> Session<H> {
     /// `context`: makes a context.
-    pub(crate) fn make_context<E: Emit>(
+    pub(crate) fn make_context<K: ExtKind, E: Emit>(
         &mut self,
         name: Name,
         parent: &Name,
         kind: ContextKind,
-        shared: &mut Shared<'_, H>,
+        shared: &mut Shared<'_, H, K>,
         out: &mut E,
     ) -> Result<(), Error>
         requires between { IsBetweenSteps (now self.old shared.old) }
@@ -47,10 +48,10 @@ impl<H: ResetHook> Session<H> {
     }
 
     /// `switch`: makes a context the current one.
-    pub(crate) fn switch<E: Emit>(
+    pub(crate) fn switch<K: ExtKind, E: Emit>(
         &mut self,
         name: &Name,
-        shared: &mut Shared<'_, H>,
+        shared: &mut Shared<'_, H, K>,
         out: &mut E,
     ) -> Result<(), Error>
         requires between { IsBetweenSteps (now self.old shared.old) }
@@ -64,10 +65,10 @@ impl<H: ResetHook> Session<H> {
     }
 
     /// `onreset`: a hook waits for the end of what a context holds.
-    pub(crate) fn register<E: Emit>(
+    pub(crate) fn register<K: ExtKind, E: Emit>(
         &mut self,
         name: &Name,
-        shared: &mut Shared<'_, H>,
+        shared: &mut Shared<'_, H, K>,
         out: &mut E,
     ) -> Result<(), Error>
         requires between { IsBetweenSteps (now self.old shared.old) }
@@ -87,10 +88,10 @@ impl<H: ResetHook> Session<H> {
     }
 
     /// `reset`: resets a context, once all below it is gone.
-    pub(crate) fn reset<E: Emit>(
+    pub(crate) fn reset<K: ExtKind, E: Emit>(
         &mut self,
         name: &Name,
-        shared: &mut Shared<'_, H>,
+        shared: &mut Shared<'_, H, K>,
         out: &mut E,
     ) -> Result<(), Error>
         requires between { IsBetweenSteps (now self.old shared.old) }
@@ -106,10 +107,10 @@ impl<H: ResetHook> Session<H> {
     }
 
     /// `resetonly`: resets a context and nothing below it.
-    pub(crate) fn reset_only<E: Emit>(
+    pub(crate) fn reset_only<K: ExtKind, E: Emit>(
         &mut self,
         name: &Name,
-        shared: &mut Shared<'_, H>,
+        shared: &mut Shared<'_, H, K>,
         out: &mut E,
     ) -> Result<(), Error>
         requires between { IsBetweenSteps (now self.old shared.old) }
@@ -125,10 +126,10 @@ impl<H: ResetHook> Session<H> {
     }
 
     /// `delete`: deletes a context with all below it.
-    pub(crate) fn delete<E: Emit>(
+    pub(crate) fn delete<K: ExtKind, E: Emit>(
         &mut self,
         name: &Name,
-        shared: &mut Shared<'_, H>,
+        shared: &mut Shared<'_, H, K>,
         out: &mut E,
     ) -> Result<(), Error>
         requires between { IsBetweenSteps (now self.old shared.old) }
@@ -144,10 +145,10 @@ impl<H: ResetHook> Session<H> {
     }
 
     /// `deletechildren`: deletes all below a context.
-    pub(crate) fn delete_children<E: Emit>(
+    pub(crate) fn delete_children<K: ExtKind, E: Emit>(
         &mut self,
         name: &Name,
-        shared: &mut Shared<'_, H>,
+        shared: &mut Shared<'_, H, K>,
         out: &mut E,
     ) -> Result<(), Error>
         requires between { IsBetweenSteps (now self.old shared.old) }
@@ -166,11 +167,11 @@ impl<H: ResetHook> Session<H> {
     }
 
     /// `reparent`: gives a context another parent.
-    pub(crate) fn reparent<E: Emit>(
+    pub(crate) fn reparent<K: ExtKind, E: Emit>(
         &mut self,
         name: &Name,
         parent: &Name,
-        shared: &mut Shared<'_, H>,
+        shared: &mut Shared<'_, H, K>,
         out: &mut E,
     ) -> Result<(), Error>
         requires between { IsBetweenSteps (now self.old shared.old) }

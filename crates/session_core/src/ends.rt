@@ -14,45 +14,60 @@ ghost use Rattle.session_core.specs.Performed.{now, Ends, IsBetweenSteps, Perfor
 
 use crate::session::Session;
 use crate::shared::Shared;
+use owner_kinds::ExtKind;
 use pgs_step::{Emit, Error, What};
 use reset_callbacks::ResetHook;
 
 impl<H: ResetHook> Session<H> {
     /// Level 1 commits, and the session is in no transaction then: `CommitTransaction`.
-    pub(crate) fn commit_top<E: Emit>(&mut self, shared: &mut Shared<'_, H>, out: &mut E)
+    pub(crate) fn commit_top<K: ExtKind, E: Emit>(
+        &mut self,
+        shared: &mut Shared<'_, H, K>,
+        out: &mut E,
+    )
         requires between { IsBetweenSteps (now self.old shared.old) }
         requires level { length self.old.levels ≡ 1 }
         ensures performed { Performed 0 (element.CommitTop ∷ []) (now self.old shared.old) (now self.new shared.new) (λ events. E.emits out.old events out.new) None }
         ensures levels { self.new.levels ≡ [] }
         ensures between { IsBetweenSteps (now self.new shared.new) }
     {
-        self.store.commit_top(shared.space, shared.shelf, out);
+        self.store
+            .commit_top(shared.space, shared.shelf, shared.commons, out);
     }
 
     /// The deepest level, which isn't level 1, commits, and the one above it is the deepest then: `CommitSubTransaction`.
-    pub(crate) fn subcommit<E: Emit>(&mut self, shared: &mut Shared<'_, H>, out: &mut E)
+    pub(crate) fn subcommit<K: ExtKind, E: Emit>(
+        &mut self,
+        shared: &mut Shared<'_, H, K>,
+        out: &mut E,
+    )
         requires between { IsBetweenSteps (now self.old shared.old) }
         requires level { 1 < length self.old.levels }
         ensures performed { Performed 0 (element.Subcommit ∷ []) (now self.old shared.old) (now self.new shared.new) (λ events. E.emits out.old events out.new) None }
         ensures levels { (level : ALevel) × (self.old.levels ≡ self.new.levels ++ level ∷ []) }
         ensures between { IsBetweenSteps (now self.new shared.new) }
     {
-        self.store.subcommit(shared.space, shared.shelf, out);
+        self.store
+            .subcommit(shared.space, shared.shelf, shared.commons, out);
     }
 
     /// The deepest level aborts: `AbortTransaction` and `AbortSubTransaction`.
-    pub(crate) fn abort<E: Emit>(&mut self, shared: &mut Shared<'_, H>, out: &mut E)
+    pub(crate) fn abort<K: ExtKind, E: Emit>(&mut self, shared: &mut Shared<'_, H, K>, out: &mut E)
         requires between { IsBetweenSteps (now self.old shared.old) }
         requires level { 0 < length self.old.levels }
         ensures performed { Performed 0 (element.Abort ∷ []) (now self.old shared.old) (now self.new shared.new) (λ events. E.emits out.old events out.new) None }
         ensures levels { self.new.levels ≡ with_deepest (λ level. record level { aborted = true }) self.old.levels }
         ensures between { IfSome (first_of (levels_of self.old.levels)) (λ level. level.aborted ≡ false → IsOpen level → IsBetweenSteps (now self.new shared.new)) }
     {
-        self.store.abort(out);
+        self.store.abort(shared.commons, out);
     }
 
     /// The deepest level, which is aborted, is cleaned up: `CleanupTransaction` and `CleanupSubTransaction`.
-    pub(crate) fn clean_up<E: Emit>(&mut self, shared: &mut Shared<'_, H>, out: &mut E)
+    pub(crate) fn clean_up<K: ExtKind, E: Emit>(
+        &mut self,
+        shared: &mut Shared<'_, H, K>,
+        out: &mut E,
+    )
         requires between { IsBetweenSteps (now self.old shared.old) }
         requires level { 0 < length self.old.levels }
         requires aborted { is_aborted (levels_of self.old.levels) ≡ true }
@@ -64,20 +79,30 @@ impl<H: ResetHook> Session<H> {
     }
 
     /// The deepest level, which isn't aborted, is rolled back: it aborts, and is cleaned up.
-    pub(crate) fn roll_back<E: Emit>(&mut self, shared: &mut Shared<'_, H>, out: &mut E)
+    pub(crate) fn roll_back<K: ExtKind, E: Emit>(
+        &mut self,
+        shared: &mut Shared<'_, H, K>,
+        out: &mut E,
+    )
         requires between { IsBetweenSteps (now self.old shared.old) }
         requires level { 0 < length self.old.levels }
         ensures performed { Performed 0 (element.Abort ∷ element.Cleanup ∷ []) (now self.old shared.old) (now self.new shared.new) (λ events. E.emits out.old events out.new) None }
         ensures levels { (level : ALevel) × (self.old.levels ≡ self.new.levels ++ level ∷ []) }
         ensures between { IsBetweenSteps (now self.new shared.new) }
     {
-        self.store.roll_back(shared.space, shared.shelf, out);
+        self.store
+            .roll_back(shared.space, shared.shelf, shared.commons, out);
     }
 
     /// What becomes of the transaction after an error, which is said: `AbortCurrentTransaction`. A level that is being started
     /// goes, and the one above it aborts; a level that was begun for one command alone goes; any other aborts; and in an aborted
     /// one nothing more is done.
-    pub fn recover<E: Emit>(&mut self, error: Error, shared: &mut Shared<'_, H>, out: &mut E)
+    pub fn recover<K: ExtKind, E: Emit>(
+        &mut self,
+        error: Error,
+        shared: &mut Shared<'_, H, K>,
+        out: &mut E,
+    )
         requires between { IsBetweenSteps (now self.old shared.old) }
         ensures did { Ends (recovered error) (now self.old shared.old) (now self.new shared.new) (λ events. E.emits out.old events out.new) }
         ensures lines { IsBetweenLines (now self.new shared.new) }
@@ -94,27 +119,29 @@ impl<H: ResetHook> Session<H> {
             return;
         }
         if level.implicit {
-            self.store.roll_back(shared.space, shared.shelf, out);
+            self.store
+                .roll_back(shared.space, shared.shelf, shared.commons, out);
             return;
         }
-        self.store.abort(out);
+        self.store.abort(shared.commons, out);
     }
 
     /// The deepest level, which is being started, is rolled back, and the one above it, where there is one, aborts.
-    fn give_up_start<E: Emit>(&mut self, shared: &mut Shared<'_, H>, out: &mut E)
+    fn give_up_start<K: ExtKind, E: Emit>(&mut self, shared: &mut Shared<'_, H, K>, out: &mut E)
         requires between { IsBetweenSteps (now self.old shared.old) }
         requires level { IsStarting (levels_of self.old.levels) }
         ensures did { Ends (given_up (levels_of self.old.levels)) (now self.old shared.old) (now self.new shared.new) (λ events. E.emits out.old events out.new) }
     {
-        self.store.roll_back(shared.space, shared.shelf, out);
+        self.store
+            .roll_back(shared.space, shared.shelf, shared.commons, out);
         if self.store.depth() == 0 {
             return;
         }
-        self.store.abort(out);
+        self.store.abort(shared.commons, out);
     }
 
     /// The session ends: its transaction is rolled back, and all contexts go. Its account of the space holds nothing then.
-    pub fn exit<E: Emit>(&mut self, shared: &mut Shared<'_, H>, out: &mut E)
+    pub fn exit<K: ExtKind, E: Emit>(&mut self, shared: &mut Shared<'_, H, K>, out: &mut E)
         requires between { IsBetweenSteps (now self.old shared.old) }
         ensures did { Ends exited (now self.old shared.old) (now self.new shared.new) (λ events. E.emits out.old events out.new) }
         ensures held { held shared.new.space.now self.old.tree.account ≡ 0 }

@@ -1,14 +1,19 @@
 //! The refusals of calls as errors of commands.
-ghost use Rattle.std.specs.Prelude.{◌≡◌, ◌≢◌};
+ghost use Rattle.std.specs.Prelude.{◌≡◌, ◌≢◌, ℕ};
 ghost use Rattle.pgs_step.specs.declared.errors.Error.TheVariants as error;
 ghost use Rattle.file_table.specs.declared.files.FileError.TheVariants as file;
+ghost use Rattle.pgs_step.specs.declared.lock_modes.Mode.{Mode};
+ghost use Rattle.lock_local.specs.declared.errors.LockError.TheVariants as lock;
 ghost use Rattle.context_rules.specs.declared.errors.TreeError.TheVariants as tree;
+ghost use Rattle.owner_kinds.specs.declared.ext_kind.KindError.TheVariants as kind;
 ghost use Rattle.session_rules.specs.Checks.{space_error, tree_error};
 ghost use Rattle.session_store.specs.declared.hooks.RegisterError.TheVariants as register;
 
 use chunk_header::CtxError;
 use context_rules::TreeError;
 use file_table::FileError;
+use lock_local::LockError;
+use owner_kinds::KindError;
 use pgs_step::Error;
 use session_store::RegisterError;
 
@@ -71,5 +76,28 @@ pub(crate) fn open_error(refusal: FileError, call: u64) -> Error
     match refusal {
         FileError::TooMany => Error::LimitReached,
         _ => Error::NoMemory(call),
+    }
+}
+
+/// The error of an item of an extension kind that wasn't taken, at that fallible call.
+pub(crate) fn kind_error(refusal: KindError, call: u64) -> Error
+    ensures full { refusal ≡ kind.Full → result ≡ error.KindLimit }
+    ensures memory { refusal ≡ kind.Memory → result ≡ error.NoMemory call }
+{
+    match refusal {
+        KindError::Full => Error::KindLimit,
+        KindError::Memory => Error::NoMemory(call),
+    }
+}
+
+/// The error of a lock that wasn't taken, at that fallible call.
+pub(crate) fn lock_error(refusal: LockError, call: u64) -> Error
+    ensures conflict { (session : ℕ) (mode : Mode) → refusal ≡ lock.Conflict session mode → result ≡ error.LockHeld session mode }
+    ensures memory { refusal ≡ lock.Memory → result ≡ error.NoMemory call }
+{
+    match refusal {
+        LockError::Conflict { session, mode } => Error::LockHeld { session, mode },
+        LockError::NotHeld => Error::NotHeld,
+        LockError::Memory => Error::NoMemory(call),
     }
 }

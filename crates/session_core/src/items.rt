@@ -1,7 +1,6 @@
 //! The commands by which the owner of the deepest level takes an item or gives one back.
 ghost use Rattle.std.specs.Prelude.{◌≡◌, ◌<◌, ◌≤◌, ◌^◌, [], ◌∷◌, false, OnOk};
 ghost use Rattle.pgs_command.specs.declared.commands.Command.TheVariants as command;
-ghost use Rattle.pgs_command.specs.Kinds.{class_kind};
 ghost use Rattle.addr_space.specs.Space.{Space};
 ghost use Rattle.reset_callbacks.specs.ShelfState.{ShelfState};
 ghost use Rattle.session_owners.specs.ResourceState.{IsLive, has_begun, owners_of, spare_of};
@@ -9,8 +8,9 @@ ghost use Rattle.session_rules.specs.Elements as e;
 ghost use Rattle.session_rules.specs.Elements.{OfLevel};
 ghost use Rattle.session_rules.specs.State as rules;
 ghost use Rattle.session_rules.specs.State.{SessionState, buffer_pin, file_kind};
-ghost use Rattle.session_rules.specs.Works.{work_of};
-ghost use Rattle.session_owners.specs.Counted.{holds_file};
+ghost use Rattle.session_rules.specs.Works.{takes, work_of};
+ghost use Rattle.session_owners.specs.Counted.{IsReference, holds_file};
+ghost use Rattle.session_owners.specs.Commons.{CommonState};
 ghost use Rattle.session_store.specs.State.{levels_of, session_of};
 ghost use Rattle.session_store.specs.Calls.{Keeps, StandsIn};
 ghost use Rattle.session_store.specs.Owned.{OwnersAlone};
@@ -21,6 +21,7 @@ ghost use Rattle.session_core.specs.Performed.{now, HasRoom, IsBetweenSteps, Per
 use crate::errors::open_error;
 use crate::session::Session;
 use crate::shared::Shared;
+use owner_kinds::ExtKind;
 use pgs_command::ReferenceClass;
 use pgs_step::{Emit, Error, KindId, OwnerId};
 use reset_callbacks::ResetHook;
@@ -30,10 +31,10 @@ const BUFFERS: u32 = 1024;
 
 impl<H: ResetHook> Session<H> {
     /// `pin`: the owner of the deepest level pins a buffer.
-    pub(crate) fn pin<E: Emit>(
+    pub(crate) fn pin<K: ExtKind, E: Emit>(
         &mut self,
         buffer: u32,
-        shared: &mut Shared<'_, H>,
+        shared: &mut Shared<'_, H, K>,
         out: &mut E,
     ) -> Result<(), Error>
         requires between { IsBetweenSteps (now self.old shared.old) }
@@ -55,10 +56,10 @@ impl<H: ResetHook> Session<H> {
     }
 
     /// `unpin`: the owner of the deepest level gives back its newest pin of a buffer.
-    pub(crate) fn unpin<E: Emit>(
+    pub(crate) fn unpin<K: ExtKind, E: Emit>(
         &mut self,
         buffer: u32,
-        shared: &mut Shared<'_, H>,
+        shared: &mut Shared<'_, H, K>,
         out: &mut E,
     ) -> Result<(), Error>
         requires between { IsBetweenSteps (now self.old shared.old) }
@@ -69,11 +70,11 @@ impl<H: ResetHook> Session<H> {
     }
 
     /// `ref`: the owner of the deepest level takes a reference to a cache's entry.
-    pub(crate) fn reference<E: Emit>(
+    pub(crate) fn reference<K: ExtKind, E: Emit>(
         &mut self,
         class: ReferenceClass,
         key: u32,
-        shared: &mut Shared<'_, H>,
+        shared: &mut Shared<'_, H, K>,
         out: &mut E,
     ) -> Result<(), Error>
         requires between { IsBetweenSteps (now self.old shared.old) }
@@ -81,22 +82,15 @@ impl<H: ResetHook> Session<H> {
         requires active { InActiveLevel (levels_of self.old.levels) }
         ensures performed { (session : SessionState) → Performed 2 (work_of (command.Reference class key) session) (now self.old shared.old) (now self.new shared.new) (λ events. E.emits out.old events out.new) (refusal_of result) }
     {
-        let owner = self.owner_of_level();
-        if let Err(error) = self.enlarge(owner, shared) {
-            return Err(error);
-        }
-        if let Err(error) = self.take_reference(owner, class, key, shared, out) {
-            return Err(error);
-        }
-        Ok(())
+        self.refer(class.kind(), key, shared, out)
     }
 
     /// `unref`: the owner of the deepest level gives back its newest reference to a cache's entry.
-    pub(crate) fn unreference<E: Emit>(
+    pub(crate) fn unreference<K: ExtKind, E: Emit>(
         &mut self,
         class: ReferenceClass,
         key: u32,
-        shared: &mut Shared<'_, H>,
+        shared: &mut Shared<'_, H, K>,
         out: &mut E,
     ) -> Result<(), Error>
         requires between { IsBetweenSteps (now self.old shared.old) }
@@ -106,11 +100,40 @@ impl<H: ResetHook> Session<H> {
         self.give_back(class.kind(), key, shared, out)
     }
 
+    /// `snapshot`: the owner of the deepest level takes a reference to a snapshot: `RegisterSnapshot`.
+    pub(crate) fn snapshot<K: ExtKind, E: Emit>(
+        &mut self,
+        snapshot: u32,
+        shared: &mut Shared<'_, H, K>,
+        out: &mut E,
+    ) -> Result<(), Error>
+        requires between { IsBetweenSteps (now self.old shared.old) }
+        requires room { HasRoom 2 (now self.old shared.old) }
+        requires active { InActiveLevel (levels_of self.old.levels) }
+        ensures performed { (session : SessionState) → Performed 2 (work_of (command.Snapshot snapshot) session) (now self.old shared.old) (now self.new shared.new) (λ events. E.emits out.old events out.new) (refusal_of result) }
+    {
+        self.refer(KindId::SNAPSHOT_REFERENCE, snapshot, shared, out)
+    }
+
+    /// `unsnapshot`: the owner of the deepest level gives back its newest reference to a snapshot: `UnregisterSnapshot`.
+    pub(crate) fn unsnapshot<K: ExtKind, E: Emit>(
+        &mut self,
+        snapshot: u32,
+        shared: &mut Shared<'_, H, K>,
+        out: &mut E,
+    ) -> Result<(), Error>
+        requires between { IsBetweenSteps (now self.old shared.old) }
+        requires active { InActiveLevel (levels_of self.old.levels) }
+        ensures performed { (session : SessionState) → Performed 0 (work_of (command.Unsnapshot snapshot) session) (now self.old shared.old) (now self.new shared.new) (λ events. E.emits out.old events out.new) (refusal_of result) }
+    {
+        self.give_back(KindId::SNAPSHOT_REFERENCE, snapshot, shared, out)
+    }
+
     /// `open`: the owner of the deepest level takes a file, which gets a descriptor.
-    pub(crate) fn open_file<E: Emit>(
+    pub(crate) fn open_file<K: ExtKind, E: Emit>(
         &mut self,
         file: u32,
-        shared: &mut Shared<'_, H>,
+        shared: &mut Shared<'_, H, K>,
         out: &mut E,
     ) -> Result<(), Error>
         requires between { IsBetweenSteps (now self.old shared.old) }
@@ -132,10 +155,10 @@ impl<H: ResetHook> Session<H> {
     }
 
     /// `touch`: a file that the session has open is used, and gets a descriptor where it has none.
-    pub(crate) fn touch<E: Emit>(
+    pub(crate) fn touch<K: ExtKind, E: Emit>(
         &mut self,
         file: u32,
-        shared: &mut Shared<'_, H>,
+        shared: &mut Shared<'_, H, K>,
         out: &mut E,
     ) -> Result<(), Error>
         requires between { IsBetweenSteps (now self.old shared.old) }
@@ -155,10 +178,10 @@ impl<H: ResetHook> Session<H> {
     }
 
     /// `close`: the owner of the deepest level gives back a file, whose descriptor is closed.
-    pub(crate) fn close_file<E: Emit>(
+    pub(crate) fn close_file<K: ExtKind, E: Emit>(
         &mut self,
         file: u32,
-        shared: &mut Shared<'_, H>,
+        shared: &mut Shared<'_, H, K>,
         out: &mut E,
     ) -> Result<(), Error>
         requires between { IsBetweenSteps (now self.old shared.old) }
@@ -169,10 +192,10 @@ impl<H: ResetHook> Session<H> {
     }
 
     /// The owner of the deepest level, which is active.
-    fn owner_of_level(&self) -> OwnerId
+    pub(crate) fn owner_of_level(&self) -> OwnerId
         requires active { InActiveLevel (levels_of self.now.levels) }
         ensures owner { IsLevelOwner self.now result }
-        ensures live { (s : Space) (x : ShelfState) → StandsIn self.now s x → IsLive self.now.owners result }
+        ensures live { (s : Space) (x : ShelfState) (c : CommonState) → StandsIn self.now s x c → IsLive self.now.owners result }
     {
         match self.store.level_owner() {
             Some(owner) => owner,
@@ -181,7 +204,11 @@ impl<H: ResetHook> Session<H> {
     }
 
     /// Makes room for one more item of the deepest level's owner, whose release has not begun.
-    fn enlarge(&mut self, owner: OwnerId, shared: &mut Shared<'_, H>) -> Result<(), Error>
+    pub(crate) fn enlarge<K: ExtKind>(
+        &mut self,
+        owner: OwnerId,
+        shared: &mut Shared<'_, H, K>,
+    ) -> Result<(), Error>
         requires between { IsBetweenSteps (now self.old shared.old) }
         requires room { HasRoom 1 (now self.old shared.old) }
         requires live { IsLive self.old.owners owner }
@@ -189,7 +216,8 @@ impl<H: ResetHook> Session<H> {
         ensures performed { Performed 1 (e.Enlarge OfLevel ∷ []) (now self.old shared.old) (now self.new shared.new) (λ events. events ≡ []) (refusal_of result) }
         ensures spare { OnOk result (1 ≤ spare_of owner.number self.new.owners) }
         ensures session { OnOk result ((s : Space) → session_of self.new s ≡ session_of self.old s) }
-        ensures alone { OnOk result (OwnersAlone self.old self.new) }
+        ensures commons { shared.new.commons.now ≡ shared.old.commons.now }
+        ensures alone { OnOk result (OwnersAlone self.old self.new shared.old.commons.now shared.new.commons.now) }
     {
         if let Err(error) = shared.calls.next() {
             return Err(error);
@@ -201,11 +229,11 @@ impl<H: ResetHook> Session<H> {
     }
 
     /// Pins a buffer in room that was made before.
-    fn take_pin<E: Emit>(
+    fn take_pin<K: ExtKind, E: Emit>(
         &mut self,
         owner: OwnerId,
         buffer: u32,
-        shared: &mut Shared<'_, H>,
+        shared: &mut Shared<'_, H, K>,
         out: &mut E,
     ) -> Result<(), Error>
         requires keeps { Keeps self.old shared.old.space.now }
@@ -224,13 +252,37 @@ impl<H: ResetHook> Session<H> {
         Ok(())
     }
 
+    /// The owner of the deepest level takes a reference that nothing but owners keeps count of.
+    fn refer<K: ExtKind, E: Emit>(
+        &mut self,
+        kind: KindId,
+        key: u32,
+        shared: &mut Shared<'_, H, K>,
+        out: &mut E,
+    ) -> Result<(), Error>
+        requires between { IsBetweenSteps (now self.old shared.old) }
+        requires room { HasRoom 2 (now self.old shared.old) }
+        requires active { InActiveLevel (levels_of self.old.levels) }
+        requires kind { IsReference kind }
+        ensures performed { Performed 2 (takes OfLevel kind key) (now self.old shared.old) (now self.new shared.new) (λ events. E.emits out.old events out.new) (refusal_of result) }
+    {
+        let owner = self.owner_of_level();
+        if let Err(error) = self.enlarge(owner, shared) {
+            return Err(error);
+        }
+        if let Err(error) = self.take_reference(owner, kind, key, shared, out) {
+            return Err(error);
+        }
+        Ok(())
+    }
+
     /// Takes a reference in room that was made before.
-    fn take_reference<E: Emit>(
+    fn take_reference<K: ExtKind, E: Emit>(
         &mut self,
         owner: OwnerId,
-        class: ReferenceClass,
+        kind: KindId,
         key: u32,
-        shared: &mut Shared<'_, H>,
+        shared: &mut Shared<'_, H, K>,
         out: &mut E,
     ) -> Result<(), Error>
         requires keeps { Keeps self.old shared.old.space.now }
@@ -239,23 +291,24 @@ impl<H: ResetHook> Session<H> {
         requires live { IsLive self.old.owners owner }
         requires spare { 1 ≤ spare_of owner.number self.old.owners }
         requires not_begun { has_begun owner.number (owners_of self.old.owners) ≡ false }
-        ensures performed { Performed 1 (e.Take OfLevel (class_kind class) key ∷ []) (now self.old shared.old) (now self.new shared.new) (λ events. E.emits out.old events out.new) (refusal_of result) }
+        requires kind { IsReference kind }
+        ensures performed { Performed 1 (e.Take OfLevel kind key ∷ []) (now self.old shared.old) (now self.new shared.new) (λ events. E.emits out.old events out.new) (refusal_of result) }
     {
         if let Err(error) = shared.calls.next() {
             return Err(error);
         }
-        if let Err(_) = self.store.add_reference(owner, class.kind(), key, out) {
+        if let Err(_) = self.store.add_reference(owner, kind, key, out) {
             return Err(Error::NoMemory(shared.calls.count));
         }
         Ok(())
     }
 
     /// Takes a file in room that was made before. `LimitReached` comes where the session has 4,096 files open.
-    fn take_file<E: Emit>(
+    fn take_file<K: ExtKind, E: Emit>(
         &mut self,
         owner: OwnerId,
         file: u32,
-        shared: &mut Shared<'_, H>,
+        shared: &mut Shared<'_, H, K>,
         out: &mut E,
     ) -> Result<(), Error>
         requires keeps { Keeps self.old shared.old.space.now }
@@ -277,11 +330,11 @@ impl<H: ResetHook> Session<H> {
     }
 
     /// Gives back the newest item of a kind and key that the owner of the deepest level has.
-    fn give_back<E: Emit>(
+    pub(crate) fn give_back<K: ExtKind, E: Emit>(
         &mut self,
         kind: KindId,
         key: u32,
-        shared: &mut Shared<'_, H>,
+        shared: &mut Shared<'_, H, K>,
         out: &mut E,
     ) -> Result<(), Error>
         requires between { IsBetweenSteps (now self.old shared.old) }
@@ -289,7 +342,7 @@ impl<H: ResetHook> Session<H> {
         ensures performed { Performed 0 (e.Checks (e.Holds kind key) ∷ e.GiveBack kind key ∷ []) (now self.old shared.old) (now self.new shared.new) (λ events. E.emits out.old events out.new) (refusal_of result) }
     {
         let owner = self.owner_of_level();
-        if let Err(_) = self.store.give_back(owner, kind, key, out) {
+        if let Err(_) = self.store.give_back(owner, kind, key, shared.commons, out) {
             return Err(Error::NotHeld);
         }
         Ok(())

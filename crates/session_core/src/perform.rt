@@ -13,6 +13,7 @@ ghost use Rattle.session_core.specs.Works.{IsWork};
 
 use crate::session::Session;
 use crate::shared::Shared;
+use owner_kinds::ExtKind;
 use pgs_command::Command;
 use pgs_step::{Emit, Error, What};
 use reset_callbacks::ResetHook;
@@ -22,10 +23,10 @@ impl<H: ResetHook> Session<H> {
     ///
     /// The error is that of the first check or fallible call that was refused. `TransactionAborted` comes in an aborted
     /// transaction, of which only the end is taken. After an error the session stands between two steps, and `recover` comes next.
-    pub fn perform<E: Emit>(
+    pub fn perform<K: ExtKind, E: Emit>(
         &mut self,
         command: &Command,
-        shared: &mut Shared<'_, H>,
+        shared: &mut Shared<'_, H, K>,
         out: &mut E,
     ) -> Result<(), Error>
         requires lines { IsBetweenLines (now self.old shared.old) }
@@ -39,10 +40,10 @@ impl<H: ResetHook> Session<H> {
         self.perform_by_state(command, shared, out)
     }
 
-    fn perform_by_state<E: Emit>(
+    fn perform_by_state<K: ExtKind, E: Emit>(
         &mut self,
         command: &Command,
-        shared: &mut Shared<'_, H>,
+        shared: &mut Shared<'_, H, K>,
         out: &mut E,
     ) -> Result<(), Error>
         requires lines { IsBetweenLines (now self.old shared.old) }
@@ -60,10 +61,10 @@ impl<H: ResetHook> Session<H> {
     }
 
     /// Performs a command in a transaction block that isn't aborted.
-    fn perform_in_block<E: Emit>(
+    fn perform_in_block<K: ExtKind, E: Emit>(
         &mut self,
         command: &Command,
-        shared: &mut Shared<'_, H>,
+        shared: &mut Shared<'_, H, K>,
         out: &mut E,
     ) -> Result<(), Error>
         requires between { IsBetweenSteps (now self.old shared.old) }
@@ -96,10 +97,10 @@ impl<H: ResetHook> Session<H> {
     }
 
     /// Performs a command where no transaction is open.
-    fn perform_idle<E: Emit>(
+    fn perform_idle<K: ExtKind, E: Emit>(
         &mut self,
         command: &Command,
-        shared: &mut Shared<'_, H>,
+        shared: &mut Shared<'_, H, K>,
         out: &mut E,
     ) -> Result<(), Error>
         requires between { IsBetweenSteps (now self.old shared.old) }
@@ -129,10 +130,10 @@ impl<H: ResetHook> Session<H> {
     }
 
     /// Performs a command in a level that is begun for it alone.
-    fn perform_alone<E: Emit>(
+    fn perform_alone<K: ExtKind, E: Emit>(
         &mut self,
         command: &Command,
-        shared: &mut Shared<'_, H>,
+        shared: &mut Shared<'_, H, K>,
         out: &mut E,
     ) -> Result<(), Error>
         requires between { IsBetweenSteps (now self.old shared.old) }
@@ -154,7 +155,7 @@ impl<H: ResetHook> Session<H> {
     }
 
     /// The only level commits, and the last word.
-    fn commit_alone<E: Emit>(&mut self, shared: &mut Shared<'_, H>, out: &mut E)
+    fn commit_alone<K: ExtKind, E: Emit>(&mut self, shared: &mut Shared<'_, H, K>, out: &mut E)
         requires between { IsBetweenSteps (now self.old shared.old) }
         requires one { length self.old.levels ≡ 1 }
         ensures performed { Performed 0 (element.CommitTop ∷ element.Says what.Ok ∷ []) (now self.old shared.old) (now self.new shared.new) (λ events. E.emits out.old events out.new) None }
@@ -164,10 +165,10 @@ impl<H: ResetHook> Session<H> {
     }
 
     /// Performs a command that works in a transaction block.
-    fn perform_work<E: Emit>(
+    fn perform_work<K: ExtKind, E: Emit>(
         &mut self,
         command: &Command,
-        shared: &mut Shared<'_, H>,
+        shared: &mut Shared<'_, H, K>,
         out: &mut E,
     ) -> Result<(), Error>
         requires between { IsBetweenSteps (now self.old shared.old) }
@@ -186,10 +187,10 @@ impl<H: ResetHook> Session<H> {
     }
 
     /// Performs a command in an aborted transaction: only its end is taken, and the way back to a savepoint.
-    fn perform_aborted<E: Emit>(
+    fn perform_aborted<K: ExtKind, E: Emit>(
         &mut self,
         command: &Command,
-        shared: &mut Shared<'_, H>,
+        shared: &mut Shared<'_, H, K>,
         out: &mut E,
     ) -> Result<(), Error>
         requires between { IsBetweenSteps (now self.old shared.old) }

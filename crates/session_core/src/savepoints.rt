@@ -11,12 +11,13 @@ ghost use Rattle.session_core.specs.Performed.{now, HasRoom, IsBetweenSteps, Per
 
 use crate::session::Session;
 use crate::shared::Shared;
+use owner_kinds::ExtKind;
 use pgs_step::{Emit, Error, Name, What};
 use reset_callbacks::ResetHook;
 
 impl<H: ResetHook> Session<H> {
     /// The deepest level is rolled back; where it is aborted it is only cleaned up.
-    fn end_level<E: Emit>(&mut self, shared: &mut Shared<'_, H>, out: &mut E)
+    fn end_level<K: ExtKind, E: Emit>(&mut self, shared: &mut Shared<'_, H, K>, out: &mut E)
         requires between { IsBetweenSteps (now self.old shared.old) }
         requires level { 0 < length self.old.levels }
         ensures performed { Performed 0 (rolled_back_to (length self.old.levels) (levels_of self.old.levels)) (now self.old shared.old) (now self.new shared.new) (λ events. E.emits out.old events out.new) None }
@@ -31,10 +32,10 @@ impl<H: ResetHook> Session<H> {
     }
 
     /// The levels from the deepest up to the one of this number are rolled back, where there is that one.
-    pub(crate) fn roll_back_to<E: Emit>(
+    pub(crate) fn roll_back_to<K: ExtKind, E: Emit>(
         &mut self,
         level: u32,
-        shared: &mut Shared<'_, H>,
+        shared: &mut Shared<'_, H, K>,
         out: &mut E,
     )
         requires between { IsBetweenSteps (now self.old shared.old) }
@@ -51,7 +52,12 @@ impl<H: ResetHook> Session<H> {
     }
 
     /// The levels from the deepest up to the one of this number, which isn't 1, commit, where there is that one.
-    fn commit_to<E: Emit>(&mut self, level: u32, shared: &mut Shared<'_, H>, out: &mut E)
+    fn commit_to<K: ExtKind, E: Emit>(
+        &mut self,
+        level: u32,
+        shared: &mut Shared<'_, H, K>,
+        out: &mut E,
+    )
         requires between { IsBetweenSteps (now self.old shared.old) }
         requires level { 1 < level }
         ensures performed { Performed 0 (committed_to level (levels_of self.old.levels)) (now self.old shared.old) (now self.new shared.new) (λ events. E.emits out.old events out.new) None }
@@ -64,7 +70,7 @@ impl<H: ResetHook> Session<H> {
     }
 
     /// All levels commit, and the session is in no transaction then.
-    fn commit_all<E: Emit>(&mut self, shared: &mut Shared<'_, H>, out: &mut E)
+    fn commit_all<K: ExtKind, E: Emit>(&mut self, shared: &mut Shared<'_, H, K>, out: &mut E)
         requires between { IsBetweenSteps (now self.old shared.old) }
         requires level { 0 < length self.old.levels }
         ensures performed { Performed 0 (committed_to 2 (levels_of self.old.levels) ++ (element.CommitTop ∷ [])) (now self.old shared.old) (now self.new shared.new) (λ events. E.emits out.old events out.new) None }
@@ -74,7 +80,11 @@ impl<H: ResetHook> Session<H> {
     }
 
     /// The transaction commits, and the last word.
-    pub(crate) fn commit_block<E: Emit>(&mut self, shared: &mut Shared<'_, H>, out: &mut E)
+    pub(crate) fn commit_block<K: ExtKind, E: Emit>(
+        &mut self,
+        shared: &mut Shared<'_, H, K>,
+        out: &mut E,
+    )
         requires between { IsBetweenSteps (now self.old shared.old) }
         requires level { 0 < length self.old.levels }
         ensures performed { Performed 0 (then_ok (committed_to 2 (levels_of self.old.levels) ++ (element.CommitTop ∷ []))) (now self.old shared.old) (now self.new shared.new) (λ events. E.emits out.old events out.new) None }
@@ -84,7 +94,11 @@ impl<H: ResetHook> Session<H> {
     }
 
     /// The transaction is rolled back, and the last word.
-    pub(crate) fn roll_block_back<E: Emit>(&mut self, shared: &mut Shared<'_, H>, out: &mut E)
+    pub(crate) fn roll_block_back<K: ExtKind, E: Emit>(
+        &mut self,
+        shared: &mut Shared<'_, H, K>,
+        out: &mut E,
+    )
         requires between { IsBetweenSteps (now self.old shared.old) }
         ensures performed { Performed 0 (then_ok (rolled_back_to 1 (levels_of self.old.levels))) (now self.old shared.old) (now self.new shared.new) (λ events. E.emits out.old events out.new) None }
     {
@@ -93,10 +107,10 @@ impl<H: ResetHook> Session<H> {
     }
 
     /// A transaction block or a savepoint begins, and the last word.
-    pub(crate) fn begin<E: Emit>(
+    pub(crate) fn begin<K: ExtKind, E: Emit>(
         &mut self,
         name: Option<Name>,
-        shared: &mut Shared<'_, H>,
+        shared: &mut Shared<'_, H, K>,
         out: &mut E,
     ) -> Result<(), Error>
         requires between { IsBetweenSteps (now self.old shared.old) }
@@ -116,10 +130,10 @@ impl<H: ResetHook> Session<H> {
     /// The savepoint of this name commits, with all below it, and the last word: `ReleaseSavepoint`.
     ///
     /// `NoSuchSavepoint` comes where no level of at least 2 has the name.
-    pub(crate) fn release<E: Emit>(
+    pub(crate) fn release<K: ExtKind, E: Emit>(
         &mut self,
         name: &Name,
-        shared: &mut Shared<'_, H>,
+        shared: &mut Shared<'_, H, K>,
         out: &mut E,
     ) -> Result<(), Error>
         requires between { IsBetweenSteps (now self.old shared.old) }
@@ -137,11 +151,11 @@ impl<H: ResetHook> Session<H> {
 
     /// The levels from the deepest up to the one of this number are rolled back, and a level of this name is begun in place of
     /// the last of them.
-    fn begin_again<E: Emit>(
+    fn begin_again<K: ExtKind, E: Emit>(
         &mut self,
         level: u32,
         name: Name,
-        shared: &mut Shared<'_, H>,
+        shared: &mut Shared<'_, H, K>,
         out: &mut E,
     ) -> Result<(), Error>
         requires between { IsBetweenSteps (now self.old shared.old) }
@@ -158,10 +172,10 @@ impl<H: ResetHook> Session<H> {
     /// The savepoint of this name is rolled back, with all below it, and begun again, and the last word: `RollbackToSavepoint`.
     ///
     /// `NoSuchSavepoint` comes where no level of at least 2 has the name.
-    pub(crate) fn return_to<E: Emit>(
+    pub(crate) fn return_to<K: ExtKind, E: Emit>(
         &mut self,
         name: &Name,
-        shared: &mut Shared<'_, H>,
+        shared: &mut Shared<'_, H, K>,
         out: &mut E,
     ) -> Result<(), Error>
         requires between { IsBetweenSteps (now self.old shared.old) }

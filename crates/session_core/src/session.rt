@@ -9,6 +9,9 @@ ghost use Rattle.context_rules.specs.Chunks.{written};
 ghost use Rattle.context_tree.specs.State.{Moves, SameRegions, no_contexts};
 ghost use Rattle.session_rules.specs.State.{opening};
 ghost use Rattle.session_rules.specs.Parts.{contexts_become};
+ghost use Rattle.owner_kinds.specs.KindShelf.{table_of};
+ghost use Rattle.owner_kinds.specs.KindTable.{IsSound};
+ghost use Rattle.session_owners.specs.Commons.{CommonState};
 ghost use Rattle.session_store.specs.State.{contexts_in, session_of};
 ghost use Rattle.session_store.specs.Calls.{Acted, ContextsAlone, IsSilent, Keeps, StandsIn, StaysBeside};
 ghost use Rattle.session_core.specs.declared.session.StartError.TheVariants as start_error;
@@ -51,14 +54,15 @@ impl<H: ResetHook> Model for Session<H> {
 }
 
 impl<H: ResetHook> Session<H> {
-    /// A session as it opens, in no transaction. The blocks of its contexts count for this account of the space, and this many
-    /// of its files can have a descriptor.
+    /// A session as it opens, in no transaction. The blocks of its contexts count for this account of the space, it holds locks
+    /// under this number, and this many of its files can have a descriptor.
     ///
     /// `NoSpace` comes where less than 65,536 bytes are left of the account; `Memory` may come in its place. A refused call leaves
     /// the space's regions as they were.
     pub fn start(
         alloc: Global,
         account: u8,
+        session: u8,
         descriptors: u8,
         space: &mut Space,
     ) -> Result<Session<H>, StartError>
@@ -66,17 +70,18 @@ impl<H: ResetHook> Session<H> {
         requires descriptors { 0 < descriptors }
         ensures session { IfOk result (λ session. session_of session space.new ≡ opening) }
         ensures account { IfOk result (λ session. session.tree.account ≡ account) }
+        ensures number { IfOk result (λ opened. opened.owners.session ≡ session) }
         ensures descriptors { IfOk result (λ session. session.owners.descriptors ≡ descriptors) }
         ensures levels { IfOk result (λ session. session.levels ≡ []) }
         ensures moves { IfOk result (λ session. Moves (no_contexts account) session.tree space.old space.new) }
         ensures keeps { held space.old account ≡ 0 → IfOk result (λ session. Keeps session space.new) }
-        ensures stands { (x : ShelfState) → AreDistinct (shelf.held x) → IfOk result (λ session. StandsIn session space.new x) }
+        ensures stands { (x : ShelfState) (c : CommonState) → AreDistinct (shelf.held x) → IsSound (table_of c.kinds) → IfOk result (λ session. StandsIn session space.new x c) }
         ensures asked { OnOk result (Asks account 65536 space.old space.new) }
         ensures served { OnOk result (held space.old account + 65536 ≤ space.old.limit) }
         ensures refused { IfErr result (λ e. (e ≡ start_error.Memory) ⊎ (space.old.limit < held space.old account + 65536)) }
         ensures err_space { OnErr result (SameRegions space.old space.new) }
     {
-        match Store::open(alloc, account, descriptors, space) {
+        match Store::open(alloc, account, session, descriptors, space) {
             Ok(store) => Ok(Session { store }),
             Err(TreeError::Memory) => Err(StartError::Memory),
             Err(_) => Err(StartError::NoSpace),
@@ -104,8 +109,8 @@ impl<H: ResetHook> Session<H> {
     pub fn place(&self, chunk: &Name) -> Addr
         requires { (s : Space) × IsSome (found chunk.now (contexts_in self.now s)) }
         ensures known { (s : Space) → Keeps self.now s → IfSome (found chunk.now (contexts_in self.now s)) (λ f. HasBytes s result f.chunk.known) }
-        ensures alone { (s t : Space) (offset : ℕ) (bytes : List ℕ) → Keeps self.now s → IfSome (found chunk.now (contexts_in self.now s)) (λ f. offset + length bytes ≤ length f.chunk.known) → Changes s t result.region (overwritten (region_at s result.region) (result.offset + offset) (map Some bytes)) → ContextsAlone self.now self.now s t }
-        ensures written { (s t : Space) (offset : ℕ) (bytes : List ℕ) → Keeps self.now s → IfSome (found chunk.now (contexts_in self.now s)) (λ f. offset + length bytes ≤ length f.chunk.known) → Changes s t result.region (overwritten (region_at s result.region) (result.offset + offset) (map Some bytes)) → (x : ShelfState) → Acted (contexts_become (written chunk.now offset bytes)) self.now self.now s t x x IsSilent }
+        ensures alone { (s t : Space) (offset : ℕ) (bytes : List ℕ) → Keeps self.now s → IfSome (found chunk.now (contexts_in self.now s)) (λ f. offset + length bytes ≤ length f.chunk.known) → Changes s t result.region (overwritten (region_at s result.region) (result.offset + offset) (map Some bytes)) → (c : CommonState) → ContextsAlone self.now self.now s t c c }
+        ensures written { (s t : Space) (offset : ℕ) (bytes : List ℕ) → Keeps self.now s → IfSome (found chunk.now (contexts_in self.now s)) (λ f. offset + length bytes ≤ length f.chunk.known) → Changes s t result.region (overwritten (region_at s result.region) (result.offset + offset) (map Some bytes)) → (x : ShelfState) (c : CommonState) → Acted (contexts_become (written chunk.now offset bytes)) self.now self.now s t x x c c IsSilent }
     {
         self.store.place(chunk)
     }

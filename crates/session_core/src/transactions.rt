@@ -13,17 +13,18 @@ use crate::errors::call_error;
 use crate::session::Session;
 use crate::shared::Shared;
 use owner_core::OwnerError;
+use owner_kinds::ExtKind;
 use pgs_step::{Emit, Error, Name};
 use reset_callbacks::ResetHook;
 use subxact_stack::LevelError;
 
 impl<H: ResetHook> Session<H> {
     /// Pushes a level, which is then being started.
-    fn make_level<E: Emit>(
+    fn make_level<K: ExtKind, E: Emit>(
         &mut self,
         name: Option<Name>,
         implicit: bool,
-        shared: &mut Shared<'_, H>,
+        shared: &mut Shared<'_, H, K>,
         out: &mut E,
     ) -> Result<(), Error>
         requires between { IsBetweenSteps (now self.old shared.old) }
@@ -43,9 +44,9 @@ impl<H: ResetHook> Session<H> {
     }
 
     /// Makes the context of the level that is being started.
-    fn make_context_of_level<E: Emit>(
+    fn make_context_of_level<K: ExtKind, E: Emit>(
         &mut self,
-        shared: &mut Shared<'_, H>,
+        shared: &mut Shared<'_, H, K>,
         out: &mut E,
     ) -> Result<(), Error>
         requires between { IsBetweenSteps (now self.old shared.old) }
@@ -63,9 +64,9 @@ impl<H: ResetHook> Session<H> {
     }
 
     /// Makes the owner of the level that is being started.
-    fn make_owner_of_level<E: Emit>(
+    fn make_owner_of_level<K: ExtKind, E: Emit>(
         &mut self,
-        shared: &mut Shared<'_, H>,
+        shared: &mut Shared<'_, H, K>,
         out: &mut E,
     ) -> Result<(), Error>
         requires between { IsBetweenSteps (now self.old shared.old) }
@@ -85,11 +86,11 @@ impl<H: ResetHook> Session<H> {
     }
 
     /// Begins a level inside the deepest one: it gets its context and its owner, and its context becomes the current one.
-    pub(crate) fn start_level<E: Emit>(
+    pub(crate) fn start_level<K: ExtKind, E: Emit>(
         &mut self,
         name: Option<Name>,
         implicit: bool,
-        shared: &mut Shared<'_, H>,
+        shared: &mut Shared<'_, H, K>,
         out: &mut E,
     ) -> Result<(), Error>
         requires between { IsBetweenSteps (now self.old shared.old) }

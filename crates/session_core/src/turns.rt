@@ -8,6 +8,7 @@ ghost use Rattle.session_core.specs.Turns.{IsRead, Turned};
 
 use crate::session::Session;
 use crate::shared::Shared;
+use owner_kinds::ExtKind;
 use pgs_command::Command;
 use pgs_step::{Emit, Error};
 use reset_callbacks::ResetHook;
@@ -16,10 +17,10 @@ impl<H: ResetHook> Session<H> {
     /// Performs what a line says, and recovers where that fails; a bad line is nothing but its error.
     ///
     /// Answers whether the error was a want of memory, which ends a script.
-    pub fn take_turn<E: Emit>(
+    pub fn take_turn<K: ExtKind, E: Emit>(
         &mut self,
         command: Option<Command>,
-        shared: &mut Shared<'_, H>,
+        shared: &mut Shared<'_, H, K>,
         out: &mut E,
     ) -> bool
         requires lines { IsBetweenLines (now self.old shared.old) }

@@ -11,6 +11,7 @@ ghost use Rattle.session_core.specs.Works.{IsOnChunks, IsOnContexts, IsWork};
 
 use crate::session::Session;
 use crate::shared::Shared;
+use owner_kinds::ExtKind;
 use pgs_command::Command;
 use pgs_step::{Emit, Error};
 use reset_callbacks::ResetHook;
@@ -20,10 +21,10 @@ impl<H: ResetHook> Session<H> {
     ///
     /// The error is that of the first check or fallible call that is refused, `Raised` where the command is `raise`. The session
     /// stands between two steps then, and `recover` comes next.
-    pub(crate) fn work<E: Emit>(
+    pub(crate) fn work<K: ExtKind, E: Emit>(
         &mut self,
         command: &Command,
-        shared: &mut Shared<'_, H>,
+        shared: &mut Shared<'_, H, K>,
         out: &mut E,
     ) -> Result<(), Error>
         requires between { IsBetweenSteps (now self.old shared.old) }
@@ -38,10 +39,10 @@ impl<H: ResetHook> Session<H> {
         self.work_by_kind(command, shared, out)
     }
 
-    fn work_by_kind<E: Emit>(
+    fn work_by_kind<K: ExtKind, E: Emit>(
         &mut self,
         command: &Command,
-        shared: &mut Shared<'_, H>,
+        shared: &mut Shared<'_, H, K>,
         out: &mut E,
     ) -> Result<(), Error>
         requires between { IsBetweenSteps (now self.old shared.old) }
@@ -57,6 +58,12 @@ impl<H: ResetHook> Session<H> {
             Command::Unpin(buffer) => self.unpin(*buffer, shared, out),
             Command::Reference { class, key } => self.reference(*class, *key, shared, out),
             Command::Unreference { class, key } => self.unreference(*class, *key, shared, out),
+            Command::Acquire { kind, key } => self.acquire(kind, *key, shared, out),
+            Command::Drop { kind, key } => self.give_up(kind, *key, shared, out),
+            Command::Snapshot(snapshot) => self.snapshot(*snapshot, shared, out),
+            Command::Unsnapshot(snapshot) => self.unsnapshot(*snapshot, shared, out),
+            Command::Lock { object, mode } => self.lock(*object, *mode, shared, out),
+            Command::Unlock { object, mode } => self.unlock(*object, *mode, shared, out),
             Command::Open(file) => self.open_file(*file, shared, out),
             Command::Touch(file) => self.touch(*file, shared, out),
             Command::Close(file) => self.close_file(*file, shared, out),
@@ -71,10 +78,10 @@ impl<H: ResetHook> Session<H> {
     }
 
     /// What a command on contexts does.
-    fn work_on_contexts<E: Emit>(
+    fn work_on_contexts<K: ExtKind, E: Emit>(
         &mut self,
         command: &Command,
-        shared: &mut Shared<'_, H>,
+        shared: &mut Shared<'_, H, K>,
         out: &mut E,
     ) -> Result<(), Error>
         requires between { IsBetweenSteps (now self.old shared.old) }
@@ -99,10 +106,10 @@ impl<H: ResetHook> Session<H> {
     }
 
     /// What a command on chunks does.
-    fn work_on_chunks<E: Emit>(
+    fn work_on_chunks<K: ExtKind, E: Emit>(
         &mut self,
         command: &Command,
-        shared: &mut Shared<'_, H>,
+        shared: &mut Shared<'_, H, K>,
         out: &mut E,
     ) -> Result<(), Error>
         requires between { IsBetweenSteps (now self.old shared.old) }

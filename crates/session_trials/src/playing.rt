@@ -1,16 +1,21 @@
 //! Commands in turn, from the start of a session to its exit.
 ghost use Rattle.std.specs.Prelude.{◌≡◌, ◌*◌, ◌≤◌, All, IfOk, length};
 ghost use Rattle.pgs_command.specs.Ranges.{IsInRange};
+ghost use Rattle.owner_kinds.specs.KindShelf.{table_of};
+ghost use Rattle.owner_kinds.specs.KindTable.{IsSound};
 ghost use Rattle.reset_callbacks.specs.Hook.{AreDistinct};
 ghost use Rattle.reset_callbacks.specs.ShelfState.{held};
 ghost use Rattle.session_core.specs.Lines.{IsBetweenLines, IsPerformed};
 ghost use Rattle.session_core.specs.Performed.{now, Grows, HasRoom};
 
 use addr_space::Space;
+use context_node::own_name;
+use owner_kinds::{CountedKind, KindShelf};
 use pgs_command::Command;
-use pgs_step::EventList;
+use pgs_step::{EventList, Phase};
 use reset_callbacks::{CountedHook, Shelf};
 use session_core::{Calls, Session, Shared, StartError};
+use session_owners::Commons;
 use std::alloc::{AllocError, Global};
 
 /// How many bytes the session's contexts may hold.
@@ -32,7 +37,7 @@ pub struct Played {
 
 /// A session that performs these commands and ends, in a run of which this call fails; 0 is none.
 ///
-/// It has two hooks, with the words 1 and 2, and two of its files can have a descriptor. `Memory` comes where memory is refused before the session has started.
+/// It has two hooks, with the words 1 and 2, two kinds of extensions, `conn` and `handle`, and two of its files can have a descriptor. `Memory` comes where memory is refused before the session has started.
 pub fn outcome(alloc: Global, fail: u64, commands: &[Command]) -> Result<Played, StartError>
     requires known { All IsPerformed commands.now }
     requires range { All IsInRange commands.now }
@@ -42,6 +47,13 @@ pub fn outcome(alloc: Global, fail: u64, commands: &[Command]) -> Result<Played,
     let Ok(mut shelf) = two_hooks(alloc) else {
         return Err(StartError::Memory);
     };
+    let Ok(mut kinds) = two_kinds(alloc) else {
+        return Err(StartError::Memory);
+    };
+    let Ok(mut commons) = Commons::new(alloc) else {
+        return Err(StartError::Memory);
+    };
+    commons.swap_kinds(&mut kinds);
     let Ok(mut space) = Space::new(alloc, 1, SPACE) else {
         return Err(StartError::Memory);
     };
@@ -49,10 +61,11 @@ pub fn outcome(alloc: Global, fail: u64, commands: &[Command]) -> Result<Played,
         return Err(StartError::Memory);
     };
     let mut calls = Calls { count: 0, fail };
-    let mut session = Session::start(alloc, 0, DESCRIPTORS, &mut space)?;
+    let mut session = Session::start(alloc, 0, 1, DESCRIPTORS, &mut space)?;
     let mut shared = Shared {
         space: &mut space,
         shelf: &mut shelf,
+        commons: &mut commons,
         calls: &mut calls,
     };
     play(&mut session, commands, &mut shared, &mut out);
@@ -61,6 +74,7 @@ pub fn outcome(alloc: Global, fail: u64, commands: &[Command]) -> Result<Played,
     let Shared {
         space,
         shelf: _,
+        commons: _,
         calls: _,
     } = shared;
     let held = space.held(0);
@@ -77,11 +91,22 @@ fn two_hooks(alloc: Global) -> Result<Shelf<CountedHook>, AllocError>
     Shelf::new(alloc, fresh)
 }
 
+/// A shelf of two kinds: `conn`, whose items are released before the locks and which holds up to 4 keys, and `handle`, whose items are
+/// released behind them and which holds up to 8.
+fn two_kinds(alloc: Global) -> Result<KindShelf<CountedKind>, AllocError>
+    ensures sound { IfOk result (λ shelf. IsSound (table_of shelf)) }
+{
+    let mut kinds = Vec::new(alloc);
+    kinds.push(CountedKind::new(alloc, own_name(b"conn"), Phase::BeforeLocks, 350, 4))?;
+    kinds.push(CountedKind::new(alloc, own_name(b"handle"), Phase::AfterLocks, 250, 8))?;
+    KindShelf::new(alloc, kinds)
+}
+
 /// Performs commands one after the other, a line each.
 fn play(
     session: &mut Session<CountedHook>,
     commands: &[Command],
-    shared: &mut Shared<'_, CountedHook>,
+    shared: &mut Shared<'_, CountedHook, CountedKind>,
     out: &mut EventList,
 )
     requires lines { IsBetweenLines (now session.old shared.old) }

@@ -3,7 +3,7 @@ ghost use Rattle.std.specs.Prelude.{◌≡◌, IfOk};
 
 use crate::outcome;
 use pgs_command::{Command, ContextKind, ReferenceClass};
-use pgs_step::{ChunkBytes, Error, Item, KindId, Name, What};
+use pgs_step::{ChunkBytes, Error, Item, KindId, Mode, Name, What};
 use std::test::Fail;
 
 fn name(word: &[u8]) -> Result<Name, Fail> {
@@ -605,5 +605,182 @@ fn an_abort_closes_files(rt: HostRuntime) -> Result<(), Fail> {
         &played.out.events()[4..events.len() + 4],
         events.as_slice()
     );
+    Ok(())
+}
+
+#[test]
+fn a_kind_gives_its_keys_back(rt: HostRuntime) -> Result<(), Fail> {
+    let conn = name(b"conn")?;
+    let handle = name(b"handle")?;
+    let commands = [
+        Command::Begin,
+        Command::Acquire { kind: conn, key: 5 },
+        Command::Acquire {
+            kind: handle,
+            key: 9,
+        },
+        Command::Drop { kind: conn, key: 5 },
+        Command::Commit,
+    ];
+    let played = outcome(rt.alloc(), 0, commands.as_slice())?;
+    let first = Item {
+        kind: KindId(16),
+        key: 5,
+        serial: 1,
+    };
+    let second = Item {
+        kind: KindId(17),
+        key: 9,
+        serial: 2,
+    };
+    let events = [
+        What::BeginLevel(1),
+        What::Create {
+            context: 6,
+            name: name(b"TopTransactionContext")?,
+            parent: 1,
+        },
+        What::Owner(1),
+        What::Ok,
+        What::Acquire {
+            item: first,
+            owner: 1,
+        },
+        What::Ok,
+        What::Acquire {
+            item: second,
+            owner: 1,
+        },
+        What::Ok,
+        What::Release {
+            item: first,
+            owner: 1,
+        },
+        What::Ok,
+        What::CommitLevel(1),
+        What::NotClosed {
+            item: second,
+            owner: 1,
+        },
+        What::Release {
+            item: second,
+            owner: 1,
+        },
+        What::OwnerGone(1),
+        What::Delete(6),
+        What::Ok,
+        What::Delete(5),
+        What::Delete(4),
+        What::Delete(3),
+        What::Delete(2),
+        What::Delete(1),
+        What::Exit,
+    ];
+    assert_eq!(rt; played.out.events(), events.as_slice());
+    assert_eq!(rt; (played.depth, played.held), (0, 0));
+    Ok(())
+}
+
+#[test]
+fn a_kind_holds_no_more_keys_than_it_may(rt: HostRuntime) -> Result<(), Fail> {
+    let conn = name(b"conn")?;
+    let commands = [
+        Command::Begin,
+        Command::Acquire { kind: conn, key: 1 },
+        Command::Acquire { kind: conn, key: 1 },
+        Command::Acquire { kind: conn, key: 2 },
+        Command::Acquire { kind: conn, key: 3 },
+        Command::Acquire { kind: conn, key: 4 },
+    ];
+    let played = outcome(rt.alloc(), 0, commands.as_slice())?;
+    let refused = What::Error(Error::KindLimit);
+    assert!(rt; played.out.events().contains(&refused));
+    assert_eq!(rt; (played.depth, played.held), (1, 0));
+    Ok(())
+}
+
+#[test]
+fn snapshots_are_items_of_their_owner(rt: HostRuntime) -> Result<(), Fail> {
+    let commands = [
+        Command::Begin,
+        Command::Snapshot(3),
+        Command::Unsnapshot(3),
+        Command::Unsnapshot(3),
+    ];
+    let played = outcome(rt.alloc(), 0, commands.as_slice())?;
+    let refused = What::Error(Error::NotHeld);
+    let snapshot = Item {
+        kind: KindId::SNAPSHOT_REFERENCE,
+        key: 3,
+        serial: 1,
+    };
+    let given = What::Release {
+        item: snapshot,
+        owner: 1,
+    };
+    assert!(rt; played.out.events().contains(&refused));
+    assert!(rt; played.out.events().contains(&given));
+    Ok(())
+}
+
+#[test]
+fn locks_are_released_at_commit(rt: HostRuntime) -> Result<(), Fail> {
+    let object = 5;
+    let mode = Mode::AccessShareLock;
+    let commands = [
+        Command::Begin,
+        Command::Lock { object, mode },
+        Command::Lock { object, mode },
+        Command::Lock { object, mode },
+        Command::Unlock { object, mode },
+        Command::Commit,
+    ];
+    let played = outcome(rt.alloc(), 0, commands.as_slice())?;
+    let taken = What::AcquireLock {
+        object,
+        mode,
+        owner: 1,
+    };
+    let events = [
+        What::BeginLevel(1),
+        What::Create {
+            context: 6,
+            name: name(b"TopTransactionContext")?,
+            parent: 1,
+        },
+        What::Owner(1),
+        What::Ok,
+        taken,
+        What::Ok,
+        taken,
+        What::Ok,
+        taken,
+        What::Ok,
+        What::ReleaseLock {
+            object,
+            mode,
+            count: 1,
+            owner: 1,
+        },
+        What::Ok,
+        What::CommitLevel(1),
+        What::ReleaseLock {
+            object,
+            mode,
+            count: 2,
+            owner: 1,
+        },
+        What::OwnerGone(1),
+        What::Delete(6),
+        What::Ok,
+        What::Delete(5),
+        What::Delete(4),
+        What::Delete(3),
+        What::Delete(2),
+        What::Delete(1),
+        What::Exit,
+    ];
+    assert_eq!(rt; played.out.events(), events.as_slice());
+    assert_eq!(rt; (played.depth, played.held), (0, 0));
     Ok(())
 }

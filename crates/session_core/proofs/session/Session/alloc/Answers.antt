@@ -24,7 +24,7 @@ returns-in-Err g c = record {
 
 pub alloc-requires-clause-stands : goal.alloc-requires-clause-stands
 alloc-requires-clause-stands g c =
-    (c.args.shared.now.shelf.now, stands_of c.self.inside.store c.args.self.now c.self.view_is c.args.shared.now.space.now c.args.shared.now.shelf.now c.requires.between.stands)
+    (c.args.shared.now.shelf.now, (c.args.shared.now.commons.now, stands_of c.self.inside.store c.args.self.now c.self.view_is c.args.shared.now.space.now c.args.shared.now.shelf.now c.args.shared.now.commons.now c.requires.between.stands))
 
 pub returns-in-Err-alloc : goal.returns-in-Err-alloc
 returns-in-Err-alloc g c = record {
@@ -32,7 +32,7 @@ returns-in-Err-alloc g c = record {
       seen c.self.inside.store c.args.self.now c.self.view_is 1 _ c.args.shared.now _ _ _
       (alloc_refuses c.args.chunk c.args.size false _ _
       (keeps_of c.self.inside.store c.args.self.now c.self.view_is c.args.shared.now.space.now c.requires.between.keeps) (g.met.E.Emit.emits_none c.args.out.now)
-      c.is_chunk.result c.is_chunk.ensures c.if-is_chunk.false _ c.next.ensures.counted _ _ c.alloc.result c.in_default.ensures.goes c.alloc.ensures.alone
+      c.is_chunk.result c.is_chunk.ensures c.if-is_chunk.false _ c.next.ensures.counted _ _ c.alloc.result c.in_default.ensures.goes (c.alloc.ensures.alone c.args.shared.now.commons.now)
       c.in-Err-alloc.refusal _ _ c.in-Err-alloc.is c.alloc.ensures.refused (ap (λ (k : Calls). k.count) c.next.ensures.counted) c.call_error.ensures.memory c.call_error.ensures.own
       c.alloc.ensures.cause c.alloc.ensures.err_space);
 }
@@ -43,6 +43,6 @@ returns g c = record {
       seen c.self.inside.store c.args.self.now c.self.view_is 1 _ c.args.shared.now _ _ _
       (alloc_done c.args.chunk c.args.size false _ _
       (keeps_of c.self.inside.store c.args.self.now c.self.view_is c.args.shared.now.space.now c.requires.between.keeps) (g.met.E.Emit.emits_none c.args.out.now)
-      c.is_chunk.result c.is_chunk.ensures c.if-is_chunk.false _ c.next.ensures.counted _ _ c.alloc.result c.in_default.ensures.goes c.alloc.ensures.alone
+      c.is_chunk.result c.is_chunk.ensures c.if-is_chunk.false _ c.next.ensures.counted _ _ c.alloc.result c.in_default.ensures.goes (c.alloc.ensures.alone c.args.shared.now.commons.now)
       _ c.in_default-alloc.is c.alloc.ensures.acted c.alloc.ensures.served c.alloc.ensures.asked);
 }

@@ -7,14 +7,14 @@ use Rattle.session_core.proofs.Seen.{seen, stands_of}
 use Rattle.session_core.proofs.session.Session.clean_up.Goals as goal
 
 pub clean_up-requires-clause-stands : goal.clean_up-requires-clause-stands
-clean_up-requires-clause-stands g c = stands_of c.self.inside.store c.args.self.now c.self.view_is c.args.shared.now.space.now c.args.shared.now.shelf.now c.requires.between.stands
+clean_up-requires-clause-stands g c = (c.args.shared.now.commons.now, stands_of c.self.inside.store c.args.self.now c.self.view_is c.args.shared.now.space.now c.args.shared.now.shelf.now c.args.shared.now.commons.now c.requires.between.stands)
 
 pub returns-clause-performed : goal.returns-clause-performed
 returns-clause-performed g c =
     seen c.self.inside.store c.args.self.now c.self.view_is 0 _ c.args.shared.now _ _ _
-    (cleanup_performed _ _ _ c.clean_up.ensures.keeps c.clean_up.ensures.moves refl c.clean_up.ensures.asked c.clean_up.ensures.acted)
+    (cleanup_performed _ _ _ c.clean_up.ensures.keeps c.clean_up.ensures.moves refl c.clean_up.ensures.asked (c.clean_up.ensures.acted c.args.shared.now.commons.now))
 
 pub returns-clause-between : goal.returns-clause-between
 returns-clause-between g c =
     clean_between (now c.self.inside.store c.args.shared.now) _ _ (between_of c.self.inside.store c.args.self.now c.self.view_is (λ store. now store c.args.shared.now) c.requires.between)
-    c.clean_up.ensures.keeps (subst (λ (v : StoreState). 0 < length v.levels) (sym c.self.view_is) c.requires.level) c.clean_up.ensures.acted
+    c.clean_up.ensures.keeps (subst (λ (v : StoreState). 0 < length v.levels) (sym c.self.view_is) c.requires.level) (c.clean_up.ensures.acted c.args.shared.now.commons.now)

@@ -3,11 +3,11 @@ use Rattle.session_store.specs.State.{StoreState}
 use Rattle.session_core.specs.Performed.{now}
 use Rattle.session_core.proofs.Between.{between_of, commit_between}
 use Rattle.session_core.proofs.OnLevels.{commit_performed}
-use Rattle.session_core.proofs.Seen.{seen, stands_of}
+use Rattle.session_core.proofs.Seen.{seen, serves_of, stands_of}
 use Rattle.session_core.proofs.session.Session.commit_top.Goals as goal
 
 pub commit_top-requires-clause-stands : goal.commit_top-requires-clause-stands
-commit_top-requires-clause-stands g c = stands_of c.self.inside.store c.args.self.now c.self.view_is c.args.shared.now.space.now c.args.shared.now.shelf.now c.requires.between.stands
+commit_top-requires-clause-stands g c = stands_of c.self.inside.store c.args.self.now c.self.view_is c.args.shared.now.space.now c.args.shared.now.shelf.now c.args.shared.now.commons.now c.requires.between.stands
 
 pub returns-clause-performed : goal.returns-clause-performed
 returns-clause-performed g c =
@@ -18,3 +18,6 @@ pub returns-clause-between : goal.returns-clause-between
 returns-clause-between g c =
     commit_between (now c.self.inside.store c.args.shared.now) _ _ (between_of c.self.inside.store c.args.self.now c.self.view_is (λ store. now store c.args.shared.now) c.requires.between)
     c.commit_top.ensures.keeps (subst (λ (v : StoreState). length v.levels ≡ 1) (sym c.self.view_is) c.requires.level) c.commit_top.ensures.acted
+
+pub commit_top-requires-clause-serves : goal.commit_top-requires-clause-serves
+commit_top-requires-clause-serves g c = serves_of c.self.inside.store c.args.self.now c.self.view_is c.args.shared.now.commons.now c.requires.between.serves

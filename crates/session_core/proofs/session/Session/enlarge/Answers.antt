@@ -12,7 +12,7 @@ returns-clause-performed g c =
     let space = c.args.shared.now.space.now in
     let keeps = keeps_of c.self.inside.store c.args.self.now c.self.view_is space c.requires.between.keeps in
     seen c.self.inside.store c.args.self.now c.self.view_is 1 _ c.args.shared.now _ _ _
-    (enlarge_done _ _ _ c.next.ensures.counted refl refl keeps refl c.in_default.ensures.goes c.enlarge.ensures.alone.tree c.enlarge.ensures.descriptors (c.enlarge.ensures.session space) (c.enlarge.ensures.alone.keeps space keeps))
+    (enlarge_done _ _ _ c.next.ensures.counted refl refl keeps refl c.in_default.ensures.goes (c.enlarge.ensures.alone c.args.shared.now.commons.now).tree (c.enlarge.ensures.acted space c.args.shared.now.shelf.now c.args.shared.now.commons.now) ((c.enlarge.ensures.alone c.args.shared.now.commons.now).keeps space keeps))
 
 pub returns-in-Err-enlarge-clause-performed : goal.returns-in-Err-enlarge-clause-performed
 returns-in-Err-enlarge-clause-performed g c =

@@ -4,7 +4,7 @@ use Rattle.session_core.proofs.session.Session.free.Goals as goal
 
 pub free-requires-clause-stands : goal.free-requires-clause-stands
 free-requires-clause-stands g c =
-    (c.args.shared.now.shelf.now, stands_of c.self.inside.store c.args.self.now c.self.view_is c.args.shared.now.space.now c.args.shared.now.shelf.now c.requires.between.stands)
+    (c.args.shared.now.shelf.now, (c.args.shared.now.commons.now, stands_of c.self.inside.store c.args.self.now c.self.view_is c.args.shared.now.space.now c.args.shared.now.shelf.now c.args.shared.now.commons.now c.requires.between.stands))
 
 pub returns : goal.returns
 returns g c = record {
@@ -13,7 +13,7 @@ returns g c = record {
       (answered_ok 0 _ _ _ _ c.free.result _ c.in_default.is
       (free_performed c.args.chunk.now _ _ _ _ c.free.result
       (keeps_of c.self.inside.store c.args.self.now c.self.view_is c.args.shared.now.space.now c.requires.between.keeps) (g.met.E.Emit.emits_none c.args.out.now)
-      c.free.ensures.alone c.free.ensures.refused c.free.ensures.asked c.free.ensures.answer c.free.ensures.acted));
+      (c.free.ensures.alone c.args.shared.now.commons.now) c.free.ensures.refused c.free.ensures.asked c.free.ensures.answer c.free.ensures.acted));
 }
 
 pub returns-in-Err : goal.returns-in-Err
@@ -23,5 +23,5 @@ returns-in-Err g c = record {
       (answered_err 0 _ _ _ _ c.free.result _ _ c.in-Err.is c.tree_error.ensures
       (free_performed c.args.chunk.now _ _ _ _ c.free.result
       (keeps_of c.self.inside.store c.args.self.now c.self.view_is c.args.shared.now.space.now c.requires.between.keeps) (g.met.E.Emit.emits_none c.args.out.now)
-      c.free.ensures.alone c.free.ensures.refused c.free.ensures.asked c.free.ensures.answer c.free.ensures.acted));
+      (c.free.ensures.alone c.args.shared.now.commons.now) c.free.ensures.refused c.free.ensures.asked c.free.ensures.answer c.free.ensures.acted));
 }

@@ -9,11 +9,11 @@ use Rattle.session_core.proofs.Numbers.{aborts, rolls}
 use Rattle.session_core.proofs.OnLevels.{moves_current}
 use Rattle.session_core.proofs.Recovered.{ended, ends_as, ends_both, ends_seen, gives_start, gives_start_alone, starting_some}
 use Rattle.session_core.proofs.Rolling.{one_less}
-use Rattle.session_core.proofs.Seen.{stands_of}
+use Rattle.session_core.proofs.Seen.{serves_of, stands_of}
 use Rattle.session_core.proofs.session.Session.give_up_start.Goals as goal
 
 pub roll_back-requires-clause-stands : goal.roll_back-requires-clause-stands
-roll_back-requires-clause-stands g c = stands_of c.self.inside.store c.args.self.now c.self.view_is c.args.shared.now.space.now c.args.shared.now.shelf.now c.requires.between.stands
+roll_back-requires-clause-stands g c = stands_of c.self.inside.store c.args.self.now c.self.view_is c.args.shared.now.space.now c.args.shared.now.shelf.now c.args.shared.now.commons.now c.requires.between.stands
 
 pub roll_back-requires-clause-level : goal.roll_back-requires-clause-level
 roll_back-requires-clause-level g c = subst (λ (v : StoreState). 0 < length v.levels) (sym c.self.view_is) (starting_some c.args.self.now.levels c.requires.level)
@@ -30,16 +30,24 @@ returns-then-depth-eq0 g c =
 
 pub abort-requires-clause-stands : goal.abort-requires-clause-stands
 abort-requires-clause-stands g c =
-    let left : Now = record { store = c.roll_back.new.self; space = c.roll_back.new.space; shelf = c.roll_back.new.shelf; calls = c.args.shared.now.calls.now } in
+    let left : Now = record { store = c.roll_back.new.self; space = c.roll_back.new.space; shelf = c.roll_back.new.shelf; commons = c.roll_back.new.commons; calls = c.args.shared.now.calls.now } in
     let some : 0 < length c.self.inside.store.levels = subst (λ (v : StoreState). 0 < length v.levels) (sym c.self.view_is) (starting_some c.args.self.now.levels c.requires.level) in
     let between = roll_between (now c.self.inside.store c.args.shared.now) left _
     (between_of c.self.inside.store c.args.self.now c.self.view_is (λ store. now store c.args.shared.now) c.requires.between) c.roll_back.ensures.keeps some c.roll_back.ensures.acted in
     (c.roll_back.new.space, (c.roll_back.new.shelf, between.stands))
 
+pub abort-requires-clause-serves : goal.abort-requires-clause-serves
+abort-requires-clause-serves g c =
+    let left : Now = record { store = c.roll_back.new.self; space = c.roll_back.new.space; shelf = c.roll_back.new.shelf; commons = c.roll_back.new.commons; calls = c.args.shared.now.calls.now } in
+    let some : 0 < length c.self.inside.store.levels = subst (λ (v : StoreState). 0 < length v.levels) (sym c.self.view_is) (starting_some c.args.self.now.levels c.requires.level) in
+    let between = roll_between (now c.self.inside.store c.args.shared.now) left _
+    (between_of c.self.inside.store c.args.self.now c.self.view_is (λ store. now store c.args.shared.now) c.requires.between) c.roll_back.ensures.keeps some c.roll_back.ensures.acted in
+    between.serves
+
 pub returns : goal.returns
 returns g c =
-    let left : Now = record { store = c.roll_back.new.self; space = c.roll_back.new.space; shelf = c.roll_back.new.shelf; calls = c.args.shared.now.calls.now } in
-    let behind : Now = record left { store = c.abort.new.self } in
+    let left : Now = record { store = c.roll_back.new.self; space = c.roll_back.new.space; shelf = c.roll_back.new.shelf; commons = c.roll_back.new.commons; calls = c.args.shared.now.calls.now } in
+    let behind : Now = record left { store = c.abort.new.self; commons = c.abort.new.commons } in
     let keeps = c.abort.ensures.keeps c.roll_back.new.space c.roll_back.ensures.keeps in
     let more : 1 < length (levels_of c.args.self.now.levels) =
     omega (arith, levels_long c.args.self.now.levels, ap (λ (v : StoreState). length v.levels) c.self.view_is, one_less _ _ _ c.roll_back.ensures.levels.1, c.depth.ensures.depth, c.if-depth-eq0.false) in
@@ -51,3 +59,6 @@ returns g c =
           (ended _ left behind _ aborts (c.abort.ensures.acted c.roll_back.new.space c.roll_back.new.shelf) keeps (moves_current _ _ c.roll_back.new.space c.abort.ensures.tree keeps.agrees) refl refl)
           (λ us vs first second. g.met.E.Emit.emits_more _ _ _ _ _ _ first second refl)));
     }
+
+pub roll_back-requires-clause-serves : goal.roll_back-requires-clause-serves
+roll_back-requires-clause-serves g c = serves_of c.self.inside.store c.args.self.now c.self.view_is c.args.shared.now.commons.now c.requires.between.serves

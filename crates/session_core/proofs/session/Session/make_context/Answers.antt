@@ -29,11 +29,11 @@ pub returns-in-Err : goal.returns-in-Err
 returns-in-Err g c = record {
   performed = λ session.
       let keeps = keeps_of c.self.inside.store c.args.self.now c.self.view_is c.args.shared.now.space.now c.requires.between.keeps in
-      seen_still c.self.inside.store c.args.self.now c.self.view_is 1 _ c.args.shared.now _ _ _ _ _
+      seen_still c.self.inside.store c.args.self.now c.self.view_is 1 _ c.args.shared.now _ _ _ _ _ _
       (told_as 1 _ _ _ _ _ _ c.in-Err.ensures.injected.0
       (make_injected c.args.name c.args.parent.now _ _ _ _ keeps (sym (c.is_taken.ensures c.args.shared.now.space.now) ∙ c.if-is_taken.false)
-      c.in-Some.parent.number (sym (c.in-Some.ensures.named c.args.shared.now.space.now)) c.next.ensures.counted (alone_same _ c.args.shared.now.space.now keeps)
-      (nothing_changed _ _ c.args.shared.now.space.now c.args.shared.now.shelf.now refl) (g.met.E.Emit.emits_none c.args.out.now) c.in-Err.ensures.injected.1 refl));
+      c.in-Some.parent.number (sym (c.in-Some.ensures.named c.args.shared.now.space.now)) c.next.ensures.counted (alone_same _ c.args.shared.now.space.now c.args.shared.now.commons.now keeps)
+      (nothing_changed _ _ c.args.shared.now.space.now c.args.shared.now.shelf.now c.args.shared.now.commons.now refl) (g.met.E.Emit.emits_none c.args.out.now) c.in-Err.ensures.injected.1 refl));
 }
 
 pub returns : goal.returns
@@ -42,9 +42,9 @@ returns g c = record {
       let keeps = keeps_of c.self.inside.store c.args.self.now c.self.view_is c.args.shared.now.space.now c.requires.between.keeps in
       seen c.self.inside.store c.args.self.now c.self.view_is 1 _ c.args.shared.now _ _ _
       (make_done c.args.name c.args.parent.now _ _ _ _ keeps (sym (c.is_taken.ensures c.args.shared.now.space.now) ∙ c.if-is_taken.false)
-      c.in-Some.parent.number (sym (c.in-Some.ensures.named c.args.shared.now.space.now)) c.next.ensures.counted c.create.ensures.alone c.in_default-next.ensures.goes
+      c.in-Some.parent.number (sym (c.in-Some.ensures.named c.args.shared.now.space.now)) c.next.ensures.counted (c.create.ensures.alone c.args.shared.now.commons.now) c.in_default-next.ensures.goes
       (rw c.kind_of-kind.ensures at (answer_of c.create.result _ c.in_default-create.is c.create.ensures.served))
-      (rw c.kind_of-kind.ensures at (answer_of c.create.result _ c.in_default-create.is c.create.ensures.acted c.args.shared.now.shelf.now))
+      (rw c.kind_of-kind.ensures at (answer_of c.create.result _ c.in_default-create.is c.create.ensures.acted c.args.shared.now.shelf.now c.args.shared.now.commons.now))
       (rw c.kind_of-kind.ensures at (answer_of c.create.result _ c.in_default-create.is c.create.ensures.asked)));
 }
 
@@ -54,16 +54,16 @@ returns-in-Err-create g c = record {
       let keeps = keeps_of c.self.inside.store c.args.self.now c.self.view_is c.args.shared.now.space.now c.requires.between.keeps in
       seen c.self.inside.store c.args.self.now c.self.view_is 1 _ c.args.shared.now _ _ _
       (make_refused c.args.name c.args.parent.now _ _ _ _ keeps (sym (c.is_taken.ensures c.args.shared.now.space.now) ∙ c.if-is_taken.false)
-      c.in-Some.parent.number (sym (c.in-Some.ensures.named c.args.shared.now.space.now)) c.next.ensures.counted c.create.ensures.alone
-      (err_of c.create.result _ c.in-Err-create.is c.create.ensures.refused c.args.shared.now.shelf.now)
+      c.in-Some.parent.number (sym (c.in-Some.ensures.named c.args.shared.now.space.now)) c.next.ensures.counted (c.create.ensures.alone c.args.shared.now.commons.now)
+      (err_of c.create.result _ c.in-Err-create.is c.create.ensures.refused c.args.shared.now.shelf.now c.args.shared.now.commons.now)
       (subst (λ o. g.E.Emit.emits c.args.out.now [] o) (sym (err_of c.create.result _ c.in-Err-create.is c.create.ensures.silent)) (g.met.E.Emit.emits_none c.args.out.now)) c.in-Err-create.refusal c.call_error.result c.in_default-next.ensures.goes (λ e. c.call_error.ensures.memory e ∙ ap (λ (calls : Calls). error.NoMemory calls.count) c.next.ensures.counted) c.call_error.ensures.own (rw c.kind_of-kind.ensures at c.in-Err-create.ensures.cause) (rw c.kind_of-kind.ensures at c.in-Err-create.ensures.err_asked));
 }
 
 pub create-requires-clause-stands : goal.create-requires-clause-stands
 create-requires-clause-stands g c =
-    (c.args.shared.now.shelf.now, stands_of c.self.inside.store c.args.self.now c.self.view_is c.args.shared.now.space.now c.args.shared.now.shelf.now c.requires.between.stands)
+    (c.args.shared.now.shelf.now, (c.args.shared.now.commons.now, stands_of c.self.inside.store c.args.self.now c.self.view_is c.args.shared.now.space.now c.args.shared.now.shelf.now c.args.shared.now.commons.now c.requires.between.stands))
 
 pub create-requires-clause-live : goal.create-requires-clause-live
 create-requires-clause-live g c =
-    c.in-Some.ensures.live c.args.shared.now.space.now c.args.shared.now.shelf.now
-    (stands_of c.self.inside.store c.args.self.now c.self.view_is c.args.shared.now.space.now c.args.shared.now.shelf.now c.requires.between.stands)
+    c.in-Some.ensures.live c.args.shared.now.space.now c.args.shared.now.shelf.now c.args.shared.now.commons.now
+    (stands_of c.self.inside.store c.args.self.now c.self.view_is c.args.shared.now.space.now c.args.shared.now.shelf.now c.args.shared.now.commons.now c.requires.between.stands)

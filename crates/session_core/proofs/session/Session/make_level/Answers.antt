@@ -37,5 +37,5 @@ returns g c = record {
       (level_pushed c.args.name c.args.implicit _ _ _ c.next.ensures.counted refl refl keeps c.begin_level.result _ c.in_default.ensures.goes c.in-Ok.is c.begin_level.ensures.too_many
       (levels_seen c.self.inside.store c.args.self.now (λ n. n ≤ 1000) c.self.view_is c.requires.most) _ c.in-Ok.ensures.store
       (c.begin_level.ensures.keeps c.args.shared.now.space.now keeps)
-      (c.in-Ok.ensures.acted c.args.shared.now.space.now c.args.shared.now.shelf.now));
+      (c.in-Ok.ensures.acted c.args.shared.now.space.now c.args.shared.now.shelf.now c.args.shared.now.commons.now));
 }

@@ -36,9 +36,9 @@ returns g c = record {
       seen c.self.inside.store c.args.self.now c.self.view_is 1 _ c.args.shared.now _ _ _
       (owner_made_for _ _ _ c.next.ensures.counted refl refl keeps _ c.make_level_owner.result c.in_default.ensures.goes c.in-Ok.is c.make_level_owner.ensures.too_many c.make_level_owner.ensures.tree
       (c.make_level_owner.ensures.keeps c.args.shared.now.space.now keeps)
-      (c.in-Ok.ensures.acted c.args.shared.now.space.now c.args.shared.now.shelf.now));
+      (c.in-Ok.ensures.acted c.args.shared.now.space.now c.args.shared.now.shelf.now c.args.shared.now.commons.now));
 }
 
 pub make_level_owner-requires-clause-stands : goal.make_level_owner-requires-clause-stands
 make_level_owner-requires-clause-stands g c =
-    (c.args.shared.now.space.now, (c.args.shared.now.shelf.now, stands_of c.self.inside.store c.args.self.now c.self.view_is c.args.shared.now.space.now c.args.shared.now.shelf.now c.requires.between.stands))
+    (c.args.shared.now.space.now, (c.args.shared.now.shelf.now, (c.args.shared.now.commons.now, stands_of c.self.inside.store c.args.self.now c.self.view_is c.args.shared.now.space.now c.args.shared.now.shelf.now c.args.shared.now.commons.now c.requires.between.stands)))

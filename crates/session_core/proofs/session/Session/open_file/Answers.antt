@@ -31,7 +31,7 @@ returns-in-Err g c = record {
 
 pub take_file-requires-clause-live : goal.take_file-requires-clause-live
 take_file-requires-clause-live g c =
-    c.in_default.ensures.alone.stays c.owner_of_level-owner.result (c.owner_of_level-owner.ensures.live c.args.shared.now.space.now c.args.shared.now.shelf.now c.requires.between.stands)
+    c.in_default.ensures.alone.stays c.owner_of_level-owner.result (c.owner_of_level-owner.ensures.live c.args.shared.now.space.now c.args.shared.now.shelf.now c.args.shared.now.commons.now c.requires.between.stands)
     (ap (has c.owner_of_level-owner.result.number) (owners_same c.args.self.now c.enlarge.new.self c.args.shared.now.space.now (c.in_default.ensures.session c.args.shared.now.space.now))
     ∙ owner_there (now c.args.self.now c.args.shared.now) c.requires.between c.requires.active c.owner_of_level-owner.result.number (c.owner_of_level-owner.ensures.owner c.args.shared.now.space.now))
 

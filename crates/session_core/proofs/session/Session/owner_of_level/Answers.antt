@@ -9,6 +9,6 @@ pub unreachable-requires : goal.unreachable-requires
 unreachable-requires g c = owner_known c.self.inside.store c.args.self.now c.self.view_is c.requires.active c.in-None.ensures.owner
 
 pub returns-clause-live : goal.returns-clause-live
-returns-clause-live g c s x stands =
+returns-clause-live g c s x commons stands =
     subst (λ (a : StoreState). owners.IsLive a.owners c.in-Some.owner) c.self.view_is
-    (c.in-Some.ensures.live s x (stands_of c.self.inside.store c.args.self.now c.self.view_is s x stands))
+    (c.in-Some.ensures.live s x commons (stands_of c.self.inside.store c.args.self.now c.self.view_is s x commons stands))

@@ -39,6 +39,6 @@ take_pin-requires-clause-not_begun g c =
 
 pub take_pin-requires-clause-live : goal.take_pin-requires-clause-live
 take_pin-requires-clause-live g c =
-    c.in_default.ensures.alone.stays c.owner_of_level-owner.result (c.owner_of_level-owner.ensures.live c.args.shared.now.space.now c.args.shared.now.shelf.now c.requires.between.stands)
+    c.in_default.ensures.alone.stays c.owner_of_level-owner.result (c.owner_of_level-owner.ensures.live c.args.shared.now.space.now c.args.shared.now.shelf.now c.args.shared.now.commons.now c.requires.between.stands)
     (ap (has c.owner_of_level-owner.result.number) (owners_same c.args.self.now c.enlarge.new.self c.args.shared.now.space.now (c.in_default.ensures.session c.args.shared.now.space.now))
     ∙ owner_there (now c.args.self.now c.args.shared.now) c.requires.between c.requires.active c.owner_of_level-owner.result.number (c.owner_of_level-owner.ensures.owner c.args.shared.now.space.now))

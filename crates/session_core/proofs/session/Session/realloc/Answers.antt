@@ -24,7 +24,7 @@ returns-in-Err g c = record {
 
 pub realloc-requires-clause-stands : goal.realloc-requires-clause-stands
 realloc-requires-clause-stands g c =
-    (c.args.shared.now.shelf.now, stands_of c.self.inside.store c.args.self.now c.self.view_is c.args.shared.now.space.now c.args.shared.now.shelf.now c.requires.between.stands)
+    (c.args.shared.now.shelf.now, (c.args.shared.now.commons.now, stands_of c.self.inside.store c.args.self.now c.self.view_is c.args.shared.now.space.now c.args.shared.now.shelf.now c.args.shared.now.commons.now c.requires.between.stands))
 
 pub returns-in-Err-realloc : goal.returns-in-Err-realloc
 returns-in-Err-realloc g c = record {
@@ -32,7 +32,7 @@ returns-in-Err-realloc g c = record {
       seen c.self.inside.store c.args.self.now c.self.view_is 1 _ c.args.shared.now _ _ _
       (realloc_refuses c.args.chunk.now c.args.size _ _
       (keeps_of c.self.inside.store c.args.self.now c.self.view_is c.args.shared.now.space.now c.requires.between.keeps) (g.met.E.Emit.emits_none c.args.out.now)
-      c.is_chunk.result c.is_chunk.ensures c.if-not-is_chunk.false _ c.next.ensures.counted _ _ c.realloc.result c.in_default.ensures.goes c.realloc.ensures.alone
+      c.is_chunk.result c.is_chunk.ensures c.if-not-is_chunk.false _ c.next.ensures.counted _ _ c.realloc.result c.in_default.ensures.goes (c.realloc.ensures.alone c.args.shared.now.commons.now)
       c.in-Err-realloc.refusal _ _ c.in-Err-realloc.is c.realloc.ensures.refused (ap (λ (k : Calls). k.count) c.next.ensures.counted) c.call_error.ensures.memory c.call_error.ensures.own
       c.realloc.ensures.cause c.realloc.ensures.err_space);
 }
@@ -43,6 +43,6 @@ returns g c = record {
       seen c.self.inside.store c.args.self.now c.self.view_is 1 _ c.args.shared.now _ _ _
       (realloc_done c.args.chunk.now c.args.size _ _
       (keeps_of c.self.inside.store c.args.self.now c.self.view_is c.args.shared.now.space.now c.requires.between.keeps) (g.met.E.Emit.emits_none c.args.out.now)
-      c.is_chunk.result c.is_chunk.ensures c.if-not-is_chunk.false _ c.next.ensures.counted _ _ c.realloc.result c.in_default.ensures.goes c.realloc.ensures.alone
+      c.is_chunk.result c.is_chunk.ensures c.if-not-is_chunk.false _ c.next.ensures.counted _ _ c.realloc.result c.in_default.ensures.goes (c.realloc.ensures.alone c.args.shared.now.commons.now)
       _ c.in_default-realloc.is c.realloc.ensures.acted c.realloc.ensures.served c.realloc.ensures.asked);
 }

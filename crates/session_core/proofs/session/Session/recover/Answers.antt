@@ -6,7 +6,7 @@ use Rattle.session_core.proofs.Numbers.{aborts, nothing_keeps, rolls}
 use Rattle.session_core.proofs.OnLevels.{moves_current}
 use Rattle.session_core.proofs.Performing.{moves_nothing}
 use Rattle.session_core.proofs.Recovered.{acted_nothing, ended, ends_same, ends_seen, gives_aborted, gives_implicit, gives_none, gives_open, gives_up, recovery_ends}
-use Rattle.session_core.proofs.Seen.{keeps_of, stands_of}
+use Rattle.session_core.proofs.Seen.{keeps_of, serves_of, stands_of}
 use Rattle.session_core.proofs.session.Session.recover.Goals as goal
 
 pub returns-in_default-clause-did : goal.returns-in_default-clause-did
@@ -15,7 +15,7 @@ returns-in_default-clause-did g c =
     ends_same c.self.inside.store c.args.self.now c.self.view_is _ c.args.shared.now _
     (recovery_ends _ (λ o events p. g.E.Emit.emits o events p) (λ o p q xs ys h k. g.met.E.Emit.emits_more _ _ _ _ _ _ h k refl) c.args.error _ _ _ c.args.out.now c.emit.new.self c.emit.new.self
     (gives_none _ (sym c.in_default.ensures.level)) c.emit.ensures.emitted
-    (ended _ _ _ _ nothing_keeps (acted_nothing _ _ _ _ (g.met.E.Emit.emits_none c.emit.new.self)) keeps (moves_nothing _ _ keeps.agrees) refl refl))
+    (ended _ _ _ _ nothing_keeps (acted_nothing _ _ _ _ _ (g.met.E.Emit.emits_none c.emit.new.self)) keeps (moves_nothing _ _ keeps.agrees) refl refl))
 
 pub returns-in_default-clause-lines : goal.returns-in_default-clause-lines
 returns-in_default-clause-lines g c = recovery_lines c.args.error _ _ _ c.requires.between (returns-in_default-clause-did g c)
@@ -26,7 +26,7 @@ returns-then-level-clause-did g c =
     ends_same c.self.inside.store c.args.self.now c.self.view_is _ c.args.shared.now _
     (recovery_ends _ (λ o events p. g.E.Emit.emits o events p) (λ o p q xs ys h k. g.met.E.Emit.emits_more _ _ _ _ _ _ h k refl) c.args.error _ _ _ c.args.out.now c.emit.new.self c.emit.new.self
     (gives_aborted _ _ (sym c.in-Some.ensures.level) c.if-level.true) c.emit.ensures.emitted
-    (ended _ _ _ _ nothing_keeps (acted_nothing _ _ _ _ (g.met.E.Emit.emits_none c.emit.new.self)) keeps (moves_nothing _ _ keeps.agrees) refl refl))
+    (ended _ _ _ _ nothing_keeps (acted_nothing _ _ _ _ _ (g.met.E.Emit.emits_none c.emit.new.self)) keeps (moves_nothing _ _ keeps.agrees) refl refl))
 
 pub returns-then-level-clause-lines : goal.returns-then-level-clause-lines
 returns-then-level-clause-lines g c = recovery_lines c.args.error _ _ _ c.requires.between (returns-then-level-clause-did g c)
@@ -41,7 +41,7 @@ pub returns-then-level-2-clause-lines : goal.returns-then-level-2-clause-lines
 returns-then-level-2-clause-lines g c = recovery_lines c.args.error _ _ _ c.requires.between (returns-then-level-2-clause-did g c)
 
 pub roll_back-requires-clause-stands : goal.roll_back-requires-clause-stands
-roll_back-requires-clause-stands g c = stands_of c.self.inside.store c.args.self.now c.self.view_is c.args.shared.now.space.now c.args.shared.now.shelf.now c.requires.between.stands
+roll_back-requires-clause-stands g c = stands_of c.self.inside.store c.args.self.now c.self.view_is c.args.shared.now.space.now c.args.shared.now.shelf.now c.args.shared.now.commons.now c.requires.between.stands
 
 pub returns-then-level-3-clause-did : goal.returns-then-level-3-clause-did
 returns-then-level-3-clause-did g c =
@@ -55,7 +55,7 @@ returns-then-level-3-clause-lines g c = recovery_lines c.args.error _ _ _ c.requ
 
 pub abort-requires-clause-stands : goal.abort-requires-clause-stands
 abort-requires-clause-stands g c =
-    (c.args.shared.now.space.now, (c.args.shared.now.shelf.now, stands_of c.self.inside.store c.args.self.now c.self.view_is c.args.shared.now.space.now c.args.shared.now.shelf.now c.requires.between.stands))
+    (c.args.shared.now.space.now, (c.args.shared.now.shelf.now, stands_of c.self.inside.store c.args.self.now c.self.view_is c.args.shared.now.space.now c.args.shared.now.shelf.now c.args.shared.now.commons.now c.requires.between.stands))
 
 pub returns-clause-did : goal.returns-clause-did
 returns-clause-did g c =
@@ -67,3 +67,9 @@ returns-clause-did g c =
 
 pub returns-clause-lines : goal.returns-clause-lines
 returns-clause-lines g c = recovery_lines c.args.error _ _ _ c.requires.between (returns-clause-did g c)
+
+pub roll_back-requires-clause-serves : goal.roll_back-requires-clause-serves
+roll_back-requires-clause-serves g c = serves_of c.self.inside.store c.args.self.now c.self.view_is c.args.shared.now.commons.now c.requires.between.serves
+
+pub abort-requires-clause-serves : goal.abort-requires-clause-serves
+abort-requires-clause-serves g c = serves_of c.self.inside.store c.args.self.now c.self.view_is c.args.shared.now.commons.now c.requires.between.serves

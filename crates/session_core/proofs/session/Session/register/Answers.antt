@@ -20,10 +20,10 @@ pub returns-in-Err : goal.returns-in-Err
 returns-in-Err g c = record {
   performed = λ session.
       let keeps = keeps_of c.self.inside.store c.args.self.now c.self.view_is c.args.shared.now.space.now c.requires.between.keeps in
-      seen_still c.self.inside.store c.args.self.now c.self.view_is 1 _ c.args.shared.now _ _ _ _ _
+      seen_still c.self.inside.store c.args.self.now c.self.view_is 1 _ c.args.shared.now _ _ _ _ _ _
       (told_as 1 _ _ _ _ _ _ c.in-Err.ensures.injected.0
-      (register_injected c.args.name.now _ _ c.in-Some.at.number _ (sym (c.in-Some.ensures.named c.args.shared.now.space.now)) keeps (alone_same _ c.args.shared.now.space.now keeps) refl
-      c.next.ensures.counted (nothing_changed _ _ c.args.shared.now.space.now c.args.shared.now.shelf.now refl) (g.met.E.Emit.emits_none c.args.out.now) c.in-Err.ensures.injected.1));
+      (register_injected c.args.name.now _ _ c.in-Some.at.number _ (sym (c.in-Some.ensures.named c.args.shared.now.space.now)) keeps (alone_same _ c.args.shared.now.space.now c.args.shared.now.commons.now keeps) refl
+      c.next.ensures.counted (nothing_changed _ _ c.args.shared.now.space.now c.args.shared.now.shelf.now c.args.shared.now.commons.now refl) (g.met.E.Emit.emits_none c.args.out.now) c.in-Err.ensures.injected.1));
 }
 
 pub returns-in-Err-register : goal.returns-in-Err-register
@@ -31,8 +31,8 @@ returns-in-Err-register g c = record {
   performed = λ session.
       let keeps = keeps_of c.self.inside.store c.args.self.now c.self.view_is c.args.shared.now.space.now c.requires.between.keeps in
       seen c.self.inside.store c.args.self.now c.self.view_is 1 _ c.args.shared.now _ _ _
-      (register_refused c.args.name.now _ _ c.in-Some.at.number _ (sym (c.in-Some.ensures.named c.args.shared.now.space.now)) keeps (c.register.ensures.alone c.args.shared.now.space.now keeps) refl
-      c.next.ensures.counted (both_still _ _ c.args.shared.now.space.now _ _ (err_of c.register.result _ c.in-Err-register.is c.register.ensures.err) (err_of c.register.result _ c.in-Err-register.is c.register.ensures.err_shelf))
+      (register_refused c.args.name.now _ _ c.in-Some.at.number _ (sym (c.in-Some.ensures.named c.args.shared.now.space.now)) keeps (c.register.ensures.alone c.args.shared.now.space.now c.args.shared.now.commons.now keeps) refl
+      c.next.ensures.counted (both_still _ _ c.args.shared.now.space.now _ _ c.args.shared.now.commons.now (err_of c.register.result _ c.in-Err-register.is c.register.ensures.err) (err_of c.register.result _ c.in-Err-register.is c.register.ensures.err_shelf))
       (subst (λ o. g.E.Emit.emits c.args.out.now [] o) (sym (err_of c.register.result _ c.in-Err-register.is c.register.ensures.silent)) (g.met.E.Emit.emits_none c.args.out.now)) c.register.result c.in-Err-register.refusal c.register_error.result c.in_default-next.ensures.goes c.in-Err-register.is c.register.ensures.no_hook
       c.register_error.ensures.none (λ e. c.register_error.ensures.memory e ∙ ap (λ (calls : Calls). error.NoMemory calls.count) c.next.ensures.counted));
 }
@@ -42,15 +42,15 @@ returns g c = record {
   performed = λ session.
       let keeps = keeps_of c.self.inside.store c.args.self.now c.self.view_is c.args.shared.now.space.now c.requires.between.keeps in
       seen c.self.inside.store c.args.self.now c.self.view_is 1 _ c.args.shared.now _ _ _
-      (register_done c.args.name.now _ _ c.in-Some.at.number _ (sym (c.in-Some.ensures.named c.args.shared.now.space.now)) keeps (c.register.ensures.alone c.args.shared.now.space.now keeps) refl
-      c.next.ensures.counted c.register.result _ c.in_default-next.ensures.goes c.in_default-register.is c.register.ensures.no_hook (answer_of c.register.result _ c.in_default-register.is c.register.ensures.acted c.args.shared.now.space.now));
+      (register_done c.args.name.now _ _ c.in-Some.at.number _ (sym (c.in-Some.ensures.named c.args.shared.now.space.now)) keeps (c.register.ensures.alone c.args.shared.now.space.now c.args.shared.now.commons.now keeps) refl
+      c.next.ensures.counted c.register.result _ c.in_default-next.ensures.goes c.in_default-register.is c.register.ensures.no_hook (answer_of c.register.result _ c.in_default-register.is c.register.ensures.acted c.args.shared.now.space.now c.args.shared.now.commons.now));
 }
 
 pub register-requires-clause-stands : goal.register-requires-clause-stands
 register-requires-clause-stands g c =
-    (c.args.shared.now.space.now, stands_of c.self.inside.store c.args.self.now c.self.view_is c.args.shared.now.space.now c.args.shared.now.shelf.now c.requires.between.stands)
+    (c.args.shared.now.space.now, (c.args.shared.now.commons.now, stands_of c.self.inside.store c.args.self.now c.self.view_is c.args.shared.now.space.now c.args.shared.now.shelf.now c.args.shared.now.commons.now c.requires.between.stands))
 
 pub register-requires-clause-live : goal.register-requires-clause-live
 register-requires-clause-live g c =
-    c.in-Some.ensures.live c.args.shared.now.space.now c.args.shared.now.shelf.now
-    (stands_of c.self.inside.store c.args.self.now c.self.view_is c.args.shared.now.space.now c.args.shared.now.shelf.now c.requires.between.stands)
+    c.in-Some.ensures.live c.args.shared.now.space.now c.args.shared.now.shelf.now c.args.shared.now.commons.now
+    (stands_of c.self.inside.store c.args.self.now c.self.view_is c.args.shared.now.space.now c.args.shared.now.shelf.now c.args.shared.now.commons.now c.requires.between.stands)

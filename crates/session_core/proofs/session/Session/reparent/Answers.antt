@@ -26,11 +26,11 @@ returns g c = record {
       let keeps = keeps_of c.self.inside.store c.args.self.now c.self.view_is c.args.shared.now.space.now c.requires.between.keeps in
       seen c.self.inside.store c.args.self.now c.self.view_is 0 _ c.args.shared.now _ _ _
       (answered_ok 0 _ _ _ _ c.reparent.result _ c.in_default-reparent.is
-      (reparent_performed c.args.name.now _ _ c.in-Some.at.number _ (sym (c.in-Some.ensures.named c.args.shared.now.space.now)) keeps (c.reparent.ensures.alone c.args.shared.now.space.now keeps) refl
+      (reparent_performed c.args.name.now _ _ c.in-Some.at.number _ (sym (c.in-Some.ensures.named c.args.shared.now.space.now)) keeps (c.reparent.ensures.alone c.args.shared.now.space.now c.args.shared.now.commons.now keeps) refl
       c.args.parent.now c.in-Some-named.parent.number (sym (c.in-Some-named.ensures.named c.args.shared.now.space.now)) c.reparent.result refl
-      (refused_still c.reparent.result _ _ c.args.shared.now.space.now c.args.shared.now.shelf.now c.reparent.ensures.err)
+      (refused_still c.reparent.result _ _ c.args.shared.now.space.now c.args.shared.now.shelf.now c.args.shared.now.commons.now c.reparent.ensures.err)
       (silent_where g.E.Emit.emits c.reparent.result c.args.out.now c.reparent.new.out (g.met.E.Emit.emits_none c.args.out.now) c.reparent.ensures.silent)
-      (c.reparent.ensures.answer c.args.shared.now.space.now) (here _ c.reparent.result c.args.shared.now.space.now c.args.shared.now.shelf.now c.reparent.ensures.acted)));
+      (c.reparent.ensures.answer c.args.shared.now.space.now) (here _ c.reparent.result c.args.shared.now.space.now c.args.shared.now.shelf.now c.args.shared.now.commons.now c.reparent.ensures.acted)));
 }
 
 pub returns-in-Err : goal.returns-in-Err
@@ -39,23 +39,23 @@ returns-in-Err g c = record {
       let keeps = keeps_of c.self.inside.store c.args.self.now c.self.view_is c.args.shared.now.space.now c.requires.between.keeps in
       seen c.self.inside.store c.args.self.now c.self.view_is 0 _ c.args.shared.now _ _ _
       (answered_err 0 _ _ _ _ c.reparent.result _ _ c.in-Err.is c.tree_error.ensures
-      (reparent_performed c.args.name.now _ _ c.in-Some.at.number _ (sym (c.in-Some.ensures.named c.args.shared.now.space.now)) keeps (c.reparent.ensures.alone c.args.shared.now.space.now keeps) refl
+      (reparent_performed c.args.name.now _ _ c.in-Some.at.number _ (sym (c.in-Some.ensures.named c.args.shared.now.space.now)) keeps (c.reparent.ensures.alone c.args.shared.now.space.now c.args.shared.now.commons.now keeps) refl
       c.args.parent.now c.in-Some-named.parent.number (sym (c.in-Some-named.ensures.named c.args.shared.now.space.now)) c.reparent.result refl
-      (refused_still c.reparent.result _ _ c.args.shared.now.space.now c.args.shared.now.shelf.now c.reparent.ensures.err)
+      (refused_still c.reparent.result _ _ c.args.shared.now.space.now c.args.shared.now.shelf.now c.args.shared.now.commons.now c.reparent.ensures.err)
       (silent_where g.E.Emit.emits c.reparent.result c.args.out.now c.reparent.new.out (g.met.E.Emit.emits_none c.args.out.now) c.reparent.ensures.silent)
-      (c.reparent.ensures.answer c.args.shared.now.space.now) (here _ c.reparent.result c.args.shared.now.space.now c.args.shared.now.shelf.now c.reparent.ensures.acted)));
+      (c.reparent.ensures.answer c.args.shared.now.space.now) (here _ c.reparent.result c.args.shared.now.space.now c.args.shared.now.shelf.now c.args.shared.now.commons.now c.reparent.ensures.acted)));
 }
 
 pub reparent-requires-clause-stands : goal.reparent-requires-clause-stands
 reparent-requires-clause-stands g c =
-    (c.args.shared.now.space.now, (c.args.shared.now.shelf.now, stands_of c.self.inside.store c.args.self.now c.self.view_is c.args.shared.now.space.now c.args.shared.now.shelf.now c.requires.between.stands))
+    (c.args.shared.now.space.now, (c.args.shared.now.shelf.now, (c.args.shared.now.commons.now, stands_of c.self.inside.store c.args.self.now c.self.view_is c.args.shared.now.space.now c.args.shared.now.shelf.now c.args.shared.now.commons.now c.requires.between.stands)))
 
 pub reparent-requires-clause-live : goal.reparent-requires-clause-live
 reparent-requires-clause-live g c =
-    c.in-Some.ensures.live c.args.shared.now.space.now c.args.shared.now.shelf.now
-    (stands_of c.self.inside.store c.args.self.now c.self.view_is c.args.shared.now.space.now c.args.shared.now.shelf.now c.requires.between.stands)
+    c.in-Some.ensures.live c.args.shared.now.space.now c.args.shared.now.shelf.now c.args.shared.now.commons.now
+    (stands_of c.self.inside.store c.args.self.now c.self.view_is c.args.shared.now.space.now c.args.shared.now.shelf.now c.args.shared.now.commons.now c.requires.between.stands)
 
 pub reparent-requires-clause-parent : goal.reparent-requires-clause-parent
 reparent-requires-clause-parent g c =
-    c.in-Some-named.ensures.live c.args.shared.now.space.now c.args.shared.now.shelf.now
-    (stands_of c.self.inside.store c.args.self.now c.self.view_is c.args.shared.now.space.now c.args.shared.now.shelf.now c.requires.between.stands)
+    c.in-Some-named.ensures.live c.args.shared.now.space.now c.args.shared.now.shelf.now c.args.shared.now.commons.now
+    (stands_of c.self.inside.store c.args.self.now c.self.view_is c.args.shared.now.space.now c.args.shared.now.shelf.now c.args.shared.now.commons.now c.requires.between.stands)

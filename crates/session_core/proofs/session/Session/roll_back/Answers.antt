@@ -3,11 +3,11 @@ use Rattle.session_store.specs.State.{StoreState}
 use Rattle.session_core.specs.Performed.{now}
 use Rattle.session_core.proofs.Between.{between_of, roll_between}
 use Rattle.session_core.proofs.OnLevels.{roll_performed}
-use Rattle.session_core.proofs.Seen.{seen, stands_of}
+use Rattle.session_core.proofs.Seen.{seen, serves_of, stands_of}
 use Rattle.session_core.proofs.session.Session.roll_back.Goals as goal
 
 pub roll_back-requires-clause-stands : goal.roll_back-requires-clause-stands
-roll_back-requires-clause-stands g c = stands_of c.self.inside.store c.args.self.now c.self.view_is c.args.shared.now.space.now c.args.shared.now.shelf.now c.requires.between.stands
+roll_back-requires-clause-stands g c = stands_of c.self.inside.store c.args.self.now c.self.view_is c.args.shared.now.space.now c.args.shared.now.shelf.now c.args.shared.now.commons.now c.requires.between.stands
 
 pub returns-clause-performed : goal.returns-clause-performed
 returns-clause-performed g c =
@@ -18,3 +18,6 @@ pub returns-clause-between : goal.returns-clause-between
 returns-clause-between g c =
     roll_between (now c.self.inside.store c.args.shared.now) _ _ (between_of c.self.inside.store c.args.self.now c.self.view_is (λ store. now store c.args.shared.now) c.requires.between)
     c.roll_back.ensures.keeps (subst (λ (v : StoreState). 0 < length v.levels) (sym c.self.view_is) c.requires.level) c.roll_back.ensures.acted
+
+pub roll_back-requires-clause-serves : goal.roll_back-requires-clause-serves
+roll_back-requires-clause-serves g c = serves_of c.self.inside.store c.args.self.now c.self.view_is c.args.shared.now.commons.now c.requires.between.serves

@@ -46,7 +46,7 @@ returns g c =
     let space = c.make_owner_of_level.new.shared.space.now in
     let stood = seen c.self.inside.store c.make_owner_of_level.new.self c.self.view_is 0 _ c.make_owner_of_level.new.shared _ _ _
     (stood_performed _ _ _ refl refl (c.level_stands.ensures.keeps space (keeps_of c.self.inside.store c.make_owner_of_level.new.self c.self.view_is space three.0.keeps)) c.level_stands.ensures.tree
-    (c.level_stands.ensures.acted space c.make_owner_of_level.new.shared.shelf.now)) in
+    (c.level_stands.ensures.acted space c.make_owner_of_level.new.shared.shelf.now c.make_owner_of_level.new.shared.commons.now)) in
     let four = stands_now c.args.name c.args.implicit _ 0 _ _ _ _ three.0 (two.1 refl).0 (three.1 refl).0 (three.1 refl).1 stood in
     record {
       performed =
@@ -93,6 +93,9 @@ level_stands-requires-clause-stands g c =
       c.make_owner_of_level.new.shared.space.now,
       (
         c.make_owner_of_level.new.shared.shelf.now,
-        stands_of c.self.inside.store c.make_owner_of_level.new.self c.self.view_is c.make_owner_of_level.new.shared.space.now c.make_owner_of_level.new.shared.shelf.now three.0.stands,
+        (
+          c.make_owner_of_level.new.shared.commons.now,
+          stands_of c.self.inside.store c.make_owner_of_level.new.self c.self.view_is c.make_owner_of_level.new.shared.space.now c.make_owner_of_level.new.shared.shelf.now c.make_owner_of_level.new.shared.commons.now three.0.stands,
+        ),
       ),
     )

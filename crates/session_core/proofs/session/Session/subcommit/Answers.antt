@@ -3,11 +3,11 @@ use Rattle.session_store.specs.State.{StoreState}
 use Rattle.session_core.specs.Performed.{now}
 use Rattle.session_core.proofs.Between.{between_of, subcommit_between}
 use Rattle.session_core.proofs.OnLevels.{subcommit_performed}
-use Rattle.session_core.proofs.Seen.{seen, stands_of}
+use Rattle.session_core.proofs.Seen.{seen, serves_of, stands_of}
 use Rattle.session_core.proofs.session.Session.subcommit.Goals as goal
 
 pub subcommit-requires-clause-stands : goal.subcommit-requires-clause-stands
-subcommit-requires-clause-stands g c = stands_of c.self.inside.store c.args.self.now c.self.view_is c.args.shared.now.space.now c.args.shared.now.shelf.now c.requires.between.stands
+subcommit-requires-clause-stands g c = stands_of c.self.inside.store c.args.self.now c.self.view_is c.args.shared.now.space.now c.args.shared.now.shelf.now c.args.shared.now.commons.now c.requires.between.stands
 
 pub returns-clause-performed : goal.returns-clause-performed
 returns-clause-performed g c =
@@ -19,3 +19,6 @@ returns-clause-between g c =
     let some : 0 < length c.args.self.now.levels = omega (arith, c.requires.level) in
     subcommit_between (now c.self.inside.store c.args.shared.now) _ _ (between_of c.self.inside.store c.args.self.now c.self.view_is (λ store. now store c.args.shared.now) c.requires.between)
     c.subcommit.ensures.keeps (subst (λ (v : StoreState). 0 < length v.levels) (sym c.self.view_is) some) c.subcommit.ensures.acted
+
+pub subcommit-requires-clause-serves : goal.subcommit-requires-clause-serves
+subcommit-requires-clause-serves g c = serves_of c.self.inside.store c.args.self.now c.self.view_is c.args.shared.now.commons.now c.requires.between.serves

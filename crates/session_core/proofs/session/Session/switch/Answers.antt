@@ -19,14 +19,14 @@ returns g c = record {
       let keeps = keeps_of c.self.inside.store c.args.self.now c.self.view_is c.args.shared.now.space.now c.requires.between.keeps in
       seen c.self.inside.store c.args.self.now c.self.view_is 0 _ c.args.shared.now _ _ _
       (switch_performed c.args.name.now _ _ c.in-Some.at.number _ (sym (c.in-Some.ensures.named c.args.shared.now.space.now)) keeps
-      (c.switch.ensures.alone c.args.shared.now.space.now keeps) refl refl
-      (acted_said _ _ _ _ _ _ _ _ _ (λ events none. subst (λ (es : List What). g.E.Emit.emits c.args.out.now es c.args.out.now) (sym none) (g.met.E.Emit.emits_none c.args.out.now))
-      (c.switch.ensures.acted c.args.shared.now.space.now c.args.shared.now.shelf.now)));
+      (c.switch.ensures.alone c.args.shared.now.space.now c.args.shared.now.commons.now keeps) refl refl
+      (acted_said _ _ _ _ _ _ _ _ _ _ _ (λ events none. subst (λ (es : List What). g.E.Emit.emits c.args.out.now es c.args.out.now) (sym none) (g.met.E.Emit.emits_none c.args.out.now))
+      (c.switch.ensures.acted c.args.shared.now.space.now c.args.shared.now.shelf.now c.args.shared.now.commons.now)));
 }
 
 pub switch-requires : goal.switch-requires
 switch-requires g c = record {
   live =
-      c.in-Some.ensures.live c.args.shared.now.space.now c.args.shared.now.shelf.now
-      (stands_of c.self.inside.store c.args.self.now c.self.view_is c.args.shared.now.space.now c.args.shared.now.shelf.now c.requires.between.stands);
+      c.in-Some.ensures.live c.args.shared.now.space.now c.args.shared.now.shelf.now c.args.shared.now.commons.now
+      (stands_of c.self.inside.store c.args.self.now c.self.view_is c.args.shared.now.space.now c.args.shared.now.shelf.now c.args.shared.now.commons.now c.requires.between.stands);
 }

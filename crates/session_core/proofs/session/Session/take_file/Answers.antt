@@ -32,5 +32,5 @@ returns g c = record {
       (take_file_done c.args.file _ _ _ c.next.ensures.counted refl keeps
       (few_files (now c.self.inside.store c.args.shared.now) c.open_file.result _ c.in_default-open_file.is c.open_file.ensures.too_many) c.in_default.ensures.goes c.args.owner
       (subst (λ (a : StoreState). IsLevelOwner a c.args.owner) (sym c.self.view_is) c.requires.owner)
-      c.in_default-open_file.ensures.alone.tree (c.in_default-open_file.ensures.alone.keeps space keeps) (c.in_default-open_file.ensures.acted space c.args.shared.now.shelf.now));
+      (c.in_default-open_file.ensures.alone c.args.shared.now.commons.now).tree ((c.in_default-open_file.ensures.alone c.args.shared.now.commons.now).keeps space keeps) (c.in_default-open_file.ensures.acted space c.args.shared.now.shelf.now c.args.shared.now.commons.now));
 }

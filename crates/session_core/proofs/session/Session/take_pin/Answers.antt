@@ -19,5 +19,5 @@ returns g c = record {
       seen c.self.inside.store c.args.self.now c.self.view_is 1 _ c.args.shared.now _ _ _
       (take_done _ _ _ c.next.ensures.counted refl c.in_default.ensures.goes c.args.owner c.args.buffer
       (subst (λ (a : StoreState). IsLevelOwner a c.args.owner) (sym c.self.view_is) c.requires.owner)
-      c.pin.ensures.alone.tree keeps (c.pin.ensures.alone.keeps space keeps) (c.pin.ensures.acted space c.args.shared.now.shelf.now));
+      (c.pin.ensures.alone c.args.shared.now.commons.now).tree keeps ((c.pin.ensures.alone c.args.shared.now.commons.now).keeps space keeps) (c.pin.ensures.acted space c.args.shared.now.shelf.now c.args.shared.now.commons.now));
 }

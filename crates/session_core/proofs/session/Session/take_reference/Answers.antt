@@ -1,9 +1,7 @@
 use Rattle.std.proofs.Common.{refl, sym, subst}
-use Rattle.pgs_command.specs.Kinds.{class_kind}
-use Rattle.session_owners.specs.Counted.{IsReference}
 use Rattle.session_store.specs.State.{StoreState}
 use Rattle.session_core.specs.Begun.{IsLevelOwner}
-use Rattle.session_core.proofs.HeldItems.{class_counted, kind_unkept, take_as, take_item_done, take_item_injected, take_item_wants}
+use Rattle.session_core.proofs.HeldItems.{take_item_done, take_item_injected, take_item_wants}
 use Rattle.session_core.proofs.Seen.{keeps_of, seen}
 use Rattle.session_core.proofs.Stepping.{said_nothing}
 use Rattle.session_core.proofs.session.Session.take_reference.Goals as goal
@@ -11,18 +9,15 @@ use Rattle.session_core.proofs.session.Session.take_reference.Goals as goal
 pub returns-in-Err : goal.returns-in-Err
 returns-in-Err g c = record {
   performed =
-      take_item_injected (class_kind c.args.class) c.args.key _ _ _ c.next.ensures.counted refl c.requires.keeps refl (g.met.E.Emit.emits_none c.args.out.now) refl c.in-Err.error c.in-Err.ensures.injected;
+      take_item_injected c.args.kind c.args.key _ _ _ c.next.ensures.counted refl c.requires.keeps refl (g.met.E.Emit.emits_none c.args.out.now) refl c.in-Err.error c.in-Err.ensures.injected;
 }
-
-pub add_reference-requires-clause-class : goal.add_reference-requires-clause-class
-add_reference-requires-clause-class g c = subst IsReference (sym c.kind.ensures) (class_counted c.args.class)
 
 pub returns-in-Err-add_reference : goal.returns-in-Err-add_reference
 returns-in-Err-add_reference g c = record {
   performed =
       let keeps = keeps_of c.self.inside.store c.args.self.now c.self.view_is c.args.shared.now.space.now c.requires.keeps in
       seen c.self.inside.store c.args.self.now c.self.view_is 1 _ c.args.shared.now _ _ _
-      (take_item_wants (class_kind c.args.class) c.args.key _ _ _ c.next.ensures.counted refl keeps refl
+      (take_item_wants c.args.kind c.args.key _ _ _ c.next.ensures.counted refl keeps refl
       (said_nothing g.E.Emit.emits _ _ (g.met.E.Emit.emits_none c.args.out.now) c.in-Err-add_reference.ensures.silent) c.in-Err-add_reference.ensures.refused c.in_default.ensures.goes);
 }
 
@@ -32,8 +27,7 @@ returns g c = record {
       let space = c.args.shared.now.space.now in
       let keeps = keeps_of c.self.inside.store c.args.self.now c.self.view_is space c.requires.keeps in
       seen c.self.inside.store c.args.self.now c.self.view_is 1 _ c.args.shared.now _ _ _
-      (take_as c.kind.result _ c.args.key _ _ _ _ c.kind.ensures
-      (take_item_done c.kind.result c.args.key _ _ _ c.next.ensures.counted refl keeps (kind_unkept c.args.class c.kind.result c.kind.ensures) c.in_default.ensures.goes c.args.owner
+      (take_item_done c.args.kind c.args.key _ _ _ c.next.ensures.counted refl keeps c.requires.kind.unkept c.in_default.ensures.goes c.args.owner
       (subst (λ (a : StoreState). IsLevelOwner a c.args.owner) (sym c.self.view_is) c.requires.owner)
-      c.in_default-add_reference.ensures.alone.tree (c.in_default-add_reference.ensures.alone.keeps space keeps) (c.in_default-add_reference.ensures.acted space c.args.shared.now.shelf.now)));
+      (c.in_default-add_reference.ensures.alone c.args.shared.now.commons.now).tree ((c.in_default-add_reference.ensures.alone c.args.shared.now.commons.now).keeps space keeps) (c.in_default-add_reference.ensures.acted space c.args.shared.now.shelf.now c.args.shared.now.commons.now));
 }

@@ -43,5 +43,5 @@ returns g c = record {
       seen c.self.inside.store c.args.self.now c.self.view_is 1 _ c.args.shared.now _ _ _
       (touched c.args.file (now c.self.inside.store c.args.shared.now) keeps c.is_open.result (c.is_open.ensures.session space) c.if-not-is_open.false _ _ _
       (touch_done c.args.file _ _ _ c.next.ensures.counted refl keeps c.in_default.ensures.goes
-      c.in_default-touch.ensures.alone.tree (c.in_default-touch.ensures.alone.keeps space keeps) (c.in_default-touch.ensures.acted space c.args.shared.now.shelf.now)));
+      (c.in_default-touch.ensures.alone c.args.shared.now.commons.now).tree ((c.in_default-touch.ensures.alone c.args.shared.now.commons.now).keeps space keeps) (c.in_default-touch.ensures.acted space c.args.shared.now.shelf.now c.args.shared.now.commons.now)));
 }

@@ -47,3 +47,39 @@ returns-in-Touch g c = record { performed = λ session. as_command 1 2 _ _ sessi
 
 pub returns-in-Close : goal.returns-in-Close
 returns-in-Close g c = record { performed = λ session. as_command 0 2 _ _ session _ _ _ _ (omega arith) c.in-Close.is (c.close_file.ensures.performed session) }
+
+pub returns-in-Acquire : goal.returns-in-Acquire
+returns-in-Acquire g c = record { performed = λ session. as_command 2 2 _ _ session _ _ _ _ (omega arith) c.in-Acquire.is (c.acquire.ensures.performed session) }
+
+pub returns-in-Drop : goal.returns-in-Drop
+returns-in-Drop g c = record { performed = λ session. as_command 0 2 _ _ session _ _ _ _ (omega arith) c.in-Drop.is (c.give_up.ensures.performed session) }
+
+pub returns-in-Snapshot : goal.returns-in-Snapshot
+returns-in-Snapshot g c = record { performed = λ session. as_command 2 2 _ _ session _ _ _ _ (omega arith) c.in-Snapshot.is (c.snapshot.ensures.performed session) }
+
+pub returns-in-Unsnapshot : goal.returns-in-Unsnapshot
+returns-in-Unsnapshot g c = record { performed = λ session. as_command 0 2 _ _ session _ _ _ _ (omega arith) c.in-Unsnapshot.is (c.unsnapshot.ensures.performed session) }
+
+pub acquire-requires-clause-active : goal.acquire-requires-clause-active
+acquire-requires-clause-active g c = in_active _ c.requires.active
+
+pub give_up-requires-clause-active : goal.give_up-requires-clause-active
+give_up-requires-clause-active g c = in_active _ c.requires.active
+
+pub snapshot-requires-clause-active : goal.snapshot-requires-clause-active
+snapshot-requires-clause-active g c = in_active _ c.requires.active
+
+pub unsnapshot-requires-clause-active : goal.unsnapshot-requires-clause-active
+unsnapshot-requires-clause-active g c = in_active _ c.requires.active
+
+pub returns-in-Lock : goal.returns-in-Lock
+returns-in-Lock g c = record { performed = λ session. as_command 1 2 _ _ session _ _ _ _ (omega arith) c.in-Lock.is (c.lock.ensures.performed session) }
+
+pub returns-in-Unlock : goal.returns-in-Unlock
+returns-in-Unlock g c = record { performed = λ session. as_command 0 2 _ _ session _ _ _ _ (omega arith) c.in-Unlock.is (c.unlock.ensures.performed session) }
+
+pub lock-requires-clause-active : goal.lock-requires-clause-active
+lock-requires-clause-active g c = in_active _ c.requires.active
+
+pub unlock-requires-clause-active : goal.unlock-requires-clause-active
+unlock-requires-clause-active g c = in_active _ c.requires.active

@@ -1,0 +1,36 @@
+-- The owner holds a lock once less, or it doesn't hold it.
+use Rattle.std.proofs.Common.{◌≡◌, refl, sym, ap, ◌∙◌, subst}
+use Rattle.session_owners.specs.Commons.{CommonState}
+use Rattle.session_store.specs.State.{StoreState}
+use Rattle.session_core.specs.Begun.{IsLevelOwner}
+use Rattle.session_core.proofs.OnLocks.{is_missing, lock_not_held, unlocked, was_held}
+use Rattle.session_core.proofs.Seen.{keeps_of, seen, serves_of}
+use Rattle.session_core.proofs.Stepping.{said_nothing}
+use Rattle.session_core.proofs.session.Session.unlock.Goals as goal
+
+pub returns-in-Err : goal.returns-in-Err
+returns-in-Err g c = record {
+  performed = λ session.
+      let owner = c.owner_of_level-owner.result in
+      let keeps = keeps_of c.self.inside.store c.args.self.now c.self.view_is c.args.shared.now.space.now c.requires.between.keeps in
+      seen c.self.inside.store c.args.self.now c.self.view_is 0 _ c.args.shared.now _ _ _
+      (lock_not_held c.args.object c.args.mode _ _ _ owner (subst (λ (a : StoreState). IsLevelOwner a owner) (sym c.self.view_is) c.owner_of_level-owner.ensures.owner) keeps refl refl
+      (is_missing _ c.unlock.result _ c.in-Err.is c.unlock.ensures.not_held c.unlock.ensures.only_not_held)
+      (said_nothing g.E.Emit.emits _ _ (g.met.E.Emit.emits_none c.args.out.now) c.in-Err.ensures.silent) c.in-Err.ensures.refused
+      (ap (λ (m : CommonState). (c.args.shared.now.shelf.now, m)) c.in-Err.ensures.untouched));
+}
+
+pub returns : goal.returns
+returns g c = record {
+  performed = λ session.
+      let space = c.args.shared.now.space.now in
+      let owner = c.owner_of_level-owner.result in
+      let keeps = keeps_of c.self.inside.store c.args.self.now c.self.view_is space c.requires.between.keeps in
+      seen c.self.inside.store c.args.self.now c.self.view_is 0 _ c.args.shared.now _ _ _
+      (unlocked c.args.object c.args.mode _ _ _ owner (subst (λ (a : StoreState). IsLevelOwner a owner) (sym c.self.view_is) c.owner_of_level-owner.ensures.owner) keeps refl refl
+      (was_held _ c.unlock.result _ c.in_default.is c.unlock.ensures.not_held)
+      c.in_default.ensures.alone.tree _ c.unlock.ensures.counts (c.in_default.ensures.alone.keeps space keeps) (c.in_default.ensures.acted space c.args.shared.now.shelf.now));
+}
+
+pub unlock-requires : goal.unlock-requires
+unlock-requires g c = serves_of c.self.inside.store c.args.self.now c.self.view_is c.args.shared.now.commons.now c.requires.between.serves
