@@ -70,8 +70,8 @@ pub CoursesAre-start : (descriptors : ℕ) (first : Run) (emitted : List Event �
 unfolding course_of course_by
 CoursesAre-start descriptors first emitted opens h w f = record {
   world_is =
-      ap (λ (sessions : List SessionState). record { options = options_in descriptors first; sessions = sessions; kinds = []; shelf = first.shelf; calls = 0 }) (sym opens.sessions)
-      ∙ ap (λ (calls : ℕ). record { options = options_in descriptors first; sessions = sessions_in first.stores first.space; kinds = []; shelf = first.shelf; calls = calls }) (sym opens.calls);
+      ap (λ (sessions : List SessionState). record { options = options_in descriptors first; sessions = sessions; kinds = first.commons.kinds; shelf = first.shelf; calls = 0 }) (sym opens.sessions)
+      ∙ ap (λ (calls : ℕ). record { options = options_in descriptors first; sessions = sessions_in first.stores first.space; kinds = first.commons.kinds; shelf = first.shelf; calls = calls }) (sym opens.calls);
   events = h;
   performed_is = refl;
   wanted_is = refl;

@@ -8,13 +8,14 @@ use Rattle.std.specs.Io.KnownBytes.{append_known, IsAtEnd}
 use Rattle.pgs_io.specs.Faults.{HasRisen}
 use Rattle.pgs_io.specs.Lines.{lines_of, ended_lines, onto_first, onto_ended, newline}
 use Rattle.pgs_step.specs.declared.events.Event.{Event}
+use Rattle.owner_kinds.specs.Kind.{Kind}
 use Rattle.reset_callbacks.specs.ShelfState.{ShelfState}
-use Rattle.session_rules.specs.Transcript.{Course, ended, errors_in, transcript_by}
+use Rattle.session_rules.specs.Transcript.{Course, ended, errors_in, text_of_transcript, transcript_by}
 use Rattle.session_rules.specs.World.{World}
 use Rattle.session_core.specs.Answers.{Fits}
 use Rattle.pgs_world.specs.declared.performing.End.{End}
 use Rattle.pgs_world.specs.declared.performing.End.TheVariants as end
-use Rattle.pgs_world.specs.Transcript.{Setting, course_of, shelf_after, transcript, text_of_transcript, EndsAt}
+use Rattle.pgs_world.specs.Transcript.{Setting, course_of, kinds_after, names_of, shelf_after, text_in, transcript, EndsAt}
 use Rattle.pgs_world.specs.World.{HaveDescriptors, Run, world_in}
 use Rattle.pgs_world.specs.Turns.{AllExit}
 use Rattle.pgs_world.specs.Printing.{Gathering, Shows, Moves, GoesOn, FailsWithin}
@@ -23,11 +24,11 @@ use Rattle.pgs_world.specs.Ending.{outcome_of, status_of}
 use Rattle.pgs_world.specs.Loop.{EndIs, AreFront, CourseAt, is_wanted, OnUnwritten}
 use Rattle.pgs_world.proofs.CourseLemmas.{course_of-stopped}
 
--- What a sink and the counts show once these events were printed and handed on.
-pub record Printed (written written' : Option (List ℕ)) (faults faults' errors : ℕ) (failed : Bool) (events : List Event) : Type 0 where
-  pub text : failed ≡ false → written' ≡ append_known written (text_of_transcript events)
+-- What a sink and the counts show once these events were printed with these names and handed on.
+pub record Printed (names : List (List ℕ)) (written written' : Option (List ℕ)) (faults faults' errors : ℕ) (failed : Bool) (events : List Event) : Type 0 where
+  pub text : failed ≡ false → written' ≡ append_known written (text_of_transcript names events)
   pub no_fault : failed ≡ false → faults' ≡ faults
-  pub front : failed ≡ true → (front rest : List ℕ) × (front ++ rest ≡ text_of_transcript events) × (written' ≡ append_known written front)
+  pub front : failed ≡ true → (front rest : List ℕ) × (front ++ rest ≡ text_of_transcript names events) × (written' ≡ append_known written front)
   pub risen : failed ≡ true → HasRisen faults faults'
   pub errors_are : errors ≡ errors_in events
 
@@ -44,9 +45,9 @@ moves_failed true g old new text a b m = absurd (cc)
 -- a printer that had printed nothing, and has handed all on
 pub printed_all : (old new : Gathering) (events : List Event) → Shows old events new → old.gathered ≡ [] → old.failed ≡ false → old.errors ≡ 0
     → (new.failed ≡ false → new.gathered ≡ []) → new.errors < 2 ^ 64 → errors_in events < 2 ^ 64
-    → Printed old.written new.written old.faults new.faults new.errors new.failed events
+    → Printed old.names old.written new.written old.faults new.faults new.errors new.failed events
 printed_all old new events p empty going none emptied small few =
-    let texts : List ℕ = text_of_transcript events in
+    let texts : List ℕ = text_of_transcript old.names events in
     let moves : Moves old.failed new.failed old new texts = p.bytes in
     record {
       text = λ f.
@@ -62,9 +63,10 @@ printed_all old new events p empty going none emptied small few =
     }
 
 -- the same of other names for what is printed
-pub printed_told : {K : Type 0} (written : K → Option (List ℕ)) (faults : K → ℕ) (a a' b b' : K) (errors errors' : ℕ) (failed failed' : Bool) (events : List Event)
-    → a' ≡ a → b ≡ b' → errors ≡ errors' → failed ≡ failed' → Printed (written a') (written b') (faults a') (faults b') errors' failed' events → Printed (written a) (written b) (faults a) (faults b) errors failed events
-printed_told written faults a a' b b' errors errors' failed failed' events e f h k p = rw (← e, f, h, k) p
+pub printed_told : {K : Type 0} (names names' : List (List ℕ)) (written : K → Option (List ℕ)) (faults : K → ℕ) (a a' b b' : K) (errors errors' : ℕ) (failed failed' : Bool) (events : List Event)
+    → names ≡ names' → a' ≡ a → b ≡ b' → errors ≡ errors' → failed ≡ failed' → Printed names' (written a') (written b') (faults a') (faults b') errors' failed' events
+    → Printed names (written a) (written b) (faults a) (faults b) errors failed events
+printed_told names names' written faults a a' b b' errors errors' failed failed' events n e f h k p = rw (n, ← e, f, h, k) p
 
 -- the lines whose newline stands in a text are the first lines of the text, whatever follows it
 pub ended_front : (bytes behind : List ℕ) → (more : List (List ℕ)) × (lines_of (bytes ++ behind) ≡ ended_lines bytes ++ more)
@@ -100,13 +102,14 @@ status_one : (errors m : ℕ) → errors ≡ m → (status_of end.Whole false er
 status_one errors m e = (λ h. grind (arith, nat_tests), λ h. grind (arith, nat_tests))
 
 -- All that is known of a script that was played: how the reading ended, and what was printed.
-pub record Facts (setting : Setting) (e : End) (n calls errors : ℕ) (failed : Bool) (left left' written written' : Option (List ℕ)) (faults faults' : ℕ) (shelf' : ShelfState) : Type 0 where
+pub record Facts (setting : Setting) (e : End) (n calls errors : ℕ) (failed : Bool) (left left' written written' : Option (List ℕ)) (faults faults' : ℕ) (shelf' : ShelfState) (kinds' : List Kind) : Type 0 where
   pub bytes : List ℕ
   pub lines : List (List ℕ)
   pub how : EndIs e bytes lines left left'
   pub count : n ≡ length lines
-  pub printed : (w : Option ℕ) → Fits (is_wanted e) calls w → Printed written written' faults faults' errors failed (transcript setting w lines)
+  pub printed : (w : Option ℕ) → Fits (is_wanted e) calls w → Printed (names_of setting.kinds) written written' faults faults' errors failed (transcript setting w lines)
   pub hooks : (w : Option ℕ) → Fits (is_wanted e) calls w → shelf' ≡ shelf_after setting w lines
+  pub kinds : (w : Option ℕ) → Fits (is_wanted e) calls w → kinds' ≡ kinds_after setting w lines
   pub stopped : is_wanted e ≡ true → EndsAt setting calls lines n
   pub called : is_wanted e ≡ true → 0 < calls
   pub silent : OnUnwritten e (failed ≡ true)
@@ -190,14 +193,18 @@ shelf-stopped : (setting : Setting) (calls : ℕ) (lines more : List (List ℕ))
 unfolding shelf_after
 shelf-stopped setting calls lines more h = ap (λ (c : Course). (ended c).world.shelf) (course_of-stopped setting (Some calls) lines more h)
 
-module _ (setting : Setting) (n calls errors : ℕ) (left left' written written' : Option (List ℕ)) (faults faults' : ℕ) (shelf' : ShelfState) where
-  abbrev At : End → Bool → Type 0
-  At e failed = Facts setting e n calls errors failed left left' written written' faults faults' shelf'
+kinds-stopped : (setting : Setting) (calls : ℕ) (lines more : List (List ℕ)) → (course_of setting (Some calls) lines).wanted ≡ true → kinds_after setting (Some calls) (lines ++ more) ≡ kinds_after setting (Some calls) lines
+unfolding kinds_after
+kinds-stopped setting calls lines more h = ap (λ (c : Course). (ended c).world.kinds) (course_of-stopped setting (Some calls) lines more h)
 
-  whole_of : At end.Whole false → IsWhole setting (outcome_of (record { end = end.Whole; lines = n }) calls false errors) left left' written written' shelf'
+module _ (setting : Setting) (n calls errors : ℕ) (left left' written written' : Option (List ℕ)) (faults faults' : ℕ) (shelf' : ShelfState) (kinds' : List Kind) where
+  abbrev At : End → Bool → Type 0
+  At e failed = Facts setting e n calls errors failed left left' written written' faults faults' shelf' kinds'
+
+  whole_of : At end.Whole false → IsWhole setting (outcome_of (record { end = end.Whole; lines = n }) calls false errors) left left' written written' shelf' kinds'
   whole_of f =
-      let none : Printed written written' faults faults' errors false (transcript setting None f.lines) = f.printed None tt in
-      let told : Printed written written' faults faults' errors false (transcript setting None (lines_of f.bytes)) = subst (λ (z : List (List ℕ)). Printed written written' faults faults' errors false (transcript setting None z)) f.how.3 none in
+      let none : Printed (names_of setting.kinds) written written' faults faults' errors false (transcript setting None f.lines) = f.printed None tt in
+      let told : Printed (names_of setting.kinds) written written' faults faults' errors false (transcript setting None (lines_of f.bytes)) = subst (λ (z : List (List ℕ)). Printed (names_of setting.kinds) written written' faults faults' errors false (transcript setting None z)) f.how.3 none in
       record {
         bytes = f.bytes;
         given = f.how.0;
@@ -207,10 +214,11 @@ module _ (setting : Setting) (n calls errors : ℕ) (left left' written written'
         text = told.text refl;
         errors = told.errors_are;
         hooks = f.hooks None tt ∙ ap (shelf_after setting None) f.how.3;
+        kinds = f.kinds None tt ∙ ap (kinds_after setting None) f.how.3;
         status = status_one errors (errors_in (transcript setting None (lines_of f.bytes))) told.errors_are;
       }
 
-  pub whole : (e : End) (failed : Bool) → At e failed → (status_of e failed errors ≡ 0) ⊎ (status_of e failed errors ≡ 1) → IsWhole setting (outcome_of (record { end = e; lines = n }) calls failed errors) left left' written written' shelf'
+  pub whole : (e : End) (failed : Bool) → At e failed → (status_of e failed errors ≡ 0) ⊎ (status_of e failed errors ≡ 1) → IsWhole setting (outcome_of (record { end = e; lines = n }) calls failed errors) left left' written written' shelf' kinds'
   whole end.Whole false f h = whole_of f
   whole end.Wanted false f h = absurd (no_other 5 (omega arith) h)
   whole end.SourceFault false f h = absurd (no_other 3 (omega arith) h)
@@ -218,35 +226,35 @@ module _ (setting : Setting) (n calls errors : ℕ) (left left' written written'
   whole end.Unwritten false f h = absurd (no_other 4 (omega arith) h)
   whole e true f h = absurd (no_other 4 (omega arith) h)
 
-  pub cut_off : (e : End) (failed : Bool) → At e failed → status_of e failed errors ≡ 3 → IsCutOff setting (outcome_of (record { end = e; lines = n }) calls failed errors) left left' written written' shelf'
+  pub cut_off : (e : End) (failed : Bool) → At e failed → status_of e failed errors ≡ 3 → IsCutOff setting (outcome_of (record { end = e; lines = n }) calls failed errors) left left' written written' shelf' kinds'
   cut_off end.SourceFault false f h =
-      let none : Printed written written' faults faults' errors false (transcript setting None f.lines) = f.printed None tt in
-      let told : Printed written written' faults faults' errors false (transcript setting None (ended_lines f.bytes)) = subst (λ (z : List (List ℕ)). Printed written written' faults faults' errors false (transcript setting None z)) f.how.2 none in
-      record { bytes = f.bytes; given = f.how.0; short = f.how.1; lines = f.count ∙ ap length f.how.2; text = told.text refl; errors = told.errors_are; hooks = f.hooks None tt ∙ ap (shelf_after setting None) f.how.2 }
+      let none : Printed (names_of setting.kinds) written written' faults faults' errors false (transcript setting None f.lines) = f.printed None tt in
+      let told : Printed (names_of setting.kinds) written written' faults faults' errors false (transcript setting None (ended_lines f.bytes)) = subst (λ (z : List (List ℕ)). Printed (names_of setting.kinds) written written' faults faults' errors false (transcript setting None z)) f.how.2 none in
+      record { bytes = f.bytes; given = f.how.0; short = f.how.1; lines = f.count ∙ ap length f.how.2; text = told.text refl; errors = told.errors_are; hooks = f.hooks None tt ∙ ap (shelf_after setting None) f.how.2; kinds = f.kinds None tt ∙ ap (kinds_after setting None) f.how.2 }
   cut_off end.Whole false f h = absurd (not_by_errors errors 3 (omega arith) h)
   cut_off end.Wanted false f h = absurd (omega (arith, h))
   cut_off end.TooLong false f h = absurd (omega (arith, h))
   cut_off end.Unwritten false f h = absurd (omega (arith, h))
   cut_off e true f h = absurd (omega (arith, h))
 
-  pub too_long : (e : End) (failed : Bool) → At e failed → status_of e failed errors ≡ 6 → IsTooLong setting (outcome_of (record { end = e; lines = n }) calls failed errors) left left' written written' shelf'
+  pub too_long : (e : End) (failed : Bool) → At e failed → status_of e failed errors ≡ 6 → IsTooLong setting (outcome_of (record { end = e; lines = n }) calls failed errors) left left' written written' shelf' kinds'
   too_long end.TooLong false f h =
-      let none : Printed written written' faults faults' errors false (transcript setting None f.lines) = f.printed None tt in
-      let told : Printed written written' faults faults' errors false (transcript setting None (ended_lines f.bytes)) = subst (λ (z : List (List ℕ)). Printed written written' faults faults' errors false (transcript setting None z)) f.how.3 none in
-      record { bytes = f.bytes; over = f.how.0; given = f.how.1; full = f.how.2; lines = f.count ∙ ap length f.how.3; text = told.text refl; errors = told.errors_are; hooks = f.hooks None tt ∙ ap (shelf_after setting None) f.how.3 }
+      let none : Printed (names_of setting.kinds) written written' faults faults' errors false (transcript setting None f.lines) = f.printed None tt in
+      let told : Printed (names_of setting.kinds) written written' faults faults' errors false (transcript setting None (ended_lines f.bytes)) = subst (λ (z : List (List ℕ)). Printed (names_of setting.kinds) written written' faults faults' errors false (transcript setting None z)) f.how.3 none in
+      record { bytes = f.bytes; over = f.how.0; given = f.how.1; full = f.how.2; lines = f.count ∙ ap length f.how.3; text = told.text refl; errors = told.errors_are; hooks = f.hooks None tt ∙ ap (shelf_after setting None) f.how.3; kinds = f.kinds None tt ∙ ap (kinds_after setting None) f.how.3 }
   too_long end.Whole false f h = absurd (not_by_errors errors 6 (omega arith) h)
   too_long end.Wanted false f h = absurd (omega (arith, h))
   too_long end.SourceFault false f h = absurd (omega (arith, h))
   too_long end.Unwritten false f h = absurd (omega (arith, h))
   too_long e true f h = absurd (omega (arith, h))
 
-  pub wanted : (e : End) (failed : Bool) → At e failed → status_of e failed errors ≡ 5 → IsWanted setting (outcome_of (record { end = e; lines = n }) calls failed errors) left left' written written' shelf'
+  pub wanted : (e : End) (failed : Bool) → At e failed → status_of e failed errors ≡ 5 → IsWanted setting (outcome_of (record { end = e; lines = n }) calls failed errors) left left' written written' shelf' kinds'
   wanted end.Wanted false f h =
-      let some : Printed written written' faults faults' errors false (transcript setting (Some calls) f.lines) = f.printed (Some calls) refl in
+      let some : Printed (names_of setting.kinds) written written' faults faults' errors false (transcript setting (Some calls) f.lines) = f.printed (Some calls) refl in
       let at : EndsAt setting calls f.lines n = f.stopped refl in
       let same : transcript setting (Some calls) (lines_of f.bytes) ≡ transcript setting (Some calls) f.lines = ap (transcript setting (Some calls)) f.how.front ∙ transcript-stopped setting calls f.lines f.how.more at.wanted in
       let course : course_of setting (Some calls) (lines_of f.bytes) ≡ course_of setting (Some calls) f.lines = ap (course_of setting (Some calls)) f.how.front ∙ course_of-stopped setting (Some calls) f.lines f.how.more at.wanted in
-      let told : Printed written written' faults faults' errors false (transcript setting (Some calls) (lines_of f.bytes)) = subst (λ (z : List Event). Printed written written' faults faults' errors false z) (sym same) some in
+      let told : Printed (names_of setting.kinds) written written' faults faults' errors false (transcript setting (Some calls) (lines_of f.bytes)) = subst (λ (z : List Event). Printed (names_of setting.kinds) written written' faults faults' errors false z) (sym same) some in
       record {
         bytes = f.bytes;
         given = f.how.given;
@@ -256,6 +264,7 @@ module _ (setting : Setting) (n calls errors : ℕ) (left left' written written'
         text = told.text refl;
         errors = told.errors_are;
         hooks = f.hooks (Some calls) refl ∙ sym (ap (shelf_after setting (Some calls)) f.how.front ∙ shelf-stopped setting calls f.lines f.how.more at.wanted);
+        kinds = f.kinds (Some calls) refl ∙ sym (ap (kinds_after setting (Some calls)) f.how.front ∙ kinds-stopped setting calls f.lines f.how.more at.wanted);
       }
   wanted end.Whole false f h = absurd (not_by_errors errors 5 (omega arith) h)
   wanted end.SourceFault false f h = absurd (omega (arith, h))
@@ -301,11 +310,11 @@ module _ (setting : Setting) (n calls errors : ℕ) (left left' written written'
   failed_of end.SourceFault false f h = absurd (omega (arith, h))
   failed_of end.TooLong false f h = absurd (omega (arith, h))
 
-  unwritten_at : (e : End) → At e true → IsUnwritten setting (outcome_of (record { end = e; lines = n }) calls true errors) left left' written written' shelf'
+  unwritten_at : (e : End) → At e true → IsUnwritten setting (outcome_of (record { end = e; lines = n }) calls true errors) left left' written written' shelf' kinds'
   unwritten_at e f =
       let front = front_of e f.bytes f.lines left left' f.how in
       let w : Option ℕ = refused_call (outcome_of (record { end = e; lines = n }) calls true errors).call in
-      let told : Printed written written' faults faults' errors true (transcript setting w f.lines) = f.printed w (fits_of e f) in
+      let told : Printed (names_of setting.kinds) written written' faults faults' errors true (transcript setting w f.lines) = f.printed w (fits_of e f) in
       let same : take n (lines_of front.given) ≡ f.lines = first_lines n f.lines front.more (lines_of front.given) f.count front.front in
       let part = told.front refl in
       record {
@@ -316,14 +325,15 @@ module _ (setting : Setting) (n calls errors : ℕ) (left left' written written'
         read = omega (arith, f.count, ap length front.front, length-append f.lines front.more);
         front = part.0;
         rest = part.1;
-        parts = part.2 ∙ ap (λ (z : List (List ℕ)). text_of_transcript (transcript setting w z)) (sym same);
+        parts = part.2 ∙ ap (λ (z : List (List ℕ)). text_in setting (transcript setting w z)) (sym same);
         taken = part.3;
         defined = λ h. subst (λ (z : List (List ℕ)). EndsAt setting (outcome_of (record { end = e; lines = n }) calls true errors).call z n) (sym same) (stopped_of e f f.lines (f.stopped (is_wanted_of e h)) h);
         errors = told.errors_are ∙ ap (λ (z : List (List ℕ)). errors_in (transcript setting w z)) (sym same);
         hooks = f.hooks w (fits_of e f) ∙ ap (λ (z : List (List ℕ)). shelf_after setting w z) (sym same);
+        kinds = f.kinds w (fits_of e f) ∙ ap (λ (z : List (List ℕ)). kinds_after setting w z) (sym same);
       }
 
-  pub unwritten : (e : End) (failed : Bool) → At e failed → status_of e failed errors ≡ 4 → IsUnwritten setting (outcome_of (record { end = e; lines = n }) calls failed errors) left left' written written' shelf'
+  pub unwritten : (e : End) (failed : Bool) → At e failed → status_of e failed errors ≡ 4 → IsUnwritten setting (outcome_of (record { end = e; lines = n }) calls failed errors) left left' written written' shelf' kinds'
   unwritten e true f h = unwritten_at e f
   unwritten e false f h = absurd (let t : false ≡ true = failed_of e false f h in cc)
 
@@ -349,6 +359,14 @@ unfolding shelf_after
 hooks_of_end descriptors setting w lines a b shown has there ends =
     let left = ends.leads descriptors has (course_of setting w lines) there in
     sym (ap (λ (x : World). x.shelf) left.3)
+
+-- and the kinds
+pub kinds_of_end : (descriptors : ℕ) (setting : Setting) (w : Option ℕ) (lines : List (List ℕ)) (a b : Run) (shown : List Event → Type 0) → HaveDescriptors descriptors a → (course_of setting w lines).world ≡ world_in descriptors a
+    → AllExit a b shown → b.commons.kinds ≡ kinds_after setting w lines
+unfolding kinds_after
+kinds_of_end descriptors setting w lines a b shown has there ends =
+    let left = ends.leads descriptors has (course_of setting w lines) there in
+    sym (ap (λ (x : World). x.kinds) left.3)
 
 pub ends_at : (descriptors : ℕ) (setting : Setting) (calls n : ℕ) (wanted : Bool) (lines : List (List ℕ)) (there : Run) (emitted : List Event → Type 0) → wanted ≡ true
     → CourseAt (course_of setting (Some calls) lines) descriptors there emitted (length lines) wanted → n ≡ length lines → EndsAt setting calls lines n

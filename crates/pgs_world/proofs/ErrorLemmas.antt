@@ -50,7 +50,7 @@ exits_errors n (session ∷ sessions) course =
 pub few_errors : (setting : Setting) (w : Option ℕ) (lines : List (List ℕ)) → errors_in (transcript setting w lines) ≤ length lines
 unfolding transcript transcript_by course_by
 few_errors setting w lines =
-    let begun : Course = at_start (opened setting.options [] setting.shelf) in
+    let begun : Course = at_start (opened setting.options setting.kinds setting.shelf) in
     let course : Course = goes_on reads w lines begun in
     let behind = exits_errors 1 course.world.sessions course in
     let all = lines_errors w lines begun in omega (arith, behind, all)

@@ -3,11 +3,16 @@ use Rattle.std.proofs.Common.{◌≡◌, ℕ, zero, suc, ◌+◌, ◌-◌, ◌<�
 use Rattle.std.specs.Prelude.{slice_get, slice_set, replicate}
 use Rattle.std.proofs.lemmas.Bool.{cases_eq}
 use Rattle.std.proofs.lemmas.List.{length-map}
+use Rattle.std.proofs.lemmas.Option.{slice_get_within}
+use Rattle.forest.specs.Forest.{Empty}
 use Rattle.pgs_step.specs.declared.events.Event.{Event}
 use Rattle.pgs_step.specs.declared.events.What.{What}
 use Rattle.addr_space.specs.Space.{Asks, held, taken}
+use Rattle.owner_kinds.specs.Kind.{Kind}
 use Rattle.reset_callbacks.specs.Hook.{Hook}
 use Rattle.reset_callbacks.specs.ShelfState.{ShelfState}
+use Rattle.lock_shared.specs.declared.shared_locks.Holding.{Holding}
+use Rattle.lock_shared.specs.Ranked as holding
 use Rattle.session_rules.specs.State.{SessionState, opening}
 use Rattle.session_rules.specs.World.{Around, Scene, World, around, with_scene}
 use Rattle.session_rules.specs.Acts.{Ended}
@@ -16,7 +21,9 @@ use Rattle.session_rules.specs.Transcript.{Course, after_exit, at_start, ended, 
 use Rattle.session_rules.specs.HookCounts.{CountsHooks, HooksCounted}
 use Rattle.session_rules.proofs.HookLaws.{exited_counts_hooks}
 use Rattle.session_rules.proofs.HookSteps.{IsNumbered}
-use Rattle.session_rules.specs.Standing.{Stands}
+use Rattle.session_rules.specs.Standing.{HasExited, Stands}
+use Rattle.session_rules.proofs.EndsStand.{exited_stands}
+use Rattle.session_owners.specs.ResourceState.{owners_of}
 use Rattle.session_store.specs.State.{StoreState, session_of}
 use Rattle.session_store.specs.Calls.{StaysBeside}
 use Rattle.session_core.specs.declared.calls.Calls.{Calls}
@@ -25,7 +32,9 @@ use Rattle.session_core.specs.Performed.{Ends, scene_in}
 use Rattle.session_core.proofs.Standing.{empty_around}
 use Rattle.pgs_world.specs.World.{AreStanding, HaveDescriptors, IsOpening, Run, SameRun, one_of, sessions_in, world_in}
 use Rattle.pgs_world.specs.Turns.{AllExit}
-use Rattle.pgs_world.proofs.SessionLemmas.{Changed, each_behind, fit_behind, have_behind, lines_stay, place_set, same_behind, same_on, same_run, session_there, sessions_behind, world_behind}
+use Rattle.pgs_world.proofs.LockLemmas.{others_locked}
+use Rattle.pgs_world.proofs.SessionLemmas.{Changed, each_behind, fit_behind, have_behind, keys_fit_behind, lines_stay, locks_fit_behind, place_set, same_behind, same_on, same_run, session_there, sessions_behind, world_behind}
+use Rattle.pgs_world.proofs.KindLemmas.{gone_holds_none, none_held_together}
 use Rattle.pgs_world.proofs.TurnLemmas.{took_other, took_own}
 
 -- A course whose lines are done, and where it stands once the sessions before this place have ended.
@@ -43,6 +52,7 @@ pub record HaveExited (place : ℕ) (a run : Run) (shown : List Event → Type 0
   pub leads : (descriptors : ℕ) → HaveDescriptors descriptors a → (course : Course) → course.world ≡ world_in descriptors a → Remains place descriptors run shown course
   pub calls : run.calls ≡ a.calls
   pub given_back : (account : ℕ) → account < place → held run.space account ≡ 0
+  pub gone : (j : ℕ) (store : StoreState) → j < place → slice_get run.stores j ≡ Some store → owners_of store.owners ≡ Empty
   pub asks : (account : ℕ) → taken run.space account ≡ taken a.space account
   pub same : SameRun a run
 
@@ -59,6 +69,7 @@ none_exited a shown h = record {
   };
   calls = refl;
   given_back = λ account less. absurd (omega (arith, less));
+  gone = λ j store less there. absurd (omega (arith, less));
   asks = λ account. refl;
   same = same_run a;
 }
@@ -90,27 +101,44 @@ module _ (start a b : Run) (place : ℕ) (store left : StoreState) (during : Lis
     (ends : Ends exited (one_of a store) (one_of b left) during) (empty : held b.space store.tree.account ≡ 0) (beside : StaysBeside left)
     (joins : (xs : List Event) (ys : List What) → before xs → during ys → shown (xs ++ of_session (place + 1) ys)) where
   change : Changed a b place store left
-  change = record { there = there; stores = stores; moves = ends.moves; descriptors_are = ends.grows.descriptors; fail = ap (λ (c : Calls). c.fail) ends.calls }
+  change = record {
+    there = there;
+    stores = stores;
+    moves = ends.moves;
+    descriptors_are = ends.grows.descriptors;
+    fail = ap (λ (c : Calls). c.fail) ends.calls;
+    took = λ account other. took_other store.tree.account account 0 a.space b.space other ends.asked;
+    balances = ends.balances;
+  }
 
   -- the end of the session in its surroundings there
   abbrev ended_in : World → Ended
   ended_in world = exited (record { session = session_of store a.space; around = around (place + 1) world })
 
-  -- the session there with so many descriptors as its share
-  abbrev scene_with : ℕ → ℕ → Scene
-  scene_with descriptors own = record { session = session_of store a.space; around = record (around (place + 1) (world_in descriptors a)) { descriptors = own } }
+  -- the session there with so many descriptors as its share, where others have locked so much
+  abbrev scene_with : ℕ → ℕ → List Holding → Scene
+  scene_with descriptors own locked = record { session = session_of store a.space; around = record (around (place + 1) (world_in descriptors a)) { descriptors = own; locked = locked } }
+
+  abbrev seen : List Holding
+  seen = holding.beside store.owners.session a.commons.locks
+
+  seen_is : (descriptors : ℕ) → seen ≡ (around (place + 1) (world_in descriptors a)).locked
+  seen_is descriptors = sym (others_locked a place store there standing.each standing.locks (place + 1) refl)
 
   world_is : (descriptors : ℕ) → HaveDescriptors descriptors a → with_scene (place + 1) (ended_in (world_in descriptors a)).scene (world_in descriptors a) ≡ world_in descriptors b
   world_is descriptors has =
       let here : Around = around (place + 1) (world_in descriptors a) in
       let led : (ended_in (world_in descriptors a)).scene ≡ scene_in (one_of b left) here =
-      subst (λ (n : ℕ). (exited (scene_with descriptors n)).scene ≡ scene_in (one_of b left) here) (has place store there) (ends.acted.leads here) in
+      subst (λ (hs : List Holding). (exited (scene_with descriptors descriptors hs)).scene ≡ scene_in (one_of b left) here) (seen_is descriptors)
+      (subst (λ (n : ℕ). (exited (scene_with descriptors n seen)).scene ≡ scene_in (one_of b left) here) (has place store there) (ends.acted.leads here)) in
       ap (λ (s : Scene). with_scene (place + 1) s (world_in descriptors a)) led
       ∙ ap (λ (c : Calls). record (with_scene (place + 1) (scene_in (one_of b left) here) (world_in descriptors a)) { calls = c.count }) (sym ends.calls)
       ∙ world_behind a b place store left change standing.each descriptors (place + 1) here refl
 
   told : (descriptors : ℕ) → HaveDescriptors descriptors a → during (ended_in (world_in descriptors a)).events
-  told descriptors has = subst (λ (n : ℕ). during (exited (scene_with descriptors n)).events) (has place store there) (ends.acted.says (around (place + 1) (world_in descriptors a)))
+  told descriptors has =
+      subst (λ (hs : List Holding). during (exited (scene_with descriptors descriptors hs)).events) (seen_is descriptors)
+      (subst (λ (n : ℕ). during (exited (scene_with descriptors n seen)).events) (has place store there) (ends.acted.says (around (place + 1) (world_in descriptors a))))
 
   remains : (descriptors : ℕ) (course : Course) → Remains place descriptors a before course → Remains (place + 1) descriptors b shown course
   remains descriptors course r =
@@ -130,6 +158,15 @@ module _ (start a b : Run) (place : ℕ) (store left : StoreState) (during : Lis
         shows = joins r.more (ended_in r.middle.world).events r.shows (subst (λ (x : World). during (ended_in x).events) (sym r.world_is) (told descriptors r.has));
       }
 
+  -- the session's owners are gone
+  left_without_owners : owners_of left.owners ≡ Empty
+  unfolding session_of
+  left_without_owners =
+      let own : IsBetweenLines (one_of a store) = standing.lines place store (omega arith) there in
+      let done : HasExited (scene_in (one_of b left) empty_around) =
+      subst HasExited (ends.acted.leads empty_around) (exited_stands (scene_in (one_of a store) empty_around) (own.stands empty_around).stands) in
+      done.owners
+
   pub one_more_exited : HaveExited place start a before → HaveExited (place + 1) start b shown
   one_more_exited h =
       let own = standing.each place store there in
@@ -139,6 +176,10 @@ module _ (start a b : Run) (place : ℕ) (store left : StoreState) (during : Lis
         given_back = λ account less. elim (cases_eq account place) [
           | inl same ↦ ap (held b.space) (same ∙ sym own.account) ∙ empty
           | inr other ↦ ends.moves.others account (λ e. other (e ∙ own.account)) ∙ h.given_back account (omega (arith, less, other))
+        ];
+        gone = λ j st less now. elim (place_set a.stores place left j st (ap (λ (all : List StoreState). slice_get all j) (sym stores) ∙ now)) [
+          | inl own ↦ ap (λ (s : StoreState). owners_of s.owners) own.1 ∙ left_without_owners
+          | inr other ↦ h.gone j st (omega (arith, less, other.0)) other.1
         ];
         asks = λ account. elim (cases_eq account store.tree.account) [
           | inl same ↦ took_own account 0 a.space b.space (subst (λ (n : ℕ). n < length a.space.taken) (sym same) own.keeps.agrees.account) (subst (λ (n : ℕ). Asks n 0 a.space b.space) (sym same) ends.asked) ∙ h.asks account
@@ -162,9 +203,11 @@ module _ (start a b : Run) (place : ℕ) (store left : StoreState) (during : Lis
     each = each_behind a b place store left change standing.each ends.keeps beside;
     lines = λ j st from now. elim (place_set a.stores place left j st (ap (λ (all : List StoreState). slice_get all j) (sym stores) ∙ now)) [
       | inl own ↦ absurd (omega (arith, own.0, from))
-      | inr other ↦ lines_stay a b place store left change standing.each standing.hooks events_of counts j st other.0 other.1 now (standing.lines j st (omega (arith, from)) other.1)
+      | inr other ↦ lines_stay a b place store left change standing.each standing.hooks events_of counts standing.kinds j st other.0 other.1 now (standing.lines j st (omega (arith, from)) other.1)
     ];
     hooks = fit_behind a b place store left change standing.each standing.hooks events_of counts;
+    kinds = keys_fit_behind a b place store left change standing.each standing.kinds;
+    locks = locks_fit_behind a b place store left change standing.each standing.locks;
     alike = (standing.alike.0, have_behind a b place store left change standing.each standing.alike.0 standing.alike.1);
   }
 
@@ -183,6 +226,8 @@ all_exited n a b shown all h = record {
   calls = h.calls;
   given_back = λ account less. h.given_back account (omega (arith, less, all));
   asks = h.asks;
+  none = λ kind key. none_held_together kind key b.stores
+      (λ place store there. gone_holds_none kind key store (h.gone place store (omega (arith, all, h.same.sessions, slice_get_within b.stores place store there)) there));
   same = h.same;
 }
 
@@ -206,3 +251,22 @@ opened_leave a b shown descriptors has opens ends =
     sym (ap (λ (x : World). x.shelf) left.3)
     ∙ ap (λ (sessions : List SessionState). (exits 1 sessions course).world.shelf) opens.sessions
     ∙ exits_leave 1 (length a.stores) course
+
+-- and the kinds
+kinds_leave : (kinds : List Kind) (scene_around : Around) → (exited (record { session = opening; around = record scene_around { kinds = kinds } })).scene.around.kinds ≡ kinds
+unfolding exited opening
+kinds_leave kinds scene_around = refl
+
+pub exits_leave_kinds : (n count : ℕ) (course : Course) → (exits n (replicate count opening) course).world.kinds ≡ course.world.kinds
+exits_leave_kinds n zero course = refl
+exits_leave_kinds n (suc count) course =
+    exits_leave_kinds (n + 1) count (after_exit n course (exited (record { session = opening; around = around n course.world })))
+    ∙ kinds_leave course.world.kinds (around n course.world)
+
+pub opened_leave_kinds : (a b : Run) (shown : List Event → Type 0) (descriptors : ℕ) → HaveDescriptors descriptors a → IsOpening a → AllExit a b shown → b.commons.kinds ≡ a.commons.kinds
+opened_leave_kinds a b shown descriptors has opens ends =
+    let course : Course = at_start (world_in descriptors a) in
+    let left = ends.leads descriptors has course refl in
+    sym (ap (λ (x : World). x.kinds) left.3)
+    ∙ ap (λ (sessions : List SessionState). (exits 1 sessions course).world.kinds) opens.sessions
+    ∙ exits_leave_kinds 1 (length a.stores) course

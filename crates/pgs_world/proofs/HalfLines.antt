@@ -6,6 +6,7 @@ use Rattle.pgs_command.specs.declared.commands.Command.{Command}
 use Rattle.pgs_command.specs.declared.lines.BadLine.{BadLine}
 use Rattle.pgs_command.specs.declared.lines.Line.{Line}
 use Rattle.pgs_io.specs.Lines.{lines_of, ended_lines}
+use Rattle.owner_kinds.specs.Kind.{Kind}
 use Rattle.reset_callbacks.specs.ShelfState.{ShelfState}
 use Rattle.session_rules.specs.State.{SessionState}
 use Rattle.session_rules.specs.World.{opened, session_at}
@@ -25,7 +26,7 @@ performed_read w course (Err bad) = performed_command w course bad.session None 
 
 performed_one : (setting : Setting) (call : ℕ) → (course_of setting (Some call) (codes "begin" ∷ [])).performed ≡ 1
 unfolding course_of course_by
-performed_one setting call = performed_read (Some call) (at_start (opened setting.options [] setting.shelf)) (reads (codes "begin"))
+performed_one setting call = performed_read (Some call) (at_start (opened setting.options setting.kinds setting.shelf)) (reads (codes "begin"))
 
 no_newline : ended_lines (take most_bytes (codes "begin")) ≡ []
 no_newline = ap ended_lines (take_all most_bytes (codes "begin") (omega arith))
@@ -35,7 +36,7 @@ not_whole lines bytes left front some one (inl few) = omega (arith, few, one, ap
 not_whole lines bytes left front some one (inr ended) = omega (arith, some, ap length ended.1)
 
 -- where `begin` was read without a newline and the source has more, no refusal of its first call is made up
-pub half_line_waits : (setting : Setting) (outcome : Outcome) (before written written' : Option (List ℕ)) (left : List ℕ) (shelf' : ShelfState) → (w : IsWanted setting outcome before (Some left) written written' shelf') → w.bytes ≡ codes "begin" → 0 < length left → ⊥
-half_line_waits setting outcome before written written' left shelf' w front some =
+pub half_line_waits : (setting : Setting) (outcome : Outcome) (before written written' : Option (List ℕ)) (left : List ℕ) (shelf' : ShelfState) (kinds' : List Kind) → (w : IsWanted setting outcome before (Some left) written written' shelf' kinds') → w.bytes ≡ codes "begin" → 0 < length left → ⊥
+half_line_waits setting outcome before written written' left shelf' kinds' w front some =
     let one : outcome.lines ≡ 1 = sym w.defined.line_is ∙ ap (λ (b : List ℕ). (course_of setting (Some outcome.call) (lines_of b)).performed) front ∙ performed_one setting outcome.call in
     not_whole outcome.lines w.bytes left front some one w.whole_lines

@@ -5,8 +5,10 @@ pub mod ErrorLemmas
 pub mod ExitLemmas
 pub mod HalfLines
 pub mod HookLemmas
+pub mod KindLemmas
 pub mod LoopLemmas
 pub mod ScriptLemmas
+pub mod LockLemmas
 pub mod SessionLemmas
 pub mod StartLemmas
 pub mod TakenLemmas

@@ -1,14 +1,26 @@
 -- The sessions of a run, when one of them changes.
-use Rattle.std.proofs.Common.{◌≡◌, ◌≢◌, ℕ, zero, suc, ◌+◌, ◌-◌, ◌<◌, ◌⊎◌, inl, inr, List, [], ◌∷◌, length, map, Some, refl, sym, ap, ◌∙◌, subst, arith}
-use Rattle.std.specs.Prelude.{slice_get, slice_set, replicate}
+use Rattle.std.proofs.Common.{◌≡◌, ◌≢◌, true, false, ℕ, zero, suc, ◌+◌, ◌-◌, ◌<◌, ◌≤◌, ◌⊎◌, inl, inr, List, [], ◌∷◌, length, map, Some, refl, sym, ap, ◌∙◌, subst, arith}
+use Rattle.std.specs.Prelude.{All, slice_get, slice_set, replicate}
+use Rattle.std.proofs.lemmas.List.Elements.{All-nil}
 use Rattle.std.specs.Option.{option_map}
 use Rattle.std.proofs.lemmas.List.{length-set, map-set}
 use Rattle.std.proofs.lemmas.Option.{slice_get-map, slice_get_within}
 use Rattle.pgs_step.specs.declared.events.What.{What}
-use Rattle.addr_space.specs.Space.{Space}
+use Rattle.pgs_step.specs.declared.ids.KindId.{KindId}
+use Rattle.pgs_step.specs.declared.lock_modes.Mode.{Mode}
+use Rattle.lock_shared.specs.declared.shared_locks.Holding.{Holding}
+use Rattle.lock_shared.specs.Holdings.{holds}
+use Rattle.lock_local.specs.declared.local_lock.OwnerCount.{OwnerCount}
+use Rattle.lock_local.specs.Locks.{Lock, AreLocks, Agrees, has_owner, is_held}
+use Rattle.addr_space.specs.Space.{Space, taken}
 use Rattle.reset_callbacks.specs.Hook.{AreDistinct}
 use Rattle.reset_callbacks.specs.ShelfState as shelf
 use Rattle.context_tree.specs.State.{Moves}
+use Rattle.owner_kinds.specs.KindShelf.{table_of, times_held}
+use Rattle.owner_kinds.specs.KindTable.{IsSound}
+use Rattle.session_owners.specs.Commons.{Balances}
+use Rattle.session_owners.specs.ResourceState.{locks_of}
+use Rattle.session_owners.proofs.Balances.{serves_nothing}
 use Rattle.session_rules.specs.State.{SessionState, opening}
 use Rattle.session_rules.specs.World.{Around, Options, with_scene}
 use Rattle.session_rules.specs.Standing.{StandsBetweenLines}
@@ -20,12 +32,13 @@ use Rattle.session_store.specs.Calls.{Keeps, StaysBeside}
 use Rattle.session_core.specs.Lines.{IsBetweenLines}
 use Rattle.session_core.specs.Performed.{scene_in}
 use Rattle.session_core.proofs.Opened.{opened_lines}
-use Rattle.pgs_world.specs.World.{AreStanding, HaveDescriptors, HooksFit, IsHeld, IsOpening, Run, SameRun, all_waiting, one_of, options_in, sessions_in, world_in}
+use Rattle.pgs_world.specs.World.{AreStanding, HaveDescriptors, HooksFit, IsHeld, IsOpening, KindsFit, LocksFit, Run, SameRun, all_waiting, held_by_all, one_of, options_in, sessions_in, world_in}
 use Rattle.pgs_world.specs.Turns.{AreOpened}
 use Rattle.pgs_world.proofs.HookLemmas.{hooks_behind, hooks_of_one}
+use Rattle.pgs_world.proofs.KindLemmas.{gone_holds_none, keys_behind, kinds_behind, none_held_together, opening_owns, served_there}
 
 pub same_run : (a : Run) → SameRun a a
-same_run a = record { sessions = refl; limit = refl; fail = refl; accounts = refl; others = λ account past. refl }
+same_run a = record { sessions = refl; limit = refl; fail = refl; accounts = refl; others = λ account past. refl; took = λ account past. refl; table = refl; limits = refl; keys = λ kind key from. refl }
 
 pub same_on : (a b c : Run) → SameRun a b → SameRun b c → SameRun a c
 same_on a b c s t = record {
@@ -34,6 +47,10 @@ same_on a b c s t = record {
   fail = t.fail ∙ s.fail;
   accounts = t.accounts ∙ s.accounts;
   others = λ account past. t.others account (omega (arith, past, s.sessions)) ∙ s.others account past;
+  took = λ account past. t.took account (omega (arith, past, s.sessions)) ∙ s.took account past;
+  table = t.table ∙ s.table;
+  limits = t.limits ∙ s.limits;
+  keys = λ kind key from. omega (arith, s.keys kind key from, t.keys kind key from);
 }
 
 -- places of lists
@@ -81,6 +98,8 @@ pub record Changed (a b : Run) (place : ℕ) (store left : StoreState) : Type 0 
   pub moves : Moves store.tree left.tree a.space b.space
   pub descriptors_are : left.owners.descriptors ≡ store.owners.descriptors
   pub fail : b.calls.fail ≡ a.calls.fail
+  pub took : (account : ℕ) → account ≢ store.tree.account → taken b.space account ≡ taken a.space account
+  pub balances : Balances store.owners left.owners a.commons b.commons
 
 module _ (a b : Run) (place : ℕ) (store left : StoreState) (c : Changed a b place store left) (each : (j : ℕ) (st : StoreState) → slice_get a.stores j ≡ Some st → IsHeld a j st) where
   pub same_behind : SameRun a b
@@ -92,7 +111,50 @@ module _ (a b : Run) (place : ℕ) (store left : StoreState) (c : Changed a b pl
         fail = c.fail;
         accounts = c.moves.accounts;
         others = λ account past. c.moves.others account (λ e. omega (arith, past, within, e, (each place store c.there).account));
+        took = λ account past. c.took account (λ e. omega (arith, past, within, e, (each place store c.there).account));
+        table = c.balances.table;
+        limits = c.balances.limits;
+        keys = λ kind key from.
+            subst
+            (λ (stores : List StoreState). times_held b.commons.kinds kind key + held_by_all kind key a.stores ≡ times_held a.commons.kinds kind key + held_by_all kind key stores)
+            (sym c.stores) (keys_behind a.stores place store left c.there a.commons b.commons c.balances kind key from);
       }
+
+  -- the keys of all sessions fit the kinds
+  pub keys_fit_behind : KindsFit a.stores a.commons.kinds → KindsFit b.stores b.commons.kinds
+  keys_fit_behind h =
+      subst (λ (stores : List StoreState). KindsFit stores b.commons.kinds) (sym c.stores)
+      (kinds_behind a.stores place store left c.there a.commons b.commons c.balances h)
+
+  -- another session has another number
+  other_number : (j : ℕ) (st : StoreState) → j ≢ place → slice_get a.stores j ≡ Some st → st.owners.session ≢ store.owners.session
+  other_number j st other there same = other (omega (arith, same, (each j st there).number, (each place store c.there).number))
+
+  -- what the sessions have locked fits what is held for all
+  pub locks_fit_behind : LocksFit a.stores a.commons.locks → LocksFit b.stores b.commons.locks
+  locks_fit_behind h = record {
+    agree = λ j st there. elim (place_set a.stores place left j st (ap (λ (stores : List StoreState). slice_get stores j) (sym c.stores) ∙ there)) [
+      | inl own ↦ subst (λ (s : StoreState). Agrees (locks_of s.owners) b.commons.locks) (sym own.1) (c.balances.locks.agrees (h.agree place store c.there))
+      | inr other ↦ λ o m. c.balances.locks.others o m st.owners.session (other_number j st other.0 other.1) ∙ h.agree j st other.1 o m
+    ];
+    in_order = λ j st there. elim (place_set a.stores place left j st (ap (λ (stores : List StoreState). slice_get stores j) (sym c.stores) ∙ there)) [
+      | inl own ↦ subst (λ (s : StoreState). AreLocks s.owners.locks) (sym own.1) (c.balances.locks.in_order (h.in_order place store c.there))
+      | inr other ↦ h.in_order j st other.1
+    ];
+    none = λ o m n past.
+        let within : place < length a.stores = slice_get_within a.stores place store c.there in
+        let number = (each place store c.there).number in
+        let many : length b.stores ≡ length a.stores = ap (λ (stores : List StoreState). length stores) c.stores ∙ length-set a.stores place left in
+        c.balances.locks.others o m n (not_own n many number within past) ∙ h.none o m n (as_before n many past);
+  }
+    where
+      not_own : (n : ℕ) → length b.stores ≡ length a.stores → store.owners.session ≡ place + 1 → place < length a.stores → (n ≡ 0) ⊎ (length b.stores < n) → n ≢ store.owners.session
+      not_own n many number within (inl zero_is) e = omega (arith, zero_is, e, number)
+      not_own n many number within (inr more) e = omega (arith, many, number, within, more, e)
+
+      as_before : (n : ℕ) → length b.stores ≡ length a.stores → (n ≡ 0) ⊎ (length b.stores < n) → (n ≡ 0) ⊎ (length a.stores < n)
+      as_before n many (inl zero_is) = inl zero_is
+      as_before n many (inr more) = inr (omega (arith, many, more))
 
   -- each session has as many descriptors as before
   pub have_behind : (descriptors : ℕ) → HaveDescriptors descriptors a → HaveDescriptors descriptors b
@@ -122,20 +184,20 @@ module _ (a b : Run) (place : ℕ) (store left : StoreState) (c : Changed a b pl
       → record (with_scene n (scene_in (one_of b left) scene_around) (world_in descriptors a)) { calls = b.calls.count } ≡ world_in descriptors b
   world_behind descriptors n scene_around is =
       let at : n - 1 ≡ place = omega (arith, is) in
-      ap (λ (k : ℕ). record { options = options_in descriptors a; sessions = slice_set (sessions_in a.stores a.space) k (session_of left b.space); kinds = []; shelf = b.shelf; calls = b.calls.count }) at
-      ∙ ap (λ (sessions : List SessionState). record { options = options_in descriptors a; sessions = sessions; kinds = []; shelf = b.shelf; calls = b.calls.count }) (sym sessions_behind)
-      ∙ ap (λ (options : Options). record { options = options; sessions = sessions_in b.stores b.space; kinds = []; shelf = b.shelf; calls = b.calls.count }) (options_behind descriptors)
+      ap (λ (k : ℕ). record { options = options_in descriptors a; sessions = slice_set (sessions_in a.stores a.space) k (session_of left b.space); kinds = b.commons.kinds; shelf = b.shelf; calls = b.calls.count }) at
+      ∙ ap (λ (sessions : List SessionState). record { options = options_in descriptors a; sessions = sessions; kinds = b.commons.kinds; shelf = b.shelf; calls = b.calls.count }) (sym sessions_behind)
+      ∙ ap (λ (options : Options). record { options = options; sessions = sessions_in b.stores b.space; kinds = b.commons.kinds; shelf = b.shelf; calls = b.calls.count }) (options_behind descriptors)
 
   module _ (keeps : Keeps left b.space) (beside : StaysBeside left) where
     pub each_behind : (j : ℕ) (st : StoreState) → slice_get b.stores j ≡ Some st → IsHeld b j st
     each_behind j st there = elim (place_set a.stores place left j st (ap (λ (stores : List StoreState). slice_get stores j) (sym c.stores) ∙ there)) [
       | inl own ↦
           let was = each place store c.there in
-          let now : IsHeld b place left = record { keeps = keeps; account = c.moves.account ∙ was.account; beside = beside } in
+          let now : IsHeld b place left = record { keeps = keeps; account = c.moves.account ∙ was.account; number = c.balances.locks.session ∙ was.number; beside = beside } in
           subst (λ (s : StoreState). IsHeld b j s) (sym own.1) (subst (λ (k : ℕ). IsHeld b k left) (sym own.0) now)
       | inr other ↦
           let its = each j st other.1 in
-          record { keeps = (other_stays j st other.0 other.1).0; account = its.account; beside = its.beside }
+          record { keeps = (other_stays j st other.0 other.1).0; account = its.account; number = its.number; beside = its.beside }
     ]
 
   module _ (hooks : HooksFit (sessions_in a.stores a.space) a.shelf) (events : List What) (counts : HooksCounted (session_of store a.space).contexts a.shelf (session_of left b.space).contexts b.shelf events) where
@@ -145,17 +207,19 @@ module _ (a b : Run) (place : ℕ) (store left : StoreState) (c : Changed a b pl
         (hooks_behind (sessions_in a.stores a.space) a.shelf b.shelf place (session_of store a.space) (session_of left b.space) events (session_there a place store c.there) counts hooks)
 
     -- another session stays between two lines
-    pub lines_stay : (j : ℕ) (st : StoreState) → j ≢ place → slice_get a.stores j ≡ Some st → slice_get b.stores j ≡ Some st → IsBetweenLines (one_of a st) → IsBetweenLines (one_of b st)
-    lines_stay j st other there now h =
+    pub lines_stay : KindsFit a.stores a.commons.kinds → (j : ℕ) (st : StoreState) → j ≢ place → slice_get a.stores j ≡ Some st → slice_get b.stores j ≡ Some st → IsBetweenLines (one_of a st) → IsBetweenLines (one_of b st)
+    lines_stay kinds j st other there now h =
         let stays = other_stays j st other there in
         let fit = hooks_of_one (sessions_in b.stores b.space) b.shelf j (session_of st b.space) (session_there b j st now) fit_behind in
         record {
           keeps = stays.0;
+          serves = served_there b.stores j st a.commons b.commons store.owners.session now (keys_fit_behind kinds) c.balances.table
+              (other_number j st other there) c.balances.locks.others h.serves;
           stands = λ scene_around.
               let was : StandsBetweenLines (scene_in (one_of a st) scene_around) = h.stands scene_around in
               subst (λ (session : SessionState). StandsBetweenLines (record { session = session; around = (scene_in (one_of b st) scene_around).around })) (sym stays.1)
               (stands_between_elsewhere (session_of st a.space) (scene_in (one_of a st) scene_around).around (scene_in (one_of b st) scene_around).around
-              (rw (← stays.1) fit) was);
+              (rw (← stays.1) fit) c.balances.table was);
         }
 
 -- Sessions as they were started stand, where the hooks of the shelf differ.
@@ -175,20 +239,51 @@ opened_run descriptors before run opened calls = record { sessions = opened_sess
 pub opened_have : (descriptors : ℕ) (before : Space) (run : Run) → AreOpened descriptors before run.stores run.space → HaveDescriptors descriptors run
 opened_have descriptors before run opened place store there = (opened.each place store there).descriptors_are
 
-pub opened_standing : (descriptors : ℕ) (before : Space) (run : Run) → AreOpened descriptors before run.stores run.space → AreDistinct (shelf.held run.shelf) → AreStanding 0 run
-opened_standing descriptors before run opened differ =
+-- sessions as they were started hold nothing
+pub opened_hold_none : (descriptors : ℕ) (before : Space) (run : Run) → AreOpened descriptors before run.stores run.space → (kind : KindId) (key : ℕ) → held_by_all kind key run.stores ≡ 0
+opened_hold_none descriptors before run opened kind key =
+    none_held_together kind key run.stores (λ place store there. gone_holds_none kind key store (opening_owns store run.space (opened.each place store there).session))
+
+pub opening_hold_none : (run : Run) → IsOpening run → (kind : KindId) (key : ℕ) → held_by_all kind key run.stores ≡ 0
+opening_hold_none run opens kind key =
+    none_held_together kind key run.stores (λ place store there. gone_holds_none kind key store (opening_owns store run.space (opening_at run opens place store there)))
+
+-- They have locked nothing.
+opening_locks : (store : StoreState) (s : Space) → session_of store s ≡ opening → store.owners.locks ≡ []
+unfolding session_of opening
+opening_locks store s e = ap (λ (session : SessionState). session.locks) e
+
+no_locks : AreLocks []
+no_locks = record { in_order = tt; owned = All-nil (λ (l : Lock). has_owner l ≡ true); counted = All-nil (λ (l : Lock). All (λ (c : OwnerCount). 1 ≤ c.count) l.owners) }
+
+none_locked : (shared : List Holding) → shared ≡ [] → (o : ℕ) (m : Mode) (n : ℕ) → holds shared o m n ≡ false
+none_locked shared e o m n = ap (λ (hs : List Holding). holds hs o m n) e
+
+pub opened_standing : (descriptors : ℕ) (before : Space) (run : Run) → AreOpened descriptors before run.stores run.space → AreDistinct (shelf.held run.shelf) → IsSound (table_of run.commons.kinds) → run.commons.locks ≡ [] → AreStanding 0 run
+opened_standing descriptors before run opened differ sound unlocked =
     let sessions = opened_sessions run.stores run.space (λ place store there. (opened.each place store there).session) in
     record {
-      each = λ place store there. let o = opened.each place store there in record { keeps = o.keeps; account = o.account; beside = o.beside };
+      each = λ place store there. let o = opened.each place store there in record { keeps = o.keeps; account = o.account; number = o.number; beside = o.beside };
       lines = λ place store from there.
           let o = opened.each place store there in
-          opened_lines (one_of run store) o.session o.keeps
+          opened_lines (one_of run store) o.session o.keeps (serves_nothing store.owners run.commons (opening_owns store run.space o.session) sound (opening_locks store run.space o.session) (λ o m. none_locked run.commons.locks unlocked o m store.owners.session))
           (λ scene_around.
-          let stands = opening_stands (scene_in (one_of run store) scene_around).around differ in
+          let stands = opening_stands (scene_in (one_of run store) scene_around).around differ sound in
           (subst (λ (session : SessionState). StandsBetweenLines (record { session = session; around = (scene_in (one_of run store) scene_around).around })) (sym o.session) stands).stands);
       hooks = record {
         out = rw (sessions, none_wait (length run.stores)) (omega arith);
         words = rw (sessions, none_wait (length run.stores)) differ;
+      };
+      kinds = record {
+        sound = sound;
+        held = λ kind key from. omega (arith, opened_hold_none descriptors before run opened kind key);
+      };
+      locks = record {
+        agree = λ place store there.
+            let free : store.owners.locks ≡ [] = opening_locks store run.space (opened.each place store there).session in
+            λ o m. none_locked run.commons.locks unlocked o m store.owners.session ∙ sym (ap (λ (ls : List Lock). is_held ls o m) free);
+        in_order = λ place store there. subst AreLocks (sym (opening_locks store run.space (opened.each place store there).session)) no_locks;
+        none = λ o m n past. none_locked run.commons.locks unlocked o m n;
       };
       alike = (descriptors, opened_have descriptors before run opened);
     }

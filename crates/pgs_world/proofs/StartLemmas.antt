@@ -11,6 +11,7 @@ use Rattle.pgs_options.specs.declared.options.Options.{Options}
 use Rattle.session_rules.specs.State.{opening}
 use Rattle.session_store.specs.State.{StoreState}
 use Rattle.reset_callbacks.specs.ShelfState.{ShelfState}
+use Rattle.session_owners.specs.Commons.{CommonState}
 use Rattle.session_core.specs.declared.calls.Calls.{Calls}
 use Rattle.pgs_world.specs.Outcome.{TakesAll, TakesAsked}
 use Rattle.pgs_world.specs.Transcript.{Setting}
@@ -66,7 +67,7 @@ nothing_moves account s t within same = record {
 stays_opened : (descriptors account place : ℕ) (a b : TreeState) (store : StoreState) (s t : Space) → Moves a b s t → Agrees a s → a.account ≡ account → place ≢ account → IsOpened descriptors place store s → IsOpened descriptors place store t
 stays_opened descriptors account place a b store s t moves agrees is differ o =
     let stays = o.beside a b s t moves agrees o.keeps (λ e. differ (sym o.account ∙ sym e ∙ is)) in
-    record { session = stays.1 ∙ o.session; keeps = stays.0; account = o.account; descriptors_are = o.descriptors_are; beside = o.beside }
+    record { session = stays.1 ∙ o.session; keeps = stays.0; account = o.account; number = o.number; descriptors_are = o.descriptors_are; beside = o.beside }
 
 -- no session yet
 pub none_opened : (descriptors : ℕ) (s : Space) → AreOpened descriptors s [] s
@@ -122,13 +123,13 @@ still_opened descriptors before s t stores account is within same o = record {
 }
 
 -- where all sessions were started, the run is set up so
-pub started_setting : (setting : Setting) (stores : List StoreState) (s : Space) (x : ShelfState) (calls : Calls) → length stores ≡ setting.options.sessions → s.limit ≡ setting.options.space
-    → calls.fail ≡ setting.options.fail → x ≡ setting.shelf → setting_of setting.options.descriptors (record { stores = stores; space = s; shelf = x; calls = calls }) ≡ setting
-started_setting setting stores s x calls many limit fail shelf = rw (many, limit, fail, shelf) refl
+pub started_setting : (setting : Setting) (stores : List StoreState) (s : Space) (x : ShelfState) (c : CommonState) (calls : Calls) → length stores ≡ setting.options.sessions → s.limit ≡ setting.options.space
+    → calls.fail ≡ setting.options.fail → x ≡ setting.shelf → c.kinds ≡ setting.kinds → setting_of setting.options.descriptors (record { stores = stores; space = s; shelf = x; commons = c; calls = calls }) ≡ setting
+started_setting setting stores s x c calls many limit fail shelf kinds = rw (many, limit, fail, shelf, kinds) refl
 
 -- what accounts took in all, from where all sessions were started
-pub started_taken : (setting : Setting) (stores : List StoreState) (s : Space) (x : ShelfState) (calls : Calls) (before last : Space) (left : Option (List ℕ)) → length stores ≡ setting.options.sessions → s.limit ≡ setting.options.space
-    → calls.fail ≡ setting.options.fail → x ≡ setting.shelf → ((account : ℕ) → taken s account ≡ risen (taken before account) (if nat_lt account setting.options.sessions then 65536 else 0))
-    → TakesAsked (setting_of setting.options.descriptors (record { stores = stores; space = s; shelf = x; calls = calls })) left s last → TakesAll setting left before last
-started_taken setting stores s x calls before last left many limit fail shelf opening lines =
-    opened_taken setting left before s last opening (subst (λ (z : Setting). TakesAsked z left s last) (started_setting setting stores s x calls many limit fail shelf) lines)
+pub started_taken : (setting : Setting) (stores : List StoreState) (s : Space) (x : ShelfState) (c : CommonState) (calls : Calls) (before last : Space) (left : Option (List ℕ)) → length stores ≡ setting.options.sessions → s.limit ≡ setting.options.space
+    → calls.fail ≡ setting.options.fail → x ≡ setting.shelf → c.kinds ≡ setting.kinds → ((account : ℕ) → taken s account ≡ risen (taken before account) (if nat_lt account setting.options.sessions then 65536 else 0))
+    → TakesAsked (setting_of setting.options.descriptors (record { stores = stores; space = s; shelf = x; commons = c; calls = calls })) left s last → TakesAll setting left before last
+started_taken setting stores s x c calls before last left many limit fail shelf kinds opening lines =
+    opened_taken setting left before s last opening (subst (λ (z : Setting). TakesAsked z left s last) (started_setting setting stores s x c calls many limit fail shelf kinds) lines)

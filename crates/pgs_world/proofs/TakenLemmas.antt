@@ -67,8 +67,8 @@ takes_line descriptors setting lines line first old new before during wanted is 
     t.asks is descriptors has w (course_of setting w lines) f course.world_is account
     ∙ ap (risen (taken old.space account)) (sym asks)
     ∙ ap (λ (x : ℕ). risen x (asked_by_line reads w (account + 1) line (course_of setting w lines))) (takes w later account)
-    ∙ risen_more (taken first.space account) (asked_by reads w setting.options [] setting.shelf lines (account + 1)) (asked_by_line reads w (account + 1) line (course_of setting w lines))
-    ∙ ap (risen (taken first.space account)) (sym (asked_by_more reads w setting.options [] setting.shelf lines line (account + 1)))
+    ∙ risen_more (taken first.space account) (asked_by reads w setting.options setting.kinds setting.shelf lines (account + 1)) (asked_by_line reads w (account + 1) line (course_of setting w lines))
+    ∙ ap (risen (taken first.space account)) (sym (asked_by_more reads w setting.options setting.kinds setting.shelf lines line (account + 1)))
 
 -- where all lines were performed
 pub taken_all : (setting : Setting) (e : End) (bytes : List ℕ) (lines : List (List ℕ)) (left left' : Option (List ℕ)) (first behind : Run) (last : Space) → e ≡ end.Whole → EndIs e bytes lines left left'
@@ -77,7 +77,7 @@ pub taken_all : (setting : Setting) (e : End) (bytes : List ℕ) (lines : List (
 taken_all setting end.Whole bytes lines left left' first behind last w how takes none given is account =
     let same : bytes ≡ given = all_given bytes given left' how.1 (sym how.0 ∙ is) in
     none account ∙ takes refl None tt account
-    ∙ ap (λ (ls : List (List ℕ)). risen (taken first.space account) (asked_by reads None setting.options [] setting.shelf ls (account + 1))) (how.3 ∙ ap lines_of same)
+    ∙ ap (λ (ls : List (List ℕ)). risen (taken first.space account) (asked_by reads None setting.options setting.kinds setting.shelf ls (account + 1))) (how.3 ∙ ap lines_of same)
 taken_all setting end.Wanted bytes lines left left' first behind last w how takes none given is account = absurd (cc)
 taken_all setting end.SourceFault bytes lines left left' first behind last w how takes none given is account = absurd (cc)
 taken_all setting end.TooLong bytes lines left left' first behind last w how takes none given is account = absurd (cc)
@@ -132,23 +132,23 @@ length_replicate : {A : Type 0} (n : ℕ) (x : A) → length (replicate n x) ≡
 length_replicate zero x = refl
 length_replicate (suc n) x = omega (arith, length_replicate n x)
 
-nothing_asked : (setting : Setting) (lines : List (List ℕ)) (n : ℕ) → setting.options.sessions < n → asked_by reads None setting.options [] setting.shelf lines n ≡ 0
+nothing_asked : (setting : Setting) (lines : List (List ℕ)) (n : ℕ) → setting.options.sessions < n → asked_by reads None setting.options setting.kinds setting.shelf lines n ≡ 0
 unfolding asked_by
 nothing_asked setting lines n h =
-    none_on None n lines (at_start (opened setting.options [] setting.shelf)) (subst (λ (k : ℕ). k < n) (sym (length_replicate setting.options.sessions _)) h)
+    none_on None n lines (at_start (opened setting.options setting.kinds setting.shelf)) (subst (λ (k : ℕ). k < n) (sym (length_replicate setting.options.sessions _)) h)
 
 -- what sessions take as they open, and what their lines ask behind that
 pub opened_taken : (setting : Setting) (left : Option (List ℕ)) (s t u : Space) → ((account : ℕ) → taken t account ≡ risen (taken s account) (if nat_lt account setting.options.sessions then 65536 else 0))
     → TakesAsked setting left t u → TakesAll setting left s u
 opened_taken setting left s t u opening lines bytes is account =
     lines bytes is account
-    ∙ ap (λ (x : ℕ). risen x (asked_by reads None setting.options [] setting.shelf (lines_of bytes) (account + 1))) (opening account)
-    ∙ risen_more (taken s account) (if nat_lt account setting.options.sessions then 65536 else 0) (asked_by reads None setting.options [] setting.shelf (lines_of bytes) (account + 1))
+    ∙ ap (λ (x : ℕ). risen x (asked_by reads None setting.options setting.kinds setting.shelf (lines_of bytes) (account + 1))) (opening account)
+    ∙ risen_more (taken s account) (if nat_lt account setting.options.sessions then 65536 else 0) (asked_by reads None setting.options setting.kinds setting.shelf (lines_of bytes) (account + 1))
     ∙ ap (risen (taken s account)) (go (nat_lt account setting.options.sessions) refl)
   where
     go : (b : Bool) → nat_lt account setting.options.sessions ≡ b
-        → (if b then 65536 else 0) + asked_by reads None setting.options [] setting.shelf (lines_of bytes) (account + 1)
-        ≡ (if b then 65536 + asked_by reads None setting.options [] setting.shelf (lines_of bytes) (account + 1) else 0)
+        → (if b then 65536 else 0) + asked_by reads None setting.options setting.kinds setting.shelf (lines_of bytes) (account + 1)
+        ≡ (if b then 65536 + asked_by reads None setting.options setting.kinds setting.shelf (lines_of bytes) (account + 1) else 0)
     go true e = refl
     go false e =
         let past : setting.options.sessions ≤ account = grind (arith, nat_tests, e) in

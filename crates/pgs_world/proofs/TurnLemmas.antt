@@ -10,6 +10,8 @@ use Rattle.pgs_step.specs.declared.events.What.{What}
 use Rattle.pgs_step.specs.declared.events.What.TheVariants as what
 use Rattle.addr_space.specs.Space.{Asks, Space, risen, taken}
 use Rattle.addr_space.proofs.Asked.{raised-set}
+use Rattle.lock_shared.specs.declared.shared_locks.Holding.{Holding}
+use Rattle.lock_shared.specs.Ranked as holding
 use Rattle.session_rules.specs.State.{SessionState}
 use Rattle.session_rules.specs.World.{Around, Moment, World, around, moment, session_at, with_scene}
 use Rattle.session_rules.specs.Transcript.{Course, Turn, after_command, after_turn, missing, of_session, turn}
@@ -27,7 +29,8 @@ use Rattle.session_core.proofs.Standing.{empty_around, fitting, fitting_fits}
 use Rattle.pgs_world.specs.declared.lines.Said.{Said}
 use Rattle.pgs_world.specs.World.{AreStanding, HaveDescriptors, Run, one_of, sessions_in, world_in}
 use Rattle.pgs_world.specs.Turns.{GoesOn, IsWithin, TakesTurn}
-use Rattle.pgs_world.proofs.SessionLemmas.{Changed, each_behind, fit_behind, have_behind, lines_stay, place_set, same_behind, same_run, session_there, world_behind}
+use Rattle.pgs_world.proofs.LockLemmas.{others_locked}
+use Rattle.pgs_world.proofs.SessionLemmas.{Changed, each_behind, fit_behind, have_behind, keys_fit_behind, lines_stay, locks_fit_behind, place_set, same_behind, same_run, session_there, world_behind}
 
 -- the session of a number
 pub at_place : (n place : ℕ) (world : World) → n ≡ place + 1 → session_at n world ≡ slice_get world.sessions place
@@ -44,6 +47,10 @@ took_own account n s t within asks =
 pub took_other : (own account n : ℕ) (s t : Space) → account ≢ own → Asks own n s t → taken t account ≡ taken s account
 took_other own account n s t other asks =
     ap (λ (counts : List ℕ). get_or counts account 0) (asks ∙ sym (raised-set s.taken own n)) ∙ get_or-set_other s.taken own account (risen (taken s own) n) 0 other
+
+takes_other : (wanted : Bool) (own account n : ℕ) (s t : Space) → account ≢ own → Takes wanted own n s t → taken t account ≡ taken s account
+takes_other false own account n s t other asks = took_other own account n s t other asks
+takes_other true own account n s t other asks = took_other own account asks.0 s t other asks.1
 
 asks_where_done : (wanted : Bool) (account n : ℕ) (s t : Space) → wanted ≡ false → Takes wanted account n s t → Asks account n s t
 asks_where_done false account n s t is h = h
@@ -90,7 +97,18 @@ module _ (a b : Run) (place : ℕ) (store left : StoreState) (said : Said) (duri
     (turned : Turned said.command (one_of a store) (one_of b left) during wanted) (lines : IsBetweenLines (one_of b left)) (beside : StaysBeside left)
     (shows : (ys : List What) → during ys → shown (of_session said.session ys)) where
   change : Changed a b place store left
-  change = record { there = there; stores = stores; moves = turned.moves; descriptors_are = turned.grows.descriptors; fail = turned.fail }
+  change = record {
+    there = there;
+    stores = stores;
+    moves = turned.moves;
+    descriptors_are = turned.grows.descriptors;
+    fail = turned.fail;
+    took = λ account other.
+        let w : Option ℕ = fitting wanted b.calls.count in
+        takes_other wanted store.tree.account account (asked_by_turn w said.command (moment_in (one_of a store) empty_around)) a.space b.space other
+        (turned.taken empty_around w (fitting_fits wanted b.calls.count));
+    balances = turned.balances;
+  }
 
   session : SessionState
   session = session_of store a.space
@@ -105,10 +123,11 @@ module _ (a b : Run) (place : ℕ) (store left : StoreState) (said : Said) (duri
   there_in : (descriptors : ℕ) (course : Course) → course.world ≡ world_in descriptors a → session_at said.session course.world ≡ Some (session_of store a.space)
   there_in descriptors course e = ap (session_at said.session) e ∙ at_place said.session place (world_in descriptors a) number ∙ session_there a place store there
 
-  -- the session in its surroundings, as the rules see it before the line; as many descriptors are its share as its store has
-  abbrev moment_with : ℕ → ℕ → Moment
-  moment_with descriptors own = record {
-    scene = record { session = session_of store a.space; around = record (surroundings descriptors) { descriptors = own } };
+  -- the session in its surroundings, as the rules see it before the line; as many descriptors are its share as its store has, and others
+  -- have locked what is held for them
+  abbrev moment_with : ℕ → ℕ → List Holding → Moment
+  moment_with descriptors own locked = record {
+    scene = record { session = session_of store a.space; around = record (surroundings descriptors) { descriptors = own; locked = locked } };
     calls = a.calls.count;
     fail = a.calls.fail;
   }
@@ -117,17 +136,31 @@ module _ (a b : Run) (place : ℕ) (store left : StoreState) (said : Said) (duri
     own_number : store.owners.descriptors ≡ descriptors
     own_number = has place store there
 
+    abbrev seen : List Holding
+    seen = holding.beside store.owners.session a.commons.locks
+
+    seen_is : seen ≡ (surroundings descriptors).locked
+    seen_is = sym (others_locked a place store there standing.each standing.locks said.session number)
+
     led : (turn_in w (world_in descriptors a)).moment ≡ moment_in (one_of b left) (surroundings descriptors)
-    led = subst (λ (n : ℕ). (turn w said.command (moment_with descriptors n)).moment ≡ moment_in (one_of b left) (surroundings descriptors)) own_number (turned.moment (surroundings descriptors) w f)
+    led =
+        subst (λ (hs : List Holding). (turn w said.command (moment_with descriptors descriptors hs)).moment ≡ moment_in (one_of b left) (surroundings descriptors)) seen_is
+        (subst (λ (n : ℕ). (turn w said.command (moment_with descriptors n seen)).moment ≡ moment_in (one_of b left) (surroundings descriptors)) own_number (turned.moment (surroundings descriptors) w f))
 
     told : during (turn_in w (world_in descriptors a)).events
-    told = subst (λ (n : ℕ). during (turn w said.command (moment_with descriptors n)).events) own_number (turned.says (surroundings descriptors) w f)
+    told =
+        subst (λ (hs : List Holding). during (turn w said.command (moment_with descriptors descriptors hs)).events) seen_is
+        (subst (λ (n : ℕ). during (turn w said.command (moment_with descriptors n seen)).events) own_number (turned.says (surroundings descriptors) w f))
 
     wants : (turn_in w (world_in descriptors a)).wanted ≡ wanted
-    wants = subst (λ (n : ℕ). (turn w said.command (moment_with descriptors n)).wanted ≡ wanted) own_number (turned.wanted_is (surroundings descriptors) w f)
+    wants =
+        subst (λ (hs : List Holding). (turn w said.command (moment_with descriptors descriptors hs)).wanted ≡ wanted) seen_is
+        (subst (λ (n : ℕ). (turn w said.command (moment_with descriptors n seen)).wanted ≡ wanted) own_number (turned.wanted_is (surroundings descriptors) w f))
 
     took_of : Takes wanted store.tree.account (asked_by_turn w said.command (moment said.session (session_of store a.space) (world_in descriptors a))) a.space b.space
-    took_of = subst (λ (n : ℕ). Takes wanted store.tree.account (asked_by_turn w said.command (moment_with descriptors n)) a.space b.space) own_number (turned.taken (surroundings descriptors) w f)
+    took_of =
+        subst (λ (hs : List Holding). Takes wanted store.tree.account (asked_by_turn w said.command (moment_with descriptors descriptors hs)) a.space b.space) seen_is
+        (subst (λ (n : ℕ). Takes wanted store.tree.account (asked_by_turn w said.command (moment_with descriptors n seen)) a.space b.space) own_number (turned.taken (surroundings descriptors) w f))
 
   goes_on : (descriptors : ℕ) → HaveDescriptors descriptors a → (w : Option ℕ) (course : Course) → Fits wanted b.calls.count w → course.world ≡ world_in descriptors a
       → GoesOn course (after_turn course said.session (turn_in w course.world)) descriptors b shown wanted
@@ -213,8 +246,10 @@ module _ (a b : Run) (place : ℕ) (store left : StoreState) (said : Said) (duri
     each = each_behind a b place store left change standing.each lines.keeps beside;
     lines = λ j st from now. elim (place_set a.stores place left j st (ap (λ (all : List StoreState). slice_get all j) (sym stores) ∙ now)) [
       | inl own ↦ subst (λ (s : StoreState). IsBetweenLines (one_of b s)) (sym own.1) lines
-      | inr other ↦ lines_stay a b place store left change standing.each standing.hooks events_of counts j st other.0 other.1 now (standing.lines j st from other.1)
+      | inr other ↦ lines_stay a b place store left change standing.each standing.hooks events_of counts standing.kinds j st other.0 other.1 now (standing.lines j st from other.1)
     ];
     hooks = fit_behind a b place store left change standing.each standing.hooks events_of counts;
+    kinds = keys_fit_behind a b place store left change standing.each standing.kinds;
+    locks = locks_fit_behind a b place store left change standing.each standing.locks;
     alike = (standing.alike.0, have_behind a b place store left change standing.each standing.alike.0 standing.alike.1);
   }

@@ -2,6 +2,7 @@
 use Rattle.std.proofs.Common.{◌≡◌, [], ◌∷◌, ℕ, List, None, refl}
 use Rattle.std.specs.Prelude.{codes}
 use Rattle.std.specs.Fmt.{digits}
+use Rattle.pgs_step.specs.declared.ids.Phase.TheVariants.{BeforeLocks, AfterLocks}
 use Rattle.pgs_step.specs.Text.{text_of, what_text, kind_name, error_text}
 use Rattle.pgs_command.specs.Lines.{read_line}
 use Rattle.pgs_command.specs.Table as table
@@ -17,20 +18,23 @@ use Rattle.session_rules.specs.Does.{does, does_all}
 use Rattle.session_rules.specs.Ends.{recovered, exited}
 use Rattle.session_rules.specs.Transcript.{turn, course_by, transcript_by}
 use Rattle.pgs_world.specs.Script.{reads}
-use Rattle.pgs_world.specs.Transcript.{Setting, transcript, text_of_transcript}
+use Rattle.pgs_world.specs.Transcript.{Setting, transcript, text_in}
 
--- a run of so many sessions with 16 MiB for each of them and two hooks, of which this call fails; 0 is none
+-- a run of so many sessions with 16 MiB for each of them, two hooks and two extension kinds, of which this call fails; 0 is none
 abbrev setting : ℕ → ℕ → Setting
 setting sessions fail = record {
   options = record { sessions = sessions; space = 16777216; descriptors = 16; fail = fail };
   shelf = record { fresh = record { word = 1; runs = 0 } ∷ record { word = 2; runs = 0 } ∷ []; spent = []; out = 0 };
+  kinds = record { name = codes "conn"; phase = BeforeLocks; priority = 350; limit = 4; held = [] }
+      ∷ record { name = codes "handle"; phase = AfterLocks; priority = 250; limit = 8; held = [] }
+      ∷ [];
 }
 
 abbrev told : ℕ → List (List ℕ) → List ℕ
-told fail lines = text_of_transcript (transcript (setting 1 fail) None lines)
+told fail lines = text_in (setting 1 fail) (transcript (setting 1 fail) None lines)
 
 abbrev told_of_two : List (List ℕ) → List ℕ
-told_of_two lines = text_of_transcript (transcript (setting 2 0) None lines)
+told_of_two lines = text_in (setting 2 0) (transcript (setting 2 0) None lines)
 
 pub committed : told 0 (codes "begin" ∷ codes "pin 7" ∷ codes "commit" ∷ [])
     ≡ codes "1 begin level 1\n1 create c6 TopTransactionContext in c1\n1 owner o1\n1 ok\n1 acquire buffer pin 7 #1 o1\n1 ok\n1 commit level 1\n1 warning resource was not closed: buffer pin 7 #1 o1\n1 release buffer pin 7 #1 o1\n1 owner o1 gone\n1 delete c6\n1 ok\n1 delete c5\n1 delete c4\n1 delete c3\n1 delete c2\n1 delete c1\n1 exit\n"
@@ -48,7 +52,7 @@ unfolding text_of what_text kind_name error_text digits read_line table.command_
 no_such_buffer = refl
 
 -- lines that aren't performed yet, and a line with a prefix
-pub bad_lines : told 0 (codes "begin" ∷ codes "lock 5 ShareLock" ∷ codes "report" ∷ codes "pin 1" ∷ codes "@1 rollback" ∷ codes "rollback" ∷ [])
+pub bad_lines : told 0 (codes "begin" ∷ codes "plan 5" ∷ codes "report" ∷ codes "pin 1" ∷ codes "@1 rollback" ∷ codes "rollback" ∷ [])
     ≡ codes "1 begin level 1\n1 create c6 TopTransactionContext in c1\n1 owner o1\n1 ok\n1 ERROR 42601 syntax error\n1 abort level 1\n1 ERROR 42601 syntax error\n1 ERROR 25P02 transaction is aborted\n1 cleanup level 1\n1 owner o1 gone\n1 delete c6\n1 ok\n1 warning there is no transaction in progress\n1 ok\n1 delete c5\n1 delete c4\n1 delete c3\n1 delete c2\n1 delete c1\n1 exit\n"
 unfolding text_of what_text kind_name error_text digits read_line table.command_of words_of number_between mode_of name_of kind_of is_reserved row_of reads opening elements_of does does_all recovered exited turn course_by transcript_by transcript set.created set.stats set.take set.take_class set.take_own set.chunk_limit set.limit_class set.class_of set.class_up_to set.cut_off set.reused set.from_new set.block_size set.halved set.halved_by set.renewed set.cut_up set.cut_rest set.with_own up8 grown doubled
 bad_lines = refl
@@ -70,3 +74,27 @@ pub two_sessions : told_of_two (codes "begin" ∷ codes "@2 pin 7" ∷ codes "@2
     ≡ codes "1 begin level 1\n1 create c6 TopTransactionContext in c1\n1 owner o1\n1 ok\n2 begin level 1\n2 create c6 TopTransactionContext in c1\n2 owner o1\n2 acquire buffer pin 7 #1 o1\n2 commit level 1\n2 warning resource was not closed: buffer pin 7 #1 o1\n2 release buffer pin 7 #1 o1\n2 owner o1 gone\n2 delete c6\n2 ok\n2 begin level 1\n2 create c7 TopTransactionContext in c1\n2 owner o2\n2 ok\n1 abort level 1\n1 cleanup level 1\n1 owner o1 gone\n1 delete c6\n1 ok\n3 ERROR 08003 no such session\n1 delete c5\n1 delete c4\n1 delete c3\n1 delete c2\n1 delete c1\n1 exit\n2 abort level 1\n2 cleanup level 1\n2 owner o2 gone\n2 delete c7\n2 delete c5\n2 delete c4\n2 delete c3\n2 delete c2\n2 delete c1\n2 exit\n"
 unfolding text_of what_text kind_name error_text digits read_line table.command_of words_of number_between mode_of name_of kind_of is_reserved row_of reads opening elements_of does does_all recovered exited turn course_by transcript_by transcript set.created set.stats set.take set.take_class set.take_own set.chunk_limit set.limit_class set.class_of set.class_up_to set.cut_off set.reused set.from_new set.block_size set.halved set.halved_by set.renewed set.cut_up set.cut_rest set.with_own up8 grown doubled
 two_sessions = refl
+
+-- an item of an extension kind: remembered, and rolled back
+pub acquired : told 0 (codes "begin" ∷ codes "acquire conn 5" ∷ codes "rollback" ∷ [])
+    ≡ codes "1 begin level 1\n1 create c6 TopTransactionContext in c1\n1 owner o1\n1 ok\n1 acquire conn 5 #1 o1\n1 ok\n1 abort level 1\n1 release conn 5 #1 o1\n1 cleanup level 1\n1 owner o1 gone\n1 delete c6\n1 ok\n1 delete c5\n1 delete c4\n1 delete c3\n1 delete c2\n1 delete c1\n1 exit\n"
+unfolding text_of what_text kind_name error_text digits read_line table.command_of words_of number_between mode_of name_of kind_of is_reserved row_of reads opening elements_of does does_all recovered exited turn course_by transcript_by transcript set.created set.stats set.take set.take_class set.take_own set.chunk_limit set.limit_class set.class_of set.class_up_to set.cut_off set.reused set.from_new set.block_size set.halved set.halved_by set.renewed set.cut_up set.cut_rest set.with_own up8 grown doubled
+acquired = refl
+
+-- items of both kinds at commit: one is released before the locks and behind the pins, the other behind them
+pub kinds_at_commit : told 0 (codes "begin" ∷ codes "acquire handle 9" ∷ codes "acquire conn 5" ∷ codes "pin 7" ∷ codes "drop conn 5" ∷ codes "acquire conn 6" ∷ codes "commit" ∷ [])
+    ≡ codes "1 begin level 1\n1 create c6 TopTransactionContext in c1\n1 owner o1\n1 ok\n1 acquire handle 9 #1 o1\n1 ok\n1 acquire conn 5 #2 o1\n1 ok\n1 acquire buffer pin 7 #3 o1\n1 ok\n1 release conn 5 #2 o1\n1 ok\n1 acquire conn 6 #4 o1\n1 ok\n1 commit level 1\n1 warning resource was not closed: buffer pin 7 #3 o1\n1 release buffer pin 7 #3 o1\n1 warning resource was not closed: conn 6 #4 o1\n1 release conn 6 #4 o1\n1 warning resource was not closed: handle 9 #1 o1\n1 release handle 9 #1 o1\n1 owner o1 gone\n1 delete c6\n1 ok\n1 delete c5\n1 delete c4\n1 delete c3\n1 delete c2\n1 delete c1\n1 exit\n"
+unfolding text_of what_text kind_name error_text digits read_line table.command_of words_of number_between mode_of name_of kind_of is_reserved row_of reads opening elements_of does does_all recovered exited turn course_by transcript_by transcript set.created set.stats set.take set.take_class set.take_own set.chunk_limit set.limit_class set.class_of set.class_up_to set.cut_off set.reused set.from_new set.block_size set.halved set.halved_by set.renewed set.cut_up set.cut_rest set.with_own up8 grown doubled
+kinds_at_commit = refl
+
+-- the fifth key of a kind that holds at most four
+pub a_kind_is_full : told 0 (codes "begin" ∷ codes "acquire conn 1" ∷ codes "acquire conn 1" ∷ codes "acquire conn 1" ∷ codes "acquire conn 1" ∷ codes "acquire conn 1" ∷ [])
+    ≡ codes "1 begin level 1\n1 create c6 TopTransactionContext in c1\n1 owner o1\n1 ok\n1 acquire conn 1 #1 o1\n1 ok\n1 acquire conn 1 #2 o1\n1 ok\n1 acquire conn 1 #3 o1\n1 ok\n1 acquire conn 1 #4 o1\n1 ok\n1 ERROR 53400 limit of the kind is reached\n1 abort level 1\n1 release conn 1 #4 o1\n1 release conn 1 #3 o1\n1 release conn 1 #2 o1\n1 release conn 1 #1 o1\n1 cleanup level 1\n1 owner o1 gone\n1 delete c6\n1 delete c5\n1 delete c4\n1 delete c3\n1 delete c2\n1 delete c1\n1 exit\n"
+unfolding text_of what_text kind_name error_text digits read_line table.command_of words_of number_between mode_of name_of kind_of is_reserved row_of reads opening elements_of does does_all recovered exited turn course_by transcript_by transcript set.created set.stats set.take set.take_class set.take_own set.chunk_limit set.limit_class set.class_of set.class_up_to set.cut_off set.reused set.from_new set.block_size set.halved set.halved_by set.renewed set.cut_up set.cut_rest set.with_own up8 grown doubled
+a_kind_is_full = refl
+
+-- a snapshot that is registered twice
+pub registered : told 0 (codes "begin" ∷ codes "snapshot 3" ∷ codes "snapshot 3" ∷ codes "unsnapshot 3" ∷ codes "unsnapshot 4" ∷ [])
+    ≡ codes "1 begin level 1\n1 create c6 TopTransactionContext in c1\n1 owner o1\n1 ok\n1 acquire snapshot reference 3 #1 o1\n1 ok\n1 acquire snapshot reference 3 #2 o1\n1 ok\n1 release snapshot reference 3 #2 o1\n1 ok\n1 ERROR 55000 not held by this owner\n1 abort level 1\n1 release snapshot reference 3 #1 o1\n1 cleanup level 1\n1 owner o1 gone\n1 delete c6\n1 delete c5\n1 delete c4\n1 delete c3\n1 delete c2\n1 delete c1\n1 exit\n"
+unfolding text_of what_text kind_name error_text digits read_line table.command_of words_of number_between mode_of name_of kind_of is_reserved row_of reads opening elements_of does does_all recovered exited turn course_by transcript_by transcript set.created set.stats set.take set.take_class set.take_own set.chunk_limit set.limit_class set.class_of set.class_up_to set.cut_off set.reused set.from_new set.block_size set.halved set.halved_by set.renewed set.cut_up set.cut_rest set.with_own up8 grown doubled
+registered = refl

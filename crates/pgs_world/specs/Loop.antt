@@ -43,7 +43,7 @@ CoursesAre descriptors setting wanted lines run emitted = (w : Option ℕ) → F
 -- Each account took what the lines ask for the session that counts for it, whichever later call is refused for want of memory.
 abbrev pub TakesLines : Setting → List (List ℕ) → Run → Run → Type 0
 TakesLines setting lines first run =
-    (w : Option ℕ) → Fits false run.calls.count w → (account : ℕ) → taken run.space account ≡ risen (taken first.space account) (asked_by reads w setting.options [] setting.shelf lines (account + 1))
+    (w : Option ℕ) → Fits false run.calls.count w → (account : ℕ) → taken run.space account ≡ risen (taken first.space account) (asked_by reads w setting.options setting.kinds setting.shelf lines (account + 1))
 
 -- The loop has performed these lines.
 pub record Stands (descriptors : ℕ) (first : Run) (start now : Option (List ℕ)) (reader : Reading) (run : Run) (emitted : List Event → Type 0) (lines : List (List ℕ)) : Type 0 where

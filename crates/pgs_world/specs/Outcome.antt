@@ -1,8 +1,11 @@
 -- What a run did, by its status.
-use Rattle.std.specs.Prelude.{◌≡◌, ℕ, ◌+◌, ◌^◌, ◌<◌, ◌≤◌, ◌↔◌, ◌⊎◌, List, [], ◌∷◌, ◌++◌, length, take, codes, Option, Some, None, ◌==◌, nat_lt, if◌then◌else◌}
+use Rattle.std.specs.Prelude.{◌≡◌, ℕ, ◌+◌, ◌^◌, ◌<◌, ◌≤◌, ◌↔◌, ◌⊎◌, List, [], ◌∷◌, ◌++◌, length, map, take, codes, Option, Some, None, ◌==◌, nat_lt, if◌then◌else◌}
 use Rattle.std.specs.Io.KnownBytes.{prepend_known, append_known, IsAtEnd}
 use Rattle.pgs_io.specs.Lines.{lines_of, ended_lines}
 use Rattle.pgs_world.specs.declared.program.Outcome.{Outcome}
+use Rattle.owner_kinds.specs.Kind.{Kind}
+use Rattle.owner_kinds.specs.KindShelf.{table_of, times_held}
+use Rattle.pgs_step.specs.declared.ids.KindId.{KindId}
 use Rattle.reset_callbacks.specs.ShelfState.{ShelfState}
 use Rattle.pgs_options.specs.Options.{options_of}
 use Rattle.pgs_options.specs.declared.options.Options.{Options}
@@ -10,7 +13,7 @@ use Rattle.addr_space.specs.Space.{Space, risen, taken}
 use Rattle.session_rules.specs.Asked.{asked_by, asked_in_all}
 use Rattle.session_rules.specs.Transcript.{errors_in}
 use Rattle.pgs_world.specs.Script.{reads}
-use Rattle.pgs_world.specs.Transcript.{Setting, transcript, shelf_after, text_of_transcript, EndsAt}
+use Rattle.pgs_world.specs.Transcript.{Setting, transcript, kinds_after, shelf_after, text_in, EndsAt}
 
 -- the most bytes that a script has
 abbrev pub most_bytes : ℕ
@@ -30,10 +33,10 @@ HasGiven taken before after = before ≡ prepend_known taken after
 
 -- A sink that had taken `before` took the transcript of these lines besides, where w is the fallible call that was refused for want of memory, if any.
 abbrev pub HasWritten : Setting → Option ℕ → List (List ℕ) → Option (List ℕ) → Option (List ℕ) → Type 0
-HasWritten setting w lines before after = after ≡ append_known before (text_of_transcript (transcript setting w lines))
+HasWritten setting w lines before after = after ≡ append_known before (text_in setting (transcript setting w lines))
 
--- Status 0 or 1: all of the source was read, and its whole transcript was written. The hooks are those that the rules leave.
-pub record IsWhole (setting : Setting) (outcome : Outcome) (left left' written written' : Option (List ℕ)) (shelf' : ShelfState) : Type 0 where
+-- Status 0 or 1: all of the source was read, and its whole transcript was written. Hooks and kinds are those that the rules leave.
+pub record IsWhole (setting : Setting) (outcome : Outcome) (left left' written written' : Option (List ℕ)) (shelf' : ShelfState) (kinds' : List Kind) : Type 0 where
   pub bytes : List ℕ
   pub given : HasGiven bytes left left'
   pub at_end : IsAtEnd left'
@@ -42,6 +45,7 @@ pub record IsWhole (setting : Setting) (outcome : Outcome) (left left' written w
   pub text : HasWritten setting None (lines_of bytes) written written'
   pub errors : outcome.errors ≡ errors_in (transcript setting None (lines_of bytes))
   pub hooks : shelf' ≡ shelf_after setting None (lines_of bytes)
+  pub kinds : kinds' ≡ kinds_after setting None (lines_of bytes)
   pub status : (outcome.status ≡ 1) ↔ (0 < errors_in (transcript setting None (lines_of bytes)))
 
 -- the errors are the ERROR events in the transcript of the bytes that a source had
@@ -51,11 +55,11 @@ CountsErrors setting outcome left = (bytes : List ℕ) → left ≡ Some bytes �
 -- Each account took what the lines of the bytes that a source had ask for the session that counts for it.
 abbrev pub TakesAsked : Setting → Option (List ℕ) → Space → Space → Type 0
 TakesAsked setting left before after =
-    (bytes : List ℕ) → left ≡ Some bytes → (account : ℕ) → taken after account ≡ risen (taken before account) (asked_by reads None setting.options [] setting.shelf (lines_of bytes) (account + 1))
+    (bytes : List ℕ) → left ≡ Some bytes → (account : ℕ) → taken after account ≡ risen (taken before account) (asked_by reads None setting.options setting.kinds setting.shelf (lines_of bytes) (account + 1))
 
 -- what a session asks that counts for this account, as it opens and by lines; nothing, where no session does
 abbrev pub asked_of : Setting → List (List ℕ) → ℕ → ℕ
-asked_of setting lines account = if nat_lt account setting.options.sessions then asked_in_all reads None setting.options [] setting.shelf lines (account + 1) else 0
+asked_of setting lines account = if nat_lt account setting.options.sessions then asked_in_all reads None setting.options setting.kinds setting.shelf lines (account + 1) else 0
 
 -- Each session's account took what the opening of the session and the lines of the bytes that a source had ask for it; no other account took any.
 abbrev pub TakesAll : Setting → Option (List ℕ) → Space → Space → Type 0
@@ -66,7 +70,7 @@ abbrev pub AreWhole : ℕ → List ℕ → Option (List ℕ) → Type 0
 AreWhole lines bytes left = (lines ≤ length (ended_lines (take most_bytes bytes))) ⊎ ((length bytes ≤ most_bytes) × IsAtEnd left)
 
 -- Status 5 with a call: the transcript in which that call was refused, recovered from and followed by the ends of all sessions.
-pub record IsWanted (setting : Setting) (outcome : Outcome) (left left' written written' : Option (List ℕ)) (shelf' : ShelfState) : Type 0 where
+pub record IsWanted (setting : Setting) (outcome : Outcome) (left left' written written' : Option (List ℕ)) (shelf' : ShelfState) (kinds' : List Kind) : Type 0 where
   pub bytes : List ℕ
   pub given : HasGiven bytes left left'
   pub short : length bytes ≤ most_bytes
@@ -75,9 +79,10 @@ pub record IsWanted (setting : Setting) (outcome : Outcome) (left left' written 
   pub text : HasWritten setting (Some outcome.call) (lines_of bytes) written written'
   pub errors : outcome.errors ≡ errors_in (transcript setting (Some outcome.call) (lines_of bytes))
   pub hooks : shelf' ≡ shelf_after setting (Some outcome.call) (lines_of bytes)
+  pub kinds : kinds' ≡ kinds_after setting (Some outcome.call) (lines_of bytes)
 
 -- Status 3: the source failed, and the transcript of the lines whose newline it had given was written.
-pub record IsCutOff (setting : Setting) (outcome : Outcome) (left left' written written' : Option (List ℕ)) (shelf' : ShelfState) : Type 0 where
+pub record IsCutOff (setting : Setting) (outcome : Outcome) (left left' written written' : Option (List ℕ)) (shelf' : ShelfState) (kinds' : List Kind) : Type 0 where
   pub bytes : List ℕ
   pub given : HasGiven bytes left left'
   pub short : length bytes ≤ most_bytes
@@ -85,9 +90,10 @@ pub record IsCutOff (setting : Setting) (outcome : Outcome) (left left' written 
   pub text : HasWritten setting None (ended_lines bytes) written written'
   pub errors : outcome.errors ≡ errors_in (transcript setting None (ended_lines bytes))
   pub hooks : shelf' ≡ shelf_after setting None (ended_lines bytes)
+  pub kinds : kinds' ≡ kinds_after setting None (ended_lines bytes)
 
 -- Status 6: the source has a byte past the most bytes of a script, and the transcript of the lines whose newline is among those was written.
-pub record IsTooLong (setting : Setting) (outcome : Outcome) (left left' written written' : Option (List ℕ)) (shelf' : ShelfState) : Type 0 where
+pub record IsTooLong (setting : Setting) (outcome : Outcome) (left left' written written' : Option (List ℕ)) (shelf' : ShelfState) (kinds' : List Kind) : Type 0 where
   pub bytes : List ℕ
   pub over : ℕ
   pub given : HasGiven (bytes ++ over ∷ []) left left'
@@ -96,13 +102,14 @@ pub record IsTooLong (setting : Setting) (outcome : Outcome) (left left' written
   pub text : HasWritten setting None (ended_lines bytes) written written'
   pub errors : outcome.errors ≡ errors_in (transcript setting None (ended_lines bytes))
   pub hooks : shelf' ≡ shelf_after setting None (ended_lines bytes)
+  pub kinds : kinds' ≡ kinds_after setting None (ended_lines bytes)
 
 -- the fallible call that a number names as refused; 0 names none
 abbrev pub refused_call : ℕ → Option ℕ
 refused_call call = if call == 0 then None else Some call
 
 -- Status 4: the sink failed, and a front of the transcript of the lines that were performed was written.
-pub record IsUnwritten (setting : Setting) (outcome : Outcome) (left left' written written' : Option (List ℕ)) (shelf' : ShelfState) : Type 0 where
+pub record IsUnwritten (setting : Setting) (outcome : Outcome) (left left' written written' : Option (List ℕ)) (shelf' : ShelfState) (kinds' : List Kind) : Type 0 where
   pub bytes : List ℕ
   pub given : HasGiven bytes left left'
   pub short : length bytes ≤ most_bytes + 1
@@ -110,19 +117,33 @@ pub record IsUnwritten (setting : Setting) (outcome : Outcome) (left left' writt
   pub read : outcome.lines ≤ length (lines_of bytes)
   pub front : List ℕ
   pub rest : List ℕ
-  pub parts : front ++ rest ≡ text_of_transcript (transcript setting (refused_call outcome.call) (take outcome.lines (lines_of bytes)))
+  pub parts : front ++ rest ≡ text_in setting (transcript setting (refused_call outcome.call) (take outcome.lines (lines_of bytes)))
   pub taken : written' ≡ append_known written front
   pub defined : 0 < outcome.call → EndsAt setting outcome.call (take outcome.lines (lines_of bytes)) outcome.lines
   pub errors : outcome.errors ≡ errors_in (transcript setting (refused_call outcome.call) (take outcome.lines (lines_of bytes)))
   pub hooks : shelf' ≡ shelf_after setting (refused_call outcome.call) (take outcome.lines (lines_of bytes))
+  pub kinds : kinds' ≡ kinds_after setting (refused_call outcome.call) (take outcome.lines (lines_of bytes))
 
--- Status 5 without a call: not all sessions were started, nothing was read or written, and the hooks are as they were.
-pub record IsNotStarted (outcome : Outcome) (left left' written written' : Option (List ℕ)) (shelf shelf' : ShelfState) : Type 0 where
+-- Status 5 without a call: not all sessions were started, nothing was read or written, and hooks and kinds are as they were.
+pub record IsNotStarted (outcome : Outcome) (left left' written written' : Option (List ℕ)) (shelf shelf' : ShelfState) (before kinds' : List Kind) : Type 0 where
   pub hooks : shelf' ≡ shelf
+  pub kinds : kinds' ≡ before
   pub lines : outcome.lines ≡ 0
   pub errors : outcome.errors ≡ 0
   pub unread : left' ≡ left
   pub unwritten : written' ≡ written
+
+-- The space has this limit, and no account took any bytes but those of so many sessions.
+pub record IsSharedOut (sessions limit : ℕ) (before after : Space) : Type 0 where
+  pub limit_is : after.limit ≡ limit
+  pub others : (account : ℕ) → sessions ≤ account → taken after account ≡ taken before account
+
+-- Extension kinds of which nothing is left open: each has its name, its limit and its place in a release, and holds each key as often as
+-- before.
+pub record AreKept (before after : List Kind) : Type 0 where
+  pub table : table_of after ≡ table_of before
+  pub limits : map (λ k. k.limit) after ≡ map (λ k. k.limit) before
+  pub keys : (kind : KindId) (key : ℕ) → times_held after kind key ≡ times_held before kind key
 
 -- a front of the usage line was written
 pub record IsUsageFront (written written' : Option (List ℕ)) : Type 0 where

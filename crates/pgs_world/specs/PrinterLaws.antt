@@ -1,11 +1,10 @@
 -- The laws of a printer's events.
 use Rattle.std.specs.Prelude.{◌≡◌, ℕ, List, [], ◌++◌, Option, refl}
 use Rattle.std.proofs.Common.{◌∙◌, arith, subst, append-nil}
-use Rattle.pgs_world.specs.Transcript.{text_of_transcript}
 use Rattle.pgs_step.specs.declared.events.What.{What}
 use Rattle.pgs_world.specs.declared.printer.Printer.{Printer}
 use Rattle.pgs_step.specs.declared.events.Event.{Event}
-use Rattle.session_rules.specs.Transcript.{of_session}
+use Rattle.session_rules.specs.Transcript.{of_session, text_of_transcript}
 use Rattle.pgs_world.specs.PrinterView.{ShowsEvents, TakesEvents, TakesBytes, seen}
 use Rattle.pgs_world.specs.Printing.{Moves}
 use Rattle.pgs_world.specs.PrintingLaws.{Prints-none, Prints-more, Moves-more, Shows-none, Shows-more, Shows-taken, Shows-turned}
@@ -28,13 +27,14 @@ module _ {K : Type 0} (written : K → Option (List ℕ)) (faults : K → ℕ) w
     never_falls = omega (arith, p.never_falls, q.never_falls);
     errors = q.errors ∙ p.errors;
     session = q.session ∙ p.session;
+    names = q.names ∙ p.names;
   }
 
   -- what is handed on brings no event
   pub TakesEvents-flush : (a b : Printer K) → TakesBytes written faults a [] b → TakesEvents written faults a [] b
   TakesEvents-flush a b h = record {
     same_sink = h.same_sink;
-    prints = record { bytes = h.moves; never_falls = h.never_falls; errors = omega (arith, h.errors); session = h.session };
+    prints = record { bytes = h.moves; never_falls = h.never_falls; errors = omega (arith, h.errors); session = h.session; names = h.names };
   }
 
   pub ShowsEvents-none : (a : Printer K) → ShowsEvents written faults a [] a
@@ -63,10 +63,11 @@ module _ {K : Type 0} (written : K → Option (List ℕ)) (faults : K → ℕ) w
   ShowsEvents-flush a b c xs p q = record {
     same_sink = q.same_sink ∙ p.same_sink;
     shows = record {
-      bytes = subst (λ (z : List ℕ). Moves a.failed c.failed (seen written faults a) (seen written faults c) z) (append-nil (text_of_transcript xs))
-          (Moves-more a.failed b.failed c.failed (seen written faults a) (seen written faults b) (seen written faults c) (text_of_transcript xs) [] q.never_falls p.shows.bytes q.moves);
+      bytes = subst (λ (z : List ℕ). Moves a.failed c.failed (seen written faults a) (seen written faults c) z) (append-nil (text_of_transcript a.names.now xs))
+          (Moves-more a.failed b.failed c.failed (seen written faults a) (seen written faults b) (seen written faults c) (text_of_transcript a.names.now xs) [] q.never_falls p.shows.bytes q.moves);
       never_falls = omega (arith, p.shows.never_falls, q.never_falls);
       errors = omega (arith, p.shows.errors, q.errors);
+      names = q.names ∙ p.shows.names;
     };
   }
 
@@ -75,10 +76,11 @@ module _ {K : Type 0} (written : K → Option (List ℕ)) (faults : K → ℕ) w
   ShowsEvents-still a b c xs p q = record {
     same_sink = q.same_sink ∙ p.same_sink;
     shows = record {
-      bytes = subst (λ (z : List ℕ). Moves a.failed c.failed (seen written faults a) (seen written faults c) z) (append-nil (text_of_transcript xs))
-          (Moves-more a.failed b.failed c.failed (seen written faults a) (seen written faults b) (seen written faults c) (text_of_transcript xs) [] q.prints.never_falls p.shows.bytes q.prints.bytes);
+      bytes = subst (λ (z : List ℕ). Moves a.failed c.failed (seen written faults a) (seen written faults c) z) (append-nil (text_of_transcript a.names.now xs))
+          (Moves-more a.failed b.failed c.failed (seen written faults a) (seen written faults b) (seen written faults c) (text_of_transcript a.names.now xs) [] q.prints.never_falls p.shows.bytes q.prints.bytes);
       never_falls = omega (arith, p.shows.never_falls, q.prints.never_falls);
       errors = omega (arith, p.shows.errors, q.prints.errors);
+      names = q.prints.names ∙ p.shows.names;
     };
   }
 

@@ -14,6 +14,7 @@ module _ {K : Type 0} (written : K → Option (List ℕ)) (faults : K → ℕ) w
     failed = p.failed;
     errors = p.errors;
     session = p.session;
+    names = p.names.now;
   }
 
   -- the printer writes to the same sink as before, and took these events
@@ -33,3 +34,4 @@ module _ {K : Type 0} (written : K → Option (List ℕ)) (faults : K → ℕ) w
     pub never_falls : faults old.sink.now ≤ faults new.sink.now
     pub errors : new.errors ≡ old.errors
     pub session : new.session ≡ old.session
+    pub names : new.names.now ≡ old.names.now

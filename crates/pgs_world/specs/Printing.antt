@@ -5,11 +5,11 @@ use Rattle.pgs_io.specs.Faults.{HasRisen}
 use Rattle.pgs_step.specs.declared.events.What.{What}
 use Rattle.pgs_step.specs.Text.{texts_of}
 use Rattle.pgs_step.specs.declared.events.Event.{Event}
-use Rattle.session_rules.specs.Transcript.{errors_in}
-use Rattle.pgs_world.specs.Transcript.{errors_among, text_of_transcript}
+use Rattle.session_rules.specs.Transcript.{errors_in, text_of_transcript}
+use Rattle.pgs_world.specs.Transcript.{errors_among}
 
 -- A printer: what its sink has taken, where it tells that, and how often it failed; what is gathered for the sink and not handed on;
--- whether a write has failed, how many ERROR events there were, and the session whose events it takes.
+-- whether a write has failed, how many ERROR events there were, the session whose events it takes, and the names of the extension kinds.
 pub record Gathering : Type 0 where
   pub written : Option (List ℕ)
   pub faults : ℕ
@@ -17,6 +17,7 @@ pub record Gathering : Type 0 where
   pub failed : Bool
   pub errors : ℕ
   pub session : ℕ
+  pub names : List (List ℕ)
 
 -- of what was gathered and is new, a part was handed on, and the rest is gathered now
 pub record HandsOn (old new : Gathering) (text : List ℕ) (rest : List ℕ) : Type 0 where
@@ -48,13 +49,15 @@ Moves true false old new text = ⊥
 
 -- the printer took these events of its session
 pub record Prints (old : Gathering) (events : List What) (new : Gathering) : Type 0 where
-  pub bytes : Moves old.failed new.failed old new (texts_of [] old.session events)
+  pub bytes : Moves old.failed new.failed old new (texts_of old.names old.session events)
   pub never_falls : old.faults ≤ new.faults
   pub errors : min new.errors (2 ^ 64 - 1) ≡ min (old.errors + errors_among events) (2 ^ 64 - 1)
   pub session : new.session ≡ old.session
+  pub names : new.names ≡ old.names
 
 -- the printer took these events, each with its session
 pub record Shows (old : Gathering) (events : List Event) (new : Gathering) : Type 0 where
-  pub bytes : Moves old.failed new.failed old new (text_of_transcript events)
+  pub bytes : Moves old.failed new.failed old new (text_of_transcript old.names events)
   pub never_falls : old.faults ≤ new.faults
   pub errors : min new.errors (2 ^ 64 - 1) ≡ min (old.errors + errors_in events) (2 ^ 64 - 1)
+  pub names : new.names ≡ old.names

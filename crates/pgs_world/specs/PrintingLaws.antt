@@ -4,9 +4,9 @@ use Rattle.std.specs.Io.KnownBytes.{append_known}
 use Rattle.pgs_io.specs.Faults.{HasRisen}
 use Rattle.pgs_step.specs.declared.events.What.{What}
 use Rattle.pgs_step.specs.Text.{texts_of, text_of}
-use Rattle.pgs_world.specs.Transcript.{errors_among, text_of_transcript}
+use Rattle.pgs_world.specs.Transcript.{errors_among}
 use Rattle.pgs_step.specs.declared.events.Event.{Event}
-use Rattle.session_rules.specs.Transcript.{errors_in, of_session}
+use Rattle.session_rules.specs.Transcript.{errors_in, of_session, text_of_transcript}
 use Rattle.pgs_world.specs.Printing.{Gathering, HandsOn, Moves, Prints, Shows}
 use Rattle.std.proofs.lemmas.Grind.{common_steps}
 
@@ -22,14 +22,14 @@ pub errors_among-append : (xs ys : List What) → errors_among (xs ++ ys) ≡ er
 errors_among-append [] ys = omega arith
 errors_among-append (x ∷ xs) ys = grind (arith, common_steps, errors_among-append xs ys)
 
-pub texts_of-append : (session : ℕ) (xs ys : List What) → texts_of [] session (xs ++ ys) ≡ texts_of [] session xs ++ texts_of [] session ys
-texts_of-append session [] ys = refl
-texts_of-append session (x ∷ xs) ys =
-    ap (λ (z : List ℕ). text_of [] (record { session = session; what = x }) ++ z) (texts_of-append session xs ys)
-    ∙ sym (append_assoc (text_of [] (record { session = session; what = x })) (texts_of [] session xs) (texts_of [] session ys))
+pub texts_of-append : (names : List (List ℕ)) (session : ℕ) (xs ys : List What) → texts_of names session (xs ++ ys) ≡ texts_of names session xs ++ texts_of names session ys
+texts_of-append names session [] ys = refl
+texts_of-append names session (x ∷ xs) ys =
+    ap (λ (z : List ℕ). text_of names (record { session = session; what = x }) ++ z) (texts_of-append names session xs ys)
+    ∙ sym (append_assoc (text_of names (record { session = session; what = x })) (texts_of names session xs) (texts_of names session ys))
 
-pub texts_of-one : (session : ℕ) (what : What) → texts_of [] session (what ∷ []) ≡ text_of [] (record { session = session; what = what })
-texts_of-one session what = append-nil (text_of [] (record { session = session; what = what }))
+pub texts_of-one : (names : List (List ℕ)) (session : ℕ) (what : What) → texts_of names session (what ∷ []) ≡ text_of names (record { session = session; what = what })
+texts_of-one names session what = append-nil (text_of names (record { session = session; what = what }))
 
 pub hands_more : (a b c : Gathering) (xs ys rest : List ℕ) → HandsOn a b xs b.gathered → HandsOn b c ys rest → HandsOn a c (xs ++ ys) rest
 hands_more a b c xs ys rest p q = record {
@@ -64,18 +64,20 @@ Moves-more true false h a b c xs ys n p q = absurd p
 Moves-more true true false a b c xs ys n p q = absurd q
 
 pub Prints-none : (a : Gathering) → Prints a [] a
-Prints-none a = record { bytes = Moves-none a.failed a; never_falls = omega arith; errors = omega arith; session = refl }
+Prints-none a = record { bytes = Moves-none a.failed a; never_falls = omega arith; errors = omega arith; session = refl; names = refl }
 
 pub Prints-more : (a b c : Gathering) (xs ys both : List What) → Prints a xs b → Prints b ys c → xs ++ ys ≡ both → Prints a both c
 Prints-more a b c xs ys both p q e =
     subst (λ (z : List What). Prints a z c) e
     (record {
-      bytes = subst (Moves a.failed c.failed a c) (sym (texts_of-append a.session xs ys))
-          (Moves-more a.failed b.failed c.failed a b c (texts_of [] a.session xs) (texts_of [] a.session ys) q.never_falls p.bytes
-          (subst (λ (s : ℕ). Moves b.failed c.failed b c (texts_of [] s ys)) p.session q.bytes));
+      bytes = subst (Moves a.failed c.failed a c) (sym (texts_of-append a.names a.session xs ys))
+          (Moves-more a.failed b.failed c.failed a b c (texts_of a.names a.session xs) (texts_of a.names a.session ys) q.never_falls p.bytes
+          (subst (λ (names : List (List ℕ)). Moves b.failed c.failed b c (texts_of names a.session ys)) p.names
+          (subst (λ (s : ℕ). Moves b.failed c.failed b c (texts_of b.names s ys)) p.session q.bytes)));
       never_falls = omega (arith, p.never_falls, q.never_falls);
       errors = omega (arith, p.errors, q.errors, errors_among-append xs ys);
       session = q.session ∙ p.session;
+      names = q.names ∙ p.names;
     })
 
 -- the same for events of sessions
@@ -83,36 +85,40 @@ pub errors_in-append : (xs ys : List Event) → errors_in (xs ++ ys) ≡ errors_
 errors_in-append [] ys = omega arith
 errors_in-append (x ∷ xs) ys = grind (arith, common_steps, errors_in-append xs ys)
 
-pub text-append : (xs ys : List Event) → text_of_transcript (xs ++ ys) ≡ text_of_transcript xs ++ text_of_transcript ys
-text-append [] ys = refl
-text-append (x ∷ xs) ys =
-    ap (λ (z : List ℕ). text_of [] x ++ z) (text-append xs ys) ∙ sym (append_assoc (text_of [] x) (text_of_transcript xs) (text_of_transcript ys))
+pub text-append : (names : List (List ℕ)) (xs ys : List Event) → text_of_transcript names (xs ++ ys) ≡ text_of_transcript names xs ++ text_of_transcript names ys
+text-append names [] ys = refl
+text-append names (x ∷ xs) ys =
+    ap (λ (z : List ℕ). text_of names x ++ z) (text-append names xs ys)
+    ∙ sym (append_assoc (text_of names x) (text_of_transcript names xs) (text_of_transcript names ys))
 
-pub text_of_one_session : (n : ℕ) (whats : List What) → text_of_transcript (of_session n whats) ≡ texts_of [] n whats
-text_of_one_session n [] = refl
-text_of_one_session n (what ∷ whats) = ap (λ (z : List ℕ). text_of [] (record { session = n; what = what }) ++ z) (text_of_one_session n whats)
+pub text_of_one_session : (names : List (List ℕ)) (n : ℕ) (whats : List What) → text_of_transcript names (of_session n whats) ≡ texts_of names n whats
+text_of_one_session names n [] = refl
+text_of_one_session names n (what ∷ whats) = ap (λ (z : List ℕ). text_of names (record { session = n; what = what }) ++ z) (text_of_one_session names n whats)
 
 pub errors_of_one_session : (n : ℕ) (whats : List What) → errors_in (of_session n whats) ≡ errors_among whats
 errors_of_one_session n [] = refl
 errors_of_one_session n (what ∷ whats) = grind (arith, common_steps, errors_of_one_session n whats)
 
 pub Shows-none : (a : Gathering) → Shows a [] a
-Shows-none a = record { bytes = Moves-none a.failed a; never_falls = omega arith; errors = omega arith }
+Shows-none a = record { bytes = Moves-none a.failed a; never_falls = omega arith; errors = omega arith; names = refl }
 
 pub Shows-more : (a b c : Gathering) (xs ys : List Event) → Shows a xs b → Shows b ys c → Shows a (xs ++ ys) c
 Shows-more a b c xs ys p q = record {
-  bytes = subst (Moves a.failed c.failed a c) (sym (text-append xs ys))
-      (Moves-more a.failed b.failed c.failed a b c (text_of_transcript xs) (text_of_transcript ys) q.never_falls p.bytes q.bytes);
+  bytes = subst (Moves a.failed c.failed a c) (sym (text-append a.names xs ys))
+      (Moves-more a.failed b.failed c.failed a b c (text_of_transcript a.names xs) (text_of_transcript a.names ys) q.never_falls p.bytes
+      (subst (λ (names : List (List ℕ)). Moves b.failed c.failed b c (text_of_transcript names ys)) p.names q.bytes));
   never_falls = omega (arith, p.never_falls, q.never_falls);
   errors = omega (arith, p.errors, q.errors, errors_in-append xs ys);
+  names = q.names ∙ p.names;
 }
 
 -- what a printer took of its session, as events of that session
 pub Shows-taken : (a b : Gathering) (whats : List What) (n : ℕ) → Prints a whats b → a.session ≡ n → Shows a (of_session n whats) b
 Shows-taken a b whats n p is = record {
-  bytes = subst (Moves a.failed b.failed a b) (ap (λ (k : ℕ). texts_of [] k whats) is ∙ sym (text_of_one_session n whats)) p.bytes;
+  bytes = subst (Moves a.failed b.failed a b) (ap (λ (k : ℕ). texts_of a.names k whats) is ∙ sym (text_of_one_session a.names n whats)) p.bytes;
   never_falls = p.never_falls;
   errors = omega (arith, p.errors, errors_of_one_session n whats);
+  names = p.names;
 }
 
 -- a printer that turns to another session
@@ -123,4 +129,4 @@ Moves-turned true true a b n text m = record { silent = m.silent }
 Moves-turned true false a b n text m = m
 
 pub Shows-turned : (a b : Gathering) (n : ℕ) (xs : List Event) → Shows a xs b → Shows a xs (record b { session = n })
-Shows-turned a b n xs p = record { bytes = Moves-turned a.failed b.failed a b n (text_of_transcript xs) p.bytes; never_falls = p.never_falls; errors = p.errors }
+Shows-turned a b n xs p = record { bytes = Moves-turned a.failed b.failed a b n (text_of_transcript a.names xs) p.bytes; never_falls = p.never_falls; errors = p.errors; names = p.names }

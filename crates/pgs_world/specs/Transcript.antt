@@ -1,37 +1,44 @@
 -- The transcript of a script, by the rules of sessions.
-use Rattle.std.specs.Prelude.{◌≡◌, ℕ, true, List, [], count_by, Option, Some}
+use Rattle.std.specs.Prelude.{◌≡◌, ℕ, true, List, count_by, Option, Some}
 use Rattle.pgs_step.specs.declared.events.Event.{Event}
 use Rattle.pgs_step.specs.declared.events.What.{What}
+use Rattle.owner_kinds.specs.Kind.{Kind}
+use Rattle.owner_kinds.specs.KindShelf.{table_of}
 use Rattle.pgs_options.specs.declared.options.Options as words
 use Rattle.reset_callbacks.specs.ShelfState.{ShelfState}
 use Rattle.session_rules.specs.World.{Options}
-use Rattle.session_rules.specs.Transcript as rules
-use Rattle.session_rules.specs.Transcript.{Course, course_by, ended, is_error, transcript_by}
+use Rattle.session_rules.specs.Transcript.{Course, course_by, ended, is_error, text_of_transcript, transcript_by}
 use Rattle.pgs_world.specs.Script.{reads}
 
--- how a run is set up: with these options, and these hooks on the shelf
+-- how a run is set up: with these options, these hooks on the shelf, and these extension kinds
 pub record Setting : Type 0 where
   pub options : Options
   pub shelf : ShelfState
+  pub kinds : List Kind
 
--- what words ask for, and the hooks that are on the shelf
-abbrev pub setting_for : words.Options → ShelfState → Setting
-setting_for options shelf = record {
+-- what words ask for, the hooks that are on the shelf, and the extension kinds
+abbrev pub setting_for : words.Options → ShelfState → List Kind → Setting
+setting_for options shelf kinds = record {
   options = record { sessions = options.sessions; space = options.space; descriptors = options.descriptors; fail = options.fail };
   shelf = shelf;
+  kinds = kinds;
 }
 
 -- the course of a script; w is the number of the fallible call that is refused for want of memory, if any
 unfoldable pub course_of : Setting → Option ℕ → List (List ℕ) → Course
-course_of setting w lines = course_by reads w setting.options [] setting.shelf lines
+course_of setting w lines = course_by reads w setting.options setting.kinds setting.shelf lines
 
 -- the transcript of lines: their events, and then those of the ends of all sessions
 unfoldable pub transcript : Setting → Option ℕ → List (List ℕ) → List Event
-transcript setting w lines = transcript_by reads w setting.options [] setting.shelf lines
+transcript setting w lines = transcript_by reads w setting.options setting.kinds setting.shelf lines
 
 -- the hooks behind the ends of all sessions
 unfoldable pub shelf_after : Setting → Option ℕ → List (List ℕ) → ShelfState
 shelf_after setting w lines = (ended (course_of setting w lines)).world.shelf
+
+-- the extension kinds behind the ends of all sessions, with the keys that they hold then
+unfoldable pub kinds_after : Setting → Option ℕ → List (List ℕ) → List Kind
+kinds_after setting w lines = (ended (course_of setting w lines)).world.kinds
 
 -- The lines make call w, which ends the script at the line of this number.
 pub record EndsAt (setting : Setting) (w : ℕ) (lines : List (List ℕ)) (line : ℕ) : Type 0 where
@@ -42,6 +49,10 @@ pub record EndsAt (setting : Setting) (w : ℕ) (lines : List (List ℕ)) (line 
 abbrev pub errors_among : List What → ℕ
 errors_among whats = count_by is_error whats
 
--- the bytes of a transcript, in a program without extension kinds
-abbrev pub text_of_transcript : List Event → List ℕ
-text_of_transcript events = rules.text_of_transcript [] events
+-- the names of the extension kinds, in their order
+abbrev pub names_of : List Kind → List (List ℕ)
+names_of kinds = (table_of kinds).names
+
+-- the bytes of a transcript in a run that is set up so
+abbrev pub text_in : Setting → List Event → List ℕ
+text_in setting events = text_of_transcript (names_of setting.kinds) events

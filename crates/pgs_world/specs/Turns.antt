@@ -2,6 +2,7 @@
 use Rattle.std.specs.Prelude.{◌≡◌, ℕ, ◌+◌, ◌<◌, ◌≤◌, Bool, true, false, List, ◌++◌, length, slice_get, Option, Some}
 use Rattle.addr_space.specs.Space.{Space, accounts, held, risen, taken}
 use Rattle.pgs_step.specs.declared.events.Event.{Event}
+use Rattle.pgs_step.specs.declared.ids.KindId.{KindId}
 use Rattle.session_rules.specs.State.{opening}
 use Rattle.session_rules.specs.World.{session_at}
 use Rattle.session_rules.specs.Transcript.{Course, after_command, ended}
@@ -11,7 +12,7 @@ use Rattle.session_store.specs.Calls.{Keeps, StaysBeside}
 use Rattle.session_core.specs.Answers.{Fits}
 use Rattle.session_core.specs.Performed.{HasRoom}
 use Rattle.pgs_world.specs.declared.lines.Said.{Said}
-use Rattle.pgs_world.specs.World.{HaveDescriptors, Run, SameRun, one_of, world_in}
+use Rattle.pgs_world.specs.World.{HaveDescriptors, Run, SameRun, held_by_all, one_of, world_in}
 
 -- no count of the run, or of one of its sessions, is above this bound
 pub record IsWithin (bound : ℕ) (run : Run) : Type 0 where
@@ -51,12 +52,13 @@ pub record TakesTurn (said : Said) (a b : Run) (shown : List Event → Type 0) (
   pub same : SameRun a b
 
 -- What the ends of all sessions made of a run: the same as of each course that leads to it. No account of a session holds anything then,
--- and none took anything.
+-- none took anything, and no session holds an item of an extension kind.
 pub record AllExit (a b : Run) (shown : List Event → Type 0) : Type 0 where
   pub leads : (descriptors : ℕ) → HaveDescriptors descriptors a → (course : Course) → course.world ≡ world_in descriptors a → (more : List Event) × ((ended course).events ≡ course.events ++ more) × shown more × ((ended course).world ≡ world_in descriptors b)
   pub calls : b.calls ≡ a.calls
   pub given_back : (account : ℕ) → account < length a.stores → held b.space account ≡ 0
   pub asks : (account : ℕ) → taken b.space account ≡ taken a.space account
+  pub none : (kind : KindId) (key : ℕ) → held_by_all kind key b.stores ≡ 0
   pub same : SameRun a b
 
 -- sessions that were started in a space with so many descriptors, one for each account from the first on
@@ -64,6 +66,7 @@ pub record IsOpened (descriptors : ℕ) (place : ℕ) (store : StoreState) (s : 
   pub session : session_of store s ≡ opening
   pub keeps : Keeps store s
   pub account : store.tree.account ≡ place
+  pub number : store.owners.session ≡ place + 1
   pub descriptors_are : store.owners.descriptors ≡ descriptors
   pub beside : StaysBeside store
 

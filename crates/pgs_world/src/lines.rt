@@ -67,6 +67,12 @@ fn is_built(command: &Command) -> bool
             | Command::Open(_)
             | Command::Touch(_)
             | Command::Close(_)
+            | Command::Acquire { .. }
+            | Command::Drop { .. }
+            | Command::Snapshot(_)
+            | Command::Unsnapshot(_)
+            | Command::Lock { .. }
+            | Command::Unlock { .. }
             | Command::Context { .. }
             | Command::Switch(_)
             | Command::OnReset(_)

@@ -13,6 +13,7 @@ ghost use Rattle.pgs_world.specs.Loop.{Performs, is_wanted_in, IsLineEnd, OnSour
 use crate::lines::read_line;
 use crate::printer::Printer;
 use crate::sessions::take_turn;
+use owner_kinds::ExtKind;
 use pgs_io::{Buffered, LineBuf, LineReader, Next, Sink, Source};
 use reset_callbacks::ResetHook;
 use session_core::{Session, Shared};
@@ -43,10 +44,10 @@ pub(crate) struct Ended {
 }
 
 /// Performs the lines of the source, up to its end or to the first failure.
-pub(crate) fn perform_lines<S: Source, K: Sink, H: ResetHook>(
+pub(crate) fn perform_lines<S: Source, K: Sink, H: ResetHook, X: ExtKind>(
     sessions: &mut [Session<H>],
     src: &mut S,
-    shared: &mut Shared<'_, H>,
+    shared: &mut Shared<'_, H, X>,
     printer: &mut Printer<'_, K>,
 ) -> Ended
     requires opening { IsOpening (run_of sessions.old shared.old) }
@@ -139,11 +140,11 @@ fn next_line<S: Source, K: Sink>(
 }
 
 /// Performs a line of which `kept` are the first bytes, and answers whether the script ends with it.
-fn perform_line<K: Sink, H: ResetHook>(
+fn perform_line<K: Sink, H: ResetHook, X: ExtKind>(
     sessions: &mut [Session<H>],
     kept: &[u8],
     long: bool,
-    shared: &mut Shared<'_, H>,
+    shared: &mut Shared<'_, H, X>,
     printer: &mut Printer<'_, K>,
 ) -> Option<End>
     requires standing { AreStanding 0 (run_of sessions.old shared.old) }

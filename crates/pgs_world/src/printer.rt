@@ -7,7 +7,7 @@ ghost use Rattle.session_rules.specs.Transcript.{is_error};
 
 use arrayvec::ArrayVec;
 use pgs_io::{Sink, put_all};
-use pgs_step::{Emit, Event, What, append_text};
+use pgs_step::{Emit, Event, Name, What, append_text};
 
 /// How many bytes are gathered before they are handed to the sink.
 const GATHERED: usize = 8192;
@@ -18,7 +18,7 @@ const PIECE: usize = 1024;
 /// The most bytes of a line of the transcript.
 const LINE: usize = 512;
 
-/// Prints the events of sessions into a sink, of one session at a time.
+/// Prints the events of sessions into a sink, of one session at a time, with these names of the extension kinds.
 ///
 /// Its output is gathered: the sink gets it when `GATHERED` bytes are full and when `flush` is called. Once
 /// a write has failed nothing is written any more. The count of ERROR events stays at 2^64 - 1 once it
@@ -30,16 +30,18 @@ pub(crate) struct Printer<'a, K> {
     failed: bool,
     errors: u64,
     session: u8,
+    names: &'a [Name],
 }
 
 impl<'a, K: Sink> Printer<'a, K> {
     /// A printer for the events of session 1, which has printed nothing.
-    pub(crate) fn new(sink: &'a mut K) -> Printer<'a, K>
+    pub(crate) fn new(sink: &'a mut K, names: &'a [Name]) -> Printer<'a, K>
         ensures same_sink { result.sink.ghost_name ≡ sink.entry.ghost_name }
         ensures sink { result.sink.now ≡ sink.old }
         ensures gathered { result.gathered.items ≡ [] }
         ensures failed { result.failed ≡ false }
         ensures errors { result.errors ≡ 0 }
+        ensures names { result.names.now ≡ names.now }
     {
         Printer {
             sink,
@@ -47,6 +49,7 @@ impl<'a, K: Sink> Printer<'a, K> {
             failed: false,
             errors: 0,
             session: 1,
+            names,
         }
     }
 
@@ -98,16 +101,16 @@ impl<'a, K: Sink> Printer<'a, K> {
     /// Appends the event's line where no write has failed.
     fn append(&mut self, event: &Event)
         requires { self.old.failed ≡ false → array_vec_len self.old.gathered + LINE ≤ GATHERED }
-        ensures { TakesBytes K.written K.faults self.old (text_of [] event.now) self.new }
+        ensures { TakesBytes K.written K.faults self.old (text_of self.old.names.now event.now) self.new }
     {
         if !self.failed {
-            append_text(event, &[], &mut self.gathered);
+            append_text(event, self.names, &mut self.gathered);
         }
     }
 
     /// Gathers the event's line, which is handed on with what comes behind it.
     fn gather(&mut self, event: &Event)
-        ensures { TakesBytes K.written K.faults self.old (text_of [] event.now) self.new }
+        ensures { TakesBytes K.written K.faults self.old (text_of self.old.names.now event.now) self.new }
     {
         self.make_room();
         self.append(event);

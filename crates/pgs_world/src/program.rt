@@ -9,9 +9,11 @@ ghost use Rattle.reset_callbacks.specs.Hook.{AreDistinct};
 ghost use Rattle.reset_callbacks.specs.ShelfState as shelf_state;
 ghost use Rattle.pgs_options.specs.Options.{options_of};
 ghost use Rattle.pgs_options.specs.declared.options.Options.{Options as Asked};
-ghost use Rattle.pgs_world.specs.Transcript.{setting_for};
+ghost use Rattle.owner_kinds.specs.KindShelf.{table_of};
+ghost use Rattle.owner_kinds.specs.KindTable.{IsSound};
+ghost use Rattle.pgs_world.specs.Transcript.{names_of, setting_for};
 ghost use Rattle.pgs_world.specs.World.{run_of, setting_at, setting_of, AreStanding, HaveDescriptors, IsOpening};
-ghost use Rattle.pgs_world.specs.Outcome.{most_bytes, usage_line, AskFor, IsWhole, IsWanted, IsCutOff, IsTooLong, IsUnwritten, IsNotStarted, IsUsageFront, CountsErrors, TakesAll, TakesAsked};
+ghost use Rattle.pgs_world.specs.Outcome.{most_bytes, usage_line, AskFor, IsWhole, IsWanted, IsCutOff, IsTooLong, IsUnwritten, IsNotStarted, IsSharedOut, IsUsageFront, AreKept, CountsErrors, TakesAll, TakesAsked};
 ghost use Rattle.pgs_world.specs.Ending.{outcome_of, status_of, IsPlayed};
 
 use crate::nowhere::Nowhere;
@@ -19,10 +21,13 @@ use crate::performing::{End, Ended, perform_lines};
 use crate::printer::Printer;
 use crate::sessions::{exit_all, start_sessions};
 use addr_space::Space;
+use owner_kinds::{ExtKind, KindShelf};
 use pgs_io::{Sink, Source, put_all};
 use pgs_options::{Options, OptionsError, read_options};
+use pgs_step::Name;
 use reset_callbacks::{ResetHook, Shelf};
 use session_core::{Calls, Session, Shared};
+use session_owners::Commons;
 use std::alloc::{AllocError, Global};
 use std::mem;
 
@@ -59,14 +64,16 @@ const NOT_STARTED: Outcome = Outcome {
 ///
 /// `words` are those of the command line, without the program's name; pgs_options reads them. The contexts of
 /// session n count for account n - 1 of the space, whose limit is set to what the words say. The hooks of all
-/// sessions come from the shelf, and each that ran is handed in there.
-pub fn run<S: Source, K: Sink, H: ResetHook>(
+/// sessions come from the shelf, and each that ran is handed in there. `acquire` and `drop` find the kinds by their names; the first of
+/// them is kind 16 in the library's events.
+pub fn run<S: Source, K: Sink, H: ResetHook, X: ExtKind>(
     alloc: Global,
     words: &[String],
     src: &mut S,
     out: &mut K,
     space: &mut Space,
     shelf: &mut Shelf<H>,
+    kinds: &mut KindShelf<X>,
 ) -> Outcome
     requires accounts { 64 ≤ accounts space.old }
     requires empty { (account : ℕ) → held space.old account ≡ 0 }
@@ -74,36 +81,39 @@ pub fn run<S: Source, K: Sink, H: ResetHook>(
 
     // Status 0 or 1: all of the source was read, and the whole transcript was written.
     ensures whole { (o : Asked) → AskFor (map string_text words.now) o → (result.status ≡ 0) ⊎ (result.status ≡ 1)
-        → IsWhole (setting_for o shelf.old) result (S.left src.old) (S.left src.new) (K.written out.old) (K.written out.new) shelf.new }
-    ensures counts { (o : Asked) → AskFor (map string_text words.now) o → (result.status ≡ 0) ⊎ (result.status ≡ 1) → CountsErrors (setting_for o shelf.old) result (S.left src.old) }
+        → IsWhole (setting_for o shelf.old kinds.old) result (S.left src.old) (S.left src.new) (K.written out.old) (K.written out.new) shelf.new kinds.new }
+    ensures counts { (o : Asked) → AskFor (map string_text words.now) o → (result.status ≡ 0) ⊎ (result.status ≡ 1) → CountsErrors (setting_for o shelf.old kinds.old) result (S.left src.old) }
 
     // Each session's account took what the session's opening and its lines ask for, and no other account anything.
-    ensures taken { (o : Asked) → AskFor (map string_text words.now) o → (result.status ≡ 0) ⊎ (result.status ≡ 1) → TakesAll (setting_for o shelf.old) (S.left src.old) space.old space.new }
+    ensures taken { (o : Asked) → AskFor (map string_text words.now) o → (result.status ≡ 0) ⊎ (result.status ≡ 1) → TakesAll (setting_for o shelf.old kinds.old) (S.left src.old) space.old space.new }
+
+    // Unless not all sessions were started, the space has the limit that the words say, and no account but a session's took any bytes.
+    ensures shared_out { (o : Asked) → AskFor (map string_text words.now) o → (result.status ≡ 5 → 0 < result.call) → IsSharedOut o.sessions o.space space.old space.new }
 
     // Status 2: the words are refused, and nothing was read.
     ensures usage { result.status ≡ 2 → K.written out.new ≡ append_known (K.written out.old) usage_line }
     ensures usage_words { result.status ≡ 2 → options_of (map string_text words.now) ≡ None }
     ensures refused { options_of (map string_text words.now) ≡ None → (result.status ≡ 2) ⊎ (result.status ≡ 4) ⊎ (result.status ≡ 5) }
-    ensures refused_unread { options_of (map string_text words.now) ≡ None → (src.new ≡ src.old) × (space.new ≡ space.old) × (shelf.new ≡ shelf.old) }
+    ensures refused_unread { options_of (map string_text words.now) ≡ None → (src.new ≡ src.old) × (space.new ≡ space.old) × (shelf.new ≡ shelf.old) × (kinds.new ≡ kinds.old) }
     ensures refused_counts { options_of (map string_text words.now) ≡ None → (result.call ≡ 0) × (result.errors ≡ 0) × (result.lines ≡ 0) }
 
     // Status 3: the source failed. Status 6: it has a byte too many.
     ensures source_fault { result.status ≡ 3 → HasRisen (S.faults src.old) (S.faults src.new) }
     ensures cut_off { (o : Asked) → AskFor (map string_text words.now) o → result.status ≡ 3
-        → IsCutOff (setting_for o shelf.old) result (S.left src.old) (S.left src.new) (K.written out.old) (K.written out.new) shelf.new }
+        → IsCutOff (setting_for o shelf.old kinds.old) result (S.left src.old) (S.left src.new) (K.written out.old) (K.written out.new) shelf.new kinds.new }
     ensures too_long { (o : Asked) → AskFor (map string_text words.now) o → result.status ≡ 6
-        → IsTooLong (setting_for o shelf.old) result (S.left src.old) (S.left src.new) (K.written out.old) (K.written out.new) shelf.new }
+        → IsTooLong (setting_for o shelf.old kinds.old) result (S.left src.old) (S.left src.new) (K.written out.old) (K.written out.new) shelf.new kinds.new }
 
     // Status 4: the sink failed.
     ensures sink_fault { result.status ≡ 4 → HasRisen (K.faults out.old) (K.faults out.new) }
     ensures unwritten { (o : Asked) → AskFor (map string_text words.now) o → result.status ≡ 4
-        → IsUnwritten (setting_for o shelf.old) result (S.left src.old) (S.left src.new) (K.written out.old) (K.written out.new) shelf.new }
+        → IsUnwritten (setting_for o shelf.old kinds.old) result (S.left src.old) (S.left src.new) (K.written out.old) (K.written out.new) shelf.new kinds.new }
     ensures usage_unwritten { options_of (map string_text words.now) ≡ None → result.status ≡ 4 → IsUsageFront (K.written out.old) (K.written out.new) }
 
     // Status 5: memory was wanted, at the call that is named, or before all sessions had started.
     ensures wanted { (o : Asked) → AskFor (map string_text words.now) o → result.status ≡ 5 → 0 < result.call
-        → IsWanted (setting_for o shelf.old) result (S.left src.old) (S.left src.new) (K.written out.old) (K.written out.new) shelf.new }
-    ensures not_started { result.status ≡ 5 → result.call ≡ 0 → IsNotStarted result (S.left src.old) (S.left src.new) (K.written out.old) (K.written out.new) shelf.old shelf.new }
+        → IsWanted (setting_for o shelf.old kinds.old) result (S.left src.old) (S.left src.new) (K.written out.old) (K.written out.new) shelf.new kinds.new }
+    ensures not_started { result.status ≡ 5 → result.call ≡ 0 → IsNotStarted result (S.left src.old) (S.left src.new) (K.written out.old) (K.written out.new) shelf.old shelf.new kinds.old kinds.new }
 
     // A fault that was met shows in the status, and there are no other statuses.
     ensures source_grew { S.faults src.old < S.faults src.new → (result.status ≡ 3) ⊎ (result.status ≡ 4) }
@@ -111,9 +121,10 @@ pub fn run<S: Source, K: Sink, H: ResetHook>(
     ensures statuses { result.status ≤ 6 }
     ensures call { result.status ≢ 4 → result.status ≢ 5 → result.call ≡ 0 }
 
-    // Whatever the answer, the space holds nothing again.
+    // Whatever the answer, the space holds nothing again, and each extension kind holds each key as often as before.
     ensures given_back { (account : ℕ) → held space.new account ≡ 0 }
     ensures accounts { accounts space.new ≡ accounts space.old }
+    ensures kinds_kept { AreKept kinds.old kinds.new }
 
     // Accepted words, no fault and no byte too many give the whole transcript, unless memory was wanted.
     ensures complete { (o : Asked) → AskFor (map string_text words.now) o → (bytes : List ℕ) → S.left src.old ≡ Some bytes → length bytes ≤ most_bytes
@@ -121,20 +132,21 @@ pub fn run<S: Source, K: Sink, H: ResetHook>(
         → (result.status ≡ 0) ⊎ (result.status ≡ 1) ⊎ (result.status ≡ 5) }
 {
     match read_options(alloc, words) {
-        Ok(options) => start(alloc, &options, src, out, space, shelf),
+        Ok(options) => start(alloc, &options, src, out, space, shelf, kinds),
         Err(OptionsError::Refused) => refuse(out),
         Err(OptionsError::Memory) => NOT_STARTED,
     }
 }
 
-/// Lends space and shelf to the sessions, and plays the script.
-fn start<S: Source, K: Sink, H: ResetHook>(
+/// Lends space, shelf and kinds to the sessions, and plays the script.
+fn start<S: Source, K: Sink, H: ResetHook, X: ExtKind>(
     alloc: Global,
     options: &Options,
     src: &mut S,
     out: &mut K,
     space: &mut Space,
     shelf: &mut Shelf<H>,
+    kinds: &mut KindShelf<X>,
 ) -> Outcome
     requires accounts { options.now.sessions ≤ accounts space.old }
     requires some { 0 < options.now.sessions }
@@ -142,23 +154,28 @@ fn start<S: Source, K: Sink, H: ResetHook>(
     requires descriptors { 0 < options.now.descriptors }
     requires empty { (account : ℕ) → held space.old account ≡ 0 }
     requires hooks { AreDistinct (shelf_state.held shelf.old) }
-    ensures taken { (result.status ≡ 0) ⊎ (result.status ≡ 1) → TakesAll (setting_for options.now shelf.old) (S.left src.old) space.old space.new }
-    ensures whole { (result.status ≡ 0) ⊎ (result.status ≡ 1) → IsWhole (setting_for options.now shelf.old) result (S.left src.old) (S.left src.new) (K.written out.old) (K.written out.new) shelf.new }
+    ensures taken { (result.status ≡ 0) ⊎ (result.status ≡ 1) → TakesAll (setting_for options.now shelf.old kinds.old) (S.left src.old) space.old space.new }
+    ensures whole { (result.status ≡ 0) ⊎ (result.status ≡ 1) → IsWhole (setting_for options.now shelf.old kinds.old) result (S.left src.old) (S.left src.new) (K.written out.old) (K.written out.new) shelf.new kinds.new }
     ensures source_fault { result.status ≡ 3 → HasRisen (S.faults src.old) (S.faults src.new) }
-    ensures cut_off { result.status ≡ 3 → IsCutOff (setting_for options.now shelf.old) result (S.left src.old) (S.left src.new) (K.written out.old) (K.written out.new) shelf.new }
-    ensures too_long { result.status ≡ 6 → IsTooLong (setting_for options.now shelf.old) result (S.left src.old) (S.left src.new) (K.written out.old) (K.written out.new) shelf.new }
+    ensures cut_off { result.status ≡ 3 → IsCutOff (setting_for options.now shelf.old kinds.old) result (S.left src.old) (S.left src.new) (K.written out.old) (K.written out.new) shelf.new kinds.new }
+    ensures too_long { result.status ≡ 6 → IsTooLong (setting_for options.now shelf.old kinds.old) result (S.left src.old) (S.left src.new) (K.written out.old) (K.written out.new) shelf.new kinds.new }
     ensures sink_fault { result.status ≡ 4 → HasRisen (K.faults out.old) (K.faults out.new) }
-    ensures unwritten { result.status ≡ 4 → IsUnwritten (setting_for options.now shelf.old) result (S.left src.old) (S.left src.new) (K.written out.old) (K.written out.new) shelf.new }
-    ensures wanted { result.status ≡ 5 → 0 < result.call → IsWanted (setting_for options.now shelf.old) result (S.left src.old) (S.left src.new) (K.written out.old) (K.written out.new) shelf.new }
-    ensures not_started { result.status ≡ 5 → result.call ≡ 0 → IsNotStarted result (S.left src.old) (S.left src.new) (K.written out.old) (K.written out.new) shelf.old shelf.new }
+    ensures unwritten { result.status ≡ 4 → IsUnwritten (setting_for options.now shelf.old kinds.old) result (S.left src.old) (S.left src.new) (K.written out.old) (K.written out.new) shelf.new kinds.new }
+    ensures wanted { result.status ≡ 5 → 0 < result.call → IsWanted (setting_for options.now shelf.old kinds.old) result (S.left src.old) (S.left src.new) (K.written out.old) (K.written out.new) shelf.new kinds.new }
+    ensures not_started { result.status ≡ 5 → result.call ≡ 0 → IsNotStarted result (S.left src.old) (S.left src.new) (K.written out.old) (K.written out.new) shelf.old shelf.new kinds.old kinds.new }
     ensures source_grew { S.faults src.old < S.faults src.new → (result.status ≡ 3) ⊎ (result.status ≡ 4) }
     ensures sink_grew { K.faults out.old < K.faults out.new → result.status ≡ 4 }
     ensures statuses { IsPlayed result.status }
     ensures call { result.status ≢ 4 → result.status ≢ 5 → result.call ≡ 0 }
     ensures given_back { (account : ℕ) → held space.new account ≡ 0 }
     ensures accounts { accounts space.new ≡ accounts space.old }
+    ensures kinds_kept { AreKept kinds.old kinds.new }
+    ensures shared_out { (result.status ≡ 5 → 0 < result.call) → IsSharedOut options.now.sessions options.now.space space.old space.new }
 {
     let Ok(places) = Places::new(alloc) else {
+        return NOT_STARTED;
+    };
+    let Ok(names) = Vec::from_slice(alloc, kinds.names()) else {
         return NOT_STARTED;
     };
     let Ok(sessions) = Vec::with_capacity(alloc, options.sessions as usize) else {
@@ -168,9 +185,11 @@ fn start<S: Source, K: Sink, H: ResetHook>(
     let Places {
         space: mut lent_space,
         shelf: mut lent_shelf,
+        mut commons,
     } = places;
     mem::swap(space, &mut lent_space);
     mem::swap(shelf, &mut lent_shelf);
+    commons.swap_kinds(kinds);
     let mut calls = Calls {
         count: 0,
         fail: options.fail as u64,
@@ -178,6 +197,7 @@ fn start<S: Source, K: Sink, H: ResetHook>(
     let mut shared = Shared {
         space: &mut lent_space,
         shelf: &mut lent_shelf,
+        commons: &mut commons,
         calls: &mut calls,
     };
     let outcome = play(
@@ -185,6 +205,7 @@ fn start<S: Source, K: Sink, H: ResetHook>(
         options.sessions,
         options.descriptors,
         sessions,
+        &names,
         src,
         out,
         &mut shared,
@@ -192,39 +213,47 @@ fn start<S: Source, K: Sink, H: ResetHook>(
     let Shared {
         space: given_space,
         shelf: given_shelf,
+        commons: given_commons,
         calls: _,
     } = shared;
     mem::swap(space, given_space);
     mem::swap(shelf, given_shelf);
+    given_commons.swap_kinds(kinds);
     outcome
 }
 
-/// What stands in the places of the space and of the shelf while these are lent to the sessions.
+/// What stands in the places of the space, of the shelf and of the kinds while these are lent to the sessions: the kinds are lent in
+/// the commons of the run.
 #[derive(Drop)]
-struct Places<H: ResetHook> {
+struct Places<H: ResetHook, X: ExtKind> {
     space: Space,
     shelf: Shelf<H>,
+    commons: Commons<X>,
 }
 
-impl<H: ResetHook> Places<H> {
-    /// A space and a shelf without anything. It fails for want of memory alone.
-    fn new(alloc: Global) -> Result<Places<H>, AllocError> {
+impl<H: ResetHook, X: ExtKind> Places<H, X> {
+    /// A space, a shelf and commons without anything. It fails for want of memory alone.
+    fn new(alloc: Global) -> Result<Places<H, X>, AllocError>
+        ensures unlocked { IfOk result (λ places. places.commons.locks ≡ []) }
+    {
         Ok(Places {
             space: Space::new(alloc, 0, 0)?,
             shelf: Shelf::new(alloc, Vec::new(alloc))?,
+            commons: Commons::new(alloc)?,
         })
     }
 }
 
 /// Starts so many sessions, each with so many descriptors, and plays the script with them. Where not all of them start, those that did end without a word.
-fn play<S: Source, K: Sink, H: ResetHook>(
+fn play<S: Source, K: Sink, H: ResetHook, X: ExtKind>(
     alloc: Global,
     count: u8,
     descriptors: u8,
     mut sessions: Vec<Session<H>>,
+    names: &[Name],
     src: &mut S,
     out: &mut K,
-    shared: &mut Shared<'_, H>,
+    shared: &mut Shared<'_, H, X>,
 ) -> Outcome
     requires none { sessions.items ≡ [] }
     requires some { 0 < count }
@@ -234,47 +263,54 @@ fn play<S: Source, K: Sink, H: ResetHook>(
     requires accounts { count ≤ accounts shared.old.space.now }
     requires empty { (account : ℕ) → held shared.old.space.now account ≡ 0 }
     requires hooks { AreDistinct (shelf_state.held shared.old.shelf.now) }
+    requires kinds { IsSound (table_of shared.old.commons.now.kinds) }
+    requires unlocked { shared.old.commons.now.locks ≡ [] }
+    requires names { names.now ≡ names_of shared.old.commons.now.kinds }
     requires calls { shared.old.calls.now.count ≡ 0 }
     ensures taken { (result.status ≡ 0) ⊎ (result.status ≡ 1) → TakesAll (setting_at count descriptors shared.old) (S.left src.old) shared.old.space.now shared.new.space.now }
-    ensures whole { (result.status ≡ 0) ⊎ (result.status ≡ 1) → IsWhole (setting_at count descriptors shared.old) result (S.left src.old) (S.left src.new) (K.written out.old) (K.written out.new) shared.new.shelf.now }
+    ensures whole { (result.status ≡ 0) ⊎ (result.status ≡ 1) → IsWhole (setting_at count descriptors shared.old) result (S.left src.old) (S.left src.new) (K.written out.old) (K.written out.new) shared.new.shelf.now shared.new.commons.now.kinds }
     ensures source_fault { result.status ≡ 3 → HasRisen (S.faults src.old) (S.faults src.new) }
-    ensures cut_off { result.status ≡ 3 → IsCutOff (setting_at count descriptors shared.old) result (S.left src.old) (S.left src.new) (K.written out.old) (K.written out.new) shared.new.shelf.now }
-    ensures too_long { result.status ≡ 6 → IsTooLong (setting_at count descriptors shared.old) result (S.left src.old) (S.left src.new) (K.written out.old) (K.written out.new) shared.new.shelf.now }
+    ensures cut_off { result.status ≡ 3 → IsCutOff (setting_at count descriptors shared.old) result (S.left src.old) (S.left src.new) (K.written out.old) (K.written out.new) shared.new.shelf.now shared.new.commons.now.kinds }
+    ensures too_long { result.status ≡ 6 → IsTooLong (setting_at count descriptors shared.old) result (S.left src.old) (S.left src.new) (K.written out.old) (K.written out.new) shared.new.shelf.now shared.new.commons.now.kinds }
     ensures sink_fault { result.status ≡ 4 → HasRisen (K.faults out.old) (K.faults out.new) }
-    ensures unwritten { result.status ≡ 4 → IsUnwritten (setting_at count descriptors shared.old) result (S.left src.old) (S.left src.new) (K.written out.old) (K.written out.new) shared.new.shelf.now }
-    ensures wanted { result.status ≡ 5 → 0 < result.call → IsWanted (setting_at count descriptors shared.old) result (S.left src.old) (S.left src.new) (K.written out.old) (K.written out.new) shared.new.shelf.now }
-    ensures not_started { result.status ≡ 5 → result.call ≡ 0 → IsNotStarted result (S.left src.old) (S.left src.new) (K.written out.old) (K.written out.new) shared.old.shelf.now shared.new.shelf.now }
+    ensures unwritten { result.status ≡ 4 → IsUnwritten (setting_at count descriptors shared.old) result (S.left src.old) (S.left src.new) (K.written out.old) (K.written out.new) shared.new.shelf.now shared.new.commons.now.kinds }
+    ensures wanted { result.status ≡ 5 → 0 < result.call → IsWanted (setting_at count descriptors shared.old) result (S.left src.old) (S.left src.new) (K.written out.old) (K.written out.new) shared.new.shelf.now shared.new.commons.now.kinds }
+    ensures not_started { result.status ≡ 5 → result.call ≡ 0 → IsNotStarted result (S.left src.old) (S.left src.new) (K.written out.old) (K.written out.new) shared.old.shelf.now shared.new.shelf.now shared.old.commons.now.kinds shared.new.commons.now.kinds }
     ensures source_grew { S.faults src.old < S.faults src.new → (result.status ≡ 3) ⊎ (result.status ≡ 4) }
     ensures sink_grew { K.faults out.old < K.faults out.new → result.status ≡ 4 }
     ensures statuses { IsPlayed result.status }
     ensures call { result.status ≢ 4 → result.status ≢ 5 → result.call ≡ 0 }
     ensures given_back { (account : ℕ) → held shared.new.space.now account ≡ 0 }
     ensures accounts { accounts shared.new.space.now ≡ accounts shared.old.space.now }
+    ensures kinds_kept { AreKept shared.old.commons.now.kinds shared.new.commons.now.kinds }
+    ensures shared_out { (result.status ≡ 5 → 0 < result.call) → IsSharedOut count shared.old.space.now.limit shared.old.space.now shared.new.space.now }
 {
     let Ok(()) = start_sessions(alloc, count, descriptors, &mut sessions, shared.space) else {
         end_unheard(&mut sessions, shared);
         return NOT_STARTED;
     };
-    play_started(&mut sessions, src, out, shared)
+    play_started(&mut sessions, names, src, out, shared)
 }
 
 /// Plays the script to its end, and ends all sessions.
-fn play_started<S: Source, K: Sink, H: ResetHook>(
+fn play_started<S: Source, K: Sink, H: ResetHook, X: ExtKind>(
     sessions: &mut [Session<H>],
+    names: &[Name],
     src: &mut S,
     out: &mut K,
-    shared: &mut Shared<'_, H>,
+    shared: &mut Shared<'_, H, X>,
 ) -> Outcome
     requires opening { IsOpening (run_of sessions.old shared.old) }
     requires standing { AreStanding 0 (run_of sessions.old shared.old) }
     requires few { length sessions.old ≤ 64 }
-    ensures whole { (d : ℕ) → HaveDescriptors d (run_of sessions.old shared.old) → (result.status ≡ 0) ⊎ (result.status ≡ 1) → IsWhole (setting_of d (run_of sessions.old shared.old)) result (S.left src.old) (S.left src.new) (K.written out.old) (K.written out.new) shared.new.shelf.now }
+    requires names { names.now ≡ names_of shared.old.commons.now.kinds }
+    ensures whole { (d : ℕ) → HaveDescriptors d (run_of sessions.old shared.old) → (result.status ≡ 0) ⊎ (result.status ≡ 1) → IsWhole (setting_of d (run_of sessions.old shared.old)) result (S.left src.old) (S.left src.new) (K.written out.old) (K.written out.new) shared.new.shelf.now shared.new.commons.now.kinds }
     ensures source_fault { result.status ≡ 3 → HasRisen (S.faults src.old) (S.faults src.new) }
-    ensures cut_off { (d : ℕ) → HaveDescriptors d (run_of sessions.old shared.old) → result.status ≡ 3 → IsCutOff (setting_of d (run_of sessions.old shared.old)) result (S.left src.old) (S.left src.new) (K.written out.old) (K.written out.new) shared.new.shelf.now }
-    ensures too_long { (d : ℕ) → HaveDescriptors d (run_of sessions.old shared.old) → result.status ≡ 6 → IsTooLong (setting_of d (run_of sessions.old shared.old)) result (S.left src.old) (S.left src.new) (K.written out.old) (K.written out.new) shared.new.shelf.now }
+    ensures cut_off { (d : ℕ) → HaveDescriptors d (run_of sessions.old shared.old) → result.status ≡ 3 → IsCutOff (setting_of d (run_of sessions.old shared.old)) result (S.left src.old) (S.left src.new) (K.written out.old) (K.written out.new) shared.new.shelf.now shared.new.commons.now.kinds }
+    ensures too_long { (d : ℕ) → HaveDescriptors d (run_of sessions.old shared.old) → result.status ≡ 6 → IsTooLong (setting_of d (run_of sessions.old shared.old)) result (S.left src.old) (S.left src.new) (K.written out.old) (K.written out.new) shared.new.shelf.now shared.new.commons.now.kinds }
     ensures sink_fault { result.status ≡ 4 → HasRisen (K.faults out.old) (K.faults out.new) }
-    ensures unwritten { (d : ℕ) → HaveDescriptors d (run_of sessions.old shared.old) → result.status ≡ 4 → IsUnwritten (setting_of d (run_of sessions.old shared.old)) result (S.left src.old) (S.left src.new) (K.written out.old) (K.written out.new) shared.new.shelf.now }
-    ensures wanted { (d : ℕ) → HaveDescriptors d (run_of sessions.old shared.old) → result.status ≡ 5 → IsWanted (setting_of d (run_of sessions.old shared.old)) result (S.left src.old) (S.left src.new) (K.written out.old) (K.written out.new) shared.new.shelf.now }
+    ensures unwritten { (d : ℕ) → HaveDescriptors d (run_of sessions.old shared.old) → result.status ≡ 4 → IsUnwritten (setting_of d (run_of sessions.old shared.old)) result (S.left src.old) (S.left src.new) (K.written out.old) (K.written out.new) shared.new.shelf.now shared.new.commons.now.kinds }
+    ensures wanted { (d : ℕ) → HaveDescriptors d (run_of sessions.old shared.old) → result.status ≡ 5 → IsWanted (setting_of d (run_of sessions.old shared.old)) result (S.left src.old) (S.left src.new) (K.written out.old) (K.written out.new) shared.new.shelf.now shared.new.commons.now.kinds }
     ensures called { result.status ≡ 5 → 0 < result.call }
     ensures source_grew { S.faults src.old < S.faults src.new → (result.status ≡ 3) ⊎ (result.status ≡ 4) }
     ensures sink_grew { K.faults out.old < K.faults out.new → result.status ≡ 4 }
@@ -284,8 +320,10 @@ fn play_started<S: Source, K: Sink, H: ResetHook>(
     ensures given_back { (account : ℕ) → account < length sessions.old → held shared.new.space.now account ≡ 0 }
     ensures others { (account : ℕ) → length sessions.old ≤ account → held shared.new.space.now account ≡ held shared.old.space.now account }
     ensures accounts { accounts shared.new.space.now ≡ accounts shared.old.space.now }
+    ensures kinds_kept { AreKept shared.old.commons.now.kinds shared.new.commons.now.kinds }
+    ensures shared_out { IsSharedOut (length sessions.old) shared.old.space.now.limit shared.old.space.now shared.new.space.now }
 {
-    let mut printer = Printer::new(out);
+    let mut printer = Printer::new(out, names);
     let ended = perform_lines(sessions, src, shared, &mut printer);
     exit_all(sessions, shared, &mut printer);
     printer.flush();
@@ -298,17 +336,18 @@ fn play_started<S: Source, K: Sink, H: ResetHook>(
 }
 
 /// Ends sessions as they opened, without a word.
-fn end_unheard<H: ResetHook>(sessions: &mut [Session<H>], shared: &mut Shared<'_, H>)
+fn end_unheard<H: ResetHook, X: ExtKind>(sessions: &mut [Session<H>], shared: &mut Shared<'_, H, X>)
     requires opening { IsOpening (run_of sessions.old shared.old) }
     requires standing { AreStanding 0 (run_of sessions.old shared.old) }
     requires few { length sessions.old ≤ 64 }
     ensures shelf { shared.new.shelf.now ≡ shared.old.shelf.now }
+    ensures kinds { shared.new.commons.now.kinds ≡ shared.old.commons.now.kinds }
     ensures given_back { (account : ℕ) → account < length sessions.old → held shared.new.space.now account ≡ 0 }
     ensures others { (account : ℕ) → length sessions.old ≤ account → held shared.new.space.now account ≡ held shared.old.space.now account }
     ensures accounts { accounts shared.new.space.now ≡ accounts shared.old.space.now }
 {
     let mut nowhere = Nowhere;
-    let mut printer = Printer::new(&mut nowhere);
+    let mut printer = Printer::new(&mut nowhere, &[]);
     exit_all(sessions, shared, &mut printer);
 }
 

@@ -11,6 +11,7 @@ ghost use Rattle.pgs_world.specs.Turns.{AllExit, AreOpened, HaveRoom, TakesTurn}
 use crate::lines::Said;
 use crate::printer::Printer;
 use addr_space::Space;
+use owner_kinds::ExtKind;
 use pgs_command::Command;
 use pgs_io::Sink;
 use pgs_step::{Emit, Error, What};
@@ -38,7 +39,7 @@ pub(crate) fn start_sessions<H: ResetHook>(
     ensures asked { OnOk result ((account : ℕ) → taken space.new account ≡ risen (taken space.old account) (if nat_lt account count then 65536 else 0)) }
 {
     for account in 0..count {
-        match Session::start(alloc, account, descriptors, space) {
+        match Session::start(alloc, account, account + 1, descriptors, space) {
             Ok(session) => {
                 session.beside();
                 sessions.push_reserved(session);
@@ -52,10 +53,10 @@ pub(crate) fn start_sessions<H: ResetHook>(
 /// The turn of a line: its session performs it. A line of a session that isn't there is nothing but its error.
 ///
 /// Answers whether the line met a want of memory.
-pub(crate) fn take_turn<K: Sink, H: ResetHook>(
+pub(crate) fn take_turn<K: Sink, H: ResetHook, X: ExtKind>(
     sessions: &mut [Session<H>],
     said: Said,
-    shared: &mut Shared<'_, H>,
+    shared: &mut Shared<'_, H, X>,
     printer: &mut Printer<'_, K>,
 ) -> bool
     requires standing { AreStanding 0 (run_of sessions.old shared.old) }
@@ -89,9 +90,9 @@ fn missing_error(command: &Option<Command>) -> Error
 }
 
 /// All sessions end, in the order of their numbers.
-pub(crate) fn exit_all<K: Sink, H: ResetHook>(
+pub(crate) fn exit_all<K: Sink, H: ResetHook, X: ExtKind>(
     sessions: &mut [Session<H>],
-    shared: &mut Shared<'_, H>,
+    shared: &mut Shared<'_, H, X>,
     printer: &mut Printer<'_, K>,
 )
     requires standing { AreStanding 0 (run_of sessions.old shared.old) }

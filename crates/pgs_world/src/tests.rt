@@ -5,7 +5,9 @@ ghost use Rattle.reset_callbacks.specs.ShelfState.{held};
 
 use crate::{Outcome, run};
 use addr_space::Space;
+use owner_kinds::{CountedKind, KindShelf};
 use pgs_io::{MemSink, MemSource};
+use pgs_step::{Name, Phase};
 use reset_callbacks::{CountedHook, Shelf};
 use std::alloc::{AllocError, Global};
 use std::test::Fail;
@@ -51,6 +53,17 @@ fn six_hooks(alloc: Global) -> Result<Shelf<CountedHook>, AllocError>
     Shelf::new(alloc, fresh)
 }
 
+/// The kinds `conn`, of at most 4 keys, and `handle`, of at most 8.
+fn two_kinds(alloc: Global) -> Result<KindShelf<CountedKind>, AllocError> {
+    let conn = Name::new(b"conn").unwrap();
+    let handle = Name::new(b"handle").unwrap();
+    let kinds = vec![in alloc;
+        CountedKind::new(alloc, conn, Phase::BeforeLocks, 350, 4),
+        CountedKind::new(alloc, handle, Phase::AfterLocks, 250, 8),
+    ]?;
+    KindShelf::new(alloc, kinds)
+}
+
 /// Plays a script that is read in pieces, with a read and a write that fail; 0 is none.
 fn play(
     alloc: Global,
@@ -68,6 +81,7 @@ fn play(
     let mut sink = MemSink::new(alloc, 262_144, vec![in alloc; bad_write]?)?;
     let mut space = Space::new(alloc, 64, 0)?;
     let mut shelf = six_hooks(alloc)?;
+    let mut kinds = two_kinds(alloc)?;
     let outcome = run(
         alloc,
         &words,
@@ -75,6 +89,7 @@ fn play(
         &mut sink,
         &mut space,
         &mut shelf,
+        &mut kinds,
     );
     let written = Vec::from_slice(alloc, sink.written())?;
     Ok(Played {
@@ -141,7 +156,7 @@ fn fourteen_scripts(rt: HostRuntime) -> Result<(), Fail> {
         },
         Row {
             words: &[],
-            script: b"begin\nlock 5 ShareLock\nreport\npin 1\n@1 rollback\nrollback\n",
+            script: b"begin\nplan 5\nreport\npin 1\n@1 rollback\nrollback\n",
             transcript: b"1 begin level 1\n1 create c6 TopTransactionContext in c1\n1 owner o1\n1 ok\n1 ERROR 42601 syntax error\n1 abort level 1\n1 ERROR 42601 syntax error\n1 ERROR 25P02 transaction is aborted\n1 cleanup level 1\n1 owner o1 gone\n1 delete c6\n1 ok\n1 warning there is no transaction in progress\n1 ok\n1 delete c5\n1 delete c4\n1 delete c3\n1 delete c2\n1 delete c1\n1 exit\n",
             status: 1,
             errors: 3,
@@ -218,6 +233,80 @@ fn fourteen_scripts(rt: HostRuntime) -> Result<(), Fail> {
             status: 1,
             errors: 2,
             lines: 5,
+        },
+    ] {
+        let played = play(rt.alloc(), row.words, row.script, 5, 0, 0)?;
+        assert_eq!(rt; played.outcome.status, row.status);
+        assert_eq!(rt;
+            (
+                played.outcome.call,
+                played.outcome.errors,
+                played.outcome.lines
+            ),
+            (0, row.errors, row.lines)
+        );
+        assert_eq!(rt; played.written.as_slice(), row.transcript);
+        assert_eq!(rt; played.held, 0);
+    }
+    Ok(())
+}
+
+/// A ninth file where eight descriptors are there, and a fifth key of a kind that holds at most four.
+#[test]
+fn files_and_kinds_at_their_limits(rt: HostRuntime) -> Result<(), Fail> {
+    for row in [
+        Row {
+            words: &["--descriptors", "8"],
+            script: b"begin\nopen 1\nopen 2\nopen 3\nopen 4\nopen 5\nopen 6\nopen 7\nopen 8\nopen 9\ntouch 1\n",
+            transcript: b"1 begin level 1\n1 create c6 TopTransactionContext in c1\n1 owner o1\n1 ok\n1 descriptor opened 1\n1 acquire file 1 #1 o1\n1 ok\n1 descriptor opened 2\n1 acquire file 2 #2 o1\n1 ok\n1 descriptor opened 3\n1 acquire file 3 #3 o1\n1 ok\n1 descriptor opened 4\n1 acquire file 4 #4 o1\n1 ok\n1 descriptor opened 5\n1 acquire file 5 #5 o1\n1 ok\n1 descriptor opened 6\n1 acquire file 6 #6 o1\n1 ok\n1 descriptor opened 7\n1 acquire file 7 #7 o1\n1 ok\n1 descriptor opened 8\n1 acquire file 8 #8 o1\n1 ok\n1 descriptor closed 1\n1 descriptor opened 9\n1 acquire file 9 #9 o1\n1 ok\n1 descriptor closed 2\n1 descriptor opened 1\n1 ok\n1 abort level 1\n1 release file 9 #9 o1\n1 descriptor closed 9\n1 release file 8 #8 o1\n1 descriptor closed 8\n1 release file 7 #7 o1\n1 descriptor closed 7\n1 release file 6 #6 o1\n1 descriptor closed 6\n1 release file 5 #5 o1\n1 descriptor closed 5\n1 release file 4 #4 o1\n1 descriptor closed 4\n1 release file 3 #3 o1\n1 descriptor closed 3\n1 release file 2 #2 o1\n1 release file 1 #1 o1\n1 descriptor closed 1\n1 cleanup level 1\n1 owner o1 gone\n1 delete c6\n1 delete c5\n1 delete c4\n1 delete c3\n1 delete c2\n1 delete c1\n1 exit\n",
+            status: 0,
+            errors: 0,
+            lines: 11,
+        },
+        Row {
+            words: &[],
+            script: b"begin\nacquire conn 1\nacquire conn 1\nacquire conn 1\nacquire conn 1\nacquire conn 1\n",
+            transcript: b"1 begin level 1\n1 create c6 TopTransactionContext in c1\n1 owner o1\n1 ok\n1 acquire conn 1 #1 o1\n1 ok\n1 acquire conn 1 #2 o1\n1 ok\n1 acquire conn 1 #3 o1\n1 ok\n1 acquire conn 1 #4 o1\n1 ok\n1 ERROR 53400 limit of the kind is reached\n1 abort level 1\n1 release conn 1 #4 o1\n1 release conn 1 #3 o1\n1 release conn 1 #2 o1\n1 release conn 1 #1 o1\n1 cleanup level 1\n1 owner o1 gone\n1 delete c6\n1 delete c5\n1 delete c4\n1 delete c3\n1 delete c2\n1 delete c1\n1 exit\n",
+            status: 1,
+            errors: 1,
+            lines: 6,
+        },
+    ] {
+        let played = play(rt.alloc(), row.words, row.script, 5, 0, 0)?;
+        assert_eq!(rt; played.outcome.status, row.status);
+        assert_eq!(rt;
+            (
+                played.outcome.call,
+                played.outcome.errors,
+                played.outcome.lines
+            ),
+            (0, row.errors, row.lines)
+        );
+        assert_eq!(rt; played.written.as_slice(), row.transcript);
+        assert_eq!(rt; played.held, 0);
+    }
+    Ok(())
+}
+
+/// A lock that another session's keeps away until it ends, and locks that are taken twice, given back and passed on.
+#[test]
+fn locks_of_one_session_and_of_two(rt: HostRuntime) -> Result<(), Fail> {
+    for row in [
+        Row {
+            words: &["--sessions", "2"],
+            script: b"begin\nlock 5 AccessShareLock\n@2 lock 5 AccessExclusiveLock\ncommit\n@2 lock 5 AccessExclusiveLock\n",
+            transcript: b"1 begin level 1\n1 create c6 TopTransactionContext in c1\n1 owner o1\n1 ok\n1 acquire lock 5 AccessShareLock o1\n1 ok\n2 begin level 1\n2 create c6 TopTransactionContext in c1\n2 owner o1\n2 ERROR 55P03 lock is held by session 1 as AccessShareLock\n2 abort level 1\n2 cleanup level 1\n2 owner o1 gone\n2 delete c6\n1 commit level 1\n1 release lock 5 AccessShareLock x1 o1\n1 owner o1 gone\n1 delete c6\n1 ok\n2 begin level 1\n2 create c7 TopTransactionContext in c1\n2 owner o2\n2 acquire lock 5 AccessExclusiveLock o2\n2 commit level 1\n2 release lock 5 AccessExclusiveLock x1 o2\n2 owner o2 gone\n2 delete c7\n2 ok\n1 delete c5\n1 delete c4\n1 delete c3\n1 delete c2\n1 delete c1\n1 exit\n2 delete c5\n2 delete c4\n2 delete c3\n2 delete c2\n2 delete c1\n2 exit\n",
+            status: 1,
+            errors: 1,
+            lines: 5,
+        },
+        Row {
+            words: &[],
+            script: b"begin\nlock 5 AccessExclusiveLock\nlock 5 AccessExclusiveLock\nsavepoint s\nlock 5 AccessExclusiveLock\nlock 4 ShareLock\nunlock 4 ShareLock\nrelease s\nunlock 4 ShareLock\nrollback\n",
+            transcript: b"1 begin level 1\n1 create c6 TopTransactionContext in c1\n1 owner o1\n1 ok\n1 acquire lock 5 AccessExclusiveLock o1\n1 ok\n1 acquire lock 5 AccessExclusiveLock o1\n1 ok\n1 begin level 2\n1 create c7 CurTransactionContext in c6\n1 owner o2 in o1\n1 ok\n1 acquire lock 5 AccessExclusiveLock o2\n1 ok\n1 acquire lock 4 ShareLock o2\n1 ok\n1 release lock 4 ShareLock x1 o2\n1 ok\n1 commit level 2\n1 pass lock 5 AccessExclusiveLock x1 o2 to o1\n1 owner o2 gone\n1 delete c7\n1 ok\n1 ERROR 55000 not held by this owner\n1 abort level 1\n1 release lock 5 AccessExclusiveLock x3 o1\n1 cleanup level 1\n1 owner o1 gone\n1 delete c6\n1 ok\n1 delete c5\n1 delete c4\n1 delete c3\n1 delete c2\n1 delete c1\n1 exit\n",
+            status: 1,
+            errors: 1,
+            lines: 10,
         },
     ] {
         let played = play(rt.alloc(), row.words, row.script, 5, 0, 0)?;

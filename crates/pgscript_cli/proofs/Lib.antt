@@ -1,2 +1,3 @@
 pub mod ProgramLemmas
 mod HookLemmas
+mod KindLemmas

@@ -1,7 +1,9 @@
 -- What the program does with the words of its command line.
-use Rattle.std.specs.Prelude.{◌≡◌, ◌≢◌, ◌+◌, ◌<◌, ◌≤◌, ◌⊎◌, ℕ, suc, zero, List, [], ◌∷◌, ◌++◌, length, Option, Some, None}
+use Rattle.std.specs.Prelude.{◌≡◌, ◌≢◌, ◌+◌, ◌<◌, ◌≤◌, ◌⊎◌, ℕ, suc, zero, List, [], ◌∷◌, ◌++◌, codes, length, Option, Some, None}
 use Rattle.std.specs.Io.KnownBytes.{append_known}
 use Rattle.pgs_io.specs.Faults.{HasRisen}
+use Rattle.pgs_step.specs.declared.ids.Phase.TheVariants.{BeforeLocks, AfterLocks}
+use Rattle.owner_kinds.specs.Kind.{Kind}
 use Rattle.reset_callbacks.specs.Hook.{Hook}
 use Rattle.reset_callbacks.specs.ShelfState.{ShelfState}
 use Rattle.pgs_options.specs.Options.{options_of}
@@ -19,24 +21,32 @@ fresh_hooks first (suc n) = record { word = first; runs = 0 } ∷ fresh_hooks (f
 unfoldable pub the_shelf : ShelfState
 the_shelf = record { fresh = fresh_hooks 1 4096; spent = []; out = 0 }
 
+-- The extension kinds that the program makes, which hold no key: items of the first are released before the locks, those of the second
+-- behind them.
+unfoldable pub the_kinds : List Kind
+the_kinds =
+    record { name = codes "conn"; phase = BeforeLocks; priority = 350; limit = 4; held = [] }
+    ∷ record { name = codes "handle"; phase = AfterLocks; priority = 250; limit = 8; held = [] }
+    ∷ []
+
 -- the run that these options ask for
 abbrev pub asked_run : Options → Setting
-asked_run options = setting_for options the_shelf
+asked_run options = setting_for options the_shelf the_kinds
 
--- A run with these words had this outcome: each field is a clause of `run`, and all hooks are fresh before it. Where no memory was found for the words, the space or the hooks, the outcome is that of a session that was not started.
+-- A run with these words had this outcome: each field is a clause of `run`, and before it all hooks are fresh and no kind holds a key. Where no memory was found for the words, the space, the hooks or the kinds, the outcome is that of a session that was not started.
 pub record Plays (words : List (List ℕ)) (outcome : Outcome) (left left' written written' : Option (List ℕ)) (source_faults source_faults' sink_faults sink_faults' : ℕ) : Type 0 where
-  pub whole : (o : Options) → AskFor words o → (outcome.status ≡ 0) ⊎ (outcome.status ≡ 1) → (shelf : ShelfState) × IsWhole (asked_run o) outcome left left' written written' shelf
+  pub whole : (o : Options) → AskFor words o → (outcome.status ≡ 0) ⊎ (outcome.status ≡ 1) → (shelf : ShelfState) × (kinds : List Kind) × IsWhole (asked_run o) outcome left left' written written' shelf kinds
   pub usage : outcome.status ≡ 2 → written' ≡ append_known written usage_line
   pub usage_words : outcome.status ≡ 2 → options_of words ≡ None
   pub refused : options_of words ≡ None → (outcome.status ≡ 2) ⊎ (outcome.status ≡ 4) ⊎ (outcome.status ≡ 5)
   pub refused_counts : options_of words ≡ None → (outcome.call ≡ 0) × (outcome.errors ≡ 0) × (outcome.lines ≡ 0)
   pub source_fault : outcome.status ≡ 3 → HasRisen source_faults source_faults'
-  pub cut_off : (o : Options) → AskFor words o → outcome.status ≡ 3 → (shelf : ShelfState) × IsCutOff (asked_run o) outcome left left' written written' shelf
-  pub too_long : (o : Options) → AskFor words o → outcome.status ≡ 6 → (shelf : ShelfState) × IsTooLong (asked_run o) outcome left left' written written' shelf
+  pub cut_off : (o : Options) → AskFor words o → outcome.status ≡ 3 → (shelf : ShelfState) × (kinds : List Kind) × IsCutOff (asked_run o) outcome left left' written written' shelf kinds
+  pub too_long : (o : Options) → AskFor words o → outcome.status ≡ 6 → (shelf : ShelfState) × (kinds : List Kind) × IsTooLong (asked_run o) outcome left left' written written' shelf kinds
   pub sink_fault : outcome.status ≡ 4 → HasRisen sink_faults sink_faults'
-  pub unwritten : (o : Options) → AskFor words o → outcome.status ≡ 4 → (shelf : ShelfState) × IsUnwritten (asked_run o) outcome left left' written written' shelf
+  pub unwritten : (o : Options) → AskFor words o → outcome.status ≡ 4 → (shelf : ShelfState) × (kinds : List Kind) × IsUnwritten (asked_run o) outcome left left' written written' shelf kinds
   pub usage_unwritten : options_of words ≡ None → outcome.status ≡ 4 → IsUsageFront written written'
-  pub wanted : (o : Options) → AskFor words o → outcome.status ≡ 5 → 0 < outcome.call → (shelf : ShelfState) × IsWanted (asked_run o) outcome left left' written written' shelf
+  pub wanted : (o : Options) → AskFor words o → outcome.status ≡ 5 → 0 < outcome.call → (shelf : ShelfState) × (kinds : List Kind) × IsWanted (asked_run o) outcome left left' written written' shelf kinds
   pub not_started : outcome.status ≡ 5 → outcome.call ≡ 0 → (outcome.lines ≡ 0) × (outcome.errors ≡ 0) × (left' ≡ left) × (written' ≡ written)
   pub source_grew : source_faults < source_faults' → (outcome.status ≡ 3) ⊎ (outcome.status ≡ 4)
   pub sink_grew : sink_faults < sink_faults' → outcome.status ≡ 4

@@ -4,6 +4,7 @@
 ghost use Rattle.std.specs.Prelude.{◌≡◌, ◌≢◌, ℕ, [], drop, map, None, IfOk, IfErr};
 ghost use Rattle.std.specs.Prelude.{string_bytes as string_text};
 ghost use Rattle.addr_space.specs.Space.{accounts, held};
+ghost use Rattle.pgs_step.specs.Name.{IsName};
 ghost use Rattle.reset_callbacks.specs.Hook.{AreDistinct};
 ghost use Rattle.reset_callbacks.specs.ShelfState as shelf_state;
 ghost use Rattle.pgs_options.specs.Options.{options_of};
@@ -12,10 +13,12 @@ ghost use Rattle.std.specs.Vec.Iter.{into_iter_items};
 ghost use Rattle.std.specs.IoError.{error_kind};
 ghost use Rattle.std.specs.declared.io.ErrorKind.TheVariants.{OutOfMemory};
 ghost use Rattle.pgs_world.specs.declared.program.Outcome.{Outcome};
-ghost use Rattle.pgscript_cli.specs.Program.{Plays, fresh_hooks, the_shelf};
+ghost use Rattle.pgscript_cli.specs.Program.{Plays, fresh_hooks, the_kinds, the_shelf};
 
 use addr_space::Space;
+use owner_kinds::{CountedKind, KindShelf};
 use pgs_io::{Sink, Source, StdSink, StdSource};
+use pgs_step::{Name, Phase};
 use pgs_world::run;
 use reset_callbacks::{CountedHook, Shelf};
 use std::alloc::{AllocError, Global};
@@ -43,7 +46,7 @@ fn main(rt: HostRuntime) -> ExitCode {
 /// Plays the script of the source with the words of the command line, and answers the status of that run.
 ///
 /// `args` are the program's name and then its words. Where they couldn't be read the status is 5 or 7, and
-/// where memory is wanted for the words, the space or the hooks it is 5; nothing is read or written then.
+/// where memory is wanted for the words, the space, the hooks or the kinds it is 5; nothing is read or written then.
 fn play<S: Source, K: Sink>(
     alloc: Global,
     args: io::Result<env::Args>,
@@ -70,7 +73,10 @@ fn play<S: Source, K: Sink>(
     let Ok(mut shelf) = all_hooks(alloc) else {
         return ExitCode::from(NO_MEMORY);
     };
-    let outcome = run(alloc, &words, src, out, &mut space, &mut shelf);
+    let Ok(mut kinds) = both_kinds(alloc) else {
+        return ExitCode::from(NO_MEMORY);
+    };
+    let outcome = run(alloc, &words, src, out, &mut space, &mut shelf, &mut kinds);
     ExitCode::from(outcome.status)
 }
 
@@ -84,6 +90,25 @@ fn all_hooks(alloc: Global) -> Result<Shelf<CountedHook>, AllocError>
         fresh.push(CountedHook::new(below + 1))?;
     }
     Shelf::new(alloc, fresh)
+}
+
+/// The extension kinds: `conn`, of which 4 keys are held at most, is kind 16, and `handle`, of which 8 are, kind 17. They hold none.
+fn both_kinds(alloc: Global) -> Result<KindShelf<CountedKind>, AllocError>
+    ensures { IfOk result (λ kinds. kinds ≡ the_kinds) }
+{
+    let kinds = vec![in alloc;
+        CountedKind::new(alloc, name(b"conn"), Phase::BeforeLocks, 350, 4),
+        CountedKind::new(alloc, name(b"handle"), Phase::AfterLocks, 250, 8),
+    ]?;
+    KindShelf::new(alloc, kinds)
+}
+
+/// The name that a word is.
+fn name(word: &[u8]) -> Name
+    requires { IsName word.now }
+    ensures { result ≡ word.now }
+{
+    Name::new(word).unwrap()
 }
 
 /// The status where the arguments couldn't be read.

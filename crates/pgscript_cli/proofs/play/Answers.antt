@@ -2,7 +2,7 @@ use Rattle.std.proofs.Common.{◌≡◌, ◌⊎◌, ◌∙◌, sym}
 use Rattle.pgscript_cli.proofs.ProgramLemmas.{none_held, nothing_played}
 use Rattle.pgscript_cli.proofs.play.Goals as goal
 
--- without memory for the words, the space or the hooks nothing is read or written
+-- without memory for the words, the space, the hooks or the kinds nothing is read or written
 pub returns-in_default-clause-played : goal.returns-in_default-clause-played
 returns-in_default-clause-played g c = rw c.in-Ok.is (record { status = 5; call = 0; errors = 0; lines = 0 }, c.from-in_default.ensures, nothing_played _ _ _ _ _)
 
@@ -11,6 +11,9 @@ returns-in_default-new-clause-played g c = rw c.in-Ok.is (record { status = 5; c
 
 pub returns-in_default-all_hooks-clause-played : goal.returns-in_default-all_hooks-clause-played
 returns-in_default-all_hooks-clause-played g c = rw c.in-Ok.is (record { status = 5; call = 0; errors = 0; lines = 0 }, c.from-in_default-all_hooks.ensures, nothing_played _ _ _ _ _)
+
+pub returns-in_default-both_kinds-clause-played : goal.returns-in_default-both_kinds-clause-played
+returns-in_default-both_kinds-clause-played g c = rw c.in-Ok.is (record { status = 5; call = 0; errors = 0; lines = 0 }, c.from-in_default-both_kinds.ensures, nothing_played _ _ _ _ _)
 
 pub run-outcome-requires-clause-empty : goal.run-outcome-requires-clause-empty
 run-outcome-requires-clause-empty g c = none_held _ c.in-Ok-new.ensures.regions
@@ -22,18 +25,18 @@ returns-clause-played g c =
       c.run-outcome.result,
       c.from-2.ensures,
       record {
-        whole = λ o asked h. (c.run-outcome.new.shelf, rw (← c.in-Ok-all_hooks.ensures.shelf) (c.run-outcome.ensures.whole o asked h));
+        whole = λ o asked h. (c.run-outcome.new.shelf, c.run-outcome.new.kinds, rw (← c.in-Ok-all_hooks.ensures.shelf, ← c.in-Ok-both_kinds.ensures) (c.run-outcome.ensures.whole o asked h));
         usage = c.run-outcome.ensures.usage;
         usage_words = c.run-outcome.ensures.usage_words;
         refused = c.run-outcome.ensures.refused;
         refused_counts = c.run-outcome.ensures.refused_counts;
         source_fault = c.run-outcome.ensures.source_fault;
-        cut_off = λ o asked h. (c.run-outcome.new.shelf, rw (← c.in-Ok-all_hooks.ensures.shelf) (c.run-outcome.ensures.cut_off o asked h));
-        too_long = λ o asked h. (c.run-outcome.new.shelf, rw (← c.in-Ok-all_hooks.ensures.shelf) (c.run-outcome.ensures.too_long o asked h));
+        cut_off = λ o asked h. (c.run-outcome.new.shelf, c.run-outcome.new.kinds, rw (← c.in-Ok-all_hooks.ensures.shelf, ← c.in-Ok-both_kinds.ensures) (c.run-outcome.ensures.cut_off o asked h));
+        too_long = λ o asked h. (c.run-outcome.new.shelf, c.run-outcome.new.kinds, rw (← c.in-Ok-all_hooks.ensures.shelf, ← c.in-Ok-both_kinds.ensures) (c.run-outcome.ensures.too_long o asked h));
         sink_fault = c.run-outcome.ensures.sink_fault;
-        unwritten = λ o asked h. (c.run-outcome.new.shelf, rw (← c.in-Ok-all_hooks.ensures.shelf) (c.run-outcome.ensures.unwritten o asked h));
+        unwritten = λ o asked h. (c.run-outcome.new.shelf, c.run-outcome.new.kinds, rw (← c.in-Ok-all_hooks.ensures.shelf, ← c.in-Ok-both_kinds.ensures) (c.run-outcome.ensures.unwritten o asked h));
         usage_unwritten = c.run-outcome.ensures.usage_unwritten;
-        wanted = λ o asked h k. (c.run-outcome.new.shelf, rw (← c.in-Ok-all_hooks.ensures.shelf) (c.run-outcome.ensures.wanted o asked h k));
+        wanted = λ o asked h k. (c.run-outcome.new.shelf, c.run-outcome.new.kinds, rw (← c.in-Ok-all_hooks.ensures.shelf, ← c.in-Ok-both_kinds.ensures) (c.run-outcome.ensures.wanted o asked h k));
         not_started = λ h k. let left = c.run-outcome.ensures.not_started h k in (left.lines, left.errors, left.unread, left.unwritten);
         source_grew = c.run-outcome.ensures.source_grew;
         sink_grew = c.run-outcome.ensures.sink_grew;

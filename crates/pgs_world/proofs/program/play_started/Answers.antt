@@ -3,14 +3,15 @@ use Rattle.pgs_step.specs.declared.events.Event.{Event}
 use Rattle.session_rules.specs.Transcript.{errors_in}
 use Rattle.session_core.specs.declared.calls.Calls.{Calls}
 use Rattle.session_core.specs.Answers.{Fits}
-use Rattle.pgs_world.specs.Transcript.{Setting, course_of, transcript}
+use Rattle.pgs_world.specs.Transcript.{Setting, course_of, names_of, transcript}
 use Rattle.pgs_world.specs.Loop.{Performs, is_wanted}
 use Rattle.pgs_world.specs.PrinterView.{ShowsEvents, seen}
 use Rattle.pgs_world.specs.PrinterLaws.{ShowsEvents-both, ShowsEvents-flush}
 use Rattle.pgs_world.specs.World.{HaveDescriptors, Run, SameRun, run_of, setting_of}
-use Rattle.pgs_world.proofs.SessionLemmas.{same_on}
+use Rattle.pgs_world.proofs.KindLemmas.{all_kept}
+use Rattle.pgs_world.proofs.SessionLemmas.{opening_hold_none, same_on}
 use Rattle.pgs_world.proofs.ErrorLemmas.{few_errors}
-use Rattle.pgs_world.proofs.EndingLemmas.{Facts, Printed, ended_whole, printed_all, printed_told, transcript_events, hooks_of_end, ends_at, a_fit, fits_wanted, stays_failed, unwritten_leads, whole, cut_off, too_long, wanted, called_of, unwritten, sink_fault, sink_grew}
+use Rattle.pgs_world.proofs.EndingLemmas.{Facts, Printed, ended_whole, printed_all, printed_told, transcript_events, hooks_of_end, kinds_of_end, ends_at, a_fit, fits_wanted, stays_failed, unwritten_leads, whole, cut_off, too_long, wanted, called_of, unwritten, sink_fault, sink_grew}
 use Rattle.pgs_world.specs.declared.program.Outcome.{Outcome}
 use Rattle.pgs_world.proofs.TakenLemmas.{taken_all}
 use Rattle.pgs_world.proofs.program.play_started.Goals as goal
@@ -55,13 +56,13 @@ module _ (g : Over) (c : goal.After-made_outcome g) (descriptors : ℕ) (has : H
       c.out-1.given.1 (sym ((shown fit.0 fit.1).same_sink ∙ c.new-printer.ensures.same_sink))
 
   printed : (w : Option ℕ) → Fits (is_wanted c.perform_lines-ended.result.end) last.calls.count w
-      → Printed (g.K.Sink.written c.args.out.now) (g.K.Sink.written c.out-1.given.0) (g.K.Sink.faults c.args.out.now) (g.K.Sink.faults c.out-1.given.0)
+      → Printed (names_of setting.kinds) (g.K.Sink.written c.args.out.now) (g.K.Sink.written c.out-1.given.0) (g.K.Sink.faults c.args.out.now) (g.K.Sink.faults c.out-1.given.0)
       c.errors.result c.has_failed.result (transcript setting w performs.lines)
   printed w f =
       let few : errors_in (transcript setting w performs.lines) < 2 ^ 64 = omega (arith, few_errors setting w performs.lines, performs.count) in
       let small : c.flush.new.self.errors < 2 ^ 64 = omega (arith, c.errors.ensures) in
-      printed_told g.K.Sink.written g.K.Sink.faults c.args.out.now c.new-printer.result.sink.now c.out-1.given.0 c.flush.new.self.sink.now c.errors.result c.flush.new.self.errors c.has_failed.result c.flush.new.self.failed (transcript setting w performs.lines)
-      c.new-printer.ensures.sink same c.errors.ensures c.has_failed.ensures
+      printed_told (names_of setting.kinds) c.new-printer.result.names.now g.K.Sink.written g.K.Sink.faults c.args.out.now c.new-printer.result.sink.now c.out-1.given.0 c.flush.new.self.sink.now c.errors.result c.flush.new.self.errors c.has_failed.result c.flush.new.self.failed (transcript setting w performs.lines)
+      (sym (c.new-printer.ensures.names ∙ c.requires.names)) c.new-printer.ensures.sink same c.errors.ensures c.has_failed.ensures
       (printed_all (seen g.K.Sink.written g.K.Sink.faults c.new-printer.result) (seen g.K.Sink.written g.K.Sink.faults c.flush.new.self) (transcript setting w performs.lines) (shown w f).shows
       c.new-printer.ensures.gathered c.new-printer.ensures.failed c.new-printer.ensures.errors c.flush.ensures.emptied small few)
 
@@ -75,7 +76,7 @@ module _ (g : Over) (c : goal.After-made_outcome g) (descriptors : ℕ) (has : H
 
   facts : Facts setting c.perform_lines-ended.result.end c.perform_lines-ended.result.lines last.calls.count c.errors.result c.has_failed.result
       (g.S.Source.left c.args.src.now) (g.S.Source.left c.perform_lines-ended.new.src) (g.K.Sink.written c.args.out.now) (g.K.Sink.written c.out-1.given.0)
-      (g.K.Sink.faults c.args.out.now) (g.K.Sink.faults c.out-1.given.0) last.shelf
+      (g.K.Sink.faults c.args.out.now) (g.K.Sink.faults c.out-1.given.0) last.shelf last.commons.kinds
   facts = record {
     bytes = performs.bytes;
     lines = performs.lines;
@@ -83,6 +84,9 @@ module _ (g : Over) (c : goal.After-made_outcome g) (descriptors : ℕ) (has : H
     count = performs.count;
     printed = printed;
     hooks = λ w f. hooks_of_end descriptors setting w performs.lines behind last
+        (λ ys. ShowsEvents g.K.Sink.written g.K.Sink.faults c.perform_lines-ended.new.printer ys c.exit_all.new.printer)
+        performs.has (performs.courses w (fits_behind w f)).world_is c.exit_all.ensures.exits;
+    kinds = λ w f. kinds_of_end descriptors setting w performs.lines behind last
         (λ ys. ShowsEvents g.K.Sink.written g.K.Sink.faults c.perform_lines-ended.new.printer ys c.exit_all.new.printer)
         performs.has (performs.courses w (fits_behind w f)).world_is c.exit_all.ensures.exits;
     stopped = λ h. ends_at descriptors setting last.calls.count c.perform_lines-ended.result.lines (is_wanted c.perform_lines-ended.result.end) performs.lines behind _ h
@@ -95,28 +99,28 @@ module _ (g : Over) (c : goal.After-made_outcome g) (descriptors : ℕ) (has : H
   }
 
 pub returns-clause-whole : goal.returns-clause-whole
-returns-clause-whole g c d has = rw c.made_outcome.ensures (whole _ _ _ _ _ _ _ _ _ _ _ _ _ (facts g c d has))
+returns-clause-whole g c d has = rw c.made_outcome.ensures (whole _ _ _ _ _ _ _ _ _ _ _ _ _ _ (facts g c d has))
 
 pub returns-clause-cut_off : goal.returns-clause-cut_off
-returns-clause-cut_off g c d has = rw c.made_outcome.ensures (cut_off _ _ _ _ _ _ _ _ _ _ _ _ _ (facts g c d has))
+returns-clause-cut_off g c d has = rw c.made_outcome.ensures (cut_off _ _ _ _ _ _ _ _ _ _ _ _ _ _ (facts g c d has))
 
 pub returns-clause-too_long : goal.returns-clause-too_long
-returns-clause-too_long g c d has = rw c.made_outcome.ensures (too_long _ _ _ _ _ _ _ _ _ _ _ _ _ (facts g c d has))
+returns-clause-too_long g c d has = rw c.made_outcome.ensures (too_long _ _ _ _ _ _ _ _ _ _ _ _ _ _ (facts g c d has))
 
 pub returns-clause-wanted : goal.returns-clause-wanted
-returns-clause-wanted g c d has = rw c.made_outcome.ensures (wanted _ _ _ _ _ _ _ _ _ _ _ _ _ (facts g c d has))
+returns-clause-wanted g c d has = rw c.made_outcome.ensures (wanted _ _ _ _ _ _ _ _ _ _ _ _ _ _ (facts g c d has))
 
 pub returns-clause-called : goal.returns-clause-called
-returns-clause-called g c = rw c.made_outcome.ensures (called_of _ _ _ _ _ _ _ _ _ _ _ _ _ (facts g c c.requires.standing.alike.0 c.requires.standing.alike.1))
+returns-clause-called g c = rw c.made_outcome.ensures (called_of _ _ _ _ _ _ _ _ _ _ _ _ _ _ (facts g c c.requires.standing.alike.0 c.requires.standing.alike.1))
 
 pub returns-clause-unwritten : goal.returns-clause-unwritten
-returns-clause-unwritten g c d has = rw c.made_outcome.ensures (unwritten _ _ _ _ _ _ _ _ _ _ _ _ _ (facts g c d has))
+returns-clause-unwritten g c d has = rw c.made_outcome.ensures (unwritten _ _ _ _ _ _ _ _ _ _ _ _ _ _ (facts g c d has))
 
 pub returns-clause-sink_fault : goal.returns-clause-sink_fault
-returns-clause-sink_fault g c = rw c.made_outcome.ensures (sink_fault _ _ _ _ _ _ _ _ _ _ _ _ _ (facts g c c.requires.standing.alike.0 c.requires.standing.alike.1))
+returns-clause-sink_fault g c = rw c.made_outcome.ensures (sink_fault _ _ _ _ _ _ _ _ _ _ _ _ _ _ (facts g c c.requires.standing.alike.0 c.requires.standing.alike.1))
 
 pub returns-clause-sink_grew : goal.returns-clause-sink_grew
-returns-clause-sink_grew g c = rw c.made_outcome.ensures (sink_grew _ _ _ _ _ _ _ _ _ _ _ _ _ (facts g c c.requires.standing.alike.0 c.requires.standing.alike.1))
+returns-clause-sink_grew g c = rw c.made_outcome.ensures (sink_grew _ _ _ _ _ _ _ _ _ _ _ _ _ _ (facts g c c.requires.standing.alike.0 c.requires.standing.alike.1))
 
 pub returns-clause-taken : goal.returns-clause-taken
 returns-clause-taken g c d has h =
@@ -136,3 +140,9 @@ returns-clause-others g c = (kept g c).others
 
 pub returns-clause-accounts : goal.returns-clause-accounts
 returns-clause-accounts g c = (kept g c).accounts
+
+pub returns-clause-kinds_kept : goal.returns-clause-kinds_kept
+returns-clause-kinds_kept g c = all_kept _ _ (kept g c) (opening_hold_none _ c.requires.opening) c.exit_all.ensures.exits.none
+
+pub returns-clause-shared_out : goal.returns-clause-shared_out
+returns-clause-shared_out g c = record { limit_is = (kept g c).limit; others = (kept g c).took }

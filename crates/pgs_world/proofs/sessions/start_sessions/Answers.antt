@@ -20,6 +20,7 @@ loop-account-preserved g c =
             session = c.in-Ok.ensures.session;
             keeps = c.in-Ok.ensures.keeps (before.opened.others c.loop-account.account (omega (arith, before.so_many)) ∙ c.requires.empty c.loop-account.account);
             account = c.in-Ok.ensures.account;
+            number = c.in-Ok.ensures.number;
             descriptors_are = c.in-Ok.ensures.descriptors;
             beside = c.beside.ensures;
           }) before.opened);

@@ -1,7 +1,12 @@
-use Rattle.std.proofs.Common.{refl}
+use Rattle.std.proofs.Common.{ℕ, List, refl, subst}
+use Rattle.pgs_step.specs.Text.{text_of}
 use Rattle.pgs_world.specs.PrinterLaws.{TakesBytes-more}
+use Rattle.pgs_world.specs.PrinterView.{TakesBytes}
 use Rattle.pgs_world.proofs.printer.Printer.gather.Goals as goal
 
 pub returns : goal.returns
 returns g c =
-    TakesBytes-more g.K.Sink.written g.K.Sink.faults c.args.self.now c.make_room.new.self c.append.new.self _ _ _ c.make_room.ensures.bytes c.append.ensures refl
+    let line : TakesBytes g.K.Sink.written g.K.Sink.faults c.make_room.new.self (text_of c.args.self.now.names.now c.args.event.now) c.append.new.self =
+    subst (λ (names : List (List ℕ)). TakesBytes g.K.Sink.written g.K.Sink.faults c.make_room.new.self (text_of names c.args.event.now) c.append.new.self) c.make_room.ensures.bytes.names c.append.ensures
+    in
+    TakesBytes-more g.K.Sink.written g.K.Sink.faults c.args.self.now c.make_room.new.self c.append.new.self _ _ _ c.make_room.ensures.bytes line refl
