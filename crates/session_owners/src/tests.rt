@@ -119,57 +119,72 @@ impl Session {
         Ok(())
     }
 
-    /// Makes room for a key of an extension kind, and takes it. Want of memory is told as the kind would.
+    /// Makes room for a key of the kind of this name, and takes it, if the kind isn't full.
     fn acquire(
         &mut self,
         owner: OwnerId,
-        kind: KindId,
+        word: &[u8],
         key: u32,
         out: &mut EventList,
-    ) -> Result<(), KindError>
+    ) -> Result<bool, Fail>
         requires live { IsLive self.old.resources owner }
         requires not_begun { has_begun owner.number (owners_of self.old.resources) ≡ false }
-        requires kind { IsExtension (table_of self.old.commons.kinds) kind }
         requires serial { self.old.resources.next_serial < 2 ^ 62 }
         requires serves { Serves self.old.resources self.old.commons }
         ensures not_begun { has_begun owner.number (owners_of self.new.resources) ≡ false }
         ensures parent { parent_of owner.number (owners_of self.new.resources) ≡ parent_of owner.number (owners_of self.old.resources) }
         ensures places { self.new.resources.places ≡ self.old.resources.places }
         ensures next_serial { self.new.resources.next_serial ≤ self.old.resources.next_serial + 1 }
-        ensures table { table_of self.new.commons.kinds ≡ table_of self.old.commons.kinds }
         ensures serves { Serves self.new.resources self.new.commons }
     {
-        if self.resources.enlarge(owner).is_err() {
-            return Err(KindError::Memory);
-        }
-        self.resources
-            .take_extension(owner, kind, key, &mut self.commons, out)
+        let kind = self.kind(word)?;
+        self.resources.enlarge(owner)?;
+        let taken = self
+            .resources
+            .take_extension(owner, kind, key, &mut self.commons, out);
+        Ok(taken != Err(KindError::Full))
     }
 
-    /// Takes two keys, and says whether one more key of the first kind is refused.
-    fn fill(
-        &mut self,
-        owner: OwnerId,
-        full: KindId,
-        other: KindId,
-        out: &mut EventList,
-    ) -> Result<bool, KindError>
+    /// Takes two keys, and says whether one more key of `conn` is refused.
+    fn fill(&mut self, owner: OwnerId, out: &mut EventList) -> Result<bool, Fail>
         requires live { IsLive self.old.resources owner }
         requires not_begun { has_begun owner.number (owners_of self.old.resources) ≡ false }
-        requires full { IsExtension (table_of self.old.commons.kinds) full }
-        requires other { IsExtension (table_of self.old.commons.kinds) other }
         requires serial { self.old.resources.next_serial < 2 ^ 61 }
         requires serves { Serves self.old.resources self.old.commons }
         ensures not_begun { has_begun owner.number (owners_of self.new.resources) ≡ false }
         ensures parent { parent_of owner.number (owners_of self.new.resources) ≡ parent_of owner.number (owners_of self.old.resources) }
         ensures places { self.new.resources.places ≡ self.old.resources.places }
         ensures next_serial { self.new.resources.next_serial < 2 ^ 62 }
-        ensures table { table_of self.new.commons.kinds ≡ table_of self.old.commons.kinds }
         ensures serves { Serves self.new.resources self.new.commons }
     {
-        self.acquire(owner, other, 3, out)?;
-        self.acquire(owner, full, 7, out)?;
-        Ok(self.acquire(owner, full, 8, out) == Err(KindError::Full))
+        let first = self.acquire(owner, b"handle", 3, out)?;
+        let second = self.acquire(owner, b"conn", 7, out)?;
+        let third = self.acquire(owner, b"conn", 8, out)?;
+        Ok(first && second && !third)
+    }
+
+    /// Whether the kind of this name gives one more key out.
+    fn opens(&mut self, word: &[u8]) -> Result<bool, Fail> {
+        let kind = self.kind(word)?;
+        Ok(self.commons.kinds.open(kind, 8).is_ok())
+    }
+
+    /// Gives a key of the kind of this name back.
+    fn give_back(
+        &mut self,
+        owner: OwnerId,
+        word: &[u8],
+        key: u32,
+        out: &mut EventList,
+    ) -> Result<Item, Fail>
+        requires live { IsLive self.old.resources owner }
+        requires serves { Serves self.old.resources self.old.commons }
+    {
+        let kind = self.kind(word)?;
+        let item = self
+            .resources
+            .give_back(owner, kind, key, &mut self.commons, out)?;
+        Ok(item)
     }
 
     fn release(&mut self, owner: OwnerId, commit: bool, top: bool, out: &mut EventList)
@@ -178,7 +193,6 @@ impl Session {
         requires serves { Serves self.old.resources self.old.commons }
         ensures nothing_left { AllAt HoldsNothing owner.number (owners_of self.new.resources) }
         ensures places { self.new.resources.places ≡ self.old.resources.places }
-        ensures table { table_of self.new.commons.kinds ≡ table_of self.old.commons.kinds }
         ensures serves { Serves self.new.resources self.new.commons }
     {
         self.resources
@@ -194,6 +208,34 @@ impl Session {
     {
         self.resources.discard(owner, out);
     }
+
+    /// Releases a topmost owner at commit, and discards it.
+    fn end(&mut self, owner: OwnerId, out: &mut EventList)
+        requires live { IsLive self.old.resources owner }
+        requires top { parent_of owner.number (owners_of self.old.resources) ≡ None }
+        requires serves { Serves self.old.resources self.old.commons }
+    {
+        self.release(owner, true, true, out);
+        self.discard(owner, out);
+    }
+}
+
+/// What is said of three items that a topmost owner takes in this order, where they are released at commit, the last of
+/// them first.
+fn said_of(first: Item, second: Item, third: Item) -> [What; 11] {
+    [
+        What::Owner(1),
+        taken(first),
+        taken(second),
+        taken(third),
+        warned(third),
+        released(third),
+        warned(second),
+        released(second),
+        warned(first),
+        released(first),
+        What::OwnerGone(1),
+    ]
 }
 
 #[test]
@@ -305,32 +347,14 @@ fn an_owner_that_is_released_gets_no_room(rt: HostRuntime) -> Result<(), Fail> {
 fn keys_of_extension_kinds_are_released_in_order(rt: HostRuntime) -> Result<(), Fail> {
     let mut out = EventList::new(rt.alloc(), 20)?;
     let mut session = Session::new(rt.alloc(), two_kinds(rt.alloc())?)?;
-    let conn = session.kind(b"conn")?;
-    let handle = session.kind(b"handle")?;
     let top = session.make_owner(None, &mut out)?;
-    assert!(rt; session.fill(top, conn, handle, &mut out)?);
+    assert!(rt; session.fill(top, &mut out)?);
     session.hold(top, 9, &mut out)?;
-    session.release(top, true, true, &mut out);
-    session.discard(top, &mut out);
-    let first = item(KindId(17), 3, 1);
-    let second = item(KindId(16), 7, 2);
-    let third = pin(9, 3);
-    let events = [
-        What::Owner(1),
-        taken(first),
-        taken(second),
-        taken(third),
-        warned(third),
-        released(third),
-        warned(second),
-        released(second),
-        warned(first),
-        released(first),
-        What::OwnerGone(1),
-    ];
+    session.end(top, &mut out);
+    let events = said_of(item(KindId(17), 3, 1), item(KindId(16), 7, 2), pin(9, 3));
     assert_eq!(rt; out.events(), events.as_slice());
     // The kind holds nothing any more, so that it can hold its one key again.
-    assert_eq!(rt; session.commons.kinds.open(conn, 8), Ok(()));
+    assert!(rt; session.opens(b"conn")?);
     Ok(())
 }
 
@@ -338,20 +362,10 @@ fn keys_of_extension_kinds_are_released_in_order(rt: HostRuntime) -> Result<(), 
 fn a_key_that_is_given_back_is_free(rt: HostRuntime) -> Result<(), Fail> {
     let mut out = EventList::new(rt.alloc(), 20)?;
     let mut session = Session::new(rt.alloc(), two_kinds(rt.alloc())?)?;
-    let conn = session.kind(b"conn")?;
     let top = session.make_owner(None, &mut out)?;
-    session.acquire(top, conn, 7, &mut out)?;
-    let item = session
-        .resources
-        .give_back(top, conn, 7, &mut session.commons, &mut out)?;
-    assert_eq!(rt;
-        item,
-        Item {
-            kind: conn,
-            key: 7,
-            serial: 1
-        }
-    );
-    assert_eq!(rt; session.commons.kinds.open(conn, 8), Ok(()));
+    assert!(rt; session.acquire(top, b"conn", 7, &mut out)?);
+    let given = session.give_back(top, b"conn", 7, &mut out)?;
+    assert_eq!(rt; given, item(KindId(16), 7, 1));
+    assert!(rt; session.opens(b"conn")?);
     Ok(())
 }

@@ -20,10 +20,10 @@ parent_either n item a b (Err e) took same = ap (λ (z : ResourceState). parent_
 
 pub returns-clause-not_begun : goal.returns-clause-not_begun
 returns-clause-not_begun c =
-    begun_either c.args.owner.number (record { kind = c.args.kind; key = c.args.key; serial = c.enlarge.new.self.next_serial }) c.enlarge.new.self c.take_extension.new.self c.take_extension.result c.take_extension.ensures.owners c.take_extension.ensures.refused
+    begun_either c.args.owner.number _ c.enlarge.new.self c.take_extension-taken.new.self c.take_extension-taken.result c.take_extension-taken.ensures.owners c.take_extension-taken.ensures.refused
     ∙ ap (has_begun c.args.owner.number) c.enlarge.ensures.owners ∙ c.requires.not_begun
 
 pub returns-clause-parent : goal.returns-clause-parent
 returns-clause-parent c =
-    parent_either c.args.owner.number (record { kind = c.args.kind; key = c.args.key; serial = c.enlarge.new.self.next_serial }) c.enlarge.new.self c.take_extension.new.self c.take_extension.result c.take_extension.ensures.owners c.take_extension.ensures.refused
+    parent_either c.args.owner.number _ c.enlarge.new.self c.take_extension-taken.new.self c.take_extension-taken.result c.take_extension-taken.ensures.owners c.take_extension-taken.ensures.refused
     ∙ ap (parent_of c.args.owner.number) c.enlarge.ensures.owners
