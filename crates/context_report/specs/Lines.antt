@@ -1,5 +1,5 @@
 -- What a report says of contexts.
-use Rattle.std.specs.Prelude.{ℕ, ◌+◌, List, min}
+use Rattle.std.specs.Prelude.{ℕ, ◌+◌, ◌-◌, ◌^◌, List, min}
 use Rattle.chunk_header.specs.declared.Stats.{Stats}
 use Rattle.pgs_step.specs.declared.counters.MemoryCounters.{MemoryCounters}
 use Rattle.pgs_step.specs.declared.events.What.{What}
@@ -10,9 +10,13 @@ use Rattle.context_report.specs.declared.Total.{Total}
 abbrev pub counters_of : Stats → MemoryCounters
 counters_of s = record { total = s.total; blocks = s.blocks; free = s.free; chunks = s.chunks }
 
--- the same of several contexts
+-- sums that stand still at 2 ^ 64 - 1
+abbrev pub capped : Total → Total
+capped t = record { total = min t.total (2 ^ 64 - 1); blocks = min t.blocks (2 ^ 64 - 1); free = min t.free (2 ^ 64 - 1); chunks = min t.chunks (2 ^ 64 - 1) }
+
+-- the same of several contexts, as the last line shows it: each number is the exact sum, or 2 ^ 64 - 1 where that is more
 abbrev pub sum_of : Total → MemoryCounters
-sum_of t = record { total = t.total; blocks = t.blocks; free = t.free; chunks = t.chunks }
+sum_of t = record { total = min t.total (2 ^ 64 - 1); blocks = min t.blocks (2 ^ 64 - 1); free = min t.free (2 ^ 64 - 1); chunks = min t.chunks (2 ^ 64 - 1) }
 
 -- no context
 abbrev pub no_total : Total

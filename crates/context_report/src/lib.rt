@@ -1,9 +1,9 @@
 //! The lines of a report on memory contexts: PostgreSQL's `MemoryContextStats`.
 #![tactic(auto)]
 
-ghost use Rattle.std.specs.Prelude.{◌≡◌, ◌+◌, ◌<◌, ◌^◌, min};
+ghost use Rattle.std.specs.Prelude.{◌≡◌, min};
 ghost use Rattle.pgs_step.specs.declared.events.What.TheVariants.{ContextStats, GrandTotal};
-ghost use Rattle.context_report.specs.Lines.{counters_of, added, sum_of};
+ghost use Rattle.context_report.specs.Lines.{counters_of, added, capped, sum_of};
 
 use chunk_header::Stats;
 use pgs_step::{CtxId, Depth, MemoryCounters, Name, What};
@@ -52,23 +52,19 @@ impl Total {
         }
     }
 
-    /// Adds what one more context has.
+    /// Adds what one more context has. Each sum stands still at the end of its type.
     pub fn add(&mut self, stats: &Stats)
-        requires total { self.old.total + stats.now.total < 2 ^ 63 }
-        requires blocks { self.old.blocks + stats.now.blocks < 2 ^ 63 }
-        requires free { self.old.free + stats.now.free < 2 ^ 63 }
-        requires chunks { self.old.chunks + stats.now.chunks < 2 ^ 63 }
-        ensures { self.new ≡ added self.old stats.now }
+        ensures { self.new ≡ capped (added self.old stats.now) }
     {
-        self.total += stats.total;
-        self.blocks += stats.blocks;
-        self.free += stats.free;
-        self.chunks += stats.chunks;
+        self.total = self.total.saturating_add(stats.total);
+        self.blocks = self.blocks.saturating_add(stats.blocks);
+        self.free = self.free.saturating_add(stats.free);
+        self.chunks = self.chunks.saturating_add(stats.chunks);
     }
 
     /// The last line of the report.
-    pub fn last(&self) -> What
-        ensures { result ≡ GrandTotal (sum_of self.now) }
+    pub fn last(self) -> What
+        ensures { result ≡ GrandTotal (sum_of self) }
     {
         What::GrandTotal(MemoryCounters {
             total: self.total,

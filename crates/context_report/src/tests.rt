@@ -1,5 +1,3 @@
-ghost use Rattle.std.specs.Prelude.{◌≡◌, ◌^◌, ◌<◌};
-
 use crate::{Total, line};
 use chunk_header::Stats;
 use pgs_step::{CtxId, Depth, MemoryCounters, Name, What};
@@ -51,6 +49,35 @@ fn the_last_line_sums(rt: HostRuntime) {
         blocks: 3,
         free: 24_048,
         chunks: 7,
+    });
+    assert_eq!(rt; total.last(), want);
+}
+
+#[test]
+fn the_last_line_stands_still_at_its_end(rt: HostRuntime) {
+    let most = u64::MAX;
+    let great = Stats {
+        total: most,
+        blocks: most - 2,
+        free: 1,
+        chunks: most - 8,
+    };
+    let mut total = Total::new();
+    total.add(&great);
+    total.add(&USED);
+    let want = What::GrandTotal(MemoryCounters {
+        total: most,
+        blocks: most,
+        free: 16_097,
+        chunks: most - 1,
+    });
+    assert_eq!(rt; total.last(), want);
+    total.add(&USED);
+    let want = What::GrandTotal(MemoryCounters {
+        total: most,
+        blocks: most,
+        free: 32_193,
+        chunks: most,
     });
     assert_eq!(rt; total.last(), want);
 }

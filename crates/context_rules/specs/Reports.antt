@@ -1,5 +1,5 @@
 -- What a report says.
-use Rattle.std.specs.Prelude.{ℕ, ◌+◌, ◌^◌, ◌<◌, List, [], ◌∷◌, ◌++◌}
+use Rattle.std.specs.Prelude.{ℕ, ◌+◌, List, [], ◌∷◌, ◌++◌}
 use Rattle.pgs_step.specs.declared.events.What.{What}
 use Rattle.forest.specs.Forest.{Empty, Node}
 use Rattle.any_ctx.specs.Ledgers.{stats}
@@ -20,10 +20,3 @@ summed total (Node n c below beside) = summed (summed (added total (stats c.ledg
 -- the report of all contexts
 abbrev pub report : Contexts → List What
 report contexts = lines 0 contexts ++ (last_of (summed no_total contexts) ∷ [])
-
--- the sums of a report are numbers of 63 bits
-pub record IsCountable (contexts : Contexts) : Type 0 where
-  pub total : (summed no_total contexts).total < 2 ^ 63
-  pub blocks : (summed no_total contexts).blocks < 2 ^ 63
-  pub free : (summed no_total contexts).free < 2 ^ 63
-  pub chunks : (summed no_total contexts).chunks < 2 ^ 63

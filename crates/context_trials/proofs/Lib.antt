@@ -3,4 +3,3 @@ pub mod Standing
 pub mod Over
 pub mod Rows
 pub mod Hooked
-pub mod Deep

@@ -8,12 +8,10 @@ use Rattle.reset_callbacks.specs.Hook.{Hook, AreDistinct}
 use Rattle.reset_callbacks.specs.ShelfState as shelf
 use Rattle.any_ctx.specs.declared.any.CtxKind.{CtxKind}
 use Rattle.any_ctx.specs.declared.any.CtxKind.TheVariants.{Default}
-use Rattle.context_report.specs.Lines.{no_total}
 use Rattle.context_rules.specs.Contexts.{Contexts, context_named, created, created_events, reparented, reparented_events}
 use Rattle.context_rules.specs.Chunks.{allocated, registered, resized, zeros}
 use Rattle.context_rules.specs.Ends.{Ended, unchanged, waiting}
 use Rattle.context_rules.specs.Opening.{opening}
-use Rattle.context_rules.specs.Reports.{summed}
 use Rattle.context_tree.specs.State.{TreeState, Agrees, IsLive, stands_for, total_of}
 use Rattle.context_trials.specs.declared.trial.At.{At}
 use Rattle.context_trials.specs.declared.trial.At.TheVariants.{Top, Level, Named}
@@ -107,10 +105,3 @@ first_waits n (hook ∷ hooks) contexts = registered n hook contexts
 
 abbrev pub waits_at : Option ℕ → List Hook → Contexts → Contexts
 waits_at at hooks contexts = option_map_or (λ n. first_waits n hooks contexts) at contexts
-
--- each sum of a report is at most this
-pub record AreSmall (most : ℕ) (contexts : Contexts) : Type 0 where
-  pub total : (summed no_total contexts).total ≤ most
-  pub blocks : (summed no_total contexts).blocks ≤ most
-  pub free : (summed no_total contexts).free ≤ most
-  pub chunks : (summed no_total contexts).chunks ≤ most

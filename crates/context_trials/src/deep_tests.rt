@@ -27,7 +27,7 @@ fn a_chain_of_fifty_thousand_is_reported_and_goes_from_below(rt: HostRuntime) ->
     let mut trial = Trial::new(rt.alloc(), shelf, 160_000)?;
     let w = own_name(b"w");
     trial.create(At::Top, w, CtxKind::Small)?;
-    trial.deepen(At::Named(w), own_name(b"x"), 49_999)?;
+    trial.chain(At::Named(w), own_name(b"x"), 49_999)?;
     assert_eq!(rt; (trial.count(), trial.held()), (50_006, 51_273_728));
     trial.report();
     let said = trial.events().len();

@@ -3,7 +3,6 @@ ghost use Rattle.std.specs.Prelude.{◌≡◌, [], IfOk};
 ghost use Rattle.pgs_step.specs.Name.{IsName};
 ghost use Rattle.reset_callbacks.specs.Hook.{AreDistinct};
 ghost use Rattle.reset_callbacks.specs.ShelfState.{held};
-ghost use Rattle.context_rules.specs.Reports.{IsCountable};
 ghost use Rattle.context_trials.specs.Standing.{Stands, begun, contexts_of, five_hooks};
 
 use crate::{At, Trial};
@@ -74,7 +73,6 @@ fn last_said(events: &[What], of: u64) -> Option<MemoryCounters> {
 /// What a report says of a context.
 fn reported(trial: &mut Trial, context: u64) -> Option<MemoryCounters>
     requires stands { Stands trial.old }
-    requires countable { IsCountable (contexts_of trial.old) }
     ensures stands { Stands trial.new }
     ensures contexts { contexts_of trial.new ≡ contexts_of trial.old }
 {

@@ -10,9 +10,9 @@ ghost use Rattle.context_rules.specs.Contexts.{created, created_events};
 ghost use Rattle.context_rules.specs.Chunks.{freed, shown, written};
 ghost use Rattle.context_rules.specs.Ends.{gone, cleared, handed_in};
 ghost use Rattle.context_rules.specs.Refusals.{bytes_refusal};
-ghost use Rattle.context_rules.specs.Reports.{IsCountable, report};
+ghost use Rattle.context_rules.specs.Reports.{report};
 ghost use Rattle.context_tree.specs.State.{HooksFit, IsLive, error_of};
-ghost use Rattle.context_trials.specs.Standing.{Stands, begun, contexts_of, number_of, made_in, made_events, taken_in, zeroed_in, fitted, moved_in, moved_events, waits_at, ended_at, AreSmall};
+ghost use Rattle.context_trials.specs.Standing.{Stands, begun, contexts_of, number_of, made_in, made_events, taken_in, zeroed_in, fitted, moved_in, moved_events, waits_at, ended_at};
 
 use addr_space::Space;
 use any_ctx::CtxKind;
@@ -156,21 +156,6 @@ impl Trial {
     }
 
     /// Makes contexts for little, each below the one before. They are protected, so that one name serves for all.
-    pub fn deepen(&mut self, at: At, name: Name, count: u32) -> Result<(), TreeError>
-        requires stands { Stands self.old }
-        requires small { AreSmall (1048576 * self.old.tree.next) (contexts_of self.old) }
-        ensures stands { Stands self.new }
-        ensures countable { OnOk result (IsCountable (contexts_of self.new)) }
-    {
-        let mut last = self.find(at)?;
-        for _ in 0..count {
-            let _ = self.count();
-            last = self.make(last, name, CtxKind::Small, true)?;
-        }
-        Ok(())
-    }
-
-    /// The same, and nothing is known of what a report would say.
     pub fn chain(&mut self, at: At, name: Name, count: u32) -> Result<(), TreeError>
         requires { Stands self.old }
         ensures { Stands self.new }
@@ -394,7 +379,6 @@ impl Trial {
     /// Says what each context holds, and what all hold together.
     pub fn report(&mut self)
         requires stands { Stands self.old }
-        requires countable { IsCountable (contexts_of self.old) }
         ensures stands { Stands self.new }
         ensures contexts { contexts_of self.new ≡ contexts_of self.old }
         ensures said { KeepsMore self.old.out (report (contexts_of self.old)) self.new.out }
