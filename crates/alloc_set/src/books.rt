@@ -1,14 +1,14 @@
 //! The books of an AllocSet: its blocks, chunks and numbers.
-ghost use Rattle.std.specs.Prelude.{◌≡◌, ◌≢◌, ℕ, ◌+◌, ◌-◌, ◌*◌, ◌%◌, ◌^◌, ◌<◌, ◌≤◌, ◌↔◌, Ok, Err, Some, None, IfOk, IfErr, OnOk, OnErr, cond, option_map, unwrap_or, sum_by, if◌then◌else◌, length, is_some, sum, ◌==◌, ◌⊎◌, min, IfSome, IsSome, IfNone, OnSome, slice_index, Option};
+ghost use Rattle.std.specs.Prelude.{◌≡◌, ◌≢◌, ℕ, ◌+◌, ◌-◌, ◌*◌, ◌%◌, ◌^◌, ◌<◌, ◌≤◌, ◌↔◌, Ok, Err, Some, None, IfOk, IfErr, OnOk, OnErr, cond, option_map, unwrap_or, sum_by, if◌then◌else◌, length, is_some, sum, ◌==◌, ◌⊎◌, min, IfSome, IsSome, IfNone, OnSome, slice_index, replicate, [], Option};
 ghost use Rattle.std.specs.Map.{values_of, lookup};
 ghost use Rattle.indexmap.specs.IndexMap.{spare};
 ghost use Rattle.addr_space.specs.declared.Addr.{Addr};
 ghost use Rattle.alloc_set.specs.declared.chunk.Chunk.{Chunk};
 ghost use Rattle.addr_space.specs.Footprint.{Agrees, Moves, Keeps, nothing};
-ghost use Rattle.alloc_set.specs.Ledger.{Class, Own as OwnPlace, class_bytes, class_size, cut_off, with_free, stats, with_own, cut_rest, cut_up, halved, block_size, reused, created, take_class, class_of, take_own, own_size, take};
+ghost use Rattle.alloc_set.specs.Ledger.{Class, Own as OwnPlace, class_bytes, class_size, cut_off, with_free, stats, with_own, cut_rest, cut_up, halved, block_size, reused, created, chunk_limit, take_class, class_of, take_own, own_size, take};
 ghost use Rattle.chunk_header.specs.Growth.{grown};
 ghost use Rattle.addr_space.specs.Live.{same_addr, PutsAt};
-ghost use Rattle.alloc_set.specs.Kept.{next_of, freed_in};
+ghost use Rattle.alloc_set.specs.Kept.{next_of, freed_in, no_shelf};
 ghost use Rattle.alloc_set.specs.Steps.{Shelves};
 ghost use Rattle.alloc_set.specs.State.{start_of, chunk_at, place_at, region_of, mark_of, footprint};
 ghost use Rattle.addr_space.specs.Space.{Space, held, accounts, Asks};
@@ -133,49 +133,37 @@ impl Books {
     ghost use Rattle.alloc_set.specs.Live.{LeavesLive};
     ghost use Rattle.alloc_set.specs.Cut.{CutsUp, Renews, Allocates};
 
-    // The books of a new context, whose keeper was taken.
-    pub fn create(
-        alloc: Global,
-        space: &mut Space,
-        account: u8,
-        context: u32,
-        sizes: Sizes,
-    ) -> Result<Books, CtxError>
-        requires account { account < accounts space.old }
+    // The books of a new context, as if its first block were the region 0.
+    fn unplaced(alloc: Global, account: u8, context: u32, sizes: Sizes) -> Books
         requires least { 1024 ≤ sizes.init }
         requires order { sizes.init ≤ sizes.max }
-        requires most { sizes.max ≤ 8388608 }
-        requires whole_init { sizes.init % 8 ≡ 0 }
-        requires whole_max { sizes.max % 8 ≡ 0 }
-        ensures kept { IfOk result (λ b. IsKept b) }
-        ensures ledger { IfOk result (λ b. (state_of b).ledger ≡ created sizes.init sizes.max) }
-        ensures account { IfOk result (λ b. b.account ≡ account) }
-        ensures context { IfOk result (λ b. b.context ≡ context) }
-        ensures live { IfOk result (λ b. (at : Addr) → (footprint (state_of b)).live at ≡ None) }
-        ensures moves { IfOk result (λ b. Moves (nothing account context) (footprint (state_of b)) space.old space.new) }
-        ensures place { IfOk result (λ b. (at : Addr) → place_at (state_of b) at ≡ None) }
-        ensures asked { OnOk result (Asks account sizes.init space.old space.new) }
-        ensures no_space { (result ≡ Err CtxError.NoSpace) ↔ (space.old.limit < held space.old account + sizes.init) }
-        ensures no_other { IfErr result (λ e. (e ≡ CtxError.NoSpace) ⊎ (e ≡ CtxError.Memory)) }
-        ensures err { OnErr result (space.new ≡ space.old) }
+        ensures blocks { result.blocks.entries ≡ [] }
+        ensures chunks { result.chunks.entries ≡ [] }
+        ensures rest { result ≡ record {
+          account = account;
+          context = context;
+          sizes = sizes;
+          limit = chunk_limit sizes.max;
+          next = sizes.init;
+          keeper = 0;
+          active = record { region = 0; size = sizes.init; room = sizes.init - 240 };
+          blocks = result.blocks;
+          chunks = result.chunks;
+          shelves = replicate 11 no_shelf;
+          total = sizes.init;
+          count = 1;
+          idle = 0;
+        } }
     {
-        let at = space.take(account, sizes.init)?;
-        space.write(
-            Addr {
-                region: at.region,
-                offset: CONTEXT_BYTES,
-            },
-            &block_header(context, sizes.init),
-        );
-        Ok(Books {
+        Books {
             account,
             context,
             sizes,
             limit: chunk_limit(sizes.max),
             next: sizes.init,
-            keeper: at.region,
+            keeper: 0,
             active: Block {
-                region: at.region,
+                region: 0,
                 size: sizes.init,
                 room: sizes.init - KEEPER_HEADERS,
             },
@@ -188,7 +176,53 @@ impl Books {
             total: u64::from(sizes.init),
             count: 1,
             idle: 0,
-        })
+        }
+    }
+
+    // The books of a new context, whose keeper was taken. Room for them is made first, since a block that was taken
+    // can't be given back without a trace.
+    pub fn create(
+        alloc: Global,
+        space: &mut Space,
+        account: u8,
+        context: u32,
+        sizes: Sizes,
+    ) -> Result<Box<Books>, CtxError>
+        requires account { account < accounts space.old }
+        requires least { 1024 ≤ sizes.init }
+        requires order { sizes.init ≤ sizes.max }
+        requires most { sizes.max ≤ 8388608 }
+        requires whole_init { sizes.init % 8 ≡ 0 }
+        requires whole_max { sizes.max % 8 ≡ 0 }
+        ensures kept { IfOk result (λ b. IsKept b.value) }
+        ensures ledger { IfOk result (λ b. (state_of b.value).ledger ≡ created sizes.init sizes.max) }
+        ensures account { IfOk result (λ b. b.value.account ≡ account) }
+        ensures context { IfOk result (λ b. b.value.context ≡ context) }
+        ensures live { IfOk result (λ b. (at : Addr) → (footprint (state_of b.value)).live at ≡ None) }
+        ensures moves { IfOk result (λ b. Moves (nothing account context) (footprint (state_of b.value)) space.old space.new) }
+        ensures place { IfOk result (λ b. (at : Addr) → place_at (state_of b.value) at ≡ None) }
+        ensures asked { OnOk result (Asks account sizes.init space.old space.new) }
+        ensures no_space { (result ≡ Err CtxError.NoSpace) ↔ (space.old.limit < held space.old account + sizes.init) }
+        ensures no_other { IfErr result (λ e. (e ≡ CtxError.NoSpace) ⊎ (e ≡ CtxError.Memory)) }
+        ensures err { OnErr result (space.new ≡ space.old) }
+    {
+        if !space.fits(account, sizes.init) {
+            return Err(CtxError::NoSpace);
+        }
+        let Ok(mut books) = Box::new(alloc, Books::unplaced(alloc, account, context, sizes)) else {
+            return Err(CtxError::Memory);
+        };
+        let at = space.take(account, sizes.init)?;
+        space.write(
+            Addr {
+                region: at.region,
+                offset: CONTEXT_BYTES,
+            },
+            &block_header(context, sizes.init),
+        );
+        books.keeper = at.region;
+        books.active.region = at.region;
+        Ok(books)
     }
 
     // How many bytes of a region stand before the header of its block.

@@ -184,10 +184,10 @@ impl Books {
     }
 
     // Gives all back.
-    pub fn discard(mut self, space: &mut Space)
-        requires kept { IsKept self }
-        requires agrees { Agrees (footprint (state_of self)) space.old }
-        ensures moves { Moves (footprint (state_of self)) (nothing self.account self.context) space.old space.new }
+    pub fn discard(&mut self, space: &mut Space)
+        requires kept { IsKept self.old }
+        requires agrees { Agrees (footprint (state_of self.old)) space.old }
+        ensures moves { Moves (footprint (state_of self.old)) (nothing self.old.account self.old.context) space.old space.new }
         ensures asked { space.new.taken ≡ space.old.taken }
     {
         self.reset(space);

@@ -18,9 +18,11 @@ use std::alloc::Global;
 use std::marker::Model;
 
 /// A context whose chunks have a power of two of bytes, or a block for themselves.
+///
+/// What it keeps lies in a box, so that to move it costs little.
 #[derive(Drop)]
 pub struct AllocSet {
-    books: Books,
+    books: Box<Books>,
 }
 
 impl Model for AllocSet {
@@ -30,9 +32,9 @@ impl Model for AllocSet {
 
     ghost use Rattle.alloc_set.specs.Kept.{state_of, IsKept};
 
-    ghost view = { λ a. state_of a.books };
+    ghost view = { λ a. state_of a.books.value };
 
-    ghost invariant = { λ a. IsKept a.books };
+    ghost invariant = { λ a. IsKept a.books.value };
 }
 
 impl AllocSet {
@@ -82,6 +84,13 @@ impl AllocSet {
         ensures total { (footprint self.now).total ≡ result.total }
     {
         self.books.stats()
+    }
+
+    /// What the context's regions have in all is what `stats` counts as their bytes. A caller cites the clause.
+    pub fn counted(&self)
+        ensures { (footprint self.now).total ≡ (stats self.now.ledger).total }
+    {
+        let _ = &self.books;
     }
 
     /// Each live chunk has a header that leads to its block, and so to the context, and says what the chunk takes:
@@ -202,7 +211,8 @@ impl AllocSet {
         ensures moves { Moves (footprint self) (nothing self.account self.context) space.old space.new }
         ensures asked { Asks self.account 0 space.old space.new }
     {
-        self.books.discard(space);
+        let AllocSet { mut books } = self;
+        books.discard(space);
     }
 }
 

@@ -216,6 +216,18 @@ impl AnyCtx {
         }
     }
 
+    /// What the context's regions have in all is what `stats` counts as their bytes. A caller cites the clause.
+    pub fn counted(&self)
+        ensures { (footprint self.now).total ≡ (stats (ledger self.now)).total }
+    {
+        match self {
+            AnyCtx::AllocSet(set) => set.counted(),
+            AnyCtx::Slab(slab) => slab.counted(),
+            AnyCtx::Generation(generation) => generation.counted(),
+            AnyCtx::Bump(bump) => bump.counted(),
+        }
+    }
+
     /// Frees all chunks: `MemoryContextReset` of a context without children. All blocks but the first go back to the
     /// space, and the ledger is that of a new context. It takes no memory.
     pub fn reset(&mut self, space: &mut Space)

@@ -32,6 +32,24 @@ impl Books {
     ghost use Rattle.bump_ctx.specs.Kept.{ledger_of, state_of, room_at, IsKept};
     ghost use Rattle.bump_ctx.specs.Steps.{Allocates};
 
+    // Room for the books of a context that is to come. It is made before the first region is taken, which can't be given
+    // back without a trace.
+    pub fn unplaced(alloc: Global) -> Result<Box<Books>, CtxError>
+        ensures { IfErr result (λ e. e ≡ CtxError.Memory) }
+    {
+        let none = Sizes { init: 0, max: 0 };
+        let books = Books {
+            sizes: none,
+            next: 0,
+            newest: 0,
+            blocks: Blocks::unplaced(alloc, Kind::Bump)?,
+        };
+        match Box::new(alloc, books) {
+            Ok(books) => Ok(books),
+            Err(_) => Err(CtxError::Memory),
+        }
+    }
+
     // The books of a new context.
     pub fn create(
         alloc: Global,

@@ -18,9 +18,11 @@ use std::marker::Model;
 
 /// A context whose chunks have a multiple of 8 bytes without a header, or a block for themselves. None of them is
 /// freed before all are.
+///
+/// What it keeps lies in a box, so that to move it costs little.
 #[derive(Drop)]
 pub struct BumpCtx {
-    books: Books,
+    books: Box<Books>,
 }
 
 impl Model for BumpCtx {
@@ -30,9 +32,9 @@ impl Model for BumpCtx {
 
     ghost use Rattle.bump_ctx.specs.Kept.{state_of, IsKept};
 
-    ghost view = { λ a. state_of a.books };
+    ghost view = { λ a. state_of a.books.value };
 
-    ghost invariant = { λ a. IsKept a.books };
+    ghost invariant = { λ a. IsKept a.books.value };
 }
 
 impl BumpCtx {
@@ -71,7 +73,12 @@ impl BumpCtx {
         ensures no_other { IfErr result (λ e. (e ≡ CtxError.NoSpace) ⊎ (e ≡ CtxError.Memory)) }
         ensures err_space { OnErr result (space.new ≡ space.old) }
     {
-        let books = Books::create(alloc, space, account, context, sizes)?;
+        if !space.fits(account, sizes.init) {
+            return Err(CtxError::NoSpace);
+        }
+        let mut books = Books::unplaced(alloc)?;
+        let made = Books::create(alloc, space, account, context, sizes)?;
+        *books = made;
         Ok(BumpCtx { books })
     }
 
@@ -82,6 +89,13 @@ impl BumpCtx {
         ensures total { (footprint self.now).total ≡ result.total }
     {
         self.books.stats()
+    }
+
+    /// What the context's regions have in all is what `stats` counts as their bytes. A caller cites the clause.
+    pub fn counted(&self)
+        ensures { (footprint self.now).total ≡ (stats self.now.ledger).total }
+    {
+        let _ = &self.books;
     }
 
     /// Takes a chunk of `size` bytes, which may be 0, and answers its address: `BumpAlloc`.
@@ -165,6 +179,7 @@ impl BumpCtx {
         ensures moves { Moves (footprint self) (nothing (footprint self).account (footprint self).context) space.old space.new }
         ensures asked { Asks self.layout.account 0 space.old space.new }
     {
-        self.books.discard(space);
+        let BumpCtx { books } = self;
+        Box::into_inner(books).discard(space);
     }
 }

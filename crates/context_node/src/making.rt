@@ -81,7 +81,7 @@ pub fn make_node<H: ResetHook>(
 {
     match AnyCtx::create(alloc, space, account, slot, new.kind) {
         Ok(memory) => {
-            let _ = memory.stats();
+            memory.counted();
             Ok(Node {
                 name: new.name,
                 kind: new.kind,

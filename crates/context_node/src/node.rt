@@ -146,7 +146,7 @@ impl<H: ResetHook> Node<H> {
             Ok(at) => {
                 self.chunks.get_mut(id).at = at;
                 self.used = true;
-                let _ = self.memory.stats();
+                self.memory.counted();
                 Ok(id)
             }
             Err(error) => {
@@ -196,7 +196,7 @@ impl<H: ResetHook> Node<H> {
             return Err(TreeError::Ctx(error));
         }
         self.chunks.remove(entry);
-        let _ = self.memory.stats();
+        self.memory.counted();
         Ok(())
     }
 
@@ -246,7 +246,7 @@ impl<H: ResetHook> Node<H> {
                 kept.at = to;
                 kept.size = size;
                 kept.known = chunk.known.min(size);
-                let _ = self.memory.stats();
+                self.memory.counted();
                 Ok(())
             }
             Err(error) => Err(told(error)),
@@ -272,7 +272,7 @@ impl<H: ResetHook> Node<H> {
         run_all(&mut self.callbacks, shelf, number, out);
         forget_all(&mut self.chunks, names);
         self.memory.reset(space);
-        let _ = self.memory.stats();
+        self.memory.counted();
         self.used = false;
         out.emit(What::Reset(number));
     }

@@ -1,15 +1,17 @@
 -- The lines and sums of a report, one context at a time.
-use Rattle.std.proofs.Common.{◌≡◌, ℕ, ◌+◌, ◌≤◌, ◌<◌, ◌^◌, List, [], ◌∷◌, ◌++◌, map, refl, sym, ap, ◌∙◌, arith}
+use Rattle.std.proofs.Common.{◌≡◌, ℕ, ◌+◌, ◌-◌, ◌^◌, min, List, [], ◌∷◌, ◌++◌, map, refl, sym, ap, ◌∙◌, arith}
 use Rattle.std.proofs.lemmas.List.{map-append}
 use Rattle.addr_space.specs.Space.{Space}
+use Rattle.chunk_header.specs.declared.Stats.{Stats}
+use Rattle.pgs_step.specs.declared.counters.MemoryCounters.{MemoryCounters}
 use Rattle.pgs_step.specs.declared.events.What.{What}
 use Rattle.forest.specs.Forest.{Forest, Empty, Node, mapped}
 use Rattle.forest.specs.Preorder.{Visited, preorder}
 use Rattle.any_ctx.specs.Ledgers.{stats}
 use Rattle.any_ctx.specs.Contexts.{ledger}
-use Rattle.context_report.specs.Lines.{line_of, added, no_total}
+use Rattle.context_report.specs.Lines.{line_of, added, capped}
 use Rattle.context_report.specs.declared.Total.{Total}
-use Rattle.context_rules.specs.Reports.{lines, summed, IsCountable}
+use Rattle.context_rules.specs.Reports.{lines, summed}
 use Rattle.context_node.specs.Kept.{Kept}
 use Rattle.context_node.specs.State.{context_of}
 
@@ -40,47 +42,26 @@ summed_added s total depth (Node n k below beside) =
     ∙ summed_added s (all_added one (preorder (depth + 1) below)) depth beside
     ∙ sym (added_more one (preorder (depth + 1) below) (preorder depth beside))
 
--- a sum is no less than what it began with
-pub record Within (a b : Total) : Type 0 where
-  pub total : a.total ≤ b.total
-  pub blocks : a.blocks ≤ b.blocks
-  pub free : a.free ≤ b.free
-  pub chunks : a.chunks ≤ b.chunks
+-- what stands still at the end of its type stays there
+within : (a b most : ℕ) → min (min a most + b) most ≡ min (a + b) most
+within a b most = omega arith
 
-pub within : (total : Total) (vs : List (Visited Kept)) → Within total (all_added total vs)
-within total [] = record { total = omega arith; blocks = omega arith; free = omega arith; chunks = omega arith }
-within total (v ∷ vs) =
-    let w = within (added total (stats (ledger v.value.memory))) vs in
-    record {
-      total = omega (arith, w.total);
-      blocks = omega (arith, w.blocks);
-      free = omega (arith, w.free);
-      chunks = omega (arith, w.chunks);
-    }
+still : (a most : ℕ) → min (min a most) most ≡ min a most
+still a most = omega arith
 
--- sums that are numbers of 63 bits
-pub record Fitting (a : Total) : Type 0 where
-  pub total_fits : a.total < 2 ^ 63
-  pub blocks_fit : a.blocks < 2 ^ 63
-  pub free_fits : a.free < 2 ^ 63
-  pub chunks_fit : a.chunks < 2 ^ 63
+capped_once : (total : Total) (s : Stats) → capped (added (capped total) s) ≡ capped (added total s)
+capped_once total s =
+    rw (within total.total s.total (2 ^ 64 - 1), within total.blocks s.blocks (2 ^ 64 - 1), within total.free s.free (2 ^ 64 - 1), within total.chunks s.chunks (2 ^ 64 - 1)) refl
 
--- each sum on the way to one that fits
-fitting : (s : Space) (t : Forest Kept) (total : Total) (vs : List (Visited Kept)) → IsCountable (mapped (context_of s) t)
-    → all_added total vs ≡ all_added no_total (preorder 0 t)
-    → Fitting total
-fitting s t total vs h e =
-    let w = within total vs in
-    let end : all_added total vs ≡ summed no_total (mapped (context_of s) t) = e ∙ sym (summed_added s no_total 0 t) in
-    record {
-      total_fits = omega (arith, w.total, ap (λ (x : Total). x.total) end, h.total);
-      blocks_fit = omega (arith, w.blocks, ap (λ (x : Total). x.blocks) end, h.blocks);
-      free_fits = omega (arith, w.free, ap (λ (x : Total). x.free) end, h.free);
-      chunks_fit = omega (arith, w.chunks, ap (λ (x : Total). x.chunks) end, h.chunks);
-    }
+-- so a sum that stands still on the way is what it is at the end
+pub capped_all : (total : Total) (vs : List (Visited Kept)) → capped (all_added (capped total) vs) ≡ capped (all_added total vs)
+capped_all total [] = rw (still total.total (2 ^ 64 - 1), still total.blocks (2 ^ 64 - 1), still total.free (2 ^ 64 - 1), still total.chunks (2 ^ 64 - 1)) refl
+capped_all total (v ∷ vs) =
+    let s : Stats = stats (ledger v.value.memory) in
+    sym (capped_all (added (capped total) s) vs)
+    ∙ ap (λ (x : Total). capped (all_added x vs)) (capped_once total s)
+    ∙ capped_all (added total s) vs
 
-pub fits_next : (s : Space) (t : Forest Kept) (total : Total) (v : Visited Kept) (vs walk : List (Visited Kept)) → IsCountable (mapped (context_of s) t)
-    → walk ≡ v ∷ vs → all_added total walk ≡ all_added no_total (preorder 0 t)
-    → Fitting (added total (stats (ledger v.value.memory)))
-fits_next s t total v vs walk h is e =
-    fitting s t (added total (stats (ledger v.value.memory))) vs h (ap (all_added total) (sym is) ∙ e)
+-- what the last line shows of sums that stand still
+abbrev pub counted : Total → MemoryCounters
+counted t = record { total = t.total; blocks = t.blocks; free = t.free; chunks = t.chunks }

@@ -1,25 +1,21 @@
--- What calls leave of the hooks that wait, and of the sums of a report.
-use Rattle.std.proofs.Common.{◌≡◌, ◌≢◌, ℕ, ◌+◌, ◌^◌, ◌<◌, Bool, true, false, List, [], ◌∷◌, ◌++◌, Option, Some, None, Result, Ok, Err, refl, sym, ap, ◌∙◌, subst, arith}
+-- What calls leave of the hooks that wait.
+use Rattle.std.proofs.Common.{◌≡◌, ◌≢◌, ℕ, ◌+◌, Bool, true, false, List, [], ◌∷◌, ◌++◌, Option, Some, None, Result, Ok, Err, refl, sym, ap, ◌∙◌, subst, arith}
 use Rattle.std.specs.Prelude.{if◌then◌else◌, ◌==◌}
 use Rattle.std.specs.Option.{option_map_or}
 use Rattle.std.proofs.lemmas.List.Elements.{All-cons, All-head, All-tail}
 use Rattle.chunk_header.specs.Answers.{Taken}
 use Rattle.chunk_header.specs.declared.CtxError.{CtxError}
-use Rattle.forest.specs.Forest.{Forest, Empty, Node, changed, put}
+use Rattle.forest.specs.Forest.{Empty, Node, changed, put}
 use Rattle.reset_callbacks.specs.Hook.{Hook, AreDistinct, Lacks}
 use Rattle.reset_callbacks.specs.ShelfState.{ShelfState, held, taken}
 use Rattle.reset_callbacks.proofs.ShelfSteps.{differ_taken}
-use Rattle.alloc_set.specs.Ledger as set
-use Rattle.any_ctx.specs.Ledgers.{Ledger, Place, stats}
+use Rattle.any_ctx.specs.Ledgers.{Ledger, Place}
 use Rattle.any_ctx.specs.declared.any.CtxKind.{CtxKind}
-use Rattle.any_ctx.specs.declared.any.CtxKind.TheVariants.{Default, Small}
-use Rattle.context_report.specs.Lines.{added, no_total}
-use Rattle.context_report.specs.declared.Total.{Total}
+use Rattle.any_ctx.specs.declared.any.CtxKind.TheVariants.{Default}
 use Rattle.context_rules.specs.Contexts.{Context, Contexts, Found, created, found, new_context}
 use Rattle.context_rules.specs.Chunks.{allocated, from_ok, registered, served, with_chunk, with_changed, written, written_over}
 use Rattle.context_rules.specs.Ends.{waiting}
 use Rattle.context_rules.specs.Opening.{opening}
-use Rattle.context_rules.specs.Reports.{IsCountable, summed}
 use Rattle.context_tree.specs.State.{HooksFit}
 
 hooks_of : (b : Bool) (f : Context → Context) (c : Context) → (f c).hooks ≡ c.hooks → (if b then f c else c).hooks ≡ c.hooks
@@ -69,38 +65,6 @@ waiting_created p n name kind protected t = waiting_put p n (new_context name ki
 
 pub none_fit : (t : Contexts) (x : ShelfState) → waiting t ≡ [] → AreDistinct (held x) → HooksFit t x
 none_fit t x none differ = record { out = rw none (omega arith); words = rw none differ }
-
-ledger_of : (b : Bool) (f : Context → Context) (c : Context) → (f c).ledger ≡ c.ledger → (if b then f c else c).ledger ≡ c.ledger
-ledger_of true f c same = same
-ledger_of false f c same = refl
-
-summed_changed : (n : ℕ) (f : Context → Context) → ((c : Context) → (f c).ledger ≡ c.ledger) → (total : Total) (t : Contexts) → summed total (changed n f t) ≡ summed total t
-summed_changed n f same total Empty = refl
-summed_changed n f same total (Node k c below beside) =
-    ap (λ (l : Ledger). summed (summed (added total (stats l)) (changed n f below)) (changed n f beside)) (ledger_of (k == n) f c (same c))
-    ∙ ap (λ (x : Total). summed x (changed n f beside)) (summed_changed n f same (added total (stats c.ledger)) below)
-    ∙ summed_changed n f same (summed (added total (stats c.ledger)) below) beside
-
-countable_summed : (t u : Contexts) → summed no_total u ≡ summed no_total t → IsCountable t → IsCountable u
-countable_summed t u same h = record { total = rw same h.total; blocks = rw same h.blocks; free = rw same h.free; chunks = rw same h.chunks }
-
-pub countable_written : (name : List ℕ) (place : ℕ) (bytes : List ℕ) (t : Contexts) → IsCountable t → IsCountable (written name place bytes t)
-countable_written name place bytes t h = countable_summed t (written name place bytes t) (written_keeps (summed no_total) name place bytes t (λ n. summed_changed n (over name place bytes) (λ c. refl) no_total t)) h
-
--- a context in each of two kinds, and a chunk in the inner one
-two_sums : (outer inner chunk : List ℕ) (left : ℕ) → summed no_total (allocated 7 left (Some chunk) 100 [] (created 6 7 inner Small false (created 1 6 outer Default false opening))) ≡ record { total = 74752; blocks = 7; free = 72936; chunks = 0 }
-unfolding set.take set.chunk_limit set.limit_class set.created set.take_class set.class_of set.class_up_to set.stats set.cut_off
-two_sums outer inner chunk left = refl
-
-countable_two : (outer inner chunk : List ℕ) (left : ℕ) → IsCountable (allocated 7 left (Some chunk) 100 [] (created 6 7 inner Small false (created 1 6 outer Default false opening)))
-countable_two outer inner chunk left =
-    let is = two_sums outer inner chunk left in
-    record { total = rw is (omega arith); blocks = rw is (omega arith); free = rw is (omega arith); chunks = rw is (omega arith) }
-
-pub countable_made : (outer inner chunk : List ℕ) (left : ℕ) (p n q m k : ℕ) (s t u v : Contexts) → p ≡ 1 → n ≡ 6 → q ≡ 6 → m ≡ 7 → k ≡ 7
-    → s ≡ opening → t ≡ created p n outer Default false s → u ≡ created q m inner Small false t → v ≡ allocated k left (Some chunk) 100 [] u → IsCountable v
-countable_made outer inner chunk left p n q m k s t u v p1 n6 q6 m7 k7 is made more taken =
-    rw (taken, more, made, is, p1, n6, q6, m7, k7) (countable_two outer inner chunk left)
 
 -- two hooks were taken from a shelf and wait at one context
 waits_two : (first second : Hook) (name : List ℕ) → waiting (registered 6 second (registered 6 first (created 1 6 name Default false opening))) ≡ second ∷ first ∷ []

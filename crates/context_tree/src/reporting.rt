@@ -1,10 +1,10 @@
 //! The report on the contexts of a tree.
-ghost use Rattle.std.specs.Prelude.{◌≡◌, ◌<◌, ◌^◌, ◌∷◌, [], min};
+ghost use Rattle.std.specs.Prelude.{◌≡◌, ◌∷◌, [], min};
 ghost use Rattle.addr_space.specs.Space.{Space};
 ghost use Rattle.forest.specs.Forest.{mapped};
 ghost use Rattle.any_ctx.specs.Ledgers.{stats};
 ghost use Rattle.any_ctx.specs.Contexts.{ledger};
-ghost use Rattle.context_report.specs.Lines.{line_of, added};
+ghost use Rattle.context_report.specs.Lines.{line_of, added, capped};
 ghost use Rattle.context_rules.specs.Reports as reports;
 ghost use Rattle.context_node.specs.State.{context_of};
 
@@ -17,7 +17,6 @@ use reset_callbacks::ResetHook;
 /// Says what each context holds, before those below it, and then what all hold together. It takes no memory, however
 /// deep the tree is.
 pub fn report_all<H: ResetHook, E: Emit>(nodes: &LinkedForest<Node<H>>, out: &mut E)
-    requires { (s : Space) × reports.IsCountable (mapped (context_of s) nodes.now.forest) }
     ensures { (s : Space) → E.emits out.old (reports.report (mapped (context_of s) nodes.now.forest)) out.new }
 {
     let mut total = Total::new();
@@ -30,11 +29,7 @@ pub fn report_all<H: ResetHook, E: Emit>(nodes: &LinkedForest<Node<H>>, out: &mu
 
 /// Says what a context holds, and adds that to the total.
 fn report_one<H: ResetHook, E: Emit>(visit: &Visit<'_, Node<H>>, total: &mut Total, out: &mut E)
-    requires total { (added total.old (stats (ledger visit.now.value.now.memory))).total < 2 ^ 63 }
-    requires blocks { (added total.old (stats (ledger visit.now.value.now.memory))).blocks < 2 ^ 63 }
-    requires free { (added total.old (stats (ledger visit.now.value.now.memory))).free < 2 ^ 63 }
-    requires chunks { (added total.old (stats (ledger visit.now.value.now.memory))).chunks < 2 ^ 63 }
-    ensures total { total.new ≡ added total.old (stats (ledger visit.now.value.now.memory)) }
+    ensures total { total.new ≡ capped (added total.old (stats (ledger visit.now.value.now.memory))) }
     ensures emits { E.emits out.old (line_of visit.now.depth visit.now.id.number visit.now.value.now.name (stats (ledger visit.now.value.now.memory)) ∷ []) out.new }
 {
     let node = visit.value;

@@ -912,7 +912,6 @@ impl<H: ResetHook> ContextTree<H> {
 
     /// Says what each context holds, from the topmost one on, and what all hold together: `MemoryContextStats`.
     pub fn report<E: Emit>(&self, out: &mut E)
-        requires { (s : Space) × reports.IsCountable (stands_for self.now s) }
         ensures { (s : Space) → E.emits out.old (reports.report (stands_for self.now s)) out.new }
     {
         report_all(&self.nodes, out);

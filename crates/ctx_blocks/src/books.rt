@@ -69,6 +69,36 @@ impl Books {
     ghost use Rattle.ctx_blocks.specs.Kept.{layout_of, IsFilled, IsSized, IsClear, IsLaid, IsCounted, IsFirst, AreRising, IsKept};
     ghost use Rattle.ctx_blocks.specs.Held.{Holds, IsWritten};
 
+    // The books of a context that is to come, as if its first region were 0.
+    pub fn unplaced(alloc: Global, kind: Kind) -> Result<Books, CtxError>
+        ensures kept { IfOk result IsKept }
+        ensures only_memory { IfErr result (λ e. e ≡ CtxError.Memory) }
+    {
+        let mut blocks = match IndexMap::with_capacity(alloc, 1) {
+            Ok(blocks) => blocks,
+            Err(_) => return Err(CtxError::Memory),
+        };
+        let block = Block {
+            number: 0,
+            size: 200,
+            room: 0,
+            live: 0,
+            freed: 0,
+        };
+        note(&mut blocks, 0, block);
+        Ok(Books {
+            kind,
+            account: 0,
+            context: 0,
+            keeper: 0,
+            first_number: 0,
+            last_number: 0,
+            blocks,
+            chunks: IndexMap::new(alloc),
+            total: 200,
+        })
+    }
+
     // The books of a new context, whose first region was taken.
     pub fn create(
         alloc: Global,

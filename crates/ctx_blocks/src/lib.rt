@@ -86,6 +86,14 @@ impl Blocks {
         Ok(Blocks { books })
     }
 
+    /// The blocks of a context that is to come: they stand in no space, and hold the place of those that `create` makes.
+    pub fn unplaced(alloc: Global, kind: Kind) -> Result<Blocks, CtxError>
+        ensures { IfErr result (λ e. e ≡ CtxError.Memory) }
+    {
+        let books = Books::unplaced(alloc, kind)?;
+        Ok(Blocks { books })
+    }
+
     /// Makes room to note one chunk and one block. A refused call makes room for one of them at most, and changes
     /// nothing else.
     pub fn make_room(&mut self) -> Result<(), CtxError>

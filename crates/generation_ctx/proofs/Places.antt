@@ -1,5 +1,5 @@
 -- The places of live chunks, once one was put, taken away or moved.
-use Rattle.std.proofs.Common.{◌≡◌, ◌≢◌, ℕ, Bool, true, false, if◌then◌else◌, Option, Some, None, option_map, refl, ap, sym, ◌∙◌}
+use Rattle.std.proofs.Common.{◌≡◌, ◌≢◌, ◌≤◌, ℕ, Bool, true, false, if◌then◌else◌, Option, Some, None, IsSome, IfSome, option_map, refl, ap, sym, ◌∙◌}
 use Rattle.addr_space.specs.declared.Addr.{Addr}
 use Rattle.addr_space.specs.Space.{Space}
 use Rattle.addr_space.specs.Footprint.{Agrees, Moves}
@@ -18,6 +18,15 @@ use Rattle.generation_ctx.proofs.Numbers.{number_in}
 -- the places in a layout
 abbrev pub places : Layout → Addr → Option GenerationPlace
 places l at = option_map (place_in l at.region) (chunk_at l at)
+
+-- the chunk behind a size that is live
+pub chunk_there : (o : Option Chunk) → IsSome (option_map (λ (c : Chunk). c.size) o) → (x : Chunk) × (o ≡ Some x)
+chunk_there (Some x) some = (x, refl)
+chunk_there None some = absurd (cc)
+
+pub chunk_kept : (o : Option Chunk) (keep : ℕ) → IsSome (option_map (λ (c : Chunk). c.size) o) → IfSome (option_map (λ (c : Chunk). c.size) o) (λ n. keep ≤ n) → (x : Chunk) × (o ≡ Some x) × (keep ≤ x.size)
+chunk_kept (Some x) keep some kept = (x, refl, kept)
+chunk_kept None keep some kept = absurd (cc)
 
 -- numbers stay where blocks are left
 pub numbers_among : (l m : Layout) → AreAmong m l → KeepsNumbers l m

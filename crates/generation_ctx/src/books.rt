@@ -40,6 +40,25 @@ impl Books {
     ghost use Rattle.generation_ctx.specs.Kept.{ledger_of, state_of, IsIdle, IsKept};
     ghost use Rattle.generation_ctx.specs.Steps.{Rearranges, Allocates, Serves, Frees, Resizes, Lessens};
 
+    // Room for the books of a context that is to come. It is made before the first region is taken, which can't be given
+    // back without a trace.
+    pub fn unplaced(alloc: Global) -> Result<Box<Books>, CtxError>
+        ensures { IfErr result (λ e. e ≡ CtxError.Memory) }
+    {
+        let none = Sizes { init: 0, max: 0 };
+        let books = Books {
+            sizes: none,
+            next: 0,
+            current: 0,
+            spare: None,
+            blocks: Blocks::unplaced(alloc, Kind::Generation)?,
+        };
+        match Box::new(alloc, books) {
+            Ok(books) => Ok(books),
+            Err(_) => Err(CtxError::Memory),
+        }
+    }
+
     // The books of a new context.
     pub fn create(
         alloc: Global,

@@ -18,9 +18,11 @@ use std::marker::Model;
 
 /// A context whose chunks have a multiple of 8 bytes, or a block for themselves: PostgreSQL's `GenerationContext`
 /// (generation.c). A block whose chunks were all freed is used again, or goes back.
+///
+/// What it keeps lies in a box, so that to move it costs little.
 #[derive(Drop)]
 pub struct GenerationCtx {
-    books: Books,
+    books: Box<Books>,
 }
 
 impl Model for GenerationCtx {
@@ -30,9 +32,9 @@ impl Model for GenerationCtx {
 
     ghost use Rattle.generation_ctx.specs.Kept.{state_of, IsKept};
 
-    ghost view = { λ a. state_of a.books };
+    ghost view = { λ a. state_of a.books.value };
 
-    ghost invariant = { λ a. IsKept a.books };
+    ghost invariant = { λ a. IsKept a.books.value };
 }
 
 impl GenerationCtx {
@@ -73,7 +75,12 @@ impl GenerationCtx {
         ensures no_other { IfErr result (λ e. (e ≡ CtxError.NoSpace) ⊎ (e ≡ CtxError.Memory)) }
         ensures err_space { OnErr result (space.new ≡ space.old) }
     {
-        let books = Books::create(alloc, space, account, context, sizes)?;
+        if !space.fits(account, sizes.init) {
+            return Err(CtxError::NoSpace);
+        }
+        let mut books = Books::unplaced(alloc)?;
+        let made = Books::create(alloc, space, account, context, sizes)?;
+        *books = made;
         Ok(GenerationCtx { books })
     }
 
@@ -84,6 +91,13 @@ impl GenerationCtx {
         ensures total { (footprint self.now).total ≡ result.total }
     {
         self.books.stats()
+    }
+
+    /// What the context's regions have in all is what `stats` counts as their bytes. A caller cites the clause.
+    pub fn counted(&self)
+        ensures { (footprint self.now).total ≡ (stats self.now.ledger).total }
+    {
+        let _ = &self.books;
     }
 
     /// Each live chunk has a header that leads to its block, and so to the context, and says what the chunk takes. A
@@ -202,6 +216,6 @@ impl GenerationCtx {
         ensures asked { Asks (footprint self).account 0 space.old space.new }
     {
         let GenerationCtx { books } = self;
-        books.discard(space);
+        Box::into_inner(books).discard(space);
     }
 }

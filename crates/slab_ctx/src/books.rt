@@ -59,6 +59,23 @@ impl Books {
     ghost use Rattle.slab_ctx.specs.Kept.{ledger_of, state_of, IsKept, IsKeptBut};
     ghost use Rattle.slab_ctx.specs.Steps.{IsChosen, Serves};
 
+    // Room for the books of a context that is to come. It is made before the first region is taken, which can't be given
+    // back without a trace.
+    pub fn unplaced(alloc: Global) -> Result<Box<Books>, CtxError>
+        ensures { IfErr result (λ e. e ≡ CtxError.Memory) }
+    {
+        let books = Books {
+            slots: Slots::unplaced(alloc)?,
+            empty: 0,
+            free: 0,
+            ranks: Ranks::new(alloc),
+        };
+        match Box::new(alloc, books) {
+            Ok(books) => Ok(books),
+            Err(_) => Err(CtxError::Memory),
+        }
+    }
+
     // The books of a new context, whose first region was taken.
     pub fn create(
         alloc: Global,

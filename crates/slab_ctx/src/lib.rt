@@ -22,9 +22,11 @@ use std::marker::Model;
 ///
 /// A call takes steps by the logarithm of the number of blocks; one that takes a block or gives one back may move as
 /// many records as there are blocks.
+///
+/// What it keeps lies in a box, so that to move it costs little.
 #[derive(Drop)]
 pub struct SlabCtx {
-    books: Books,
+    books: Box<Books>,
 }
 
 impl Model for SlabCtx {
@@ -34,9 +36,9 @@ impl Model for SlabCtx {
 
     ghost use Rattle.slab_ctx.specs.Kept.{state_of, IsKept};
 
-    ghost view = { λ a. state_of a.books };
+    ghost view = { λ a. state_of a.books.value };
 
-    ghost invariant = { λ a. IsKept a.books };
+    ghost invariant = { λ a. IsKept a.books.value };
 }
 
 impl SlabCtx {
@@ -74,7 +76,12 @@ impl SlabCtx {
         ensures no_other { IfErr result (λ e. (e ≡ CtxError.NoSpace) ⊎ (e ≡ CtxError.Memory)) }
         ensures err_space { OnErr result (space.new ≡ space.old) }
     {
-        let books = Books::create(alloc, space, account, context, size)?;
+        if !space.fits(account, 200) {
+            return Err(CtxError::NoSpace);
+        }
+        let mut books = Books::unplaced(alloc)?;
+        let made = Books::create(alloc, space, account, context, size)?;
+        *books = made;
         Ok(SlabCtx { books })
     }
 
@@ -85,6 +92,13 @@ impl SlabCtx {
         ensures total { (footprint self.now).total ≡ result.total }
     {
         self.books.stats()
+    }
+
+    /// What the context's regions have in all is what `stats` counts as their bytes. A caller cites the clause.
+    pub fn counted(&self)
+        ensures { (footprint self.now).total ≡ (stats self.now.ledger).total }
+    {
+        let _ = &self.books;
     }
 
     /// Each live chunk has a header that leads to its block, and so to the context, and says what the chunk takes. A
@@ -194,7 +208,7 @@ impl SlabCtx {
         ensures asked { Asks (footprint self).account 0 space.old space.new }
     {
         let SlabCtx { books } = self;
-        books.discard(space);
+        Box::into_inner(books).discard(space);
     }
 }
 

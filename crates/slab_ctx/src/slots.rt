@@ -97,6 +97,18 @@ impl Slots {
     ghost use Rattle.slab_ctx.specs.Slots.{HasSlots, chunk_of, first_region};
     ghost use Rattle.slab_ctx.specs.Counts.{Counts};
 
+    // The slots of a context that is to come.
+    pub fn unplaced(alloc: Global) -> Result<Slots, CtxError>
+        ensures { IfErr result (λ e. e ≡ CtxError.Memory) }
+    {
+        Ok(Slots {
+            blocks: Blocks::unplaced(alloc, Kind::Slab)?,
+            size: 1,
+            stacks: IndexMap::new(alloc),
+            alloc,
+        })
+    }
+
     // The slots of a new context, whose first region was taken.
     pub fn create(
         alloc: Global,

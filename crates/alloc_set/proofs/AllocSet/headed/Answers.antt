@@ -3,10 +3,10 @@ use Rattle.alloc_set.proofs.Leads.{AllHeaded-settled, AllOfKind-settled, takes-s
 use Rattle.alloc_set.proofs.AllocSet.headed.Goals as goal
 
 pub returns-clause-headed : goal.returns-clause-headed
-returns-clause-headed c = rw (← c.self.view_is) (AllHeaded-settled (state_of c.self.inside.books) c.self.inside.books.active.region c.self.inside.books.active.size c.self.invariant.settled)
+returns-clause-headed c = rw (← c.self.view_is) (AllHeaded-settled (state_of c.self.inside.books.value) c.self.inside.books.value.active.region c.self.inside.books.value.active.size c.self.invariant.settled)
 
 pub returns-clause-spaces : goal.returns-clause-spaces
-returns-clause-spaces c = rw (← c.self.view_is) (takes-settled (state_of c.self.inside.books) c.self.inside.books.active.region c.self.inside.books.active.size c.self.invariant.settled)
+returns-clause-spaces c = rw (← c.self.view_is) (takes-settled (state_of c.self.inside.books.value) c.self.inside.books.value.active.region c.self.inside.books.value.active.size c.self.invariant.settled)
 
 pub returns-clause-kinds : goal.returns-clause-kinds
-returns-clause-kinds c = rw (← c.self.view_is) (AllOfKind-settled (state_of c.self.inside.books) c.self.inside.books.active.region c.self.inside.books.active.size c.self.invariant.settled)
+returns-clause-kinds c = rw (← c.self.view_is) (AllOfKind-settled (state_of c.self.inside.books.value) c.self.inside.books.value.active.region c.self.inside.books.value.active.size c.self.invariant.settled)

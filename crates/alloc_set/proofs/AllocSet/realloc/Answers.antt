@@ -1,4 +1,4 @@
-use Rattle.std.proofs.Common.{sym, subst}
+use Rattle.std.proofs.Common.{ap, sym, subst, ◌∙◌}
 use Rattle.addr_space.specs.Footprint.{Agrees}
 use Rattle.addr_space.proofs.Options.{on_ok}
 use Rattle.alloc_set.specs.State.{SetState, footprint}
@@ -8,10 +8,10 @@ use Rattle.alloc_set.proofs.AllocSet.realloc.Goals as goal
 
 pub returns-clause-moves : goal.returns-clause-moves
 returns-clause-moves c =
-    rw (← c.self.view_is)
-    (Moves-whatever (state_of c.self.inside.books) (state_of c.realloc.new.self) c.args.space.now c.realloc.new.space c.realloc.result (subst (λ (x : SetState). Agrees (footprint x) c.args.space.now) (sym c.self.view_is) c.requires.agrees) c.realloc.ensures.err_state c.realloc.ensures.err_space (on_ok c.realloc.result (λ to had. had.2.moves) c.realloc.ensures.ok))
+    rw (← (ap state_of c.deref_mut.ensures.value ∙ c.self.view_is))
+    (Moves-whatever (state_of c.deref_mut.result.now) (state_of c.realloc.new.self) c.args.space.now c.realloc.new.space c.realloc.result (subst (λ (x : SetState). Agrees (footprint x) c.args.space.now) (sym (ap state_of c.deref_mut.ensures.value ∙ c.self.view_is)) c.requires.agrees) c.realloc.ensures.err_state c.realloc.ensures.err_space (on_ok c.realloc.result (λ to had. had.2.moves) c.realloc.ensures.ok))
 
 pub returns-clause-keeps : goal.returns-clause-keeps
 returns-clause-keeps c =
-    rw (← c.self.view_is)
-    (KeepsBut-whatever (state_of c.self.inside.books) (state_of c.realloc.new.self) c.args.space.now c.realloc.new.space c.realloc.result c.args.at c.realloc.ensures.err_space (on_ok c.realloc.result (λ to had. had.2.keeps) c.realloc.ensures.ok))
+    rw (← (ap state_of c.deref_mut.ensures.value ∙ c.self.view_is))
+    (KeepsBut-whatever (state_of c.deref_mut.result.now) (state_of c.realloc.new.self) c.args.space.now c.realloc.new.space c.realloc.result c.args.at c.realloc.ensures.err_space (on_ok c.realloc.result (λ to had. had.2.keeps) c.realloc.ensures.ok))

@@ -12,7 +12,7 @@ pub returns-in-Ok-clause-made : goal.returns-in-Ok-clause-made
 returns-in-Ok-clause-made g c = record {
   now = rw (c.new-in-Ok.ensures, c.new.ensures.forest, c.new.ensures.places) refl;
   new_ledger = c.in-Ok.ensures.ledger;
-  total = c.stats.ensures.total ∙ ap (λ (x : Stats). x.total) c.stats.ensures.stats;
+  total = c.counted.ensures;
   moves = c.in-Ok.ensures.moves;
   asked = c.in-Ok.ensures.asked;
   fits = elim (cases_lt c.args.space.now.limit (held c.args.space.now c.args.account + first_size c.args.new.now.kind)) [

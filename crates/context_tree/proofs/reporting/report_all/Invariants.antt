@@ -2,7 +2,7 @@
 use Rattle.std.proofs.Common.{◌≡◌, List, ◌++◌, map, length}
 use Rattle.pgs_step.specs.declared.events.What.{What}
 use Rattle.forest.specs.Preorder.{preorder}
-use Rattle.context_report.specs.Lines.{no_total}
+use Rattle.context_report.specs.Lines.{capped, no_total}
 use Rattle.context_tree.proofs.Telling.{told, all_added}
 use Rattle.context_tree.proofs.reporting.report_all.Given as goal
 
@@ -10,7 +10,7 @@ abbrev pub invariant-loop-visit : goal.invariant-loop-visit
 invariant-loop-visit g l = record {
   said : (events : List What) × g.E.Emit.emits l.initial.out events l.out
       × (events ++ map told l.walk ≡ map told (preorder 0 l.nodes.forest));
-  total : all_added l.total l.walk ≡ all_added no_total (preorder 0 l.nodes.forest);
+  total : capped (all_added l.total l.walk) ≡ capped (all_added no_total (preorder 0 l.nodes.forest));
 }
 
 abbrev pub decreases-loop-visit : goal.decreases-loop-visit

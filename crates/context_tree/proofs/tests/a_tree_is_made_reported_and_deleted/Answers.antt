@@ -1,29 +1,10 @@
-use Rattle.std.proofs.Common.{◌≡◌, ◌≢◌, ℕ, ◌+◌, false, [], ◌∷◌, Some, sym, ap, ◌∙◌, subst, arith}
+use Rattle.std.proofs.Common.{◌≢◌, false, [], ◌∷◌, Some, ap, ◌∙◌, arith}
 use Rattle.any_ctx.specs.declared.any.CtxKind.TheVariants.{Default, Small}
 use Rattle.context_rules.specs.Contexts.{Contexts}
 use Rattle.context_rules.specs.Ends.{waiting}
-use Rattle.context_rules.specs.Reports.{IsCountable}
 use Rattle.context_tree.specs.State.{left_of, stands_for}
-use Rattle.context_tree.proofs.Tried.{countable_made, countable_written, none_fit, waiting_allocated, waiting_created, waiting_written}
+use Rattle.context_tree.proofs.Tried.{none_fit, waiting_allocated, waiting_created, waiting_written}
 use Rattle.context_tree.proofs.tests.a_tree_is_made_reported_and_deleted.Goals as goal
-
-pub report-requires : goal.report-requires
-report-requires g c =
-    let a : Contexts = stands_for c.in_ok-tree.tree c.new-3.new.space in
-    let b : Contexts = stands_for c.create.new.self c.create.new.space in
-    let d : Contexts = stands_for c.create-2.new.self c.create-2.new.space in
-    let e : Contexts = stands_for c.alloc-5.new.self c.alloc-5.new.space in (
-      c.put.new.space,
-      subst (λ (t : Contexts). IsCountable t) (sym c.in_ok-put.ensures.contexts)
-          (countable_written c.own_name-chunk.result 0 (65 ∷ 66 ∷ []) e
-          (countable_made c.own_name-outer_name.result c.own_name-inner_name.result c.own_name-chunk.result (left_of c.create-2.new.self c.create-2.new.space)
-          c.top-top.result.number c.in_ok-tree.tree.next c.in_ok-outer.outer.number c.create.new.self.next c.in_ok-inner.inner.number a b d e
-          c.top-top.ensures.number c.in_ok-tree.ensures.next
-          (c.in_ok-outer.ensures.number ∙ c.in_ok-tree.ensures.next)
-          (omega (arith, c.in_ok-outer.ensures.next, c.in_ok-tree.ensures.next))
-          (omega (arith, c.in_ok-inner.ensures.number, c.in_ok-outer.ensures.next, c.in_ok-tree.ensures.next))
-          c.in_ok-tree.ensures.contexts c.in_ok-outer.ensures.contexts c.in_ok-inner.ensures.contexts c.in_ok-alloc.ensures.contexts)),
-    )
 
 pub delete-requires-clause-live : goal.delete-requires-clause-live
 delete-requires-clause-live g c =

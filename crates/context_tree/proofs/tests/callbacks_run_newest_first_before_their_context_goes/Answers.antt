@@ -1,4 +1,4 @@
-use Rattle.std.proofs.Common.{◌≡◌, ◌∙◌}
+use Rattle.std.proofs.Common.{◌∙◌}
 use Rattle.context_tree.specs.State.{stands_for}
 use Rattle.context_tree.proofs.Tried.{two_wait}
 use Rattle.context_tree.proofs.tests.callbacks_run_newest_first_before_their_context_goes.Goals as goal

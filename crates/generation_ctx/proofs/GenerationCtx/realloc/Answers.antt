@@ -1,4 +1,4 @@
-use Rattle.std.proofs.Common.{◌≡◌, ◌∙◌, ℕ, Some, IsSome, option_map, IfSome, ap, sym, subst, refl, arith}
+use Rattle.std.proofs.Common.{◌≡◌, ◌∙◌, ℕ, Some, IsSome, option_map, IfSome, ap, sym, subst, refl, arith, ◌≤◌}
 use Rattle.addr_space.specs.Footprint.{Footprint}
 use Rattle.addr_space.proofs.Options.{if_ok, on_ok, on_err, either_way, both_err}
 use Rattle.addr_space.proofs.Steps.{Moves-same, KeepsBut-same}
@@ -9,18 +9,23 @@ use Rattle.generation_ctx.specs.State.{footprint, place_in}
 use Rattle.generation_ctx.specs.Kept.{state_of}
 use Rattle.ctx_blocks.specs.Layout.{chunk_at}
 use Rattle.ctx_blocks.proofs.Changed.{fresh_put}
-use Rattle.generation_ctx.proofs.Places.{places, places_move}
+use Rattle.generation_ctx.proofs.Places.{chunk_kept, places, places_move}
 use Rattle.generation_ctx.proofs.Resizes.{moves_map}
 use Rattle.generation_ctx.proofs.GenerationCtx.realloc.Goals as goal
 
+pub realloc-requires-clause-chunk : goal.realloc-requires-clause-chunk
+realloc-requires-clause-chunk c =
+    let view = ap state_of c.deref_mut.ensures.value ∙ c.self.view_is in
+    chunk_kept (chunk_at c.deref_mut.result.now.blocks c.args.at) c.args.keep (rw (← view) at c.requires.live) (rw (← view) at c.requires.keep)
+
 pub returns-clause-resized : goal.returns-clause-resized
 returns-clause-resized c =
-    let l = c.self.inside.books.blocks in
+    let l = c.deref_mut.result.now.blocks in
     let m = c.realloc.new.self.blocks in
     let s = c.args.space.now in
     let t = c.realloc.new.space in
-    let agrees = agrees_bare l s (rw (← c.self.view_is) at c.requires.agrees) in
-    rw (← c.self.view_is) (if_ok c.realloc.result (λ to had.
+    let agrees = agrees_bare l s (rw (← (ap state_of c.deref_mut.ensures.value ∙ c.self.view_is)) at c.requires.agrees) in
+    rw (← (ap state_of c.deref_mut.ensures.value ∙ c.self.view_is)) (if_ok c.realloc.result (λ to had.
     (let there : places l c.args.at ≡ Some (place_in l c.args.at.region had.old) = ap (option_map (place_in l c.args.at.region)) had.was in
     rw there (record {
       answer = had.answer;
@@ -32,30 +37,30 @@ returns-clause-resized c =
     }))) c.realloc.ensures.ok)
 
 pub returns-clause-fresh : goal.returns-clause-fresh
-returns-clause-fresh c = rw (← c.self.view_is) (if_ok c.realloc.result (λ to had ne. fresh_put c.self.inside.books.blocks to (had.fresh ne)) c.realloc.ensures.ok)
+returns-clause-fresh c = rw (← (ap state_of c.deref_mut.ensures.value ∙ c.self.view_is)) (if_ok c.realloc.result (λ to had ne. fresh_put c.deref_mut.result.now.blocks to (had.fresh ne)) c.realloc.ensures.ok)
 
 pub returns-clause-live : goal.returns-clause-live
-returns-clause-live c = rw (← c.self.view_is) (if_ok c.realloc.result (λ to had. moves_map (λ (x : Chunk). x.size) (chunk_at c.self.inside.books.blocks) (chunk_at c.realloc.new.self.blocks) c.args.at to (record { size = c.args.size; room = had.answer.place.room; own = had.answer.place.own }) had.chunk) c.realloc.ensures.ok)
+returns-clause-live c = rw (← (ap state_of c.deref_mut.ensures.value ∙ c.self.view_is)) (if_ok c.realloc.result (λ to had. moves_map (λ (x : Chunk). x.size) (chunk_at c.deref_mut.result.now.blocks) (chunk_at c.realloc.new.self.blocks) c.args.at to (record { size = c.args.size; room = had.answer.place.room; own = had.answer.place.own }) had.chunk) c.realloc.ensures.ok)
 
 pub returns-clause-known : goal.returns-clause-known
 returns-clause-known c = if_ok c.realloc.result (λ to had k below. subst IsSome (sym (had.bytes k below)) (c.requires.known k (omega (arith, below)))) c.realloc.ensures.ok
 
 pub returns-clause-moves : goal.returns-clause-moves
 returns-clause-moves c =
-    let b = c.self.inside.books in
+    let b = c.deref_mut.result.now in
     let n = c.realloc.new.self in
     let s = c.args.space.now in
     let t = c.realloc.new.space in
     let f : Footprint = footprint (state_of b) in
     let g : Footprint = footprint (state_of n) in
-    rw (← c.self.view_is) (either_way c.realloc.result
+    rw (← (ap state_of c.deref_mut.ensures.value ∙ c.self.view_is)) (either_way c.realloc.result
     (on_ok c.realloc.result (λ at had. moves_bare b.blocks n.blocks s t had.moves) c.realloc.ensures.ok)
-    (both_err c.realloc.result (λ same same_space. Moves-same f g s t (rw (← c.self.view_is) at c.requires.agrees) (ap footprint same) same_space) c.realloc.ensures.err c.realloc.ensures.err_space))
+    (both_err c.realloc.result (λ same same_space. Moves-same f g s t (rw (← (ap state_of c.deref_mut.ensures.value ∙ c.self.view_is)) at c.requires.agrees) (ap footprint same) same_space) c.realloc.ensures.err c.realloc.ensures.err_space))
 
 pub returns-clause-keeps : goal.returns-clause-keeps
 returns-clause-keeps c =
-    let f : Footprint = footprint (state_of c.self.inside.books) in
+    let f : Footprint = footprint (state_of c.deref_mut.result.now) in
     let g : Footprint = footprint (state_of c.realloc.new.self) in
-    rw (← c.self.view_is) (either_way c.realloc.result
+    rw (← (ap state_of c.deref_mut.ensures.value ∙ c.self.view_is)) (either_way c.realloc.result
     (on_ok c.realloc.result (λ at had. had.keeps) c.realloc.ensures.ok)
     (on_err c.realloc.result (λ same_space. KeepsBut-same c.args.at f g c.args.space.now c.realloc.new.space same_space) c.realloc.ensures.err_space))

@@ -1,9 +1,9 @@
 use Rattle.std.proofs.Common.{◌≡◌, ◌∙◌, sym, ap, refl}
 use Rattle.chunk_header.specs.declared.Stats.{Stats}
 use Rattle.generation_ctx.specs.Ledger.{stats}
-use Rattle.generation_ctx.specs.Kept.{ledger_of}
+use Rattle.generation_ctx.specs.Kept.{state_of, ledger_of}
 use Rattle.generation_ctx.proofs.GenerationCtx.stats.Goals as goal
 
 pub returns-clause-total : goal.returns-clause-total
 unfolding stats
-returns-clause-total c = rw (← c.self.view_is) (ap (λ (x : Stats). x.total) (sym c.stats.ensures))
+returns-clause-total c = rw (← (ap state_of c.deref.ensures ∙ c.self.view_is)) (ap (λ (x : Stats). x.total) (sym c.stats.ensures))

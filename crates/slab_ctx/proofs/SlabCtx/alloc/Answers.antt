@@ -1,4 +1,4 @@
-use Rattle.std.proofs.Common.{Some, ap}
+use Rattle.std.proofs.Common.{Some, ap, ◌∙◌}
 use Rattle.addr_space.specs.Footprint.{Footprint}
 use Rattle.addr_space.proofs.Options.{if_ok, on_ok, on_err, either_way, both_err}
 use Rattle.addr_space.proofs.Steps.{Moves-same, Keeps-same}
@@ -11,14 +11,14 @@ use Rattle.slab_ctx.proofs.SlabCtx.alloc.Goals as goal
 
 pub returns-clause-taken : goal.returns-clause-taken
 returns-clause-taken c =
-    let b = c.self.inside.books in
+    let b = c.deref_mut.result.now in
     let n = c.alloc.new.self in
     let l = b.slots.blocks in
     let m = n.slots.blocks in
     let s = c.args.space.now in
     let t = c.alloc.new.space in
-    let agrees = Agrees-plain b.slots.size l s (rw (← c.self.view_is) at c.requires) in
-    rw (← c.self.view_is) (if_ok c.alloc.result (λ at had. record {
+    let agrees = Agrees-plain b.slots.size l s (rw (← (ap state_of c.deref_mut.ensures.value ∙ c.self.view_is)) at c.requires) in
+    rw (← (ap state_of c.deref_mut.ensures.value ∙ c.self.view_is)) (if_ok c.alloc.result (λ at had. record {
       answer = had.answer;
       is = had.is;
       ledger = had.does.ledger;
@@ -28,18 +28,18 @@ returns-clause-taken c =
 
 pub returns-clause-moves : goal.returns-clause-moves
 returns-clause-moves c =
-    let f : Footprint = footprint (state_of c.self.inside.books) in
+    let f : Footprint = footprint (state_of c.deref_mut.result.now) in
     let g : Footprint = footprint (state_of c.alloc.new.self) in
     let s = c.args.space.now in
     let t = c.alloc.new.space in
-    rw (← c.self.view_is) (either_way c.alloc.result
+    rw (← (ap state_of c.deref_mut.ensures.value ∙ c.self.view_is)) (either_way c.alloc.result
     (on_ok c.alloc.result (λ at had. had.does.moves) c.alloc.ensures.ok)
-    (both_err c.alloc.result (λ same same_space. Moves-same f g s t (rw (← c.self.view_is) at c.requires) (ap footprint same) same_space) c.alloc.ensures.err_state c.alloc.ensures.err_space))
+    (both_err c.alloc.result (λ same same_space. Moves-same f g s t (rw (← (ap state_of c.deref_mut.ensures.value ∙ c.self.view_is)) at c.requires) (ap footprint same) same_space) c.alloc.ensures.err_state c.alloc.ensures.err_space))
 
 pub returns-clause-keeps : goal.returns-clause-keeps
 returns-clause-keeps c =
-    let f : Footprint = footprint (state_of c.self.inside.books) in
+    let f : Footprint = footprint (state_of c.deref_mut.result.now) in
     let g : Footprint = footprint (state_of c.alloc.new.self) in
-    rw (← c.self.view_is) (either_way c.alloc.result
+    rw (← (ap state_of c.deref_mut.ensures.value ∙ c.self.view_is)) (either_way c.alloc.result
     (on_ok c.alloc.result (λ at had. had.does.keeps) c.alloc.ensures.ok)
     (on_err c.alloc.result (λ same_space. Keeps-same f g c.args.space.now c.alloc.new.space same_space) c.alloc.ensures.err_space))

@@ -1,21 +1,22 @@
-use Rattle.std.proofs.Common.{refl}
+use Rattle.std.proofs.Common.{refl, ap, ◌∙◌}
 use Rattle.addr_space.proofs.Steps.{Moves-none}
 use Rattle.slab_ctx.specs.State.{footprint, place_at}
 use Rattle.slab_ctx.specs.Kept.{state_of}
+use Rattle.slab_ctx.specs.declared.books.Books.{Books}
 use Rattle.slab_ctx.proofs.Public.{some_with, resizes_same, live_stays, both_ok}
 use Rattle.slab_ctx.proofs.SlabCtx.realloc.Goals as goal
 
 pub returns-clause-resized : goal.returns-clause-resized
 returns-clause-resized c =
-    let b = c.self.inside.books in
+    let b = c.self.inside.books.value in
     rw (← c.self.view_is) (both_ok c.realloc.result (λ to same size.
-    some_with (place_at (state_of b) c.args.at) (λ place there. resizes_same b c.args.space.now c.args.at to place c.args.size same size.0 size.1 there)) c.realloc.ensures.at c.realloc.ensures.size)
+    some_with (place_at (state_of b) c.args.at) (λ place there. resizes_same b c.args.space.now c.args.at to place c.args.size same (size.0 ∙ ap (λ (x : Books). x.slots.size) c.deref.ensures) size.1 there)) c.realloc.ensures.at c.realloc.ensures.size)
 
 pub returns-clause-live : goal.returns-clause-live
 returns-clause-live c =
-    let b = c.self.inside.books in
+    let b = c.self.inside.books.value in
     rw (← c.self.view_is) (both_ok c.realloc.result (λ to same size.
-    live_stays b c.args.at to c.args.size same size.0 c.self.invariant.slots (rw (← c.self.view_is) at c.requires.live)) c.realloc.ensures.at c.realloc.ensures.size)
+    live_stays b c.args.at to c.args.size same (size.0 ∙ ap (λ (x : Books). x.slots.size) c.deref.ensures) c.self.invariant.slots (rw (← c.self.view_is) at c.requires.live)) c.realloc.ensures.at c.realloc.ensures.size)
 
 pub returns-clause-moves : goal.returns-clause-moves
 returns-clause-moves c = Moves-none (footprint c.args.self.now) c.args.space.now c.requires.agrees

@@ -17,7 +17,7 @@ give-requires c =
 pub returns : goal.returns
 unfolding created
 returns c =
-    let b = c.args.self in
+    let b = c.args.self.now in
     let m = c.reset.new.self in
     let state = c.reset.ensures.state in
     let blocks : m.blocks.entries ≡ [] = ap (λ (s : SetState). s.blocks) state in

@@ -27,7 +27,7 @@ returns-in-Ok-alloc-clause-took g c =
       now = kept_now k c.alloc.new.self _ _ _ _
           (entry_set c.args.number c.in-Ok.id.number _ c.get_mut.result.now c.in-Ok-alloc.at _ _ c.in-Ok.ensures.number fresh c.in-Ok.ensures.forest c.get_mut.ensures.value)
           c.in-Ok.ensures.places;
-      total = c.stats.ensures.total ∙ ap (λ x. x.total) c.stats.ensures.stats;
+      total = c.counted.ensures;
       fits = omega arith;
       has = λ i below. absurd (omega (arith, below));
     })

@@ -44,5 +44,5 @@ returns-clause-freed g c =
       keeps = c.in_default.ensures.keeps;
       now = kept_back k c.free.new.self c.free.new.self _ _ _ _ refl c.remove.ensures.forest c.remove.ensures.places;
       stays = λ other ne. ap (at other) (sym c.remove.ensures.places) ∙ c.remove.ensures.stays other ne;
-      total = c.stats.ensures.total ∙ ap (λ (x : Stats). x.total) c.stats.ensures.stats;
+      total = c.counted.ensures;
     })

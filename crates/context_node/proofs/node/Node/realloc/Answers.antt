@@ -48,7 +48,7 @@ returns-in-Ok-clause-refitted g c =
       keeps = c.in-Ok.ensures.keeps;
       now = ap (λ (x : Entry). record k { memory = c.realloc.new.self; chunks = changed c.args.entry.number (λ _. record x { at = c.in-Ok.to; size = c.args.size; known = c.min-kept.result }) k.chunks }) it
           ∙ ap (λ (m : ℕ). record k { memory = c.realloc.new.self; chunks = changed c.args.entry.number (λ _. record c.entry-chunk.result { at = c.in-Ok.to; size = c.args.size; known = m }) k.chunks }) c.min-kept.ensures;
-      total = c.stats.ensures.total ∙ ap (λ (x : Stats). x.total) c.stats.ensures.stats;
+      total = c.counted.ensures;
     })
 
 pub returns-in-Err-clause-refused : goal.returns-in-Err-clause-refused

@@ -23,7 +23,7 @@ returns-clause-cleared g c =
       renewed = c.reset.ensures.ledger;
       moves = c.reset.ensures.moves;
       asked = c.reset.ensures.asked;
-      total = c.stats.ensures.total ∙ ap (λ (x : Stats). x.total) c.stats.ensures.stats;
+      total = c.counted.ensures;
       shelf = c.run_all.ensures.shelf;
       names = c.forget_all.ensures.names;
     })

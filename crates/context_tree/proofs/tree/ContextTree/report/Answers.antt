@@ -11,13 +11,6 @@ stands : (tree : TreeState) (s : Space) → stands_for tree s ≡ mapped (contex
 unfolding stands_for
 stands tree s = refl
 
-pub report_all-requires : goal.report_all-requires
-report_all-requires g c = (
-  c.requires.0,
-  subst (λ (t : Contexts). reports.IsCountable t)
-      (stands _ c.requires.0 ∙ ap (λ (t : TreeState). mapped (context_of c.requires.0) t.kept) (sym c.self.view_is)) c.requires.1,
-)
-
 pub returns : goal.returns
 returns g c s =
     subst (λ (t : Contexts). g.E.Emit.emits c.args.out.now (reports.report t) c.report_all.new.out)

@@ -1,0 +1,7 @@
+use Rattle.std.proofs.Common.{refl}
+use Rattle.generation_ctx.specs.Ledger.{stats}
+use Rattle.generation_ctx.proofs.GenerationCtx.counted.Goals as goal
+
+pub returns : goal.returns
+unfolding stats
+returns c = rw (← c.self.view_is) refl
