@@ -1,5 +1,5 @@
 //! How many sessions pin each buffer.
-ghost use Rattle.std.specs.Prelude.{◌≡◌, ◌≢◌, ◌<◌, ◌≤◌, ◌+◌, ◌-◌, ◌^◌, ℕ, IfOk};
+ghost use Rattle.std.specs.Prelude.{◌≡◌, ◌≢◌, ◌<◌, ◌≤◌, ◌+◌, ◌-◌, ◌^◌, ℕ, replicate, IfOk};
 ghost use Rattle.pin_table.specs.Pins.{sessions_of};
 
 use std::alloc::{AllocError, Global};
@@ -30,7 +30,8 @@ impl Model for SharedPins {
 impl SharedPins {
     /// No session pins a buffer. It fails for want of memory alone.
     pub fn new(alloc: Global) -> Result<SharedPins, AllocError>
-        ensures { IfOk result (λ shared. (buffer : ℕ) → sessions_of shared buffer ≡ 0) }
+        ensures counts { IfOk result (λ shared. shared ≡ replicate 1024 0) }
+        ensures none { IfOk result (λ shared. (buffer : ℕ) → sessions_of shared buffer ≡ 0) }
     {
         Ok(SharedPins {
             counts: vec![in alloc; 0; BUFFERS as usize]?,
@@ -44,8 +45,8 @@ impl SharedPins {
         self.counts.get(buffer as usize).copied().unwrap_or(0)
     }
 
-    /// One session more pins the buffer.
-    pub(crate) fn raise(&mut self, buffer: u32)
+    /// One session more pins the buffer: what a session's first pin of it does.
+    pub fn raise(&mut self, buffer: u32)
         requires buffer { buffer < BUFFERS }
         requires room { sessions_of self.old buffer < 2 ^ 32 - 1 }
         ensures raised { sessions_of self.new buffer ≡ sessions_of self.old buffer + 1 }
@@ -54,8 +55,8 @@ impl SharedPins {
         self.counts[buffer as usize] += 1;
     }
 
-    /// One session less pins the buffer.
-    pub(crate) fn lower(&mut self, buffer: u32)
+    /// One session less pins the buffer: what a session's last unpin of it does.
+    pub fn lower(&mut self, buffer: u32)
         requires { 1 ≤ sessions_of self.old buffer }
         ensures lowered { sessions_of self.new buffer + 1 ≡ sessions_of self.old buffer }
         ensures others { (q : ℕ) → q ≢ buffer → sessions_of self.new q ≡ sessions_of self.old q }

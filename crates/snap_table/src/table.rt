@@ -1,5 +1,5 @@
 //! The snapshots of a session.
-ghost use Rattle.std.specs.Prelude.{◌≡◌, ◌≢◌, ◌↔◌, ◌<◌, ◌≤◌, ◌+◌, ◌-◌, ◌^◌, ℕ, List, [], ◌∷◌, ◌++◌, length, map, filter, reverse, count_by, IsOk, IsErr, IsErrOf, OnOk, OnErr, IfOk};
+ghost use Rattle.std.specs.Prelude.{◌≡◌, ◌≢◌, ◌↔◌, ◌<◌, ◌≤◌, ◌+◌, ◌-◌, ◌^◌, ℕ, false, List, [], ◌∷◌, ◌++◌, length, map, filter, reverse, count_by, IsOk, IsErr, IsErrOf, OnOk, OnErr, IfOk};
 ghost use Rattle.std.specs.Ordering.{nat_cmp, eq_by_cmp};
 ghost use Rattle.std.specs.BTreeMap.{is_at};
 ghost use Rattle.std.specs.Set.{distinct_count};
@@ -50,7 +50,6 @@ impl SnapTable {
 
     /// Registers a snapshot once more. It fails for want of memory alone.
     pub fn register(&mut self, snapshot: u32) -> Result<(), AllocError>
-        requires room { size self.old < 2 ^ 62 }
         ensures registered { OnOk result (registrations self.new snapshot ≡ registrations self.old snapshot + 1) }
         ensures others { OnOk result ((q : ℕ) → q ≢ snapshot → registrations self.new q ≡ registrations self.old q) }
         ensures counts { OnOk result (RegisteredOneMore self.old self.new snapshot) }
@@ -58,7 +57,7 @@ impl SnapTable {
         ensures stack { self.new.stack ≡ self.old.stack }
         ensures refused { OnErr result (self.new ≡ self.old) }
     {
-        self.held.raise(snapshot)?;
+        hold(&mut self.held, snapshot)?;
         if let Err(refused) = self.registered.raise(snapshot) {
             let _ = self.held.lower(snapshot);
             return Err(refused);
@@ -91,14 +90,13 @@ impl SnapTable {
         level: u32,
         out: &mut E,
     ) -> Result<(), AllocError>
-        requires room { size self.old < 2 ^ 62 }
         ensures pushed { OnOk result (self.new ≡ record self.old { stack = self.old.stack ++ record { snapshot = snapshot; level = level } ∷ [] }) }
         ensures emitted { OnOk result (E.emits out.old (What.Push snapshot ∷ []) out.new) }
         ensures refused { OnErr result (self.new ≡ self.old) }
         ensures silent { OnErr result (out.new ≡ out.old) }
     {
         self.stack.reserve(1)?;
-        self.held.raise(snapshot)?;
+        hold(&mut self.held, snapshot)?;
         let _ = self.stack.push(Active { snapshot, level });
         out.emit(What::Push(snapshot));
         Ok(())
@@ -163,6 +161,19 @@ impl SnapTable {
     {
         self.held.distinct()
     }
+}
+
+/// Counts a snapshot once more. It fails for want of memory alone: there is none for 2^64 of one snapshot.
+fn hold(held: &mut Counts<u32>, snapshot: u32) -> Result<(), AllocError>
+    ensures room { OnOk result (count_of nat_cmp held.old snapshot < 2 ^ 64 - 1) }
+    ensures counted { OnOk result (count_of nat_cmp held.new snapshot ≡ count_of nat_cmp held.old snapshot + 1) }
+    ensures others { OnOk result ((q : ℕ) → is_at (nat_cmp snapshot) q ≡ false → count_of nat_cmp held.new q ≡ count_of nat_cmp held.old q) }
+    ensures refused { OnErr result (held.new ≡ held.old) }
+{
+    if held.count(snapshot) == u64::MAX {
+        return Err(AllocError);
+    }
+    held.raise(snapshot)
 }
 
 /// Emits the pops of the entries of that level or of a greater one, the last entry first.

@@ -11,5 +11,5 @@ same n i a =
       | inr past ↦ get_or_past (replicate n a) i a (omega (arith, length-replicate n a))
     ]
 
-pub returns : goal.returns
-returns c buffer = ap (λ xs. get_or xs buffer 0) (c.in_ok-vec.ensures.items_if_clones_equal (λ y e. e)) ∙ same 1024 buffer 0
+pub returns-clause-none : goal.returns-clause-none
+returns-clause-none c buffer = ap (λ xs. get_or xs buffer 0) (c.in_ok-vec.ensures.items_if_clones_equal (λ y e. e)) ∙ same 1024 buffer 0
