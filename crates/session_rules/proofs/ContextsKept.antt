@@ -72,6 +72,12 @@ module _ (t : Contexts) (next : ℕ) (h : AreContexts t next) where
     above_by_parent m top_context n t h.once (h.own m l b).parent (λ e. omega (arith, e, g)) ∙ above_none top_context n t h.once (top_parent own top_context t h.once h.rooted),
   )
 
+  -- what is right below one of the session's own isn't below any newer context
+  pub off_outside : (m b n : ℕ) → 1 < b → b ≤ abort_context → abort_context < n → parent_of m t ≡ Some b → has m (children n t) ≡ false
+  off_outside m b n low high big p =
+      let out = own_outside b n low high big in
+      above_by_parent m b n t h.once p out.0 ∙ out.1
+
   pub same_removed : (m n : ℕ) → (m ≢ n) × (has m (children n t) ≡ false) → is_protected m t ≡ true → IsSame m t (removed n t)
   same_removed m n w prot = record {
     protected = same_own m t (removed n t) (at_left m n t h.once w.0 w.1) prot;
@@ -104,6 +110,27 @@ module _ (t : Contexts) (next : ℕ) (h : AreContexts t next) where
   -- the context of a level goes
   pub contexts_level_gone : (n : ℕ) → abort_context < n → AreContexts (removed n t) next
   contexts_level_gone n g = contexts_removed n (λ e. omega (arith, e, g)) (λ m l b. own_outside m n l b g)
+
+  -- all below a newer context goes
+  pub same_emptied : (m n : ℕ) → has m (children n t) ≡ false → is_protected m t ≡ true → IsSame m t (with_children n Empty t)
+  same_emptied m n out prot = record {
+    protected = same_own m t (with_children n Empty t) (at_emptied m n t h.once out) prot;
+    parent = parent_emptied m n t h.once out;
+  }
+
+  pub contexts_emptied : (n : ℕ) → abort_context < n → AreContexts (with_children n Empty t) next
+  contexts_emptied n g = record {
+    rooted = rooted_emptied own top_context n t h.rooted;
+    guarded = guarded_emptied own n t h.guarded;
+    once = once_emptied n t h.once;
+    below = λ m u. h.below m (has_some m t (omega (arith, times_emptied m n t h.once, times_some m (with_children n Empty t) u)));
+    room = h.room;
+    own = λ m l b.
+        let x : IsOfSession m t = h.own m l b in
+        let y : IsSame m t (with_children n Empty t) = same_emptied m n (own_outside m n l b g).1 x.protected in
+        record { protected = y.protected; parent = y.parent ∙ x.parent };
+    fresh = all_emptied IsFresh n t h.fresh;
+  }
 
   -- all below an unprotected context goes
   pub stay_children_gone : (n : ℕ) → is_protected n t ≡ false → Stay t (with_children n Empty t)
@@ -226,7 +253,7 @@ module _ (t : Contexts) (next : ℕ) (h : AreContexts t next) where
       rw (at_put p next (new_context name kind b) Empty t h.once there is_unused, children_put p next (new_context name kind b) Empty t h.once there is_unused) refl
 
   -- an unprotected context moves
-  moves_by : (n p : ℕ) → has n t ≡ true → has p t ≡ true → is_within n p t ≡ false → Moves n p t
+  pub moves_by : (n p : ℕ) → has n t ≡ true → has p t ≡ true → is_within n p t ≡ false → Moves n p t
   moves_by n p node there out =
       let w = or_parts (p == n) (is_above n p t) out in
       record {

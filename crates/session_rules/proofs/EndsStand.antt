@@ -1,39 +1,51 @@
 -- The ends of levels and of sessions lead from a session that stands to one that stands.
-use Rattle.std.proofs.Common.{◌≡◌, ◌≢◌, ℕ, ◌<◌, Bool, true, false, Option, Some, None, List, [], ◌∷◌, refl, sym, ap, ◌∙◌, subst, inl, inr, arith}
-use Rattle.std.specs.Prelude.{◌==◌, not, unwrap_or, length, map}
-use Rattle.std.proofs.lemmas.Bool.{eq-eqb, both_ways}
-use Rattle.forest.specs.Forest.{Forest, Empty, Node, has, Once, children, removed}
+use Rattle.std.proofs.Common.{◌≡◌, ◌≢◌, ℕ, ◌<◌, ◌≤◌, ◌-◌, Bool, true, false, Option, Some, None, List, [], ◌∷◌, refl, sym, ap, ◌∙◌, subst, inl, inr, arith}
+use Rattle.std.specs.Prelude.{◌==◌, ◌+◌, ◌⊎◌, not, unwrap_or, length, map, All}
+use Rattle.std.proofs.lemmas.List.Elements.{All-nil, All-append, All-head, All-weaker}
+use Rattle.std.proofs.lemmas.Bool.{cases_Bool, eq-eqb, eqb-false, both_ways}
+use Rattle.forest.specs.Forest.{Forest, Empty, Node, has, Once, children, removed, AllNodes}
+use Rattle.forest.proofs.Moved.{above_by_parent}
 use Rattle.pgs_step.specs.declared.errors.Error.{Error}
 use Rattle.reset_callbacks.specs.ShelfState.{ShelfState}
 use Rattle.context_rules.specs.Contexts.{Contexts, is_empty, is_protected}
 use Rattle.context_rules.specs.Ends.{gone, handed_in}
 use Rattle.owner_kinds.specs.KindTable.{KindTable, IsSound as IsSoundTable}
 use Rattle.owner_kinds.specs.KindShelf.{table_of}
-use Rattle.owner_core.specs.Owners.{OwnerTree}
+use Rattle.owner_core.specs.Owners.{OwnerTree, AllAt, HoldsNothing}
+use Rattle.owner_core.specs.Sound.{IsSound}
 use Rattle.owner_core.proofs.Sounds.{once_of}
-use Rattle.snap_table.specs.Snapshots.{lowered}
-use Rattle.session_rules.specs.State.{LevelState, abort_context, context_of, first_of, deepest_changed, top_context}
+use Rattle.snap_table.specs.declared.active.Active.{Active}
+use Rattle.snap_table.specs.Snapshots.{kept_below, lowered}
+use Rattle.session_rules.specs.State.{LevelState, OpenPortal, abort_context, context_of, first_of, deepest_changed, is_aborted, owner_of, plan_reference, portals_context, top_context}
 use Rattle.session_rules.specs.World.{Scene}
-use Rattle.session_rules.specs.Acts.{Ended, changes, context_gone, for_each, in_order, switched, where_so, where_there}
+use Rattle.session_rules.specs.Acts.{Ended, changes, context_gone, for_each, in_order, portal_gone, switched, where_so, where_there}
+use Rattle.session_rules.specs.Portals.{portal_aborted, portal_closed, portal_passed}
 use Rattle.session_rules.specs.Releases.{owner_released}
-use Rattle.session_rules.specs.Ends.{aborted, cleaned_up, committed, empty_context_gone, exited, given_up, level_context_gone, level_owner_gone, level_popped, level_rolled_back, recovered, stack_popped, subcommitted, switched_up}
-use Rattle.session_rules.specs.Standing.{AreContexts, AreHooks, AreLevels, AreOpen, AreOwners, AreOuter, FitLevels, HasExited, IsLevel, IsMade, IsOpen, Stands, StandsBetweenLines}
+use Rattle.session_rules.specs.Ends.{aborted, cleaned_up, committed, empty_context_gone, exited, given_up, level_context_gone, level_owner_gone, level_popped, level_released, level_rolled_back, recovered, stack_lowered, stack_popped, subcommitted, switched_up}
+use Rattle.session_rules.specs.Standing.{AreContexts, AreHooks, AreLevels, AreOpen, AreDifferent, AreOwners, AreOuter, ArePlans, ArePortals, AreStacked, FitLevels, HasExited, HasItems, IsAttached, IsDead, IsLevel, IsLive, IsOfPortal, IsOwner, IsPlace, IsPortal, IsMade, IsOpen, Stands, StandsBetweenLines, active_depth, owner_at, referred}
 use Rattle.session_rules.proofs.Forests.{has_left, parent_left}
-use Rattle.session_rules.proofs.ContextsKept.{IsSame, contexts_level_gone, nothing_left, protected_has, same_removed, stay_same, top_protected}
+use Rattle.session_rules.proofs.ContextsKept.{IsSame, contexts_level_gone, nothing_left, off_outside, protected_has, same_removed, stay_same, top_protected}
 use Rattle.session_rules.proofs.HooksKept.{conserves_gone, hooks_ended}
 use Rattle.session_rules.proofs.Swept.{removed_swept}
-use Rattle.session_rules.proofs.Releasing.{HasReleased, OnlyTables, Tables, release_is, swept_by, tabled, tables_of, with_owners}
-use Rattle.session_rules.proofs.LevelsKept.{HasLeft, IsStill, is_there, left_nothing, left_still, levels_stay, outer_contexts, outer_owners, owners_aborted, owners_without, without_owner}
+use Rattle.session_rules.proofs.HeldItems.{held_removed}
+use Rattle.session_rules.proofs.Releasing.{Tables, still_sound, swept_by, tabled, with_owners}
+use Rattle.session_rules.proofs.Settling.{Besides, Fits, HasSettled, Spares, besides_of, release_settles, spares_same, with_besides}
+use Rattle.session_rules.proofs.Stacked.{depth_small, depth_still, none_stacked, stacked_above, stacked_below, stacked_lowered, stacked_within}
+use Rattle.session_rules.proofs.LevelsKept.{AreEnding, HasLeft, IsStill, is_there, left_nothing, left_still, levels_stay, one_value, outer_contexts, outer_owners, owners_aborted, owners_end, owners_without, without_owner}
+use Rattle.session_rules.proofs.Lone.{lone_left, lone_swept}
+use Rattle.session_rules.proofs.PortalsAmong.{IsRowOf, attached_by, off_levels, off_rows, place_level, place_own, place_same, place_spared, row_left, row_of}
+use Rattle.session_rules.proofs.Ending.{Ending, IsAway, IsDone, Leads, Parts, with_parts}
+use Rattle.session_rules.proofs.Replacing.{all_closed, all_swept_away, swept_away}
+use Rattle.session_rules.proofs.Passing.{all_passed}
+use Rattle.session_rules.proofs.Failing.{all_aborted, gone_levels}
+use Rattle.session_rules.proofs.PlansAmong.{above_apart, cached_left, levels_apart, own_other, plan_outside, plans_counted, plans_current, plans_moved}
 
--- A scene with these levels, and without portals, plans and active snapshots. Each scene that stands is of this form.
+-- A scene with these levels. Each scene is of this form.
 abbrev pub settled : List LevelState → Scene → Scene
-settled levels scene = record scene { session = record scene.session { levels = levels; portals = []; plans = []; snapshots = [] } }
+settled levels scene = record scene { session = record scene.session { levels = levels } }
 
 pub is_settled : (scene : Scene) → Stands scene → scene ≡ settled scene.session.levels scene
-is_settled scene h =
-    ap (λ ps. record scene { session = record scene.session { portals = ps } }) h.portals
-    ∙ ap (λ ps. record scene { session = record scene.session { portals = []; plans = ps } }) h.plans
-    ∙ ap (λ ps. record scene { session = record scene.session { portals = []; plans = []; snapshots = ps } }) h.snapshots
+is_settled scene h = refl
 
 -- where each scene of that form has something, each scene that stands does
 pub at_settled : (P : Scene → Type 0) → ((levels : List LevelState) (s : Scene) → Stands (settled levels s) → P (settled levels s)) → (scene : Scene) → Stands scene → P scene
@@ -46,6 +58,10 @@ pub record Leaves (levels : List LevelState) (scene : Scene) : Type 0 where
   pub between : StandsBetweenLines scene
   pub are : scene.session.levels ≡ levels
 
+-- it is of that form
+is_left : (levels : List LevelState) (scene : Scene) → Leaves levels scene → scene ≡ settled levels scene
+is_left levels scene h = is_settled scene h.between.stands ∙ ap (λ (ls : List LevelState). settled ls scene) h.are
+
 -- tables don't matter, as far as what never changes of kinds is the same
 pub stands_tabled : (x : Tables) (s : Scene) → table_of x.kinds ≡ table_of s.around.kinds → Stands s → Stands (tabled x s)
 stands_tabled x s same h = record {
@@ -54,7 +70,7 @@ stands_tabled x s same h = record {
   hooks = h.hooks;
   levels = h.levels;
   fit = h.fit;
-  owners = subst (λ (kinds : KindTable). AreOwners kinds s.session.owners s.session.next_owner s.session.next_serial s.session.levels) (sym same) h.owners;
+  owners = subst (λ (kinds : KindTable). AreOwners kinds s.session.owners s.session.next_owner s.session.next_serial s.session.levels s.session.portals) (sym same) h.owners;
   kinds = subst (λ (kinds : KindTable). IsSoundTable kinds) (sym same) h.kinds;
   portals = h.portals;
   plans = h.plans;
@@ -70,13 +86,14 @@ abbrev handed_back : Option ℕ → Contexts → ShelfState → ShelfState
 handed_back None t x = x
 handed_back (Some n) t x = handed_in (gone n t).hooks x
 
--- the deepest level is gone with its context and its owner
-abbrev popped : Option ℕ → Option ℕ → List LevelState → Scene → Scene
-popped c o levels s = settled levels (record {
+-- the deepest level is gone with its context and its owner, and these active snapshots are left
+abbrev popped : Option ℕ → Option ℕ → List LevelState → List Active → Scene → Scene
+popped c o levels stack s = settled levels (record {
   session = record s.session {
     contexts = without_context c s.session.contexts;
     owners = without_owner o s.session.owners;
     current = unwrap_or (context_of (first_of levels)) top_context;
+    snapshots = stack;
   };
   around = record s.around { shelf = handed_back c s.session.contexts s.around.shelf };
 })
@@ -126,120 +143,388 @@ current_above (level ∷ levels) t x next h l o =
     let c = is_there level.context o.0.made.context in
     ap (λ (z : Option ℕ). has (unwrap_or z top_context) t) c.1 ∙ protected_has c.0 t (l.0.context c.0 c.1).protected
 
--- The deepest level goes, with its context or without: what is left stands.
-pub popped_stands : (level : LevelState) (levels : List LevelState) (s : Scene) (c : Option ℕ) → ((n : ℕ) → c ≡ Some n → level.context ≡ Some n) → Stands (settled (level ∷ levels) s)
-    → Stands (popped c level.owner levels s)
-popped_stands level levels s c is h =
+-- A scene whose deepest level may go: its portals are those of the levels `done`, and each number of a plan is referred to so often.
+pub record MayEnd (times : ℕ → ℕ) (level : LevelState) (levels done : List LevelState) (s : Scene) : Type 0 where
+  pub contexts : AreContexts s.session.contexts s.session.next_context
+  pub hooks : AreHooks s.session.contexts s.around.shelf
+  pub all : AreLevels (level ∷ levels) s.session.contexts s.session.owners
+  pub outer : AreOuter levels
+  pub kinds : IsSoundTable (table_of s.around.kinds)
+  pub owners : AreEnding (table_of s.around.kinds) s.session.owners s.session.next_owner s.session.next_serial level levels s.session.portals
+  pub plans : ArePlans s.session.plans s.session.contexts s.session.current times
+  pub portals : All (IsDone level done s.session.contexts s.session.owners s.session.current) s.session.portals
+  pub different : AreDifferent s.session.portals
+
+-- how often plans are referred to without the deepest level's owner
+abbrev left_to_refer : LevelState → Scene → ℕ → ℕ
+left_to_refer level s = referred (without_owner level.owner s.session.owners)
+
+same_count : (o : Option ℕ) (x : OwnerTree) → Once x → ((n : ℕ) → o ≡ Some n → AllAt HoldsNothing n x) → (m : ℕ) → referred x m ≡ referred (without_owner o x) m
+same_count None x once idle m = refl
+same_count (Some n) x once idle m = sym (held_removed plan_reference m n x once (idle n refl))
+
+-- the way through the portals begins, and has ended
+begins : (level : LevelState) (levels done : List LevelState) (s : Scene) → Stands (settled (level ∷ levels) s) → Ending level levels done [] s.session.portals s
+begins level levels done s h = record {
+  contexts = h.contexts;
+  hooks = h.hooks;
+  all = h.levels;
+  outer = h.fit.1;
+  kinds = h.kinds;
+  owners = owners_end (table_of s.around.kinds) s.session.owners s.session.next_owner s.session.next_serial level levels s.session.portals h.owners;
+  plans = h.plans;
+  ended = All-nil (IsDone level done s.session.contexts s.session.owners s.session.current);
+  rest = h.portals.each;
+  different = h.portals.different;
+  are = refl;
+}
+
+-- the levels of the scene don't matter
+resettled : (level : LevelState) (levels done : List LevelState) (front back : List OpenPortal) (s : Scene) → Ending level levels done front back s → Ending level levels done front back (settled (level ∷ levels) s)
+resettled level levels done front back s h = record {
+  contexts = h.contexts;
+  hooks = h.hooks;
+  all = h.all;
+  outer = h.outer;
+  kinds = h.kinds;
+  owners = h.owners;
+  plans = h.plans;
+  ended = h.ended;
+  rest = h.rest;
+  different = h.different;
+  are = h.are;
+}
+
+unsettled : (level : LevelState) (levels done : List LevelState) (front back : List OpenPortal) (ls : List LevelState) (s : Scene) → Ending level levels done front back (settled ls s) → Ending level levels done front back s
+unsettled level levels done front back ls s h = record {
+  contexts = h.contexts;
+  hooks = h.hooks;
+  all = h.all;
+  outer = h.outer;
+  kinds = h.kinds;
+  owners = h.owners;
+  plans = h.plans;
+  ended = h.ended;
+  rest = h.rest;
+  different = h.different;
+  are = h.are;
+}
+
+may_end : (level : LevelState) (levels done : List LevelState) (ps : List OpenPortal) (s : Scene) → Ending level levels done ps [] s → MayEnd (referred s.session.owners) level levels done s
+may_end level levels done ps s h = record {
+  contexts = h.contexts;
+  hooks = h.hooks;
+  all = h.all;
+  outer = h.outer;
+  kinds = h.kinds;
+  owners = subst (λ (qs : List OpenPortal). AreEnding (table_of s.around.kinds) s.session.owners s.session.next_owner s.session.next_serial level levels qs) (sym h.are) h.owners;
+  plans = h.plans;
+  portals = subst (λ (qs : List OpenPortal). All (IsDone level done s.session.contexts s.session.owners s.session.current) qs) (sym h.are)
+      (All-append (IsDone level done s.session.contexts s.session.owners s.session.current) ps [] h.ended (All-nil (IsDone level done s.session.contexts s.session.owners s.session.current)));
+  different = subst AreDifferent (sym h.are) h.different;
+}
+
+idle_ends : (level : LevelState) (levels done : List LevelState) (s : Scene) → ((n : ℕ) → level.owner ≡ Some n → AllAt HoldsNothing n s.session.owners) → MayEnd (referred s.session.owners) level levels done s → MayEnd (left_to_refer level s) level levels done s
+idle_ends level levels done s idle h = record {
+  contexts = h.contexts;
+  hooks = h.hooks;
+  all = h.all;
+  outer = h.outer;
+  kinds = h.kinds;
+  owners = h.owners;
+  plans = plans_counted s.session.plans s.session.contexts s.session.current (referred s.session.owners) (left_to_refer level s)
+      (same_count level.owner s.session.owners (once_of s.session.owners s.session.next_owner s.session.next_serial h.owners.sound) idle) h.plans;
+  portals = h.portals;
+  different = h.different;
+}
+
+plans_popped : (level : LevelState) (levels done : List LevelState) (s : Scene) (times : ℕ → ℕ) (c : Option ℕ) → ((n : ℕ) → c ≡ Some n → level.context ≡ Some n) → MayEnd times level levels done s
+    → ArePlans s.session.plans (without_context c s.session.contexts) s.session.current times
+plans_popped level levels done s times None is h = h.plans
+plans_popped level levels done s times (Some n) is h =
+    let t : Contexts = s.session.contexts in
+    plans_moved s.session.plans t (removed n t) s.session.current times
+    (λ m k. cached_left t s.session.next_context n h.contexts m k (plan_outside level levels t s.session.owners s.session.next_context n h.contexts h.all (is n refl) m k))
+    h.plans
+
+-- a portal's context where the level's goes
+place_popped : (level : LevelState) (levels : List LevelState) (t : Contexts) (x : OwnerTree) (next current : ℕ) (c : Option ℕ) → ((n : ℕ) → c ≡ Some n → level.context ≡ Some n) → AreContexts t next → AreLevels (level ∷ levels) t x
+    → (m : ℕ) (expr : Option ℕ) → IsPlace m expr t current → IsPlace m expr (without_context c t) current
+place_popped level levels t x next current None is h l m expr k = k
+place_popped level levels t x next current (Some n) is h l m expr k =
+    let own : abort_context < n = (l.0.context n (is n refl)).own in
+    let ne : m ≢ n = λ z. off_levels (level ∷ levels) t x l n (inl (is n refl)) m portals_context (omega arith) (omega arith) k.parent (sym z) in
+    let out : has m (children n t) ≡ false = off_outside t next h m portals_context n (omega arith) (omega arith) own k.parent in
+    place_same m expr t (removed n t) current (same_removed t next h m n (ne, out) k.protected)
+    (row_left t h.once m expr current k n ne out
+    (λ e q z.
+    let r : IsRowOf e m t = row_of e m t current h.once (subst (λ (o : Option ℕ). IsPlace m o t current) q k) in
+    off_rows (level ∷ levels) t x l n (inl (is n refl)) e m k.own k.parent r.parent (sym z))) k
+
+-- the context of the level above, or the topmost one, becomes the current one
+place_above : (levels : List LevelState) (t : Contexts) (x : OwnerTree) (next : ℕ) → AreContexts t next → AreLevels levels t x → AreOuter levels → (m : ℕ) (expr : Option ℕ) (a : ℕ) → IsPlace m expr t a
+    → IsPlace m expr t (unwrap_or (context_of (first_of levels)) top_context)
+place_above [] t x next h l o m expr a k = place_own t next h top_context (omega arith) (omega arith) m expr a k
+place_above (level ∷ levels) t x next h l o m expr a k =
+    let c = is_there level.context o.0.made.context in
+    subst (λ (z : Option ℕ). IsPlace m expr t (unwrap_or z top_context)) (sym c.1) (place_level (level ∷ levels) t x h.once l c.0 (inl c.1) m expr a k)
+
+-- the owner of an outer level
+owner_made : (levels : List LevelState) → AreOuter levels → (k : ℕ) → 1 ≤ k → k ≤ length levels → (q : ℕ) × (owner_at k levels ≡ Some q) × IsOwner q levels
+owner_made [] outer k low high = absurd (omega (arith, low, high))
+owner_made (level ∷ levels) outer k low high = elim (cases_Bool (length levels + 1 == k)) [
+  | inl y ↦ let o = is_there level.owner outer.0.made.owner in (o.0, rw y o.1, inl o.1)
+  | inr y ↦
+      let ne = eqb-false (length levels + 1) k y in
+      let w = owner_made levels outer.2 k low (omega (arith, high, ne)) in
+      (w.0, rw y w.1, inr w.2)
+]
+
+outer_live : (p : OpenPortal) (levels : List LevelState) → AreOuter levels → IsLive p levels ⊎ IsDead p levels → IsLive p levels
+outer_live p levels outer s = elim s [ inl l ↦ l | inr d ↦ absurd (none levels outer d.aborted) ]
+  where
+    none : (ls : List LevelState) → AreOuter ls → is_aborted ls ≡ true → ⊥
+    none [] o e = cc e
+    none (l ∷ ls) o e = both_ways l.aborted o.0.unaborted e
+
+-- a portal's owner where the level's goes
+attached_popped : (level : LevelState) (levels : List LevelState) (t : Contexts) (x : OwnerTree) → Once x → AreLevels (level ∷ levels) t x → AreOuter levels → (p : OpenPortal) → IsLive p levels → IsAway level p → (o : Option ℕ) → level.owner ≡ o
+    → (n : ℕ) → p.owner ≡ Some n → IsAttached n p.created levels x → IsAttached n p.created levels (without_owner o x)
+attached_popped level levels t x once l outer p live away None e n owned a = a
+attached_popped level levels t x once l outer p live away (Some lo) e n owned a =
+    let q = owner_made levels outer p.created live.some (omega (arith, live.within, live.active, depth_small levels)) in
+    let out = outer_owners levels t x lo once l.1 outer (l.0.owner lo e).newer q.0 q.2 in
+    let ne : n ≢ lo = λ z. away n owned (e ∙ ap Some (sym z)) in
+    let below : has n (children lo x) ≡ false = above_by_parent n q.0 lo x once (a.parent ∙ q.1) (λ z. omega (arith, z, out.0)) ∙ out.1 in
+    attached_by n p.created levels levels x (removed lo x) (λ w. has_left n lo x once ne below ∙ w) (parent_left n lo x once ne below) (lone_left n lo x once ne below) refl (λ j. j) a
+
+-- The deepest level goes, with its context or without, and with active snapshots that fit the levels above: what is left stands.
+pub popped_stands : (level : LevelState) (levels : List LevelState) (s : Scene) (c : Option ℕ) (stack : List Active) → ((n : ℕ) → c ≡ Some n → level.context ≡ Some n) → AreStacked 1 (active_depth levels) stack
+    → MayEnd (left_to_refer level s) level levels levels s → Stands (popped c level.owner levels stack s)
+popped_stands level levels s c stack is stacked h =
     let t : Contexts = s.session.contexts in
     let x : OwnerTree = s.session.owners in
     let next : ℕ = s.session.next_context in
-    let own : IsLevel level levels t x = h.levels.0 in
-    let outer : AreOuter levels = h.fit.1 in
+    let cur : ℕ = s.session.current in
+    let own : IsLevel level levels t x = h.all.0 in
     let once : Once x = once_of x s.session.next_owner s.session.next_serial h.owners.sound in
     let both = contexts_without c t next s.around.shelf h.contexts h.hooks (λ n e. (own.context n (is n e)).own) in
-    let left : AreLevels levels (without_context c t) (without_owner level.owner x) =
-    levels_stay levels t (without_context c t) x (without_owner level.owner x)
+    let u : Contexts = without_context c t in
+    let y : OwnerTree = without_owner level.owner x in
+    let left : AreLevels levels u y =
+    levels_stay levels t u x y
     (λ m i prot. same_without c t next h.contexts m
     (λ n e.
-    let out = outer_contexts levels t x next n h.contexts h.levels.1 outer (own.context n (is n e)).own (own.context n (is n e)).newer m i in
+    let out = outer_contexts levels t x next n h.contexts h.all.1 h.outer (own.context n (is n e)).own (own.context n (is n e)).newer m i in
     (λ z. omega (arith, z, out.0), out.1))
     prot)
     (λ m i there. still_without level.owner x once m
     (λ p e.
-    let out = outer_owners levels t x p once h.levels.1 outer (own.owner p e).newer m i in
+    let out = outer_owners levels t x p once h.all.1 h.outer (own.owner p e).newer m i in
     (λ z. omega (arith, z, out.0), out.1))
     there)
-    h.levels.1 in
+    h.all.1 in
     record {
       contexts = both.0;
-      current = current_above levels (without_context c t) (without_owner level.owner x) next both.0 left outer;
+      current = current_above levels u y next both.0 left h.outer;
       hooks = both.1;
       levels = left;
-      fit = fits_outer levels (without_context c t) (without_owner level.owner x) outer;
-      owners = owners_without (table_of s.around.kinds) level levels x s.session.next_owner s.session.next_serial level.owner refl (λ p e. (own.owner p e).there) h.owners;
+      fit = fits_outer levels u y h.outer;
+      owners = owners_without (table_of s.around.kinds) level levels s.session.portals x s.session.next_owner s.session.next_serial level.owner refl (λ p e. (own.owner p e).there) h.owners;
       kinds = h.kinds;
-      portals = refl;
-      plans = refl;
-      snapshots = refl;
+      portals = record {
+        each = All-weaker (IsDone level levels t x cur) (λ p. IsPortal p levels u y (unwrap_or (context_of (first_of levels)) top_context))
+            (λ p d. record {
+              place = λ n e. place_above levels u y next both.0 left h.outer n p.expr cur (place_popped level levels t x next cur c is h.contexts h.all n p.expr (d.portal.place n e));
+              made = d.portal.made;
+              owner = λ n e. attached_popped level levels t x once h.all h.outer p (outer_live p levels h.outer d.portal.stage) d.away level.owner refl n e (d.portal.owner n e);
+              stage = d.portal.stage;
+            }) s.session.portals h.portals;
+        different = h.different;
+      };
+      plans =
+          plans_current s.session.plans u cur (unwrap_or (context_of (first_of levels)) top_context) (left_to_refer level s)
+          (above_apart levels u y left h.outer)
+          (plans_popped level levels levels s (left_to_refer level s) c is h);
+      snapshots = stacked;
     }
-
-whole_stands : (level : LevelState) (levels : List LevelState) (s : Scene) → Stands (settled (level ∷ levels) s) → Stands (popped level.context level.owner levels s)
-whole_stands level levels s h = popped_stands level levels s level.context (λ n e. e) h
 
 -- the levels above another one are open
 pub outer_open : (levels : List LevelState) → AreOuter levels → AreOpen levels
 outer_open [] h = tt
 outer_open (level ∷ levels) h = (h.1, outer_open levels h.2)
 
--- the cleanup of a level is that
-cleaned_is : (name : Option (List ℕ)) (c o : Option ℕ) (i a b : Bool) (levels : List LevelState) (s : Scene)
-    → (cleaned_up (settled (level_of name c o i a b ∷ levels) s)).scene ≡ popped c o levels s
-cleaned_is name None None i a b levels s = refl
-cleaned_is name None (Some p) i a b levels s = refl
-cleaned_is name (Some n) None i a b levels s = refl
-cleaned_is name (Some n) (Some p) i a b levels s = refl
+-- what a cleanup does behind the portals
+abbrev behind_sweep : Scene → Scene
+behind_sweep z = (in_order (level_owner_gone ∷ switched_up ∷ level_context_gone ∷ level_popped ∷ []) z).scene
 
-pub cleaned_up_is : (level : LevelState) (levels : List LevelState) (s : Scene) → (cleaned_up (settled (level ∷ levels) s)).scene ≡ popped level.context level.owner levels s
-cleaned_up_is level levels s = cleaned_is level.name level.context level.owner level.implicit level.aborted level.starting levels s
+sweep_is : (name : Option (List ℕ)) (c o : Option ℕ) (i a b : Bool) (levels : List LevelState) (z : Scene) → behind_sweep (settled (level_of name c o i a b ∷ levels) z) ≡ popped c o levels z.session.snapshots z
+sweep_is name None None i a b levels z = refl
+sweep_is name None (Some p) i a b levels z = refl
+sweep_is name (Some n) None i a b levels z = refl
+sweep_is name (Some n) (Some p) i a b levels z = refl
 
--- A level is cleaned up.
-pub cleaned_up_stands : (level : LevelState) (levels : List LevelState) (s : Scene) → Stands (settled (level ∷ levels) s) → Leaves levels (cleaned_up (settled (level ∷ levels) s)).scene
-cleaned_up_stands level levels s h =
-    subst (Leaves levels) (sym (cleaned_up_is level levels s))
-    (record { between = record { stands = whole_stands level levels s h; open_levels = outer_open levels h.fit.1 }; are = refl })
+-- a cleanup leaves owners alone until then
+sweep_owners : (level : LevelState) (levels : List LevelState) (gone : level.aborted ≡ true) (ps : List OpenPortal) (s : Scene) → (for_each (swept_away level levels gone) ps s).scene.session.owners ≡ s.session.owners
+sweep_owners level levels gone [] s = refl
+sweep_owners level levels gone (p ∷ ps) s = sweep_owners level levels gone ps (swept_away level levels gone p s).scene ∙ one (p.created == length (level ∷ levels)) p.context
+  where
+    one : (b : Bool) (c : Option ℕ) → (where_so b (in_order (where_there c context_gone ∷ portal_gone p.name ∷ [])) s).scene.session.owners ≡ s.session.owners
+    one true None = refl
+    one true (Some n) = refl
+    one false c = refl
+
+clean_from : (level : LevelState) (levels : List LevelState) (s : Scene) → level.aborted ≡ true → Ending level levels levels [] s.session.portals s → ((n : ℕ) → level.owner ≡ Some n → AllAt HoldsNothing n s.session.owners)
+    → AreStacked 1 (active_depth levels) s.session.snapshots → Leaves levels (cleaned_up (settled (level ∷ levels) s)).scene
+clean_from level levels s gone h idle stacked =
+    let st : Scene = settled (level ∷ levels) s in
+    let loop2 : Leads level levels levels [] st (for_each (swept_away level levels gone) s.session.portals st).scene = all_swept_away level levels gone s.session.portals st (resettled level levels levels [] s.session.portals s h) in
+    let z : Scene = with_parts loop2.goes.parts s in
+    let owners : loop2.goes.parts.owners ≡ s.session.owners = sym (ap (λ (y : Scene). y.session.owners) loop2.goes.is) ∙ sweep_owners level levels gone s.session.portals st in
+    let still : (n : ℕ) → level.owner ≡ Some n → AllAt HoldsNothing n loop2.goes.parts.owners = λ n e. subst (λ (x : OwnerTree). AllAt HoldsNothing n x) (sym owners) (idle n e) in
+    let may : MayEnd (referred loop2.goes.parts.owners) level levels levels z = may_end level levels levels loop2.front z (unsettled level levels levels loop2.front [] (level ∷ levels) z loop2.goes.ending) in
+    subst (Leaves levels) (sym (ap behind_sweep loop2.goes.is ∙ sweep_is level.name level.context level.owner level.implicit level.aborted level.starting levels z))
+    (record {
+      between = record {
+        stands = popped_stands level levels z level.context s.session.snapshots (λ n e. e) stacked (idle_ends level levels levels z still may);
+        open_levels = outer_open levels h.outer;
+      };
+      are = refl;
+    })
+
+-- A level that is aborted is cleaned up.
+pub cleaned_up_stands : (level : LevelState) (levels : List LevelState) (s : Scene) → level.aborted ≡ true → Stands (settled (level ∷ levels) s) → Leaves levels (cleaned_up (settled (level ∷ levels) s)).scene
+cleaned_up_stands level levels s aborted h =
+    clean_from level levels s aborted (begins level levels levels s h) (λ n e. h.fit.0.released n aborted e)
+    (stacked_above levels (active_depth (level ∷ levels)) s.session.snapshots h.fit.1 (omega (arith, depth_still level levels aborted)) h.snapshots)
 
 -- what a release of an owner, where there is one, leaves
 record HasGiven (o : Option ℕ) (s t : Scene) : Type 0 where
-  tables : Tables
-  same : table_of tables.kinds ≡ table_of s.around.kinds
+  besides : Besides
+  same : table_of besides.kinds ≡ table_of s.around.kinds
   owners : OwnerTree
   left : HasLeft (table_of s.around.kinds) o s.session.owners owners
-  is : t ≡ with_owners owners (tabled tables s)
+  is : t ≡ with_owners owners (with_besides besides s)
+  fits : Fits s.session.next_context s.session.current (referred owners) besides
+  spares : Spares (besides_of s) besides
 
-gives : (commit top : Bool) (o : Option ℕ) (s : Scene) → s.session.plans ≡ [] → HasGiven o s (where_there o (owner_released commit top) s).scene
-gives commit top None s none = record { tables = tables_of s; same = refl; owners = s.session.owners; left = refl; is = refl }
-gives commit top (Some p) s none =
-    let r : HasReleased p s (owner_released commit top p s).scene = release_is commit top p s none in
-    record { tables = r.tables; same = r.same; owners = r.owners; left = r.swept; is = r.is }
+gives : (commit top : Bool) (o : Option ℕ) (s : Scene) → IsSound s.session.owners s.session.next_owner s.session.next_serial → Fits s.session.next_context s.session.current (referred s.session.owners) (besides_of s)
+    → HasGiven o s (where_there o (owner_released commit top) s).scene
+gives commit top None s sound fits = record {
+  besides = besides_of s;
+  same = refl;
+  owners = s.session.owners;
+  left = refl;
+  is = refl;
+  fits = fits;
+  spares = spares_same (besides_of s) (besides_of s) refl refl;
+}
+gives commit top (Some p) s sound fits =
+    let r : HasSettled p s (owner_released commit top p s).scene = release_settles commit top p s s.session.next_serial sound fits in
+    record { besides = r.besides; same = r.same; owners = r.owners; left = r.swept; is = r.is; fits = r.fits; spares = r.spares }
 
--- level 1 commits
 without_left : (kinds : KindTable) (o : Option ℕ) (owners now : OwnerTree) → HasLeft kinds o owners now → without_owner o now ≡ without_owner o owners
 without_left kinds None owners now left = left
 without_left kinds (Some p) owners now left = ap (removed p) left.is ∙ removed_swept (swept_by kinds) p owners
+
+-- what is left holds no reference
+left_idle : (kinds : KindTable) (o : Option ℕ) (owners now : OwnerTree) → IsSoundTable kinds → HasLeft kinds o owners now → AllNodes (HasItems kinds) owners → (n : ℕ) → o ≡ Some n → AllAt HoldsNothing n now
+left_idle kinds None owners now sound left items n e = absurd (cc e)
+left_idle kinds (Some p) owners now sound left items n e =
+    subst (λ (k : ℕ). AllAt HoldsNothing k now) (one_value (Some p) p n refl e) (left_nothing kinds p owners now sound left items)
+
+left_once : (kinds : KindTable) (o : Option ℕ) (owners now : OwnerTree) (a b : ℕ) → HasLeft kinds o owners now → IsSound owners a b → Once now
+left_once kinds None owners now a b left h = subst Once (sym left) (once_of owners a b h)
+left_once kinds (Some p) owners now a b left h = once_of now a b (still_sound kinds p owners now a b left h)
+
+-- what counts then is what owners hold without the one that is released
+pub left_count : (kinds : KindTable) (o : Option ℕ) (owners now : OwnerTree) (a b : ℕ) → IsSoundTable kinds → HasLeft kinds o owners now → AllNodes (HasItems kinds) owners → IsSound owners a b → (m : ℕ) → referred now m ≡ referred (without_owner o owners) m
+left_count kinds o owners now a b table left items sound m =
+    same_count o now (left_once kinds o owners now a b left sound) (left_idle kinds o owners now table left items) m
+    ∙ ap (λ (z : OwnerTree). referred z m) (without_left kinds o owners now left)
+
+-- Behind the release of its owner the deepest level may go.
+released_ends : (level : LevelState) (levels done : List LevelState) (s : Scene) (x : Besides) (now : OwnerTree) → MayEnd (referred s.session.owners) level levels done s → table_of x.kinds ≡ table_of s.around.kinds
+    → HasLeft (table_of s.around.kinds) level.owner s.session.owners now → Fits s.session.next_context s.session.current (referred now) x → Spares (besides_of s) x → MayEnd (left_to_refer level s) level levels done (with_besides x s)
+released_ends level levels done s x now h same left fits spares =
+    let t : Contexts = s.session.contexts in
+    let owners : OwnerTree = s.session.owners in
+    let cur : ℕ = s.session.current in
+    record {
+      contexts = fits.contexts;
+      hooks = fits.hooks;
+      all = levels_stay (level ∷ levels) t x.contexts owners owners
+          (λ m i prot. spares.same m (levels_apart (level ∷ levels) t owners s.session.plans cur h.all h.plans.each m i) prot)
+          (λ m i there. record { there = there; parent = refl }) h.all;
+      outer = h.outer;
+      kinds = subst (λ (kinds : KindTable). IsSoundTable kinds) (sym same) h.kinds;
+      owners = subst (λ (kinds : KindTable). AreEnding kinds owners s.session.next_owner s.session.next_serial level levels s.session.portals) (sym same) h.owners;
+      plans =
+          plans_counted x.plans x.contexts cur (referred now) (left_to_refer level s)
+          (left_count (table_of s.around.kinds) level.owner owners now s.session.next_owner s.session.next_serial h.kinds left h.owners.items h.owners.sound) fits.plans;
+      portals = All-weaker (IsDone level done t owners cur) (IsDone level done x.contexts owners cur)
+          (λ p d. record {
+            portal = record {
+              place = λ n e. place_spared (besides_of s) x cur spares h.plans.each n p.expr cur (d.portal.place n e);
+              made = d.portal.made;
+              owner = d.portal.owner;
+              stage = d.portal.stage;
+            };
+            away = d.away;
+          }) s.session.portals h.portals;
+      different = h.different;
+    }
+
+gives_now : (commit top : Bool) (level : LevelState) (levels done : List LevelState) (s : Scene) → MayEnd (referred s.session.owners) level levels done s → HasGiven level.owner (settled (level ∷ levels) s) (where_there level.owner (owner_released commit top) (settled (level ∷ levels) s)).scene
+gives_now commit top level levels done s h = gives commit top level.owner (settled (level ∷ levels) s) h.owners.sound (record { contexts = h.contexts; hooks = h.hooks; plans = h.plans })
+
+-- the deepest level has its owner where something is active there
+owner_when_active : (level : LevelState) (levels : List LevelState) → (level.starting ≡ false → IsMade level) → length levels + 1 ≤ active_depth (level ∷ levels) → (lo : ℕ) × (level.owner ≡ Some lo)
+owner_when_active level levels made low = elim (cases_Bool level.starting) [
+  | inl y ↦ let few : active_depth (level ∷ levels) ≡ length levels = rw y refl in absurd (omega (arith, low, few))
+  | inr y ↦ is_there level.owner (made y).owner
+]
 
 -- what a commit does behind the release
 abbrev behind_commit : Scene → Scene
 behind_commit z = (in_order (stack_popped 1 ∷ level_owner_gone ∷ switched top_context ∷ level_context_gone ∷ level_popped ∷ []) z).scene
 
-behind_is : (name : Option (List ℕ)) (c o : Option ℕ) (i a b : Bool) (s : Scene) (owners : OwnerTree) (x : Tables)
-    → behind_commit (with_owners owners (tabled x (settled (level_of name c o i a b ∷ []) s))) ≡ tabled x (with_owners (without_owner o owners) (popped c o [] s))
-behind_is name None None i a b s owners x = refl
-behind_is name None (Some p) i a b s owners x = refl
-behind_is name (Some n) None i a b s owners x = refl
-behind_is name (Some n) (Some p) i a b s owners x = refl
+behind_is : (name : Option (List ℕ)) (c o : Option ℕ) (i a b : Bool) (z : Scene) → behind_commit (settled (level_of name c o i a b ∷ []) z) ≡ popped c o [] (kept_below 1 z.session.snapshots) z
+behind_is name None None i a b z = refl
+behind_is name None (Some p) i a b z = refl
+behind_is name (Some n) None i a b z = refl
+behind_is name (Some n) (Some p) i a b z = refl
 
-committed_is : (name : Option (List ℕ)) (c o : Option ℕ) (i a b : Bool) (s : Scene) → OnlyTables (popped c o [] s) (committed (settled (level_of name c o i a b ∷ []) s)).scene
-committed_is name c o i a b s =
-    let start : Scene = settled (level_of name c o i a b ∷ []) s in
-    let g : HasGiven o start (where_there o (owner_released true true) start).scene = gives true true o start refl in
-    record {
-      tables = g.tables;
-      same = g.same;
-      is =
-          ap behind_commit g.is
-          ∙ behind_is name c o i a b s g.owners g.tables
-          ∙ ap (λ (z : OwnerTree). tabled g.tables (with_owners z (popped c o [] s))) (without_left (table_of s.around.kinds) o s.session.owners g.owners g.left);
-    }
+commit_from : (level : LevelState) (s : Scene) → MayEnd (referred s.session.owners) level [] [] s → AreStacked 1 0 (kept_below 1 s.session.snapshots)
+    → Leaves [] (behind_commit (where_there level.owner (owner_released true true) (settled (level ∷ []) s)).scene)
+commit_from level s h stacked =
+    let c : Option ℕ = level.context in
+    let o : Option ℕ = level.owner in
+    let stack : List Active = kept_below 1 s.session.snapshots in
+    let g : HasGiven o (settled (level ∷ []) s) (where_there o (owner_released true true) (settled (level ∷ []) s)).scene = gives_now true true level [] [] s h in
+    let z : Scene = with_besides g.besides s in
+    let is : behind_commit (where_there o (owner_released true true) (settled (level ∷ []) s)).scene ≡ popped c o [] stack z =
+    ap behind_commit g.is
+    ∙ behind_is level.name c o level.implicit level.aborted level.starting (with_owners g.owners z)
+    ∙ ap (λ (w : OwnerTree). with_owners w (popped c o [] stack z)) (without_left (table_of s.around.kinds) o s.session.owners g.owners g.left) in
+    subst (Leaves []) (sym is) (record {
+      between = record {
+        stands = popped_stands level [] z c stack (λ n e. e) stacked (released_ends level [] [] s g.besides g.owners h g.same g.left g.fits g.spares);
+        open_levels = tt;
+      };
+      are = refl;
+    })
 
 -- Level 1 commits.
 pub committed_stands : (level : LevelState) (s : Scene) → Stands (settled (level ∷ []) s) → Leaves [] (committed (settled (level ∷ []) s)).scene
 committed_stands level s h =
-    let c : OnlyTables (popped level.context level.owner [] s) (committed (settled (level ∷ []) s)).scene =
-    committed_is level.name level.context level.owner level.implicit level.aborted level.starting s in
-    subst (Leaves []) (sym c.is) (record {
-      between = record { stands = stands_tabled c.tables (popped level.context level.owner [] s) c.same (whole_stands level [] s h); open_levels = tt };
-      are = refl;
-    })
+    let st : Scene = settled (level ∷ []) s in
+    let made : (p : OpenPortal) → IsLive p (level ∷ []) → (lo : ℕ) × (level.owner ≡ Some lo) = λ p l. owner_when_active level [] h.fit.0.made (omega (arith, l.some, l.within, l.active)) in
+    let loop : Leads level [] [] [] st (for_each portal_closed s.session.portals st).scene = all_closed level made s.session.portals st (resettled level [] [] [] s.session.portals s (begins level [] [] s h)) in
+    let z : Scene = with_parts loop.goes.parts s in
+    let may : MayEnd (referred z.session.owners) level [] [] z = may_end level [] [] loop.front z (unsettled level [] [] loop.front [] (level ∷ []) z loop.goes.ending) in
+    subst (Leaves []) (sym (ap (λ (y : Scene). behind_commit (level_released true true y).scene) loop.goes.is))
+    (commit_from level z may (stacked_below 1 1 (active_depth (level ∷ [])) s.session.snapshots h.snapshots))
 
 -- a level is merged into the one above it
 abbrev gone_if : Bool → ℕ → Option ℕ
@@ -253,42 +538,30 @@ context_to_go (Some n) t = gone_if (is_empty n t) n
 abbrev behind_merge : ℕ → Scene → Scene
 behind_merge level z =
     (in_order (
-    changes (λ session. record session { snapshots = map (lowered level) session.snapshots })
+    stack_lowered level
     ∷ level_owner_gone
     ∷ switched_up
     ∷ empty_context_gone
     ∷ level_popped
     ∷ []) z).scene
 
-merge_context : (b : Bool) (name : Option (List ℕ)) (n : ℕ) (o : Option ℕ) (i a st : Bool) (levels : List LevelState) (s : Scene) (owners : OwnerTree) (x : Tables)
-    → (level_popped (where_so b (context_gone n) (switched_up (level_owner_gone (with_owners owners (tabled x (settled (level_of name (Some n) o i a st ∷ levels) s)))).scene).scene).scene).scene
-    ≡ tabled x (with_owners (without_owner o owners) (popped (gone_if b n) o levels s))
-merge_context true name n None i a st levels s owners x = refl
-merge_context true name n (Some p) i a st levels s owners x = refl
-merge_context false name n None i a st levels s owners x = refl
-merge_context false name n (Some p) i a st levels s owners x = refl
+merge_context : (b : Bool) (name : Option (List ℕ)) (n : ℕ) (o : Option ℕ) (i a st : Bool) (levels : List LevelState) (z : Scene)
+    → (level_popped (where_so b (context_gone n) (switched_up (level_owner_gone (settled (level_of name (Some n) o i a st ∷ levels) z)).scene).scene).scene).scene ≡ popped (gone_if b n) o levels z.session.snapshots z
+merge_context true name n None i a st levels z = refl
+merge_context true name n (Some p) i a st levels z = refl
+merge_context false name n None i a st levels z = refl
+merge_context false name n (Some p) i a st levels z = refl
 
-merge_is : (level : ℕ) (name : Option (List ℕ)) (c o : Option ℕ) (i a st : Bool) (levels : List LevelState) (s : Scene) (owners : OwnerTree) (x : Tables)
-    → behind_merge level (with_owners owners (tabled x (settled (level_of name c o i a st ∷ levels) s))) ≡ tabled x (with_owners (without_owner o owners) (popped (context_to_go c s.session.contexts) o levels s))
-merge_is level name None None i a st levels s owners x = refl
-merge_is level name None (Some p) i a st levels s owners x = refl
-merge_is level name (Some n) None i a st levels s owners x = merge_context (is_empty n s.session.contexts) name n None i a st levels s owners x
-merge_is level name (Some n) (Some p) i a st levels s owners x = merge_context (is_empty n s.session.contexts) name n (Some p) i a st levels s owners x
+-- the scene with the active snapshots of this level in the level above
+abbrev lowered_in : ℕ → Scene → Scene
+lowered_in level s = record s { session = record s.session { snapshots = map (lowered level) s.session.snapshots } }
 
-merged_is : (name : Option (List ℕ)) (c o : Option ℕ) (i a st : Bool) (levels : List LevelState) (s : Scene)
-    → OnlyTables (popped (context_to_go c s.session.contexts) o levels s) (subcommitted (settled (level_of name c o i a st ∷ levels) s)).scene
-merged_is name c o i a st levels s =
-    let start : Scene = settled (level_of name c o i a st ∷ levels) s in
-    let n : ℕ = length (level_of name c o i a st ∷ levels) in
-    let g : HasGiven o start (where_there o (owner_released true false) start).scene = gives true false o start refl in
-    record {
-      tables = g.tables;
-      same = g.same;
-      is =
-          ap (behind_merge n) g.is
-          ∙ merge_is n name c o i a st levels s g.owners g.tables
-          ∙ ap (λ (z : OwnerTree). tabled g.tables (with_owners z (popped (context_to_go c s.session.contexts) o levels s))) (without_left (table_of s.around.kinds) o s.session.owners g.owners g.left);
-    }
+merge_is : (level : ℕ) (name : Option (List ℕ)) (c o : Option ℕ) (i a st : Bool) (levels : List LevelState) (z : Scene)
+    → behind_merge level (settled (level_of name c o i a st ∷ levels) z) ≡ popped (context_to_go c z.session.contexts) o levels (map (lowered level) z.session.snapshots) z
+merge_is level name None None i a st levels z = refl
+merge_is level name None (Some p) i a st levels z = refl
+merge_is level name (Some n) None i a st levels z = merge_context (is_empty n z.session.contexts) name n None i a st levels (lowered_in level z)
+merge_is level name (Some n) (Some p) i a st levels z = merge_context (is_empty n z.session.contexts) name n (Some p) i a st levels (lowered_in level z)
 
 context_to_go_is : (c : Option ℕ) (t : Contexts) (n : ℕ) → context_to_go c t ≡ Some n → c ≡ Some n
 context_to_go_is None t n e = absurd (cc e)
@@ -298,125 +571,251 @@ context_to_go_is (Some m) t n e = go (is_empty m t) e
     go true e = e
     go false e = absurd (cc e)
 
-pub subcommitted_stands : (level : LevelState) (levels : List LevelState) (s : Scene) → Stands (settled (level ∷ levels) s) → Leaves levels (subcommitted (settled (level ∷ levels) s)).scene
-subcommitted_stands level levels s h =
-    let c : Option ℕ = context_to_go level.context s.session.contexts in
-    let m : OnlyTables (popped c level.owner levels s) (subcommitted (settled (level ∷ levels) s)).scene =
-    merged_is level.name level.context level.owner level.implicit level.aborted level.starting levels s in
-    subst (Leaves levels) (sym m.is) (record {
+merge_from : (level : LevelState) (levels : List LevelState) (s : Scene) → MayEnd (referred s.session.owners) level levels levels s → AreStacked 1 (active_depth levels) (map (lowered (length (level ∷ levels))) s.session.snapshots)
+    → Leaves levels (behind_merge (length (level ∷ levels)) (where_there level.owner (owner_released true false) (settled (level ∷ levels) s)).scene)
+merge_from level levels s h stacked =
+    let n : ℕ = length (level ∷ levels) in
+    let o : Option ℕ = level.owner in
+    let stack : List Active = map (lowered n) s.session.snapshots in
+    let g : HasGiven o (settled (level ∷ levels) s) (where_there o (owner_released true false) (settled (level ∷ levels) s)).scene = gives_now true false level levels levels s h in
+    let z : Scene = with_besides g.besides s in
+    let c : Option ℕ = context_to_go level.context g.besides.contexts in
+    let is : behind_merge n (where_there o (owner_released true false) (settled (level ∷ levels) s)).scene ≡ popped c o levels stack z =
+    ap (behind_merge n) g.is
+    ∙ merge_is n level.name level.context o level.implicit level.aborted level.starting levels (with_owners g.owners z)
+    ∙ ap (λ (w : OwnerTree). with_owners w (popped c o levels stack z)) (without_left (table_of s.around.kinds) o s.session.owners g.owners g.left) in
+    subst (Leaves levels) (sym is) (record {
       between = record {
-        stands = stands_tabled m.tables (popped c level.owner levels s) m.same (popped_stands level levels s c (λ n e. context_to_go_is level.context s.session.contexts n e) h);
-        open_levels = outer_open levels h.fit.1;
+        stands = popped_stands level levels z c stack (λ k e. context_to_go_is level.context g.besides.contexts k e) stacked (released_ends level levels levels s g.besides g.owners h g.same g.left g.fits g.spares);
+        open_levels = outer_open levels h.outer;
       };
       are = refl;
     })
 
+-- A level that isn't level 1 is merged into the one above it.
+pub subcommitted_stands : (level : LevelState) (levels : List LevelState) (s : Scene) → 1 ≤ length levels → Stands (settled (level ∷ levels) s) → Leaves levels (subcommitted (settled (level ∷ levels) s)).scene
+subcommitted_stands level levels s some h =
+    let st : Scene = settled (level ∷ levels) s in
+    let n : ℕ = length (level ∷ levels) in
+    let stack : List Active = map (lowered n) s.session.snapshots in
+    let all : AreStacked 1 n s.session.snapshots = stacked_within 1 n 1 (active_depth (level ∷ levels)) s.session.snapshots (omega arith) (depth_small (level ∷ levels)) h.snapshots in
+    let stacked : AreStacked 1 (active_depth levels) stack = stacked_above levels (n - 1) stack h.fit.1 (omega arith) (stacked_lowered n s.session.snapshots (omega (arith, some)) all) in
+    let loop : Leads level levels levels [] st (for_each (portal_passed n (owner_of (first_of levels))) s.session.portals st).scene =
+    all_passed level levels some s.session.portals st (resettled level levels levels [] s.session.portals s (begins level levels levels s h)) in
+    let z : Scene = with_parts loop.goes.parts s in
+    let may : MayEnd (referred z.session.owners) level levels levels z = may_end level levels levels loop.front z (unsettled level levels levels loop.front [] (level ∷ levels) z loop.goes.ending) in
+    subst (Leaves levels) (sym (ap (λ (y : Scene). behind_merge n (level_released true false y).scene) loop.goes.is))
+    (merge_from level levels z may stacked)
+
 -- the deepest level is aborted, with these owners left
 abbrev shut : LevelState → List LevelState → OwnerTree → Scene → Scene
 shut level levels owners s =
-    settled (record level { aborted = true } ∷ levels) (record s { session = record s.session { owners = owners; current = abort_context } })
+    settled (record level { aborted = true } ∷ levels)
+    (record s { session = record s.session { owners = owners; current = abort_context; snapshots = kept_below (length (level ∷ levels)) s.session.snapshots } })
+
+shut_stacked : (level : LevelState) (levels : List LevelState) (most : ℕ) (stack : List Active) → AreStacked 1 most stack → AreStacked 1 (active_depth (record level { aborted = true } ∷ levels)) (kept_below (length (level ∷ levels)) stack)
+shut_stacked level levels most stack h =
+    let n : ℕ = length (level ∷ levels) in
+    stacked_within 1 (active_depth (record level { aborted = true } ∷ levels)) 1 (n - 1) (kept_below n stack) (omega arith) (omega (arith, depth_still (record level { aborted = true }) levels refl))
+    (stacked_below n 1 most stack h)
 
 abbrev behind_abort : ℕ → Scene → Scene
 behind_abort n z = (in_order (stack_popped n ∷ changes (λ session. record session { levels = deepest_changed (λ old. record old { aborted = true }) session.levels }) ∷ []) z).scene
 
-record HasShut (level : LevelState) (levels : List LevelState) (s t : Scene) : Type 0 where
-  tables : Tables
-  same : table_of tables.kinds ≡ table_of s.around.kinds
-  owners : OwnerTree
-  left : HasLeft (table_of s.around.kinds) level.owner s.session.owners owners
-  is : t ≡ tabled tables (shut level levels owners s)
+-- the scene with the context for that as the current one
+abbrev switched_off : Scene → Scene
+switched_off s = record s { session = record s.session { current = abort_context } }
 
-aborted_is : (level : LevelState) (levels : List LevelState) (s : Scene) → HasShut level levels s (aborted (settled (level ∷ levels) s)).scene
-aborted_is level levels s =
-    let start : Scene = settled (level ∷ levels) (record s { session = record s.session { current = abort_context } }) in
-    let n : ℕ = length (level ∷ levels) in
-    let g : HasGiven level.owner start (where_there level.owner (owner_released false (n == 1)) start).scene = gives false (n == 1) level.owner start refl in
-    record { tables = g.tables; same = g.same; owners = g.owners; left = g.left; is = ap (behind_abort n) g.is }
-
-shut_stands : (level : LevelState) (levels : List LevelState) (now : OwnerTree) (s : Scene) → level.aborted ≡ false → IsOpen level → HasLeft (table_of s.around.kinds) level.owner s.session.owners now
-    → Stands (settled (level ∷ levels) s) → Stands (shut level levels now s)
-shut_stands level levels now s active open_level left h =
+off_begins : (level : LevelState) (levels done : List LevelState) (s : Scene) → Stands (settled (level ∷ levels) s) → Ending level levels done [] s.session.portals (switched_off s)
+off_begins level levels done s h =
+    let e : Ending level levels done [] s.session.portals s = begins level levels done s h in
     let t : Contexts = s.session.contexts in
-    let all : AreLevels (level ∷ levels) t now =
-    levels_stay (level ∷ levels) t t s.session.owners now (λ m i prot. stay_same t m prot) (λ m i there. left_still (table_of s.around.kinds) level.owner s.session.owners now left m there) h.levels in
     record {
-      contexts = h.contexts;
-      current = protected_has abort_context t (h.contexts.own abort_context (omega arith) (omega arith)).protected;
-      hooks = h.hooks;
-      levels = (record { context = all.0.context; owner = all.0.owner; implicit = all.0.implicit }, all.1);
+      contexts = e.contexts;
+      hooks = e.hooks;
+      all = e.all;
+      outer = e.outer;
+      kinds = e.kinds;
+      owners = e.owners;
+      plans = plans_current s.session.plans t s.session.current abort_context (referred s.session.owners) (own_other abort_context (omega arith) t) e.plans;
+      ended = All-nil (IsDone level done t s.session.owners abort_context);
+      rest = All-weaker (λ p. IsPortal p (level ∷ levels) t s.session.owners s.session.current) (λ p. IsPortal p (level ∷ levels) t s.session.owners abort_context)
+          (λ p i. record {
+            place = λ n f. place_own t s.session.next_context e.contexts abort_context (omega arith) (omega arith) n p.expr s.session.current (i.place n f);
+            made = i.made;
+            owner = i.owner;
+            stage = i.stage;
+          }) s.session.portals e.rest;
+      different = e.different;
+      are = refl;
+    }
+
+left_lone : (kinds : KindTable) (o : Option ℕ) (owners now : OwnerTree) → HasLeft kinds o owners now → (n : ℕ) → children n owners ≡ Empty → children n now ≡ Empty
+left_lone kinds None owners now left n e = ap (children n) left ∙ e
+left_lone kinds (Some p) owners now left n e = ap (children n) left.is ∙ lone_swept n p (swept_by kinds) owners e
+
+-- what an abort leaves, in parts
+record Shut (level : LevelState) (levels : List LevelState) (s : Scene) : Type 0 where
+  contexts : AreContexts s.session.contexts s.session.next_context
+  hooks : AreHooks s.session.contexts s.around.shelf
+  all : AreLevels (level ∷ levels) s.session.contexts s.session.owners
+  outer : AreOuter levels
+  kinds : IsSoundTable (table_of s.around.kinds)
+  owners : AreOwners (table_of s.around.kinds) s.session.owners s.session.next_owner s.session.next_serial (gone_levels level levels) s.session.portals
+  plans : ArePlans s.session.plans s.session.contexts abort_context (referred s.session.owners)
+  portals : ArePortals s.session.portals (gone_levels level levels) s.session.contexts s.session.owners abort_context
+  idle : (n : ℕ) → level.owner ≡ Some n → AllAt HoldsNothing n s.session.owners
+
+-- the deepest level aborts: its scene is that with these owners and this besides
+record HasShut (level : LevelState) (levels : List LevelState) (s t : Scene) : Type 0 where
+  parts : Parts
+  is : t ≡ shut level levels parts.owners (with_parts parts s)
+  shut_is : Shut level levels (with_parts parts s)
+
+shut_from : (level : LevelState) (levels : List LevelState) (s : Scene) (x : Besides) (now : OwnerTree) → MayEnd (referred s.session.owners) level levels (gone_levels level levels) (switched_off s) → table_of x.kinds ≡ table_of s.around.kinds
+    → HasLeft (table_of s.around.kinds) level.owner s.session.owners now → Fits s.session.next_context abort_context (referred now) x → Spares (besides_of s) x → Shut level levels (with_owners now (with_besides x s))
+shut_from level levels s x now h same left fits spares =
+    let t : Contexts = s.session.contexts in
+    let u : Contexts = x.contexts in
+    let old : OwnerTree = s.session.owners in
+    let kinds : KindTable = table_of s.around.kinds in
+    record {
+      contexts = fits.contexts;
+      hooks = fits.hooks;
+      all = levels_stay (level ∷ levels) t u old now
+          (λ m i prot. spares.same m (levels_apart (level ∷ levels) t old s.session.plans abort_context h.all h.plans.each m i) prot)
+          (λ m i there. left_still kinds level.owner old now left m there) h.all;
+      outer = h.outer;
+      kinds = subst (λ (k : KindTable). IsSoundTable k) (sym same) h.kinds;
+      owners = subst (λ (k : KindTable). AreOwners k now s.session.next_owner s.session.next_serial (gone_levels level levels) s.session.portals) (sym same)
+          (owners_aborted kinds level levels s.session.portals old now s.session.next_owner s.session.next_serial level.owner h.kinds refl left h.owners);
+      plans = fits.plans;
+      portals = record {
+        each = All-weaker (IsDone level (gone_levels level levels) t old abort_context) (λ p. IsPortal p (gone_levels level levels) u now abort_context)
+            (λ p d. record {
+              place = λ n e. place_spared (besides_of s) x abort_context spares h.plans.each n p.expr abort_context (d.portal.place n e);
+              made = d.portal.made;
+              owner = λ n e.
+                  let a = d.portal.owner n e in
+                  let st = left_still kinds level.owner old now left n a.there in
+                  attached_by n p.created (gone_levels level levels) (gone_levels level levels) old now (λ _. st.there) st.parent (left_lone kinds level.owner old now left n) refl (λ j. j) a;
+              stage = d.portal.stage;
+            }) s.session.portals h.portals;
+        different = h.different;
+      };
+      idle = left_idle kinds level.owner old now h.kinds left h.owners.items;
+    }
+
+aborted_is : (level : LevelState) (levels : List LevelState) (s : Scene) → Stands (settled (level ∷ levels) s) → HasShut level levels s (aborted (settled (level ∷ levels) s)).scene
+aborted_is level levels s h =
+    let n : ℕ = length (level ∷ levels) in
+    let st : Scene = settled (level ∷ levels) (switched_off s) in
+    let done : List LevelState = gone_levels level levels in
+    let made : active_depth (level ∷ levels) ≡ n → (lo : ℕ) × (level.owner ≡ Some lo) = λ e. owner_when_active level levels h.fit.0.made (omega (arith, e)) in
+    let loop : Leads level levels done [] st (for_each (portal_aborted n level.owner) s.session.portals st).scene =
+    all_aborted level levels made s.session.portals st (resettled level levels done [] s.session.portals (switched_off s) (off_begins level levels done s h)) in
+    let z : Scene = with_parts loop.goes.parts s in
+    let may : MayEnd (referred z.session.owners) level levels done (switched_off z) = may_end level levels done loop.front (switched_off z) (unsettled level levels done loop.front [] (level ∷ levels) (switched_off z) loop.goes.ending) in
+    let g : HasGiven level.owner (settled (level ∷ levels) (switched_off z)) (where_there level.owner (owner_released false (n == 1)) (settled (level ∷ levels) (switched_off z))).scene = gives_now false (n == 1) level levels done (switched_off z) may in
+    record {
+      parts = record { locks = g.besides.locks; recent = g.besides.recent; kinds = g.besides.kinds; plans = g.besides.plans; contexts = g.besides.contexts; shelf = g.besides.shelf; owners = g.owners; portals = z.session.portals };
+      is = ap (λ (y : Scene). behind_abort n (level_released false (n == 1) y).scene) loop.goes.is ∙ ap (behind_abort n) g.is;
+      shut_is = shut_from level levels z g.besides g.owners may g.same g.left g.fits g.spares;
+    }
+
+shut_stands : (level : LevelState) (levels : List LevelState) (s z : Scene) → IsOpen level → (a : HasShut level levels s z) → Stands (settled (level ∷ levels) s)
+    → Stands (shut level levels a.parts.owners (with_parts a.parts s))
+shut_stands level levels s z open_level a h =
+    let c : Shut level levels (with_parts a.parts s) = a.shut_is in
+    record {
+      contexts = c.contexts;
+      current = protected_has abort_context a.parts.contexts (c.contexts.own abort_context (omega arith) (omega arith)).protected;
+      hooks = c.hooks;
+      levels = (record { context = c.all.0.context; owner = c.all.0.owner; implicit = c.all.0.implicit }, c.all.1);
       fit = (
         record {
           made = λ e. let m : IsMade level = h.fit.0.made e in record { context = m.context; owner = m.owner };
           empty = λ n e. absurd (both_ways level.starting open_level.started e);
           alone = λ n e. absurd (both_ways level.starting open_level.started e);
           idle = λ n e. absurd (both_ways level.starting open_level.started e);
-          released = λ n _ e. left_nothing (table_of s.around.kinds) n s.session.owners now h.kinds (subst (λ (o : Option ℕ). HasLeft (table_of s.around.kinds) o s.session.owners now) e left) h.owners.items;
+          released = λ n _ e. c.idle n e;
           at_abort = λ _. refl;
           open_level = λ _. record { started = open_level.started; block = open_level.block };
         },
-        h.fit.1,
+        c.outer,
       );
-      owners = owners_aborted (table_of s.around.kinds) level levels s.session.owners now s.session.next_owner s.session.next_serial level.owner h.kinds refl active left h.owners;
-      kinds = h.kinds;
-      portals = refl;
-      plans = refl;
-      snapshots = refl;
+      owners = c.owners;
+      kinds = c.kinds;
+      portals = c.portals;
+      plans = c.plans;
+      snapshots = shut_stacked level levels (active_depth (level ∷ levels)) s.session.snapshots h.snapshots;
     }
 
 -- The deepest level aborts.
 pub aborted_stands : (level : LevelState) (levels : List LevelState) (s : Scene) → level.aborted ≡ false → IsOpen level → Stands (settled (level ∷ levels) s)
     → Leaves (record level { aborted = true } ∷ levels) (aborted (settled (level ∷ levels) s)).scene
 aborted_stands level levels s active open_level h =
-    let a : HasShut level levels s (aborted (settled (level ∷ levels) s)).scene = aborted_is level levels s in
+    let z : Scene = (aborted (settled (level ∷ levels) s)).scene in
+    let a : HasShut level levels s z = aborted_is level levels s h in
     subst (Leaves (record level { aborted = true } ∷ levels)) (sym a.is) (record {
       between = record {
-        stands = stands_tabled a.tables (shut level levels a.owners s) a.same (shut_stands level levels a.owners s active open_level a.left h);
+        stands = shut_stands level levels s z open_level a h;
         open_levels = (record { started = open_level.started; block = open_level.block }, outer_open levels h.fit.1);
       };
       are = refl;
     })
 
--- a level is rolled back
-rolled_is : (level : LevelState) (levels : List LevelState) (s : Scene) → OnlyTables (popped level.context level.owner levels s) (level_rolled_back level (settled (level ∷ levels) s)).scene
-rolled_is level levels s = go level.aborted
-  where
-    go : (b : Bool) → OnlyTables (popped level.context level.owner levels s) (cleaned_up (where_so (not b) aborted (settled (level ∷ levels) s)).scene).scene
-    go true = record { tables = tables_of s; same = refl; is = cleaned_up_is level levels s }
-    go false =
-        let a : HasShut level levels s (aborted (settled (level ∷ levels) s)).scene = aborted_is level levels s in
-        record {
-          tables = a.tables;
-          same = a.same;
-          is =
-              ap (λ (z : Scene). (cleaned_up z).scene) a.is
-              ∙ cleaned_up_is (record level { aborted = true }) levels (tabled a.tables (record s { session = record s.session { owners = a.owners; current = abort_context } }))
-              ∙ ap (λ (z : OwnerTree). tabled a.tables (with_owners z (popped level.context level.owner levels s))) (without_left (table_of s.around.kinds) level.owner s.session.owners a.owners a.left);
-        }
+-- what an abort leaves of the stack fits the levels above
+away_stacked : (level : LevelState) (levels : List LevelState) (most : ℕ) (stack : List Active) → AreOuter levels → AreStacked 1 most stack → AreStacked 1 (active_depth levels) (kept_below (length (level ∷ levels)) stack)
+away_stacked level levels most stack outer h =
+    let n : ℕ = length (level ∷ levels) in
+    stacked_above levels (n - 1) (kept_below n stack) outer (omega arith) (stacked_below n 1 most stack h)
 
-rolled_stands : (level : LevelState) (levels : List LevelState) (s : Scene) → Stands (settled (level ∷ levels) s) → StandsBetweenLines (level_rolled_back level (settled (level ∷ levels) s)).scene
-rolled_stands level levels s h =
-    let r : OnlyTables (popped level.context level.owner levels s) (level_rolled_back level (settled (level ∷ levels) s)).scene = rolled_is level levels s in
-    subst StandsBetweenLines (sym r.is) (record {
-      stands = stands_tabled r.tables (popped level.context level.owner levels s) r.same (whole_stands level levels s h);
-      open_levels = outer_open levels h.fit.1;
-    })
+-- What is left behind an abort and a cleanup stands, however the level was.
+pub away_stands : (level : LevelState) (levels : List LevelState) (s : Scene) → Stands (settled (level ∷ levels) s) → Leaves levels (in_order (aborted ∷ cleaned_up ∷ []) (settled (level ∷ levels) s)).scene
+away_stands level levels s h =
+    let a : HasShut level levels s (aborted (settled (level ∷ levels) s)).scene = aborted_is level levels s h in
+    let c : Shut level levels (with_parts a.parts s) = a.shut_is in
+    let old : LevelState = record level { aborted = true } in
+    let z : Scene = record (with_parts a.parts s) { session = record (with_parts a.parts s).session { current = abort_context; snapshots = kept_below (length (level ∷ levels)) s.session.snapshots } } in
+    let e : Ending old levels levels [] a.parts.portals z = record {
+      contexts = c.contexts;
+      hooks = c.hooks;
+      all = (record { context = c.all.0.context; owner = c.all.0.owner; implicit = c.all.0.implicit }, c.all.1);
+      outer = c.outer;
+      kinds = c.kinds;
+      owners = owners_end (table_of a.parts.kinds) a.parts.owners s.session.next_owner s.session.next_serial old levels a.parts.portals c.owners;
+      plans = c.plans;
+      ended = All-nil (IsDone old levels a.parts.contexts a.parts.owners abort_context);
+      rest = c.portals.each;
+      different = c.portals.different;
+      are = refl;
+    } in
+    subst (Leaves levels) (sym (ap (λ (y : Scene). (cleaned_up y).scene) a.is))
+    (clean_from old levels z refl e c.idle (away_stacked level levels (active_depth (level ∷ levels)) s.session.snapshots h.fit.1 h.snapshots))
+
+-- a level is rolled back
+rolled_stands : (level : LevelState) (levels : List LevelState) (s : Scene) → Stands (settled (level ∷ levels) s) → Leaves levels (level_rolled_back level (settled (level ∷ levels) s)).scene
+rolled_stands level levels s h = go level.aborted refl
+  where
+    go : (b : Bool) → level.aborted ≡ b → Leaves levels (cleaned_up (where_so (not b) aborted (settled (level ∷ levels) s)).scene).scene
+    go true e = cleaned_up_stands level levels s e h
+    go false e = away_stands level levels s h
 
 -- a level that was being started goes, and the one above it is aborted
-above_aborted : (levels : List LevelState) (s : Scene) → Stands (settled levels s) → AreOuter levels → StandsBetweenLines (where_there (first_of levels) (λ above. aborted) (settled levels s)).scene
-above_aborted [] s h o = record { stands = h; open_levels = tt }
-above_aborted (level ∷ levels) s h o = (aborted_stands level levels s o.0.unaborted o.1 h).between
+above_aborted : (levels : List LevelState) (s : Scene) → Leaves levels s → AreOuter levels → StandsBetweenLines (where_there (first_of levels) (λ above. aborted) s).scene
+above_aborted [] s h o = h.between
+above_aborted (level ∷ levels) s h o =
+    let is : s ≡ settled (level ∷ levels) s = is_left (level ∷ levels) s h in
+    subst (λ (z : Scene). StandsBetweenLines (aborted z).scene) (sym is) (aborted_stands level levels s o.0.unaborted o.1 (subst Stands is h.between.stands)).between
 
 given_up_stands : (level : LevelState) (levels : List LevelState) (s : Scene) (b i : Bool) → level.starting ≡ b → level.implicit ≡ i → level.aborted ≡ false → Stands (settled (level ∷ levels) s)
     → StandsBetweenLines (elim b as (λ _. Ended) [
       | true ↦ in_order (level_rolled_back level ∷ where_there (first_of levels) (λ above. aborted) ∷ []) (settled (level ∷ levels) s)
       | false ↦ elim i as (λ _. Ended) [ true ↦ level_rolled_back level (settled (level ∷ levels) s) | false ↦ aborted (settled (level ∷ levels) s) ]
     ]).scene
-given_up_stands level levels s true i e q active h =
-    let r : OnlyTables (popped level.context level.owner levels s) (level_rolled_back level (settled (level ∷ levels) s)).scene = rolled_is level levels s in
-    subst (λ (z : Scene). StandsBetweenLines (where_there (first_of levels) (λ above. aborted) z).scene) (sym r.is)
-    (above_aborted levels (tabled r.tables (popped level.context level.owner levels s))
-    (stands_tabled r.tables (popped level.context level.owner levels s) r.same (whole_stands level levels s h)) h.fit.1)
-given_up_stands level levels s false true e q active h = rolled_stands level levels s h
+given_up_stands level levels s true i e q active h = above_aborted levels (level_rolled_back level (settled (level ∷ levels) s)).scene (rolled_stands level levels s h) h.fit.1
+given_up_stands level levels s false true e q active h = (rolled_stands level levels s h).between
 given_up_stands level levels s false false e q active h = (aborted_stands level levels s active (record { started = e; block = q }) h).between
 
 recovered_settled : (error : Error) (levels : List LevelState) (s : Scene) → Stands (settled levels s) → StandsBetweenLines (recovered error (settled levels s)).scene
@@ -441,13 +840,14 @@ record HasRolled (levels : List LevelState) (s : Scene) : Type 0 where
 all_rolled : (levels : List LevelState) (s : Scene) → Stands (settled levels s) → HasRolled levels s
 all_rolled [] s h = record { left = s; stands = h; is = refl }
 all_rolled (level ∷ levels) s h =
-    let r : OnlyTables (popped level.context level.owner levels s) (level_rolled_back level (settled (level ∷ levels) s)).scene = rolled_is level levels s in
-    let next : Scene = tabled r.tables (popped level.context level.owner levels s) in
-    let rest : HasRolled levels next = all_rolled levels next (stands_tabled r.tables (popped level.context level.owner levels s) r.same (whole_stands level levels s h)) in
+    let next : Scene = (level_rolled_back level (settled (level ∷ levels) s)).scene in
+    let l : Leaves levels next = rolled_stands level levels s h in
+    let is : next ≡ settled levels next = is_left levels next l in
+    let rest : HasRolled levels next = all_rolled levels next (subst Stands is l.between.stands) in
     record {
       left = rest.left;
       stands = rest.stands;
-      is = ap (λ (z : Scene). (for_each level_rolled_back levels z).scene) r.is ∙ rest.is;
+      is = ap (λ (z : Scene). (for_each level_rolled_back levels z).scene) is ∙ rest.is;
     }
 
 no_nodes : {A : Type 0} (t : Forest A) → ((n : ℕ) → has n t ≡ true → ⊥) → t ≡ Empty
@@ -456,7 +856,14 @@ no_nodes (Node k a below beside) h = absurd (h k (rw (eq-eqb k k refl) refl))
 
 -- Without a level there is no owner.
 pub no_owners : (s : Scene) → Stands (settled [] s) → s.session.owners ≡ Empty
-no_owners s h = no_nodes s.session.owners (λ n u. elim (h.owners.each n u) [ inl i ↦ i | inr r ↦ r ])
+no_owners s h = no_nodes s.session.owners (λ n u. elim (h.owners.each n u) [ inl i ↦ i | inr k ↦ elim k [ inl p ↦ none s.session.portals h.portals.each n p | inr r ↦ r ] ])
+  where
+    unmade : (p : OpenPortal) → IsPortal p [] s.session.contexts s.session.owners s.session.current → ⊥
+    unmade p i = elim i.stage [ inl l ↦ omega (arith, l.some, l.within, l.active) | inr d ↦ let z : false ≡ true = d.aborted in cc z ]
+
+    none : (ps : List OpenPortal) → All (λ p. IsPortal p [] s.session.contexts s.session.owners s.session.current) ps → (n : ℕ) → IsOfPortal n ps → ⊥
+    none [] all n i = i
+    none (p ∷ ps) all n i = unmade p (All-head (λ p. IsPortal p [] s.session.contexts s.session.owners s.session.current) p ps all)
 
 abbrev behind_rollback : Scene → Scene
 behind_rollback z = (in_order (switched top_context ∷ context_gone top_context ∷ []) z).scene
@@ -466,6 +873,7 @@ exited_left left h = record {
   levels = refl;
   contexts = nothing_left left.session.contexts left.session.next_context h.contexts;
   owners = no_owners left h;
+  snapshots = none_stacked left.session.snapshots h.snapshots;
   hooks = subst (λ (z : Contexts). AreHooks z (handed_in (gone top_context left.session.contexts).hooks left.around.shelf))
       (nothing_left left.session.contexts left.session.next_context h.contexts)
       (hooks_ended left.session.contexts (gone top_context left.session.contexts) left.around.shelf (conserves_gone top_context left.session.contexts h.contexts.once) h.hooks);

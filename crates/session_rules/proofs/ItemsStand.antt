@@ -1,13 +1,14 @@
 -- The steps by which the deepest level's owner takes an item and gives one back lead from a session that stands to one that stands.
-use Rattle.std.proofs.Common.{◌≡◌, ℕ, ◌+◌, ◌-◌, ◌<◌, ◌≤◌, length, true, false, Option, Some, None, List, [], ◌∷◌, refl, sym, ap, ◌∙◌, subst, inl, inr, arith}
+use Rattle.std.proofs.Common.{◌≡◌, ◌≢◌, ℕ, ◌+◌, ◌-◌, ◌<◌, ◌≤◌, ◌++◌, find, length, Bool, true, Option, Some, None, List, [], ◌∷◌, refl, sym, ap, ◌∙◌, subst, inl, inr, arith}
+use Rattle.std.specs.Prelude.{◌==◌, if◌then◌else◌}
 use Rattle.std.specs.Option.{option_map_or, option_and_then}
-use Rattle.std.proofs.lemmas.Bool.{cases_eq, cases_Bool}
+use Rattle.std.proofs.lemmas.Bool.{cases_Bool, eq-eqb, ne_eqb}
 use Rattle.std.proofs.lemmas.Bool.Decides.{nat_tests}
 use Rattle.std.proofs.lemmas.List.{length-map}
-use Rattle.std.proofs.lemmas.List.Elements.{All-cons}
-use Rattle.forest.specs.Forest.{has, at, changed}
-use Rattle.forest.proofs.Trees.{at_some, at_absent, has_changed}
-use Rattle.forest.proofs.Mapped.{at_changed, at_changed_other, parent_changed}
+use Rattle.std.proofs.lemmas.List.Elements.{All-cons, All-weaker}
+use Rattle.forest.specs.Forest.{Once, has, changed}
+use Rattle.forest.proofs.Trees.{at_some, has_changed}
+use Rattle.forest.proofs.Mapped.{parent_changed}
 use Rattle.pgs_step.specs.declared.ids.Item.{Item}
 use Rattle.pgs_step.specs.declared.ids.KindId.{KindId}
 use Rattle.pgs_step.specs.declared.lock_modes.Mode.{Mode}
@@ -18,107 +19,172 @@ use Rattle.pgs_command.specs.Kinds.{class_kind}
 use Rattle.pgs_command.specs.Words.{is_text}
 use Rattle.context_rules.specs.Contexts.{Contexts}
 use Rattle.owner_kinds.specs.Kind.{Kind, changed_at, opened}
-use Rattle.owner_kinds.specs.KindTable.{KindTable, IsExtension, row}
+use Rattle.owner_kinds.specs.KindTable.{KindTable, IsExtension, row, IsSound as IsSoundTable}
 use Rattle.owner_kinds.specs.KindShelf.{table_of}
 use Rattle.owner_kinds.proofs.Places.{table-opened}
 use Rattle.owner_items.specs.ItemList.{is_of, without_newest}
 use Rattle.owner_items.proofs.Order.{All-without}
-use Rattle.owner_core.specs.Owners.{Owner, OwnerTree, forgotten, has_begun}
+use Rattle.owner_core.specs.Owners.{Owner, OwnerTree, forgotten, remembered}
 use Rattle.owner_core.specs.Sound.{IsSound}
-use Rattle.owner_core.proofs.Sounds.{sound_forgotten, sound_remembered}
+use Rattle.owner_core.proofs.Sounds.{once_of, sound_forgotten, sound_remembered}
 use Rattle.lock_local.specs.Changes as locks
 use Rattle.lock_local.specs.Changes.{acquired}
-use Rattle.session_rules.specs.State.{LevelState, buffer_pin, file_kind, first_of, level_owner, snapshot_reference}
+use Rattle.session_rules.specs.State.{LevelState, StandingPlan, buffer_pin, file_kind, first_of, level_owner, plan_reference, snapshot_reference}
 use Rattle.session_rules.specs.World.{Scene, Moment}
 use Rattle.session_rules.specs.Elements as element
 use Rattle.session_rules.specs.Elements.{OfLevel, Text}
-use Rattle.session_rules.specs.Lookup.{kind_from, kind_named, newest}
+use Rattle.session_rules.specs.Lookup.{kind_from, kind_named, newest, plan_at, plan_changed}
 use Rattle.session_rules.specs.Acts.{changes, in_order, say, where_there}
 use Rattle.session_rules.specs.Releases.{Keeper, NoOne, TheKind, given_back, item_released, keeper_of}
 use Rattle.session_rules.specs.Taking.{descriptor_given, item_taken, lock_taken, remembers, taken_by}
 use Rattle.session_rules.specs.Parts.{at_kind, at_owner, lock_given_back}
 use Rattle.session_rules.specs.Does.{does}
-use Rattle.session_rules.specs.Standing.{AreLevels, HasItems, IsItem, Stands}
+use Rattle.session_rules.specs.Standing.{AreLevels, AreOwners, ArePlans, HasItems, IsItem, IsPlan, Stands, referred, references_of}
 use Rattle.session_rules.proofs.Guarded.{all_changed}
-use Rattle.session_rules.proofs.ContextsKept.{stay_same}
 use Rattle.session_rules.proofs.LevelsKept.{levels_stay, no_value}
-use Rattle.session_rules.proofs.Releasing.{OnlyTables, Tables, left_tables, tabled, tables_of}
+use Rattle.session_rules.proofs.HeldItems.{held_forgotten, held_remembered}
+use Rattle.session_rules.proofs.PlansKept.{Split, all_replaced, changed_is, counted_at, plans_replaced, split}
+use Rattle.session_rules.proofs.PlansAmong.{levels_apart, plans_counted}
+use Rattle.session_rules.proofs.PortalsAmong.{attached_by, place_spared, portals_by}
+use Rattle.session_rules.proofs.Lone.{lone_changed}
+use Rattle.session_rules.proofs.Ending.{begun_changed}
+use Rattle.session_rules.proofs.Settling.{Besides, Fits, IsApart, Settles, Spares, besides_of, item_settles, spares_same, with_besides}
+use Rattle.session_rules.proofs.Releasing.{Tables, tabled, tables_of}
 use Rattle.session_rules.proofs.EndsStand.{stands_tabled}
 use Rattle.session_rules.proofs.StepsStand.{IsWorking, Works, fallible_keeps, fit_working, not_released, nothing_works}
 use Rattle.session_rules.proofs.NamesStand.{at_name}
 
-begun_changed : (m n : ℕ) (f : Owner → Owner) (x : OwnerTree) → ((o : Owner) → (f o).begun ≡ o.begun) → has_begun m (changed n f x) ≡ has_begun m x
-begun_changed m n f x same =
-    elim (cases_eq m n) [
-      | inl e ↦ elim (cases_Bool (has m x)) [
-        | inl y ↦
-            let a = at_some m x y in
-            let now : at m (changed n f x) ≡ Some (f a.0) = rw (← e) (at_changed m f x a.0 a.1) in
-            ap (λ (o : Option Owner). option_map_or (λ owner. owner.begun) o false) now ∙ same a.0 ∙ ap (λ (o : Option Owner). option_map_or (λ owner. owner.begun) o false) (sym a.1)
-        | inr y ↦ ap (λ (o : Option Owner). option_map_or (λ owner. owner.begun) o false) (at_absent m (changed n f x) (has_changed m n f x ∙ y) ∙ sym (at_absent m x y))
-      ]
-      | inr ne ↦ ap (λ (o : Option Owner). option_map_or (λ owner. owner.begun) o false) (at_changed_other m n f x ne)
-    ]
-
--- The items of one owner change, and each is of a known kind.
-items_step : (s : Scene) (n serial : ℕ) (f : Owner → Owner) → Stands s → IsWorking s.session.levels → ((o : Owner) → (f o).begun ≡ o.begun) → ((o : Owner) → HasItems (table_of s.around.kinds) o → HasItems (table_of s.around.kinds) (f o))
-    → IsSound (changed n f s.session.owners) s.session.next_owner serial → Stands (record s { session = record s.session { owners = changed n f s.session.owners; next_serial = serial } })
-items_step s n serial f h working begun known sound =
-    let x : OwnerTree = s.session.owners in
-    let y : OwnerTree = changed n f x in
+-- The items of one owner change, and each is of a known kind; plans, their contexts and tables change with them.
+items_step : (s : Scene) (n serial : ℕ) (f : Owner → Owner) (x : Besides) → Stands s → IsWorking s.session.levels → ((o : Owner) → (f o).begun ≡ o.begun) → ((o : Owner) → HasItems (table_of s.around.kinds) o → HasItems (table_of s.around.kinds) (f o))
+    → IsSound (changed n f s.session.owners) s.session.next_owner serial → table_of x.kinds ≡ table_of s.around.kinds
+    → Fits s.session.next_context s.session.current (referred (changed n f s.session.owners)) x → Spares (besides_of s) x
+    → Stands (with_besides x (record s { session = record s.session { owners = changed n f s.session.owners; next_serial = serial } }))
+items_step s n serial f x h working begun known sound same fits spares =
+    let o : OwnerTree = s.session.owners in
+    let y : OwnerTree = changed n f o in
+    let t : Contexts = s.session.contexts in
     record {
-      contexts = h.contexts;
-      current = h.current;
-      hooks = h.hooks;
+      contexts = fits.contexts;
+      current = spares.there s.session.current (All-weaker (λ plan. IsPlan plan t s.session.current) (λ plan. s.session.current ≢ plan.context) (λ plan i. i.other) s.session.plans h.plans.each) h.current;
+      hooks = fits.hooks;
       levels =
-          levels_stay s.session.levels s.session.contexts s.session.contexts x y (λ m i prot. stay_same s.session.contexts m prot)
-          (λ m i u. record { there = has_changed m n f x ∙ u; parent = parent_changed m n f x }) h.levels;
-      fit = fit_working s.session.levels s.session.contexts s.session.contexts x y s.session.current s.session.current working h.fit;
-      owners = record {
+          levels_stay s.session.levels t x.contexts o y
+          (λ m i prot. spares.same m (levels_apart s.session.levels t o s.session.plans s.session.current h.levels h.plans.each m i) prot)
+          (λ m i u. record { there = has_changed m n f o ∙ u; parent = parent_changed m n f o }) h.levels;
+      fit = fit_working s.session.levels t x.contexts o y s.session.current s.session.current working h.fit;
+      owners = subst (λ (kinds : KindTable). AreOwners kinds y s.session.next_owner serial s.session.levels s.session.portals) (sym same) (record {
         sound = sound;
-        each = λ m u. elim (h.owners.each m (sym (has_changed m n f x) ∙ u)) [
+        each = λ m u. elim (h.owners.each m (sym (has_changed m n f o) ∙ u)) [
           | inl i ↦ inl i
-          | inr r ↦ absurd (not_released s.session.levels m x working r)
+          | inr k ↦ elim k [ inl p ↦ inr (inl p) | inr r ↦ absurd (not_released s.session.levels m o working r) ]
         ];
-        begun = λ m u. absurd (not_released s.session.levels m x working (h.owners.begun m (sym (begun_changed m n f x begun) ∙ u)));
-        items = all_changed (HasItems (table_of s.around.kinds)) n f x known h.owners.items;
-      };
-      kinds = h.kinds;
-      portals = h.portals;
-      plans = h.plans;
+        begun = λ m u. absurd (not_released s.session.levels m o working (h.owners.begun m (sym (begun_changed m n f o begun) ∙ u)));
+        items = all_changed (HasItems (table_of s.around.kinds)) n f o known h.owners.items;
+      });
+      kinds = subst (λ (kinds : KindTable). IsSoundTable kinds) (sym same) h.kinds;
+      portals = portals_by s.session.portals s.session.levels s.session.levels t x.contexts o y s.session.current s.session.current
+          (λ p i. record {
+            place = λ m e. place_spared (besides_of s) x s.session.current spares h.plans.each m p.expr s.session.current (i.place m e);
+            made = i.made;
+            owner = λ m e. attached_by m p.created s.session.levels s.session.levels o y (λ u. has_changed m n f o ∙ u) (parent_changed m n f o) (lone_changed m n f o) refl (λ j. j) (i.owner m e);
+            stage = i.stage;
+          }) h.portals;
+      plans = fits.plans;
       snapshots = h.snapshots;
     }
 
+-- the numbers of an owner that is there
+once_now : (s : Scene) → Stands s → Once s.session.owners
+once_now s h = once_of s.session.owners s.session.next_owner s.session.next_serial h.owners.sound
+
 -- An item is remembered by an owner that is there.
-take_step : (s : Scene) (n : ℕ) (kind : KindId) (key : ℕ) → Stands s → IsWorking s.session.levels → has n s.session.owners ≡ true → ((serial : ℕ) → IsItem (table_of s.around.kinds) (record { kind = kind; key = key; serial = serial }))
-    → Stands (remembers n kind key s).scene
-take_step s n kind key h working there is =
+take_step : (s : Scene) (n : ℕ) (kind : KindId) (key : ℕ) (x : Besides) → Stands s → IsWorking s.session.levels → has n s.session.owners ≡ true → ((serial : ℕ) → IsItem (table_of s.around.kinds) (record { kind = kind; key = key; serial = serial }))
+    → table_of x.kinds ≡ table_of s.around.kinds → Fits s.session.next_context s.session.current (referred (remembered n (record { kind = kind; key = key; serial = s.session.next_serial }) s.session.owners)) x → Spares (besides_of s) x
+    → Stands (remembers n kind key (with_besides x s)).scene
+take_step s n kind key x h working there is same fits spares =
     let item : Item = record { kind = kind; key = key; serial = s.session.next_serial } in
     let a = at_some n s.session.owners there in
-    items_step s n (s.session.next_serial + 1) (λ owner. record owner { items = item ∷ owner.items }) h working (λ o. refl) (λ o k. All-cons (IsItem (table_of s.around.kinds)) item o.items (is s.session.next_serial) k)
-    (sound_remembered n a.0 item s.session.owners s.session.next_owner s.session.next_serial h.owners.sound a.1 refl)
+    items_step s n (s.session.next_serial + 1) (λ owner. record owner { items = item ∷ owner.items }) x h working (λ o. refl) (λ o k. All-cons (IsItem (table_of s.around.kinds)) item o.items (is s.session.next_serial) k)
+    (sound_remembered n a.0 item s.session.owners s.session.next_owner s.session.next_serial h.owners.sound a.1 refl) same fits spares
 
--- It forgets its newest item of a kind and key.
-forget_step : (s : Scene) (n : ℕ) (kind : KindId) (key : ℕ) → Stands s → IsWorking s.session.levels → has n s.session.owners ≡ true
-    → Stands (record s { session = record s.session { owners = forgotten n kind key s.session.owners } })
-forget_step s n kind key h working there =
-    let a = at_some n s.session.owners there in
-    items_step s n s.session.next_serial (λ owner. record owner { items = without_newest (is_of kind key) owner.items }) h working (λ o. refl) (λ o k. All-without (IsItem (table_of s.around.kinds)) (is_of kind key) o.items k)
-    (sound_forgotten n a.0 (is_of kind key) s.session.owners s.session.next_owner s.session.next_serial h.owners.sound a.1)
+-- an item that isn't a reference to a plan
+abbrev refers : ℕ → Item → ℕ
+refers m item = if is_of plan_reference m item then 1 else 0
 
--- What follows that changes tables alone.
-give_step : (s : Scene) (n : ℕ) (kind : KindId) (key : ℕ) → Stands s → IsWorking s.session.levels → has n s.session.owners ≡ true → (o : Option Item)
+not_referred : (item : Item) (m : ℕ) → item.kind.0 ≢ 5 → refers m item ≡ 0
+not_referred item m ne = rw (ne_eqb item.kind.0 5 ne) refl
+
+other_taken : (s : Scene) (n : ℕ) (kind : KindId) (key : ℕ) → Stands s → has n s.session.owners ≡ true → kind.0 ≢ 5
+    → ArePlans s.session.plans s.session.contexts s.session.current (referred (remembered n (record { kind = kind; key = key; serial = s.session.next_serial }) s.session.owners))
+other_taken s n kind key h there ne =
+    let item : Item = record { kind = kind; key = key; serial = s.session.next_serial } in
+    let o : OwnerTree = s.session.owners in
+    let a = at_some n o there in
+    plans_counted s.session.plans s.session.contexts s.session.current (referred o) (referred (remembered n item o))
+    (λ m. omega (arith, held_remembered plan_reference m n item a.0 o (once_now s h) a.1, not_referred item m ne)) h.plans
+
+-- It takes one that isn't a reference to a plan, and tables change.
+pub other_step : (s : Scene) (n : ℕ) (kind : KindId) (key : ℕ) (x : Tables) → Stands s → IsWorking s.session.levels → has n s.session.owners ≡ true → kind.0 ≢ 5
+    → ((serial : ℕ) → IsItem (table_of s.around.kinds) (record { kind = kind; key = key; serial = serial })) → table_of x.kinds ≡ table_of s.around.kinds → Stands (remembers n kind key (tabled x s)).scene
+other_step s n kind key x h working there ne is same =
+    let y : Besides = record (besides_of s) { locks = x.locks; recent = x.recent; kinds = x.kinds } in
+    take_step s n kind key y h working there is same (record { contexts = h.contexts; hooks = h.hooks; plans = other_taken s n kind key h there ne }) (spares_same (besides_of s) y refl refl)
+
+-- It takes a reference to a plan that stands.
+plan_step : (s : Scene) (n key : ℕ) (p : StandingPlan) → Stands s → IsWorking s.session.levels → has n s.session.owners ≡ true → plan_at key s.session.plans ≡ Some p
+    → Stands (item_taken n plan_reference key s).scene
+plan_step s n key p h working there stands =
+    let item : Item = record { kind = plan_reference; key = key; serial = s.session.next_serial } in
+    let o : OwnerTree = s.session.owners in
+    let a = at_some n o there in
+    let now : OwnerTree = remembered n item o in
+    let change : StandingPlan → StandingPlan = λ plan. record plan { references = plan.references + 1 } in
+    let w : Split key p s.session.plans = split key p s.session.plans h.plans.apart stands in
+    let plans : List StandingPlan = plan_changed key change s.session.plans in
+    let is : plans ≡ w.front ++ (change p ∷ w.back) = ap (plan_changed key change) w.is ∙ changed_is key change p w.front w.back w.number w.before w.behind in
+    let more : (m : ℕ) → referred now m ≡ referred o m + (if key == m then 1 else 0) = λ m. held_remembered plan_reference m n item a.0 o (once_now s h) a.1 in
+    let have : referred o key ≡ p.references =
+    sym (h.plans.counted key) ∙ ap (references_of key) w.is ∙ counted_at key p w.front w.back w.number w.before in
+    let one : referred now key ≡ referred o key + 1 = more key ∙ ap (λ (b : Bool). referred o key + (if b then 1 else 0)) (eq-eqb key key refl) in
+    let others : (m : ℕ) → key ≢ m → referred now m ≡ referred o m = λ m ne. more m ∙ ap (λ (b : Bool). referred o m + (if b then 1 else 0)) (ne_eqb key m ne) ∙ omega arith in
+    let x : Besides = record (besides_of s) { plans = plans } in
+    take_step s n plan_reference key x h working there
+    (λ serial. record { kind = inl (record { from = omega arith; to = omega arith }); buffer = λ e. absurd (omega (arith, e)) })
+    refl
+    (record {
+      contexts = h.contexts;
+      hooks = h.hooks;
+      plans = subst (λ (ps : List StandingPlan). ArePlans ps s.session.contexts s.session.current (referred now)) (sym is)
+          (plans_replaced s.session.plans s.session.contexts s.session.current (referred o) (referred now) key p (change p) h.plans w refl refl (λ _. omega arith) (omega (arith, one, have)) others);
+    })
+    (record {
+      there = λ m a u. u;
+      same = λ m a prot. record { protected = prot; parent = refl };
+      kids = λ m big a. refl;
+      fewer = λ m a. subst (IsApart m) (sym is) (all_replaced (λ plan. m ≢ plan.context) p (change p) w.front w.back (λ ne. ne) (subst (IsApart m) w.is a));
+    })
+
+-- It gives its newest item of a kind and key back.
+pub give_step : (s : Scene) (n : ℕ) (kind : KindId) (key : ℕ) → Stands s → IsWorking s.session.levels → has n s.session.owners ≡ true → (o : Option Item) → newest n kind key s.session ≡ o
     → Works s (where_there o
     (λ item. in_order (changes (λ session. record session { owners = forgotten n kind key session.owners }) ∷ say (what.Release item n) ∷ given_back item ∷ [])) s).scene
-give_step s n kind key h working there None = nothing_works s h
-give_step s n kind key h working there (Some item) =
-    let t : Scene = record s { session = record s.session { owners = forgotten n kind key s.session.owners } } in
-    let only : OnlyTables t (given_back item t).scene = left_tables (keeper_of item.kind) item.key t h.plans in
-    let now : Stands (tabled only.tables t) = stands_tabled only.tables t only.same (forget_step s n kind key h working there) in
-    subst (Works s) (sym only.is) (record { stands = now; levels = refl })
+give_step s n kind key h working there None e = nothing_works s h
+give_step s n kind key h working there (Some item) e =
+    let o : OwnerTree = s.session.owners in
+    let y : OwnerTree = forgotten n kind key o in
+    let a = at_some n o there in
+    let t : Scene = record s { session = record s.session { owners = y } } in
+    let found : find (is_of kind key) a.0.items ≡ Some item = ap (λ (z : Option Owner). find (is_of kind key) (option_map_or (λ owner. owner.items) z [])) (sym a.1) ∙ e in
+    let one : (m : ℕ) → referred o m ≡ (if is_of plan_reference m item then 1 else 0) + referred y m = λ m. omega (arith, held_forgotten plan_reference m n kind key item a.0 o (once_now s h) a.1 found) in
+    let fits : Fits s.session.next_context s.session.current (referred o) (besides_of t) = record { contexts = h.contexts; hooks = h.hooks; plans = h.plans } in
+    let g : Settles (referred y) t (given_back item t).scene = item_settles item t (referred o) (referred y) one fits in
+    let now : Stands (with_besides g.besides t) =
+    items_step s n s.session.next_serial (λ owner. record owner { items = without_newest (is_of kind key) owner.items }) g.besides h working (λ o. refl) (λ o k. All-without (IsItem (table_of s.around.kinds)) (is_of kind key) o.items k)
+    (sound_forgotten n a.0 (is_of kind key) s.session.owners s.session.next_owner s.session.next_serial h.owners.sound a.1) g.same g.fits g.spares in
+    subst (Works s) (sym g.is) (record { stands = now; levels = refl })
 
 -- the owner of the deepest level is there
-owner_there : (levels : List LevelState) (t : Contexts) (x : OwnerTree) (n : ℕ) → AreLevels levels t x → option_and_then (λ (level : LevelState). level.owner) (first_of levels) ≡ Some n → has n x ≡ true
+pub owner_there : (levels : List LevelState) (t : Contexts) (x : OwnerTree) (n : ℕ) → AreLevels levels t x → option_and_then (λ (level : LevelState). level.owner) (first_of levels) ≡ Some n → has n x ≡ true
 owner_there [] t x n l e = absurd (no_value None n refl e)
 owner_there (level ∷ levels) t x n l e = (l.0.owner n e).there
 
@@ -128,6 +194,12 @@ class_unkept Relcache = refl
 class_unkept Catcache = refl
 class_unkept CatcacheList = refl
 class_unkept TupleDescriptor = refl
+
+pub class_other : (class : ReferenceClass) → (class_kind class).0 ≢ 5
+class_other Relcache = λ z. absurd (omega (arith, z))
+class_other Catcache = λ z. absurd (omega (arith, z))
+class_other CatcacheList = λ z. absurd (omega (arith, z))
+class_other TupleDescriptor = λ z. absurd (omega (arith, z))
 
 pub class_item : (kinds : KindTable) (class : ReferenceClass) (key serial : ℕ) → IsItem kinds (record { kind = class_kind class; key = key; serial = serial })
 class_item kinds Relcache key serial = record { kind = inl (record { from = omega arith; to = omega arith }); buffer = λ e. absurd (omega (arith, e)) }
@@ -179,17 +251,25 @@ module _ (w : Option ℕ) (moment : Moment) (h : Stands moment.scene) (working :
   there n e = owner_there moment.scene.session.levels moment.scene.session.contexts moment.scene.session.owners n h.levels e
 
   -- an item that nothing but owners keeps count of
-  pub take_works : (kind : KindId) (key : ℕ) → keeper_of kind ≡ NoOne → ((serial : ℕ) → IsItem (table_of moment.scene.around.kinds) (record { kind = kind; key = key; serial = serial }))
+  pub take_works : (kind : KindId) (key : ℕ) → keeper_of kind ≡ NoOne → kind.0 ≢ 5 → ((serial : ℕ) → IsItem (table_of moment.scene.around.kinds) (record { kind = kind; key = key; serial = serial }))
       → Works moment.scene (does w (element.Take OfLevel kind key) moment).moment.scene
   unfolding does
-  take_works kind key unkept is =
+  take_works kind key unkept ne is =
       fallible_keeps (Works moment.scene) w moment _ (at_owner OfLevel (λ owner. item_taken owner kind key)) (nothing_works moment.scene h)
       (λ _. at_name (Works moment.scene) (level_owner moment.scene.session) (λ owner. item_taken owner kind key) moment.scene (nothing_works moment.scene h)
       (λ n e. subst (Works moment.scene) (sym (ap (λ (k : Keeper). (in_order (taken_by k key ∷ remembers n kind key ∷ []) moment.scene).scene) unkept))
-      (record { stands = take_step moment.scene n kind key h working (there n e) is; levels = refl })))
+      (record { stands = other_step moment.scene n kind key (tables_of moment.scene) h working (there n e) ne is refl; levels = refl })))
 
   pub pin_works : (key : ℕ) → key < 1024 → Works moment.scene (does w (element.Take OfLevel buffer_pin key) moment).moment.scene
-  pin_works key small = take_works buffer_pin key refl (λ serial. record { kind = inl (record { from = omega arith; to = omega arith }); buffer = λ _. small })
+  pin_works key small = take_works buffer_pin key refl (λ z. absurd (omega (arith, z))) (λ serial. record { kind = inl (record { from = omega arith; to = omega arith }); buffer = λ _. small })
+
+  -- the owner takes a reference to a plan that stands
+  pub take_plan_works : (key : ℕ) (p : StandingPlan) → plan_at key moment.scene.session.plans ≡ Some p → Works moment.scene (does w (element.Take OfLevel plan_reference key) moment).moment.scene
+  unfolding does
+  take_plan_works key p stands =
+      fallible_keeps (Works moment.scene) w moment _ (at_owner OfLevel (λ owner. item_taken owner plan_reference key)) (nothing_works moment.scene h)
+      (λ _. at_name (Works moment.scene) (level_owner moment.scene.session) (λ owner. item_taken owner plan_reference key) moment.scene (nothing_works moment.scene h)
+      (λ n e. record { stands = plan_step moment.scene n key p h working (there n e) stands; levels = refl }))
 
   -- a file gets a descriptor
   pub touch_works : (file : ℕ) → Works moment.scene (does w (element.Touch file) moment).moment.scene
@@ -202,17 +282,16 @@ module _ (w : Option ℕ) (moment : Moment) (h : Stands moment.scene) (working :
   pub file_works : (file : ℕ) → Works moment.scene (does w (element.Take OfLevel file_kind file) moment).moment.scene
   unfolding does
   file_works file =
-      let s : Scene = (descriptor_given file moment.scene).scene in
-      let still : Stands s = stands_tabled (tables_of s) moment.scene refl h in
+      let x : Tables = tables_of (descriptor_given file moment.scene).scene in
       fallible_keeps (Works moment.scene) w moment _ (at_owner OfLevel (λ owner. item_taken owner file_kind file)) (nothing_works moment.scene h)
       (λ _. at_name (Works moment.scene) (level_owner moment.scene.session) (λ owner. item_taken owner file_kind file) moment.scene (nothing_works moment.scene h)
-      (λ n e. record { stands = take_step s n file_kind file still working (there n e) (file_item (table_of moment.scene.around.kinds) file); levels = refl }))
+      (λ n e. record { stands = other_step moment.scene n file_kind file x h working (there n e) (λ z. absurd (omega (arith, z))) (file_item (table_of moment.scene.around.kinds) file) refl; levels = refl }))
 
   pub give_back_works : (kind : KindId) (key : ℕ) → Works moment.scene (does w (element.GiveBack kind key) moment).moment.scene
   unfolding does
   give_back_works kind key =
       at_name (Works moment.scene) (level_owner moment.scene.session) (λ owner. item_released owner kind key) moment.scene (nothing_works moment.scene h)
-      (λ n e. give_step moment.scene n kind key h working (there n e) (newest n kind key moment.scene.session))
+      (λ n e. give_step moment.scene n kind key h working (there n e) (newest n kind key moment.scene.session) refl)
 
   -- the owner takes an item of an extension kind
   extension_works : (kind : KindId) (key n : ℕ) → IsExtension (table_of moment.scene.around.kinds) kind → level_owner moment.scene.session ≡ Some n
@@ -220,13 +299,13 @@ module _ (w : Option ℕ) (moment : Moment) (h : Stands moment.scene) (working :
   extension_works kind key n extension e =
       let x : Tables = record (tables_of moment.scene) { kinds = changed_at (kind.0 - 16) (opened key) moment.scene.around.kinds } in
       let same : table_of x.kinds ≡ table_of moment.scene.around.kinds = table-opened moment.scene.around.kinds (kind.0 - 16) key in
-      let is : (serial : ℕ) → IsItem (table_of x.kinds) (record { kind = kind; key = key; serial = serial }) = λ serial. record {
-        kind = inr (subst (λ (t : KindTable). IsExtension t kind) (sym same) extension);
+      let is : (serial : ℕ) → IsItem (table_of moment.scene.around.kinds) (record { kind = kind; key = key; serial = serial }) = λ serial. record {
+        kind = inr extension;
         buffer = λ is. absurd (omega (arith, is, extension.from));
       } in
       subst (Works moment.scene)
       (sym (ap (λ (k : Keeper). (in_order (taken_by k key ∷ remembers n kind key ∷ []) moment.scene).scene) (extension_keeps kind extension.from)))
-      (record { stands = take_step (tabled x moment.scene) n kind key (stands_tabled x moment.scene same h) working (there n e) is; levels = refl })
+      (record { stands = other_step moment.scene n kind key x h working (there n e) (λ z. absurd (omega (arith, z, extension.from))) is same; levels = refl })
 
   pub take_named_works : (name : Text) (key : ℕ) → Works moment.scene (does w (element.TakeNamed name key) moment).moment.scene
   unfolding does
@@ -242,7 +321,7 @@ module _ (w : Option ℕ) (moment : Moment) (h : Stands moment.scene) (working :
   give_back_named_works name key =
       at_name (Works moment.scene) (kind_named name moment.scene.around.kinds) (λ kind. at_owner OfLevel (λ owner. item_released owner kind key)) moment.scene (nothing_works moment.scene h)
       (λ kind named. at_name (Works moment.scene) (level_owner moment.scene.session) (λ owner. item_released owner kind key) moment.scene (nothing_works moment.scene h)
-      (λ n e. give_step moment.scene n kind key h working (there n e) (newest n kind key moment.scene.session)))
+      (λ n e. give_step moment.scene n kind key h working (there n e) (newest n kind key moment.scene.session) refl))
 
   -- the owner takes a lock, and gives one back
   pub lock_works : (object : ℕ) (mode : Mode) → Works moment.scene (does w (element.TakeLock OfLevel object mode) moment).moment.scene

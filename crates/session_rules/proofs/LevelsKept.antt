@@ -10,10 +10,11 @@ use Rattle.forest.proofs.Moved.{above_by_parent, above_none}
 use Rattle.context_rules.specs.Contexts.{Contexts, is_protected}
 use Rattle.owner_kinds.specs.KindTable.{KindTable, IsSound as IsSoundTable}
 use Rattle.owner_core.specs.Owners.{Owner, OwnerTree, AllAt, HoldsNothing, has_begun}
+use Rattle.owner_core.specs.Sound.{IsSound}
 use Rattle.owner_core.proofs.Sounds.{once_of, sound_removed}
-use Rattle.session_rules.specs.State.{LevelState, abort_context, first_of, owner_of, top_context}
+use Rattle.session_rules.specs.State.{LevelState, OpenPortal, abort_context, first_of, owner_of, top_context}
 use Rattle.session_rules.specs.Making.{level_parent}
-use Rattle.session_rules.specs.Standing.{AreContexts, AreLevels, AreOuter, AreOwners, HasItems, IsContextOf, IsOwner, IsOwnerOf, IsReleased}
+use Rattle.session_rules.specs.Standing.{AreContexts, AreLevels, AreOuter, AreOwners, HasItems, IsContextOf, IsOfPortal, IsOwner, IsOwnerOf, IsReleased, IsWithin}
 use Rattle.session_rules.proofs.Forests.{at_left}
 use Rattle.session_rules.proofs.Guarded.{all_removed, top_parent}
 use Rattle.session_rules.proofs.ContextsKept.{IsSame, own as own_context}
@@ -127,21 +128,47 @@ abbrev pub without_owner : Option ℕ → OwnerTree → OwnerTree
 without_owner None owners = owners
 without_owner (Some p) owners = removed p owners
 
-pub owners_without : (kinds : KindTable) (level : LevelState) (levels : List LevelState) (owners : OwnerTree) (a b : ℕ) (o : Option ℕ) → level.owner ≡ o → ((p : ℕ) → level.owner ≡ Some p → has p owners ≡ true)
-    → AreOwners kinds owners a b (level ∷ levels) → AreOwners kinds (without_owner o owners) a b levels
-owners_without kinds level levels owners a b None e there h = record {
+-- the deepest level's owner, or one below it
+pub record IsLoose (level : LevelState) (n : ℕ) (owners : OwnerTree) : Type 0 where
+  pub owner : ℕ
+  pub is : level.owner ≡ Some owner
+  pub within : IsWithin owner n owners
+
+-- The owners of a session whose deepest level ends: what isn't a level's or a portal's is the deepest level's to release.
+pub record AreEnding (kinds : KindTable) (owners : OwnerTree) (next_owner next_serial : ℕ) (level : LevelState) (levels : List LevelState) (portals : List OpenPortal) : Type 0 where
+  pub sound : IsSound owners next_owner next_serial
+  pub each : (n : ℕ) → has n owners ≡ true → IsOwner n (level ∷ levels) ⊎ (IsOfPortal n portals ⊎ IsLoose level n owners)
+  pub begun : (n : ℕ) → has_begun n owners ≡ true → IsLoose level n owners
+  pub fresh : level.aborted ≡ false → (n : ℕ) → has_begun n owners ≡ true → ⊥
+  pub items : AllNodes (HasItems kinds) owners
+
+pub owners_end : (kinds : KindTable) (owners : OwnerTree) (a b : ℕ) (level : LevelState) (levels : List LevelState) (portals : List OpenPortal) → AreOwners kinds owners a b (level ∷ levels) portals → AreEnding kinds owners a b level levels portals
+owners_end kinds owners a b level levels portals h = record {
+  sound = h.sound;
+  each = λ n u. elim (h.each n u) [
+    | inl i ↦ inl i
+    | inr j ↦ elim j [ inl p ↦ inr (inl p) | inr r ↦ inr (inr (record { owner = r.owner; is = r.is; within = r.within })) ]
+  ];
+  begun = λ n u. let r : IsReleased level n owners = h.begun n u in record { owner = r.owner; is = r.is; within = r.within };
+  fresh = λ active n u. let r : IsReleased level n owners = h.begun n u in both_ways level.aborted active r.aborted;
+  items = h.items;
+}
+
+pub owners_without : (kinds : KindTable) (level : LevelState) (levels : List LevelState) (portals : List OpenPortal) (owners : OwnerTree) (a b : ℕ) (o : Option ℕ) → level.owner ≡ o → ((p : ℕ) → level.owner ≡ Some p → has p owners ≡ true)
+    → AreEnding kinds owners a b level levels portals → AreOwners kinds (without_owner o owners) a b levels portals
+owners_without kinds level levels portals owners a b None e there h = record {
   sound = h.sound;
   each = λ n u. elim (h.each n u) [
     | inl i ↦ elim i [ inl q ↦ absurd (no_value level.owner n e q) | inr j ↦ inl j ]
-    | inr r ↦ absurd (no_value level.owner r.owner e r.is)
+    | inr k ↦ elim k [ inl p ↦ inr (inl p) | inr r ↦ absurd (no_value level.owner r.owner e r.is) ]
   ];
   begun = λ n u. let r = h.begun n u in absurd (no_value level.owner r.owner e r.is);
   items = h.items;
 }
-owners_without kinds level levels owners a b (Some p) e there h =
+owners_without kinds level levels portals owners a b (Some p) e there h =
     let once : Once owners = once_of owners a b h.sound in
     let here : has p owners ≡ true = there p e in
-    let outside : (n : ℕ) → has n (removed p owners) ≡ true → IsReleased level n owners → ⊥ = λ n u r.
+    let outside : (n : ℕ) → has n (removed p owners) ≡ true → IsLoose level n owners → ⊥ = λ n u r.
     let w = left_apart n p owners once here u in
     let same : r.owner ≡ p = one_value level.owner r.owner p r.is e in
     elim r.within [
@@ -156,7 +183,7 @@ owners_without kinds level levels owners a b (Some p) e there h =
           | inl q ↦ absurd ((left_apart n p owners once here u).0 (one_value level.owner n p q e))
           | inr j ↦ inl j
         ]
-        | inr r ↦ absurd (outside n u r)
+        | inr k ↦ elim k [ inl q ↦ inr (inl q) | inr r ↦ absurd (outside n u r) ]
       ];
       begun = λ n u.
           let left : has n (removed p owners) ≡ true = begun_has n (removed p owners) u in
@@ -172,35 +199,43 @@ HasLeft kinds None owners now = now ≡ owners
 HasLeft kinds (Some p) owners now = HasSwept kinds p owners now
 
 -- the deepest level is aborted
-pub owners_aborted : (kinds : KindTable) (level : LevelState) (levels : List LevelState) (owners now : OwnerTree) (a b : ℕ) (o : Option ℕ) → IsSoundTable kinds → level.owner ≡ o → level.aborted ≡ false → HasLeft kinds o owners now
-    → AreOwners kinds owners a b (level ∷ levels) → AreOwners kinds now a b (record level { aborted = true } ∷ levels)
-owners_aborted kinds level levels owners now a b None sound e active left h =
-    subst (λ (z : OwnerTree). AreOwners kinds z a b (record level { aborted = true } ∷ levels)) (sym left) (record {
+pub owners_aborted : (kinds : KindTable) (level : LevelState) (levels : List LevelState) (portals : List OpenPortal) (owners now : OwnerTree) (a b : ℕ) (o : Option ℕ) → IsSoundTable kinds → level.owner ≡ o → HasLeft kinds o owners now
+    → AreEnding kinds owners a b level levels portals → AreOwners kinds now a b (record level { aborted = true } ∷ levels) portals
+owners_aborted kinds level levels portals owners now a b None sound e left h =
+    subst (λ (z : OwnerTree). AreOwners kinds z a b (record level { aborted = true } ∷ levels) portals) (sym left) (record {
       sound = h.sound;
-      each = λ n u. elim (h.each n u) [ inl i ↦ inl i | inr r ↦ absurd (both_ways level.aborted active r.aborted) ];
-      begun = λ n u. let r = h.begun n u in absurd (both_ways level.aborted active r.aborted);
+      each = λ n u. elim (h.each n u) [ inl i ↦ inl i | inr k ↦ elim k [ inl p ↦ inr (inl p) | inr r ↦ absurd (no_value level.owner r.owner e r.is) ] ];
+      begun = λ n u. let r = h.begun n u in absurd (no_value level.owner r.owner e r.is);
       items = h.items;
     })
-owners_aborted kinds level levels owners now a b (Some p) sound e active left h =
+owners_aborted kinds level levels portals owners now a b (Some p) sound e left h =
     let once : Once owners = once_of owners a b h.sound in
     let f : Owner → Owner = swept_by kinds in
     let is : now ≡ swept f p owners = left.is in
+    let below : (n : ℕ) → has n (children p now) ≡ has n (children p owners) = λ n. ap (λ (z : OwnerTree). has n (children p z)) is ∙ below_swept f n p owners in
+    let gone : (n : ℕ) → IsLoose level n owners → IsReleased (record level { aborted = true }) n now = λ n r.
+    let same : r.owner ≡ p = one_value level.owner r.owner p r.is e in
+    record {
+      aborted = refl;
+      owner = p;
+      is = e;
+      within = elim r.within [ inl q ↦ inl (q ∙ same) | inr q ↦ inr (below n ∙ ap (λ (m : ℕ). has n (children m owners)) (sym same) ∙ q) ];
+    } in
     record {
       sound = still_sound kinds p owners now a b left h.sound;
       each = λ n u. elim (h.each n (sym (ap (has n) is ∙ has_swept f n p owners) ∙ u)) [
         | inl i ↦ inl i
-        | inr r ↦ absurd (both_ways level.aborted active r.aborted)
+        | inr k ↦ elim k [ inl q ↦ inr (inl q) | inr r ↦ inr (inr (gone n r)) ]
       ];
       begun = λ n u.
           let u2 : has_begun n (swept f p owners) ≡ true = ap (has_begun n) (sym is) ∙ u in
           elim (cases_eq n p) [
             | inl q ↦ record { aborted = refl; owner = p; is = e; within = inl q }
             | inr ne ↦ elim (cases_Bool (has n (children p owners))) [
-              | inl y ↦ record { aborted = refl; owner = p; is = e; within = inr (ap (λ (z : OwnerTree). has n (children p z)) is ∙ below_swept f n p owners ∙ y) }
+              | inl y ↦ record { aborted = refl; owner = p; is = e; within = inr (below n ∙ y) }
               | inr y ↦
                   let was : has_begun n owners ≡ true = ap (λ (x : Option Owner). option_map_or (λ owner. owner.begun) x false) (sym (at_swept_other f n p owners once ne y)) ∙ u2 in
-                  let r = h.begun n was in
-                  absurd (both_ways level.aborted active r.aborted)
+                  gone n (h.begun n was)
             ]
           ];
       items = rw is (all_swept f (HasItems kinds) p owners (λ owner. still_items kinds owner sound) h.items);

@@ -1,11 +1,11 @@
 -- The steps on contexts of a name lead from a session that stands to one that stands.
-use Rattle.std.proofs.Common.{◌≡◌, ◌⊎◌, ℕ, ◌+◌, Bool, true, false, Option, Some, None, List, [], ◌∷◌, ◌++◌, refl, sym, ap, ◌∙◌, subst, inl, inr, arith}
+use Rattle.std.proofs.Common.{◌≡◌, ◌≢◌, ◌⊎◌, ℕ, ◌+◌, Bool, true, false, Option, Some, None, List, [], ◌∷◌, ◌++◌, refl, sym, ap, ◌∙◌, subst, inl, inr, arith}
 use Rattle.std.specs.Prelude.{◌==◌, ◌&&◌, ◌||◌, not, reverse, if◌then◌else◌, codes}
-use Rattle.std.specs.Option.{option_map, option_and_then}
-use Rattle.std.proofs.lemmas.Bool.{eq-eqb, both_ways, or_parts}
+use Rattle.std.specs.Option.{option_map, option_map_or, option_and_then}
+use Rattle.std.proofs.lemmas.Bool.{eq-eqb, ne_eqb, both_ways, or_parts}
 use Rattle.std.proofs.lemmas.List.{reverse-append}
-use Rattle.forest.specs.Forest.{Empty, Node, either, has, is_above, with_children}
-use Rattle.forest.proofs.Trees.{at_some, has_changed}
+use Rattle.forest.specs.Forest.{Empty, Node, Once, at, children, either, has, is_above, moved, removed, with_children}
+use Rattle.forest.proofs.Trees.{Moves, apart_of, at_absent, at_some, has_changed}
 use Rattle.pgs_command.specs.Words.{is_text}
 use Rattle.reset_callbacks.specs.Hook.{Hook}
 use Rattle.reset_callbacks.specs.ShelfState.{taken}
@@ -31,12 +31,15 @@ use Rattle.session_rules.specs.Making.{context_made, new_context_made}
 use Rattle.session_rules.specs.Parts.{at_context, context_moved}
 use Rattle.session_rules.specs.Taking.{hook_registered, hook_waits}
 use Rattle.session_rules.specs.Does.{does}
-use Rattle.session_rules.specs.Standing.{AreContexts, AreHooks, AreLevels, Stands}
-use Rattle.session_rules.proofs.Forests.{has_emptied, has_left}
-use Rattle.session_rules.proofs.ContextsKept.{Stay, contexts_alone, contexts_changed, contexts_children_gone, contexts_created, contexts_gone, contexts_reparented, has_alone, has_created, has_reparented, protected_has, stay_alone, stay_changed, stay_children_gone, stay_created, stay_gone, stay_on, stay_reparented, stay_same, top_protected}
+use Rattle.session_rules.specs.Standing.{AreContexts, AreHooks, AreLevels, IsPlace, IsRow, Stands, referred}
+use Rattle.session_rules.proofs.Forests.{has_emptied, has_left, once_left}
+use Rattle.session_rules.proofs.ContextsKept.{Stay, apart, contexts_alone, contexts_changed, contexts_children_gone, contexts_created, contexts_gone, contexts_reparented, has_alone, has_created, has_reparented, moves_by, protected_has, same_removed, stay_alone, stay_changed, stay_children_gone, stay_created, stay_gone, stay_on, stay_reparented, stay_same, top_protected}
 use Rattle.session_rules.proofs.HooksKept.{conserves_alone, conserves_children, conserves_cleared, conserves_gone, hooks_ended, hooks_put, hooks_taken, hooks_reparented}
 use Rattle.session_rules.proofs.LevelsKept.{IsContext, no_value, one_value}
-use Rattle.session_rules.proofs.StepsStand.{IsWorking, Works, contexts_step, fallible_keeps, nothing_works}
+use Rattle.session_rules.proofs.Lone.{lone_changed, lone_emptied, lone_left, lone_moved, lone_put}
+use Rattle.session_rules.proofs.PlansAmong.{IsCached, levels_other, own_other, plans_current}
+use Rattle.session_rules.proofs.PortalsAmong.{place_current, place_level, place_own, place_same, portals_moved, row_changed, row_emptied, row_free, row_left, row_put}
+use Rattle.session_rules.proofs.StepsStand.{IsWorking, Works, contexts_step, fallible_keeps, nothing_works, still_planned, still_portals}
 
 -- the context of the first level of a list that is put together
 first_context : (levels : List LevelState) (n : ℕ) → context_of (first_of levels) ≡ Some n → IsContext n levels
@@ -107,6 +110,119 @@ named_there name s n h e =
     go false false false true e = level_there s.session.levels s.session.contexts s.session.owners n h.levels (first_context s.session.levels n e)
     go false false false false e = script_there name s.session.contexts n e
 
+-- a context of the script is none of the session's own
+script_free : (name : Text) (t : Contexts) (n : ℕ) → Once t → rules.context_named name t ≡ Some n → is_protected n t ≡ false
+script_free name Empty n o e = refl
+script_free name (Node k c below beside) n o e =
+    by_name (not c.protected && same_name c.name name) refl (rules.context_named name below) refl e
+    (λ once q. script_free name below n once q) (λ once q. script_free name beside n once q)
+  where
+    free : (a b : Bool) → (not a && b) ≡ true → a ≡ false
+    free true b q = absurd (cc q)
+    free false b q = refl
+
+    by_name : (b : Bool) → (not c.protected && same_name c.name name) ≡ b → (o : Option ℕ) → rules.context_named name below ≡ o → (if b then Some k else either o (rules.context_named name beside)) ≡ Some n
+        → (Once below → rules.context_named name below ≡ Some n → is_protected n below ≡ false) → (Once beside → rules.context_named name beside ≡ Some n → is_protected n beside ≡ false)
+        → is_protected n (Node k c below beside) ≡ false
+    by_name true y o q e low high = rw (eq-eqb k n (one_value (Some k) k n refl e)) (free c.protected (same_name c.name name) y)
+    by_name false y None q e low high =
+        let u : has n beside ≡ true = script_there name beside n e in
+        let ne : k ≢ n = λ z. both_ways (has n beside) (ap (λ (j : ℕ). has j beside) (sym z) ∙ (apart_of k c below beside o).not_beside) u in
+        rw (ne_eqb k n ne, at_absent n below ((apart_of k c below beside o).apart_back n u)) (high (apart_of k c below beside o).once_beside e)
+    by_name false y (Some m) q e low high =
+        let there : rules.context_named name below ≡ Some n = q ∙ e in
+        let u : has n below ≡ true = script_there name below n there in
+        let ne : k ≢ n = λ z. both_ways (has n below) (ap (λ (j : ℕ). has j below) (sym z) ∙ (apart_of k c below beside o).not_below) u in
+        let w = at_some n below u in
+        let known : w.0.protected ≡ false = rw w.1 at (low (apart_of k c below beside o).once_below there) in
+        rw (ne_eqb k n ne, w.1) known
+
+-- A context that a name leads to isn't that of a plan.
+pub named_other : (name : Text) (s : Scene) (n : ℕ) → Stands s → context_named name s.session ≡ Some n → (m : ℕ) → IsCached m s.session.contexts → n ≢ m
+named_other name s n h e m k =
+    go (is_text name (codes "TopMemoryContext")) (is_text name (codes "CacheMemoryContext")) (is_text name (codes "TopTransactionContext")) (is_text name (codes "CurTransactionContext")) e
+  where
+    go : (a b c d : Bool)
+        → (if a then Some top_context else (if b then Some cache_context else (if c then context_of (last_of s.session.levels) else (if d then level_context s.session else rules.context_named name s.session.contexts)))) ≡ Some n
+        → n ≢ m
+    go true b c d e = let z = one_value (Some top_context) top_context n refl e in own_other n (omega (arith, z)) s.session.contexts m k
+    go false true c d e = let z = one_value (Some cache_context) cache_context n refl e in own_other n (omega (arith, z)) s.session.contexts m k
+    go false false true d e =
+        levels_other s.session.levels s.session.contexts s.session.owners h.levels n
+        (in_reverse s.session.levels n (first_context (reverse s.session.levels) n e)) m k
+    go false false false true e = levels_other s.session.levels s.session.contexts s.session.owners h.levels n (first_context s.session.levels n e) m k
+    go false false false false e = λ z.
+        both_ways (is_protected n s.session.contexts) (script_free name s.session.contexts n h.contexts.once e) (ap (λ (j : ℕ). is_protected j s.session.contexts) z ∙ k.protected)
+
+-- nor is it that of a portal or of one row
+pub named_place : (name : Text) (s : Scene) (n : ℕ) → Stands s → context_named name s.session ≡ Some n → (m : ℕ) (expr : Option ℕ) → IsPlace m expr s.session.contexts s.session.current → IsPlace m expr s.session.contexts n
+named_place name s n h e m expr k =
+    go (is_text name (codes "TopMemoryContext")) (is_text name (codes "CacheMemoryContext")) (is_text name (codes "TopTransactionContext")) (is_text name (codes "CurTransactionContext")) e
+  where
+    go : (a b c d : Bool)
+        → (if a then Some top_context else (if b then Some cache_context else (if c then context_of (last_of s.session.levels) else (if d then level_context s.session else rules.context_named name s.session.contexts)))) ≡ Some n
+        → IsPlace m expr s.session.contexts n
+    go true b c d e = let z = one_value (Some top_context) top_context n refl e in place_own s.session.contexts s.session.next_context h.contexts n (omega (arith, z)) (omega (arith, z)) m expr s.session.current k
+    go false true c d e = let z = one_value (Some cache_context) cache_context n refl e in place_own s.session.contexts s.session.next_context h.contexts n (omega (arith, z)) (omega (arith, z)) m expr s.session.current k
+    go false false true d e =
+        place_level s.session.levels s.session.contexts s.session.owners h.contexts.once h.levels n
+        (in_reverse s.session.levels n (first_context (reverse s.session.levels) n e)) m expr s.session.current k
+    go false false false true e = place_level s.session.levels s.session.contexts s.session.owners h.contexts.once h.levels n (first_context s.session.levels n e) m expr s.session.current k
+    go false false false false e =
+        let free : is_protected n s.session.contexts ≡ false = script_free name s.session.contexts n h.contexts.once e in
+        place_current m expr s.session.contexts s.session.current n
+        (λ z. both_ways (is_protected n s.session.contexts) free (ap (λ (j : ℕ). is_protected j s.session.contexts) z ∙ k.protected))
+        (λ e q z. row_free s.session.contexts h.contexts.once n free m expr s.session.current k e q (sym z)) k
+
+-- rows behind a reset, and where another context moves
+row_alone : (t : Contexts) → Once t → (k m : ℕ) (expr : Option ℕ) (current : ℕ) → IsPlace m expr t current → IsRow expr (children m (ends.cleared_alone k t).contexts)
+row_alone t once k m expr current h = go (at k t)
+  where
+    by_use : (c : Context) (b : Bool) → c.used ≡ b → IsRow expr (children m (ends.reset_of k t c).contexts)
+    by_use c true u = rw u (row_changed t once m expr current h k ends.emptied (λ c. refl))
+    by_use c false u = rw u h.row
+
+    go : (o : Option Context) → IsRow expr (children m (option_map_or (ends.reset_of k t) o (ends.unchanged t)).contexts)
+    go None = h.row
+    go (Some c) = by_use c c.used refl
+
+row_reparented : (m : ℕ) (expr : Option ℕ) (n p : ℕ) (t : Contexts) (next current : ℕ) → AreContexts t next → Moves n p t → m ≢ n → has m (children n t) ≡ false → is_protected n t ≡ false → IsPlace m expr t p → IsPlace m expr t current
+    → IsRow expr (children m (reparented n p t))
+row_reparented m expr n p t next current contexts moves ne out free named k = go (rules.is_child n p t)
+  where
+    a : (c : Context) × (at n t ≡ Some c)
+    a = at_some n t moves.node
+
+    left : IsPlace m expr (removed n t) current
+    left = place_same m expr t (removed n t) current (same_removed t next contexts m n (ne, out) k.protected) (row_left t contexts.once m expr current k n ne out (row_free t contexts.once n free m expr current k)) k
+
+    swapped : (c : Context) → at n t ≡ Some c → IsPlace m expr (removed n t) current → IsRow expr (children m (moved n p t))
+    swapped c e l =
+        rw e (row_put (removed n t) (once_left n t contexts.once) m expr current l p n c (children n t) (λ z. named.other (sym z)) ne out (λ e q z. named.apart (q ∙ ap Some z)))
+
+    go : (b : Bool) → IsRow expr (children m (rules.placed_under b n p t))
+    go true = k.row
+    go false = swapped a.0 a.1 left
+
+-- a node without children has none behind a reset, nor where another one moves
+lone_alone : (m n : ℕ) (t : Contexts) → children m t ≡ Empty → children m (ends.cleared_alone n t).contexts ≡ Empty
+lone_alone m n t e = go (at n t)
+  where
+    by_use : (c : Context) (b : Bool) → c.used ≡ b → children m (ends.reset_of n t c).contexts ≡ Empty
+    by_use c true u = rw u (lone_changed m n ends.emptied t e)
+    by_use c false u = rw u e
+
+    go : (o : Option Context) → children m (option_map_or (ends.reset_of n t) o (ends.unchanged t)).contexts ≡ Empty
+    go None = e
+    go (Some c) = by_use c c.used refl
+
+lone_reparented : (m n p : ℕ) (t : Contexts) → Once t → Moves n p t → m ≢ p → m ≢ n → has m (children n t) ≡ false → children m t ≡ Empty → children m (reparented n p t) ≡ Empty
+lone_reparented m n p t once moves other ne out e = go (rules.is_child n p t)
+  where
+    go : (b : Bool) → children m (rules.placed_under b n p t) ≡ Empty
+    go true = e
+    go false = lone_moved m n p t once moves other ne out e
+
 -- what the checks say
 no_error : (o : Option TreeError) → option_map tree_error o ≡ None → o ≡ None
 no_error None e = refl
@@ -132,9 +248,10 @@ at_name P (Some n) act s before behind = behind n refl
 
 -- what became of contexts
 ended_step : (s : Scene) → Stands s → IsWorking s.session.levels → (ended : ends.Ended) → AreContexts ended.contexts s.session.next_context → Stay s.session.contexts ended.contexts → has s.session.current ended.contexts ≡ true
-    → AreHooks ended.contexts (ends.handed_in ended.hooks s.around.shelf) → Stands (of_contexts ended s).scene
-ended_step s h working ended c stay there hooks =
-    contexts_step s h working ended.contexts s.session.next_context s.session.current (ends.handed_in ended.hooks s.around.shelf) c stay there hooks
+    → AreHooks ended.contexts (ends.handed_in ended.hooks s.around.shelf) → ((m : ℕ) → IsCached m s.session.contexts → children m ended.contexts ≡ Empty)
+    → ((n : ℕ) (expr : Option ℕ) → IsPlace n expr s.session.contexts s.session.current → IsRow expr (children n ended.contexts)) → Stands (of_contexts ended s).scene
+ended_step s h working ended c stay there hooks lone rows =
+    contexts_step s h working ended.contexts s.session.next_context s.session.current (ends.handed_in ended.hooks s.around.shelf) s.session.plans c stay there hooks (still_planned s ended.contexts h stay lone) (still_portals s ended.contexts h stay rows)
 
 gone_step : (s : Scene) (n : ℕ) → Stands s → IsWorking s.session.levels → is_protected n s.session.contexts ≡ false → is_within n s.session.current s.session.contexts ≡ false → Stands (context_gone n s).scene
 gone_step s n h working free out =
@@ -144,6 +261,9 @@ gone_step s n h working free out =
     ended_step s h working (ends.gone n t) (contexts_gone t next h.contexts n free) (stay_gone t next h.contexts n free)
     (has_left s.session.current n t h.contexts.once (λ e. both_ways (s.session.current == n) w.0 (eq-eqb s.session.current n e)) w.1 ∙ h.current)
     (hooks_ended t (ends.gone n t) s.around.shelf (conserves_gone n t h.contexts.once) h.hooks)
+    (λ m k. let out = apart t next h.contexts m n free k.protected in lone_left m n t h.contexts.once out.0 out.1 k.lone)
+    (λ m expr k.
+    let w = apart t next h.contexts m n free k.protected in row_left t h.contexts.once m expr s.session.current k n w.0 w.1 (row_free t h.contexts.once n free m expr s.session.current k))
 
 children_step : (s : Scene) (n : ℕ) → Stands s → IsWorking s.session.levels → is_protected n s.session.contexts ≡ false → is_above n s.session.current s.session.contexts ≡ false → Stands (children_gone n s).scene
 children_step s n h working free out =
@@ -152,14 +272,18 @@ children_step s n h working free out =
     ended_step s h working (ends.children_gone n t) (contexts_children_gone t next h.contexts n free) (stay_children_gone t next h.contexts n free)
     (has_emptied s.session.current n t h.contexts.once out ∙ h.current)
     (hooks_ended t (ends.children_gone n t) s.around.shelf (conserves_children n t h.contexts.once) h.hooks)
+    (λ m k. lone_emptied m n t h.contexts.once (apart t next h.contexts m n free k.protected).1 k.lone)
+    (λ m expr k. let w = apart t next h.contexts m n free k.protected in row_emptied t h.contexts.once m expr s.session.current k n w.0 w.1)
 
-alone_step : (s : Scene) (n : ℕ) → Stands s → IsWorking s.session.levels → Stands (context_cleared_alone n s).scene
+pub alone_step : (s : Scene) (n : ℕ) → Stands s → IsWorking s.session.levels → Stands (context_cleared_alone n s).scene
 alone_step s n h working =
     let t : Contexts = s.session.contexts in
     let next : ℕ = s.session.next_context in
     ended_step s h working (ends.cleared_alone n t) (contexts_alone t next h.contexts n) (stay_alone t next h.contexts n)
     (has_alone t next h.contexts s.session.current n ∙ h.current)
     (hooks_ended t (ends.cleared_alone n t) s.around.shelf (conserves_alone n t h.contexts.once) h.hooks)
+    (λ m k. lone_alone m n t k.lone)
+    (λ m expr k. row_alone t h.contexts.once n m expr s.session.current k)
 
 cleared_step : (s : Scene) (n : ℕ) → Stands s → IsWorking s.session.levels → is_protected n s.session.contexts ≡ false → is_above n s.session.current s.session.contexts ≡ false → Stands (context_cleared n s).scene
 cleared_step s n h working free out =
@@ -171,15 +295,26 @@ cleared_step s n h working free out =
     (stay_on t u (ends.cleared_alone n u).contexts (stay_children_gone t next h.contexts n free) (stay_alone u next c n))
     (has_alone u next c s.session.current n ∙ has_emptied s.session.current n t h.contexts.once out ∙ h.current)
     (hooks_ended t (ends.cleared n t) s.around.shelf (conserves_cleared n t h.contexts.once) h.hooks)
+    (λ m k. lone_alone m n u (lone_emptied m n t h.contexts.once (apart t next h.contexts m n free k.protected).1 k.lone))
+    (λ m expr k.
+    let w = apart t next h.contexts m n free k.protected in
+    row_alone u c.once n m expr s.session.current
+    (place_same m expr t u s.session.current (stay_children_gone t next h.contexts n free m k.protected) (row_emptied t h.contexts.once m expr s.session.current k n w.0 w.1) k))
 
 moved_step : (s : Scene) (n p : ℕ) → Stands s → IsWorking s.session.levels → has n s.session.contexts ≡ true → has p s.session.contexts ≡ true → is_protected n s.session.contexts ≡ false → is_within n p s.session.contexts ≡ false
-    → Stands (context_moved n p s).scene
-moved_step s n p h working node there free out =
+    → ((m : ℕ) → IsCached m s.session.contexts → p ≢ m) → ((m : ℕ) (expr : Option ℕ) → IsPlace m expr s.session.contexts s.session.current → IsPlace m expr s.session.contexts p) → Stands (context_moved n p s).scene
+moved_step s n p h working node there free out other named =
     let t : Contexts = s.session.contexts in
     let next : ℕ = s.session.next_context in
-    contexts_step s h working (reparented n p t) next s.session.current s.around.shelf (contexts_reparented t next h.contexts n p node there free out)
-    (stay_reparented t next h.contexts n p node there free out) (has_reparented t next h.contexts s.session.current n p node there out h.current)
+    let stay : Stay t (reparented n p t) = stay_reparented t next h.contexts n p node there free out in
+    contexts_step s h working (reparented n p t) next s.session.current s.around.shelf s.session.plans (contexts_reparented t next h.contexts n p node there free out)
+    stay (has_reparented t next h.contexts s.session.current n p node there out h.current)
     (hooks_reparented n p t s.around.shelf h.contexts.once node there out h.hooks)
+    (still_planned s (reparented n p t) h stay (λ m k.
+    let w = apart t next h.contexts m n free k.protected in lone_reparented m n p t h.contexts.once (moves_by t next h.contexts n p node there out) (λ z. other m k (sym z)) w.0 w.1 k.lone))
+    (still_portals s (reparented n p t) h stay (λ m expr k.
+    let w = apart t next h.contexts m n free k.protected in
+    row_reparented m expr n p t next s.session.current h.contexts (moves_by t next h.contexts n p node there out) w.0 w.1 free (named m expr k) k))
 
 -- a hook waits
 waits_step : (s : Scene) (n : ℕ) (hook : Hook) → Stands s → IsWorking s.session.levels → has n s.session.contexts ≡ true → first_of s.around.shelf.fresh ≡ Some hook → Stands (hook_waits n hook s).scene
@@ -188,11 +323,13 @@ waits_step s n hook h working there first =
     let next : ℕ = s.session.next_context in
     let f : Context → Context = λ c. record c { used = true; hooks = hook ∷ c.hooks } in
     let a = at_some n t there in
-    contexts_step s h working (registered n hook t) next s.session.current (taken s.around.shelf)
+    contexts_step s h working (registered n hook t) next s.session.current (taken s.around.shelf) s.session.plans
     (contexts_changed t next h.contexts n f (λ c. refl) (λ c _ e. absurd (cc e)))
     (stay_changed t next h.contexts n f (λ c. refl))
     (has_changed s.session.current n f t ∙ h.current)
     (hooks_taken n f hook a.0 t s.around.shelf h.contexts.once a.1 refl first h.hooks)
+    (still_planned s (registered n hook t) h (stay_changed t next h.contexts n f (λ c. refl)) (λ m k. lone_changed m n f t k.lone))
+    (still_portals s (registered n hook t) h (stay_changed t next h.contexts n f (λ c. refl)) (λ m expr k. row_changed t h.contexts.once m expr s.session.current k n f (λ c. refl)))
 
 -- Each element on contexts of a name, behind its checks.
 module _ (w : Option ℕ) (moment : Moment) (h : Stands moment.scene) (working : IsWorking moment.scene.session.levels) where
@@ -201,8 +338,11 @@ module _ (w : Option ℕ) (moment : Moment) (h : Stands moment.scene) (working :
   switch_works name =
       at_name (Works moment.scene) (context_named name moment.scene.session) switched moment.scene (nothing_works moment.scene h)
       (λ n e. record {
-        stands = contexts_step moment.scene h working moment.scene.session.contexts moment.scene.session.next_context n moment.scene.around.shelf h.contexts (stay_same moment.scene.session.contexts)
-            (named_there name moment.scene n h e) h.hooks;
+        stands = contexts_step moment.scene h working moment.scene.session.contexts moment.scene.session.next_context n moment.scene.around.shelf moment.scene.session.plans h.contexts (stay_same moment.scene.session.contexts)
+            (named_there name moment.scene n h e) h.hooks
+            (plans_current moment.scene.session.plans moment.scene.session.contexts moment.scene.session.current n (referred moment.scene.session.owners) (named_other name moment.scene n h e) h.plans)
+            (portals_moved moment.scene.session.portals moment.scene.session.levels moment.scene.session.contexts moment.scene.session.contexts moment.scene.session.owners moment.scene.session.current n
+            (λ m expr k. named_place name moment.scene n h e m expr k) h.portals);
         levels = refl;
       })
 
@@ -249,7 +389,7 @@ module _ (w : Option ℕ) (moment : Moment) (h : Stands moment.scene) (working :
       ap (option_and_then (λ (m : ℕ). set_parent_refusal n m moment.scene.session.contexts)) (sym q)
       ∙ checked name moment.scene.session (λ m. option_and_then (λ k. set_parent_refusal m k moment.scene.session.contexts) (context_named parent moment.scene.session)) n e ok in
       let b = both_none (is_protected n moment.scene.session.contexts) (is_within n p moment.scene.session.contexts) Protected Cycle may in
-      record { stands = moved_step moment.scene n p h working (named_there name moment.scene n h e) (named_there parent moment.scene p h q) b.0 b.1; levels = refl }))
+      record { stands = moved_step moment.scene n p h working (named_there name moment.scene n h e) (named_there parent moment.scene p h q) b.0 b.1 (named_other parent moment.scene p h q) (named_place parent moment.scene p h q); levels = refl }))
 
   pub make_script_context_works : (name parent : Text) (kind : CtxKind) → Works moment.scene (does w (element.MakeContext (element.ScriptContext name parent kind)) moment).moment.scene
   unfolding does
@@ -261,11 +401,18 @@ module _ (w : Option ℕ) (moment : Moment) (h : Stands moment.scene) (working :
       let next : ℕ = moment.scene.session.next_context in
       let there : has p t ≡ true = named_there parent moment.scene p h e in
       record {
-        stands = contexts_step moment.scene h working (created p next name kind false t) (next + 1) moment.scene.session.current moment.scene.around.shelf
+        stands = contexts_step moment.scene h working (created p next name kind false t) (next + 1) moment.scene.session.current moment.scene.around.shelf moment.scene.session.plans
             (contexts_created t next h.contexts p name kind false there (λ z. absurd (cc z)))
             (stay_created t next h.contexts p name kind false)
             (has_created t next h.contexts moment.scene.session.current p name kind false h.current)
-            (hooks_put p next (new_context name kind false) t moment.scene.around.shelf h.contexts.once there refl h.hooks);
+            (hooks_put p next (new_context name kind false) t moment.scene.around.shelf h.contexts.once there refl h.hooks)
+            (still_planned moment.scene (created p next name kind false t) h (stay_created t next h.contexts p name kind false)
+            (λ m k. lone_put m p next (new_context name kind false) Empty t (λ z. named_other parent moment.scene p h e m k (sym z)) (λ z. omega (arith, z, h.contexts.below m (protected_has m t k.protected))) refl k.lone))
+            (still_portals moment.scene (created p next name kind false t) h (stay_created t next h.contexts p name kind false)
+            (λ m expr k.
+            let other : IsPlace m expr t p = named_place parent moment.scene p h e m expr k in
+            row_put t h.contexts.once m expr moment.scene.session.current k p next (new_context name kind false) Empty (λ z. other.other (sym z)) (λ z. omega (arith, z, h.contexts.below m (protected_has m t k.protected))) refl
+            (λ e q z. other.apart (q ∙ ap Some z))));
         levels = refl;
       }))
 

@@ -1,7 +1,8 @@
 -- A session that opens stands.
-use Rattle.std.proofs.Common.{◌≡◌, ℕ, zero, suc, ◌≤◌, ◌<◌, true, refl, arith}
+use Rattle.std.proofs.Common.{◌≡◌, ℕ, zero, suc, ◌≤◌, ◌<◌, true, [], refl, arith}
 use Rattle.std.proofs.lemmas.Bool.Decides.{nat_tests}
-use Rattle.forest.specs.Forest.{Once, has}
+use Rattle.std.proofs.lemmas.List.Elements.{All-nil}
+use Rattle.forest.specs.Forest.{Empty, Once, has}
 use Rattle.reset_callbacks.specs.Hook.{AreDistinct}
 use Rattle.reset_callbacks.specs.ShelfState as shelf
 use Rattle.context_rules.specs.Opening as contexts
@@ -9,7 +10,7 @@ use Rattle.owner_kinds.specs.KindTable.{IsSound}
 use Rattle.owner_kinds.specs.KindShelf.{table_of}
 use Rattle.session_rules.specs.State.{abort_context, opening}
 use Rattle.session_rules.specs.World.{Around}
-use Rattle.session_rules.specs.Standing.{AreContexts, IsOfSession, StandsBetweenLines}
+use Rattle.session_rules.specs.Standing.{AreContexts, IsOfSession, IsPlan, IsPortal, StandsBetweenLines}
 
 first_once : Once contexts.opening
 first_once = record { once = λ n. grind (arith, nat_tests) }
@@ -62,9 +63,9 @@ opening_stands around differ sound = record {
       items = tt;
     };
     kinds = sound;
-    portals = refl;
-    plans = refl;
-    snapshots = refl;
+    portals = record { each = All-nil (λ p. IsPortal p [] contexts.opening Empty 1); different = tt };
+    plans = record { each = All-nil (λ plan. IsPlan plan contexts.opening 1); apart = tt; counted = λ n. refl };
+    snapshots = tt;
   };
   open_levels = tt;
 }

@@ -1,14 +1,16 @@
 -- The steps of commands lead from a session that stands to one that stands.
-use Rattle.std.proofs.Common.{◌≡◌, ◌≢◌, ℕ, ◌+◌, ◌<◌, Bool, true, false, Option, Some, None, List, [], ◌∷◌, refl, sym, ap, ◌∙◌, subst, inl, inr, arith}
-use Rattle.std.specs.Prelude.{◌==◌, nat_le, if◌then◌else◌, Result, Ok, Err}
+use Rattle.std.proofs.Common.{◌≡◌, ◌≢◌, ℕ, ◌+◌, ◌-◌, ◌<◌, ◌≤◌, ◌⊎◌, ◌++◌, length, Bool, true, false, Option, Some, None, List, [], ◌∷◌, refl, sym, ap, ◌∙◌, subst, inl, inr, arith}
+use Rattle.std.specs.Prelude.{◌==◌, take, nat_le, if◌then◌else◌, Result, Ok, Err}
 use Rattle.std.specs.Option.{option_map_or}
 use Rattle.std.proofs.lemmas.Bool.{cases_eq, cases_Bool, cases_lt, eq-eqb, ne_eqb, both_ways, le-ltb, leb-false}
-use Rattle.std.proofs.lemmas.List.Elements.{All-nil}
+use Rattle.std.proofs.lemmas.List.Elements.{All-nil, All-weaker}
 use Rattle.forest.specs.Forest.{Empty, has, Once, at, children, parent_of, put, changed, size, AllNodes}
 use Rattle.forest.proofs.Trees.{has_at, times_some, has_changed}
 use Rattle.forest.proofs.Neighbours.{parent_absent}
 use Rattle.pgs_step.specs.declared.errors.Error.{Error}
 use Rattle.pgs_step.specs.declared.events.What.{What}
+use Rattle.pgs_step.specs.declared.events.What.TheVariants as what
+use Rattle.snap_table.specs.declared.active.Active.{Active}
 use Rattle.chunk_header.specs.declared.CtxError.{CtxError}
 use Rattle.chunk_header.specs.Answers.{Taken, Resized}
 use Rattle.reset_callbacks.specs.ShelfState.{ShelfState, taken}
@@ -17,13 +19,13 @@ use Rattle.any_ctx.specs.declared.any.CtxKind.TheVariants as kind
 use Rattle.context_rules.specs.Contexts as rules
 use Rattle.context_rules.specs.Contexts.{Chunk, Context, Contexts, Found, created, found, is_protected, new_context}
 use Rattle.context_rules.specs.Chunks.{allocated, freed, freed_in, from_ok, refitted, resized, resized_in, served, with_changed, with_chunk, with_size, without, written, written_over, zeros}
-use Rattle.owner_kinds.specs.KindTable.{KindTable}
+use Rattle.owner_kinds.specs.KindTable.{KindTable, IsSound as IsSoundTable}
 use Rattle.owner_kinds.specs.KindShelf.{table_of}
 use Rattle.owner_core.specs.Owners.{Owner, OwnerTree, has_begun, items_of}
 use Rattle.owner_core.specs.Owners as owners
 use Rattle.owner_core.specs.Sound.{IsSound, one_below}
 use Rattle.owner_core.proofs.Sounds.{once_of, fresh, sound_created}
-use Rattle.session_rules.specs.State.{LevelState, deepest_changed, first_of, owner_of, top_context}
+use Rattle.session_rules.specs.State.{LevelState, OpenPortal, StandingPlan, deepest_changed, first_of, last_of, owner_of, plan_reference, top_context}
 use Rattle.session_rules.specs.World.{Scene, Moment}
 use Rattle.session_rules.specs.Elements as element
 use Rattle.session_rules.specs.Elements.{Check, InCurrent, LevelContext, OfLevel, Text}
@@ -31,16 +33,22 @@ use Rattle.session_rules.specs.Lookup.{memory_in}
 use Rattle.session_rules.specs.Checks.{failure}
 use Rattle.session_rules.specs.Ends.{aborted, cleaned_up, committed, subcommitted}
 use Rattle.session_rules.specs.Does.{does}
-use Rattle.session_rules.specs.Acts.{Ended, changes, in_order, nothing, switched, where_there}
+use Rattle.session_rules.specs.Acts.{Ended, changes, in_order, nothing, say, switched, where_there}
 use Rattle.session_rules.specs.Making.{held, left, level_context_name, level_made, level_parent, limit, new_context_made, new_owner_made}
-use Rattle.session_rules.specs.Taking.{chunk_resized, memory_taken}
+use Rattle.session_rules.specs.Taking.{chunk_resized, memory_taken, snapshot_pushed}
 use Rattle.session_rules.specs.Parts.{level_stands}
 use Rattle.session_rules.specs.Calls.{fallible, is_call, refused_call, unless_refused}
-use Rattle.session_rules.specs.Standing.{AreContexts, AreHooks, AreLevels, AreOuter, FitLevels, HasItems, IsActive, IsContextOf, IsDeepest, IsFresh, IsItem, IsMade, IsOpen, IsOwnerOf, IsReleased, Stands, WasReleased}
+use Rattle.session_rules.specs.Standing.{AreContexts, AreHooks, AreLevels, AreOuter, AreOwners, ArePlans, ArePortals, AreStacked, FitLevels, HasItems, IsActive, IsContextOf, IsDead, IsDeepest, IsFresh, IsItem, IsLive, IsMade, IsOpen, IsOwner, IsOwnerOf, IsPlace, IsPlan, IsPortal, IsReleased, IsRow, Stands, WasReleased, active_depth, owner_at, referred}
 use Rattle.session_rules.proofs.Forests.{at_put, at_put_other, children_put, has_put_other, parent_put, parent_put_other}
 use Rattle.session_rules.proofs.Guarded.{all_put}
 use Rattle.session_rules.proofs.ContextsKept.{Stay, contexts_changed, contexts_created, has_created, new_empty, new_parent, new_protected, protected_has, stay_changed, stay_created, stay_same, top_protected}
 use Rattle.session_rules.proofs.HooksKept.{hooks_changed, hooks_put}
+use Rattle.session_rules.proofs.Stacked.{depth_small, depth_working, stacked_pushed, stacked_taken, stacked_within}
+use Rattle.session_rules.proofs.Lone.{lone_changed, lone_put}
+use Rattle.session_rules.proofs.HeldItems.{held_created}
+use Rattle.session_rules.proofs.Settling.{Besides, Fits, Spares, besides_of, with_besides}
+use Rattle.session_rules.proofs.PlansAmong.{IsCached, levels_apart, levels_other, parent_apart, plans_counted, plans_current, plans_moved}
+use Rattle.session_rules.proofs.PortalsAmong.{IsRowOf, attached_by, off_parent, place_level, place_same, place_spared, portals_by, portals_moved, row_changed, row_of, row_parent_off, row_put}
 use Rattle.session_rules.proofs.LevelsKept.{is_there, levels_stay, no_value, one_value}
 use Rattle.session_rules.proofs.EndsStand.{Leaves, aborted_stands, cleaned_up_stands, committed_stands, is_settled, settled, subcommitted_stands}
 
@@ -97,10 +105,11 @@ pub not_released : (levels : List LevelState) (n : ℕ) (x : OwnerTree) → IsWo
 not_released [] n x h r = r
 not_released (level ∷ levels) n x h r = both_ways level.aborted h.unaborted r.aborted
 
--- The contexts of a session change, the protected ones stay, and the current one is another one.
-pub contexts_step : (s : Scene) → Stands s → IsWorking s.session.levels → (u : Contexts) (next current : ℕ) (x : ShelfState) → AreContexts u next → Stay s.session.contexts u → has current u ≡ true → AreHooks u x
-    → Stands (record s { session = record s.session { contexts = u; next_context = next; current = current }; around = record s.around { shelf = x } })
-contexts_step s h working u next current x c stay there hooks = record {
+-- The contexts of a session change, the protected ones stay, and the current one and the plans are other ones.
+pub contexts_step : (s : Scene) → Stands s → IsWorking s.session.levels → (u : Contexts) (next current : ℕ) (x : ShelfState) (plans : List StandingPlan) → AreContexts u next → Stay s.session.contexts u → has current u ≡ true → AreHooks u x
+    → ArePlans plans u current (referred s.session.owners) → ArePortals s.session.portals s.session.levels u s.session.owners current
+    → Stands (record s { session = record s.session { contexts = u; next_context = next; current = current; plans = plans }; around = record s.around { shelf = x } })
+contexts_step s h working u next current x plans c stay there hooks planned open_portals = record {
   contexts = c;
   current = there;
   hooks = hooks;
@@ -109,20 +118,80 @@ contexts_step s h working u next current x c stay there hooks = record {
   fit = fit_working s.session.levels s.session.contexts u s.session.owners s.session.owners s.session.current current working h.fit;
   owners = h.owners;
   kinds = h.kinds;
-  portals = h.portals;
-  plans = h.plans;
+  portals = open_portals;
+  plans = planned;
   snapshots = h.snapshots;
 }
+
+-- the plans where no plan's context gets a child
+pub still_planned : (s : Scene) (u : Contexts) → Stands s → Stay s.session.contexts u → ((m : ℕ) → IsCached m s.session.contexts → children m u ≡ Empty) → ArePlans s.session.plans u s.session.current (referred s.session.owners)
+still_planned s u h stay lone =
+    plans_moved s.session.plans s.session.contexts u s.session.current (referred s.session.owners) (λ m k. (stay m k.protected, lone m k)) h.plans
+
+-- the portals where each row is as it was
+pub still_portals : (s : Scene) (u : Contexts) → Stands s → Stay s.session.contexts u → ((n : ℕ) (expr : Option ℕ) → IsPlace n expr s.session.contexts s.session.current → IsRow expr (children n u))
+    → ArePortals s.session.portals s.session.levels u s.session.owners s.session.current
+still_portals s u h stay rows =
+    portals_moved s.session.portals s.session.levels s.session.contexts u s.session.owners s.session.current s.session.current
+    (λ n expr i. place_same n expr s.session.contexts u s.session.current (stay n i.protected) (rows n expr i) i) h.portals
+
+-- Plans, their contexts and tables change.
+pub besides_step : (s : Scene) (x : Besides) → Stands s → IsWorking s.session.levels → table_of x.kinds ≡ table_of s.around.kinds → Fits s.session.next_context s.session.current (referred s.session.owners) x → Spares (besides_of s) x
+    → Stands (with_besides x s)
+besides_step s x h working same fits spares = record {
+  contexts = fits.contexts;
+  current = spares.there s.session.current (All-weaker (λ plan. IsPlan plan s.session.contexts s.session.current) (λ plan. s.session.current ≢ plan.context) (λ plan i. i.other) s.session.plans h.plans.each) h.current;
+  hooks = fits.hooks;
+  levels = levels_stay s.session.levels s.session.contexts x.contexts s.session.owners s.session.owners
+      (λ m i prot. spares.same m (levels_apart s.session.levels s.session.contexts s.session.owners s.session.plans s.session.current h.levels h.plans.each m i) prot)
+      (λ m i there. record { there = there; parent = refl }) h.levels;
+  fit = fit_working s.session.levels s.session.contexts x.contexts s.session.owners s.session.owners s.session.current s.session.current working h.fit;
+  owners = subst (λ (kinds : KindTable). AreOwners kinds s.session.owners s.session.next_owner s.session.next_serial s.session.levels s.session.portals) (sym same) h.owners;
+  kinds = subst (λ (kinds : KindTable). IsSoundTable kinds) (sym same) h.kinds;
+  portals = portals_moved s.session.portals s.session.levels s.session.contexts x.contexts s.session.owners s.session.current s.session.current
+      (λ n expr i. place_spared (besides_of s) x s.session.current spares h.plans.each n expr s.session.current i) h.portals;
+  plans = fits.plans;
+  snapshots = h.snapshots;
+}
+
+-- The stack of active snapshots changes.
+stack_works : (s : Scene) (stack : List Active) → Stands s → AreStacked 1 (active_depth s.session.levels) stack → Works s (record s { session = record s.session { snapshots = stack } })
+stack_works s stack h stacked = record {
+  stands = record {
+    contexts = h.contexts;
+    current = h.current;
+    hooks = h.hooks;
+    levels = h.levels;
+    fit = h.fit;
+    owners = h.owners;
+    kinds = h.kinds;
+    portals = h.portals;
+    plans = h.plans;
+    snapshots = stacked;
+  };
+  levels = refl;
+}
+
+-- a snapshot is pushed in a level
+push_stacked : (levels : List LevelState) (snapshot : ℕ) (stack : List Active) → IsWorking levels → AreStacked 1 (active_depth levels) stack
+    → AreStacked 1 (active_depth levels) (stack ++ (record { snapshot = snapshot; level = length levels } ∷ []))
+push_stacked [] snapshot stack working h = absurd working
+push_stacked (level ∷ levels) snapshot stack working h =
+    let most : ℕ = active_depth (level ∷ levels) in
+    let is : most ≡ length (level ∷ levels) = depth_working level levels working ∙ omega arith in
+    subst (λ (n : ℕ). AreStacked 1 most (stack ++ (record { snapshot = snapshot; level = n } ∷ []))) is (stacked_pushed 1 most snapshot stack (omega (arith, is)) h)
 
 -- a change of the contexts alone
 pub record KeepsContexts (t u : Contexts) (next : ℕ) : Type 0 where
   pub contexts : AreContexts u next
   pub stay : Stay t u
   pub there : (m : ℕ) → has m t ≡ true → has m u ≡ true
+  pub lone : (m : ℕ) → children m t ≡ Empty → children m u ≡ Empty
+  pub rows : (n : ℕ) (expr : Option ℕ) (current : ℕ) → IsPlace n expr t current → IsRow expr (children n u)
   pub hooks : (x : ShelfState) → AreHooks t x → AreHooks u x
 
 keeps_same : (t : Contexts) (next : ℕ) → AreContexts t next → KeepsContexts t t next
-keeps_same t next h = record { contexts = h; stay = stay_same t; there = λ m y. y; hooks = λ x k. k }
+keeps_same t next h = record { contexts = h; stay = stay_same t; there = λ m y. y; lone = λ m e. e; rows = λ n expr current i. i.row; hooks = λ x k. k }
 
 keeps_changed : (t : Contexts) (next n : ℕ) (f : Context → Context) → AreContexts t next → ((c : Context) → (f c).protected ≡ c.protected) → ((c : Context) → (f c).hooks ≡ c.hooks) → ((c : Context) → IsFresh c → IsFresh (f c))
     → KeepsContexts t (changed n f t) next
@@ -130,13 +199,16 @@ keeps_changed t next n f h own hooks fresh = record {
   contexts = contexts_changed t next h n f own fresh;
   stay = stay_changed t next h n f own;
   there = λ m y. has_changed m n f t ∙ y;
+  lone = λ m e. lone_changed m n f t e;
+  rows = λ k expr current i. row_changed t h.once k expr current i n f own;
   hooks = λ x k. hooks_changed n f t x hooks k;
 }
 
 pub kept_step : (s : Scene) → Stands s → IsWorking s.session.levels → (u : Contexts) → KeepsContexts s.session.contexts u s.session.next_context
     → Stands (record s { session = record s.session { contexts = u } })
 kept_step s h working u k =
-    contexts_step s h working u s.session.next_context s.session.current s.around.shelf k.contexts k.stay (k.there s.session.current h.current) (k.hooks s.around.shelf h.hooks)
+    contexts_step s h working u s.session.next_context s.session.current s.around.shelf s.session.plans k.contexts k.stay (k.there s.session.current h.current) (k.hooks s.around.shelf h.hooks)
+    (still_planned s u h k.stay (λ m c. k.lone m c.lone)) (still_portals s u h k.stay (λ n expr i. k.rows n expr s.session.current i))
 
 -- chunks
 pub keeps_allocated : (t : Contexts) (next n left : ℕ) (name : Option (List ℕ)) (bytes : ℕ) (known : List ℕ) → AreContexts t next → KeepsContexts t (allocated n left name bytes known t) next
@@ -188,9 +260,50 @@ keeps_written t next name place bytes h = go (found name t)
         keeps_changed t next f.context (λ c. record c { chunks = with_changed name (λ chunk. record chunk { known = written_over place bytes chunk.known }) c.chunks }) h (λ c. refl) (λ c. refl)
         (λ c fresh. fresh_chunks c (λ chunks. with_changed name (λ chunk. record chunk { known = written_over place bytes chunk.known }) chunks) c.ledger refl fresh)
 
+-- where a level is being started, the stack is that of the levels above it
+stacked_above_it : (levels : List LevelState) (stack : List Active) → AreStacked 1 (active_depth levels) stack → AreStacked 1 (length levels) stack
+stacked_above_it levels stack h = stacked_within 1 (length levels) 1 (active_depth levels) stack (omega arith) (depth_small levels) h
+
+-- no portal is one of an aborted level where none is
+not_dead : (p : OpenPortal) (levels : List LevelState) → AreOuter levels → IsDead p levels → ⊥
+not_dead p [] outer d = let z : false ≡ true = d.aborted in absurd (cc z)
+not_dead p (level ∷ levels) outer d = both_ways level.aborted outer.0.unaborted d.aborted
+
+-- a portal stays where a level is pushed
+pushed_portal : (new : LevelState) (levels : List LevelState) (t : Contexts) (x : OwnerTree) (current : ℕ) (p : OpenPortal) → new.starting ≡ true → new.owner ≡ None → AreOuter levels → IsPortal p levels t x current → IsPortal p (new ∷ levels) t x current
+pushed_portal new levels t x current p starting none outer i =
+    elim i.stage [
+      | inl l ↦
+          let deep : p.active ≤ length levels = omega (arith, l.active, depth_small levels) in
+          let below : p.created ≤ length levels = omega (arith, l.within, deep) in
+          record {
+            place = i.place;
+            made = i.made;
+            owner = λ n e.
+                attached_by n p.created levels (new ∷ levels) x x (λ u. u) refl (λ u. u) (rw (ne_eqb (length levels + 1) p.created (λ z. omega (arith, z, below))) refl)
+                (λ j. elim j [ inl q ↦ absurd (no_value new.owner n none q) | inr k ↦ k ]) (i.owner n e);
+            stage = inl (record { some = l.some; within = l.within; active = rw starting deep });
+          }
+      | inr d ↦ absurd (not_dead p levels outer d)
+    ]
+
+-- a portal where the deepest level changes and keeps its owner
+same_portal : (old new : LevelState) (levels : List LevelState) (t u : Contexts) (x : OwnerTree) (a b : ℕ) (p : OpenPortal) → new.owner ≡ old.owner → (IsLive p (old ∷ levels) → IsLive p (new ∷ levels)) → new.aborted ≡ old.aborted
+    → ((n : ℕ) (expr : Option ℕ) → IsPlace n expr t a → IsPlace n expr u b) → IsPortal p (old ∷ levels) t x a → IsPortal p (new ∷ levels) u x b
+same_portal old new levels t u x a b p same live aborted stay i = record {
+  place = λ n e. stay n p.expr (i.place n e);
+  made = i.made;
+  owner = λ n e. attached_by n p.created (old ∷ levels) (new ∷ levels) x x (λ u. u) refl (λ u. u) (at (length levels + 1 == p.created)) (λ j. elim j [ inl q ↦ inl (sym same ∙ q) | inr k ↦ inr k ]) (i.owner n e);
+  stage = elim i.stage [ inl l ↦ inl (live l) | inr d ↦ inr (record { aborted = aborted ∙ d.aborted; created = d.created; within = d.within; active = d.active; failed = d.failed; owner = d.owner; expr = d.expr }) ];
+}
+  where
+    at : (b : Bool) → (if b then new.owner else owner_at p.created levels) ≡ (if b then old.owner else owner_at p.created levels)
+    at true = same
+    at false = refl
+
 -- A level is pushed.
 pub level_made_stands : (name : Option Text) (implicit : Bool) (s : Scene) → Stands s → AreOuter s.session.levels → (implicit ≡ true → s.session.levels ≡ []) → Stands (level_made name implicit s).scene
-level_made_stands name implicit s h outer alone = record {
+level_made_stands name implicit s h outer alone = let new : LevelState = record { name = name; context = None; owner = None; implicit = implicit; aborted = false; starting = true } in record {
   contexts = h.contexts;
   current = h.current;
   hooks = h.hooks;
@@ -216,14 +329,18 @@ level_made_stands name implicit s h outer alone = record {
   );
   owners = record {
     sound = h.owners.sound;
-    each = λ n u. elim (h.owners.each n u) [ inl i ↦ inl (inr i) | inr r ↦ absurd (not_released_outer s.session.levels n s.session.owners outer r) ];
+    each = λ n u. elim (h.owners.each n u) [
+      | inl i ↦ inl (inr i)
+      | inr k ↦ elim k [ inl p ↦ inr (inl p) | inr r ↦ absurd (not_released_outer s.session.levels n s.session.owners outer r) ]
+    ];
     begun = λ n u. absurd (not_released_outer s.session.levels n s.session.owners outer (h.owners.begun n u));
     items = h.owners.items;
   };
   kinds = h.kinds;
-  portals = h.portals;
+  portals = portals_by s.session.portals s.session.levels (new ∷ s.session.levels) s.session.contexts s.session.contexts s.session.owners s.session.owners s.session.current s.session.current
+      (λ p i. pushed_portal new s.session.levels s.session.contexts s.session.owners s.session.current p refl refl outer i) h.portals;
   plans = h.plans;
-  snapshots = h.snapshots;
+  snapshots = stacked_above_it s.session.levels s.session.snapshots h.snapshots;
 }
 
 -- the parent of a new context of a level is there, and protected
@@ -283,15 +400,26 @@ level_context_stands level levels s starting none h =
         sound = h.owners.sound;
         each = λ n u. elim (h.owners.each n u) [
           | inl i ↦ inl i
-          | inr r ↦ inr (record { aborted = r.aborted; owner = r.owner; is = r.is; within = r.within })
+          | inr k ↦ inr (elim k [ inl p ↦ inl p | inr r ↦ inr (record { aborted = r.aborted; owner = r.owner; is = r.is; within = r.within }) ])
         ];
         begun = λ n u. let r : IsReleased level n x = h.owners.begun n u in record { aborted = r.aborted; owner = r.owner; is = r.is; within = r.within };
         items = h.owners.items;
       };
       kinds = h.kinds;
-      portals = refl;
-      plans = refl;
-      snapshots = refl;
+      portals = portals_by s.session.portals (level ∷ levels) (record level { context = Some next } ∷ levels) t u x x s.session.current s.session.current
+          (λ q i. same_portal level (record level { context = Some next }) levels t u x s.session.current s.session.current q refl (λ l. record { some = l.some; within = l.within; active = l.active }) refl
+          (λ n expr k. place_same n expr t u s.session.current (stay n k.protected)
+          (row_put t c.once n expr s.session.current k p next (new_context name kind.Default true) Empty
+          (λ z. off_parent levels t x h.levels.1 outer n k.parent k.own (sym z)) (λ z. omega (arith, z, c.below n (protected_has n t k.protected))) refl
+          (λ e q z.
+          let r : IsRowOf e n t = row_of e n t s.session.current c.once (subst (λ (o : Option ℕ). IsPlace n o t s.session.current) q k) in
+          row_parent_off levels t x next c h.levels.1 e n k.own k.parent r.parent (sym z))) k) i) h.portals;
+      plans = plans_moved s.session.plans t u s.session.current (referred x)
+          (λ m k. (
+            stay m k.protected,
+            lone_put m p next (new_context name kind.Default true) Empty t (λ z. parent_apart levels t x h.levels.1 outer m k (sym z)) (λ z. omega (arith, z, c.below m (protected_has m t k.protected))) refl k.lone,
+          )) h.plans;
+      snapshots = h.snapshots;
     }
 
 -- numbers of owners are below the next one
@@ -314,9 +442,10 @@ pub record IsNewOwner (o : Option ℕ) (n : ℕ) (x y : OwnerTree) : Type 0 wher
   pub others : (m : ℕ) → m ≢ n → at m y ≡ at m x
   pub had : (m : ℕ) → m ≢ n → has m y ≡ has m x
   pub parents : (m : ℕ) → m ≢ n → parent_of m y ≡ parent_of m x
+  pub lone : (m : ℕ) → m ≢ n → ((p : ℕ) → o ≡ Some p → m ≢ p) → children m x ≡ Empty → children m y ≡ Empty
   pub items : (kinds : KindTable) → AllNodes (HasItems kinds) x → AllNodes (HasItems kinds) y
 
-new_owner_is : (o : Option ℕ) (n : ℕ) (x : OwnerTree) → Once x → has n x ≡ false → ((p : ℕ) → o ≡ Some p → has p x ≡ true) → IsNewOwner o n x (owners.created o n x)
+pub new_owner_is : (o : Option ℕ) (n : ℕ) (x : OwnerTree) → Once x → has n x ≡ false → ((p : ℕ) → o ≡ Some p → has p x ≡ true) → IsNewOwner o n x (owners.created o n x)
 new_owner_is None n x once new there = record {
   there = rw (eq-eqb n n refl) refl;
   parent = parent_absent n x new;
@@ -325,6 +454,7 @@ new_owner_is None n x once new there = record {
   others = λ m ne. rw (ne_eqb n m (λ e. ne (sym e))) refl;
   had = λ m ne. rw (ne_eqb n m (λ e. ne (sym e))) refl;
   parents = λ m ne. refl;
+  lone = λ m ne off e. rw (ne_eqb n m (λ z. ne (sym z))) e;
   items = λ kinds h. (All-nil (IsItem kinds), tt, h);
 }
 new_owner_is (Some p) n x once new there =
@@ -337,8 +467,20 @@ new_owner_is (Some p) n x once new there =
       others = λ m ne. at_put_other m p n new_owner Empty x ne refl;
       had = λ m ne. has_put_other m p n new_owner Empty x ne refl;
       parents = λ m ne. parent_put_other m p n new_owner Empty x ne refl;
+      lone = λ m ne off e. lone_put m p n new_owner Empty x (off p refl) ne refl e;
       items = λ kinds h. all_put (HasItems kinds) p n new_owner Empty x (All-nil (IsItem kinds)) tt h;
     }
+
+-- a portal isn't one of a level that is being started
+created_below : (level : LevelState) (levels : List LevelState) → level.starting ≡ true → (level.aborted ≡ true → IsOpen level) → (p : OpenPortal) → IsLive p (level ∷ levels) ⊎ IsDead p (level ∷ levels) → p.created ≤ length levels
+created_below level levels starting gone p s = elim s [
+  | inl l ↦ let deep : active_depth (level ∷ levels) ≡ length levels = rw starting refl in omega (arith, l.within, l.active, deep)
+  | inr d ↦ absurd (both_ways level.starting (gone d.aborted).started starting)
+]
+
+first_is : (levels : List LevelState) (p : ℕ) → owner_of (first_of levels) ≡ Some p → IsOwner p levels
+first_is [] p e = absurd (no_value None p refl e)
+first_is (level ∷ levels) p e = inl e
 
 -- The owner of a level that is being started is made.
 pub level_owner_stands : (level : LevelState) (levels : List LevelState) (s : Scene) → level.starting ≡ true → level.owner ≡ None → size s.session.owners < 65536 → Stands (settled (level ∷ levels) s)
@@ -393,7 +535,7 @@ level_owner_stands level levels s starting none few h =
           | inl e ↦ inl (inl (ap Some (sym e)))
           | inr ne ↦ elim (h.owners.each m (sym (new.had m ne) ∙ u)) [
             | inl i ↦ elim i [ inl q ↦ absurd (no_value level.owner m none q) | inr j ↦ inl (inr j) ]
-            | inr r ↦ absurd (no_value level.owner r.owner none r.is)
+            | inr k ↦ elim k [ inl p ↦ inr (inl p) | inr r ↦ absurd (no_value level.owner r.owner none r.is) ]
           ]
         ];
         begun = λ m u. elim (cases_eq m n) [
@@ -409,9 +551,24 @@ level_owner_stands level levels s starting none few h =
         items = new.items (table_of s.around.kinds) h.owners.items;
       };
       kinds = h.kinds;
-      portals = refl;
-      plans = refl;
-      snapshots = refl;
+      portals = portals_by s.session.portals (level ∷ levels) (record level { owner = Some n } ∷ levels) t t x y s.session.current s.session.current
+          (λ q i. record {
+            place = i.place;
+            made = i.made;
+            owner = λ m e.
+                let a = i.owner m e in
+                let small : q.created ≤ length levels = created_below level levels starting h.fit.0.open_level q i.stage in
+                attached_by m q.created (level ∷ levels) (record level { owner = Some n } ∷ levels) x y (λ u. new.had m (other m u) ∙ u) (new.parents m (other m a.there))
+                (λ u. new.lone m (other m a.there) (λ p f z. a.other (inr (subst (λ (k : ℕ). IsOwner k levels) (sym z) (first_is levels p f)))) u)
+                (rw (ne_eqb (length levels + 1) q.created (λ z. omega (arith, z, small))) refl)
+                (λ j. elim j [ inl f ↦ absurd (both_ways (has n x) unused (ap (λ (k : ℕ). has k x) (one_value (Some n) n m refl f) ∙ a.there)) | inr k ↦ inr k ]) a;
+            stage = elim i.stage [
+              | inl l ↦ inl (record { some = l.some; within = l.within; active = l.active })
+              | inr d ↦ inr (record { aborted = d.aborted; created = d.created; within = d.within; active = d.active; failed = d.failed; owner = d.owner; expr = d.expr })
+            ];
+          }) h.portals;
+      plans = plans_counted s.session.plans t s.session.current (referred x) (referred y) (λ m. sym (held_created plan_reference m o n x)) h.plans;
+      snapshots = h.snapshots;
     }
   where
     above_there : (levels : List LevelState) (t : Contexts) (x : OwnerTree) → AreLevels levels t x → (p : ℕ) → owner_of (first_of levels) ≡ Some p → has p x ≡ true
@@ -430,25 +587,29 @@ level_stands_stands level levels s active made h =
     let c = is_there level.context made.context in
     let x : OwnerTree = s.session.owners in
     let now : LevelState = record level { starting = false } in
+    let working : IsActive now = record { made = record { context = made.context; owner = made.owner }; started = refl; unaborted = active } in
     let result : Stands (started level levels s (Some c.0)) = record {
       contexts = h.contexts;
       current = protected_has c.0 s.session.contexts (h.levels.0.context c.0 c.1).protected;
       hooks = h.hooks;
       levels = (record { context = h.levels.0.context; owner = h.levels.0.owner; implicit = h.levels.0.implicit }, h.levels.1);
-      fit = (deepest_active now s.session.contexts x c.0 (record { made = record { context = made.context; owner = made.owner }; started = refl; unaborted = active }), h.fit.1);
+      fit = (deepest_active now s.session.contexts x c.0 working, h.fit.1);
       owners = record {
         sound = h.owners.sound;
         each = λ n u. elim (h.owners.each n u) [
           | inl i ↦ inl i
-          | inr r ↦ inr (record { aborted = r.aborted; owner = r.owner; is = r.is; within = r.within })
+          | inr k ↦ inr (elim k [ inl p ↦ inl p | inr r ↦ inr (record { aborted = r.aborted; owner = r.owner; is = r.is; within = r.within }) ])
         ];
         begun = λ n u. let r : IsReleased level n x = h.owners.begun n u in record { aborted = r.aborted; owner = r.owner; is = r.is; within = r.within };
         items = h.owners.items;
       };
       kinds = h.kinds;
-      portals = refl;
-      plans = refl;
-      snapshots = refl;
+      portals = portals_by s.session.portals (level ∷ levels) (now ∷ levels) s.session.contexts s.session.contexts x x s.session.current c.0
+          (λ q i. same_portal level now levels s.session.contexts s.session.contexts x s.session.current c.0 q refl
+          (λ l. record { some = l.some; within = l.within; active = omega (arith, l.active, depth_small (level ∷ levels), depth_working now levels working) }) refl
+          (λ n expr k. place_level (level ∷ levels) s.session.contexts x h.contexts.once h.levels c.0 (inl c.1) n expr s.session.current k) i) h.portals;
+      plans = plans_current s.session.plans s.session.contexts s.session.current c.0 (referred x) (levels_other (level ∷ levels) s.session.contexts x h.levels c.0 (inl c.1)) h.plans;
+      snapshots = stacked_within 1 (active_depth (now ∷ levels)) 1 (active_depth (level ∷ levels)) s.session.snapshots (omega arith) (omega (arith, depth_small (level ∷ levels), depth_working now levels working)) h.snapshots;
     } in
     subst (λ (o : Option ℕ). Stands (started level levels s o)) (sym c.1) result
 
@@ -520,10 +681,10 @@ module _ (w : Option ℕ) (moment : Moment) (h : Stands moment.scene) where
   commit_stands level is =
       settled_as (λ (z : Scene). Leaves [] (committed z).scene) moment.scene (level ∷ []) h is (λ k. committed_stands level moment.scene k)
 
-  pub merge_stands : (level : LevelState) (levels : List LevelState) → moment.scene.session.levels ≡ level ∷ levels → Leaves levels (does w element.Subcommit moment).moment.scene
+  pub merge_stands : (level : LevelState) (levels : List LevelState) → moment.scene.session.levels ≡ level ∷ levels → 1 ≤ length levels → Leaves levels (does w element.Subcommit moment).moment.scene
   unfolding does
-  merge_stands level levels is =
-      settled_as (λ (z : Scene). Leaves levels (subcommitted z).scene) moment.scene (level ∷ levels) h is (λ k. subcommitted_stands level levels moment.scene k)
+  merge_stands level levels is some =
+      settled_as (λ (z : Scene). Leaves levels (subcommitted z).scene) moment.scene (level ∷ levels) h is (λ k. subcommitted_stands level levels moment.scene some k)
 
   pub abort_stands : (level : LevelState) (levels : List LevelState) → moment.scene.session.levels ≡ level ∷ levels → level.aborted ≡ false → IsOpen level
       → Leaves (record level { aborted = true } ∷ levels) (does w element.Abort moment).moment.scene
@@ -531,17 +692,35 @@ module _ (w : Option ℕ) (moment : Moment) (h : Stands moment.scene) where
   abort_stands level levels is active open_level =
       settled_as (λ (z : Scene). Leaves (record level { aborted = true } ∷ levels) (aborted z).scene) moment.scene (level ∷ levels) h is (λ k. aborted_stands level levels moment.scene active open_level k)
 
-  pub cleanup_stands : (level : LevelState) (levels : List LevelState) → moment.scene.session.levels ≡ level ∷ levels → Leaves levels (does w element.Cleanup moment).moment.scene
+  pub cleanup_stands : (level : LevelState) (levels : List LevelState) → moment.scene.session.levels ≡ level ∷ levels → level.aborted ≡ true → Leaves levels (does w element.Cleanup moment).moment.scene
   unfolding does
-  cleanup_stands level levels is =
-      settled_as (λ (z : Scene). Leaves levels (cleaned_up z).scene) moment.scene (level ∷ levels) h is (λ k. cleaned_up_stands level levels moment.scene k)
+  cleanup_stands level levels is gone =
+      settled_as (λ (z : Scene). Leaves levels (cleaned_up z).scene) moment.scene (level ∷ levels) h is (λ k. cleaned_up_stands level levels moment.scene gone k)
 
   pub enlarge_works : Works moment.scene (does w (element.Enlarge OfLevel) moment).moment.scene
   unfolding does
   enlarge_works = fallible_keeps (Works moment.scene) w moment None nothing (nothing_works moment.scene h) (λ _. nothing_works moment.scene h)
 
+  pub pop_works : Works moment.scene (does w element.PopSnapshot moment).moment.scene
+  unfolding does
+  pop_works = popped (last_of moment.scene.session.snapshots)
+    where
+      popped : (o : Option Active)
+          → Works moment.scene (where_there o (λ entry. in_order (changes (λ session. record session { snapshots = take (length session.snapshots - 1) session.snapshots }) ∷ say (what.Pop entry.snapshot) ∷ [])) moment.scene).scene
+      popped None = nothing_works moment.scene h
+      popped (Some entry) =
+          let stack : List Active = moment.scene.session.snapshots in
+          stack_works moment.scene (take (length stack - 1) stack) h (stacked_taken (length stack - 1) 1 (active_depth moment.scene.session.levels) stack h.snapshots)
+
   -- in an active level
   module _ (working : IsWorking moment.scene.session.levels) where
+    pub push_works : (snapshot : ℕ) → Works moment.scene (does w (element.PushSnapshot snapshot) moment).moment.scene
+    unfolding does
+    push_works snapshot =
+        fallible_keeps (Works moment.scene) w moment None (snapshot_pushed snapshot) (nothing_works moment.scene h)
+        (λ _. stack_works moment.scene (moment.scene.session.snapshots ++ (record { snapshot = snapshot; level = length moment.scene.session.levels } ∷ [])) h
+        (push_stacked moment.scene.session.levels snapshot moment.scene.session.snapshots working h.snapshots))
+
     pub free_works : (name : Text) → Works moment.scene (does w (element.FreeChunk name) moment).moment.scene
     unfolding does
     free_works name =

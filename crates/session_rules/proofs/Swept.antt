@@ -9,7 +9,7 @@ use Rattle.forest.proofs.Trees.{Apart, apart_of, at_absent}
 use Rattle.session_rules.proofs.Guarded.{all_children, all_at}
 
 module _ {A : Type 0} (f : A → A) where
-  has_all : (m : ℕ) (t : Forest A) → has m (all_changed f t) ≡ has m t
+  pub has_all : (m : ℕ) (t : Forest A) → has m (all_changed f t) ≡ has m t
   has_all m Empty = refl
   has_all m (Node k a below beside) = rw (has_all m below, has_all m beside) refl
 

@@ -1,7 +1,7 @@
 -- Commands lead from a session between two lines to one between two lines.
-use Rattle.std.proofs.Common.{◌≡◌, ℕ, ◌+◌, ◌≤◌, ◌<◌, Bool, true, false, Option, Some, None, List, [], ◌∷◌, ◌++◌, refl, sym, ap, ◌∙◌, subst, arith}
-use Rattle.std.specs.Prelude.{zero, suc, ◌-◌, ◌&&◌, not, length, replicate, nat_lt, if◌then◌else◌}
-use Rattle.std.specs.Option.{option_map_or}
+use Rattle.std.proofs.Common.{◌≡◌, ℕ, ◌+◌, ◌≤◌, ◌<◌, Bool, true, false, Option, Some, None, List, [], ◌∷◌, ◌++◌, refl, sym, ap, ◌∙◌, subst, inl, arith}
+use Rattle.std.specs.Prelude.{zero, suc, ◌-◌, ◌&&◌, ◌==◌, not, length, map, codes, is_none, is_some, replicate, nat_lt, if◌then◌else◌}
+use Rattle.std.specs.Option.{option_and_then, option_map_or}
 use Rattle.std.proofs.lemmas.Bool.{le-ltb, ltb-true}
 use Rattle.pgs_step.specs.declared.errors.Error.{Error}
 use Rattle.pgs_step.specs.declared.errors.Error.TheVariants as error
@@ -10,26 +10,41 @@ use Rattle.pgs_step.specs.declared.events.What.TheVariants as what
 use Rattle.pgs_command.specs.declared.commands.Command.{Command}
 use Rattle.pgs_command.specs.declared.commands.Command.TheVariants as command
 use Rattle.pgs_command.specs.Kinds.{class_kind}
-use Rattle.session_rules.specs.State.{LevelState, SessionState, buffer_pin, file_kind, is_aborted, snapshot_reference}
+use Rattle.session_rules.specs.State.{LevelState, OpenPortal, SessionState, buffer_pin, file_kind, first_of, is_aborted, level_owner, owner_of, plan_reference, relcache_reference, snapshot_reference}
 use Rattle.session_rules.specs.World.{Scene, Moment}
 use Rattle.session_rules.specs.Elements as element
-use Rattle.session_rules.specs.Elements.{Check, Element, InCurrent, LevelContext, OfLevel, Text}
-use Rattle.session_rules.specs.Acts.{Ended, nothing}
+use Rattle.session_rules.specs.Elements.{Check, Element, InCurrent, InPortal, InRow, LevelContext, OfLevel, OfPortal, PortalContext, RowContext, Text}
+use Rattle.session_rules.specs.Acts.{Ended, in_order, nothing, portal_becomes, where_there}
 use Rattle.forest.specs.Forest.{size}
-use Rattle.session_rules.specs.Lookup.{is_named}
+use Rattle.session_rules.specs.Lookup.{is_named, plan_at, portal_named}
 use Rattle.session_rules.specs.Parts.{level_stands}
 use Rattle.session_rules.specs.Checks.{failure, unless}
 use Rattle.session_rules.specs.Calls.{Done, fallible, refused_call, unless_refused}
-use Rattle.session_rules.specs.Making.{level_made, new_context_made, new_owner_made}
+use Rattle.session_rules.specs.Making.{context_made, level_made, new_context_made, new_owner_made, portal_made}
 use Rattle.session_rules.specs.Does.{does, does_all, then_done}
 use Rattle.session_rules.specs.Commands.{at_savepoint, begin, commit, committed_to, elements_of, in_transaction, is_end, refused, rollback, rolled_back_to, save, savepoint, start, then_ok, unaborted}
-use Rattle.session_rules.specs.Works.{work_of}
+use Rattle.session_rules.specs.Works.{after_turn, fallible_part, fetch_steps, portal_steps, turn_steps, work_of}
+use Rattle.exec_core.specs.declared.scan.Scan.{Scan}
+use Rattle.exec_core.specs.declared.steps.ScanStep.{ScanStep}
+use Rattle.exec_core.specs.declared.steps.ScanStep.TheVariants as step
+use Rattle.exec_core.specs.Turn.{is_bad, is_tenth, new_scan, page_of, page_steps, row_step, row_steps, unpinned}
+use Rattle.exec_core.specs.Turn.{turn as scan_turn}
+use Rattle.portal_store.specs.declared.portal.PortalState.TheVariants as portal
+use Rattle.pgs_step.specs.declared.lock_modes.Mode.TheVariants.{AccessShareLock}
+use Rattle.pgs_command.specs.declared.kinds.ReferenceClass.TheVariants.{Relcache}
+use Rattle.pgs_command.proofs.ValueLemmas.{is_text-same}
+use Rattle.any_ctx.specs.declared.any.CtxKind.TheVariants as kind
+use Rattle.std.specs.List.{flat_map}
+use Rattle.session_rules.proofs.LevelsKept.{is_there}
+use Rattle.session_rules.proofs.PortalsStand.{context_portal, made_portal, named_changed, named_in, owner_portal, row_portal}
+use Rattle.session_rules.proofs.PortalWorks.{Beside, begins_works, check_works, portal_allocates, portal_enlarges, portal_locks, portal_takes, ready_works, row_allocates, scan_works, turn_works}
 use Rattle.session_rules.specs.Transcript.{line_elements, turn, turn_of}
 use Rattle.session_rules.specs.Standing.{AreOpen, AreOuter, FitLevels, IsActive, IsOpen, Stands, StandsBetweenLines}
 use Rattle.session_rules.proofs.EndsStand.{Leaves, outer_open, recovered_stands}
-use Rattle.session_rules.proofs.StepsStand.{IsWorking, Works, abort_stands, alloc_works, below_limit, cleanup_stands, commit_stands, enlarge_works, free_works, level_context_stands, level_made_stands, level_owner_stands, level_stands_stands, merge_stands, nothing_works, own_refusal, put_works, realloc_works, settled_as}
+use Rattle.session_rules.proofs.StepsStand.{IsWorking, Works, abort_stands, alloc_works, below_limit, cleanup_stands, commit_stands, enlarge_works, free_works, level_context_stands, level_made_stands, level_owner_stands, level_stands_stands, merge_stands, nothing_works, own_refusal, pop_works, push_works, put_works, realloc_works, settled_as}
 use Rattle.owner_kinds.specs.KindShelf.{table_of}
-use Rattle.session_rules.proofs.ItemsStand.{class_item, class_unkept, file_works, give_back_named_works, give_back_works, lock_works, pin_works, snapshot_item, take_named_works, take_works, touch_works, unlock_works}
+use Rattle.session_rules.proofs.ItemsStand.{class_item, class_other, class_unkept, file_works, give_back_named_works, give_back_works, lock_works, pin_works, snapshot_item, take_named_works, take_plan_works, take_works, touch_works, unlock_works}
+use Rattle.session_rules.proofs.PlansStand.{drop_plan_works, is_new, is_standing, make_plan_works}
 use Rattle.session_rules.proofs.NamesStand.{delete_children_works, delete_works, make_script_context_works, register_works, reparent_works, reset_only_works, reset_works, switch_works}
 
 -- What some elements led to: whatever refused them the session stands, and where nothing did, more is known of it.
@@ -110,6 +125,15 @@ module _ (w : Option ℕ) (levels : List LevelState) (Q : Scene → Type 0) wher
       (check_leads (λ z. At levels z × (failure check z ≡ None)) w check moment at.stands (λ e. (at, e)))
       (λ m p. next m p.0 p.1)
 
+  -- what a check said holds where an owner got room
+  behind_room : (check : Check) (xs : List Element) (moment : Moment) → At levels moment.scene → failure check moment.scene ≡ None → ((m : Moment) → At levels m.scene → failure check m.scene ≡ None → Leads Q (does_all w xs m))
+      → Leads Q (does_all w (element.Enlarge OfLevel ∷ xs) moment)
+  unfolding does
+  behind_room check xs moment at ok next =
+      leads_on w (λ z. At levels z × (failure check z ≡ None)) Q (element.Enlarge OfLevel) xs moment
+      (fallible_leads (λ z. At levels z × (failure check z ≡ None)) w moment None nothing at.stands (λ z q. q.0.stands) (λ _. (at, ok)))
+      (λ m p. next m p.0 p.1)
+
   behind_work : (x : Element) (xs : List Element) (moment : Moment) → At levels moment.scene → Works moment.scene (does w x moment).moment.scene → ((m : Moment) → At levels m.scene → Leads Q (does_all w xs m))
       → Leads Q (does_all w (x ∷ xs) moment)
   behind_work x xs moment at works next =
@@ -126,6 +150,10 @@ report_works : (w : Option ℕ) (moment : Moment) → Stands moment.scene → Wo
 unfolding does
 report_works w moment h = nothing_works moment.scene h
 
+stat_works : (w : Option ℕ) (moment : Moment) → Stands moment.scene → Works moment.scene (does w element.Stat moment).moment.scene
+unfolding does
+stat_works w moment h = nothing_works moment.scene h
+
 show_works : (w : Option ℕ) (name : Text) (from n : ℕ) (moment : Moment) → Stands moment.scene → Works moment.scene (does w (element.Show name from n) moment).moment.scene
 unfolding does
 show_works w name from n moment h = nothing_works moment.scene h
@@ -139,10 +167,11 @@ is_buffer : (buffer : ℕ) (b : Bool) (error : Error) → nat_lt buffer 1024 ≡
 is_buffer buffer true error e h = ltb-true buffer 1024 e
 is_buffer buffer false error e h = absurd (cc h)
 
--- the commands on contexts, chunks, pins, files, references, extension kinds, registered snapshots and locks, and `raise`
+-- the commands on contexts, chunks, pins, files, references, extension kinds, snapshots, plans, portals and locks, `raise` and `stat`
 abbrev pub IsWork : Command → Type 0
 IsWork command.Raise = Unit {0}
 IsWork command.Report = Unit {0}
+IsWork command.Stat = Unit {0}
 IsWork (command.Context name parent kind) = Unit {0}
 IsWork (command.Switch name) = Unit {0}
 IsWork (command.OnReset name) = Unit {0}
@@ -169,6 +198,14 @@ IsWork (command.Acquire kind key) = Unit {0}
 IsWork (command.Drop kind key) = Unit {0}
 IsWork (command.Snapshot snapshot) = Unit {0}
 IsWork (command.Unsnapshot snapshot) = Unit {0}
+IsWork (command.Push snapshot) = Unit {0}
+IsWork command.Pop = Unit {0}
+IsWork (command.Plan plan) = Unit {0}
+IsWork (command.PlanReference plan) = Unit {0}
+IsWork (command.PlanUnreference plan) = Unit {0}
+IsWork (command.PlanDrop plan) = Unit {0}
+IsWork (command.Portal name object rows bad) = Unit {0}
+IsWork (command.Fetch name count) = Unit {0}
 IsWork (command.Lock object mode) = Unit {0}
 IsWork (command.Unlock object mode) = Unit {0}
 IsWork other = ⊥
@@ -184,10 +221,232 @@ IsHere (command.Release name) = Unit {0}
 IsHere (command.RollbackTo name) = Unit {0}
 IsHere other = IsWork other
 
+-- A portal on its way: it has its context and its owner, or hasn't them yet.
+record IsMaking (context owner : Bool) (depth : ℕ) (p : OpenPortal) : Type 0 where
+  has_context : is_some p.context ≡ context
+  has_owner : is_some p.owner ≡ owner
+  expr : p.expr ≡ None
+  created : p.created ≡ depth
+
+record Makes (levels : List LevelState) (name : Text) (context owner : Bool) (scene : Scene) : Type 0 where
+  at : At levels scene
+  portal : OpenPortal
+  named : portal_named name scene.session.portals ≡ Some portal
+  is : IsMaking context owner (length levels) portal
+
+no_value_of : (o : Option ℕ) → is_some o ≡ false → o ≡ None
+no_value_of None e = refl
+no_value_of (Some n) e = absurd (cc e)
+
+module _ (w : Option ℕ) (levels : List LevelState) (active : IsWorking levels) (name : Text) (Q : Scene → Type 0) where
+  -- a step that leaves portals as they are
+  behind_beside : (c o : Bool) (x : Element) (xs : List Element) (moment : Moment) → Makes levels name c o moment.scene → Beside moment.scene (does w x moment).moment.scene
+      → ((m : Moment) → Makes levels name c o m.scene → Leads Q (does_all w xs m)) → Leads Q (does_all w (x ∷ xs) moment)
+  behind_beside c o x xs moment k b next =
+      leads_on w (Makes levels name c o) Q x xs moment
+      (record {
+        stands = b.works.stands;
+        passed = λ _. record {
+          at = record { stands = b.works.stands; are = b.works.levels ∙ k.at.are };
+          portal = k.portal;
+          named = ap (portal_named name) b.portals ∙ k.named;
+          is = k.is;
+        };
+      }) next
+
+  behind_made : (object rows : ℕ) (bad : Option ℕ) (xs : List Element) (moment : Moment) → At levels moment.scene → portal_named name moment.scene.session.portals ≡ None
+      → ((m : Moment) → Makes levels name false false m.scene → Leads Q (does_all w xs m)) → Leads Q (does_all w (element.MakePortal name object rows bad ∷ xs) moment)
+  unfolding does
+  behind_made object rows bad xs moment at free next =
+      leads_on w (Makes levels name false false) Q (element.MakePortal name object rows bad) xs moment
+      (fallible_leads (Makes levels name false false) w moment _ (portal_made name object rows bad) at.stands (λ z q. q.at.stands)
+      (λ _. record {
+        at = record { stands = made_portal moment.scene name object rows bad at.stands (working_at levels moment.scene active at) free; are = at.are };
+        portal = record { name = name; context = None; expr = None; owner = None; scan = new_scan object rows bad; created = length moment.scene.session.levels; active = length moment.scene.session.levels; state = portal.New };
+        named = rw (is_text-same name) refl;
+        is = record { has_context = refl; has_owner = refl; expr = refl; created = ap length at.are };
+      })) next
+
+  behind_context : (xs : List Element) (moment : Moment) → Makes levels name false false moment.scene → ((m : Moment) → Makes levels name true false m.scene → Leads Q (does_all w xs m))
+      → Leads Q (does_all w (element.MakeContext (PortalContext name) ∷ xs) moment)
+  unfolding does
+  behind_context xs moment k next =
+      leads_on w (Makes levels name true false) Q (element.MakeContext (PortalContext name)) xs moment
+      (fallible_leads (Makes levels name true false) w moment _ (new_context_made (PortalContext name)) k.at.stands (λ z q. q.at.stands)
+      (λ _. record {
+        at = record {
+          stands = context_portal moment.scene k.at.stands (working_at levels moment.scene active k.at) name k.portal (named_in name k.portal moment.scene.session.portals k.named) (no_value_of k.portal.context k.is.has_context);
+          are = k.at.are;
+        };
+        portal = record k.portal { context = Some moment.scene.session.next_context };
+        named = named_changed name k.portal (λ p. record p { context = Some moment.scene.session.next_context }) moment.scene.session.portals (λ q. refl) k.named;
+        is = record { has_context = refl; has_owner = k.is.has_owner; expr = k.is.expr; created = k.is.created };
+      })) next
+
+  level_owned : (moment : Moment) → At levels moment.scene → (lo : ℕ) × (level_owner moment.scene.session ≡ Some lo)
+  level_owned moment at = go moment.scene.session.levels (working_at levels moment.scene active at)
+    where
+      go : (ls : List LevelState) → IsWorking ls → (lo : ℕ) × (owner_of (first_of ls) ≡ Some lo)
+      go [] a = absurd a
+      go (level ∷ ls) a = is_there level.owner a.made.owner
+
+  behind_owner : (xs : List Element) (moment : Moment) → Makes levels name true false moment.scene → ((m : Moment) → Makes levels name true true m.scene → Leads Q (does_all w xs m))
+      → Leads Q (does_all w (element.MakeOwner (OfPortal name) ∷ xs) moment)
+  unfolding does
+  behind_owner xs moment k next =
+      let lo = level_owned moment k.at in
+      leads_on w (Makes levels name true true) Q (element.MakeOwner (OfPortal name)) xs moment
+      (fallible_leads (Makes levels name true true) w moment _ (new_owner_made (OfPortal name)) k.at.stands (λ z q. q.at.stands)
+      (λ room. record {
+        at = record {
+          stands = owner_portal moment.scene k.at.stands (working_at levels moment.scene active k.at) name k.portal (named_in name k.portal moment.scene.session.portals k.named) lo.0 lo.1
+              (no_value_of k.portal.owner k.is.has_owner) (k.is.created ∙ sym (ap length k.at.are)) (below_limit 65536 (size moment.scene.session.owners) room);
+          are = k.at.are;
+        };
+        portal = record k.portal { owner = Some moment.scene.session.next_owner };
+        named = named_changed name k.portal (λ p. record p { owner = Some moment.scene.session.next_owner }) moment.scene.session.portals (λ q. refl) k.named;
+        is = record { has_context = k.is.has_context; has_owner = refl; expr = k.is.expr; created = k.is.created };
+      })) next
+
+  -- the context of one row, and then the portal is ready
+  behind_row : (xs : List Element) (moment : Moment) → Makes levels name true true moment.scene → ((m : Moment) → At levels m.scene → Leads Q (does_all w xs m))
+      → Leads Q (does_all w (element.MakeContext (RowContext name) ∷ xs) moment)
+  unfolding does
+  behind_row xs moment k next =
+      leads_on w (At levels) Q (element.MakeContext (RowContext name)) xs moment
+      (fallible_leads (At levels) w moment _ (new_context_made (RowContext name)) k.at.stands (λ z q. q.stands)
+      (λ _. record { stands = row_made k; are = row_levels k })) next
+    where
+      row_made : (k : Makes levels name true true moment.scene) → Stands (new_context_made (RowContext name) moment.scene).scene
+      row_made k =
+          let c = is_there k.portal.context k.is.has_context in
+          let is : option_and_then (λ (p : OpenPortal). p.context) (portal_named name moment.scene.session.portals) ≡ Some c.0 = ap (option_and_then (λ (p : OpenPortal). p.context)) k.named ∙ c.1 in
+          subst (λ (o : Option ℕ).
+          Stands (where_there o (λ parent. in_order (context_made parent (codes "ExprContext") true kind.Small ∷ portal_becomes name (λ p. record p { expr = Some moment.scene.session.next_context }) ∷ [])) moment.scene).scene) (sym is)
+          (row_portal moment.scene k.at.stands (working_at levels moment.scene active k.at) name k.portal (named_in name k.portal moment.scene.session.portals k.named) c.0 c.1 k.is.expr)
+
+      row_levels : (k : Makes levels name true true moment.scene) → (new_context_made (RowContext name) moment.scene).scene.session.levels ≡ levels
+      row_levels k = go (option_and_then (λ (p : OpenPortal). p.context) (portal_named name moment.scene.session.portals))
+        where
+          go : (o : Option ℕ)
+              → (where_there o (λ parent. in_order (context_made parent (codes "ExprContext") true kind.Small ∷ portal_becomes name (λ p. record p { expr = Some moment.scene.session.next_context }) ∷ [])) moment.scene).scene.session.levels ≡ levels
+          go None = k.at.are
+          go (Some c) = k.at.are
+
+-- The elements of a fetch keep a session in its levels.
+abbrev AllWork : Option ℕ → List LevelState → List Element → Type 0
+AllWork w levels [] = Unit {0}
+AllWork w levels (x ∷ xs) = ((m : Moment) → At levels m.scene → Works m.scene (does w x m).moment.scene) × AllWork w levels xs
+
+both_work : (w : Option ℕ) (levels : List LevelState) (xs ys : List Element) → AllWork w levels xs → AllWork w levels ys → AllWork w levels (xs ++ ys)
+both_work w levels [] ys a b = b
+both_work w levels (x ∷ xs) ys a b = (a.0, both_work w levels xs ys a.1 b)
+
+all_work : (w : Option ℕ) (levels : List LevelState) (xs : List Element) (moment : Moment) → At levels moment.scene → AllWork w levels xs → Leads (At levels) (does_all w xs moment)
+all_work w levels [] moment at a = nothing_more w levels moment at
+all_work w levels (x ∷ xs) moment at a = behind_work w levels (At levels) x xs moment at (a.0 moment at) (λ m k. all_work w levels xs m k a.1)
+
+module _ (w : Option ℕ) (levels : List LevelState) (active : IsWorking levels) (name : Text) where
+  -- a page that is pinned is one of the buffers
+  abbrev IsStep : ScanStep → Type 0
+  IsStep (step.Pin page) = page < 1024
+  IsStep other = Unit {0}
+
+  abbrev AreSteps : List ScanStep → Type 0
+  AreSteps [] = Unit {0}
+  AreSteps (s ∷ ss) = IsStep s × AreSteps ss
+
+  both_steps : (xs ys : List ScanStep) → AreSteps xs → AreSteps ys → AreSteps (xs ++ ys)
+  both_steps [] ys a b = b
+  both_steps (x ∷ xs) ys a b = (a.0, both_steps xs ys a.1 b)
+
+  unpinned_steps : (page : Option ℕ) → AreSteps (unpinned page)
+  unpinned_steps None = tt
+  unpinned_steps (Some page) = (tt, tt)
+
+  page_is : (scan : Scan) → page_of scan < 1024
+  page_is scan = omega arith
+
+  pages : (b : Bool) (scan : Scan) → AreSteps (if b then unpinned scan.page ++ (step.Pin (page_of scan) ∷ []) else [])
+  pages true scan = both_steps (unpinned scan.page) (step.Pin (page_of scan) ∷ []) (unpinned_steps scan.page) (page_is scan, tt)
+  pages false scan = tt
+
+  rows_are : (b : Bool) (scan : Scan) → AreSteps (if b then step.Bad scan.at ∷ [] else step.Alloc ∷ (row_step scan ∷ []))
+  rows_are true scan = (tt, tt)
+  rows_are false scan = (tt, (tt, tt))
+
+  turn_is : (b : Bool) (scan : Scan) → AreSteps (if b then unpinned scan.page ++ (step.End ∷ []) else step.Reset ∷ (page_steps scan ++ row_steps scan))
+  turn_is true scan = both_steps (unpinned scan.page) (step.End ∷ []) (unpinned_steps scan.page) (tt, tt)
+  turn_is false scan = (tt, both_steps (page_steps scan) (row_steps scan) (pages (is_tenth scan) scan) (rows_are (is_bad scan) scan))
+
+  -- the elements of a step, each in its turn
+  in_turn : (x : Element) → ((m : Moment) → At levels m.scene → Works m.scene (does w x m).moment.scene) → (m : Moment) → At levels m.scene → Works m.scene (does w (element.InTurn name x) m).moment.scene
+  in_turn x works m k = turn_works w m k.stands (working_at levels m.scene active k) name x (works m k)
+
+  step_work : (s : ScanStep) → IsStep s → AllWork w levels (map (element.InTurn name) (element.Scans name s ∷ fallible_part name s))
+  step_work s is = (in_turn (element.Scans name s) (λ m k. scan_works w m k.stands (working_at levels m.scene active k) name s), parts s is)
+    where
+      parts : (s : ScanStep) → IsStep s → AllWork w levels (map (element.InTurn name) (fallible_part name s))
+      parts (step.Pin page) small = (
+        in_turn (element.Enlarge (OfPortal name)) (λ m k. let b = portal_enlarges w m k.stands (working_at levels m.scene active k) name in b.works),
+        (
+          in_turn (element.Take (OfPortal name) buffer_pin page)
+              (λ m k.
+              let b = portal_takes w m k.stands (working_at levels m.scene active k) name buffer_pin page refl (λ z. absurd (omega (arith, z))) (λ serial. record { kind = inl (record { from = omega arith; to = omega arith }); buffer = λ _. small }) in
+              b.works),
+          tt,
+        ),
+      )
+      parts (step.Bad row) is = (in_turn (element.Checks (element.Refuse (error.BadRow row))) (λ m k. check_works w m k.stands (working_at levels m.scene active k) name (element.Refuse (error.BadRow row))), tt)
+      parts step.Alloc is = (in_turn (element.Alloc (InRow name) None 64 false) (λ m k. let b = row_allocates w m k.stands (working_at levels m.scene active k) name None 64 in b.works), tt)
+      parts step.Reset is = tt
+      parts (step.Unpin page) is = tt
+      parts (step.Row row value) is = tt
+      parts step.End is = tt
+
+  steps_work : (ss : List ScanStep) → AreSteps ss → AllWork w levels (flat_map (λ s. map (element.InTurn name) (element.Scans name s ∷ fallible_part name s)) ss)
+  steps_work [] a = tt
+  steps_work (s ∷ ss) a = both_work w levels (map (element.InTurn name) (element.Scans name s ∷ fallible_part name s)) _ (step_work s a.0) (steps_work ss a.1)
+
+  fetch_work : (count : ℕ) (scan : Scan) (rows : ℕ) → AllWork w levels (fetch_steps name count scan rows)
+  fetch_work zero scan rows = (λ m k. says_works w (what.Fetched name rows) m k.stands, tt)
+  fetch_work (suc count) scan rows =
+      both_work w levels (turn_steps name scan) _ (steps_work (scan_turn scan) (turn_is (scan.at == scan.rows) scan)) (rest (scan.at == scan.rows) (fetch_work count (after_turn scan) (rows + 1)))
+    where
+      rest : (b : Bool) → AllWork w levels (fetch_steps name count (after_turn scan) (rows + 1)) → AllWork w levels (elim b as (λ _. List Element) [ true ↦ element.Says (what.Fetched name rows) ∷ [] | false ↦ fetch_steps name count (after_turn scan) (rows + 1) ])
+      rest true more = (λ m k. says_works w (what.Fetched name rows) m k.stands, tt)
+      rest false more = more
+
+  fetch_all : (count : ℕ) (o : Option OpenPortal) → AllWork w levels (option_map_or (λ portal. fetch_steps name count portal.scan 0) o [])
+  fetch_all count None = tt
+  fetch_all count (Some p) = fetch_work count p.scan 0
+
+is_unnamed : (o : Option OpenPortal) (error : Error) → unless (is_none o) error ≡ None → o ≡ None
+is_unnamed None error e = refl
+is_unnamed (Some p) error e = absurd (cc e)
+
+module _ (w : Option ℕ) (levels : List LevelState) (active : IsWorking levels) where
+  portal_leads : (name : Text) (object rows : ℕ) (bad : Option ℕ) (moment : Moment) → At levels moment.scene → portal_named name moment.scene.session.portals ≡ None → Leads (At levels) (does_all w (portal_steps name object rows bad) moment)
+  portal_leads name object rows bad moment at free =
+      behind_made w levels active name (At levels) object rows bad _ moment at free
+      (λ m k. behind_context w levels active name (At levels) _ m k
+      (λ m k. behind_owner w levels active name (At levels) _ m k
+      (λ m k. behind_beside w levels active name (At levels) true true (element.TakeLock (OfPortal name) object AccessShareLock) _ m k (portal_locks w m k.at.stands (working_at levels m.scene active k.at) name object AccessShareLock)
+      (λ m k. behind_beside w levels active name (At levels) true true (element.Enlarge (OfPortal name)) _ m k (portal_enlarges w m k.at.stands (working_at levels m.scene active k.at) name)
+      (λ m k. behind_beside w levels active name (At levels) true true (element.Take (OfPortal name) relcache_reference object) _ m k
+      (portal_takes w m k.at.stands (working_at levels m.scene active k.at) name relcache_reference object refl (λ z. absurd (omega (arith, z))) (class_item (table_of m.scene.around.kinds) Relcache object))
+      (λ m k. behind_beside w levels active name (At levels) true true (element.Enlarge (OfPortal name)) _ m k (portal_enlarges w m k.at.stands (working_at levels m.scene active k.at) name)
+      (λ m k. behind_beside w levels active name (At levels) true true (element.Take (OfPortal name) snapshot_reference object) _ m k
+      (portal_takes w m k.at.stands (working_at levels m.scene active k.at) name snapshot_reference object refl (λ z. absurd (omega (arith, z))) (snapshot_item (table_of m.scene.around.kinds) object))
+      (λ m k. behind_beside w levels active name (At levels) true true (element.Alloc (InPortal name) None 200 false) _ m k (portal_allocates w m k.at.stands (working_at levels m.scene active k.at) name None 200)
+      (λ m k. behind_row w levels active name (At levels) _ m k
+      (λ m k. behind_work w levels (At levels) (element.PortalReady name) [] m k (ready_works w m k.stands (working_at levels m.scene active k) name) (λ m k. nothing_more w levels m k)))))))))))
+
 module _ (w : Option ℕ) (levels : List LevelState) (active : IsWorking levels) where
   pub work_leads : (c : Command) (session : SessionState) → IsWork c → (moment : Moment) → At levels moment.scene → Leads (At levels) (does_all w (work_of c session) moment)
   work_leads command.Raise session is moment at = behind_check w levels (At levels) (element.Refuse error.Raised) [] moment at (λ m k _. nothing_more w levels m k)
   work_leads command.Report session is moment at = behind_work w levels (At levels) element.Report [] moment at (report_works w moment at.stands) (λ m k. nothing_more w levels m k)
+  work_leads command.Stat session is moment at = behind_work w levels (At levels) element.Stat [] moment at (stat_works w moment at.stands) (λ m k. nothing_more w levels m k)
   work_leads (command.Context name parent kind) session is moment at =
       behind_check w levels (At levels) (element.ContextIsNew name) _ moment at
       (λ m k _. behind_check w levels (At levels) (element.IsContext parent) _ m k
@@ -261,7 +520,7 @@ module _ (w : Option ℕ) (levels : List LevelState) (active : IsWorking levels)
   work_leads (command.Reference class key) session is moment at =
       behind_work w levels (At levels) (element.Enlarge OfLevel) _ moment at (enlarge_works w moment at.stands)
       (λ m k. behind_work w levels (At levels) (element.Take OfLevel (class_kind class) key) [] m k
-      (take_works w m k.stands (working_at levels m.scene active k) (class_kind class) key (class_unkept class) (class_item (table_of m.scene.around.kinds) class key)) (λ m k. nothing_more w levels m k))
+      (take_works w m k.stands (working_at levels m.scene active k) (class_kind class) key (class_unkept class) (class_other class) (class_item (table_of m.scene.around.kinds) class key)) (λ m k. nothing_more w levels m k))
   work_leads (command.Unreference class key) session is moment at =
       behind_check w levels (At levels) (element.Holds (class_kind class) key) _ moment at
       (λ m k _. behind_work w levels (At levels) (element.GiveBack (class_kind class) key) [] m k (give_back_works w m k.stands (working_at levels m.scene active k) (class_kind class) key) (λ m k. nothing_more w levels m k))
@@ -276,10 +535,39 @@ module _ (w : Option ℕ) (levels : List LevelState) (active : IsWorking levels)
   work_leads (command.Snapshot snapshot) session is moment at =
       behind_work w levels (At levels) (element.Enlarge OfLevel) _ moment at (enlarge_works w moment at.stands)
       (λ m k. behind_work w levels (At levels) (element.Take OfLevel snapshot_reference snapshot) [] m k
-      (take_works w m k.stands (working_at levels m.scene active k) snapshot_reference snapshot refl (snapshot_item (table_of m.scene.around.kinds) snapshot)) (λ m k. nothing_more w levels m k))
+      (take_works w m k.stands (working_at levels m.scene active k) snapshot_reference snapshot refl (λ z. absurd (omega (arith, z))) (snapshot_item (table_of m.scene.around.kinds) snapshot)) (λ m k. nothing_more w levels m k))
   work_leads (command.Unsnapshot snapshot) session is moment at =
       behind_check w levels (At levels) (element.Holds snapshot_reference snapshot) _ moment at
       (λ m k _. behind_work w levels (At levels) (element.GiveBack snapshot_reference snapshot) [] m k (give_back_works w m k.stands (working_at levels m.scene active k) snapshot_reference snapshot) (λ m k. nothing_more w levels m k))
+  work_leads (command.Push snapshot) session is moment at =
+      behind_work w levels (At levels) (element.PushSnapshot snapshot) [] moment at (push_works w moment at.stands (working_at levels moment.scene active at) snapshot) (λ m k. nothing_more w levels m k)
+  work_leads command.Pop session is moment at =
+      behind_check w levels (At levels) element.HoldsSnapshot _ moment at
+      (λ m k _. behind_work w levels (At levels) element.PopSnapshot [] m k (pop_works w m k.stands) (λ m k. nothing_more w levels m k))
+  work_leads (command.Plan plan) session is moment at =
+      behind_check w levels (At levels) (element.PlanIsNew plan) _ moment at
+      (λ m k ok. behind_work w levels (At levels) (element.MakePlan plan) [] m k
+      (make_plan_works w m k.stands (working_at levels m.scene active k) plan (is_new (plan_at plan m.scene.session.plans) error.NameTaken ok)) (λ m k. nothing_more w levels m k))
+  work_leads (command.PlanReference plan) session is moment at =
+      behind_check w levels (At levels) (element.IsPlan plan) _ moment at
+      (λ m k ok. behind_room w levels (At levels) (element.IsPlan plan) _ m k ok
+      (λ m k ok.
+      let p = is_standing (plan_at plan m.scene.session.plans) error.NoSuchName ok in
+      behind_work w levels (At levels) (element.Take OfLevel plan_reference plan) [] m k (take_plan_works w m k.stands (working_at levels m.scene active k) plan p.0 p.1) (λ m k. nothing_more w levels m k)))
+  work_leads (command.PlanUnreference plan) session is moment at =
+      behind_check w levels (At levels) (element.Holds plan_reference plan) _ moment at
+      (λ m k _. behind_work w levels (At levels) (element.GiveBack plan_reference plan) [] m k (give_back_works w m k.stands (working_at levels m.scene active k) plan_reference plan) (λ m k. nothing_more w levels m k))
+  work_leads (command.PlanDrop plan) session is moment at =
+      behind_check w levels (At levels) (element.IsPlan plan) _ moment at
+      (λ m k _. behind_work w levels (At levels) (element.DropPlan plan) [] m k (drop_plan_works w m k.stands (working_at levels m.scene active k) plan) (λ m k. nothing_more w levels m k))
+  work_leads (command.Portal name object rows bad) session is moment at =
+      behind_check w levels (At levels) (element.PortalIsNew name) _ moment at
+      (λ m k ok. portal_leads w levels active name object rows bad m k (is_unnamed (portal_named name m.scene.session.portals) error.PortalTaken ok))
+  work_leads (command.Fetch name count) session is moment at =
+      behind_check w levels (At levels) (element.IsPortal name) _ moment at
+      (λ m k _. behind_check w levels (At levels) (element.HasNotFailed name) _ m k
+      (λ m k _. behind_work w levels (At levels) (element.FetchBegins name) _ m k (begins_works w m k.stands (working_at levels m.scene active k) name)
+      (λ m k. all_work w levels _ m k (fetch_all w levels active name count (portal_named name session.portals)))))
   work_leads (command.Lock object mode) session is moment at =
       behind_work w levels (At levels) (element.TakeLock OfLevel object mode) [] moment at (lock_works w moment at.stands (working_at levels moment.scene active at) object mode) (λ m k. nothing_more w levels m k)
   work_leads (command.Unlock object mode) session is moment at =
@@ -429,18 +717,18 @@ module _ (w : Option ℕ) where
       → Leads (Leaves levels) (does_all w (if level.aborted then element.Cleanup ∷ [] else element.Abort ∷ element.Cleanup ∷ []) moment)
   level_rolled level levels moment h = go level.aborted refl
     where
-      cleans : (old : LevelState) (m : Moment) → Leaves (old ∷ levels) m.scene → Leads (Leaves levels) (does_all w (element.Cleanup ∷ []) m)
-      cleans old m l =
+      cleans : (old : LevelState) (m : Moment) → old.aborted ≡ true → Leaves (old ∷ levels) m.scene → Leads (Leaves levels) (does_all w (element.Cleanup ∷ []) m)
+      cleans old m gone l =
           leads_on w (Leaves levels) (Leaves levels) element.Cleanup [] m
-          (end_leads levels (does w element.Cleanup m) (cleanup_stands w m l.between.stands old levels l.are)) (λ m k. end_nothing levels m k)
+          (end_leads levels (does w element.Cleanup m) (cleanup_stands w m l.between.stands old levels l.are gone)) (λ m k. end_nothing levels m k)
 
       go : (b : Bool) → level.aborted ≡ b → Leads (Leaves levels) (does_all w (if b then element.Cleanup ∷ [] else element.Abort ∷ element.Cleanup ∷ []) moment)
-      go true e = cleans level moment h
+      go true e = cleans level moment e h
       go false e =
           leads_on w (Leaves (record level { aborted = true } ∷ levels)) (Leaves levels) element.Abort (element.Cleanup ∷ []) moment
           (end_leads (record level { aborted = true } ∷ levels) (does w element.Abort moment)
           (abort_stands w moment h.between.stands level levels h.are e (open_of moment.scene level levels h.between h.are)))
-          (λ m k. cleans (record level { aborted = true }) m k)
+          (λ m k. cleans (record level { aborted = true }) m refl k)
 
   -- Levels are rolled back, and those that are left are outer ones.
   abbrev IsOuter : Scene → Type 0
@@ -475,13 +763,13 @@ module _ (w : Option ℕ) where
     leaves : Leaves levels scene
     many : length levels ≡ n
 
-  merges_leads : (k n : ℕ) (levels : List LevelState) (moment : Moment) → Leaves levels moment.scene → length levels ≡ n + k → Leads (HasMerged n) (does_all w (replicate k element.Subcommit) moment)
-  merges_leads zero n levels moment h e = leads_nowhere w (HasMerged n) moment h.between.stands (record { levels = levels; leaves = h; many = omega (arith, e) })
-  merges_leads (suc k) n [] moment h e = absurd (omega (arith, e))
-  merges_leads (suc k) n (level ∷ levels) moment h e =
+  merges_leads : (k n : ℕ) (levels : List LevelState) (moment : Moment) → Leaves levels moment.scene → 1 ≤ n → length levels ≡ n + k → Leads (HasMerged n) (does_all w (replicate k element.Subcommit) moment)
+  merges_leads zero n levels moment h some e = leads_nowhere w (HasMerged n) moment h.between.stands (record { levels = levels; leaves = h; many = omega (arith, e) })
+  merges_leads (suc k) n [] moment h some e = absurd (omega (arith, e))
+  merges_leads (suc k) n (level ∷ levels) moment h some e =
       leads_on w (Leaves levels) (HasMerged n) element.Subcommit (replicate k element.Subcommit) moment
-      (end_leads levels (does w element.Subcommit moment) (merge_stands w moment h.between.stands level levels h.are))
-      (λ m l. merges_leads k n levels m l (omega (arith, e)))
+      (end_leads levels (does w element.Subcommit moment) (merge_stands w moment h.between.stands level levels h.are (omega (arith, e, some))))
+      (λ m l. merges_leads k n levels m l some (omega (arith, e)))
 
   -- level 1 commits
   top_leads : (moment : Moment) → HasMerged 1 moment.scene → Between (does_all w (element.CommitTop ∷ []) moment)
@@ -502,24 +790,31 @@ module _ (w : Option ℕ) where
       go true = all_rolled_leads 1 level levels moment h (omega arith)
       go false =
           leads_both w (HasMerged 1) StandsBetweenLines (committed_to 2 (level ∷ levels)) (element.CommitTop ∷ []) moment
-          (merges_leads (length (level ∷ levels) + 1 - 2) 1 (level ∷ levels) moment h (omega arith)) top_leads
+          (merges_leads (length (level ∷ levels) + 1 - 2) 1 (level ∷ levels) moment h (omega arith) (omega arith)) top_leads
 
   rollback_leads : (levels : List LevelState) (moment : Moment) → Leaves levels moment.scene → Between (does_all w (rollback levels) moment)
   rollback_leads [] moment h = between_says what.NotInTransaction [] moment h.between (λ m k. between_nothing m k)
   rollback_leads (level ∷ levels) moment h = all_rolled_leads 1 level levels moment h (omega arith)
 
   -- a savepoint is that of a level that there is
-  savepoint_bound : (name : Text) (levels : List LevelState) (n : ℕ) → savepoint name levels ≡ Some n → (1 ≤ n) × (n ≤ length levels)
+  savepoint_bound : (name : Text) (levels : List LevelState) (n : ℕ) → savepoint name levels ≡ Some n → (2 ≤ n) × (n ≤ length levels)
   savepoint_bound name [] n e = absurd (cc e)
-  savepoint_bound name (level ∷ levels) n e = go (nat_lt 0 (length levels) && is_named name level) e (λ q. savepoint_bound name levels n q)
+  savepoint_bound name (level ∷ levels) n e = go (nat_lt 0 (length levels) && is_named name level) refl e (λ q. savepoint_bound name levels n q)
     where
-      go : (b : Bool) → (if b then Some (length levels + 1) else savepoint name levels) ≡ Some n → (savepoint name levels ≡ Some n → (1 ≤ n) × (n ≤ length levels))
-          → (1 ≤ n) × (n ≤ length (level ∷ levels))
-      go true e rest = let same : length levels + 1 ≡ n = cc e in (omega (arith, same), omega (arith, same))
-      go false e rest = let b = rest e in (b.0, omega (arith, b.1))
+      some : (a b : Bool) → nat_lt 0 (length levels) ≡ a → (a && b) ≡ true → 0 < length levels
+      some true b is e = ltb-true 0 (length levels) is
+      some false b is e = absurd (cc e)
+
+      go : (b : Bool) → (nat_lt 0 (length levels) && is_named name level) ≡ b → (if b then Some (length levels + 1) else savepoint name levels) ≡ Some n → (savepoint name levels ≡ Some n → (2 ≤ n) × (n ≤ length levels))
+          → (2 ≤ n) × (n ≤ length (level ∷ levels))
+      go true is e rest =
+          let same : length levels + 1 ≡ n = cc e in
+          let above : 0 < length levels = some (nat_lt 0 (length levels)) (is_named name level) refl is in
+          (omega (arith, same, above), omega (arith, same))
+      go false is e rest = let b = rest e in (b.0, omega (arith, b.1))
 
   at_savepoint_leads : (name : Text) (levels : List LevelState) (go_on : ℕ → List Element) (moment : Moment) → Leaves levels moment.scene
-      → ((n : ℕ) → 1 ≤ n → n ≤ length levels → Between (does_all w (go_on n) moment)) → Between (does_all w (at_savepoint name levels go_on) moment)
+      → ((n : ℕ) → 2 ≤ n → n ≤ length levels → Between (does_all w (go_on n) moment)) → Between (does_all w (at_savepoint name levels go_on) moment)
   at_savepoint_leads name [] go_on moment h next = refused_leads StandsBetweenLines error.NoTransactionBlock moment h.between.stands
   at_savepoint_leads name (level ∷ levels) go_on moment h next = go (savepoint name (level ∷ levels)) refl
     where
@@ -527,9 +822,9 @@ module _ (w : Option ℕ) where
       go None e = refused_leads StandsBetweenLines error.NoSuchSavepoint moment h.between.stands
       go (Some n) e = let b = savepoint_bound name (level ∷ levels) n e in next n b.0 b.1
 
-  release_leads : (n : ℕ) (levels : List LevelState) (moment : Moment) → Leaves levels moment.scene → 1 ≤ n → n ≤ length levels → Between (does_all w (committed_to n levels) moment)
+  release_leads : (n : ℕ) (levels : List LevelState) (moment : Moment) → Leaves levels moment.scene → 2 ≤ n → n ≤ length levels → Between (does_all w (committed_to n levels) moment)
   release_leads n levels moment h low high =
-      let k : Leads (HasMerged (n - 1)) (does_all w (committed_to n levels) moment) = merges_leads (length levels + 1 - n) (n - 1) levels moment h (omega (arith, low, high)) in
+      let k : Leads (HasMerged (n - 1)) (does_all w (committed_to n levels) moment) = merges_leads (length levels + 1 - n) (n - 1) levels moment h (omega (arith, low)) (omega (arith, low, high)) in
       record { stands = k.stands; passed = λ e. (k.passed e).leaves.between }
 
   -- a block or a savepoint is begun
@@ -538,7 +833,7 @@ module _ (w : Option ℕ) where
       let k : Leads (HasBegun name false levels) (does_all w (start name false) moment) = start_leads w name false levels moment (record { stands = h; are = is }) outer (λ e. absurd (cc e)) in
       record { stands = k.stands; passed = λ e. begun_between name levels _ outer (k.passed e) }
 
-  back_leads : (name : Text) (n : ℕ) (levels : List LevelState) (moment : Moment) → Leaves levels moment.scene → 1 ≤ n → n ≤ length levels → Between (does_all w (rolled_back_to n levels ++ start (Some name) false) moment)
+  back_leads : (name : Text) (n : ℕ) (levels : List LevelState) (moment : Moment) → Leaves levels moment.scene → 2 ≤ n → n ≤ length levels → Between (does_all w (rolled_back_to n levels ++ start (Some name) false) moment)
   back_leads name n [] moment h low high = absurd (omega (arith, low, high))
   back_leads name n (level ∷ levels) moment h low high =
       leads_both w IsOuter StandsBetweenLines (rolled_back_to n (level ∷ levels)) (start (Some name) false) moment (rolled_leads n level levels moment h (omega (arith, high)))

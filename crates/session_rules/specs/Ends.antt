@@ -43,6 +43,10 @@ stack_popped level scene = record {
   events = pops level (reverse scene.session.snapshots);
 }
 
+-- active snapshots of this level belong to the level above
+abbrev pub stack_lowered : ℕ → Scene → Ended
+stack_lowered level scene = changes (λ session. record session { snapshots = map (lowered level) session.snapshots }) scene
+
 -- level 1 commits
 abbrev pub committed : Scene → Ended
 committed scene =
@@ -65,7 +69,7 @@ subcommitted scene =
     say (what.CommitLevel level)
     ∷ for_each (portal_passed level (owner_of (level_above scene.session))) scene.session.portals
     ∷ level_released true false
-    ∷ changes (λ session. record session { snapshots = map (lowered level) session.snapshots })
+    ∷ stack_lowered level
     ∷ level_owner_gone
     ∷ switched_up
     ∷ empty_context_gone

@@ -1,5 +1,5 @@
 -- What the elements that can't fail do, but the ends.
-use Rattle.std.specs.Prelude.{ℕ, ◌+◌, ◌-◌, ◌==◌, false, if◌then◌else◌, List, [], ◌∷◌, length, take, count_by}
+use Rattle.std.specs.Prelude.{ℕ, ◌+◌, ◌-◌, false, if◌then◌else◌, List, [], ◌∷◌, length, take, slice_index}
 use Rattle.pgs_step.specs.declared.events.What.{What}
 use Rattle.pgs_step.specs.declared.events.What.TheVariants as what
 use Rattle.pgs_step.specs.declared.ids.KindId.{KindId}
@@ -57,7 +57,7 @@ tells events scene = record { scene = scene; events = events }
 -- how many sessions pin a buffer
 abbrev pub pinning : ℕ → Scene → ℕ
 pinning buffer scene =
-    count_by (λ other. other == buffer) scene.around.pinned + (if holds buffer_pin buffer scene.session then 1 else 0)
+    slice_index scene.around.pinned buffer + (if holds buffer_pin buffer scene.session then 1 else 0)
 
 -- a lock is given back once
 abbrev pub lock_given_back : ℕ → Mode → ℕ → Scene → Ended

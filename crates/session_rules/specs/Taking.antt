@@ -127,10 +127,13 @@ hook_registered name scene =
 abbrev pub hook_refused : Scene → Option Error
 hook_refused scene = option_map_or (λ hook. None) (first_of scene.around.shelf.fresh) (Some error.LimitReached)
 
--- a snapshot is pushed at the deepest level
-abbrev pub snapshot_pushed : ℕ → Scene → Ended
-snapshot_pushed snapshot scene =
+-- a snapshot is pushed at a level; at the deepest one
+abbrev pub pushed_at : ℕ → ℕ → Scene → Ended
+pushed_at level snapshot scene =
     in_order (
-    changes (λ session. record session { snapshots = session.snapshots ++ (record { snapshot = snapshot; level = depth session } ∷ []) })
+    changes (λ session. record session { snapshots = session.snapshots ++ (record { snapshot = snapshot; level = level } ∷ []) })
     ∷ say (what.Push snapshot)
     ∷ []) scene
+
+abbrev pub snapshot_pushed : ℕ → Scene → Ended
+snapshot_pushed snapshot scene = pushed_at (depth scene.session) snapshot scene

@@ -1,11 +1,11 @@
 -- A run: all sessions and what they share. A session and its surroundings.
-use Rattle.std.specs.Prelude.{ℕ, ◌+◌, ◌-◌, ◌==◌, if◌then◌else◌, List, [], ◌∷◌, map, replicate, slice_get, slice_set, Option, None}
-use Rattle.std.specs.List.{flat_map}
+use Rattle.std.specs.Prelude.{ℕ, ◌+◌, ◌-◌, ◌==◌, if◌then◌else◌, List, [], ◌∷◌, map, replicate, slice_get, slice_set, count_by, Option, None}
+use Rattle.std.specs.List.{flat_map, range_with_len}
 use Rattle.lock_shared.specs.declared.shared_locks.Holding.{Holding}
 use Rattle.owner_kinds.specs.Kind.{Kind}
 use Rattle.reset_callbacks.specs.ShelfState.{ShelfState}
 use Rattle.session_rules.specs.State.{SessionState, buffer_pin, opening}
-use Rattle.session_rules.specs.Counts.{keys}
+use Rattle.session_rules.specs.Counts.{holds}
 
 -- How a run is set up: how many sessions it has, how many bytes of the space and how many descriptors each of them has,
 -- and which fallible call fails, counted from 1; 0 is none.
@@ -24,8 +24,8 @@ pub record World : Type 0 where
   pub shelf : ShelfState
   pub calls : ℕ
 
--- What a session's command sees besides the session: kinds and hooks of the run, the buffers that other sessions pin,
--- each as often as sessions do, what other sessions have locked, and the session's share of the space and of the
+-- What a session's command sees besides the session: kinds and hooks of the run, how many other sessions pin each buffer,
+-- that of buffer 0 first, what other sessions have locked, and the session's share of the space and of the
 -- descriptors.
 pub record Around : Type 0 where
   pub kinds : List Kind
@@ -55,12 +55,20 @@ others n from (session ∷ sessions) =
 abbrev pub holdings : Numbered → List Holding
 holdings session = map (λ lock. record { object = lock.object; mode = lock.mode; session = session.number }) session.state.locks
 
+-- a number for each of the 1,024 buffers, that of buffer 0 first
+abbrev pub for_buffers : (ℕ → ℕ) → List ℕ
+for_buffers number = map number (range_with_len 0 1024)
+
+-- how many of these sessions pin a buffer
+abbrev pub pinning_among : List Numbered → ℕ → ℕ
+pinning_among sessions buffer = count_by (λ other. holds buffer_pin buffer other.state) sessions
+
 -- what surrounds the session of this number
 abbrev pub around : ℕ → World → Around
 around n world = record {
   kinds = world.kinds;
   shelf = world.shelf;
-  pinned = flat_map (λ other. keys buffer_pin other.state) (others n 1 world.sessions);
+  pinned = for_buffers (pinning_among (others n 1 world.sessions));
   locked = flat_map holdings (others n 1 world.sessions);
   space = world.options.space;
   descriptors = world.options.descriptors;

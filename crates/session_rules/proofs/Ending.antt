@@ -1,0 +1,355 @@
+-- A session of which the deepest level ends, on its way through the portals.
+use Rattle.std.proofs.Common.{◌≡◌, ◌≢◌, ℕ, ◌+◌, find, true, false, Option, Some, None, List, [], ◌∷◌, ◌++◌, refl, sym, ap, ◌∙◌, subst, inl, inr, arith}
+use Rattle.std.specs.Prelude.{if◌then◌else◌, All}
+use Rattle.std.specs.Option.{option_map_or}
+use Rattle.std.proofs.lemmas.Bool.{cases_eq, cases_Bool, ne_eqb}
+use Rattle.std.proofs.lemmas.List.Elements.{All-head, All-tail, All-weaker}
+use Rattle.forest.specs.Forest.{Empty, Once, has, at, children, parent_of, changed, removed}
+use Rattle.forest.proofs.Trees.{at_some, at_absent, has_changed}
+use Rattle.forest.proofs.Mapped.{at_changed, at_changed_other, parent_changed}
+use Rattle.forest.proofs.Walks.{children_changed}
+use Rattle.pgs_step.specs.declared.events.What.TheVariants as what
+use Rattle.pgs_step.specs.declared.ids.Item.{Item}
+use Rattle.pgs_step.specs.declared.ids.KindId.{KindId}
+use Rattle.reset_callbacks.specs.ShelfState.{ShelfState}
+use Rattle.context_rules.specs.Contexts.{Contexts, is_protected}
+use Rattle.context_rules.specs.Ends.{gone, handed_in}
+use Rattle.owner_kinds.specs.Kind.{Kind}
+use Rattle.owner_kinds.specs.KindTable.{KindTable, IsSound as IsSoundTable}
+use Rattle.owner_kinds.specs.KindShelf.{table_of}
+use Rattle.owner_items.specs.ItemList.{is_of, without_newest}
+use Rattle.owner_items.proofs.Order.{All-without}
+use Rattle.owner_core.specs.Owners.{Owner, OwnerTree, forgotten, has_begun}
+use Rattle.owner_core.specs.Sound.{IsSound}
+use Rattle.owner_core.proofs.Sounds.{once_of, sound_forgotten}
+use Rattle.lock_local.specs.Locks.{Lock}
+use Rattle.session_rules.specs.State.{LevelState, OpenPortal, StandingPlan, cache_context, plan_reference, portals_context}
+use Rattle.session_rules.specs.World.{Scene}
+use Rattle.session_rules.specs.Lookup.{newest, portals_but}
+use Rattle.session_rules.specs.Acts.{Ended, changes, context_gone, for_each, in_order, portal_gone, say, where_there}
+use Rattle.session_rules.specs.Releases.{given_back, item_released}
+use Rattle.session_rules.specs.Standing.{AreContexts, AreDifferent, AreHooks, AreLevels, AreOuter, ArePlans, HasItems, IsItem, IsPlace, IsPortal, IsRow, referred}
+use Rattle.session_rules.proofs.Guarded.{all_changed}
+use Rattle.session_rules.proofs.ContextsKept.{IsSame, contexts_level_gone, off_outside, same_removed}
+use Rattle.session_rules.proofs.HooksKept.{conserves_gone, hooks_ended}
+use Rattle.session_rules.proofs.HeldItems.{held_forgotten}
+use Rattle.session_rules.proofs.LevelsKept.{AreEnding, IsLoose, levels_stay}
+use Rattle.session_rules.proofs.Lone.{lone_changed, lone_left}
+use Rattle.session_rules.proofs.PlansAmong.{levels_apart, plans_moved}
+use Rattle.session_rules.proofs.PortalLists.{but_one, different_without, others_back, others_front, owner_split}
+use Rattle.session_rules.proofs.PortalsAmong.{IsRowOf, attached_by, off_levels, off_rows, place_same, place_spared, row_left, row_of}
+use Rattle.session_rules.proofs.Settling.{Fits, Settles, besides_of, item_settles}
+
+-- the deepest level's owner isn't the portal's
+abbrev pub IsAway : LevelState → OpenPortal → Type 0
+IsAway level p = (n : ℕ) → p.owner ≡ Some n → level.owner ≡ Some n → ⊥
+
+-- a portal that is done
+pub record IsDone (level : LevelState) (done : List LevelState) (t : Contexts) (x : OwnerTree) (current : ℕ) (p : OpenPortal) : Type 0 where
+  pub portal : IsPortal p done t x current
+  pub away : IsAway level p
+
+-- Portals of the front are done, and are those of the levels `done`.
+pub record Ending (level : LevelState) (levels done : List LevelState) (front back : List OpenPortal) (s : Scene) : Type 0 where
+  pub contexts : AreContexts s.session.contexts s.session.next_context
+  pub hooks : AreHooks s.session.contexts s.around.shelf
+  pub all : AreLevels (level ∷ levels) s.session.contexts s.session.owners
+  pub outer : AreOuter levels
+  pub kinds : IsSoundTable (table_of s.around.kinds)
+  pub owners : AreEnding (table_of s.around.kinds) s.session.owners s.session.next_owner s.session.next_serial level levels (front ++ back)
+  pub plans : ArePlans s.session.plans s.session.contexts s.session.current (referred s.session.owners)
+  pub ended : All (IsDone level done s.session.contexts s.session.owners s.session.current) front
+  pub rest : All (λ p. IsPortal p (level ∷ levels) s.session.contexts s.session.owners s.session.current) back
+  pub different : AreDifferent (front ++ back)
+  pub are : s.session.portals ≡ front ++ back
+
+-- what an end changes on this way
+pub record Parts : Type 0 where
+  pub locks : List Lock
+  pub recent : List ℕ
+  pub kinds : List Kind
+  pub plans : List StandingPlan
+  pub contexts : Contexts
+  pub shelf : ShelfState
+  pub owners : OwnerTree
+  pub portals : List OpenPortal
+
+abbrev pub with_parts : Parts → Scene → Scene
+with_parts x scene = record {
+  session = record scene.session { locks = x.locks; recent = x.recent; plans = x.plans; contexts = x.contexts; owners = x.owners; portals = x.portals };
+  around = record scene.around { kinds = x.kinds; shelf = x.shelf };
+}
+
+abbrev pub parts_of : Scene → Parts
+parts_of scene = record {
+  locks = scene.session.locks;
+  recent = scene.session.recent;
+  kinds = scene.around.kinds;
+  plans = scene.session.plans;
+  contexts = scene.session.contexts;
+  shelf = scene.around.shelf;
+  owners = scene.session.owners;
+  portals = scene.session.portals;
+}
+
+-- an act leads to portals that are done and those that aren't
+pub record Goes (level : LevelState) (levels done : List LevelState) (front back : List OpenPortal) (s t : Scene) : Type 0 where
+  pub parts : Parts
+  pub same : table_of parts.kinds ≡ table_of s.around.kinds
+  pub is : t ≡ with_parts parts s
+  pub ending : Ending level levels done front back (with_parts parts s)
+
+-- what an act leads to, whatever became of the portal that it is for
+pub record Leads (level : LevelState) (levels done : List LevelState) (back : List OpenPortal) (s t : Scene) : Type 0 where
+  pub front : List OpenPortal
+  pub goes : Goes level levels done front back s t
+
+module _ (level : LevelState) (levels done : List LevelState) where
+  pub goes_nothing : (front back : List OpenPortal) (s : Scene) → Ending level levels done front back s → Goes level levels done front back s s
+  goes_nothing front back s h = record { parts = parts_of s; same = refl; is = refl; ending = h }
+
+  -- one act and then another
+  pub then_goes : (act : Scene → Ended) (a b c d : List OpenPortal) (s t : Scene) (one : Goes level levels done a b s t) → Goes level levels done c d (with_parts one.parts s) (act (with_parts one.parts s)).scene
+      → Goes level levels done c d s (act t).scene
+  then_goes act a b c d s t one two = record {
+    parts = two.parts;
+    same = two.same ∙ one.same;
+    is = ap (λ (z : Scene). (act z).scene) one.is ∙ two.is;
+    ending = two.ending;
+  }
+
+  -- an act for each portal
+  pub each_goes : (act : OpenPortal → Scene → Ended) → ((p : OpenPortal) (front back : List OpenPortal) (s : Scene) → Ending level levels done front (p ∷ back) s → Leads level levels done back s (act p s).scene)
+      → (ps front : List OpenPortal) (s : Scene) → Ending level levels done front ps s → Leads level levels done [] s (for_each act ps s).scene
+  each_goes act one [] front s h = record { front = front; goes = goes_nothing front [] s h }
+  each_goes act one (p ∷ ps) front s h =
+      let first : Leads level levels done ps s (act p s).scene = one p front ps s h in
+      let next : Scene = with_parts first.goes.parts s in
+      let rest : Leads level levels done [] next (for_each act ps next).scene = each_goes act one ps first.front next first.goes.ending in
+      record { front = rest.front; goes = then_goes (for_each act ps) first.front ps rest.front [] s (act p s).scene first.goes rest.goes }
+
+-- owners of which one changes its items
+pub begun_changed : (m n : ℕ) (f : Owner → Owner) (x : OwnerTree) → ((o : Owner) → (f o).begun ≡ o.begun) → has_begun m (changed n f x) ≡ has_begun m x
+begun_changed m n f x same =
+    elim (cases_eq m n) [
+      | inl e ↦ elim (cases_Bool (has m x)) [
+        | inl y ↦
+            let a = at_some m x y in
+            let now : at m (changed n f x) ≡ Some (f a.0) = rw (← e) (at_changed m f x a.0 a.1) in
+            ap (λ (o : Option Owner). option_map_or (λ owner. owner.begun) o false) now ∙ same a.0 ∙ ap (λ (o : Option Owner). option_map_or (λ owner. owner.begun) o false) (sym a.1)
+        | inr y ↦ ap (λ (o : Option Owner). option_map_or (λ owner. owner.begun) o false) (at_absent m (changed n f x) (has_changed m n f x ∙ y) ∙ sym (at_absent m x y))
+      ]
+      | inr ne ↦ ap (λ (o : Option Owner). option_map_or (λ owner. owner.begun) o false) (at_changed_other m n f x ne)
+    ]
+
+loose_changed : (level : LevelState) (m n : ℕ) (f : Owner → Owner) (x : OwnerTree) → IsLoose level m x → IsLoose level m (changed n f x)
+loose_changed level m n f x l = record {
+  owner = l.owner;
+  is = l.is;
+  within = elim l.within [ inl e ↦ inl e | inr u ↦ inr (ap (has m) (children_changed l.owner n f x) ∙ has_changed m n f (children l.owner x) ∙ u) ];
+}
+
+ending_changed : (kinds : KindTable) (level : LevelState) (levels : List LevelState) (portals : List OpenPortal) (x : OwnerTree) (a b n : ℕ) (f : Owner → Owner) → ((o : Owner) → (f o).begun ≡ o.begun) → ((o : Owner) → HasItems kinds o → HasItems kinds (f o))
+    → IsSound (changed n f x) a b → AreEnding kinds x a b level levels portals → AreEnding kinds (changed n f x) a b level levels portals
+ending_changed kinds level levels portals x a b n f begun known sound h = record {
+  sound = sound;
+  each = λ m u. elim (h.each m (sym (has_changed m n f x) ∙ u)) [
+    | inl i ↦ inl i
+    | inr k ↦ elim k [ inl p ↦ inr (inl p) | inr l ↦ inr (inr (loose_changed level m n f x l)) ]
+  ];
+  begun = λ m u. loose_changed level m n f x (h.begun m (sym (begun_changed m n f x begun) ∙ u));
+  fresh = λ active m u. h.fresh active m (sym (begun_changed m n f x begun) ∙ u);
+  items = all_changed (HasItems kinds) n f x known h.items;
+}
+
+-- An owner gives its newest item of a kind and key back.
+module _ (level : LevelState) (levels done : List LevelState) where
+  pub item_goes : (o : ℕ) (kind : KindId) (key : ℕ) (front back : List OpenPortal) (s : Scene) → has o s.session.owners ≡ true → Ending level levels done front back s → Goes level levels done front back s (item_released o kind key s).scene
+  item_goes o kind key front back s there h = go (newest o kind key s.session) refl
+    where
+      go : (i : Option Item) → newest o kind key s.session ≡ i
+          → Goes level levels done front back s (where_there i (λ item. in_order (changes (λ session. record session { owners = forgotten o kind key session.owners }) ∷ say (what.Release item o) ∷ given_back item ∷ [])) s).scene
+      go None e = goes_nothing level levels done front back s h
+      go (Some item) e =
+          let x : OwnerTree = s.session.owners in
+          let y : OwnerTree = forgotten o kind key x in
+          let f : Owner → Owner = λ owner. record owner { items = without_newest (is_of kind key) owner.items } in
+          let a = at_some o x there in
+          let t : Scene = record s { session = record s.session { owners = y } } in
+          let once : Once x = once_of x s.session.next_owner s.session.next_serial h.owners.sound in
+          let found : find (is_of kind key) a.0.items ≡ Some item = ap (λ (z : Option Owner). find (is_of kind key) (option_map_or (λ owner. owner.items) z [])) (sym a.1) ∙ e in
+          let one : (m : ℕ) → referred x m ≡ (if is_of plan_reference m item then 1 else 0) + referred y m = λ m. omega (arith, held_forgotten plan_reference m o kind key item a.0 x once a.1 found) in
+          let fits : Fits s.session.next_context s.session.current (referred x) (besides_of t) = record { contexts = h.contexts; hooks = h.hooks; plans = h.plans } in
+          let g : Settles (referred y) t (given_back item t).scene = item_settles item t (referred x) (referred y) one fits in
+          let u : Contexts = g.besides.contexts in
+          let still : (ls : List LevelState) (p : OpenPortal) → IsPortal p ls s.session.contexts x s.session.current → IsPortal p ls u y s.session.current = λ ls p i. record {
+            place = λ m q. place_spared (besides_of s) g.besides s.session.current g.spares h.plans.each m p.expr s.session.current (i.place m q);
+            made = i.made;
+            owner = λ m q. attached_by m p.created ls ls x y (λ w. has_changed m o f x ∙ w) (parent_changed m o f x) (lone_changed m o f x) refl (λ j. j) (i.owner m q);
+            stage = i.stage;
+          } in
+          let kinds : KindTable = table_of s.around.kinds in
+          let owners : AreEnding kinds y s.session.next_owner s.session.next_serial level levels (front ++ back) =
+          ending_changed kinds level levels (front ++ back) x s.session.next_owner s.session.next_serial o f (λ z. refl) (λ z k. All-without (IsItem kinds) (is_of kind key) z.items k)
+          (sound_forgotten o a.0 (is_of kind key) x s.session.next_owner s.session.next_serial h.owners.sound a.1) h.owners in
+          record {
+            parts = record { locks = g.besides.locks; recent = g.besides.recent; kinds = g.besides.kinds; plans = g.besides.plans; contexts = u; shelf = g.besides.shelf; owners = y; portals = s.session.portals };
+            same = g.same;
+            is = g.is;
+            ending = record {
+              contexts = g.fits.contexts;
+              hooks = g.fits.hooks;
+              all = levels_stay (level ∷ levels) s.session.contexts u x y
+                  (λ m i prot. g.spares.same m (levels_apart (level ∷ levels) s.session.contexts x s.session.plans s.session.current h.all h.plans.each m i) prot)
+                  (λ m i w. record { there = has_changed m o f x ∙ w; parent = parent_changed m o f x }) h.all;
+              outer = h.outer;
+              kinds = subst (λ (k : KindTable). IsSoundTable k) (sym g.same) h.kinds;
+              owners = subst (λ (k : KindTable). AreEnding k y s.session.next_owner s.session.next_serial level levels (front ++ back)) (sym g.same) owners;
+              plans = g.fits.plans;
+              ended = All-weaker (IsDone level done s.session.contexts x s.session.current) (IsDone level done u y s.session.current) (λ p d. record { portal = still done p d.portal; away = d.away }) front h.ended;
+              rest = All-weaker (λ p. IsPortal p (level ∷ levels) s.session.contexts x s.session.current) (λ p. IsPortal p (level ∷ levels) u y s.session.current) (still (level ∷ levels)) back h.rest;
+              different = h.different;
+              are = h.are;
+            };
+          }
+
+-- what stays where a context of a portal goes, or all below it
+pub record Beside (c : ℕ) (t u : Contexts) (current : ℕ) : Type 0 where
+  pub same : (m : ℕ) → m ≢ c → has m (children c t) ≡ false → is_protected m t ≡ true → IsSame m t u
+  pub lone : (m : ℕ) → m ≢ c → has m (children c t) ≡ false → children m t ≡ Empty → children m u ≡ Empty
+  pub rows : (m : ℕ) (expr : Option ℕ) → m ≢ c → has m (children c t) ≡ false → IsPlace m expr t current → IsRow expr (children m u)
+
+module _ (t : Contexts) (next : ℕ) (h : AreContexts t next) (c : ℕ) (expr : Option ℕ) (current : ℕ) (place : IsPlace c expr t current) where
+  -- what isn't its row isn't below a portal's context
+  pub below_place : (m : ℕ) → ((e : ℕ) → expr ≡ Some e → m ≢ e) → has m (children c t) ≡ false
+  below_place m off = go expr off place.row
+    where
+      go : (o : Option ℕ) → ((e : ℕ) → o ≡ Some e → m ≢ e) → IsRow o (children c t) → has m (children c t) ≡ false
+      go None off r = ap (has m) r
+      go (Some e) off r = ap (has m) r.1 ∙ rw (ne_eqb e m (λ z. off e refl (sym z))) refl
+
+  row_here : (e : ℕ) → expr ≡ Some e → IsRowOf e c t
+  row_here e q = row_of e c t current h.once (subst (λ (o : Option ℕ). IsPlace c o t current) q place)
+
+  -- a row of another portal isn't its context
+  row_other : (m : ℕ) (o : Option ℕ) → IsPlace m o t current → (e : ℕ) → o ≡ Some e → e ≢ c
+  row_other m o k e q z =
+      let r : IsRowOf e m t = row_of e m t current h.once (subst (λ (x : Option ℕ). IsPlace m x t current) q k) in
+      let same : m ≡ portals_context = let w : Some m ≡ Some portals_context = sym r.parent ∙ ap (λ (j : ℕ). parent_of j t) z ∙ place.parent in cc w in
+      absurd (omega (arith, same, k.own))
+
+  pub beside_removed : Beside c t (removed c t) current
+  beside_removed = record {
+    same = λ m ne out prot. same_removed t next h m c (ne, out) prot;
+    lone = λ m ne out e. lone_left m c t h.once ne out e;
+    rows = λ m o ne out k. row_left t h.once m o current k c ne out (λ e q. row_other m o k e q);
+  }
+
+  -- levels, plans and other portals
+  pub levels_beside : (level : LevelState) (levels : List LevelState) (u : Contexts) (x : OwnerTree) → Beside c t u current → AreLevels (level ∷ levels) t x → AreLevels (level ∷ levels) u x
+  levels_beside level levels u x b l =
+      levels_stay (level ∷ levels) t u x x
+      (λ m i prot. b.same m (off_levels (level ∷ levels) t x l m i c portals_context (omega arith) (omega arith) place.parent)
+      (below_place m (λ e q. let r : IsRowOf e c t = row_here e q in off_rows (level ∷ levels) t x l m i e c place.own place.parent r.parent)) prot)
+      (λ m i there. record { there = there; parent = refl }) l
+
+  pub plans_beside : (plans : List StandingPlan) (u : Contexts) (times : ℕ → ℕ) → Beside c t u current → ArePlans plans t current times → ArePlans plans u current times
+  plans_beside plans u times b p =
+      plans_moved plans t u current times
+      (λ m k.
+      let ne : m ≢ c = λ z. let w : Some cache_context ≡ Some portals_context = sym k.parent ∙ ap (λ (j : ℕ). parent_of j t) z ∙ place.parent in absurd (three (cc w)) in
+      let out : has m (children c t) ≡ false = off_outside t next h m cache_context c (omega arith) (omega arith) place.own k.parent in
+      (b.same m ne out k.protected, b.lone m ne out k.lone)) p
+    where
+      three : cache_context ≡ portals_context → ⊥
+      three e = omega (arith, e)
+
+  pub places_beside : (u : Contexts) → Beside c t u current → (m : ℕ) (o : Option ℕ) → m ≢ c → IsPlace m o t current → IsPlace m o u current
+  places_beside u b m o ne k =
+      let out : has m (children c t) ≡ false = off_outside t next h m portals_context c (omega arith) (omega arith) place.own k.parent in
+      place_same m o t u current (b.same m ne out k.protected) (b.rows m o ne out k) k
+
+-- A portal goes, with its context; its owner is left to the deepest level.
+module _ (level : LevelState) (levels done : List LevelState) where
+  gone_owners : (kinds : KindTable) (x : OwnerTree) (a b : ℕ) (p : OpenPortal) (front back : List OpenPortal) → ((n : ℕ) → p.owner ≡ Some n → IsLoose level n x) → AreEnding kinds x a b level levels (front ++ (p ∷ back)) → AreEnding kinds x a b level levels (front ++ back)
+  gone_owners kinds x a b p front back loose h = record {
+    sound = h.sound;
+    each = λ n u. elim (h.each n u) [
+      | inl i ↦ inl i
+      | inr k ↦ elim k [
+        | inl j ↦ elim (owner_split n p front back j) [ inl e ↦ inr (inr (loose n e)) | inr q ↦ inr (inl q) ]
+        | inr l ↦ inr (inr l)
+      ]
+    ];
+    begun = h.begun;
+    fresh = h.fresh;
+    items = h.items;
+  }
+
+  pub close_goes : (p : OpenPortal) (front back : List OpenPortal) (s : Scene) → ((n : ℕ) → p.owner ≡ Some n → IsLoose level n s.session.owners) → Ending level levels done front (p ∷ back) s
+      → Goes level levels done front back s (in_order (where_there p.context context_gone ∷ portal_gone p.name ∷ []) s).scene
+  close_goes p front back s loose h = go p.context refl
+    where
+      left : portals_but p.name s.session.portals ≡ front ++ back
+      left = ap (portals_but p.name) h.are ∙ but_one p front back h.different
+
+      first : IsPortal p (level ∷ levels) s.session.contexts s.session.owners s.session.current
+      first = All-head (λ q. IsPortal q (level ∷ levels) s.session.contexts s.session.owners s.session.current) p back h.rest
+
+      owners : AreEnding (table_of s.around.kinds) s.session.owners s.session.next_owner s.session.next_serial level levels (front ++ back)
+      owners = gone_owners (table_of s.around.kinds) s.session.owners s.session.next_owner s.session.next_serial p front back loose h.owners
+
+      go : (c : Option ℕ) → p.context ≡ c → Goes level levels done front back s (in_order (where_there c context_gone ∷ portal_gone p.name ∷ []) s).scene
+      go None e = record {
+        parts = record (parts_of s) { portals = portals_but p.name s.session.portals };
+        same = refl;
+        is = refl;
+        ending = record {
+          contexts = h.contexts;
+          hooks = h.hooks;
+          all = h.all;
+          outer = h.outer;
+          kinds = h.kinds;
+          owners = owners;
+          plans = h.plans;
+          ended = h.ended;
+          rest = All-tail (λ q. IsPortal q (level ∷ levels) s.session.contexts s.session.owners s.session.current) p back h.rest;
+          different = different_without p front back h.different;
+          are = left;
+        };
+      }
+      go (Some c) e =
+          let t : Contexts = s.session.contexts in
+          let x : OwnerTree = s.session.owners in
+          let next : ℕ = s.session.next_context in
+          let cur : ℕ = s.session.current in
+          let place : IsPlace c p.expr t cur = first.place c e in
+          let u : Contexts = removed c t in
+          let b : Beside c t u cur = beside_removed t next h.contexts c p.expr cur place in
+          let still : (ls : List LevelState) (q : OpenPortal) → ((n : ℕ) → q.context ≡ Some n → n ≢ c) → IsPortal q ls t x cur → IsPortal q ls u x cur = λ ls q ne i. record {
+            place = λ n f. places_beside t next h.contexts c p.expr cur place u b n q.expr (ne n f) (i.place n f);
+            made = i.made;
+            owner = i.owner;
+            stage = i.stage;
+          } in
+          let fronts = others_front p front back h.different in
+          let backs = others_back p front back h.different in
+          let tail = All-tail (λ q. IsPortal q (level ∷ levels) t x cur) p back h.rest in
+          record {
+            parts = record (parts_of s) { contexts = u; shelf = handed_in (gone c t).hooks s.around.shelf; portals = portals_but p.name s.session.portals };
+            same = refl;
+            is = refl;
+            ending = record {
+              contexts = contexts_level_gone t next h.contexts c place.own;
+              hooks = hooks_ended t (gone c t) s.around.shelf (conserves_gone c t h.contexts.once) h.hooks;
+              all = levels_beside t next h.contexts c p.expr cur place level levels u x b h.all;
+              outer = h.outer;
+              kinds = h.kinds;
+              owners = owners;
+              plans = plans_beside t next h.contexts c p.expr cur place s.session.plans u (referred x) b h.plans;
+              ended = λ k q below. let o = fronts k q below in let d = h.ended k q below in record { portal = still done _ (λ n f z. o.context n (e ∙ ap Some (sym z)) f) d.portal; away = d.away };
+              rest = λ k q below. let o = backs k q below in still (level ∷ levels) _ (λ n f z. o.context n f (e ∙ ap Some (sym z))) (tail k q below);
+              different = different_without p front back h.different;
+              are = left;
+            };
+          }

@@ -1,0 +1,206 @@
+-- How often owners hold a kind and key, behind each change of them, and what a phase of a release gives back of it.
+use Rattle.std.proofs.Common.{◌≡◌, ℕ, ◌+◌, find, Bool, true, false, Option, Some, None, List, [], ◌∷◌, ◌++◌, refl, ap, ◌∙◌, arith, inl, inr}
+use Rattle.std.specs.Prelude.{◌==◌, ◌||◌, if◌then◌else◌}
+use Rattle.std.proofs.lemmas.Grind.{common_steps}
+use Rattle.std.proofs.lemmas.Bool.{cases_Bool, eqb-true, or_parts}
+use Rattle.pgs_step.specs.declared.ids.Item.{Item}
+use Rattle.pgs_step.specs.declared.ids.KindId.{KindId}
+use Rattle.pgs_step.specs.declared.ids.Phase.{Phase}
+use Rattle.pgs_step.specs.declared.ids.Phase.TheVariants.{BeforeLocks, Locks, AfterLocks}
+use Rattle.forest.specs.Forest.{Empty, Node, Once, either, has, at, children, moved, parent_of, put, removed, AllNodes}
+use Rattle.forest.specs.Walk.{all_changed, swept}
+use Rattle.forest.proofs.Trees.{Apart, Moves, apart_of, at_some, at_absent, removed_absent}
+use Rattle.owner_kinds.specs.KindTable.{KindTable}
+use Rattle.owner_items.specs.ItemList.{is_of, uses, without_newest}
+use Rattle.owner_items.specs.Next.{release_order}
+use Rattle.owner_items.proofs.Uses.{count-without}
+use Rattle.owner_core.specs.Owners.{Owner, OwnerTree, AllAt, HoldsNothing, created, forgotten, held, remembered}
+use Rattle.owner_core.specs.Released.{left_of, own_released, released}
+use Rattle.owner_core.specs.Sound.{total}
+use Rattle.owner_core.specs.Steps.{Step, GivesBack, lock_step, own_steps, release_steps, releases_of, steps_below, top_locks}
+use Rattle.owner_core.proofs.ItemLemmas.{uses_phase}
+use Rattle.owner_core.proofs.Releasing.{held_changed}
+use Rattle.owner_core.proofs.Sounds.{total_moved, total_removed}
+
+module _ (kind : KindId) (key : ℕ) where
+  used : Owner → ℕ
+  used owner = uses kind key owner.items
+
+  held_total : (t : OwnerTree) → held kind key t ≡ total used t
+  unfolding used
+  held_total Empty = refl
+  held_total (Node n a below beside) = rw (held_total below, held_total beside) refl
+
+  held_put : (p n : ℕ) (t : OwnerTree) → held kind key (put p n (record { begun = false; items = [] }) Empty t) ≡ held kind key t
+  held_put p n Empty = refl
+  held_put p n (Node k b below beside) =
+      elim (cases_Bool (k == p)) [
+        | inl y ↦ rw y (omega (arith, held_put p n beside))
+        | inr y ↦ rw y (omega (arith, held_put p n below, held_put p n beside))
+      ]
+
+  -- a new owner holds nothing
+  pub held_created : (parent : Option ℕ) (n : ℕ) (t : OwnerTree) → held kind key (created parent n t) ≡ held kind key t
+  held_created None n t = omega arith
+  held_created (Some p) n t = held_put p n t
+
+  -- an owner and those below it
+  held_parts : (n : ℕ) (a : Owner) (t : OwnerTree) → Once t → at n t ≡ Some a
+      → held kind key (removed n t) + (uses kind key a.items + held kind key (children n t)) ≡ held kind key t
+  unfolding used
+  held_parts n a t o h =
+      let sum = total_removed used n a t o h in
+      omega (arith, sum, held_total (removed n t), held_total (children n t), held_total t)
+
+  held_nothing : (t : OwnerTree) → AllNodes HoldsNothing t → held kind key t ≡ 0
+  held_nothing Empty h = refl
+  held_nothing (Node n a below beside) h =
+      omega (arith, ap (uses kind key) h.0, held_nothing below h.1, held_nothing beside h.2)
+
+  -- owners go that hold nothing
+  pub held_removed : (n : ℕ) (t : OwnerTree) → Once t → AllAt HoldsNothing n t → held kind key (removed n t) ≡ held kind key t
+  held_removed n t o all =
+      elim (cases_Bool (has n t)) [
+        | inl h ↦
+            let w = at_some n t h in
+            let nothing : AllNodes HoldsNothing (Node n w.0 (children n t) Empty) = rw w.1 at all in
+            omega (arith, held_parts n w.0 t o w.1, ap (uses kind key) nothing.0, held_nothing (children n t) nothing.1)
+        | inr h ↦ ap (held kind key) (removed_absent n t h)
+      ]
+
+  -- an owner moves
+  pub held_moved : (n q : ℕ) (t : OwnerTree) → Once t → Moves n q t → held kind key (moved n q t) ≡ held kind key t
+  unfolding used
+  held_moved n q t o w =
+      let a = at_some n t w.node in
+      let sum = total_moved used n q a.0 t o w a.1 in
+      rw a.1 (omega (arith, sum, held_total (put q n a.0 (children n t) (removed n t)), held_total t))
+
+  uses_one : (item : Item) (items : List Item) → uses kind key (item ∷ items) ≡ uses kind key items + (if is_of kind key item then 1 else 0)
+  uses_one item items = grind (arith, common_steps)
+
+  -- one item more
+  pub held_remembered : (n : ℕ) (item : Item) (a : Owner) (t : OwnerTree) → Once t → at n t ≡ Some a
+      → held kind key (remembered n item t) ≡ held kind key t + (if is_of kind key item then 1 else 0)
+  held_remembered n item a t o h =
+      omega (
+        arith,
+        held_changed kind key n (λ (x : Owner). record x { items = item ∷ x.items }) a t o h,
+        uses_one item a.items,
+      )
+
+  -- one item fewer
+  pub held_forgotten : (n : ℕ) (of : KindId) (at_key : ℕ) (item : Item) (a : Owner) (t : OwnerTree) → Once t → at n t ≡ Some a → find (is_of of at_key) a.items ≡ Some item
+      → held kind key (forgotten n of at_key t) + (if is_of kind key item then 1 else 0) ≡ held kind key t
+  held_forgotten n of at_key item a t o h found =
+      omega (
+        arith,
+        held_changed kind key n (λ (x : Owner). record x { items = without_newest (is_of of at_key) x.items }) a t o h,
+        count-without (is_of kind key) (is_of of at_key) a.items item found,
+      )
+
+  -- how often steps give it back
+  abbrev pub given : Step → ℕ
+  given (GivesBack item) = if is_of kind key item then 1 else 0
+  given other = 0
+
+  abbrev pub gives : List Step → ℕ
+  gives [] = 0
+  gives (step ∷ steps) = given step + gives steps
+
+  gives_both : (xs ys : List Step) → gives (xs ++ ys) ≡ gives xs + gives ys
+  gives_both [] ys = omega arith
+  gives_both (x ∷ xs) ys = omega (arith, gives_both xs ys)
+
+  gives_releases : (commit : Bool) (n : ℕ) (items : List Item) → gives (releases_of commit n items) ≡ uses kind key items
+  gives_releases commit n [] = refl
+  gives_releases true n (item ∷ items) = omega (arith, gives_releases true n items, uses_one item items)
+  gives_releases false n (item ∷ items) = omega (arith, gives_releases false n items, uses_one item items)
+
+  -- of one owner: what it gives back and what is left to it is what it had
+  gives_own : (kinds : KindTable) (phase : Phase) (commit : Bool) (n : ℕ) (owner : Owner) (locks : List Step) → gives locks ≡ 0
+      → gives (own_steps kinds phase commit n owner locks) + uses kind key (left_of kinds phase owner.items) ≡ uses kind key owner.items
+  gives_own kinds Locks commit n owner locks none = omega (arith, none)
+  gives_own kinds BeforeLocks commit n owner locks none = omega (arith, gives_releases commit n (release_order kinds BeforeLocks owner.items), uses_phase kind key kinds BeforeLocks owner.items)
+  gives_own kinds AfterLocks commit n owner locks none = omega (arith, gives_releases commit n (release_order kinds AfterLocks owner.items), uses_phase kind key kinds AfterLocks owner.items)
+
+  lock_gives : (commit : Bool) (n parent : ℕ) → given (lock_step commit n parent) ≡ 0
+  lock_gives true n parent = refl
+  lock_gives false n parent = refl
+
+  locks_give : (top commit : Bool) (n parent : ℕ) → gives (if top then [] else lock_step commit n parent ∷ []) ≡ 0
+  locks_give true commit n parent = refl
+  locks_give false commit n parent = omega (arith, lock_gives commit n parent)
+
+  top_gives : (top commit : Bool) (n : ℕ) (parent : Option ℕ) → gives (top_locks top commit n parent) ≡ 0
+  top_gives true commit n parent = refl
+  top_gives false commit n None = refl
+  top_gives false commit n (Some p) = omega (arith, lock_gives commit n p)
+
+  -- of the owners below one
+  gives_below : (kinds : KindTable) (phase : Phase) (commit top : Bool) (parent : ℕ) (t : OwnerTree)
+      → gives (steps_below kinds phase commit top parent t) + held kind key (all_changed (own_released kinds phase) t) ≡ held kind key t
+  gives_below kinds phase commit top parent Empty = refl
+  gives_below kinds phase commit top parent (Node n owner below beside) =
+      let locks : List Step = if top then [] else lock_step commit n parent ∷ [] in
+      let own : List Step = own_steps kinds phase commit n owner locks in
+      omega (
+        arith,
+        gives_both (steps_below kinds phase commit top n below) (own ++ steps_below kinds phase commit top parent beside),
+        gives_both own (steps_below kinds phase commit top parent beside),
+        gives_own kinds phase commit n owner locks (locks_give top commit n parent),
+        gives_below kinds phase commit top n below,
+        gives_below kinds phase commit top parent beside,
+      )
+
+  -- what a change of an owner and of all below it does to the sum
+  unswept : (f : Owner → Owner) (n : ℕ) (t : OwnerTree) → has n t ≡ false → swept f n t ≡ t
+  unswept f n Empty h = refl
+  unswept f n (Node k a below beside) h =
+      let p = or_parts (k == n) (has n below || has n beside) h in
+      let q = or_parts (has n below) (has n beside) p.1 in
+      rw (p.0, unswept f n below q.0, unswept f n beside q.1) refl
+
+  held_swept : (f : Owner → Owner) (n : ℕ) (a : Owner) (t : OwnerTree) → Once t → at n t ≡ Some a
+      → held kind key (swept f n t) + (uses kind key a.items + held kind key (children n t)) ≡ held kind key t + (uses kind key (f a).items + held kind key (all_changed f (children n t)))
+  held_swept f n a Empty o h = absurd (cc h)
+  held_swept f n a (Node k b below beside) o h =
+      let apart : Apart k below beside = apart_of k b below beside o in
+      elim (cases_Bool (k == n)) [
+        | inl y ↦
+            let v : has n beside ≡ false = rw (eqb-true k n y) at apart.not_beside in
+            let e : b ≡ a = let w : Some b ≡ Some a = rw y at h in cc w in
+            rw (y, unswept f n beside v, e) (omega arith)
+        | inr y ↦ elim (cases_Bool (has n below)) [
+          | inl u ↦
+              let w = at_some n below u in
+              let r : at n below ≡ Some a = let z : either (at n below) (at n beside) ≡ Some a = rw y at h in w.1 ∙ (rw w.1 at z) in
+              rw (y, u, unswept f n beside (apart.apart n u)) (omega (arith, held_swept f n a below apart.once_below r))
+          | inr u ↦
+              let r : at n beside ≡ Some a = rw (y, at_absent n below u) at h in
+              rw (y, u, unswept f n below u) (omega (arith, held_swept f n a beside apart.once_beside r))
+        ]
+      ]
+
+  -- A phase gives back what it takes off the owners.
+  pub gives_phase : (kinds : KindTable) (phase : Phase) (commit top : Bool) (n : ℕ) (t : OwnerTree) → Once t
+      → gives (release_steps kinds phase commit top n t) + held kind key (released kinds phase n t) ≡ held kind key t
+  gives_phase kinds phase commit top n t o =
+      elim (cases_Bool (has n t)) [
+        | inl u ↦
+            let w = at_some n t u in
+            let below : List Step = steps_below kinds phase commit top n (children n t) in
+            let own : List Step = own_steps kinds phase commit n w.0 (top_locks top commit n (parent_of n t)) in
+            let steps : release_steps kinds phase commit top n t ≡ below ++ own = rw w.1 refl in
+            omega (
+              arith,
+              ap gives steps,
+              gives_both below own,
+              gives_below kinds phase commit top n (children n t),
+              gives_own kinds phase commit n w.0 (top_locks top commit n (parent_of n t)) (top_gives top commit n (parent_of n t)),
+              held_swept (own_released kinds phase) n w.0 t o w.1,
+            )
+        | inr u ↦
+            let steps : release_steps kinds phase commit top n t ≡ [] = rw (at_absent n t u) refl in
+            omega (arith, ap gives steps, ap (held kind key) (unswept (own_released kinds phase) n t u))
+      ]

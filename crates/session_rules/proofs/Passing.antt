@@ -1,0 +1,285 @@
+-- Portals pass to the level above where the deepest one is merged into it.
+use Rattle.std.proofs.Common.{◌≡◌, ◌≢◌, ◌⊎◌, ℕ, ◌+◌, ◌-◌, ◌≤◌, Bool, true, false, Option, Some, None, List, [], ◌∷◌, ◌++◌, length, refl, sym, ap, ◌∙◌, subst, inl, inr, arith}
+use Rattle.std.specs.Prelude.{◌==◌}
+use Rattle.std.specs.Option.{option_map_or}
+use Rattle.std.proofs.lemmas.Bool.{cases_eq, cases_Bool, eq-eqb, eqb-true, eqb-false, ne_eqb}
+use Rattle.forest.specs.Forest.{Once, has, moved}
+use Rattle.forest.proofs.Trees.{Moves}
+use Rattle.context_rules.specs.Contexts.{Contexts}
+use Rattle.owner_kinds.specs.KindShelf.{table_of}
+use Rattle.owner_core.specs.Owners.{Owner, OwnerTree}
+use Rattle.owner_core.proofs.Sounds.{once_of, sound_moved}
+use Rattle.portal_store.specs.Portal.{lowered}
+use Rattle.session_rules.specs.State.{LevelState, OpenPortal, first_of, owner_of, plan_reference}
+use Rattle.session_rules.specs.World.{Scene}
+use Rattle.session_rules.specs.Lookup.{portal_changed}
+use Rattle.session_rules.specs.Acts.{for_each, in_order, portal_becomes, where_so, where_there}
+use Rattle.session_rules.specs.Releases.{owner_moved}
+use Rattle.session_rules.specs.Portals.{portal_passed}
+use Rattle.session_rules.specs.Standing.{AreLevels, AreOuter, ArePlans, HasItems, IsAttached, IsDead, IsLive, IsOwner, IsPortal, owner_at, referred}
+use Rattle.session_rules.proofs.Guarded.{all_moved}
+use Rattle.session_rules.proofs.ContextsKept.{stay_same}
+use Rattle.session_rules.proofs.HeldItems.{held_moved}
+use Rattle.session_rules.proofs.LevelsKept.{AreEnding, is_there, levels_stay, no_value, one_value}
+use Rattle.session_rules.proofs.Stacked.{depth_outer, depth_small, depth_still}
+use Rattle.session_rules.proofs.PlansAmong.{plans_counted}
+use Rattle.session_rules.proofs.PortalLists.{Changes, changed_one, owner_beside, owner_here, owner_split}
+use Rattle.session_rules.proofs.PortalsAmong.{attached_by}
+use Rattle.session_rules.proofs.Ending.{Ending, Leads, each_goes, parts_of, with_parts}
+use Rattle.session_rules.proofs.Replacing.{IsBeside, first_of_rest, replaced}
+use Rattle.session_rules.proofs.Moving.{HasMoved, has_moved, loose_moved}
+
+-- where a portal's owner moves to an owner of these levels
+module _ (levels : List LevelState) (o q : ℕ) (t : Contexts) (x : OwnerTree) (current : ℕ) (m : HasMoved o q x) where
+  pub levels_moved : (IsOwner o levels → ⊥) → AreLevels levels t x → AreLevels levels t (moved o q x)
+  levels_moved other l =
+      levels_stay levels t t x (moved o q x) (λ k i prot. stay_same t k prot)
+      (λ k i there. record { there = m.has_same k ∙ there; parent = m.parent_other k (λ z. other (subst (λ (j : ℕ). IsOwner j levels) z i)) }) l
+
+  pub portal_moved : (p r : OpenPortal) → p.owner ≡ Some o → IsBeside p r → IsOwner q levels → IsPortal r levels t x current → IsPortal r levels t (moved o q x) current
+  portal_moved p r e b i k = record {
+    place = k.place;
+    made = k.made;
+    owner = λ n f.
+        let a : IsAttached n r.created levels x = k.owner n f in
+        let ne : n ≢ o = λ z. b.owner n f (e ∙ ap Some (sym z)) in
+        attached_by n r.created levels levels x (moved o q x) (λ w. m.has_same n ∙ w) (m.parent_other n ne)
+        (m.lone_other n (λ z. a.other (subst (λ (j : ℕ). IsOwner j levels) (sym z) i)) ne) refl (λ j. j) a;
+    stage = k.stage;
+  }
+
+pub plans_owner_moved : (s : Scene) (o q : ℕ) → Once s.session.owners → Moves o q s.session.owners → ArePlans s.session.plans s.session.contexts s.session.current (referred s.session.owners)
+    → ArePlans s.session.plans s.session.contexts s.session.current (referred (moved o q s.session.owners))
+plans_owner_moved s o q once w h =
+    plans_counted s.session.plans s.session.contexts s.session.current (referred s.session.owners) (referred (moved o q s.session.owners)) (λ m. sym (held_moved plan_reference m o q s.session.owners once w)) h
+
+-- bounds of the levels of a portal
+pub record IsBounded (p : OpenPortal) (depth : ℕ) : Type 0 where
+  pub within : p.created ≤ p.active
+  pub active : p.active ≤ depth
+
+pub bounded : (p : OpenPortal) (levels : List LevelState) → IsLive p levels ⊎ IsDead p levels → IsBounded p (length levels)
+bounded p levels s = elim s [
+  | inl l ↦ record { within = l.within; active = omega (arith, l.active, depth_small levels) }
+  | inr d ↦ record { within = d.within; active = d.active }
+]
+
+lowered_most : (depth n : ℕ) → n ≤ depth → lowered depth n ≤ depth - 1
+lowered_most depth n small = elim (cases_Bool (n == depth)) [
+  | inl y ↦ let same : n ≡ depth = eqb-true n depth y in rw y (omega (arith, same))
+  | inr y ↦ let ne = eqb-false n depth y in rw y (omega (arith, small, ne))
+]
+
+lowered_within : (depth c a : ℕ) → c ≤ a → a ≤ depth → lowered depth c ≤ lowered depth a
+lowered_within depth c a within small = elim (cases_Bool (a == depth)) [
+  | inl y ↦
+      let same : a ≡ depth = eqb-true a depth y in
+      let most : lowered depth c ≤ depth - 1 = lowered_most depth c (omega (arith, within, small)) in
+      rw y (omega (arith, most, same))
+  | inr y ↦
+      let ne = eqb-false a depth y in
+      rw (y, ne_eqb c depth (λ z. ne (omega (arith, z, within, small)))) within
+]
+
+lowered_some : (depth n : ℕ) → 2 ≤ depth → 1 ≤ n → 1 ≤ lowered depth n
+lowered_some depth n deep some = elim (cases_Bool (n == depth)) [
+  | inl y ↦ let same : n ≡ depth = eqb-true n depth y in rw y (omega (arith, same, deep))
+  | inr y ↦ rw y some
+]
+
+-- a portal that passes
+module _ (level : LevelState) (levels : List LevelState) (some : 1 ≤ length levels) where
+  abbrev depth : ℕ
+  depth = length (level ∷ levels)
+
+  abbrev passed : OpenPortal → OpenPortal
+  passed old = record old { created = lowered depth old.created; active = lowered depth old.active }
+
+  passed_live : (p : OpenPortal) → AreOuter levels → IsLive p (level ∷ levels) ⊎ IsDead p (level ∷ levels) → IsLive (passed p) levels
+  passed_live p outer s =
+      let b : IsBounded p depth = bounded p (level ∷ levels) s in
+      let low : 1 ≤ p.created = elim s [ inl l ↦ l.some | inr d ↦ omega (arith, d.created) ] in
+      let most : lowered depth p.active ≤ depth - 1 = lowered_most depth p.active b.active in
+      record {
+        some = lowered_some depth p.created (omega (arith, some)) low;
+        within = lowered_within depth p.created p.active b.within b.active;
+        active = omega (arith, most, depth_outer levels outer);
+      }
+
+  changes_passed : (p : OpenPortal) → Changes p (passed p)
+  changes_passed p = record { name = refl; context = λ n e. e; owner = λ n e. e }
+
+  -- the owner of the level above
+  above_is : (q : ℕ) → owner_of (first_of levels) ≡ Some q → owner_at (depth - 1) levels ≡ Some q
+  above_is q e = go levels some e
+    where
+      go : (ls : List LevelState) → 1 ≤ length ls → owner_of (first_of ls) ≡ Some q → owner_at (length (level ∷ ls) - 1) ls ≡ Some q
+      go [] n e = absurd (omega (arith, n))
+      go (l ∷ ls) n e = rw (eq-eqb (length ls + 1) (length (level ∷ (l ∷ ls)) - 1) (omega arith)) e
+
+  above_owner : (q : ℕ) → owner_of (first_of levels) ≡ Some q → IsOwner q levels
+  above_owner q e = go levels e
+    where
+      go : (ls : List LevelState) → owner_of (first_of ls) ≡ Some q → IsOwner q ls
+      go [] e = absurd (no_value None q refl e)
+      go (l ∷ ls) e = inl e
+
+  above_made : AreOuter levels → (q : ℕ) × (owner_of (first_of levels) ≡ Some q)
+  above_made outer = go levels some outer
+    where
+      go : (ls : List LevelState) → 1 ≤ length ls → AreOuter ls → (q : ℕ) × (owner_of (first_of ls) ≡ Some q)
+      go [] n o = absurd (omega (arith, n))
+      go (l ∷ ls) n o = is_there l.owner o.0.made.owner
+
+  above_there : (t : Contexts) (x : OwnerTree) (q : ℕ) → AreLevels levels t x → owner_of (first_of levels) ≡ Some q → has q x ≡ true
+  above_there t x q l e = go levels l e
+    where
+      go : (ls : List LevelState) → AreLevels ls t x → owner_of (first_of ls) ≡ Some q → has q x ≡ true
+      go [] l e = absurd (no_value None q refl e)
+      go (a ∷ ls) l e = (l.0.owner q e).there
+
+  -- without a move
+  plain : (p : OpenPortal) (front back : List OpenPortal) (s : Scene) → Ending level levels levels front (p ∷ back) s → (p.created ≡ depth → p.owner ≡ None)
+      → Leads level levels levels back s (portal_becomes p.name passed s).scene
+  plain p front back s h none =
+      let i = first_of_rest level levels levels p front back s h in
+      let q : OpenPortal = passed p in
+      let portals : List OpenPortal = portal_changed p.name passed s.session.portals in
+      let is : portals ≡ front ++ (q ∷ back) = ap (portal_changed p.name passed) h.are ∙ changed_one p passed front back h.different in
+      let lower : (n : ℕ) → p.owner ≡ Some n → p.created ≢ depth = λ n e z. no_value p.owner n (none z) e in
+      let own : IsPortal q levels s.session.contexts s.session.owners s.session.current = record {
+        place = i.place;
+        made = i.made;
+        owner = λ n e.
+            let a : IsAttached n p.created (level ∷ levels) s.session.owners = i.owner n e in
+            let ne : p.created ≢ depth = lower n e in
+            record {
+              there = a.there;
+              parent = a.parent ∙ rw (ne_eqb (length levels + 1) p.created (λ z. ne (sym z ∙ omega arith)), ne_eqb p.created depth ne) refl;
+              lone = a.lone;
+              other = λ j. a.other (inr j);
+            };
+        stage = inl (passed_live p h.outer i.stage);
+      } in
+      let owners : AreEnding (table_of s.around.kinds) s.session.owners s.session.next_owner s.session.next_serial level levels (front ++ (q ∷ back)) = record {
+        sound = h.owners.sound;
+        each = λ n u. elim (h.owners.each n u) [
+          | inl j ↦ inl j
+          | inr k ↦ inr (elim k [
+            | inl j ↦ inl (elim (owner_split n p front back j) [ inl e ↦ owner_here n q front back e | inr r ↦ owner_beside n q front back r ])
+            | inr l ↦ inr l
+          ])
+        ];
+        begun = h.owners.begun;
+        fresh = h.owners.fresh;
+        items = h.owners.items;
+      } in
+      let e : Ending level levels levels (front ++ (q ∷ [])) back (with_parts (record (parts_of s) { portals = front ++ (q ∷ back) }) s) =
+      replaced level levels levels p q front back s s.session.contexts s.session.owners s.around.shelf h (changes_passed p) h.contexts h.hooks h.all owners h.plans (λ r b d. d.portal) (λ r b k. k) own
+      (λ n f z. (i.owner n f).other (inl z)) in
+      record {
+        front = front ++ (q ∷ []);
+        goes = record {
+          parts = record (parts_of s) { portals = portals };
+          same = refl;
+          is = refl;
+          ending = subst (λ (ps : List OpenPortal). Ending level levels levels (front ++ (q ∷ [])) back (with_parts (record (parts_of s) { portals = ps }) s)) (sym is) e;
+        };
+      }
+
+  -- its owner moves to that of the level above
+  moves : (p : OpenPortal) (front back : List OpenPortal) (s : Scene) (o q : ℕ) → Ending level levels levels front (p ∷ back) s → p.created ≡ depth → p.owner ≡ Some o → owner_of (first_of levels) ≡ Some q
+      → Leads level levels levels back s (in_order (owner_moved o q ∷ portal_becomes p.name passed ∷ []) s).scene
+  moves p front back s o q h deep owned up =
+      let i = first_of_rest level levels levels p front back s h in
+      let t : Contexts = s.session.contexts in
+      let x : OwnerTree = s.session.owners in
+      let y : OwnerTree = moved o q x in
+      let no : ℕ = s.session.next_owner in
+      let ns : ℕ = s.session.next_serial in
+      let once : Once x = once_of x no ns h.owners.sound in
+      let a : IsAttached o p.created (level ∷ levels) x = i.owner o owned in
+      let upper : IsOwner q levels = above_owner q up in
+      let there : has q x ≡ true = above_there t x q h.all.1 up in
+      let w : Moves o q x = record { node = a.there; parent = there; other = λ z. a.other (inr (subst (λ (j : ℕ). IsOwner j levels) z upper)); apart = ap (has q) a.lone } in
+      let m : HasMoved o q x = has_moved o q x once w a.lone in
+      let new : OpenPortal = passed p in
+      let portals : List OpenPortal = portal_changed p.name passed s.session.portals in
+      let is : portals ≡ front ++ (new ∷ back) = ap (portal_changed p.name passed) h.are ∙ changed_one p passed front back h.different in
+      let number : lowered depth p.created ≡ depth - 1 = rw (eq-eqb p.created depth deep) (omega (arith, deep)) in
+      let own : IsPortal new levels t y s.session.current = record {
+        place = i.place;
+        made = i.made;
+        owner = λ n e. subst (λ (j : ℕ). IsAttached j (lowered depth p.created) levels y) (one_value p.owner o n owned e) (record {
+          there = m.has_same o ∙ a.there;
+          parent = m.parent ∙ sym (above_is q up) ∙ ap (λ (k : ℕ). owner_at k levels) (sym number);
+          lone = m.lone;
+          other = λ j. a.other (inr j);
+        });
+        stage = inl (passed_live p h.outer i.stage);
+      } in
+      let off : (lo : ℕ) → level.owner ≡ Some lo → lo ≢ o = λ lo e z. a.other (inl (e ∙ ap Some z)) in
+      let active : level.aborted ≡ false = elim i.stage [
+        | inl l ↦ not_aborted p l deep
+        | inr d ↦ absurd (no_value p.owner o d.owner owned)
+      ] in
+      let owners : AreEnding (table_of s.around.kinds) y no ns level levels (front ++ (new ∷ back)) = record {
+        sound = sound_moved o q x no ns h.owners.sound;
+        each = λ n u. elim (cases_eq n o) [
+          | inl z ↦ inr (inl (owner_here n new front back (owned ∙ ap Some (sym z))))
+          | inr ne ↦ elim (h.owners.each n (sym (m.has_same n) ∙ u)) [
+            | inl j ↦ inl j
+            | inr k ↦ inr (elim k [
+              | inl j ↦ inl (elim (owner_split n p front back j) [ inl e ↦ owner_here n new front back e | inr r ↦ owner_beside n new front back r ])
+              | inr l ↦ inr (loose_moved level n o q x m off ne l)
+            ])
+          ]
+        ];
+        begun = λ n u. absurd (h.owners.fresh active n (ap (λ (c : Option Owner). option_map_or (λ owner. owner.begun) c false) (sym (m.at_same n)) ∙ u));
+        fresh = λ b n u. h.owners.fresh active n (ap (λ (c : Option Owner). option_map_or (λ owner. owner.begun) c false) (sym (m.at_same n)) ∙ u);
+        items = all_moved (HasItems (table_of s.around.kinds)) o q x h.owners.items;
+      } in
+      let e : Ending level levels levels (front ++ (new ∷ [])) back (with_parts (record (parts_of s) { owners = y; portals = front ++ (new ∷ back) }) s) =
+      replaced level levels levels p new front back s t y s.around.shelf h (changes_passed p) h.contexts h.hooks (levels_moved (level ∷ levels) o q t x s.session.current m a.other h.all) owners (plans_owner_moved s o q once w h.plans)
+      (λ r b d. portal_moved levels o q t x s.session.current m p r owned b upper d.portal) (λ r b k. portal_moved (level ∷ levels) o q t x s.session.current m p r owned b (inr upper) k) own
+      (λ n f z. a.other (inl (z ∙ ap Some (one_value p.owner n o f owned)))) in
+      record {
+        front = front ++ (new ∷ []);
+        goes = record {
+          parts = record (parts_of s) { owners = y; portals = portals };
+          same = refl;
+          is = refl;
+          ending = subst (λ (ps : List OpenPortal). Ending level levels levels (front ++ (new ∷ [])) back (with_parts (record (parts_of s) { owners = y; portals = ps }) s)) (sym is) e;
+        };
+      }
+    where
+      not_aborted : (r : OpenPortal) → IsLive r (level ∷ levels) → r.created ≡ depth → level.aborted ≡ false
+      not_aborted r l deep = elim (cases_Bool level.aborted) [
+        | inl y ↦ absurd (omega (arith, l.within, l.active, depth_still level levels y, deep))
+        | inr y ↦ y
+      ]
+
+  passed_leads : (p : OpenPortal) (front back : List OpenPortal) (s : Scene) → Ending level levels levels front (p ∷ back) s → Leads level levels levels back s (portal_passed depth (owner_of (first_of levels)) p s).scene
+  passed_leads p front back s h = by_level (p.created == depth) refl
+    where
+      up : (q : ℕ) × (owner_of (first_of levels) ≡ Some q)
+      up = above_made h.outer
+
+      with_owner : p.created ≡ depth → (o q : ℕ) → owner_of (first_of levels) ≡ Some q → p.owner ≡ Some o
+          → Leads level levels levels back s (in_order (where_there (owner_of (first_of levels)) (owner_moved o) ∷ portal_becomes p.name passed ∷ []) s).scene
+      with_owner deep o q e owned =
+          subst (λ (c : Option ℕ). Leads level levels levels back s (in_order (where_there c (owner_moved o) ∷ portal_becomes p.name passed ∷ []) s).scene) (sym e)
+          (moves p front back s o q h deep owned e)
+
+      by_owner : p.created ≡ depth → (c : Option ℕ) → p.owner ≡ c
+          → Leads level levels levels back s (in_order (where_there c (λ owner. where_there (owner_of (first_of levels)) (owner_moved owner)) ∷ portal_becomes p.name passed ∷ []) s).scene
+      by_owner deep None e = plain p front back s h (λ _. e)
+      by_owner deep (Some o) e = let q = above_made h.outer in with_owner deep o q.0 q.1 e
+
+      by_level : (b : Bool) → (p.created == depth) ≡ b
+          → Leads level levels levels back s (in_order (where_so b (where_there p.owner (λ owner. where_there (owner_of (first_of levels)) (owner_moved owner))) ∷ portal_becomes p.name passed ∷ []) s).scene
+      by_level true e = by_owner (eqb-true p.created depth e) p.owner refl
+      by_level false e = plain p front back s h (λ z. absurd (eqb-false p.created depth e z))
+
+  pub all_passed : (ps : List OpenPortal) (s : Scene) → Ending level levels levels [] ps s → Leads level levels levels [] s (for_each (portal_passed depth (owner_of (first_of levels))) ps s).scene
+  all_passed ps s h = each_goes level levels levels (portal_passed depth (owner_of (first_of levels))) passed_leads ps [] s h

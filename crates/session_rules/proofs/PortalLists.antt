@@ -1,0 +1,140 @@
+-- What lists of portals keep where one of them changes or goes.
+use Rattle.std.proofs.Common.{◌≡◌, ◌≢◌, ◌⊎◌, ℕ, false, Some, List, [], ◌∷◌, ◌++◌, refl, sym, ap, ◌∙◌, inl, inr}
+use Rattle.std.specs.Prelude.{All}
+use Rattle.std.proofs.lemmas.Bool.{false_from_ne_true}
+use Rattle.std.proofs.lemmas.List.Elements.{All-nil, All-cons, All-head, All-tail, All-weaker}
+use Rattle.pgs_command.specs.Words.{is_text}
+use Rattle.pgs_command.proofs.ValueLemmas.{is_text-means, is_text-same}
+use Rattle.session_rules.specs.State.{OpenPortal}
+use Rattle.session_rules.specs.Lookup.{portal_changed, portals_but}
+use Rattle.session_rules.specs.Standing.{AreDifferent, AreOther, IsOfPortal}
+
+-- what holds of each portal of such a list
+module _ (P : OpenPortal → Type 0) where
+  pub all_front : (front back : List OpenPortal) → All P (front ++ back) → All P front
+  all_front [] back h = All-nil P
+  all_front (x ∷ xs) back h = All-cons P x xs (All-head P x (xs ++ back) h) (all_front xs back (All-tail P x (xs ++ back) h))
+
+  pub all_back : (front back : List OpenPortal) → All P (front ++ back) → All P back
+  all_back [] back h = h
+  all_back (x ∷ xs) back h = all_back xs back (All-tail P x (xs ++ back) h)
+
+-- the others differ from one
+pub others_front : (p : OpenPortal) (front back : List OpenPortal) → AreDifferent (front ++ (p ∷ back)) → All (λ q. AreOther q p) front
+others_front p [] back h = All-nil (λ q. AreOther q p)
+others_front p (x ∷ xs) back h =
+    All-cons (λ q. AreOther q p) x xs (All-head (AreOther x) p back (all_back (AreOther x) xs (p ∷ back) h.0)) (others_front p xs back h.1)
+
+pub others_back : (p : OpenPortal) (front back : List OpenPortal) → AreDifferent (front ++ (p ∷ back)) → All (AreOther p) back
+others_back p [] back h = h.0
+others_back p (x ∷ xs) back h = others_back p xs back h.1
+
+-- one goes
+without_one : (P : OpenPortal → Type 0) (p : OpenPortal) (front back : List OpenPortal) → All P (front ++ (p ∷ back)) → All P (front ++ back)
+without_one P p [] back h = All-tail P p back h
+without_one P p (x ∷ xs) back h = All-cons P x (xs ++ back) (All-head P x (xs ++ (p ∷ back)) h) (without_one P p xs back (All-tail P x (xs ++ (p ∷ back)) h))
+
+pub different_without : (p : OpenPortal) (front back : List OpenPortal) → AreDifferent (front ++ (p ∷ back)) → AreDifferent (front ++ back)
+different_without p [] back h = h.1
+different_without p (x ∷ xs) back h = (without_one (AreOther x) p xs back h.0, different_without p xs back h.1)
+
+-- one changes: it keeps its name, and gets neither another context nor another owner
+pub record Changes (p q : OpenPortal) : Type 0 where
+  pub name : q.name ≡ p.name
+  pub context : (n : ℕ) → q.context ≡ Some n → p.context ≡ Some n
+  pub owner : (n : ℕ) → q.owner ≡ Some n → p.owner ≡ Some n
+
+with_one : (P : OpenPortal → Type 0) (p q : OpenPortal) (front back : List OpenPortal) → (P p → P q) → All P (front ++ (p ∷ back)) → All P (front ++ (q ∷ back))
+with_one P p q [] back so h = All-cons P q back (so (All-head P p back h)) (All-tail P p back h)
+with_one P p q (x ∷ xs) back so h = All-cons P x (xs ++ (q ∷ back)) (All-head P x (xs ++ (p ∷ back)) h) (with_one P p q xs back so (All-tail P x (xs ++ (p ∷ back)) h))
+
+pub different_changed : (p q : OpenPortal) (front back : List OpenPortal) → Changes p q → AreDifferent (front ++ (p ∷ back)) → AreDifferent (front ++ (q ∷ back))
+different_changed p q [] back c h = (
+  All-weaker (AreOther p) (AreOther q)
+      (λ x o. record { name = λ z. o.name (z ∙ c.name); context = λ n e f. o.context n e (c.context n f); owner = λ n e f. o.owner n e (c.owner n f) }) back h.0,
+  h.1,
+)
+different_changed p q (x ∷ xs) back c h = (
+  with_one (AreOther x) p q xs back (λ o. record { name = λ z. o.name (sym c.name ∙ z); context = λ n e f. o.context n (c.context n e) f; owner = λ n e f. o.owner n (c.owner n e) f }) h.0,
+  different_changed p q xs back c h.1,
+)
+
+-- whose owner it is
+pub owner_split : (n : ℕ) (p : OpenPortal) (front back : List OpenPortal) → IsOfPortal n (front ++ (p ∷ back)) → (p.owner ≡ Some n) ⊎ IsOfPortal n (front ++ back)
+owner_split n p [] back i = i
+owner_split n p (x ∷ xs) back i = elim i [
+  | inl e ↦ inr (inl e)
+  | inr j ↦ elim (owner_split n p xs back j) [ inl e ↦ inl e | inr k ↦ inr (inr k) ]
+]
+
+pub owner_beside : (n : ℕ) (p : OpenPortal) (front back : List OpenPortal) → IsOfPortal n (front ++ back) → IsOfPortal n (front ++ (p ∷ back))
+owner_beside n p [] back i = inr i
+owner_beside n p (x ∷ xs) back i = elim i [ inl e ↦ inl e | inr j ↦ inr (owner_beside n p xs back j) ]
+
+pub owner_here : (n : ℕ) (p : OpenPortal) (front back : List OpenPortal) → p.owner ≡ Some n → IsOfPortal n (front ++ (p ∷ back))
+owner_here n p [] back e = inl e
+owner_here n p (x ∷ xs) back e = inr (owner_here n p xs back e)
+
+-- the portal of a name changes, or goes
+other_name : (p q : OpenPortal) → q.name ≢ p.name → is_text q.name p.name ≡ false
+other_name p q ne = false_from_ne_true (is_text q.name p.name) (λ u. ne (is_text-means q.name p.name u))
+
+abbrev IsNamedOther : OpenPortal → OpenPortal → Type 0
+IsNamedOther p q = q.name ≢ p.name
+
+changed_none : (p : OpenPortal) (f : OpenPortal → OpenPortal) (xs : List OpenPortal) → All (IsNamedOther p) xs → portal_changed p.name f xs ≡ xs
+changed_none p f [] h = refl
+changed_none p f (x ∷ xs) h =
+    rw (other_name p x (All-head (IsNamedOther p) x xs h)) (ap (λ (ys : List OpenPortal). x ∷ ys) (changed_none p f xs (All-tail (IsNamedOther p) x xs h)))
+
+but_none : (p : OpenPortal) (xs : List OpenPortal) → All (IsNamedOther p) xs → portals_but p.name xs ≡ xs
+but_none p [] h = refl
+but_none p (x ∷ xs) h =
+    rw (other_name p x (All-head (IsNamedOther p) x xs h)) (ap (λ (ys : List OpenPortal). x ∷ ys) (but_none p xs (All-tail (IsNamedOther p) x xs h)))
+
+named_back : (p : OpenPortal) (front back : List OpenPortal) → AreDifferent (front ++ (p ∷ back)) → All (IsNamedOther p) back
+named_back p front back h = All-weaker (AreOther p) (IsNamedOther p) (λ q o. o.name) back (others_back p front back h)
+
+pub changed_one : (p : OpenPortal) (f : OpenPortal → OpenPortal) (front back : List OpenPortal) → AreDifferent (front ++ (p ∷ back)) → portal_changed p.name f (front ++ (p ∷ back)) ≡ front ++ (f p ∷ back)
+changed_one p f [] back h = rw (is_text-same p.name) (ap (λ (ys : List OpenPortal). f p ∷ ys) (changed_none p f back (named_back p [] back h)))
+changed_one p f (x ∷ xs) back h =
+    let o : AreOther x p = All-head (λ q. AreOther q p) x xs (others_front p (x ∷ xs) back h) in
+    rw (other_name p x (λ z. o.name (sym z))) (ap (λ (ys : List OpenPortal). x ∷ ys) (changed_one p f xs back h.1))
+
+pub but_one : (p : OpenPortal) (front back : List OpenPortal) → AreDifferent (front ++ (p ∷ back)) → portals_but p.name (front ++ (p ∷ back)) ≡ front ++ back
+but_one p [] back h = rw (is_text-same p.name) (but_none p back (named_back p [] back h))
+but_one p (x ∷ xs) back h =
+    let o : AreOther x p = All-head (λ q. AreOther q p) x xs (others_front p (x ∷ xs) back h) in
+    rw (other_name p x (λ z. o.name (sym z))) (ap (λ (ys : List OpenPortal). x ∷ ys) (but_one p xs back h.1))
+
+-- one gets a context that no other one has
+pub different_new : (p q : OpenPortal) (front back : List OpenPortal) (new : ℕ) → q.name ≡ p.name → ((n : ℕ) → q.owner ≡ Some n → p.owner ≡ Some n) → ((n : ℕ) → q.context ≡ Some n → n ≡ new)
+    → All (λ r. (n : ℕ) → r.context ≡ Some n → n ≢ new) (front ++ (p ∷ back)) → AreDifferent (front ++ (p ∷ back)) → AreDifferent (front ++ (q ∷ back))
+different_new p q [] back new name owner is off h = (
+  λ k r below.
+      let o = h.0 k r below in
+      let f = All-tail (λ r. (n : ℕ) → r.context ≡ Some n → n ≢ new) p back off k r below in
+      record { name = λ z. o.name (z ∙ name); context = λ n e g. f n e (is n g); owner = λ n e g. o.owner n e (owner n g) },
+  h.1,
+)
+different_new p q (x ∷ xs) back new name owner is off h =
+    let mine : (n : ℕ) → x.context ≡ Some n → n ≢ new = All-head (λ r. (n : ℕ) → r.context ≡ Some n → n ≢ new) x (xs ++ (p ∷ back)) off in (
+      with_one (AreOther x) p q xs back (λ o. record { name = λ z. o.name (sym name ∙ z); context = λ n e g. mine n g (is n e); owner = λ n e g. o.owner n (owner n e) g }) h.0,
+      different_new p q xs back new name owner is (All-tail (λ r. (n : ℕ) → r.context ≡ Some n → n ≢ new) x (xs ++ (p ∷ back)) off) h.1,
+    )
+
+-- one gets an owner that no other one has
+pub different_owned : (p q : OpenPortal) (front back : List OpenPortal) (new : ℕ) → q.name ≡ p.name → ((n : ℕ) → q.context ≡ Some n → p.context ≡ Some n) → ((n : ℕ) → q.owner ≡ Some n → n ≡ new)
+    → All (λ r. (n : ℕ) → r.owner ≡ Some n → n ≢ new) (front ++ (p ∷ back)) → AreDifferent (front ++ (p ∷ back)) → AreDifferent (front ++ (q ∷ back))
+different_owned p q [] back new name context is off h = (
+  λ k r below.
+      let o = h.0 k r below in
+      let f = All-tail (λ r. (n : ℕ) → r.owner ≡ Some n → n ≢ new) p back off k r below in
+      record { name = λ z. o.name (z ∙ name); context = λ n e g. o.context n e (context n g); owner = λ n e g. f n e (is n g) },
+  h.1,
+)
+different_owned p q (x ∷ xs) back new name context is off h =
+    let mine : (n : ℕ) → x.owner ≡ Some n → n ≢ new = All-head (λ r. (n : ℕ) → r.owner ≡ Some n → n ≢ new) x (xs ++ (p ∷ back)) off in (
+      with_one (AreOther x) p q xs back (λ o. record { name = λ z. o.name (sym name ∙ z); context = λ n e g. o.context n (context n e) g; owner = λ n e g. mine n g (is n e) }) h.0,
+      different_owned p q xs back new name context is (All-tail (λ r. (n : ℕ) → r.owner ≡ Some n → n ≢ new) x (xs ++ (p ∷ back)) off) h.1,
+    )

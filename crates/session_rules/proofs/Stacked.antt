@@ -1,0 +1,83 @@
+-- What the stack of active snapshots keeps: its levels never fall, and each of them is a level.
+use Rattle.std.proofs.Common.{◌≡◌, ℕ, ◌+◌, ◌≤◌, ◌<◌, Bool, true, false, List, [], ◌∷◌, ◌++◌, refl, ◌∙◌, inl, inr, arith}
+use Rattle.std.specs.Prelude.{zero, suc, ◌-◌, ◌==◌, ◌||◌, nat_lt, if◌then◌else◌, length, map, take}
+use Rattle.std.proofs.lemmas.Bool.{cases_Bool, ltb-true, eqb-true, eqb-false}
+use Rattle.snap_table.specs.declared.active.Active.{Active}
+use Rattle.snap_table.specs.Snapshots.{kept_below, lowered}
+use Rattle.session_rules.specs.State.{LevelState}
+use Rattle.session_rules.specs.Standing.{AreOuter, AreStacked, IsActive, active_depth}
+
+-- the levels are also from a lower one, and to a higher one
+pub stacked_within : (low high least most : ℕ) (entries : List Active) → low ≤ least → most ≤ high → AreStacked least most entries → AreStacked low high entries
+stacked_within low high least most [] l u h = tt
+stacked_within low high least most (entry ∷ entries) l u h =
+    (omega (arith, h.0, l), omega (arith, h.1, u), stacked_within entry.level high entry.level most entries (omega arith) u h.2)
+
+-- a snapshot is pushed at the deepest of the levels
+pub stacked_pushed : (least most snapshot : ℕ) (entries : List Active) → least ≤ most → AreStacked least most entries → AreStacked least most (entries ++ (record { snapshot = snapshot; level = most } ∷ []))
+stacked_pushed least most snapshot [] l h = (l, omega arith, tt)
+stacked_pushed least most snapshot (entry ∷ entries) l h = (h.0, h.1, stacked_pushed entry.level most snapshot entries h.1 h.2)
+
+-- the newest are popped
+pub stacked_taken : (n least most : ℕ) (entries : List Active) → AreStacked least most entries → AreStacked least most (take n entries)
+stacked_taken zero least most entries h = tt
+stacked_taken (suc n) least most [] h = tt
+stacked_taken (suc n) least most (entry ∷ entries) h = (h.0, h.1, stacked_taken n entry.level most entries h.2)
+
+-- those of a level and of deeper ones are popped
+pub stacked_below : (level least most : ℕ) (entries : List Active) → AreStacked least most entries → AreStacked least (level - 1) (kept_below level entries)
+stacked_below level least most [] h = tt
+stacked_below level least most (entry ∷ entries) h =
+    let rest : AreStacked entry.level (level - 1) (kept_below level entries) = stacked_below level entry.level most entries h.2 in
+    elim (cases_Bool (nat_lt entry.level level)) [
+      | inl y ↦ let less : entry.level < level = ltb-true entry.level level y in rw y (h.0, omega (arith, less), rest)
+      | inr y ↦ rw y (stacked_within least (level - 1) entry.level (level - 1) (kept_below level entries) h.0 (omega arith) rest)
+    ]
+
+-- those of the deepest level belong to the one above
+lowered_from : (level least low : ℕ) (entries : List Active) → low ≤ least → low ≤ level - 1 → 1 ≤ level → AreStacked least level entries → AreStacked low (level - 1) (map (lowered level) entries)
+lowered_from level least low [] l u some h = tt
+lowered_from level least low (entry ∷ entries) l u some h =
+    elim (cases_Bool (entry.level == level)) [
+      | inl y ↦
+          let same : entry.level ≡ level = eqb-true entry.level level y in
+          rw y (u, omega arith, lowered_from level entry.level (level - 1) entries (omega (arith, same)) (omega arith) some h.2)
+      | inr y ↦
+          let up : entry.level ≤ level - 1 = omega (arith, h.1, eqb-false entry.level level y, some) in
+          rw y (omega (arith, l, h.0), up, lowered_from level entry.level entry.level entries (omega arith) up some h.2)
+    ]
+
+pub stacked_lowered : (level : ℕ) (entries : List Active) → 2 ≤ level → AreStacked 1 level entries → AreStacked 1 (level - 1) (map (lowered level) entries)
+stacked_lowered level entries some h = lowered_from level 1 1 entries (omega arith) (omega (arith, some)) (omega (arith, some)) h
+
+-- without a level there is none
+pub none_stacked : (entries : List Active) → AreStacked 1 0 entries → entries ≡ []
+none_stacked [] h = refl
+none_stacked (entry ∷ entries) h = absurd (omega (arith, h.0, h.1))
+
+-- the level that snapshots may be active in
+or_true : (b : Bool) → (b || true) ≡ true
+or_true true = refl
+or_true false = refl
+
+pub depth_still : (level : LevelState) (levels : List LevelState) → level.aborted ≡ true → active_depth (level ∷ levels) ≡ length levels
+depth_still level levels a = rw (a, or_true level.starting) refl
+
+pub depth_working : (level : LevelState) (levels : List LevelState) → IsActive level → active_depth (level ∷ levels) ≡ length levels + 1
+depth_working level levels h = rw (h.started, h.unaborted) refl
+
+pub depth_small : (levels : List LevelState) → active_depth levels ≤ length levels
+depth_small [] = omega arith
+depth_small (level ∷ levels) = go (level.starting || level.aborted)
+  where
+    go : (b : Bool) → (if b then length levels else length levels + 1) ≤ length (level ∷ levels)
+    go true = omega arith
+    go false = omega arith
+
+pub depth_outer : (levels : List LevelState) → AreOuter levels → active_depth levels ≡ length levels
+depth_outer [] h = refl
+depth_outer (level ∷ levels) h = depth_working level levels h.0 ∙ omega arith
+
+-- The stack that is left by a level that was aborted, or is: it fits the levels above.
+pub stacked_above : (levels : List LevelState) (most : ℕ) (entries : List Active) → AreOuter levels → most ≤ length levels → AreStacked 1 most entries → AreStacked 1 (active_depth levels) entries
+stacked_above levels most entries outer small h = stacked_within 1 (active_depth levels) 1 most entries (omega arith) (omega (arith, small, depth_outer levels outer)) h
