@@ -1,5 +1,6 @@
 -- The acts of a session's rules on its owners.
-use Rattle.std.proofs.Common.{◌≡◌, ℕ, ◌+◌, ◌-◌, ◌≤◌, Bool, find, Option, Some, List, [], ◌∷◌, ◌++◌, append-nil, refl, sym, ap, ◌∙◌, subst}
+use Rattle.std.proofs.Common.{◌≡◌, ℕ, ◌+◌, ◌-◌, ◌≤◌, Bool, find, Option, Some, List, [], ◌∷◌, ◌++◌, append-nil, length, map, reverse, take, refl, sym, ap, ◌∙◌, subst, arith}
+use Rattle.std.specs.Prelude.{slice_index}
 use Rattle.pgs_step.specs.declared.events.What.{What}
 use Rattle.pgs_step.specs.declared.events.What.TheVariants as what
 use Rattle.pgs_step.specs.declared.ids.Item.{Item}
@@ -12,23 +13,30 @@ use Rattle.owner_kinds.specs.KindShelf.{table_of}
 use Rattle.owner_items.specs.ItemList.{is_of}
 use Rattle.owner_core.specs.Owners.{OwnerTable}
 use Rattle.owner_core.specs.Released.{released}
-use Rattle.owner_core.specs.Steps.{Step, GivesBack, gone_events, made_event, release_steps}
+use Rattle.owner_core.specs.Steps.{GivesBack, gone_events, made_event, release_steps}
 use Rattle.lock_shared.specs.declared.shared_locks.Holding.{Holding}
 use Rattle.lock_shared.specs.Ranked.{beside}
 use Rattle.lock_shared.proofs.BesideLemmas.{beside_stays}
 use Rattle.lock_local.specs.Locks.{Lock, SessionLocks}
-use Rattle.session_rules.specs.State.{StandingPlan, buffer_pin, file_kind}
+use Rattle.snap_table.specs.declared.active.Active.{Active}
+use Rattle.snap_table.specs.Snapshots.{kept_below, lowered, pops}
+use Rattle.session_rules.specs.State.{StandingPlan, buffer_pin, file_kind, last_of}
+use Rattle.session_rules.specs.Ends.{stack_lowered, stack_popped}
+use Rattle.session_rules.specs.Parts.{snapshot_popped}
 use Rattle.session_rules.specs.World.{Scene}
-use Rattle.session_rules.specs.Acts.{Ended, and_then, behind, changes, for_each, in_order, nothing, say, where_there}
+use Rattle.session_rules.specs.Acts.{Ended, and_then, changes, for_each, in_order, nothing, say, where_there}
 use Rattle.session_rules.specs.Making.{owner_made}
 use Rattle.session_rules.proofs.ItemsStand.{extension_keeps}
-use Rattle.session_rules.specs.Taking.{descriptor_given, item_taken, remembers, taken_by}
-use Rattle.session_rules.specs.Releases.{Keeper, NoOne, TheKind, given_back, item_released, keeper_of, owner_gone, owner_released, phase_released, step_done}
+use Rattle.session_rules.specs.Taking.{descriptor_given, item_taken, pushed_at, remembers, taken_by}
+use Rattle.session_rules.specs.Releases.{Keeper, NoOne, TheKind, given_back, item_released, keeper_of, owner_gone, owner_released, phase_released}
 use Rattle.file_table.specs.Files.{Files, touch_events, touched_file}
 use Rattle.session_owners.specs.ResourceState.{OwnerTree, ResourceState, created, files_of, forgotten, items_of, locks_of, owners_of, remembered}
-use Rattle.session_owners.specs.Commons.{CommonState, LocksBalance}
+use Rattle.session_owners.specs.Commons.{CommonState, LocksBalance, pinned_beside, pinned_once}
 use Rattle.session_owners.specs.Tables.{Lending, TablesDo, TablesFit}
 use Rattle.session_owners.specs.Fitting.{Acted, OwnersFit, with_owners}
+use Rattle.session_owners.proofs.Counts.{held_created}
+use Rattle.session_owners.proofs.OwnPins.{beside_same, beside_still, pinned_remembered, pinned_same}
+use Rattle.session_owners.proofs.Stack.{last_newest, take_others}
 
 -- Owners put into a scene fit it, those put in last count, and those that fit it change nothing.
 pub fits_with : (a b : ResourceState) (c d : CommonState) (scene : Scene) → OwnersFit a c scene → OwnersFit b d (with_owners b d scene)
@@ -40,31 +48,33 @@ fits_with a b c d scene fit = record {
   descriptors = refl;
   kinds = refl;
   locked = refl;
+  pinned = refl;
   locks = refl;
+  snapshots = refl;
   plans = fit.plans;
 }
 
--- a scene with these owners, files and locks, these kinds, and what others have locked
-parts_in : Scene → OwnerTree → ℕ → ℕ → List ℕ → ℕ → List Kind → List Lock → List Holding → Scene
-parts_in scene owners next_owner next_serial recent descriptors kinds ls hs = record scene {
-  session = record scene.session { owners = owners; next_owner = next_owner; next_serial = next_serial; recent = recent; locks = ls };
-  around = record scene.around { kinds = kinds; locked = hs; descriptors = descriptors };
+-- a scene with these owners, files, locks and active snapshots, these kinds, what others have locked, and how many pin each buffer
+parts_in : Scene → OwnerTree → ℕ → ℕ → List ℕ → ℕ → List Kind → List Lock → List Holding → List ℕ → List Active → Scene
+parts_in scene owners next_owner next_serial recent descriptors kinds ls hs pinned stack = record scene {
+  session = record scene.session { owners = owners; next_owner = next_owner; next_serial = next_serial; recent = recent; locks = ls; snapshots = stack };
+  around = record scene.around { kinds = kinds; locked = hs; pinned = pinned; descriptors = descriptors };
 }
 
-owners_same : (scene : Scene) (o p : OwnerTree) (m n s t : ℕ) (fs gs : List ℕ) (d e : ℕ) (ks js : List Kind) (ls ms : List Lock) (hs is : List Holding)
-    → o ≡ p → m ≡ n → s ≡ t → fs ≡ gs → d ≡ e → ks ≡ js → ls ≡ ms → hs ≡ is → parts_in scene o m s fs d ks ls hs ≡ parts_in scene p n t gs e js ms is
-owners_same scene o p m n s t fs gs d e ks js ls ms hs is f g h i j k l q = rw (f, g, h, i, j, k, l, q) refl
+owners_same : (scene : Scene) (o p : OwnerTree) (m n s t : ℕ) (fs gs : List ℕ) (d e : ℕ) (ks js : List Kind) (ls ms : List Lock) (hs is : List Holding) (us vs : List ℕ) (xs ys : List Active)
+    → o ≡ p → m ≡ n → s ≡ t → fs ≡ gs → d ≡ e → ks ≡ js → ls ≡ ms → hs ≡ is → us ≡ vs → xs ≡ ys → parts_in scene o m s fs d ks ls hs us xs ≡ parts_in scene p n t gs e js ms is vs ys
+owners_same scene o p m n s t fs gs d e ks js ls ms hs is us vs xs ys f g h i j k l q u x = rw (f, g, h, i, j, k, l, q, u, x) refl
 
 pub fit_is : (a : ResourceState) (c : CommonState) (scene : Scene) → OwnersFit a c scene → scene ≡ with_owners a c scene
 unfolding parts_in
 fit_is a c scene fit =
     owners_same scene scene.session.owners (owners_of a) scene.session.next_owner a.next_owner scene.session.next_serial a.next_serial scene.session.recent a.recent scene.around.descriptors a.descriptors scene.around.kinds c.kinds
-    scene.session.locks a.locks scene.around.locked (beside a.session c.locks)
-    fit.owners fit.next_owner fit.next_serial fit.recent fit.descriptors fit.kinds fit.locks fit.locked
+    scene.session.locks a.locks scene.around.locked (beside a.session c.locks) scene.around.pinned (pinned_beside (owners_of a) c.pins) scene.session.snapshots a.stack
+    fit.owners fit.next_owner fit.next_serial fit.recent fit.descriptors fit.kinds fit.locks fit.locked fit.pinned fit.snapshots
 
--- owners, files and locks as a session's resources
-abbrev pub state_of : OwnerTable → Files → SessionLocks → ResourceState
-state_of table files locks = record {
+-- owners, files, locks and active snapshots as a session's resources
+abbrev pub state_of : OwnerTable → Files → SessionLocks → List Active → ResourceState
+state_of table files locks stack = record {
   rooms = table.rooms;
   places = table.places;
   next_owner = table.next_owner;
@@ -73,6 +83,7 @@ state_of table files locks = record {
   descriptors = files.descriptors;
   session = locks.session;
   locks = locks.locks;
+  stack = stack;
 }
 
 -- no act, and one act behind another
@@ -89,27 +100,27 @@ acted_both f g a b z c d e First Second Both more p q = record {
       (subst (λ (s : Scene). Second (g s).events) (sym (p.leads scene fit)) (q.says (with_owners b d scene) (fits_with a b c d scene fit)));
 }
 
--- a scene with these owners and files and with these locks, plans and kinds, and what others have locked
-with_parts : Scene → OwnerTree → ℕ → ℕ → List ℕ → ℕ → List Lock → List StandingPlan → List Kind → List Holding → Scene
-with_parts scene owners next_owner next_serial recent descriptors all plans kinds hs = record {
-  session = record scene.session { owners = owners; next_owner = next_owner; next_serial = next_serial; locks = all; plans = plans; recent = recent };
-  around = record scene.around { kinds = kinds; locked = hs; descriptors = descriptors };
+-- a scene with these owners and files and with these locks, plans, kinds and active snapshots, and what others have locked and pinned
+with_parts : Scene → OwnerTree → ℕ → ℕ → List ℕ → ℕ → List Lock → List StandingPlan → List Kind → List Holding → List ℕ → List Active → Scene
+with_parts scene owners next_owner next_serial recent descriptors all plans kinds hs pinned stack = record {
+  session = record scene.session { owners = owners; next_owner = next_owner; next_serial = next_serial; locks = all; plans = plans; recent = recent; snapshots = stack };
+  around = record scene.around { kinds = kinds; locked = hs; pinned = pinned; descriptors = descriptors };
 }
 
-parts_same : (scene : Scene) (o p : OwnerTree) (m n s t : ℕ) (fs gs : List ℕ) (c d : ℕ) (ls ms : List Lock) (ps qs : List StandingPlan) (ks js : List Kind) (hs is : List Holding)
-    → o ≡ p → m ≡ n → s ≡ t → fs ≡ gs → c ≡ d → ls ≡ ms → ps ≡ qs → ks ≡ js → hs ≡ is → with_parts scene o m s fs c ls ps ks hs ≡ with_parts scene p n t gs d ms qs js is
-parts_same scene o p m n s t fs gs c d ls ms ps qs ks js hs is e f g h i j k l q = rw (e, f, g, h, i, j, k, l, q) refl
+parts_same : (scene : Scene) (o p : OwnerTree) (m n s t : ℕ) (fs gs : List ℕ) (c d : ℕ) (ls ms : List Lock) (ps qs : List StandingPlan) (ks js : List Kind) (hs is : List Holding) (us vs : List ℕ) (xs ys : List Active)
+    → o ≡ p → m ≡ n → s ≡ t → fs ≡ gs → c ≡ d → ls ≡ ms → ps ≡ qs → ks ≡ js → hs ≡ is → us ≡ vs → xs ≡ ys → with_parts scene o m s fs c ls ps ks hs us xs ≡ with_parts scene p n t gs d ms qs js is vs ys
+parts_same scene o p m n s t fs gs c d ls ms ps qs ks js hs is us vs xs ys e f g h i j k l q u x = rw (e, f, g, h, i, j, k, l, q, u, x) refl
 
 -- a scene that owners and files fit, with its parts
 bare : ResourceState → CommonState → Scene → Scene
-bare a c scene = with_parts scene (owners_of a) a.next_owner a.next_serial a.recent a.descriptors a.locks [] c.kinds (beside a.session c.locks)
+bare a c scene = with_parts scene (owners_of a) a.next_owner a.next_serial a.recent a.descriptors a.locks [] c.kinds (beside a.session c.locks) (pinned_beside (owners_of a) c.pins) a.stack
 
 is_bare : (a : ResourceState) (c : CommonState) (scene : Scene) → OwnersFit a c scene → scene ≡ bare a c scene
 unfolding bare with_parts
 is_bare a c scene fit =
     parts_same scene scene.session.owners (owners_of a) scene.session.next_owner a.next_owner scene.session.next_serial a.next_serial scene.session.recent a.recent scene.around.descriptors a.descriptors
-    scene.session.locks a.locks scene.session.plans [] scene.around.kinds c.kinds scene.around.locked (beside a.session c.locks)
-    fit.owners fit.next_owner fit.next_serial fit.recent fit.descriptors fit.locks fit.plans fit.kinds fit.locked
+    scene.session.locks a.locks scene.session.plans [] scene.around.kinds c.kinds scene.around.locked (beside a.session c.locks) scene.around.pinned (pinned_beside (owners_of a) c.pins) scene.session.snapshots a.stack
+    fit.owners fit.next_owner fit.next_serial fit.recent fit.descriptors fit.locks fit.plans fit.kinds fit.locked fit.pinned fit.snapshots
 
 -- an act that leads so from each such scene
 acted_bare : (act : Scene → Ended) (a b : ResourceState) (c d : CommonState) (Says : List What → Type 0)
@@ -125,10 +136,11 @@ pub record SameFiles (a b : ResourceState) : Type 0 where
   pub recent : b.recent ≡ a.recent
   pub descriptors : b.descriptors ≡ a.descriptors
 
--- the locks are the same, under the same number
+-- the locks are the same, under the same number, and so are the active snapshots
 pub record SameLocks (a b : ResourceState) : Type 0 where
   pub session : b.session ≡ a.session
   pub locks : b.locks ≡ a.locks
+  pub stack : b.stack ≡ a.stack
 
 seen_same : (a b : ResourceState) (c d : CommonState) → SameLocks a b → d.locks ≡ c.locks → beside a.session c.locks ≡ beside b.session d.locks
 seen_same a b c d same held = ap (λ (n : ℕ). beside n c.locks) (sym same.session) ∙ ap (beside b.session) (sym held)
@@ -138,41 +150,48 @@ pub acted_made : (parent : Option ℕ) (a b : ResourceState) (c : CommonState) (
 unfolding bare with_parts parts_in
 acted_made parent a b c Says e f g files same says =
     acted_bare (owner_made parent) a b c c Says
-    (λ scene. owners_same (bare a c scene) (created parent a.next_owner (owners_of a)) (owners_of b) (a.next_owner + 1) b.next_owner a.next_serial b.next_serial a.recent b.recent a.descriptors b.descriptors c.kinds c.kinds a.locks b.locks (beside a.session c.locks) (beside b.session c.locks)
-    (sym e) (sym f) (sym g) (sym files.recent) (sym files.descriptors) refl (sym same.locks) (seen_same a b c c same refl))
+    (λ scene. owners_same (bare a c scene) (created parent a.next_owner (owners_of a)) (owners_of b) (a.next_owner + 1) b.next_owner a.next_serial b.next_serial a.recent b.recent a.descriptors b.descriptors c.kinds c.kinds a.locks b.locks (beside a.session c.locks) (beside b.session c.locks) (pinned_beside (owners_of a) c.pins) (pinned_beside (owners_of b) c.pins) a.stack b.stack
+    (sym e) (sym f) (sym g) (sym files.recent) (sym files.descriptors) refl (sym same.locks) (seen_same a b c c same refl) (beside_still (owners_of a) (owners_of b) c.pins (λ buffer. ap (pinned_once buffer) e ∙ pinned_same (owners_of a) (created parent a.next_owner (owners_of a)) buffer (held_created buffer_pin buffer parent a.next_owner (owners_of a)))) (sym same.stack))
     (λ scene. says)
 
-pub acted_taken : (n : ℕ) (kind : KindId) (key : ℕ) (a b : ResourceState) (c : CommonState) (Says : List What → Type 0) → keeper_of kind ≡ NoOne
+pub acted_taken : (n : ℕ) (kind : KindId) (key : ℕ) (a b : ResourceState) (c : CommonState) (Says : List What → Type 0) → keeper_of kind ≡ NoOne → 2 ≤ kind.0
     → owners_of b ≡ remembered n (record { kind = kind; key = key; serial = a.next_serial }) (owners_of a)
     → b.next_owner ≡ a.next_owner → b.next_serial ≡ a.next_serial + 1 → SameFiles a b → SameLocks a b
     → Says (what.Acquire (record { kind = kind; key = key; serial = a.next_serial }) n ∷ []) → Acted (item_taken n kind key) a b c c Says
 unfolding bare with_parts parts_in
-acted_taken n kind key a b c Says unkept e f g files same says =
+acted_taken n kind key a b c Says unkept from e f g files same says =
     acted_bare (item_taken n kind key) a b c c Says
     (λ scene. ap (λ (k : Keeper). (in_order (taken_by k key ∷ remembers n kind key ∷ []) (bare a c scene)).scene) unkept
-    ∙ owners_same (bare a c scene) (remembered n (record { kind = kind; key = key; serial = a.next_serial }) (owners_of a)) (owners_of b) a.next_owner b.next_owner (a.next_serial + 1) b.next_serial a.recent b.recent a.descriptors b.descriptors c.kinds c.kinds a.locks b.locks (beside a.session c.locks) (beside b.session c.locks)
-    (sym e) (sym f) (sym g) (sym files.recent) (sym files.descriptors) refl (sym same.locks) (seen_same a b c c same refl))
+    ∙ owners_same (bare a c scene) (remembered n (record { kind = kind; key = key; serial = a.next_serial }) (owners_of a)) (owners_of b) a.next_owner b.next_owner (a.next_serial + 1) b.next_serial a.recent b.recent a.descriptors b.descriptors c.kinds c.kinds a.locks b.locks (beside a.session c.locks) (beside b.session c.locks) (pinned_beside (owners_of a) c.pins) (pinned_beside (owners_of b) c.pins) a.stack b.stack
+    (sym e) (sym f) (sym g) (sym files.recent) (sym files.descriptors) refl (sym same.locks) (seen_same a b c c same refl) (beside_still (owners_of a) (owners_of b) c.pins (λ buffer. ap (pinned_once buffer) e ∙ pinned_remembered n (record { kind = kind; key = key; serial = a.next_serial }) (owners_of a) buffer (λ z. omega (arith, z, from)))) (sym same.stack))
     (λ scene. subst (λ (k : Keeper). Says (in_order (taken_by k key ∷ remembers n kind key ∷ []) (bare a c scene)).events) (sym unkept) says)
 
-pub acted_pinned : (n buffer : ℕ) (a b : ResourceState) (c : CommonState) (Says : List What → Type 0)
+pub acted_pinned : (n buffer : ℕ) (a b : ResourceState) (c d : CommonState) (Says : List What → Type 0)
     → owners_of b ≡ remembered n (record { kind = record { 0 = 1 }; key = buffer; serial = a.next_serial }) (owners_of a)
-    → b.next_owner ≡ a.next_owner → b.next_serial ≡ a.next_serial + 1 → SameFiles a b → SameLocks a b
-    → Says (what.Acquire (record { kind = record { 0 = 1 }; key = buffer; serial = a.next_serial }) n ∷ []) → Acted (item_taken n buffer_pin buffer) a b c c Says
-acted_pinned n buffer a b c Says e f g files same says = acted_taken n buffer_pin buffer a b c Says refl e f g files same says
+    → b.next_owner ≡ a.next_owner → b.next_serial ≡ a.next_serial + 1 → SameFiles a b → SameLocks a b → d.kinds ≡ c.kinds → d.locks ≡ c.locks
+    → ((q : ℕ) → slice_index d.pins q + pinned_once q (owners_of a) ≡ slice_index c.pins q + pinned_once q (owners_of b))
+    → Says (what.Acquire (record { kind = record { 0 = 1 }; key = buffer; serial = a.next_serial }) n ∷ []) → Acted (item_taken n buffer_pin buffer) a b c d Says
+unfolding bare with_parts parts_in
+acted_pinned n buffer a b c d Says e f g files same kinds held pins says =
+    acted_bare (item_taken n buffer_pin buffer) a b c d Says
+    (λ scene. owners_same (bare a c scene) (remembered n (record { kind = buffer_pin; key = buffer; serial = a.next_serial }) (owners_of a)) (owners_of b) a.next_owner b.next_owner (a.next_serial + 1) b.next_serial a.recent b.recent a.descriptors b.descriptors
+    c.kinds d.kinds a.locks b.locks (beside a.session c.locks) (beside b.session d.locks) (pinned_beside (owners_of a) c.pins) (pinned_beside (owners_of b) d.pins) a.stack b.stack
+    (sym e) (sym f) (sym g) (sym files.recent) (sym files.descriptors) (sym kinds) (sym same.locks) (seen_same a b c d same held) (beside_same (owners_of a) (owners_of b) c.pins d.pins pins) (sym same.stack))
+    (λ scene. says)
 
 -- a key of an extension kind is taken
 pub acted_extension : (n : ℕ) (kind : KindId) (key : ℕ) (a b : ResourceState) (c d : CommonState) (Says : List What → Type 0) → 16 ≤ kind.0
     → owners_of b ≡ remembered n (record { kind = kind; key = key; serial = a.next_serial }) (owners_of a)
-    → b.next_owner ≡ a.next_owner → b.next_serial ≡ a.next_serial + 1 → SameFiles a b → SameLocks a b → d.kinds ≡ changed_at (kind.0 - 16) (opened key) c.kinds → d.locks ≡ c.locks
+    → b.next_owner ≡ a.next_owner → b.next_serial ≡ a.next_serial + 1 → SameFiles a b → SameLocks a b → d.kinds ≡ changed_at (kind.0 - 16) (opened key) c.kinds → d.locks ≡ c.locks → d.pins ≡ c.pins
     → Says (what.Acquire (record { kind = kind; key = key; serial = a.next_serial }) n ∷ []) → Acted (item_taken n kind key) a b c d Says
 unfolding bare with_parts parts_in
-acted_extension n kind key a b c d Says high e f g files same kinds held says =
+acted_extension n kind key a b c d Says high e f g files same kinds held counted says =
     let kept : keeper_of kind ≡ TheKind (kind.0 - 16) = extension_keeps kind high in
     acted_bare (item_taken n kind key) a b c d Says
     (λ scene. ap (λ (k : Keeper). (in_order (taken_by k key ∷ remembers n kind key ∷ []) (bare a c scene)).scene) kept
     ∙ owners_same (bare a c scene) (remembered n (record { kind = kind; key = key; serial = a.next_serial }) (owners_of a)) (owners_of b) a.next_owner b.next_owner (a.next_serial + 1) b.next_serial a.recent b.recent a.descriptors b.descriptors
-    (changed_at (kind.0 - 16) (opened key) c.kinds) d.kinds a.locks b.locks (beside a.session c.locks) (beside b.session d.locks)
-    (sym e) (sym f) (sym g) (sym files.recent) (sym files.descriptors) (sym kinds) (sym same.locks) (seen_same a b c d same held))
+    (changed_at (kind.0 - 16) (opened key) c.kinds) d.kinds a.locks b.locks (beside a.session c.locks) (beside b.session d.locks) (pinned_beside (owners_of a) c.pins) (pinned_beside (owners_of b) d.pins) a.stack b.stack
+    (sym e) (sym f) (sym g) (sym files.recent) (sym files.descriptors) (sym kinds) (sym same.locks) (seen_same a b c d same held) (beside_still (owners_of a) (owners_of b) c.pins (λ buffer. ap (pinned_once buffer) e ∙ pinned_remembered n (record { kind = kind; key = key; serial = a.next_serial }) (owners_of a) buffer (λ z. omega (arith, z, high))) ∙ ap (pinned_beside (owners_of b)) (sym counted)) (sym same.stack))
     (λ scene. subst (λ (k : Keeper). Says (in_order (taken_by k key ∷ remembers n kind key ∷ []) (bare a c scene)).events) (sym kept) says)
 
 -- a file gets a descriptor
@@ -181,8 +200,8 @@ pub acted_touched : (file : ℕ) (a b : ResourceState) (c : CommonState) (Says :
 unfolding bare with_parts parts_in
 acted_touched file a b c Says e f g recent descriptors same says =
     acted_bare (descriptor_given file) a b c c Says
-    (λ scene. owners_same (bare a c scene) (owners_of a) (owners_of b) a.next_owner b.next_owner a.next_serial b.next_serial (touched_file file (files_of a)).recent b.recent a.descriptors b.descriptors c.kinds c.kinds a.locks b.locks (beside a.session c.locks) (beside b.session c.locks)
-    (sym e) (sym f) (sym g) (sym recent) (sym descriptors) refl (sym same.locks) (seen_same a b c c same refl))
+    (λ scene. owners_same (bare a c scene) (owners_of a) (owners_of b) a.next_owner b.next_owner a.next_serial b.next_serial (touched_file file (files_of a)).recent b.recent a.descriptors b.descriptors c.kinds c.kinds a.locks b.locks (beside a.session c.locks) (beside b.session c.locks) (pinned_beside (owners_of a) c.pins) (pinned_beside (owners_of b) c.pins) a.stack b.stack
+    (sym e) (sym f) (sym g) (sym recent) (sym descriptors) refl (sym same.locks) (seen_same a b c c same refl) (beside_still (owners_of a) (owners_of b) c.pins (λ buffer. ap (pinned_once buffer) e)) (sym same.stack))
     (λ scene. says)
 
 -- a file is opened
@@ -194,22 +213,68 @@ unfolding bare with_parts parts_in
 acted_opened n file a b c Says e f g recent descriptors same says =
     acted_bare (item_taken n file_kind file) a b c c Says
     (λ scene. owners_same (bare a c scene) (remembered n (record { kind = file_kind; key = file; serial = a.next_serial }) (owners_of a)) (owners_of b) a.next_owner b.next_owner (a.next_serial + 1) b.next_serial
-    (touched_file file (files_of a)).recent b.recent a.descriptors b.descriptors c.kinds c.kinds a.locks b.locks (beside a.session c.locks) (beside b.session c.locks)
-    (sym e) (sym f) (sym g) (sym recent) (sym descriptors) refl (sym same.locks) (seen_same a b c c same refl))
+    (touched_file file (files_of a)).recent b.recent a.descriptors b.descriptors c.kinds c.kinds a.locks b.locks (beside a.session c.locks) (beside b.session c.locks) (pinned_beside (owners_of a) c.pins) (pinned_beside (owners_of b) c.pins) a.stack b.stack
+    (sym e) (sym f) (sym g) (sym recent) (sym descriptors) refl (sym same.locks) (seen_same a b c c same refl) (beside_still (owners_of a) (owners_of b) c.pins (λ buffer. ap (pinned_once buffer) e ∙ pinned_remembered n (record { kind = file_kind; key = file; serial = a.next_serial }) (owners_of a) buffer (λ z. omega (arith, z)))) (sym same.stack))
     (λ scene. says)
 
 pub acted_gone : (n : ℕ) (a b : ResourceState) (c : CommonState) (Says : List What → Type 0) → owners_of b ≡ removed n (owners_of a)
-    → b.next_owner ≡ a.next_owner → b.next_serial ≡ a.next_serial → SameFiles a b → SameLocks a b → Says (gone_events n (owners_of a)) → Acted (owner_gone n) a b c c Says
+    → b.next_owner ≡ a.next_owner → b.next_serial ≡ a.next_serial → SameFiles a b → SameLocks a b → ((q : ℕ) → slice_index c.pins q + pinned_once q (owners_of a) ≡ slice_index c.pins q + pinned_once q (owners_of b)) → Says (gone_events n (owners_of a)) → Acted (owner_gone n) a b c c Says
 unfolding bare with_parts parts_in
-acted_gone n a b c Says e f g files same says =
+acted_gone n a b c Says e f g files same pins says =
     acted_bare (owner_gone n) a b c c Says
-    (λ scene. owners_same (bare a c scene) (removed n (owners_of a)) (owners_of b) a.next_owner b.next_owner a.next_serial b.next_serial a.recent b.recent a.descriptors b.descriptors c.kinds c.kinds a.locks b.locks (beside a.session c.locks) (beside b.session c.locks)
-    (sym e) (sym f) (sym g) (sym files.recent) (sym files.descriptors) refl (sym same.locks) (seen_same a b c c same refl))
+    (λ scene. owners_same (bare a c scene) (removed n (owners_of a)) (owners_of b) a.next_owner b.next_owner a.next_serial b.next_serial a.recent b.recent a.descriptors b.descriptors c.kinds c.kinds a.locks b.locks (beside a.session c.locks) (beside b.session c.locks) (pinned_beside (owners_of a) c.pins) (pinned_beside (owners_of b) c.pins) a.stack b.stack
+    (sym e) (sym f) (sym g) (sym files.recent) (sym files.descriptors) refl (sym same.locks) (seen_same a b c c same refl) (beside_same (owners_of a) (owners_of b) c.pins c.pins pins) (sym same.stack))
     (λ scene. says)
+
+-- The stack of active snapshots becomes another one.
+stack_leads : (a b : ResourceState) (c : CommonState) (scene : Scene) (stack : List Active) → OwnersFit a c scene → b ≡ record a { stack = stack } → record scene { session = record scene.session { snapshots = stack } } ≡ with_owners b c scene
+stack_leads a b c scene stack fit is =
+    ap (λ (s : Scene). record s { session = record s.session { snapshots = stack } }) (fit_is a c scene fit) ∙ ap (λ (r : ResourceState). with_owners r c scene) (sym is)
+
+pub acted_pushed : (level snapshot : ℕ) (a b : ResourceState) (c : CommonState) (Says : List What → Type 0) → b ≡ record a { stack = a.stack ++ record { snapshot = snapshot; level = level } ∷ [] } → Says (what.Push snapshot ∷ [])
+    → Acted (pushed_at level snapshot) a b c c Says
+acted_pushed level snapshot a b c Says is says = record {
+  leads = λ scene fit.
+      ap (λ (xs : List Active). record scene { session = record scene.session { snapshots = xs ++ record { snapshot = snapshot; level = level } ∷ [] } }) fit.snapshots
+      ∙ stack_leads a b c scene (a.stack ++ record { snapshot = snapshot; level = level } ∷ []) fit is;
+  says = λ scene fit. says;
+}
+
+pub acted_popped : (entry : Active) (a b : ResourceState) (c : CommonState) (Says : List What → Type 0) → a.stack ≡ b.stack ++ entry ∷ [] → b ≡ record a { stack = b.stack } → Says (what.Pop entry.snapshot ∷ []) → Acted snapshot_popped a b c c Says
+acted_popped entry a b c Says ends is says = record {
+  leads = λ scene fit.
+      ap (λ (o : Option Active). (act o scene).scene) (newest scene fit)
+      ∙ ap (λ (xs : List Active). record scene { session = record scene.session { snapshots = take (length xs - 1) xs } }) (fit.snapshots ∙ ends)
+      ∙ ap (λ (xs : List Active). record scene { session = record scene.session { snapshots = xs } }) (take_others b.stack entry)
+      ∙ stack_leads a b c scene b.stack fit is;
+  says = λ scene fit. subst (λ (o : Option Active). Says (act o scene).events) (sym (newest scene fit)) says;
+}
+  where
+    act : Option Active → Scene → Ended
+    act o scene = where_there o
+        (λ entry. in_order (changes (λ session. record session { snapshots = take (length session.snapshots - 1) session.snapshots }) ∷ say (what.Pop entry.snapshot) ∷ [])) scene
+
+    newest : (scene : Scene) → OwnersFit a c scene → last_of scene.session.snapshots ≡ Some entry
+    newest scene fit = ap last_of (fit.snapshots ∙ ends) ∙ last_newest b.stack entry
+
+pub acted_popped_from : (level : ℕ) (a b : ResourceState) (c : CommonState) (Says : List What → Type 0) → b ≡ record a { stack = kept_below level a.stack } → Says (pops level (reverse a.stack)) → Acted (stack_popped level) a b c c Says
+acted_popped_from level a b c Says is says = record {
+  leads = λ scene fit.
+      ap (λ (xs : List Active). record scene { session = record scene.session { snapshots = kept_below level xs } }) fit.snapshots ∙ stack_leads a b c scene (kept_below level a.stack) fit is;
+  says = λ scene fit. subst (λ (xs : List Active). Says (pops level (reverse xs))) (sym fit.snapshots) says;
+}
+
+pub acted_lowered : (level : ℕ) (a b : ResourceState) (c : CommonState) (Says : List What → Type 0) → b ≡ record a { stack = map (lowered level) a.stack } → Says [] → Acted (stack_lowered level) a b c c Says
+acted_lowered level a b c Says is says = record {
+  leads = λ scene fit.
+      ap (λ (xs : List Active). record scene { session = record scene.session { snapshots = map (lowered level) xs } }) fit.snapshots ∙ stack_leads a b c scene (map (lowered level) a.stack) fit is;
+  says = λ scene fit. says;
+}
 
 -- The tables do what follows the release of an item, and the steps of a release.
 module _ (a b : ResourceState) (c d : CommonState) (old new : Lending) (recent : a.recent ≡ old.held.files.recent) (after : b.recent ≡ new.held.files.recent) (kinds : c.kinds ≡ old.kinds) (left : d.kinds ≡ new.kinds) (descriptors : b.descriptors ≡ a.descriptors)
-    (held : a.locks ≡ old.locks) (holds : b.locks ≡ new.locks) (balance : LocksBalance (locks_of a) (locks_of b) c.locks d.locks) where
+    (held : a.locks ≡ old.locks) (holds : b.locks ≡ new.locks) (balance : LocksBalance (locks_of a) (locks_of b) c.locks d.locks)
+    (pins : pinned_beside (owners_of a) c.pins ≡ pinned_beside (owners_of b) d.pins) (stack : b.stack ≡ a.stack) where
   tables_fit : (scene : Scene) → TablesFit old (bare a c scene)
   unfolding bare with_parts
   tables_fit scene = record { recent = recent; kinds = kinds; locks = held; plans = refl }
@@ -226,7 +291,7 @@ module _ (a b : ResourceState) (c d : CommonState) (old new : Lending) (recent :
       acted_bare (item_released n kind key) a b c d Says
       (λ scene. ap (λ (o : Option Item). (act o scene).scene) found ∙ does.leads (forgot scene) (forgot_fits scene)
       ∙ owners_same (bare a c scene) (forgotten n kind key (owners_of a)) (owners_of b) a.next_owner b.next_owner a.next_serial b.next_serial new.held.files.recent b.recent a.descriptors b.descriptors new.kinds d.kinds
-      new.locks b.locks (beside a.session c.locks) (beside b.session d.locks) (sym e) (sym f) (sym g) (sym after) (sym descriptors) (sym left) (sym holds) seen_on)
+      new.locks b.locks (beside a.session c.locks) (beside b.session d.locks) (pinned_beside (owners_of a) c.pins) (pinned_beside (owners_of b) d.pins) a.stack b.stack (sym e) (sym f) (sym g) (sym after) (sym descriptors) (sym left) (sym holds) seen_on pins (sym stack))
       (λ scene. subst (λ (o : Option Item). Says (act o scene).events) (sym found)
       (subst (λ (es : List What). Says (what.Release item n ∷ es)) (sym (does.says (forgot scene) (forgot_fits scene))) says))
     where
@@ -249,7 +314,7 @@ module _ (a b : ResourceState) (c d : CommonState) (old new : Lending) (recent :
       acted_bare (phase_released commit top n phase) a b c d Says
       (λ scene. ap (λ (z : Scene). record z { session = record z.session { owners = released (table_of c.kinds) phase n z.session.owners } }) (does.leads (bare a c scene) (tables_fit scene))
       ∙ owners_same (bare a c scene) (released (table_of c.kinds) phase n (owners_of a)) (owners_of b) a.next_owner b.next_owner a.next_serial b.next_serial new.held.files.recent b.recent a.descriptors b.descriptors new.kinds d.kinds
-      new.locks b.locks (beside a.session c.locks) (beside b.session d.locks) (sym e) (sym f) (sym g) (sym after) (sym descriptors) (sym left) (sym holds) seen_on)
+      new.locks b.locks (beside a.session c.locks) (beside b.session d.locks) (pinned_beside (owners_of a) c.pins) (pinned_beside (owners_of b) d.pins) a.stack b.stack (sym e) (sym f) (sym g) (sym after) (sym descriptors) (sym left) (sym holds) seen_on pins (sym stack))
       (λ scene. subst Says (sym (append-nil _ ∙ does.says (bare a c scene) (tables_fit scene))) says)
 
 -- the three phases

@@ -1,7 +1,8 @@
 -- What sessions do one after the other leaves the commons in balance.
-use Rattle.std.proofs.Common.{◌≡◌, ◌≢◌, true, ℕ, ◌+◌, ◌-◌, ◌<◌, ◌≤◌, find, false, List, [], ◌∷◌, map, Option, Some, None, Result, Ok, Err, OnOk, OnErr, refl, sym, ap, ◌∙◌, subst, inr, arith}
-use Rattle.std.specs.Prelude.{All, ◌==◌, ◌&&◌, if◌then◌else◌}
-use Rattle.std.proofs.lemmas.Bool.{ne_eqb}
+use Rattle.std.proofs.Common.{◌≡◌, ◌≢◌, true, ℕ, ◌+◌, ◌-◌, ◌<◌, ◌≤◌, find, false, List, [], ◌∷◌, map, Option, Some, None, Result, Ok, Err, OnOk, OnErr, refl, sym, ap, ◌∙◌, subst, inl, inr, replicate, arith}
+use Rattle.std.specs.Prelude.{All, ◌==◌, ◌&&◌, ◌^◌, if◌then◌else◌, slice_index}
+use Rattle.std.proofs.lemmas.Grind.{common_steps}
+use Rattle.std.proofs.lemmas.Bool.{cases_Bool, eqb-true, ne_eqb}
 use Rattle.std.proofs.lemmas.Bool.Decides.{nat_tests}
 use Rattle.std.proofs.lemmas.List.Elements.{All-nil, All-cons}
 use Rattle.pgs_step.specs.declared.ids.Item.{Item}
@@ -11,7 +12,7 @@ use Rattle.pgs_step.specs.declared.ids.Phase.{Phase}
 use Rattle.pgs_step.specs.declared.lock_modes.Mode.{Mode}
 use Rattle.lock_shared.specs.declared.shared_locks.Holding.{Holding}
 use Rattle.lock_shared.specs.Holdings.{holds}
-use Rattle.lock_local.specs.Locks.{Lock, SessionLocks, AreLocks, OthersStay, has_owner, is_held}
+use Rattle.lock_local.specs.Locks.{Agrees, Lock, SessionLocks, AreLocks, OthersStay, has_owner, is_held}
 use Rattle.forest.specs.Forest.{AllNodes, Empty, Once, removed}
 use Rattle.owner_kinds.specs.Kind.{Kind, changed_at, opened}
 use Rattle.owner_kinds.specs.KindShelf.{one_at, table_of, times_held}
@@ -24,17 +25,22 @@ use Rattle.owner_core.specs.Owners.{AllAt, HoldsNothing, Owner, OwnerTable, Owne
 use Rattle.owner_core.specs.Released.{own_released, released}
 use Rattle.owner_core.proofs.Sounds.{once_of}
 use Rattle.owner_core.proofs.Swept.{all_swept}
+use Rattle.session_rules.specs.State.{buffer_pin}
 use Rattle.session_rules.specs.Standing.{HasItems, IsItem}
-use Rattle.session_rules.specs.World.{Around}
+use Rattle.session_rules.specs.World.{Around, Scene}
+use Rattle.session_rules.specs.Parts.{pinning}
+use Rattle.session_rules.proofs.Pinned.{at_buffer}
 use Rattle.session_rules.proofs.Guarded.{all_changed, all_put, all_removed}
 use Rattle.session_rules.proofs.Releasing.{phase_items}
 use Rattle.session_owners.specs.ResourceState.{ResourceState, locks_of, owners_of}
-use Rattle.session_owners.specs.Tables.{Held, Lending, times_lent}
-use Rattle.session_owners.specs.Commons.{Balances, CommonState, LocksBalance, Serves, seen_by}
+use Rattle.session_owners.specs.Tables.{ArePinsShared, Held, Lending, PinsBalance, once_in, times_lent}
+use Rattle.session_owners.specs.Commons.{Balances, CommonState, LocksBalance, PinsServe, Serves, pinned_beside, pinned_once, seen_by}
+use Rattle.session_owners.specs.Fitting.{OwnersFit}
 use Rattle.session_owners.specs.TableLaws.{LocksBalance-more, LocksBalance-nothing}
 use Rattle.session_owners.specs.Counted.{IsCounted}
 use Rattle.session_owners.proofs.Counts.{held_created, held_remembered, held_removed, lent_high}
 use Rattle.session_owners.proofs.Kept.{held_found, there}
+use Rattle.session_owners.proofs.OwnPins.{at_most_once, beside_same, pinned_own, pinned_same, pins_balance}
 use Rattle.session_owners.proofs.TableSteps.{limits_opened}
 
 pub balances_none : (a : ResourceState) (c : CommonState) → Balances a a c c
@@ -44,6 +50,7 @@ balances_none a c = record {
   items = λ h. h;
   held = λ kind key extension. refl;
   locks = LocksBalance-nothing (locks_of a) c.locks;
+  pins = λ buffer. refl;
 }
 
 -- a session's locks are as they were, and so is what is held for all
@@ -58,12 +65,48 @@ balances_same a b c same locks = record {
   items = λ h. subst (λ (t : OwnerTree). AllNodes (HasItems (table_of c.kinds)) t) (sym same) h;
   held = λ kind key extension. rw same refl;
   locks = locks;
+  pins = λ buffer. rw same refl;
 }
 
 -- the same of what the session's value says
 pub locks_moved : (was a : ResourceState) (t : SessionLocks) (had c : CommonState) (hs : List Holding) → was ≡ a → had ≡ c → LocksBalance (locks_of was) t had.locks hs → LocksBalance (locks_of a) t c.locks hs
 locks_moved was a t had c hs is same h =
     subst (λ (r : ResourceState). LocksBalance (locks_of r) t c.locks hs) is (subst (λ (s : CommonState). LocksBalance (locks_of was) t s.locks hs) same h)
+
+-- a session's own counts and its owners pin the same buffers
+pub pins_counted : (old new : OwnerTable) (counts counts' : Held) (c d : List ℕ) → IsCounted old counts → IsCounted new counts' → PinsBalance counts.pins counts'.pins c d
+    → (buffer : ℕ) → slice_index d buffer + pinned_once buffer (owners.owners_of old) ≡ slice_index c buffer + pinned_once buffer (owners.owners_of new)
+pins_counted old new counts counts' c d s s' =
+    pins_balance counts.pins counts'.pins c d (owners.owners_of old) (owners.owners_of new) (λ q. s.counted buffer_pin q (omega arith)) (λ q. s'.counted buffer_pin q (omega arith))
+
+pub beside_counted : (old new : OwnerTable) (counts counts' : Held) (c d : List ℕ) → IsCounted old counts → IsCounted new counts' → PinsBalance counts.pins counts'.pins c d
+    → pinned_beside (owners.owners_of old) c ≡ pinned_beside (owners.owners_of new) d
+beside_counted old new counts counts' c d s s' balance = beside_same (owners.owners_of old) (owners.owners_of new) c d (pins_counted old new counts counts' c d s s' balance)
+
+pub pins_moved : (a b : List ℕ) (had c : CommonState) (d : List ℕ) → had ≡ c → PinsBalance a b had.pins d → PinsBalance a b c.pins d
+pins_moved a b had c d same h = subst (λ (z : CommonState). PinsBalance a b z.pins d) same h
+
+-- what a session pins is counted for it, and no buffer for too many
+pub shared_fit : (old : OwnerTable) (counts : Held) (a : ResourceState) (had c : CommonState) → IsCounted old counts → owners_of a ≡ owners.owners_of old → had ≡ c → Serves a c → ArePinsShared counts.pins had.pins
+shared_fit old counts a had c s was same serves buffer =
+    let own : once_in counts.pins buffer ≡ pinned_once buffer (owners.owners_of old) = pinned_own counts.pins (owners.owners_of old) buffer (s.counted buffer_pin buffer (omega arith)) in
+    let all : pinned_once buffer (owners.owners_of old) ≤ slice_index c.pins buffer = rw was at (serves.pins.own buffer) in
+    omega (arith, own, all, ap (λ (z : CommonState). slice_index z.pins buffer) same)
+
+pub agrees_fit : (was a : ResourceState) (had c : CommonState) → was ≡ a → had ≡ c → Serves a c → Agrees (locks_of was) had.locks
+agrees_fit was a had c is same serves = rw (is, same) serves.agrees
+
+pub few_sessions : (a : ResourceState) (had c : CommonState) (buffer : ℕ) → had ≡ c → Serves a c → slice_index had.pins buffer < 2 ^ 32 - 1
+few_sessions a had c buffer same serves =
+    omega (arith, serves.pins.few buffer, at_most_once buffer (owners_of a), ap (λ (z : CommonState). slice_index z.pins buffer) same)
+
+-- how many sessions pin a buffer, as a session sees it
+pub pinning_is : (a : ResourceState) (c : CommonState) (buffer result : ℕ) (scene : Scene) → Serves a c → OwnersFit a c scene → buffer < 1024 → result ≡ slice_index c.pins buffer → result ≡ pinning buffer scene
+pinning_is a c buffer result scene serves fit small is =
+    let seen : slice_index scene.around.pinned buffer ≡ slice_index c.pins buffer - pinned_once buffer (owners_of a) =
+    ap (λ (ns : List ℕ). slice_index ns buffer) fit.pinned ∙ at_buffer (λ q. slice_index c.pins q - pinned_once q (owners_of a)) buffer small in
+    let own : pinned_once buffer scene.session.owners ≡ pinned_once buffer (owners_of a) = ap (pinned_once buffer) fit.owners in
+    omega (arith, seen, own, serves.pins.own buffer, is)
 
 pub balances_more : (a b e : ResourceState) (c d f : CommonState) → Balances a b c d → Balances b e d f → Balances a e c f
 balances_more a b e c d f p q = record {
@@ -72,6 +115,7 @@ balances_more a b e c d f p q = record {
   items = λ h. q.items (p.items h);
   held = λ kind key extension. omega (arith, p.held kind key extension, q.held kind key extension);
   locks = LocksBalance-more (locks_of a) (locks_of b) (locks_of e) c.locks d.locks f.locks p.locks q.locks;
+  pins = λ buffer. omega (arith, p.pins buffer, q.pins buffer);
 }
 
 -- a session that was served is so still
@@ -82,6 +126,7 @@ serves_still a b c d s p = record {
   held = λ kind key extension. omega (arith, s.held kind key extension, p.held kind key extension);
   agrees = p.locks.agrees s.agrees;
   locks = p.locks.in_order s.locks;
+  pins = record { own = λ buffer. omega (arith, s.pins.own buffer, p.pins buffer); few = λ buffer. omega (arith, s.pins.few buffer, p.pins buffer) };
 }
 
 -- what kinds that serve a session hold
@@ -96,34 +141,63 @@ known_items old a c kinds was from s = rw (was, from) at s.items
 
 -- a session that stays while another one of that number moves
 pub serves_beside : (a : ResourceState) (c d : CommonState) (n : ℕ) → Serves a c → table_of d.kinds ≡ table_of c.kinds
-    → ((kind : KindId) (key : ℕ) → 16 ≤ kind.0 → held kind key (owners_of a) ≤ times_held d.kinds kind key) → a.session ≢ n → OthersStay n c.locks d.locks → Serves a d
-serves_beside a c d n s same held other others = record {
+    → ((kind : KindId) (key : ℕ) → 16 ≤ kind.0 → held kind key (owners_of a) ≤ times_held d.kinds kind key) → a.session ≢ n → OthersStay n c.locks d.locks → PinsServe (owners_of a) d.pins → Serves a d
+serves_beside a c d n s same held other others pins = record {
   sound = subst (λ (t : KindTable). IsSound t) (sym same) s.sound;
   items = subst (λ (t : KindTable). AllNodes (HasItems t) (owners_of a)) (sym same) s.items;
   held = held;
   agrees = λ o m. others o m a.session other ∙ s.agrees o m;
   locks = s.locks;
+  pins = pins;
 }
 
 -- a session without owners and locks, for which none is held
-pub serves_nothing : (a : ResourceState) (c : CommonState) → owners_of a ≡ Empty → IsSound (table_of c.kinds) → a.locks ≡ [] → ((o : ℕ) (m : Mode) → holds c.locks o m a.session ≡ false) → Serves a c
-serves_nothing a c empty sound none free = record {
+pub serves_nothing : (a : ResourceState) (c : CommonState) → owners_of a ≡ Empty → IsSound (table_of c.kinds) → a.locks ≡ [] → ((o : ℕ) (m : Mode) → holds c.locks o m a.session ≡ false) → ((buffer : ℕ) → slice_index c.pins buffer ≤ 2 ^ 31) → Serves a c
+serves_nothing a c empty sound none free few = record {
   sound = sound;
   items = subst (λ (t : OwnerTree). AllNodes (HasItems (table_of c.kinds)) t) (sym empty) tt;
   held = λ kind key extension. let none : held kind key (owners_of a) ≡ 0 = ap (λ (t : OwnerTree). held kind key t) empty in omega (arith, none);
   agrees = λ o m. free o m ∙ sym (ap (λ (ls : List Lock). is_held ls o m) none);
   locks = subst AreLocks (sym none) (record { in_order = tt; owned = All-nil (λ (l : Lock). has_owner l ≡ true); counted = All-nil (λ (l : Lock). All (λ c. 1 ≤ c.count) l.owners) });
+  pins = record {
+    own = λ buffer. let none : pinned_once buffer (owners_of a) ≡ 0 = ap (pinned_once buffer) empty in omega (arith, none);
+    few = λ buffer. omega (arith, few buffer);
+  };
 }
+
+-- the first session of a run, where no buffer is pinned, or one is by another session
+pub serves_first : (a : ResourceState) (c : CommonState) → owners_of a ≡ Empty → IsSound (table_of c.kinds) → a.locks ≡ [] → c.locks ≡ [] → ((buffer : ℕ) → slice_index c.pins buffer ≤ 2 ^ 31) → Serves a c
+serves_first a c empty sound none free few = serves_nothing a c empty sound none (λ o m. ap (λ (hs : List Holding). holds hs o m a.session) free) few
+
+none_pinned : (n buffer : ℕ) → slice_index (replicate {A = ℕ} n 0) buffer ≡ 0
+none_pinned n buffer = grind (arith, common_steps)
+
+pub few_none : (pins : List ℕ) → pins ≡ replicate 1024 0 → (buffer : ℕ) → slice_index pins buffer ≤ 2 ^ 31
+few_none pins none buffer = omega (arith, ap (λ (ns : List ℕ). slice_index ns buffer) none, none_pinned 1024 buffer)
+
+pub few_one : (pins raised : List ℕ) (b : ℕ) → pins ≡ replicate 1024 0 → slice_index raised b ≡ slice_index pins b + 1 → ((q : ℕ) → q ≢ b → slice_index raised q ≡ slice_index pins q) → (buffer : ℕ) → slice_index raised buffer ≤ 2 ^ 31
+few_one pins raised b none more others buffer =
+    elim (cases_Bool (b == buffer)) [
+      | inl y ↦
+          let here : slice_index raised buffer ≡ slice_index pins buffer + 1 = subst (λ (z : ℕ). slice_index raised z ≡ slice_index pins z + 1) (eqb-true b buffer y) more in
+          omega (arith, here, ap (λ (ns : List ℕ). slice_index ns buffer) none, none_pinned 1024 buffer)
+      | inr n ↦ omega (arith, others buffer (differs b buffer n), ap (λ (ns : List ℕ). slice_index ns buffer) none, none_pinned 1024 buffer)
+    ]
+  where
+    differs : (i j : ℕ) → (i == j) ≡ false → j ≢ i
+    differs i j e = grind (arith, nat_tests)
 
 -- what a session does without the commons, where it takes and gives back nothing of extension kinds
 balances_alone : (a b : ResourceState) (c : CommonState) → ((kinds : KindTable) → AllNodes (HasItems kinds) (owners_of a) → AllNodes (HasItems kinds) (owners_of b))
-    → ((kind : KindId) (key : ℕ) → 16 ≤ kind.0 → held kind key (owners_of b) ≡ held kind key (owners_of a)) → LocksBalance (locks_of a) (locks_of b) c.locks c.locks → Balances a b c c
-balances_alone a b c items same locks = record {
+    → ((kind : KindId) (key : ℕ) → 16 ≤ kind.0 → held kind key (owners_of b) ≡ held kind key (owners_of a)) → ((buffer : ℕ) → held buffer_pin buffer (owners_of b) ≡ held buffer_pin buffer (owners_of a))
+    → LocksBalance (locks_of a) (locks_of b) c.locks c.locks → Balances a b c c
+balances_alone a b c items same pins locks = record {
   table = refl;
   limits = refl;
   items = items (table_of c.kinds);
   held = λ kind key extension. omega (arith, same kind key extension);
   locks = locks;
+  pins = λ buffer. omega (arith, pinned_same (owners_of a) (owners_of b) buffer (pins buffer));
 }
 
 items_created : (kinds : KindTable) (parent : Option ℕ) (n : ℕ) (t : OwnerTree) → AllNodes (HasItems kinds) t → AllNodes (HasItems kinds) (created parent n t)
@@ -138,22 +212,40 @@ pub balances_made : (old new : OwnerTable) (a b : ResourceState) (c : CommonStat
     → OnOk result (owners.owners_of new ≡ created parent old.next_owner (owners.owners_of old)) → OnErr result (new ≡ old) → LocksBalance (locks_of a) (locks_of b) c.locks c.locks → Balances a b c c
 balances_made old new a b c parent (Ok owner) was is made refused locks =
     balances_alone a b c (λ kinds h. rw (is, made) (items_created kinds parent old.next_owner (owners.owners_of old) (rw was at h)))
-    (λ kind key extension. rw (is, made, was) (held_created kind key parent old.next_owner (owners.owners_of old))) locks
+    (λ kind key extension. rw (is, made, was) (held_created kind key parent old.next_owner (owners.owners_of old)))
+    (λ buffer. rw (is, made, was) (held_created buffer_pin buffer parent old.next_owner (owners.owners_of old))) locks
 balances_made old new a b c parent (Err error) was is made refused locks = balances_same a b c (is ∙ ap owners.owners_of refused ∙ sym was) locks
 
--- an item of a kind that is built in is taken
-pub balances_taken : (old : OwnerTable) (counts : Held) (a b : ResourceState) (c : CommonState) (n : ℕ) (item : Item) → IsCounted old counts → 1 ≤ spare_of n old → owners_of a ≡ owners.owners_of old
-    → item.kind.0 < 16 → ((kinds : KindTable) → IsItem kinds item) → owners_of b ≡ remembered n item (owners.owners_of old) → LocksBalance (locks_of a) (locks_of b) c.locks c.locks → Balances a b c c
-balances_taken old counts a b c n item s spare was low is taken locks =
+-- what one item more is of another kind
+other_kind : (old : OwnerTable) (counts : Held) (n : ℕ) (item : Item) (kind : KindId) (key : ℕ) → IsCounted old counts → 1 ≤ spare_of n old → item.kind.0 ≢ kind.0
+    → held kind key (remembered n item (owners.owners_of old)) ≡ held kind key (owners.owners_of old)
+other_kind old counts n item kind key s spare other =
     let t : OwnerTree = owners.owners_of old in
     let w = there n old spare in
     let o : Once t = once_of t old.next_owner old.next_serial s.sound in
-    balances_alone a b c (λ kinds h. rw taken (items_remembered kinds n item t (is kinds) (rw was at h)))
-    (λ kind key extension.
-    let more = held_remembered kind key n item w.0 t o w.1 in
-    let other : (item.kind.0 == kind.0) ≡ false = ne_eqb item.kind.0 kind.0 (λ z. omega (arith, z, low, extension)) in
-    let same : held kind key (remembered n item t) ≡ held kind key t + 0 = rw other at more in
-    rw (taken, was) (omega (arith, same))) locks
+    let same : held kind key (remembered n item t) ≡ held kind key t + 0 = rw (ne_eqb item.kind.0 kind.0 other) at (held_remembered kind key n item w.0 t o w.1) in
+    omega (arith, same)
+
+-- an item of a kind that is built in is taken, which is no pin
+pub balances_taken : (old : OwnerTable) (counts : Held) (a b : ResourceState) (c : CommonState) (n : ℕ) (item : Item) → IsCounted old counts → 1 ≤ spare_of n old → owners_of a ≡ owners.owners_of old
+    → item.kind.0 < 16 → item.kind.0 ≢ 1 → ((kinds : KindTable) → IsItem kinds item) → owners_of b ≡ remembered n item (owners.owners_of old) → LocksBalance (locks_of a) (locks_of b) c.locks c.locks → Balances a b c c
+balances_taken old counts a b c n item s spare was low no_pin is taken locks =
+    balances_alone a b c (λ kinds h. rw taken (items_remembered kinds n item (owners.owners_of old) (is kinds) (rw was at h)))
+    (λ kind key extension. rw (taken, was) (other_kind old counts n item kind key s spare (λ z. omega (arith, z, low, extension))))
+    (λ buffer. rw (taken, was) (other_kind old counts n item buffer_pin buffer s spare no_pin)) locks
+
+-- a buffer is pinned
+pub balances_pinned : (old new : OwnerTable) (counts counts' : Held) (a b : ResourceState) (c d : CommonState) (n : ℕ) (item : Item) → IsCounted old counts → IsCounted new counts' → 1 ≤ spare_of n old → owners_of a ≡ owners.owners_of old
+    → owners_of b ≡ owners.owners_of new → item.kind.0 ≡ 1 → ((kinds : KindTable) → IsItem kinds item) → owners.owners_of new ≡ remembered n item (owners.owners_of old) → d.kinds ≡ c.kinds → PinsBalance counts.pins counts'.pins c.pins d.pins
+    → LocksBalance (locks_of a) (locks_of b) c.locks d.locks → Balances a b c d
+balances_pinned old new counts counts' a b c d n item s s' spare was now pin is taken kinds pins locks = record {
+  table = ap table_of kinds;
+  limits = ap (map (λ k. k.limit)) kinds;
+  items = λ h. rw (now, taken, kinds) (items_remembered (table_of c.kinds) n item (owners.owners_of old) (is (table_of c.kinds)) (rw was at h));
+  held = λ kind key extension. rw (now, taken, kinds, was) (omega (arith, other_kind old counts n item kind key s spare (λ z. omega (arith, z, pin, extension))));
+  locks = locks;
+  pins = λ buffer. rw (was, now) (pins_balance counts.pins counts'.pins c.pins d.pins (owners.owners_of old) (owners.owners_of new) (λ q. s.counted buffer_pin q (omega arith)) (λ q. s'.counted buffer_pin q (omega arith)) pins buffer);
+}
 
 -- an owner that holds nothing goes, with all below it
 pub balances_gone : (old : OwnerTable) (counts : Held) (a b : ResourceState) (c : CommonState) (n : ℕ) → IsCounted old counts → owners_of a ≡ owners.owners_of old → AllAt HoldsNothing n (owners_of a)
@@ -162,7 +254,8 @@ balances_gone old counts a b c n s was empty gone locks =
     let t : OwnerTree = owners.owners_of old in
     let o : Once t = once_of t old.next_owner old.next_serial s.sound in
     let nothing : AllAt HoldsNothing n t = subst (AllAt HoldsNothing n) was empty in
-    balances_alone a b c (λ kinds h. rw gone (all_removed (HasItems kinds) n t (rw was at h))) (λ kind key extension. rw (gone, was) (held_removed kind key n t o nothing)) locks
+    balances_alone a b c (λ kinds h. rw gone (all_removed (HasItems kinds) n t (rw was at h))) (λ kind key extension. rw (gone, was) (held_removed kind key n t o nothing))
+    (λ buffer. rw (gone, was) (held_removed buffer_pin buffer n t o nothing)) locks
 
 -- a key of an extension kind is taken
 one_flipped : (a b p q : ℕ) → ◌≡◌ {A = ℕ} (if (b == a) && (q == p) then 1 else 0) (if (a == b) && (p == q) then 1 else 0)
@@ -172,8 +265,8 @@ pub balances_extended : (old : OwnerTable) (counts : Held) (a b : ResourceState)
     → owners_of a ≡ owners.owners_of old → c.kinds ≡ kinds → d.kinds ≡ kinds'
     → IsExtension (table_of c.kinds) kind → owners_of b ≡ remembered n (record { kind = kind; key = key; serial = old.next_serial }) (owners.owners_of old)
     → kinds' ≡ changed_at (kind.0 - 16) (opened key) kinds → table_of kinds' ≡ table_of kinds
-    → ((other : KindId) (q : ℕ) → times_held kinds' other q ≡ times_held kinds other q + one_at kind key other q) → LocksBalance (locks_of a) (locks_of b) c.locks d.locks → Balances a b c d
-balances_extended old counts a b c d kinds kinds' n kind key s spare was from to extension taken opens table times locks =
+    → ((other : KindId) (q : ℕ) → times_held kinds' other q ≡ times_held kinds other q + one_at kind key other q) → d.pins ≡ c.pins → LocksBalance (locks_of a) (locks_of b) c.locks d.locks → Balances a b c d
+balances_extended old counts a b c d kinds kinds' n kind key s spare was from to extension taken opens table times counted locks =
     let t : OwnerTree = owners.owners_of old in
     let item : Item = record { kind = kind; key = key; serial = old.next_serial } in
     let w = there n old spare in
@@ -186,6 +279,9 @@ balances_extended old counts a b c d kinds kinds' n kind key s spare was from to
           (items_remembered (table_of c.kinds) n item t (record { kind = inr extension; buffer = λ e. absurd (omega (arith, e, extension.from)) }) (rw was at h));
       held = λ other q high. rw (taken, was, from, to) (omega (arith, held_remembered other q n item w.0 t o w.1, times other q, one_flipped kind.0 other.0 key q));
       locks = locks;
+      pins = λ buffer.
+          let same_pins = pinned_same t (remembered n item t) buffer (other_kind old counts n item buffer_pin buffer s spare (λ z. omega (arith, z, extension.from))) in
+          rw (taken, was, counted) (omega (arith, same_pins));
     }
 
 -- what of a lending is told of extension kinds
@@ -197,8 +293,8 @@ high_times lending lending' kind key m n high same = omega (arith, same, lent_hi
 pub balances_given : (old : OwnerTable) (a b : ResourceState) (c d : CommonState) (lending lending' : Lending) (n : ℕ) (kind : KindId) (key : ℕ) (item : Item) → IsCounted old lending.held → owners_of a ≡ owners.owners_of old
     → c.kinds ≡ lending.kinds → d.kinds ≡ lending'.kinds → find (is_of kind key) (items_of n (owners.owners_of old)) ≡ Some item → owners_of b ≡ forgotten n kind key (owners.owners_of old)
     → table_of lending'.kinds ≡ table_of lending.kinds → map (λ k. k.limit) lending'.kinds ≡ map (λ k. k.limit) lending.kinds
-    → ((k : KindId) (j : ℕ) → times_lent lending' k j + uses k j (item ∷ []) ≡ times_lent lending k j) → LocksBalance (locks_of a) (locks_of b) c.locks d.locks → Balances a b c d
-balances_given old a b c d lending lending' n kind key item s was from to found given table limits times locks =
+    → ((k : KindId) (j : ℕ) → times_lent lending' k j + uses k j (item ∷ []) ≡ times_lent lending k j) → PinsBalance lending.held.pins lending'.held.pins c.pins d.pins → LocksBalance (locks_of a) (locks_of b) c.locks d.locks → Balances a b c d
+balances_given old a b c d lending lending' n kind key item s was from to found given table limits times pins locks =
     let t : OwnerTree = owners.owners_of old in
     let same : table_of d.kinds ≡ table_of c.kinds = ap table_of to ∙ table ∙ ap table_of (sym from) in
     record {
@@ -213,14 +309,17 @@ balances_given old a b c d lending lending' n kind key item s was from to found 
           high_times lending lending' k j (uses k j (item ∷ [])) 0 high (omega (arith, times k j)) in
           rw (given, was, from, to) (omega (arith, fewer, left));
       locks = locks;
+      pins = λ buffer. rw (given, was)
+          (pins_balance lending.held.pins lending'.held.pins c.pins d.pins t (forgotten n kind key t) (λ q. s.counted buffer_pin q (omega arith))
+          (λ q. omega (arith, times buffer_pin q, held_found n kind key item old lending.held s found buffer_pin q, s.counted buffer_pin q (omega arith))) pins buffer);
     }
 
 -- a phase is released
-pub balances_released : (old : OwnerTable) (a b : ResourceState) (c d : CommonState) (lending lending' : Lending) (n : ℕ) (phase : Phase) → owners_of a ≡ owners.owners_of old
+pub balances_released : (old : OwnerTable) (a b : ResourceState) (c d : CommonState) (lending lending' : Lending) (n : ℕ) (phase : Phase) → IsCounted old lending.held → owners_of a ≡ owners.owners_of old
     → c.kinds ≡ lending.kinds → d.kinds ≡ lending'.kinds → owners_of b ≡ released (table_of lending.kinds) phase n (owners.owners_of old)
     → table_of lending'.kinds ≡ table_of lending.kinds → map (λ k. k.limit) lending'.kinds ≡ map (λ k. k.limit) lending.kinds
-    → ((kind : KindId) (key : ℕ) → times_lent lending' kind key + held kind key (owners.owners_of old) ≡ times_lent lending kind key + held kind key (owners_of b)) → LocksBalance (locks_of a) (locks_of b) c.locks d.locks → Balances a b c d
-balances_released old a b c d lending lending' n phase was from to left table limits times locks =
+    → ((kind : KindId) (key : ℕ) → times_lent lending' kind key + held kind key (owners.owners_of old) ≡ times_lent lending kind key + held kind key (owners_of b)) → PinsBalance lending.held.pins lending'.held.pins c.pins d.pins → LocksBalance (locks_of a) (locks_of b) c.locks d.locks → Balances a b c d
+balances_released old a b c d lending lending' n phase s was from to left table limits times pins locks =
     let t : OwnerTree = owners.owners_of old in
     let kinds : KindTable = table_of lending.kinds in
     record {
@@ -229,6 +328,8 @@ balances_released old a b c d lending lending' n phase was from to left table li
       items = λ h. rw (left, to, table) (all_swept (HasItems kinds) (own_released kinds phase) (phase_items kinds phase) n t (rw (from, was) at h));
       held = λ k j high. rw (was, from, to) (high_times lending lending' k j (held k j t) (held k j (owners_of b)) high (times k j));
       locks = locks;
+      pins = λ buffer. rw was
+          (pins_balance lending.held.pins lending'.held.pins c.pins d.pins t (owners_of b) (λ q. s.counted buffer_pin q (omega arith)) (λ q. omega (arith, times buffer_pin q, s.counted buffer_pin q (omega arith))) pins buffer);
     }
 
 -- what is seen through other commons takes the place of what was seen through these

@@ -23,8 +23,9 @@ use Rattle.owner_core.proofs.ItemLemmas.{uses_own}
 use Rattle.owner_core.proofs.Sounds.{once_of, sound_created, sound_forgotten, sound_released, sound_remembered, sound_removed}
 use Rattle.owner_core.proofs.Swept.{all_swept}
 use Rattle.session_rules.proofs.Guarded.{all_changed}
-use Rattle.file_table.specs.Files.{OpensOneMore, opened_file}
+use Rattle.file_table.specs.Files.{Files, OpensOneMore, opened_file}
 use Rattle.owner_kinds.specs.KindTable.{KindTable}
+use Rattle.snap_table.specs.declared.active.Active.{Active}
 use Rattle.owner_kinds.specs.KindShelf as shelf
 use Rattle.session_owners.specs.Tables.{Held, Lending, times_held, times_lent}
 use Rattle.session_owners.specs.Counted.{HoldsCounted, IsCounted, IsHeld}
@@ -78,12 +79,12 @@ counted new counts owners next_owner next_serial e f g sound items buffers times
   references = rw g references;
 }
 
-pub counted_opening : (table : OwnerTable) (counts : Held) → table ≡ record { rooms = Empty; places = Empty; next_owner = 1; next_serial = 1 } → counts.pins ≡ replicate 1024 0 → counts.references ≡ [] → counts.files.opened ≡ [] → IsCounted table counts
-counted_opening table counts t p r f = record {
+pub counted_opening : (table : OwnerTable) (counts : Held) → table ≡ record { rooms = Empty; places = Empty; next_owner = 1; next_serial = 1 } → counts.pins ≡ replicate 1024 0 → counts.references ≡ [] → counts.files.opened ≡ [] → counts.snapshots.registered ≡ [] → IsCounted table counts
+counted_opening table counts t p r f g = record {
   sound = rw t (record { numbers = λ n. omega arith; serials = λ n. omega arith; few = omega arith });
   items = subst (AllNodes HoldsCounted) (sym (ap owners_of t)) tt;
   buffers = ap length p ∙ length-replicate {A = ℕ} 1024 0;
-  counted = λ kind key low. none_held counts kind key p r f ∙ ap (λ (z : OwnerTable). held kind key (owners_of z)) (sym t);
+  counted = λ kind key low. none_held counts kind key p r f g ∙ ap (λ (z : OwnerTable). held kind key (owners_of z)) (sym t);
   few = λ kind key. omega (arith, ap (λ (z : OwnerTable). held kind key (owners_of z)) t, ap (λ (z : OwnerTable). z.next_serial) t);
   references = let none : total counts.references ≡ 0 = ap (λ (z : List ((ℕ × ℕ) × ℕ)). total z) r in omega (arith, none, ap (λ (z : OwnerTable). z.next_serial) t);
 }
@@ -142,7 +143,7 @@ counted_pinned old new counts counts' n buffer s spare small set e f g =
     counted_taken old new counts counts' n (record { 0 = 1 }) buffer s spare (inl (record { kind = refl; buffer = small }))
     (ap (λ (z : Held). length z.pins) set ∙ length-set counts.pins buffer (slice_index counts.pins buffer + 1) ∙ s.buffers)
     (let same : total counts'.references ≡ total counts.references = ap (λ (z : Held). total z.references) set in omega (arith, same))
-    (λ k j low. ap (λ (z : Held). times_held z k j) set ∙ times_held-pinned counts buffer k j (omega (arith, s.buffers, small)))
+    (λ k j low. times_held-pinned counts counts' buffer k j (omega (arith, s.buffers, small)) set)
     e f g
 
 -- a file more
@@ -155,7 +156,7 @@ counted_opened old new counts counts' n file s spare set more e f g =
     let references : counts'.references ≡ counts.references = ap (λ (z : Held). z.references) set in
     counted_taken old new counts counts' n (record { 0 = 8 }) file s spare (inr (inr (inl refl))) (ap length pins ∙ s.buffers)
     (omega (arith, ap (λ (z : List ((ℕ × ℕ) × ℕ)). total z) references))
-    (λ k j low. times_held-opened counts counts' file k j pins references more)
+    (λ k j low. times_held-opened counts counts' file k j (set ∙ ap (λ (f : Files). record counts { files = f }) (sym (ap (λ (z : Held). z.files) set))) more)
     e f g
 
 -- an item of an extension kind more, which only that kind counts
@@ -168,15 +169,20 @@ counted_extended old new counts n kind key s spare high e f g =
     e f g
 
 -- the same items, with other descriptors
-pub counted_touched : (table : OwnerTable) (counts counts' : Held) → IsCounted table counts → counts'.pins ≡ counts.pins → counts'.references ≡ counts.references → counts'.files.opened ≡ counts.files.opened → IsCounted table counts'
-counted_touched table counts counts' s pins references opened = record {
+pub counted_touched : (table : OwnerTable) (counts counts' : Held) → IsCounted table counts → counts'.pins ≡ counts.pins → counts'.references ≡ counts.references → counts'.files.opened ≡ counts.files.opened → counts'.snapshots.registered ≡ counts.snapshots.registered → IsCounted table counts'
+counted_touched table counts counts' s pins references opened registered = record {
   sound = s.sound;
   items = s.items;
   buffers = ap length pins ∙ s.buffers;
-  counted = λ kind key low. times_held-same counts counts' kind key pins references opened ∙ s.counted kind key low;
+  counted = λ kind key low. times_held-same counts counts' kind key pins references opened registered ∙ s.counted kind key low;
   few = s.few;
   references = omega (arith, ap (λ (z : List ((ℕ × ℕ) × ℕ)). total z) references, s.references);
 }
+
+-- the same items, with other active snapshots
+pub counted_stacked : (table : OwnerTable) (counts counts' : Held) (stack : List Active) → IsCounted table counts → counts' ≡ record counts { snapshots = record counts.snapshots { stack = stack } } → IsCounted table counts'
+counted_stacked table counts counts' stack s is =
+    counted_touched table counts counts' s (ap (λ (z : Held). z.pins) is) (ap (λ (z : Held). z.references) is) (ap (λ (z : Held). z.files.opened) is) (ap (λ (z : Held). z.snapshots.registered) is)
 
 -- an item fewer
 with_item : (test : Item → Bool) (o : Option Owner) (item : Item) → find test (option_map_or (λ owner. owner.items) o []) ≡ Some item → (a : Owner) × (o ≡ Some a) × (find test a.items ≡ Some item)

@@ -1,5 +1,5 @@
 -- What a release leaves of owners: what is counted still is, and behind all phases nothing is left.
-use Rattle.std.proofs.Common.{◌≡◌, ℕ, sym, subst}
+use Rattle.std.proofs.Common.{ℕ, sym, subst}
 use Rattle.std.specs.Prelude.{not}
 use Rattle.std.proofs.lemmas.List.Elements.{All-filter}
 use Rattle.pgs_step.specs.declared.ids.Phase.{Phase}

@@ -8,3 +8,7 @@ pub mod Left
 pub mod OpenFiles
 pub mod Remembered
 pub mod LockActs
+pub mod OwnPins
+pub mod Stack
+pub mod Stat
+pub mod Classes

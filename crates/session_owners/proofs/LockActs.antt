@@ -1,22 +1,22 @@
 -- A lock is taken and given back, as the session's rules say.
-use Rattle.std.proofs.Common.{◌≡◌, ◌↔◌, ◌≢◌, ℕ, List, [], ◌∷◌, Some, Result, Ok, Err, refl, sym, ap, ◌∙◌, subst}
+use Rattle.std.proofs.Common.{◌≡◌, ◌↔◌, ℕ, List, [], ◌∷◌, Some, Result, Ok, Err, refl, sym, ap, ◌∙◌, subst}
 use Rattle.std.specs.Prelude.{OnOk}
 use Rattle.pgs_step.specs.declared.events.What.{What}
 use Rattle.pgs_step.specs.declared.events.What.TheVariants as what
 use Rattle.pgs_step.specs.declared.lock_modes.Mode.{Mode}
 use Rattle.owner_kinds.specs.Kind.{Kind}
+use Rattle.snap_table.specs.declared.active.Active.{Active}
 use Rattle.lock_shared.specs.declared.shared_locks.Holding.{Holding}
 use Rattle.lock_shared.specs.Holdings.{IsConflict}
 use Rattle.lock_shared.specs.Ranked.{beside, least_conflict}
 use Rattle.lock_shared.proofs.BesideLemmas.{beside_stays, conflict_is, conflict_stands}
-use Rattle.lock_local.specs.declared.errors.LockError.{LockError}
 use Rattle.lock_local.specs.Locks.{Lock, SessionLocks, OthersStay}
 use Rattle.lock_local.specs.Changes.{acquired, given_back}
 use Rattle.session_rules.specs.World.{Scene}
 use Rattle.session_rules.specs.Taking.{lock_taken}
 use Rattle.session_rules.specs.Parts.{lock_given_back}
 use Rattle.session_owners.specs.ResourceState.{OwnerTree, ResourceState, owners_of}
-use Rattle.session_owners.specs.Commons.{CommonState}
+use Rattle.session_owners.specs.Commons.{CommonState, pinned_beside}
 use Rattle.session_owners.specs.Fitting.{Acted, OwnersFit, with_owners}
 
 -- a conflict among all that is held is one in what the session sees
@@ -27,27 +27,29 @@ conflict_seen n shared a c o w Refused e f refused s m =
     (λ r. conflict_is c.locks o w a.session s m (now.0 r), λ r. now.1 (conflict_stands c.locks o w a.session s m r))
 
 -- a scene with all that owners, locks and commons show of it
-shown_in : Scene → OwnerTree → ℕ → ℕ → List ℕ → List Lock → List Kind → List Holding → ℕ → Scene
-shown_in scene owners next_owner next_serial recent locks kinds locked descriptors = record scene {
-  session = record scene.session { owners = owners; next_owner = next_owner; next_serial = next_serial; recent = recent; locks = locks };
-  around = record scene.around { kinds = kinds; locked = locked; descriptors = descriptors };
+shown_in : Scene → OwnerTree → ℕ → ℕ → List ℕ → List Lock → List Kind → List Holding → ℕ → List ℕ → List Active → Scene
+shown_in scene owners next_owner next_serial recent locks kinds locked descriptors pinned stack = record scene {
+  session = record scene.session { owners = owners; next_owner = next_owner; next_serial = next_serial; recent = recent; locks = locks; snapshots = stack };
+  around = record scene.around { kinds = kinds; locked = locked; pinned = pinned; descriptors = descriptors };
 }
 
-shown_same : (scene : Scene) (o p : OwnerTree) (m n s t : ℕ) (fs gs : List ℕ) (ls ms : List Lock) (ks js : List Kind) (hs is : List Holding) (d e : ℕ)
-    → o ≡ p → m ≡ n → s ≡ t → fs ≡ gs → ls ≡ ms → ks ≡ js → hs ≡ is → d ≡ e → shown_in scene o m s fs ls ks hs d ≡ shown_in scene p n t gs ms js is e
-shown_same scene o p m n s t fs gs ls ms ks js hs is d e f g h i j k l q = rw (f, g, h, i, j, k, l, q) refl
+shown_same : (scene : Scene) (o p : OwnerTree) (m n s t : ℕ) (fs gs : List ℕ) (ls ms : List Lock) (ks js : List Kind) (hs is : List Holding) (d e : ℕ) (us vs : List ℕ) (xs ys : List Active)
+    → o ≡ p → m ≡ n → s ≡ t → fs ≡ gs → ls ≡ ms → ks ≡ js → hs ≡ is → d ≡ e → us ≡ vs → xs ≡ ys → shown_in scene o m s fs ls ks hs d us xs ≡ shown_in scene p n t gs ms js is e vs ys
+shown_same scene o p m n s t fs gs ls ms ks js hs is d e us vs xs ys f g h i j k l q u x = rw (f, g, h, i, j, k, l, q, u, x) refl
 
 -- only the locks of the session became others, and what others hold stays
 pub record LocksAlone (a b : ResourceState) (c d : CommonState) : Type 0 where
   pub alone : b ≡ record a { locks = b.locks }
   pub kinds : d.kinds ≡ c.kinds
+  pub pins : d.pins ≡ c.pins
   pub others : OthersStay a.session c.locks d.locks
 
-pub locks_alone : (was a : ResourceState) (had c d : CommonState) (t : SessionLocks) → was ≡ a → had ≡ c → t.session ≡ was.session → d.kinds ≡ had.kinds → OthersStay was.session had.locks d.locks
+pub locks_alone : (was a : ResourceState) (had c d : CommonState) (t : SessionLocks) → was ≡ a → had ≡ c → t.session ≡ was.session → d.kinds ≡ had.kinds → d.pins ≡ had.pins → OthersStay was.session had.locks d.locks
     → LocksAlone a (record was { session = t.session; locks = t.locks }) c d
-locks_alone was a had c d t e f same kinds others = record {
+locks_alone was a had c d t e f same kinds pins others = record {
   alone = ap (λ (n : ℕ). record was { session = n; locks = t.locks }) same ∙ ap (λ (r : ResourceState). record r { locks = t.locks }) e;
   kinds = kinds ∙ ap (λ (s : CommonState). s.kinds) f;
+  pins = pins ∙ ap (λ (s : CommonState). s.pins) f;
   others = subst (λ (r : ResourceState). OthersStay r.session c.locks d.locks) e (subst (λ (s : CommonState). OthersStay was.session s.locks d.locks) f others);
 }
 
@@ -57,10 +59,11 @@ unfolding shown_in
 locks_lead scene ls a b c d alone is fit =
     let seen : beside a.session c.locks ≡ beside b.session d.locks = beside_stays a.session c.locks d.locks alone.others ∙ ap (λ (n : ℕ). beside n d.locks) (sym (ap (λ (r : ResourceState). r.session) alone.alone)) in
     shown_same scene scene.session.owners (owners_of b) scene.session.next_owner b.next_owner scene.session.next_serial b.next_serial scene.session.recent b.recent ls b.locks
-    scene.around.kinds d.kinds scene.around.locked (beside b.session d.locks) scene.around.descriptors b.descriptors
+    scene.around.kinds d.kinds scene.around.locked (beside b.session d.locks) scene.around.descriptors b.descriptors scene.around.pinned (pinned_beside (owners_of b) d.pins) scene.session.snapshots b.stack
     (fit.owners ∙ sym (ap owners_of alone.alone)) (fit.next_owner ∙ sym (ap (λ (r : ResourceState). r.next_owner) alone.alone))
     (fit.next_serial ∙ sym (ap (λ (r : ResourceState). r.next_serial) alone.alone)) (fit.recent ∙ sym (ap (λ (r : ResourceState). r.recent) alone.alone)) is
     (fit.kinds ∙ sym alone.kinds) (fit.locked ∙ seen) (fit.descriptors ∙ sym (ap (λ (r : ResourceState). r.descriptors) alone.alone))
+    (fit.pinned ∙ ap (λ (r : ResourceState). pinned_beside (owners_of r) c.pins) (sym alone.alone) ∙ ap (pinned_beside (owners_of b)) (sym alone.pins)) (fit.snapshots ∙ sym (ap (λ (r : ResourceState). r.stack) alone.alone))
 
 pub acted_locked : (o : ℕ) (w : Mode) (n : ℕ) (a b : ResourceState) (c d : CommonState) (Says : List What → Type 0) → LocksAlone a b c d → b.locks ≡ acquired n o w a.locks
     → Says (what.AcquireLock o w n ∷ []) → Acted (lock_taken o w n) a b c d Says
@@ -77,6 +80,10 @@ acted_unlocked o w n a b c d Says alone e says = record {
 }
 
 -- two facts of an answer that is Ok make a third
-pub both_ok : {P Q R : Type 0} (r : Result (Unit {0}) LockError) → OnOk r P → OnOk r Q → (P → Q → R) → OnOk r R
+pub both_ok : {T E P Q R : Type 0} (r : Result T E) → OnOk r P → OnOk r Q → (P → Q → R) → OnOk r R
 both_ok (Ok u) p q f = f p q
 both_ok (Err e) p q f = tt
+
+pub three_ok : {T E P Q R S : Type 0} (r : Result T E) → OnOk r P → OnOk r Q → OnOk r R → (P → Q → R → S) → OnOk r S
+three_ok (Ok u) p q r f = f p q r
+three_ok (Err e) p q r f = tt

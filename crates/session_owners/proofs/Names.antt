@@ -1,5 +1,5 @@
 -- The kind that a name stands for is the one that has the name.
-use Rattle.std.proofs.Common.{◌≡◌, ◌≢◌, ◌↔◌, ℕ, ◌+◌, ◌-◌, ◌<◌, ◌≤◌, zero, suc, false, true, Bool, List, [], ◌∷◌, length, map, All, slice_get, Option, Some, None, IfSome, rules, refl, sym, ap, ◌∙◌, inl, inr, arith}
+use Rattle.std.proofs.Common.{◌≡◌, ◌≢◌, ◌↔◌, ℕ, ◌+◌, ◌-◌, zero, suc, false, true, List, [], ◌∷◌, map, All, slice_get, Option, Some, None, IfSome, rules, refl, sym, ap, ◌∙◌, inl, inr, arith}
 use Rattle.std.specs.Prelude.{Contains, IsNone}
 use Rattle.std.proofs.lemmas.Bool.{cases_Bool, false_from_ne_true}
 use Rattle.std.proofs.lemmas.List.Elements.{All-head, All-tail}

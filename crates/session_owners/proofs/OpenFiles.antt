@@ -1,5 +1,5 @@
 -- The open files are those that the owners hold.
-use Rattle.std.proofs.Common.{◌≡◌, ◌≢◌, ◌↔◌, ℕ, suc, zero, ◌+◌, ◌<◌, ◌≤◌, Bool, true, false, ◌||◌, cond, nat_eq, List, [], ◌∷◌, ◌++◌, length, Result, Ok, Err, IfErr, refl, sym, ap, ◌∙◌, inl, inr, arith}
+use Rattle.std.proofs.Common.{◌≡◌, ◌≢◌, ◌↔◌, ℕ, suc, zero, ◌<◌, ◌≤◌, Bool, true, false, ◌||◌, cond, nat_eq, List, [], ◌∷◌, ◌++◌, length, Result, Ok, Err, IfErr, refl, sym, ap, ◌∙◌, inl, inr, arith}
 use Rattle.std.specs.Prelude.{◌==◌, nat_lt, count_by, IsTrue}
 use Rattle.std.specs.List.{list_any}
 use Rattle.std.specs.Set.{distinct_count}
@@ -22,7 +22,7 @@ use Rattle.session_rules.specs.Counts.{all_items, distinct, keys_of}
 use Rattle.session_owners.specs.Counted.{files_held, holds_file}
 
 -- an element passes a test where some do
-any_counts : {A : Type 0} (test : A → Bool) (xs : List A) → list_any test xs ≡ nat_lt 0 (count_by test xs)
+pub any_counts : {A : Type 0} (test : A → Bool) (xs : List A) → list_any test xs ≡ nat_lt 0 (count_by test xs)
 any_counts test [] = refl
 any_counts test (x ∷ xs) = go (any_counts test xs) (test x) refl
   where
@@ -36,7 +36,7 @@ any_counts test (x ∷ xs) = go (any_counts test xs) (test x) refl
         rest ∙ ap (nat_lt 0) same
 
 -- how often owners hold a kind and key, by all their items
-held_all : (kind : KindId) (key : ℕ) (owners : OwnerTree) → held kind key owners ≡ uses kind key (all_items owners)
+pub held_all : (kind : KindId) (key : ℕ) (owners : OwnerTree) → held kind key owners ≡ uses kind key (all_items owners)
 held_all kind key Empty = refl
 held_all kind key (Node n owner below beside) =
     omega (
@@ -57,7 +57,7 @@ open_held files owners file same =
 flip : (m n : ℕ) → (m == n) ≡ (n == m)
 flip m n = grind (arith, nat_tests)
 
-keys_among : (kind : KindId) (file : ℕ) (items : List Item) → is_among file (keys_of kind items) ≡ list_any (is_of kind file) items
+pub keys_among : (kind : KindId) (file : ℕ) (items : List Item) → is_among file (keys_of kind items) ≡ list_any (is_of kind file) items
 keys_among kind file [] = refl
 keys_among kind file (item ∷ items) =
     elim (cases_Bool (item.kind.0 == kind.0)) [
@@ -69,7 +69,7 @@ any_flipped : (n : ℕ) (ns : List ℕ) → list_any (nat_eq n) ns ≡ list_any 
 any_flipped n [] = refl
 any_flipped n (m ∷ ms) = rw (flip n m, any_flipped n ms) refl
 
-distinct_length : (ns : List ℕ) → distinct_count nat_eq ns ≡ length (distinct ns)
+pub distinct_length : (ns : List ℕ) → distinct_count nat_eq ns ≡ length (distinct ns)
 distinct_length [] = refl
 distinct_length (n ∷ ns) =
     elim (cases_Bool (list_any (λ m. m == n) ns)) [
@@ -94,6 +94,13 @@ opening_touches files file sound closed = rw (no_descriptor files file sound clo
 -- which files are open is no matter there
 pub recent_alone : (files : Files) (opened : List ℕ) (file : ℕ) → (touched_file file files).recent ≡ (touched_file file (record files { opened = opened })).recent
 recent_alone files opened file =
+    elim (cases_Bool (is_among file files.recent)) [
+      | inl y ↦ rw y refl
+      | inr n ↦ rw n refl
+    ]
+
+pub descriptors_kept : (files : Files) (file : ℕ) → (touched_file file files).descriptors ≡ files.descriptors
+descriptors_kept files file =
     elim (cases_Bool (is_among file files.recent)) [
       | inl y ↦ rw y refl
       | inr n ↦ rw n refl

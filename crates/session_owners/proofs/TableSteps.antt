@@ -1,5 +1,5 @@
 -- What the tables of a session's items do in a release: the steps of the rules.
-use Rattle.std.proofs.Common.{◌≡◌, ℕ, ◌≤◌, Bool, true, false, List, [], ◌∷◌, Option, None, append-nil, refl, sym, ap, ◌∙◌, subst, arith}
+use Rattle.std.proofs.Common.{◌≡◌, ℕ, ◌≤◌, Bool, true, false, List, [], ◌∷◌, Option, None, append-nil, refl, sym, ap, ◌∙◌, arith}
 use Rattle.std.specs.Prelude.{zero, suc, ◌<◌, ◌==◌, ◌-◌, nat_lt, if◌then◌else◌, map}
 use Rattle.std.proofs.lemmas.Bool.{lt-ltb}
 use Rattle.counts.specs.Counts.{total}
@@ -8,29 +8,29 @@ use Rattle.pgs_step.specs.declared.events.What.TheVariants as what
 use Rattle.pgs_step.specs.declared.ids.Item.{Item}
 use Rattle.pgs_step.specs.declared.ids.KindId.{KindId}
 use Rattle.owner_kinds.specs.Kind.{Kind, changed_at, closed, opened}
-use Rattle.owner_core.specs.Steps.{Step, GivesBack, ReleasesLocks, PassesLocks, ReleasesAllLocks}
+use Rattle.owner_core.specs.Steps.{Step, GivesBack}
 use Rattle.lock_local.specs.Locks.{Lock}
-use Rattle.lock_local.specs.Changes as locks
 use Rattle.file_table.specs.Descriptors.{is_among, without}
 use Rattle.file_table.specs.Files.{Files, closed_file, closing_events}
 use Rattle.file_table.proofs.FileLists.{without_missing}
 use Rattle.session_rules.specs.State.{StandingPlan}
 use Rattle.session_rules.specs.World.{Scene}
 use Rattle.session_rules.specs.Lookup.{plan_at}
-use Rattle.session_rules.specs.Acts.{Ended, for_each, nothing, where_so, where_there}
-use Rattle.session_rules.specs.Releases.{Keeper, NoOne, ThePlans, TheDescriptors, TheKind, keeper_of, left_to, plan_becomes, step_done, with_locks}
+use Rattle.session_rules.specs.Acts.{Ended, where_there}
+use Rattle.session_rules.specs.Releases.{Keeper, NoOne, ThePlans, TheDescriptors, TheKind, keeper_of, left_to, plan_becomes, step_done}
 use Rattle.session_rules.proofs.ItemsStand.{extension_keeps}
 use Rattle.session_owners.specs.Tables.{Held, Lending, TablesDo, TablesFit, lending_of, with_lending, with_tables}
 use Rattle.session_owners.specs.TableLaws.{lending_is, tables_same}
 
 -- one step, by what it does
 one_step : (a b : Lending) (step : Step) (events : List What) → ((scene : Scene) → TablesFit a scene → step_done step scene ≡ record { scene = with_lending b scene; events = events })
-    → b.held.files.descriptors ≡ a.held.files.descriptors → total b.held.references ≤ total a.held.references → map (λ k. k.limit) b.kinds ≡ map (λ k. k.limit) a.kinds
+    → b.held.files.descriptors ≡ a.held.files.descriptors → b.held.snapshots.stack ≡ a.held.snapshots.stack → total b.held.references ≤ total a.held.references → map (λ k. k.limit) b.kinds ≡ map (λ k. k.limit) a.kinds
     → TablesDo a (step ∷ []) events b
-one_step a b step events does descriptors fewer limits = record {
+one_step a b step events does descriptors stack fewer limits = record {
   leads = λ scene fit. ap (λ (z : Ended). z.scene) (does scene fit);
   says = λ scene fit. append-nil (step_done step scene).events ∙ ap (λ (z : Ended). z.events) (does scene fit);
   descriptors = descriptors;
+  stack = stack;
   fewer = fewer;
   limits = limits;
 }
@@ -60,13 +60,13 @@ no_kind kind low place = rw (lt-ltb kind.0 16 low) (go (kind.0 == 5) (kind.0 == 
     go false true e = cc e
     go false false e = cc e
 
-pub does_give : (a b : Held) (kinds : List Kind) (ls : List Lock) (item : Item) → item.kind.0 < 16 → (item.kind.0 == 8) ≡ false → b.files ≡ a.files → total b.references ≤ total a.references
+pub does_give : (a b : Held) (kinds : List Kind) (ls : List Lock) (item : Item) → item.kind.0 < 16 → (item.kind.0 == 8) ≡ false → b.files ≡ a.files → b.snapshots.stack ≡ a.snapshots.stack → total b.references ≤ total a.references
     → TablesDo (lending_of a kinds ls) (GivesBack item ∷ []) [] (lending_of b kinds ls)
-does_give a b kinds ls item low other files fewer =
+does_give a b kinds ls item low other files stack fewer =
     one_step (lending_of a kinds ls) (lending_of b kinds ls) (GivesBack item) []
     (λ scene fit. left_still (keeper_of item.kind) item.key scene fit.plans (no_file item.kind other) (no_kind item.kind low)
     ∙ ap (λ (s : Scene). record { scene = s; events = [] }) (lending_is (lending_of b kinds ls) scene (fit.recent ∙ ap (λ (f : Files). f.recent) (sym files)) fit.kinds fit.locks))
-    (ap (λ (f : Files). f.descriptors) files) fewer refl
+    (ap (λ (f : Files). f.descriptors) files) stack fewer refl
 
 -- what never changes of kinds
 limits_kept : (kinds : List Kind) (i : ℕ) (change : Kind → Kind) → ((k : Kind) → (change k).limit ≡ k.limit) → map (λ k. k.limit) (changed_at i change kinds) ≡ map (λ k. k.limit) kinds
@@ -88,7 +88,7 @@ does_leave a kinds after ls item high is =
     (λ scene fit. ap (λ (k : Keeper). left_to k item.key scene) (extension_keeps item.kind high)
     ∙ ap (λ (ks : List Kind). record { scene = record scene { around = record scene.around { kinds = ks } }; events = [] }) (ap (changed_at (item.kind.0 - 16) (closed item.key)) fit.kinds ∙ sym is)
     ∙ ap (λ (s : Scene). record { scene = s; events = [] }) (tables_same scene scene.session.recent a.files.recent after after scene.session.locks ls fit.recent refl fit.locks))
-    refl (omega arith) (ap (map (λ k. k.limit)) is ∙ limits_closed kinds (item.kind.0 - 16) item.key)
+    refl refl (omega arith) (ap (map (λ k. k.limit)) is ∙ limits_closed kinds (item.kind.0 - 16) item.key)
 
 -- A file is closed.
 descriptor_left : (file : ℕ) (kinds : List Kind) (ls : List Lock) (scene : Scene) → scene.around.kinds ≡ kinds → scene.session.locks ≡ ls → left_to TheDescriptors file scene
@@ -112,7 +112,7 @@ does_close a b kinds ls item is new =
     ∙ descriptor_left item.key kinds ls scene fit.kinds fit.locks
     ∙ ap (λ (recent : List ℕ). record { scene = with_tables (without item.key recent) kinds ls scene; events = if is_among item.key recent then what.DescriptorClosed item.key ∷ [] else [] }) fit.recent
     ∙ ap (λ (h : Held). record { scene = with_tables h.files.recent kinds ls scene; events = closing_events item.key a.files }) (sym new))
-    (ap (λ (h : Held). h.files.descriptors) new)
+    (ap (λ (h : Held). h.files.descriptors) new) (ap (λ (h : Held). h.snapshots.stack) new)
     (let same : total b.references ≡ total a.references = ap (λ (h : Held). total h.references) new in omega (arith, same))
     refl
 

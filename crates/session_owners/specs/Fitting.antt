@@ -5,10 +5,11 @@ use Rattle.pgs_step.specs.declared.events.What.{What}
 use Rattle.session_rules.specs.World.{Scene}
 use Rattle.session_rules.specs.Acts.{Ended}
 use Rattle.session_owners.specs.ResourceState.{ResourceState, owners_of}
-use Rattle.session_owners.specs.Commons.{CommonState, seen_by}
+use Rattle.session_owners.specs.Commons.{CommonState, pinned_beside, seen_by}
 
--- The owners of a scene, its files that have a descriptor and its locks are these, as many descriptors are its share, its kinds and
--- what others have locked are those of the commons, and there is nothing that lines cannot take yet: no plan.
+-- The owners of a scene, its files that have a descriptor, its locks and its active snapshots are these, as many descriptors are its
+-- share, its kinds, what others have locked and how many others pin each buffer are those of the commons, and there is nothing that
+-- lines cannot take yet: no plan.
 pub record OwnersFit (state : ResourceState) (commons : CommonState) (scene : Scene) : Type 0 where
   pub owners : scene.session.owners ≡ owners_of state
   pub next_owner : scene.session.next_owner ≡ state.next_owner
@@ -17,17 +18,19 @@ pub record OwnersFit (state : ResourceState) (commons : CommonState) (scene : Sc
   pub descriptors : scene.around.descriptors ≡ state.descriptors
   pub kinds : scene.around.kinds ≡ commons.kinds
   pub locked : scene.around.locked ≡ beside state.session commons.locks
+  pub pinned : scene.around.pinned ≡ pinned_beside (owners_of state) commons.pins
   pub locks : scene.session.locks ≡ state.locks
+  pub snapshots : scene.session.snapshots ≡ state.stack
   pub plans : scene.session.plans ≡ []
 
--- the scene with these owners, files and locks, and these commons
+-- the scene with these owners, files, locks and active snapshots, and these commons
 abbrev pub with_owners : ResourceState → CommonState → Scene → Scene
 with_owners state commons scene = record scene {
-  session = record scene.session { owners = owners_of state; next_owner = state.next_owner; next_serial = state.next_serial; recent = state.recent; locks = state.locks };
+  session = record scene.session { owners = owners_of state; next_owner = state.next_owner; next_serial = state.next_serial; recent = state.recent; locks = state.locks; snapshots = state.stack };
   around = record (seen_by state commons scene.around) { descriptors = state.descriptors };
 }
 
--- An act leads from owners, files and locks, with the commons, to others and changes nothing else, and what it says is so.
+-- An act leads from owners with what they hold, with the commons, to others and changes nothing else, and what it says is so.
 pub record Acted (act : Scene → Ended) (a b : ResourceState) (c d : CommonState) (Said : List What → Type 0) : Type 0 where
   pub leads : (scene : Scene) → OwnersFit a c scene → (act scene).scene ≡ with_owners b d scene
   pub says : (scene : Scene) → OwnersFit a c scene → Said (act scene).events

@@ -6,13 +6,16 @@ use Rattle.pgs_step.specs.declared.ids.OwnerId.{OwnerId}
 use Rattle.forest.specs.Forest.{Forest, at}
 use Rattle.forest.specs.Code.{forest_code}
 use Rattle.file_table.specs.Files.{Files}
+use Rattle.snap_table.specs.declared.active.Active.{Active}
+use Rattle.snap_table.specs.contracts.active.Active as active
 use Rattle.lock_local.specs.Locks.{Lock, SessionLocks}
 use Rattle.lock_local.specs.Code.{lock_code}
 use Rattle.owner_core.specs.TableCode.{roomy_code}
 pub use Rattle.owner_core.specs.Owners.{Owner, OwnerTree, Roomy, AllAt, HoldsNothing, created, entered, forgotten, has_begun, held, items_of, remembered, tree_of}
 
 -- the owners with their room, where each lies, the numbers that the next owner and the next item get, the files that have a
--- descriptor, the most recently used first, how many descriptors there are, and the session's number and its locks
+-- descriptor, the most recently used first, how many descriptors there are, the session's number and its locks, and its active
+-- snapshots, the newest last
 pub record ResourceState : Type 0 where
   pub rooms : Forest Roomy
   pub places : Forest ℕ
@@ -22,13 +25,14 @@ pub record ResourceState : Type 0 where
   pub descriptors : ℕ
   pub session : ℕ
   pub locks : List Lock
+  pub stack : List Active
 
 abbrev pub resource_code : Coded ResourceState
 resource_code =
-    code_by (Forest Roomy × (Forest ℕ × (ℕ × (ℕ × (List ℕ × (ℕ × (ℕ × List Lock)))))))
-    (coded× (forest_code roomy_code) (coded× (forest_code coded_ℕ) (coded× coded_ℕ (coded× coded_ℕ (coded× (coded_list coded_ℕ) (coded× coded_ℕ (coded× coded_ℕ (coded_list lock_code))))))))
-    (λ r. (r.rooms, (r.places, (r.next_owner, (r.next_serial, (r.recent, (r.descriptors, (r.session, r.locks))))))))
-    (λ p. record { rooms = p.0; places = p.1.0; next_owner = p.1.1.0; next_serial = p.1.1.1.0; recent = p.1.1.1.1.0; descriptors = p.1.1.1.1.1.0; session = p.1.1.1.1.1.1.0; locks = p.1.1.1.1.1.1.1 }) (λ _. refl)
+    code_by (Forest Roomy × (Forest ℕ × (ℕ × (ℕ × (List ℕ × (ℕ × (ℕ × (List Lock × List Active))))))))
+    (coded× (forest_code roomy_code) (coded× (forest_code coded_ℕ) (coded× coded_ℕ (coded× coded_ℕ (coded× (coded_list coded_ℕ) (coded× coded_ℕ (coded× coded_ℕ (coded× (coded_list lock_code) (coded_list active.the_row.coded)))))))))
+    (λ r. (r.rooms, (r.places, (r.next_owner, (r.next_serial, (r.recent, (r.descriptors, (r.session, (r.locks, r.stack)))))))))
+    (λ p. record { rooms = p.0; places = p.1.0; next_owner = p.1.1.0; next_serial = p.1.1.1.0; recent = p.1.1.1.1.0; descriptors = p.1.1.1.1.1.0; session = p.1.1.1.1.1.1.0; locks = p.1.1.1.1.1.1.1.0; stack = p.1.1.1.1.1.1.1.1 }) (λ _. refl)
 
 -- the owners alone
 abbrev pub owners_of : ResourceState → OwnerTree

@@ -11,7 +11,7 @@ use Rattle.session_rules.specs.World.{Scene}
 use Rattle.session_rules.specs.Acts.{Ended, and_then, behind, for_each}
 use Rattle.session_rules.specs.Releases.{step_done}
 use Rattle.session_owners.specs.Commons.{LocksBalance}
-use Rattle.session_owners.specs.Tables.{Lending, TablesDo, TablesFit, with_lending, with_tables}
+use Rattle.session_owners.specs.Tables.{Lending, PinsBalance, TablesDo, TablesFit, with_lending, with_tables}
 
 -- some steps and then others
 steps_both : (ss ts : List Step) (scene : Scene) → for_each step_done (ss ++ ts) scene ≡ and_then (for_each step_done ss scene) (for_each step_done ts)
@@ -45,11 +45,19 @@ LocksBalance-more a b e c d f p q = record {
   others = λ o m s other. subst (λ (n : ℕ). OthersStay n d f) p.session q.others o m s other ∙ p.others o m s other;
 }
 
+-- nothing is done to pins, and one thing behind another
+pub PinsBalance-nothing : (a c : List ℕ) → PinsBalance a a c c
+PinsBalance-nothing a c buffer = refl
+
+pub PinsBalance-more : (a b e c d f : List ℕ) → PinsBalance a b c d → PinsBalance b e d f → PinsBalance a e c f
+PinsBalance-more a b e c d f p q buffer = omega (arith, p buffer, q buffer)
+
 pub TablesDo-nothing : (a : Lending) → TablesDo a [] [] a
 TablesDo-nothing a = record {
   leads = λ scene fit. lending_is a scene fit.recent fit.kinds fit.locks;
   says = λ scene fit. refl;
   descriptors = refl;
+  stack = refl;
   fewer = omega arith;
   limits = refl;
 }
@@ -59,6 +67,7 @@ TablesDo-said a event = record {
   leads = λ scene fit. lending_is a scene fit.recent fit.kinds fit.locks;
   says = λ scene fit. refl;
   descriptors = refl;
+  stack = refl;
   fewer = omega arith;
   limits = refl;
 }
@@ -76,6 +85,7 @@ TablesDo-more a b c ss ts both xs ys all p q e f =
           ∙ ap (λ (s : Scene). xs ++ (for_each step_done ts s).events) (p.leads scene fit)
           ∙ ap (λ (events : List What). xs ++ events) (q.says (with_lending b scene) (still_fits a b scene fit));
       descriptors = q.descriptors ∙ p.descriptors;
+      stack = q.stack ∙ p.stack;
       fewer = omega (arith, p.fewer, q.fewer);
       limits = q.limits ∙ p.limits;
     }))

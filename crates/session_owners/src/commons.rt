@@ -1,5 +1,5 @@
 //! What the sessions of a run share of resources, lent to one of them at a time.
-ghost use Rattle.std.specs.Prelude.{◌≡◌, [], IfOk, IfSome};
+ghost use Rattle.std.specs.Prelude.{◌≡◌, [], replicate, IfOk, IfSome};
 ghost use Rattle.owner_kinds.specs.KindShelf.{table_of};
 ghost use Rattle.owner_kinds.specs.KindTable.{IsExtension, IsSound};
 ghost use Rattle.session_rules.specs.Lookup.{kind_named};
@@ -7,16 +7,18 @@ ghost use Rattle.session_rules.specs.Lookup.{kind_named};
 use lock_shared::SharedLocks;
 use owner_kinds::{ExtKind, KindError, KindShelf};
 use pgs_step::{KindId, Name};
+use pin_table::SharedPins;
 use std::alloc::{AllocError, Global};
 use std::marker::Model;
 use std::mem;
 
-/// What the sessions of a run share of resources: the extension kinds with the keys that they hold, and who holds which
-/// lock.
+/// What the sessions of a run share of resources: the extension kinds with the keys that they hold, who holds which
+/// lock, and how many sessions pin each buffer.
 #[derive(Drop)]
 pub struct Commons<K: ExtKind> {
     pub(crate) kinds: KindShelf<K>,
     pub(crate) locks: SharedLocks,
+    pub(crate) pins: SharedPins,
 }
 
 impl<K: ExtKind> Model for Commons<K> {
@@ -24,23 +26,24 @@ impl<K: ExtKind> Model for Commons<K> {
 
     ghost Value = { CommonState };
 
-    ghost view = { λ c. record { kinds = c.kinds; locks = c.locks } };
+    ghost view = { λ c. record { kinds = c.kinds; locks = c.locks; pins = c.pins } };
 }
 
 impl<K: ExtKind> Commons<K> {
-    /// No kind, and no lock is held. It fails for want of memory alone.
+    /// No kind, no lock is held, and no buffer is pinned. It fails for want of memory alone.
     pub fn new(alloc: Global) -> Result<Commons<K>, AllocError>
-        ensures { IfOk result (λ commons. commons ≡ record { kinds = []; locks = [] }) }
+        ensures { IfOk result (λ commons. commons ≡ record { kinds = []; locks = []; pins = replicate 1024 0 }) }
     {
         Ok(Commons {
             kinds: KindShelf::new(alloc, Vec::new(alloc))?,
             locks: SharedLocks::new(alloc),
+            pins: SharedPins::new(alloc)?,
         })
     }
 
     /// The kinds of the two change places.
     pub fn swap_kinds(&mut self, kinds: &mut KindShelf<K>)
-        ensures swapped { self.new ≡ record { kinds = kinds.old; locks = self.old.locks } }
+        ensures swapped { self.new ≡ record { kinds = kinds.old; locks = self.old.locks; pins = self.old.pins } }
         ensures given { kinds.new ≡ self.old.kinds }
     {
         mem::swap(&mut self.kinds, kinds);

@@ -1,14 +1,18 @@
 //! The owners of a session together with the tables of what they hold.
-ghost use Rattle.std.specs.Prelude.{◌≡◌, ◌↔◌, ◌≢◌, ℕ, ◌+◌, ◌-◌, ◌<◌, ◌≤◌, ◌^◌, true, false, [], ◌∷◌, find, length, slice_get, IfErr, IfOk, IfSome, IsErrOf, IsOkUnless, OnOk, OnErr, Some, None};
-ghost use Rattle.std.specs.Option.{option_map, ok_or};
+ghost use Rattle.std.specs.Prelude.{◌≡◌, ◌↔◌, ◌≢◌, ℕ, ◌+◌, ◌-◌, ◌<◌, ◌≤◌, ◌^◌, ◌==◌, true, false, [], ◌∷◌, find, length, slice_get, IfErr, IfOk, IfSome, IsErr, IsErrOf, IsOkUnless, OnOk, OnErr, Some, None};
+ghost use Rattle.std.specs.Option.{option_map, option_map_or, ok_or};
 ghost use Rattle.forest.specs.Forest.{Empty, has, at, size, parent_of, removed, AllNodes};
 ghost use Rattle.owner_items.specs.ItemList.{is_of};
 ghost use Rattle.owner_core.specs.Sound.{IsSound};
 ghost use Rattle.owner_core.specs.Released.{released};
 ghost use Rattle.session_rules.specs.State.{buffer_pin, file_kind};
 ghost use Rattle.session_rules.specs.Making.{owner_made};
-ghost use Rattle.session_rules.specs.Taking.{descriptor_given, item_taken, lock_taken};
-ghost use Rattle.session_rules.specs.Parts.{lock_given_back};
+ghost use Rattle.session_rules.specs.Counts.{counts};
+ghost use Rattle.session_rules.specs.Ends.{stack_lowered, stack_popped};
+ghost use Rattle.session_rules.specs.Taking.{descriptor_given, item_taken, lock_taken, pushed_at};
+ghost use Rattle.session_rules.specs.Parts.{lock_given_back, pinning, snapshot_popped};
+ghost use Rattle.session_rules.specs.State.{last_of};
+ghost use Rattle.session_rules.specs.World.{Scene};
 ghost use Rattle.lock_shared.specs.Ranked.{beside, least_conflict};
 ghost use Rattle.lock_local.specs.declared.errors.LockError.TheVariants.{Conflict, NotHeld};
 ghost use Rattle.lock_local.specs.Locks.{count_of};
@@ -20,7 +24,7 @@ ghost use Rattle.owner_kinds.specs.KindTable.{IsExtension};
 ghost use Rattle.session_owners.specs.Counted.{HoldsCounted, IsReference, all_released, files_held, holds_file};
 ghost use Rattle.session_owners.specs.ResourceState.{owners_of, IsLive, has_begun, items_of, spare_of, created, entered, forgotten, remembered, AllAt, HoldsNothing};
 ghost use Rattle.session_owners.specs.Commons.{Balances, CommonState, Serves};
-ghost use Rattle.session_owners.specs.Fitting.{Acted};
+ghost use Rattle.session_owners.specs.Fitting.{Acted, OwnersFit};
 
 use crate::commons::Commons;
 use crate::lent::Lent;
@@ -29,14 +33,16 @@ use file_table::FileError;
 use lock_local::{LockError, LockTable};
 use owner_core::{OwnerError, Owners, Release};
 use owner_kinds::{ExtKind, KindError};
-use pgs_step::{Emit, Item, KindId, Mode, OwnerId, Phase};
+use pgs_step::{Emit, Item, KindId, Mode, OwnerId, Phase, SessionCounts};
+use snap_table::SnapError;
 use std::alloc::{AllocError, Global};
 use std::marker::Model;
 
-/// The resource owners of a session and the counts of the pins, references and files that they hold.
+/// The resource owners of a session, the counts of the pins, references and files that they hold, its locks and its active
+/// snapshots.
 ///
-/// Contracts see it as the owners, the files that have a descriptor, and how many can have one: the tables count each item just
-/// as often as the owners hold it. Each call that says something is an act of the session's rules, at each scene with these
+/// Contracts see it as the owners, the files that have a descriptor, how many can have one, the locks, and the stack of active
+/// snapshots: the tables count each item just as often as the owners hold it. Each call that says something is an act of the session's rules, at each scene with these
 /// owners and files.
 #[derive(Drop)]
 pub struct Resources {
@@ -54,17 +60,17 @@ impl Model for Resources {
 
     ghost use Rattle.session_owners.specs.Counted.{IsCounted};
 
-    ghost view = { λ r. record { rooms = r.owners.rooms; places = r.owners.places; next_owner = r.owners.next_owner; next_serial = r.owners.next_serial; recent = r.tables.files.recent; descriptors = r.tables.files.descriptors; session = r.locks.session; locks = r.locks.locks } };
+    ghost view = { λ r. record { rooms = r.owners.rooms; places = r.owners.places; next_owner = r.owners.next_owner; next_serial = r.owners.next_serial; recent = r.tables.files.recent; descriptors = r.tables.files.descriptors; session = r.locks.session; locks = r.locks.locks; stack = r.tables.snapshots.stack } };
 
     ghost invariant = { λ r. IsCounted r.owners r.tables };
 }
 
 impl Resources {
-    /// No owner, no buffer is pinned, no reference and no lock is held and no file is open, and this many files can have a
-    /// descriptor. It is the session of this number that will hold the locks. It fails for want of memory alone.
+    /// No owner, no buffer is pinned, no reference and no lock is held, no file is open and no snapshot is active, and this many
+    /// files can have a descriptor. It is the session of this number that will hold the locks. It fails for want of memory alone.
     pub fn new(alloc: Global, session: u8, descriptors: u8) -> Result<Resources, AllocError>
         requires descriptors { 0 < descriptors }
-        ensures begins { IfOk result (λ resources. resources ≡ record { rooms = Empty; places = Empty; next_owner = 1; next_serial = 1; recent = []; descriptors = descriptors; session = session; locks = [] }) }
+        ensures begins { IfOk result (λ resources. resources ≡ record { rooms = Empty; places = Empty; next_owner = 1; next_serial = 1; recent = []; descriptors = descriptors; session = session; locks = []; stack = [] }) }
     {
         Ok(Resources {
             owners: Owners::new(alloc),
@@ -89,6 +95,7 @@ impl Resources {
         ensures older { (other : OwnerId) → IsLive self.old other → other.number < self.old.next_owner }
         ensures owners { OnOk result (owners_of self.new ≡ created (option_map (λ p. p.number) parent) self.old.next_owner (owners_of self.old)) }
         ensures places { IfOk result (λ owner. self.new.places ≡ entered (option_map (λ p. p.number) parent) owner.number owner.slot self.old.places) }
+        ensures stack { self.new.stack ≡ self.old.stack }
         ensures next_owner { OnOk result (self.new.next_owner ≡ self.old.next_owner + 1) }
         ensures next_serial { self.new.next_serial ≡ self.old.next_serial }
         ensures acted { OnOk result ((commons : CommonState) → Acted (owner_made (option_map (λ p. p.number) parent)) self.old self.new commons commons (λ events. E.emits out.old events out.new)) }
@@ -119,6 +126,7 @@ impl Resources {
         ensures recent { self.new.recent ≡ self.old.recent }
         ensures descriptors { self.new.descriptors ≡ self.old.descriptors }
         ensures locks { self.new.locks ≡ self.old.locks }
+        ensures stack { self.new.stack ≡ self.old.stack }
         ensures balances { (commons : CommonState) → Balances self.old self.new commons commons }
         ensures releasing { (result ≡ Err OwnerError.Releasing) ↔ (has_begun owner.number (owners_of self.old) ≡ true) }
         ensures refused { OnErr result (self.new ≡ self.old) }
@@ -128,24 +136,43 @@ impl Resources {
         self.owners.enlarge(owner)
     }
 
-    /// Pins a buffer, and the owner remembers the pin, in room that `enlarge` has made: `PinBuffer`.
-    pub fn pin<E: Emit>(&mut self, owner: OwnerId, buffer: u32, out: &mut E)
+    /// Pins a buffer, and the owner remembers the pin, in room that `enlarge` has made: `PinBuffer`. The session's first pin of a
+    /// buffer counts it among the sessions that pin it.
+    pub fn pin<K: ExtKind, E: Emit>(
+        &mut self,
+        owner: OwnerId,
+        buffer: u32,
+        commons: &mut Commons<K>,
+        out: &mut E,
+    )
         requires live { IsLive self.old owner }
         requires spare { 1 ≤ spare_of owner.number self.old }
         requires not_begun { has_begun owner.number (owners_of self.old) ≡ false }
         requires buffer { buffer < 1024 }
         requires serial { self.old.next_serial < 2 ^ 62 }
+        requires serves { Serves self.old commons.old }
         ensures spare { spare_of owner.number self.old ≤ spare_of owner.number self.new + 1 }
         ensures others { (other : ℕ) → other ≢ owner.number → spare_of other self.new ≡ spare_of other self.old }
         ensures owners { owners_of self.new ≡ remembered owner.number (record { kind = buffer_pin; key = buffer; serial = self.old.next_serial }) (owners_of self.old) }
         ensures places { self.new.places ≡ self.old.places }
+        ensures stack { self.new.stack ≡ self.old.stack }
         ensures next_owner { self.new.next_owner ≡ self.old.next_owner }
         ensures next_serial { self.new.next_serial ≡ self.old.next_serial + 1 }
-        ensures acted { (commons : CommonState) → Acted (item_taken owner.number buffer_pin buffer) self.old self.new commons commons (λ events. E.emits out.old events out.new) }
-        ensures balances { (commons : CommonState) → Balances self.old self.new commons commons }
+        ensures acted { Acted (item_taken owner.number buffer_pin buffer) self.old self.new commons.old commons.new (λ events. E.emits out.old events out.new) }
+        ensures balances { Balances self.old self.new commons.old commons.new }
+        ensures serves { Serves self.new commons.new }
     {
-        self.tables.pin(buffer);
+        self.tables.pin(buffer, &mut commons.pins);
         self.owners.remember(owner, KindId::BUFFER_PIN, buffer, out);
+    }
+
+    /// How many sessions pin a buffer.
+    pub fn pinned<K: ExtKind>(&self, buffer: u32, commons: &Commons<K>) -> u32
+        requires serves { Serves self.now commons.now }
+        requires buffer { buffer < 1024 }
+        ensures { (scene : Scene) → OwnersFit self.now commons.now scene → result ≡ pinning buffer scene }
+    {
+        commons.pins.count(buffer)
     }
 
     /// Takes a reference to the key of a class, and the owner remembers it, in room that `enlarge` has made.
@@ -166,6 +193,7 @@ impl Resources {
         ensures others { (other : ℕ) → other ≢ owner.number → spare_of other self.new ≡ spare_of other self.old }
         ensures owners { OnOk result (owners_of self.new ≡ remembered owner.number (record { kind = class; key = key; serial = self.old.next_serial }) (owners_of self.old)) }
         ensures places { self.new.places ≡ self.old.places }
+        ensures stack { self.new.stack ≡ self.old.stack }
         ensures next_owner { self.new.next_owner ≡ self.old.next_owner }
         ensures next_serial { OnOk result (self.new.next_serial ≡ self.old.next_serial + 1) }
         ensures acted { OnOk result ((commons : CommonState) → Acted (item_taken owner.number class key) self.old self.new commons commons (λ events. E.emits out.old events out.new)) }
@@ -195,6 +223,7 @@ impl Resources {
         ensures others { (other : ℕ) → other ≢ owner.number → spare_of other self.new ≡ spare_of other self.old }
         ensures owners { OnOk result (owners_of self.new ≡ remembered owner.number (record { kind = file_kind; key = file; serial = self.old.next_serial }) (owners_of self.old)) }
         ensures places { self.new.places ≡ self.old.places }
+        ensures stack { self.new.stack ≡ self.old.stack }
         ensures acted { OnOk result ((commons : CommonState) → Acted (item_taken owner.number file_kind file) self.old self.new commons commons (λ events. E.emits out.old events out.new)) }
         ensures balances { (commons : CommonState) → Balances self.old self.new commons commons }
         ensures too_many { (result ≡ Err FileError.TooMany) ↔ (4096 ≤ length (files_held (owners_of self.old))) }
@@ -215,6 +244,7 @@ impl Resources {
         requires open { holds_file file (owners_of self.old) ≡ true }
         ensures owners { owners_of self.new ≡ owners_of self.old }
         ensures places { self.new.places ≡ self.old.places }
+        ensures stack { self.new.stack ≡ self.old.stack }
         ensures acted { OnOk result ((commons : CommonState) → Acted (descriptor_given file) self.old self.new commons commons (λ events. E.emits out.old events out.new)) }
         ensures balances { (commons : CommonState) → Balances self.old self.new commons commons }
         ensures causes { IfErr result (λ error. error ≡ FileError.Memory) }
@@ -251,6 +281,7 @@ impl Resources {
         ensures others { (other : ℕ) → other ≢ owner.number → spare_of other self.new ≡ spare_of other self.old }
         ensures owners { OnOk result (owners_of self.new ≡ remembered owner.number (record { kind = kind; key = key; serial = self.old.next_serial }) (owners_of self.old)) }
         ensures places { self.new.places ≡ self.old.places }
+        ensures stack { self.new.stack ≡ self.old.stack }
         ensures next_owner { self.new.next_owner ≡ self.old.next_owner }
         ensures next_serial { OnOk result (self.new.next_serial ≡ self.old.next_serial + 1) }
         ensures acted { OnOk result (Acted (item_taken owner.number kind key) self.old self.new commons.old commons.new (λ events. E.emits out.old events out.new)) }
@@ -339,6 +370,7 @@ impl Resources {
         ensures others { (other : ℕ) → other ≢ owner.number → spare_of other self.new ≡ spare_of other self.old }
         ensures owners { OnOk result (owners_of self.new ≡ forgotten owner.number kind key (owners_of self.old)) }
         ensures places { self.new.places ≡ self.old.places }
+        ensures stack { self.new.stack ≡ self.old.stack }
         ensures next_owner { self.new.next_owner ≡ self.old.next_owner }
         ensures next_serial { self.new.next_serial ≡ self.old.next_serial }
         ensures descriptors { self.new.descriptors ≡ self.old.descriptors }
@@ -358,6 +390,7 @@ impl Resources {
             kinds: &mut commons.kinds,
             locks: &mut self.locks,
             shared: &mut commons.locks,
+            pins: &mut commons.pins,
         };
         lent.give_back(item, out);
         Ok(item)
@@ -382,6 +415,7 @@ impl Resources {
         ensures owners { owners_of self.new ≡ all_released (table_of commons.old.kinds) owner.number (owners_of self.old) }
         ensures nothing_left { AllAt HoldsNothing owner.number (owners_of self.new) }
         ensures places { self.new.places ≡ self.old.places }
+        ensures stack { self.new.stack ≡ self.old.stack }
         ensures next_owner { self.new.next_owner ≡ self.old.next_owner }
         ensures next_serial { self.new.next_serial ≡ self.old.next_serial }
         ensures acted { Acted (owner_released commit top owner.number) self.old self.new commons.old commons.new (λ events. E.emits out.old events out.new) }
@@ -408,6 +442,7 @@ impl Resources {
         requires serves { Serves self.old commons.old }
         ensures owners { owners_of self.new ≡ released (table_of commons.old.kinds) phase owner.number (owners_of self.old) }
         ensures places { self.new.places ≡ self.old.places }
+        ensures stack { self.new.stack ≡ self.old.stack }
         ensures next_owner { self.new.next_owner ≡ self.old.next_owner }
         ensures next_serial { self.new.next_serial ≡ self.old.next_serial }
         ensures acted { Acted (phase_released commit top owner.number phase) self.old self.new commons.old commons.new (λ events. E.emits out.old events out.new) }
@@ -419,6 +454,7 @@ impl Resources {
             kinds: &mut commons.kinds,
             locks: &mut self.locks,
             shared: &mut commons.locks,
+            pins: &mut commons.pins,
         };
         self.owners
             .release(owner, phase, commit, top, &mut lent, out);
@@ -430,12 +466,81 @@ impl Resources {
         requires empty { AllAt HoldsNothing owner.number (owners_of self.old) }
         ensures owners { owners_of self.new ≡ removed owner.number (owners_of self.old) }
         ensures stays { (other : ℕ) → has other (owners_of self.new) ≡ true → at other self.new.places ≡ at other self.old.places }
+        ensures stack { self.new.stack ≡ self.old.stack }
         ensures next_owner { self.new.next_owner ≡ self.old.next_owner }
         ensures next_serial { self.new.next_serial ≡ self.old.next_serial }
         ensures acted { (commons : CommonState) → Acted (owner_gone owner.number) self.old self.new commons commons (λ events. E.emits out.old events out.new) }
         ensures balances { (commons : CommonState) → Balances self.old self.new commons commons }
     {
         self.owners.discard(owner, out);
+    }
+
+    /// Puts a snapshot of a level on the stack of active ones: `PushActiveSnapshot`. It fails for want of memory alone.
+    pub fn push<E: Emit>(
+        &mut self,
+        snapshot: u32,
+        level: u32,
+        out: &mut E,
+    ) -> Result<(), AllocError>
+        ensures stack_alone { self.new ≡ record self.old { stack = self.new.stack } }
+        ensures acted { OnOk result ((commons : CommonState) → Acted (pushed_at level snapshot) self.old self.new commons commons (λ events. E.emits out.old events out.new)) }
+        ensures balances { (commons : CommonState) → Balances self.old self.new commons commons }
+        ensures refused { OnErr result (self.new ≡ self.old) }
+        ensures silent { OnErr result (out.new ≡ out.old) }
+    {
+        self.tables.push(snapshot, level, out)
+    }
+
+    /// Takes the newest active snapshot, which is of that level, off the stack: `PopActiveSnapshot`.
+    ///
+    /// `NotHeld` comes exactly where no snapshot is active, or the newest one is of another level.
+    pub fn pop<E: Emit>(&mut self, level: u32, out: &mut E) -> Result<(), SnapError>
+        ensures not_held { IsErr result ↔ (option_map_or (λ entry. entry.level == level) (last_of self.old.stack) false ≡ false) }
+        ensures stack_alone { self.new ≡ record self.old { stack = self.new.stack } }
+        ensures acted { OnOk result ((commons : CommonState) → Acted snapshot_popped self.old self.new commons commons (λ events. E.emits out.old events out.new)) }
+        ensures balances { (commons : CommonState) → Balances self.old self.new commons commons }
+        ensures refused { OnErr result (self.new ≡ self.old) }
+        ensures silent { OnErr result (out.new ≡ out.old) }
+    {
+        self.tables.pop(level, out)
+    }
+
+    /// Takes each active snapshot of that level or of a deeper one off the stack, the newest first: `AtEOSubXact_Snapshot` at
+    /// an abort.
+    pub fn pop_from<E: Emit>(&mut self, level: u32, out: &mut E)
+        ensures stack_alone { self.new ≡ record self.old { stack = self.new.stack } }
+        ensures acted { (commons : CommonState) → Acted (stack_popped level) self.old self.new commons commons (λ events. E.emits out.old events out.new) }
+        ensures balances { (commons : CommonState) → Balances self.old self.new commons commons }
+    {
+        self.tables.pop_from(level, out);
+    }
+
+    /// Active snapshots of that level belong to the level above then: `AtSubCommit_Snapshot`.
+    pub fn lower_stack(&mut self, level: u32)
+        requires { 1 ≤ level }
+        ensures stack_alone { self.new ≡ record self.old { stack = self.new.stack } }
+        ensures acted { (commons : CommonState) → Acted (stack_lowered level) self.old self.new commons commons (λ events. events ≡ []) }
+        ensures balances { (commons : CommonState) → Balances self.old self.new commons commons }
+    {
+        self.tables.lower_stack(level);
+    }
+
+    /// What the session holds, as the command `stat` shows it, where it has so many contexts and no plan.
+    pub fn counts(&self, contexts: u64) -> SessionCounts
+        ensures { (commons : CommonState) (scene : Scene) → OwnersFit self.now commons scene → size scene.session.contexts ≡ contexts → result ≡ counts scene.session }
+    {
+        let (files, descriptors) = self.tables.file_counts();
+        SessionCounts {
+            pins: self.tables.pinned_buffers(),
+            files,
+            descriptors,
+            locks: self.locks.distinct(),
+            snapshots: self.tables.different_snapshots(),
+            plans: 0,
+            refs: self.tables.referenced(),
+            owners: self.owners.count(),
+            contexts,
+        }
     }
 
     /// How many owners live.

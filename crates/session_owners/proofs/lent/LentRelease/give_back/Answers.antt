@@ -1,5 +1,5 @@
 use Rattle.std.proofs.Common.{[], refl}
-use Rattle.session_owners.specs.TableLaws.{LocksBalance-nothing}
+use Rattle.session_owners.specs.TableLaws.{LocksBalance-nothing, PinsBalance-nothing}
 use Rattle.session_owners.proofs.TableSteps.{does_leave}
 use Rattle.session_owners.proofs.lent.LentRelease.give_back.Goals as goal
 
@@ -7,7 +7,7 @@ pub returns-then-item-ge-FIRST_EXTENSION-clause-done :
     goal.returns-then-item-ge-FIRST_EXTENSION-clause-done
 returns-then-item-ge-FIRST_EXTENSION-clause-done g c = (
   [],
-  (refl, refl, refl, refl, LocksBalance-nothing c.args.self.now.locks.now c.args.self.now.shared.now, does_leave c.args.self.now.tables.now c.args.self.now.kinds.now c.close.new.self c.args.self.now.locks.now.locks c.args.item c.if-item-ge-FIRST_EXTENSION.true c.close.ensures.after),
+  (refl, refl, refl, refl, refl, LocksBalance-nothing c.args.self.now.locks.now c.args.self.now.shared.now, PinsBalance-nothing c.args.self.now.tables.now.pins c.args.self.now.pins.now, does_leave c.args.self.now.tables.now c.args.self.now.kinds.now c.close.new.self c.args.self.now.locks.now.locks c.args.item c.if-item-ge-FIRST_EXTENSION.true c.close.ensures.after),
   g.met.E.Emit.emits_none c.args.out.now,
 )
 
@@ -15,4 +15,4 @@ pub returns-else-item-ge-FIRST_EXTENSION-clause-done :
     goal.returns-else-item-ge-FIRST_EXTENSION-clause-done
 returns-else-item-ge-FIRST_EXTENSION-clause-done g c =
     let done = c.give_back.ensures.done c.args.self.now.kinds.now c.args.self.now.locks.now.locks in
-    (done.0, (refl, refl, refl, refl, LocksBalance-nothing c.args.self.now.locks.now c.args.self.now.shared.now, done.1), done.2)
+    (done.0, (refl, refl, refl, refl, refl, LocksBalance-nothing c.args.self.now.locks.now c.args.self.now.shared.now, c.give_back.ensures.balance, done.1), done.2)

@@ -1,5 +1,4 @@
-use Rattle.std.proofs.Common.{◌≡◌, List, Result, Ok, Err, ℕ, refl, sym, ap, ◌∙◌}
-use Rattle.std.specs.Prelude.{OnOk}
+use Rattle.std.proofs.Common.{refl, ap, ◌∙◌}
 use Rattle.lock_local.specs.Locks.{SessionLocks}
 use Rattle.lock_local.specs.Changes.{acquired}
 use Rattle.session_owners.specs.Commons.{CommonState}
@@ -16,5 +15,5 @@ pub returns-clause-acted : goal.returns-clause-acted
 returns-clause-acted g c =
     both_ok c.acquire.result c.acquire.ensures.ok c.acquire.ensures.events
     (λ is said. acted_locked c.args.object c.args.mode c.args.owner.number c.args.self.now _ c.args.commons.now _ (λ events. g.E.Emit.emits c.args.out.now events c.acquire.new.out)
-    (locks_alone _ c.args.self.now _ c.args.commons.now _ c.acquire.new.self c.self.view_is c.commons.view_is (ap (λ (t : SessionLocks). t.session) is) refl c.acquire.ensures.others)
+    (locks_alone _ c.args.self.now _ c.args.commons.now _ c.acquire.new.self c.self.view_is c.commons.view_is (ap (λ (t : SessionLocks). t.session) is) refl refl c.acquire.ensures.others)
     (ap (λ (t : SessionLocks). t.locks) is ∙ ap (λ (r : ResourceState). acquired c.args.owner.number c.args.object c.args.mode r.locks) c.self.view_is) said)

@@ -1,9 +1,14 @@
-use Rattle.std.proofs.Common.{ap, refl, sym}
+use Rattle.std.proofs.Common.{ℕ, List, Option, ap, refl, subst, sym}
 use Rattle.std.specs.Option.{option_map}
 use Rattle.session_owners.proofs.Kept.{counted_made}
-use Rattle.session_owners.specs.ResourceState.{owners_of}
-use Rattle.session_owners.proofs.Acts.{state_of}
+use Rattle.session_owners.specs.ResourceState.{ResourceState, owners_of}
+use Rattle.session_owners.proofs.Acts.{acted_made, state_of}
 use Rattle.session_owners.proofs.Balances.{balances_made, locks_stay}
+use Rattle.pgs_step.specs.declared.events.What.{What}
+use Rattle.session_owners.specs.Fitting.{Acted}
+use Rattle.pgs_step.specs.declared.ids.OwnerId.{OwnerId}
+use Rattle.session_rules.specs.Making.{owner_made}
+use Rattle.session_owners.proofs.LockActs.{three_ok}
 use Rattle.session_owners.proofs.resources.Resources.make_owner.Goals as goal
 
 pub invariant_of-self : goal.invariant_of-self
@@ -14,4 +19,14 @@ invariant_of-self g c =
 pub returns-clause-balances : goal.returns-clause-balances
 returns-clause-balances g c =
     λ commons. balances_made c.self.inside.owners c.create.new.self _ _ commons (option_map (λ p. p.number) c.args.parent) c.create.result (sym (ap owners_of c.self.view_is)) refl c.create.ensures.owners c.create.ensures.refused
-    (locks_stay (state_of c.self.inside.owners c.self.inside.tables.files c.self.inside.locks) _ _ commons.locks c.self.view_is refl)
+    (locks_stay (state_of c.self.inside.owners c.self.inside.tables.files c.self.inside.locks c.self.inside.tables.snapshots.stack) _ _ commons.locks c.self.view_is refl)
+
+pub returns-clause-acted : goal.returns-clause-acted
+returns-clause-acted g c =
+    let parent : Option ℕ = option_map (λ (p : OwnerId). p.number) c.args.parent in
+    let was : ResourceState = state_of c.self.inside.owners c.self.inside.tables.files c.self.inside.locks c.self.inside.tables.snapshots.stack in
+    let now : ResourceState = state_of c.create.new.self c.self.inside.tables.files c.self.inside.locks c.self.inside.tables.snapshots.stack in
+    let says : List What → Type 0 = λ (events : List What). g.E.Emit.emits c.args.out.now events c.create.new.out in
+    three_ok c.create.result c.create.ensures.owners c.create.ensures.next_owner c.create.ensures.emits
+    (λ made next said commons. subst (λ (a : ResourceState). Acted (owner_made parent) a now commons commons says) c.self.view_is
+    (acted_made parent was now commons says made next c.create.ensures.next_serial (record { recent = refl; descriptors = refl }) (record { session = refl; locks = refl; stack = refl }) said))

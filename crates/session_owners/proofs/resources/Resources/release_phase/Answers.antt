@@ -14,9 +14,16 @@ use Rattle.session_owners.specs.ResourceState as state
 use Rattle.session_owners.specs.ResourceState.{ResourceState}
 use Rattle.session_owners.specs.Tables.{lending_of}
 use Rattle.session_owners.proofs.Acts.{acted_phase, state_of}
-use Rattle.session_owners.proofs.Balances.{balances_released, known_items, locks_moved, served, serves_still}
+use Rattle.session_owners.proofs.Balances.{agrees_fit, balances_released, beside_counted, known_items, locks_moved, pins_moved, served, serves_still, shared_fit}
 use Rattle.session_owners.proofs.Kept.{asked_counts, counted_released}
 use Rattle.session_owners.proofs.resources.Resources.release_phase.Goals as goal
+
+pub release-requires-clause-fit : goal.release-requires-clause-fit
+release-requires-clause-fit g c = (
+  c.self.invariant.buffers,
+  agrees_fit (state_of c.self.inside.owners c.self.inside.tables.files c.self.inside.locks c.self.inside.tables.snapshots.stack) c.args.self.now (record { kinds = c.commons.inside.kinds; locks = c.commons.inside.locks; pins = c.commons.inside.pins }) c.args.commons.now c.self.view_is c.commons.view_is c.requires.serves,
+  shared_fit c.self.inside.owners c.self.inside.tables c.args.self.now (record { kinds = c.commons.inside.kinds; locks = c.commons.inside.locks; pins = c.commons.inside.pins }) c.args.commons.now c.self.invariant (sym (ap state.owners_of c.self.view_is)) c.commons.view_is c.requires.serves,
+)
 
 pub release-requires-clause-kinds : goal.release-requires-clause-kinds
 release-requires-clause-kinds g c =
@@ -32,27 +39,29 @@ release-requires-clause-counted g c =
 pub invariant_of-self : goal.invariant_of-self
 invariant_of-self g c =
     counted_released (table_of c.commons.inside.kinds) c.self.inside.owners _ (lending_of c.self.inside.tables c.commons.inside.kinds c.self.inside.locks.locks) (lending_of c.release.new.table.tables.now c.release.new.table.kinds.now c.release.new.table.locks.now.locks) c.args.owner.number c.args.phase c.self.invariant
-    c.release.ensures.owners c.release.ensures.next_owner c.release.ensures.next_serial c.release.ensures.fit.0 c.release.ensures.steps.1.5.fewer c.release.ensures.counted
+    c.release.ensures.owners c.release.ensures.next_owner c.release.ensures.next_serial c.release.ensures.fit.0 c.release.ensures.steps.1.7.fewer c.release.ensures.counted
 
 pub returns-clause-acted : goal.returns-clause-acted
 returns-clause-acted g c =
     let done = c.release.ensures.steps in
-    let was : ResourceState = state_of c.self.inside.owners c.self.inside.tables.files c.self.inside.locks in
-    let now : ResourceState = state_of c.release.new.self c.release.new.table.tables.now.files c.release.new.table.locks.now in
-    let before : CommonState = record { kinds = c.commons.inside.kinds; locks = c.commons.inside.locks } in
-    let behind : CommonState = record { kinds = c.release.new.table.kinds.now; locks = c.release.new.table.shared.now } in
+    let was : ResourceState = state_of c.self.inside.owners c.self.inside.tables.files c.self.inside.locks c.self.inside.tables.snapshots.stack in
+    let now : ResourceState = state_of c.release.new.self c.release.new.table.tables.now.files c.release.new.table.locks.now c.release.new.table.tables.now.snapshots.stack in
+    let before : CommonState = record { kinds = c.commons.inside.kinds; locks = c.commons.inside.locks; pins = c.commons.inside.pins } in
+    let behind : CommonState = record { kinds = c.release.new.table.kinds.now; locks = c.release.new.table.shared.now; pins = c.release.new.table.pins.now } in
+    let shared = beside_counted c.self.inside.owners c.release.new.self c.self.inside.tables c.release.new.table.tables.now before.pins behind.pins c.self.invariant (invariant_of-self g c) done.1.6 in
     let says : List What → Type 0 = λ (events : List What). g.E.Emit.emits c.args.out.now events c.release.new.out in
     subst (λ (a : ResourceState). Acted (phase_released c.args.commit c.args.top c.args.owner.number c.args.phase) a now c.args.commons.now behind says) c.self.view_is
     (subst (λ (z : CommonState). Acted (phase_released c.args.commit c.args.top c.args.owner.number c.args.phase) was now z behind says) c.commons.view_is
-    (acted_phase was now before behind (lending_of c.self.inside.tables c.commons.inside.kinds c.self.inside.locks.locks) (lending_of c.release.new.table.tables.now c.release.new.table.kinds.now c.release.new.table.locks.now.locks) refl refl refl refl done.1.5.descriptors refl refl done.1.4
-    c.args.commit c.args.top c.args.owner.number c.args.phase done.0 says c.release.ensures.owners c.release.ensures.next_owner c.release.ensures.next_serial done.1.5 done.2))
+    (acted_phase was now before behind (lending_of c.self.inside.tables c.commons.inside.kinds c.self.inside.locks.locks) (lending_of c.release.new.table.tables.now c.release.new.table.kinds.now c.release.new.table.locks.now.locks) refl refl refl refl done.1.7.descriptors refl refl done.1.5 shared done.1.7.stack
+    c.args.commit c.args.top c.args.owner.number c.args.phase done.0 says c.release.ensures.owners c.release.ensures.next_owner c.release.ensures.next_serial done.1.7 done.2))
 
 pub returns-clause-balances : goal.returns-clause-balances
 returns-clause-balances g c =
-    balances_released c.self.inside.owners _ _ _ _ (lending_of c.self.inside.tables c.commons.inside.kinds c.self.inside.locks.locks) (lending_of c.release.new.table.tables.now c.release.new.table.kinds.now c.release.new.table.locks.now.locks) c.args.owner.number c.args.phase
+    balances_released c.self.inside.owners _ _ _ _ (lending_of c.self.inside.tables c.commons.inside.kinds c.self.inside.locks.locks) (lending_of c.release.new.table.tables.now c.release.new.table.kinds.now c.release.new.table.locks.now.locks) c.args.owner.number c.args.phase c.self.invariant
     (sym (ap state.owners_of c.self.view_is)) (sym (ap (λ (z : CommonState). z.kinds) c.commons.view_is)) refl
-    c.release.ensures.owners c.release.ensures.kinds c.release.ensures.steps.1.5.limits c.release.ensures.counted
-    (locks_moved (state_of c.self.inside.owners c.self.inside.tables.files c.self.inside.locks) _ _ (record { kinds = c.commons.inside.kinds; locks = c.commons.inside.locks }) _ _ c.self.view_is c.commons.view_is c.release.ensures.steps.1.4)
+    c.release.ensures.owners c.release.ensures.kinds c.release.ensures.steps.1.7.limits c.release.ensures.counted
+    (pins_moved c.self.inside.tables.pins c.release.new.table.tables.now.pins (record { kinds = c.commons.inside.kinds; locks = c.commons.inside.locks; pins = c.commons.inside.pins }) c.args.commons.now c.release.new.table.pins.now c.commons.view_is c.release.ensures.steps.1.6)
+    (locks_moved (state_of c.self.inside.owners c.self.inside.tables.files c.self.inside.locks c.self.inside.tables.snapshots.stack) _ _ (record { kinds = c.commons.inside.kinds; locks = c.commons.inside.locks; pins = c.commons.inside.pins }) _ _ c.self.view_is c.commons.view_is c.release.ensures.steps.1.5)
 
 pub returns-clause-serves : goal.returns-clause-serves
 returns-clause-serves g c = serves_still _ _ _ _ c.requires.serves (returns-clause-balances g c)

@@ -1,4 +1,4 @@
-use Rattle.std.proofs.Common.{◌≡◌, List, Result, Ok, Err, ℕ, refl, sym, ap, ◌∙◌}
+use Rattle.std.proofs.Common.{refl, ap, ◌∙◌}
 use Rattle.lock_local.specs.Locks.{SessionLocks}
 use Rattle.lock_local.specs.Changes.{given_back}
 use Rattle.session_owners.specs.ResourceState.{ResourceState}
@@ -9,5 +9,5 @@ pub returns-clause-acted : goal.returns-clause-acted
 returns-clause-acted g c =
     both_ok c.release.result c.release.ensures.ok c.release.ensures.events
     (λ is said. acted_unlocked c.args.object c.args.mode c.args.owner.number c.args.self.now _ c.args.commons.now _ (λ events. g.E.Emit.emits c.args.out.now events c.release.new.out)
-    (locks_alone _ c.args.self.now _ c.args.commons.now _ c.release.new.self c.self.view_is c.commons.view_is (ap (λ (t : SessionLocks). t.session) is) refl c.release.ensures.others)
+    (locks_alone _ c.args.self.now _ c.args.commons.now _ c.release.new.self c.self.view_is c.commons.view_is (ap (λ (t : SessionLocks). t.session) is) refl refl c.release.ensures.others)
     (ap (λ (t : SessionLocks). t.locks) is ∙ ap (λ (r : ResourceState). given_back c.args.owner.number c.args.object c.args.mode r.locks) c.self.view_is) said)

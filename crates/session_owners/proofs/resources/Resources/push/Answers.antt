@@ -1,0 +1,20 @@
+use Rattle.std.proofs.Common.{List, [], ◌∷◌, ◌++◌, ap, refl, ◌∙◌}
+use Rattle.pgs_step.specs.declared.events.What.{What}
+use Rattle.session_owners.specs.ResourceState.{ResourceState, owners_of}
+use Rattle.session_owners.specs.Tables.{Held}
+use Rattle.session_owners.proofs.Acts.{acted_pushed, state_of}
+use Rattle.session_owners.proofs.Balances.{balances_same, locks_stay}
+use Rattle.session_owners.proofs.LockActs.{both_ok}
+use Rattle.session_owners.proofs.resources.Resources.push.Goals as goal
+
+pub returns-clause-acted : goal.returns-clause-acted
+returns-clause-acted g c =
+    both_ok c.push.result c.push.ensures.pushed c.push.ensures.emitted
+    (λ is said commons. acted_pushed c.args.level c.args.snapshot c.args.self.now (state_of c.self.inside.owners c.push.new.self.files c.self.inside.locks c.push.new.self.snapshots.stack) commons (λ (events : List What). g.E.Emit.emits c.args.out.now events c.push.new.out)
+    (ap (λ (h : Held). state_of c.self.inside.owners h.files c.self.inside.locks h.snapshots.stack) is
+    ∙ ap (λ (r : ResourceState). record r { stack = r.stack ++ record { snapshot = c.args.snapshot; level = c.args.level } ∷ [] }) c.self.view_is) said)
+
+pub returns-clause-balances : goal.returns-clause-balances
+returns-clause-balances g c =
+    λ commons. balances_same _ _ commons (ap owners_of c.self.view_is)
+    (locks_stay (state_of c.self.inside.owners c.self.inside.tables.files c.self.inside.locks c.self.inside.tables.snapshots.stack) _ _ commons.locks c.self.view_is refl)
