@@ -6,7 +6,7 @@ use Rattle.context_tree.specs.State.{TreeState, stands_for, Agrees, Moves}
 use Rattle.session_rules.specs.Making as rules
 use Rattle.session_rules.specs.State.{SessionState}
 use Rattle.session_store.specs.State.{StoreState, session_of}
-use Rattle.session_store.specs.Calls.{Keeps, StaysBeside}
+use Rattle.session_store.specs.Calls.{StaysBeside}
 
 same_session : (store : StoreState) (s t : Space) → stands_for store.tree t ≡ stands_for store.tree s → session_of store t ≡ session_of store s
 unfolding session_of

@@ -15,7 +15,7 @@ use Rattle.context_rules.specs.Contexts.{Contexts, is_empty}
 use Rattle.context_rules.specs.Refusals.{is_within}
 use Rattle.context_tree.specs.State.{TreeState, Agrees, HooksFit, IsLive, Moves, place_of, stands_for}
 use Rattle.session_owners.specs.ResourceState as owners
-use Rattle.session_owners.specs.ResourceState.{AllAt, HoldsNothing, ResourceState, Roomy, owners_of}
+use Rattle.session_owners.specs.ResourceState.{AllAt, HoldsNothing, OwnerTree, ResourceState, Roomy, owners_of}
 use Rattle.subxact_stack.specs.declared.levels.Level.{Level}
 use Rattle.session_rules.specs.State.{context_of, first_of, is_aborted}
 use Rattle.session_rules.specs.World.{Scene}
@@ -168,6 +168,13 @@ pub apart_current : (tree : TreeState) (id : CtxId) (s : Space) (context : Optio
     → IfSome context (λ c. is_within c.number (record tree { current = id }).current.number (stands_for (record tree { current = id }) s) ≡ false)
 unfolding stands_for
 apart_current tree id s context apart = apart
+
+-- the stack alone is another one
+pub stack_places : (a b now : ResourceState) → now ≡ record b { stack = now.stack } → b.places ≡ a.places → now.places ≡ a.places
+stack_places a b now is places = ap (λ (r : ResourceState). r.places) is ∙ places
+
+pub stack_holds : (P : OwnerTree → Type 0) (b now : ResourceState) → now ≡ record b { stack = now.stack } → P (owners_of b) → P (owners_of now)
+stack_holds P b now is holds = subst P (sym (ap owners_of is)) holds
 
 -- an owner lies where all that lay still do
 pub lives_on : (table now : ResourceState) (owner : Option OwnerId) → now.places ≡ table.places → IfSome owner (owners.IsLive table) → IfSome owner (owners.IsLive now)

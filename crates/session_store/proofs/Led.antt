@@ -41,7 +41,7 @@ scene_by a around contexts current next x commons limit = record {
     locks = a.owners.locks;
     levels = levels_of a.levels;
     portals = [];
-    snapshots = [];
+    snapshots = a.owners.stack;
     plans = [];
     recent = a.owners.recent;
   };

@@ -116,7 +116,7 @@ owner_acted a outer level s x commons p id parent Said e up number made balances
       ap (λ (z : Scene). (new_owner_made OfLevel z).scene) (scene_leveled a (level_state level ∷ levels_of outer) s x commons around (ap levels_of e ∙ levels_are outer level))
       ∙ ap (λ (o : Option ℕ). let y : Scene = (owner_made o z).scene in record y { session = record y.session { levels = deepest_changed (λ old. record old { owner = Some a.owners.next_owner }) y.session.levels } }) (sym up)
       ∙ ap (λ (y : Scene). record y { session = record y.session { levels = deepest_changed (λ old. record old { owner = Some a.owners.next_owner }) y.session.levels } })
-      (made.leads z (record { owners = refl; next_owner = refl; next_serial = refl; kinds = refl; locked = refl; locks = refl; plans = refl; recent = refl; descriptors = refl }))
+      (made.leads z (record { owners = refl; next_owner = refl; next_serial = refl; kinds = refl; locked = refl; pinned = refl; locks = refl; snapshots = refl; plans = refl; recent = refl; descriptors = refl }))
       ∙ ap (λ (n : ℕ). leveled (record a { owners = p }) (record (level_state level) { owner = Some n } ∷ levels_of outer) s x commons around) (sym number)
       ∙ ap (λ (ls : List LevelState). leveled (record a { owners = p }) ls s x commons around) (sym (levels_are outer (record level { owner = Some id })));
   says = λ around.
@@ -124,7 +124,7 @@ owner_acted a outer level s x commons p id parent Said e up number made balances
       subst (λ (z : Scene). Said (new_owner_made OfLevel z).events) (sym (scene_leveled a (level_state level ∷ levels_of outer) s x commons around (ap levels_of e ∙ levels_are outer level)))
       (subst (λ (o : Option ℕ). Said ((owner_made o z).events ++ [])) up
       (subst Said (sym (append-nil (owner_made parent z).events))
-      (made.says z (record { owners = refl; next_owner = refl; next_serial = refl; kinds = refl; locked = refl; locks = refl; plans = refl; recent = refl; descriptors = refl }))));
+      (made.says z (record { owners = refl; next_owner = refl; next_serial = refl; kinds = refl; locked = refl; pinned = refl; locks = refl; snapshots = refl; plans = refl; recent = refl; descriptors = refl }))));
   balances = balances;
 }
 
@@ -247,7 +247,7 @@ scene_made a x commons around contexts current next levels limit = record {
     locks = a.owners.locks;
     levels = levels;
     portals = [];
-    snapshots = [];
+    snapshots = a.owners.stack;
     plans = [];
     recent = a.owners.recent;
   };

@@ -33,20 +33,20 @@ session_by contexts current next owners levels = record {
   locks = owners.locks;
   levels = levels_of levels;
   portals = [];
-  snapshots = [];
+  snapshots = owners.stack;
   plans = [];
   recent = owners.recent;
 }
 
 pub opens : (tree : TreeState) (owners : ResourceState) (levels : List Level) (s : Space) (session descriptors : ℕ) → stands_for tree s ≡ contexts.opening → tree.current.number ≡ 1 → tree.next ≡ 6
-    → owners ≡ record { rooms = Empty; places = Empty; next_owner = 1; next_serial = 1; recent = []; descriptors = descriptors; session = session; locks = [] } → levels ≡ [] → session_of (record { tree = tree; owners = owners; levels = levels }) s ≡ opening
+    → owners ≡ record { rooms = Empty; places = Empty; next_owner = 1; next_serial = 1; recent = []; descriptors = descriptors; session = session; locks = []; stack = [] } → levels ≡ [] → session_of (record { tree = tree; owners = owners; levels = levels }) s ≡ opening
 unfolding session_of opening
 opens tree owners levels s session descriptors p q r u v =
     ap (λ (z : Contexts). session_by z tree.current.number tree.next owners levels) p
     ∙ ap (λ (z : ℕ). session_by contexts.opening z tree.next owners levels) q
     ∙ ap (λ (z : ℕ). session_by contexts.opening 1 z owners levels) r
     ∙ ap (λ (z : ResourceState). session_by contexts.opening 1 6 z levels) u
-    ∙ ap (λ (z : List Level). session_by contexts.opening 1 6 (record { rooms = Empty; places = Empty; next_owner = 1; next_serial = 1; recent = []; descriptors = descriptors; session = session; locks = [] }) z) v
+    ∙ ap (λ (z : List Level). session_by contexts.opening 1 6 (record { rooms = Empty; places = Empty; next_owner = 1; next_serial = 1; recent = []; descriptors = descriptors; session = session; locks = []; stack = [] }) z) v
 
 -- what the account holds are the blocks of its contexts, where it held nothing before
 pub keeps_opened : (a : StoreState) (account : ℕ) (s t : Space) → Moves (no_contexts account) a.tree s t → a.tree.account ≡ account → held s account ≡ 0 → Keeps a t

@@ -1,7 +1,7 @@
 -- What calls on a store's owners make of it.
-use Rattle.std.proofs.Common.{◌≡◌, ℕ, true, Option, Some, None, List, [], ◌∷◌, length, map, All, IfSome, refl, sym, ap, ◌∙◌, subst, Result, Ok, Err, OnOk, OnErr}
-use Rattle.std.specs.Prelude.{reverse}
-use Rattle.std.specs.Option.{option_and_then, option_map}
+use Rattle.std.proofs.Common.{◌≡◌, ◌↔◌, ℕ, true, false, Option, Some, None, List, [], ◌∷◌, length, map, All, IfSome, refl, sym, ap, ◌∙◌, subst, Result, Ok, Err, OnOk, OnErr}
+use Rattle.std.specs.Prelude.{◌==◌, IsErr, reverse}
+use Rattle.std.specs.Option.{option_and_then, option_map, option_map_or}
 use Rattle.std.proofs.lemmas.List.Elements.{All-nil, All-cons, All-head, All-tail}
 use Rattle.addr_space.specs.Space.{Space}
 use Rattle.forest.specs.Forest.{Forest, at, changed, has, removed}
@@ -22,7 +22,10 @@ use Rattle.subxact_stack.specs.Levels.{level_at}
 use Rattle.subxact_stack.specs.declared.levels.Level.{Level}
 use Rattle.lock_shared.specs.Ranked.{beside}
 use Rattle.lock_local.specs.Locks.{Lock}
-use Rattle.session_rules.specs.State.{SessionState, file_kind, first_of, owner_of}
+use Rattle.snap_table.specs.declared.active.Active.{Active}
+use Rattle.session_rules.specs.State.{SessionState, file_kind, first_of, last_of, owner_of}
+use Rattle.session_rules.specs.Checks.{holds_snapshot}
+use Rattle.session_rules.specs.Taking.{pushed_at, snapshot_pushed}
 use Rattle.session_rules.specs.Counts.{holds}
 use Rattle.session_rules.specs.World.{Around, Scene}
 use Rattle.session_rules.specs.Acts.{Ended, nothing}
@@ -31,12 +34,13 @@ use Rattle.session_rules.proofs.Swept.{has_swept}
 use Rattle.session_owners.specs.Counted.{all_released, holds_file}
 use Rattle.session_owners.specs.Fitting as own
 use Rattle.session_owners.specs.Fitting.{OwnersFit}
-use Rattle.session_owners.specs.Commons.{Balances, CommonState, seen_by}
+use Rattle.session_owners.specs.Commons.{Balances, CommonState, pinned_beside, seen_by}
 use Rattle.session_store.specs.State.{StoreState, level_state, levels_of, scene_of, session_of}
 use Rattle.session_store.specs.Placed.{IsPlaced, LevelLies, OwnerLies}
-use Rattle.session_store.specs.Calls.{Acted, IsSilent, Keeps, StandsIn}
+use Rattle.session_store.specs.Calls.{Acted, IsSilent, Keeps, Refused, StandsIn}
 use Rattle.session_store.specs.Owned.{OwnersAlone}
 use Rattle.session_store.proofs.Answered.{some_both, some_more}
+use Rattle.session_store.proofs.Deepest.{levels_long}
 use Rattle.session_store.proofs.Lists.{all_reverse, first_map, first_reverse}
 use Rattle.session_store.proofs.Named.{at_end}
 use Rattle.session_store.proofs.Sums.{held_is}
@@ -84,6 +88,9 @@ go_same a b same places = record {
   had = λ n there. ap (has n) (sym same) ∙ there;
   stays = λ n there. ap (λ (f : Forest ℕ). at n f) places;
 }
+
+pub go_stack : (a b : ResourceState) → b ≡ record a { stack = b.stack } → OwnersGo a b
+go_stack a b is = go_same a b (ap owners_of is) (ap (λ (r : ResourceState). r.places) is)
 
 pub go_changed : (a b : ResourceState) (owner : ℕ) (f : Owner → Owner) → owners_of b ≡ changed owner f (owners_of a) → b.places ≡ a.places → OwnersGo a b
 go_changed a b owner f is places = record {
@@ -139,9 +146,9 @@ level_owner_live tree table levels n level placed there e =
     some_both level.owner (λ id lies here. lies (sym (has_rooms id.number table) ∙ here)) lies.owner (at_level (HasOwner table) levels n level there e)
 
 -- the store's owners are those of each scene of it
-owners_fit : (a : StoreState) (s : Space) (x : ShelfState) (commons : CommonState) (around : Around) → OwnersFit a.owners commons (scene_of a s x commons around)
+pub owners_fit : (a : StoreState) (s : Space) (x : ShelfState) (commons : CommonState) (around : Around) → OwnersFit a.owners commons (scene_of a s x commons around)
 unfolding session_of
-owners_fit a s x commons around = record { owners = refl; next_owner = refl; next_serial = refl; recent = refl; descriptors = refl; kinds = refl; locked = refl; locks = refl; plans = refl }
+owners_fit a s x commons around = record { owners = refl; next_owner = refl; next_serial = refl; recent = refl; descriptors = refl; kinds = refl; locked = refl; pinned = refl; locks = refl; snapshots = refl; plans = refl }
 
 -- an act on owners
 pub owners_acted : (act : Scene → Ended) (a : StoreState) (b : ResourceState) (s : Space) (x : ShelfState) (c d : CommonState) (Said : List What → Type 0) → own.Acted act a.owners b c d Said → Balances a.owners b c d → Acted act a (record a { owners = b }) s s x x c d Said
@@ -150,6 +157,25 @@ owners_acted act a b s x c d Said h balances = record {
   leads = λ around. h.leads (scene_of a s x c around) (owners_fit a s x c around);
   says = λ around. h.says (scene_of a s x c around) (owners_fit a s x c around);
   balances = balances;
+}
+
+-- an act that is another one at the store's scenes
+pub acted_as : (act other : Scene → Ended) (a b : StoreState) (s t : Space) (x y : ShelfState) (c d : CommonState) (Said : List What → Type 0)
+    → ((around : Around) → act (scene_of a s x c around) ≡ other (scene_of a s x c around)) → Acted act a b s t x y c d Said → Acted other a b s t x y c d Said
+acted_as act other a b s t x y c d Said same h = record {
+  leads = λ around. ap (λ (e : Ended). e.scene) (sym (same around)) ∙ h.leads around;
+  says = λ around. subst (λ (e : Ended). Said e.events) (same around) (h.says around);
+  balances = h.balances;
+}
+
+-- a call on the owners was refused
+pub refused_owners : (a : StoreState) (b : ResourceState) (s : Space) (x : ShelfState) (commons : CommonState) → b ≡ a.owners → Refused a (record a { owners = b }) s s x x commons commons
+refused_owners a b s x commons same = record {
+  store = ap (λ (z : ResourceState). record a { owners = z }) same;
+  shelf = refl;
+  commons = refl;
+  session = ap (λ (z : ResourceState). session_of (record a { owners = z }) s) same;
+  limit = refl;
 }
 
 -- the deepest level by its place
@@ -163,23 +189,26 @@ owner_number None = refl
 owner_number (Some level) = refl
 
 -- the owners' room is no matter
-pub same_session : (a : StoreState) (b : ResourceState) (s : Space) → owners_of b ≡ owners_of a.owners → b.next_owner ≡ a.owners.next_owner → b.next_serial ≡ a.owners.next_serial → b.recent ≡ a.owners.recent → b.locks ≡ a.owners.locks → session_of (record a { owners = b }) s ≡ session_of a s
+pub same_session : (a : StoreState) (b : ResourceState) (s : Space) → owners_of b ≡ owners_of a.owners → b.next_owner ≡ a.owners.next_owner → b.next_serial ≡ a.owners.next_serial → b.recent ≡ a.owners.recent → b.locks ≡ a.owners.locks → b.stack ≡ a.owners.stack → session_of (record a { owners = b }) s ≡ session_of a s
 unfolding session_of
-same_session a b s p q r f l =
-    ap (λ (z : OwnerTree). record (session_of a s) { owners = z; next_owner = b.next_owner; next_serial = b.next_serial; recent = b.recent; locks = b.locks }) p
-    ∙ ap (λ (z : ℕ). record (session_of a s) { next_owner = z; next_serial = b.next_serial; recent = b.recent; locks = b.locks }) q
-    ∙ ap (λ (z : ℕ). record (session_of a s) { next_serial = z; recent = b.recent; locks = b.locks }) r
-    ∙ ap (λ (z : List ℕ). record (session_of a s) { recent = z; locks = b.locks }) f
-    ∙ ap (λ (z : List Lock). record (session_of a s) { locks = z }) l
+same_session a b s p q r f l k =
+    ap (λ (z : OwnerTree). record (session_of a s) { owners = z; next_owner = b.next_owner; next_serial = b.next_serial; recent = b.recent; locks = b.locks; snapshots = b.stack }) p
+    ∙ ap (λ (z : ℕ). record (session_of a s) { next_owner = z; next_serial = b.next_serial; recent = b.recent; locks = b.locks; snapshots = b.stack }) q
+    ∙ ap (λ (z : ℕ). record (session_of a s) { next_serial = z; recent = b.recent; locks = b.locks; snapshots = b.stack }) r
+    ∙ ap (λ (z : List ℕ). record (session_of a s) { recent = z; locks = b.locks; snapshots = b.stack }) f
+    ∙ ap (λ (z : List Lock). record (session_of a s) { locks = z; snapshots = b.stack }) l
+    ∙ ap (λ (z : List Active). record (session_of a s) { snapshots = z }) k
 
 -- only the owners' room is another one
 pub room_acted : (a : StoreState) (b : ResourceState) (s : Space) (x : ShelfState) (commons : CommonState) → session_of (record a { owners = b }) s ≡ session_of a s → b.descriptors ≡ a.owners.descriptors → Balances a.owners b commons commons
     → Acted nothing a (record a { owners = b }) s s x x commons commons IsSilent
+unfolding session_of
 room_acted a b s x commons session descriptors balances = record {
   leads = λ around.
       ap (λ (z : SessionState). record { session = z; around = record (seen_by a.owners commons around) { shelf = x; space = s.limit; descriptors = a.owners.descriptors } }) (sym session)
       ∙ ap (λ (n : ℕ). record { session = session_of (record a { owners = b }) s; around = record (seen_by a.owners commons around) { shelf = x; space = s.limit; descriptors = n } }) (sym descriptors)
-      ∙ ap (λ (n : ℕ). record { session = session_of (record a { owners = b }) s; around = record around { kinds = commons.kinds; locked = beside n commons.locks; shelf = x; space = s.limit; descriptors = b.descriptors } }) (sym balances.locks.session);
+      ∙ ap (λ (n : ℕ). record { session = session_of (record a { owners = b }) s; around = record around { kinds = commons.kinds; locked = beside n commons.locks; pinned = pinned_beside (owners_of a.owners) commons.pins; shelf = x; space = s.limit; descriptors = b.descriptors } }) (sym balances.locks.session)
+      ∙ ap (λ (z : SessionState). record { session = session_of (record a { owners = b }) s; around = record around { kinds = commons.kinds; locked = beside b.session commons.locks; pinned = pinned_beside z.owners commons.pins; shelf = x; space = s.limit; descriptors = b.descriptors } }) (sym session);
   says = λ around. refl;
   balances = balances;
 }
@@ -192,6 +221,28 @@ module _ (tree : TreeState) (owners : ResourceState) (levels : List Level) (v : 
   pub owners_after : (act : Scene → Ended) (b : ResourceState) (s : Space) (x : ShelfState) (c d : CommonState) (Said : List What → Type 0) → own.Acted act owners b c d Said → Balances owners b c d → Acted act v (record { tree = tree; owners = b; levels = levels }) s s x x c d Said
   owners_after act b s x c d Said h balances =
       subst (λ (a : StoreState). Acted act a (record { tree = tree; owners = b; levels = levels }) s s x x c d Said) is (owners_acted act (record { tree = tree; owners = owners; levels = levels }) b s x c d Said h balances)
+
+  -- a snapshot is pushed at the deepest level
+  pub pushed_after : (b : ResourceState) (level snapshot : ℕ) (s : Space) (x : ShelfState) (commons : CommonState) (Said : List What → Type 0) → level ≡ length levels → own.Acted (pushed_at level snapshot) owners b commons commons Said → Balances owners b commons commons
+      → Acted (snapshot_pushed snapshot) v (record { tree = tree; owners = b; levels = levels }) s s x x commons commons Said
+  unfolding session_of
+  pushed_after b level snapshot s x commons Said deepest h balances =
+      let a : StoreState = record { tree = tree; owners = owners; levels = levels } in
+      subst (λ (z : StoreState). Acted (snapshot_pushed snapshot) z (record { tree = tree; owners = b; levels = levels }) s s x x commons commons Said) is
+      (acted_as (pushed_at level snapshot) (snapshot_pushed snapshot) a (record a { owners = b }) s s x x commons commons Said
+      (λ around. ap (λ (n : ℕ). pushed_at n snapshot (scene_of a s x commons around)) (deepest ∙ sym (levels_long levels)))
+      (owners_acted (pushed_at level snapshot) a b s x commons commons Said h balances))
+
+  -- the newest active snapshot is of the deepest level
+  pub held_at : {A E : Type 0} (level : ℕ) (s : Space) (r : Result A E) → level ≡ length levels → IsErr r ↔ (option_map_or (λ entry. entry.level == level) (last_of owners.stack) false ≡ false) → IsErr r ↔ (holds_snapshot (session_of v s) ≡ false)
+  unfolding session_of
+  held_at level s r deepest h =
+      subst (λ (z : StoreState). IsErr r ↔ (holds_snapshot (session_of z s) ≡ false)) is
+      (subst (λ (n : ℕ). IsErr r ↔ (option_map_or (λ entry. entry.level == n) (last_of owners.stack) false ≡ false)) (deepest ∙ sym (levels_long levels)) h)
+
+  pub refused_after : (b : ResourceState) (s : Space) (x : ShelfState) (commons : CommonState) → b ≡ owners → Refused v (record { tree = tree; owners = b; levels = levels }) s s x x commons commons
+  refused_after b s x commons same =
+      subst (λ (a : StoreState). Refused a (record { tree = tree; owners = b; levels = levels }) s s x x commons commons) is (refused_owners (record { tree = tree; owners = owners; levels = levels }) b s x commons same)
 
   pub owners_alone_after : (b : ResourceState) (c d : CommonState) → OwnersGo owners b → Balances owners b c d → OwnersAlone v (record { tree = tree; owners = b; levels = levels }) c d
   owners_alone_after b c d go balances =

@@ -34,7 +34,7 @@ level_state level = record {
 abbrev pub levels_of : List Level → List LevelState
 levels_of levels = map level_state (reverse levels)
 
--- The session that a store and its space stand for. No step yet makes a portal, an active snapshot or a plan.
+-- The session that a store and its space stand for. No step yet makes a portal or a plan.
 unfoldable pub session_of : StoreState → Space → SessionState
 session_of store s = record {
   contexts = stands_for store.tree s;
@@ -46,7 +46,7 @@ session_of store s = record {
   locks = store.owners.locks;
   levels = levels_of store.levels;
   portals = [];
-  snapshots = [];
+  snapshots = store.owners.stack;
   plans = [];
   recent = store.owners.recent;
 }

@@ -1,9 +1,12 @@
-//! Contexts of a session are made and moved.
+//! Contexts of a session are made and moved, and asked for as a whole.
 ghost use Rattle.std.specs.Prelude.{◌≡◌, ◌⊎◌, ◌<◌, ◌^◌, false, Some, None, IfOk, IfErr, OnOk, OnErr};
 ghost use Rattle.addr_space.specs.Space.{Space, Asks};
 ghost use Rattle.any_ctx.specs.Kinds.{first_size, IsSlabSize};
 ghost use Rattle.reset_callbacks.specs.ShelfState.{ShelfState};
+ghost use Rattle.forest.specs.Forest.{size};
+ghost use Rattle.context_rules.specs.Refusals as refusals;
 ghost use Rattle.context_rules.specs.Refusals.{create_refusal, set_parent_refusal};
+ghost use Rattle.context_rules.specs.Reports as reports;
 ghost use Rattle.context_tree.specs.State.{IsLive, error_of};
 ghost use Rattle.context_tree.specs.Making.{AsksInVain};
 ghost use Rattle.session_rules.specs.Making.{context_made};
@@ -15,7 +18,7 @@ ghost use Rattle.session_store.specs.Calls.{Acted, ContextsAlone, Keeps, Refused
 use crate::store::Store;
 use addr_space::Space;
 use any_ctx::CtxKind;
-use context_rules::TreeError;
+use context_rules::{TreeError, is_reserved};
 use pgs_step::{CtxId, Emit, Name};
 use reset_callbacks::ResetHook;
 
@@ -71,5 +74,29 @@ impl<H: ResetHook> Store<H> {
         ensures silent { OnErr result (out.new ≡ out.old) }
     {
         self.tree.set_parent(at, parent, out)
+    }
+
+    /// Whether a script's new context may not have this name: it is kept for sessions, or that of a live context.
+    pub fn is_taken(&self, name: &Name) -> bool
+        ensures { (s : Space) → result ≡ refusals.is_taken name.now (contexts_in self.now s) }
+    {
+        if is_reserved(name) {
+            return true;
+        }
+        self.tree.find(name).is_some()
+    }
+
+    /// How many contexts live.
+    pub fn context_count(&self) -> u64
+        ensures { (s : Space) → result ≡ size (contexts_in self.now s) }
+    {
+        self.tree.count()
+    }
+
+    /// Says what each context holds, from the topmost one on, and what all hold together: `MemoryContextStats`.
+    pub fn report<E: Emit>(&self, out: &mut E)
+        ensures { (s : Space) → E.emits out.old (reports.report (contexts_in self.now s)) out.new }
+    {
+        self.tree.report(out);
     }
 }

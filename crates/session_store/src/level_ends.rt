@@ -110,8 +110,8 @@ fn if_empty<H: ResetHook>(tree: &ContextTree<H>, context: Option<CtxId>) -> Opti
 }
 
 impl<H: ResetHook> Store<H> {
-    /// Aborts the deepest level: all that its owner holds is released. The context for aborts is the current one then:
-    /// `AbortTransaction` and `AbortSubTransaction`. It takes no memory.
+    /// Aborts the deepest level: all that its owner holds is released, and its active snapshots are popped. The context for
+    /// aborts is the current one then: `AbortTransaction` and `AbortSubTransaction`. It takes no memory.
     pub fn abort<K: ExtKind, E: Emit>(&mut self, commons: &mut Commons<K>, out: &mut E)
         requires level { 0 < length self.old.levels }
         requires stands { (s : Space) × ((x : ShelfState) × StandsIn self.old s x commons.old) }
@@ -127,6 +127,7 @@ impl<H: ResetHook> Store<H> {
         let context = self.tree.abort_context();
         self.tree.switch(context);
         release_owner(&mut self.owners, owner, false, number == 1, commons, out);
+        self.owners.pop_from(number, out);
         self.levels.mark_aborted();
     }
 
@@ -154,9 +155,9 @@ impl<H: ResetHook> Store<H> {
         drop_context(&mut self.tree, space, shelf, level.context, out);
     }
 
-    /// Rolls the deepest level back, which need not be whole: all that its owner holds is released, and then the owner, the
-    /// level's context and the level go. The context of the level above is the current one then, or the topmost one. It takes
-    /// no memory.
+    /// Rolls the deepest level back, which need not be whole: all that its owner holds is released, its active snapshots are
+    /// popped, and then the owner, the level's context and the level go. The context of the level above is the current one then,
+    /// or the topmost one. It takes no memory.
     pub fn roll_back<K: ExtKind, E: Emit>(
         &mut self,
         space: &mut Space,
@@ -179,22 +180,18 @@ impl<H: ResetHook> Store<H> {
         let level = deepest(&self.levels);
         let _ = self.levels.pop();
         out.emit(What::AbortLevel(number));
-        release_owner(
-            &mut self.owners,
-            level.owner,
-            false,
-            number == 1,
-            commons,
-            out,
-        );
+        let top = number == 1;
+        release_owner(&mut self.owners, level.owner, false, top, commons, out);
+        self.owners.pop_from(number, out);
         out.emit(What::CleanupLevel(number));
         discard_owner(&mut self.owners, level.owner, out);
         self.tree.switch(above);
         drop_context(&mut self.tree, space, shelf, level.context, out);
     }
 
-    /// Commits level 1: what its owner still holds is released with a warning, and then the owner, the level's context and the
-    /// level go. The topmost context is the current one then: `CommitTransaction`. It takes no memory.
+    /// Commits level 1: what its owner still holds is released with a warning, the stack of active snapshots is popped, and then
+    /// the owner, the level's context and the level go. The topmost context is the current one then: `CommitTransaction`. It
+    /// takes no memory.
     pub fn commit_top<K: ExtKind, E: Emit>(
         &mut self,
         space: &mut Space,
@@ -216,15 +213,17 @@ impl<H: ResetHook> Store<H> {
         let _ = self.levels.pop();
         out.emit(What::CommitLevel(1));
         release_owner(&mut self.owners, level.owner, true, true, commons, out);
+        self.owners.pop_from(1, out);
         discard_owner(&mut self.owners, level.owner, out);
         let top = self.tree.top();
         self.tree.switch(top);
         drop_context(&mut self.tree, space, shelf, level.context, out);
     }
 
-    /// Commits the deepest level, which isn't level 1: what its owner still holds is released with a warning, and then the owner
-    /// and the level go. The context of the level above is the current one then, and the level's own context stays, as a context
-    /// below that, unless no memory was taken there and no context stands below it: `CommitSubTransaction`. It takes no memory.
+    /// Commits the deepest level, which isn't level 1: what its owner still holds is released with a warning, its active snapshots
+    /// are the level above's then, and the owner and the level go. The context of the level above is the current one then, and the
+    /// level's own context stays, as a context below that, unless no memory was taken there and no context stands below it:
+    /// `CommitSubTransaction`. It takes no memory.
     pub fn subcommit<K: ExtKind, E: Emit>(
         &mut self,
         space: &mut Space,
@@ -248,6 +247,7 @@ impl<H: ResetHook> Store<H> {
         let _ = self.levels.pop();
         out.emit(What::CommitLevel(number));
         release_owner(&mut self.owners, level.owner, true, false, commons, out);
+        self.owners.lower_stack(number);
         discard_owner(&mut self.owners, level.owner, out);
         self.tree.switch(above);
         let context = if_empty(&self.tree, level.context);

@@ -8,7 +8,7 @@ mod hooks;
 mod level_ends;
 mod levels;
 mod owners;
-mod reading;
+mod snapshots;
 mod store;
 
 pub use hooks::RegisterError;

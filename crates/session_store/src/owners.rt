@@ -19,11 +19,12 @@ ghost use Rattle.session_rules.specs.State as rules;
 ghost use Rattle.session_rules.specs.State.{buffer_pin, file_kind};
 ghost use Rattle.session_rules.specs.Counts.{holds};
 ghost use Rattle.session_rules.specs.Taking.{descriptor_given, item_taken, lock_taken};
-ghost use Rattle.session_rules.specs.Parts.{lock_given_back};
+ghost use Rattle.session_rules.specs.Parts.{lock_given_back, pinning};
 ghost use Rattle.session_rules.specs.Releases.{item_released, owner_gone, owner_released};
+ghost use Rattle.session_rules.specs.World.{Around};
 ghost use Rattle.session_owners.specs.Counted.{IsReference, files_held, holds_file};
 ghost use Rattle.session_owners.specs.Commons.{CommonState, Serves};
-ghost use Rattle.session_store.specs.State.{session_of};
+ghost use Rattle.session_store.specs.State.{scene_of, session_of};
 ghost use Rattle.session_store.specs.Calls.{Acted, IsSilent, StandsIn};
 ghost use Rattle.session_store.specs.Owned.{OwnersAlone};
 
@@ -77,18 +78,34 @@ impl<H: ResetHook> Store<H> {
     }
 
     /// Pins a buffer, and the owner remembers the pin, in room that `enlarge` has made: `PinBuffer`.
-    pub fn pin<E: Emit>(&mut self, owner: OwnerId, buffer: u32, out: &mut E)
+    pub fn pin<K: ExtKind, E: Emit>(
+        &mut self,
+        owner: OwnerId,
+        buffer: u32,
+        commons: &mut Commons<K>,
+        out: &mut E,
+    )
         requires live { IsLive self.old.owners owner }
         requires spare { 1 ≤ spare_of owner.number self.old.owners }
         requires not_begun { has_begun owner.number (owners_of self.old.owners) ≡ false }
         requires buffer { buffer < 1024 }
         requires serial { self.old.owners.next_serial < 2 ^ 62 }
+        requires serves { Serves self.old.owners commons.old }
         ensures spare { spare_of owner.number self.old.owners ≤ spare_of owner.number self.new.owners + 1 }
         ensures others { (other : ℕ) → other ≢ owner.number → spare_of other self.new.owners ≡ spare_of other self.old.owners }
-        ensures acted { (s : Space) (x : ShelfState) (c : CommonState) → Acted (item_taken owner.number buffer_pin buffer) self.old self.new s s x x c c (λ events. E.emits out.old events out.new) }
-        ensures alone { (c : CommonState) → OwnersAlone self.old self.new c c }
+        ensures acted { (s : Space) (x : ShelfState) → Acted (item_taken owner.number buffer_pin buffer) self.old self.new s s x x commons.old commons.new (λ events. E.emits out.old events out.new) }
+        ensures alone { OwnersAlone self.old self.new commons.old commons.new }
     {
-        self.owners.pin(owner, buffer, out);
+        self.owners.pin(owner, buffer, commons, out);
+    }
+
+    /// How many sessions pin a buffer.
+    pub fn pinned<K: ExtKind>(&self, buffer: u32, commons: &Commons<K>) -> u32
+        requires serves { Serves self.now.owners commons.now }
+        requires buffer { buffer < 1024 }
+        ensures { (s : Space) (x : ShelfState) (around : Around) → result ≡ pinning buffer (scene_of self.now s x commons.now around) }
+    {
+        self.owners.pinned(buffer, commons)
     }
 
     /// Takes a reference to the key of a class, and the owner remembers it, in room that `enlarge` has made. It fails for want of

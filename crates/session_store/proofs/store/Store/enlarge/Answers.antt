@@ -20,7 +20,7 @@ returns-clause-others g c =
 
 pub returns-clause-session : goal.returns-clause-session
 returns-clause-session g c s =
-    same_session (record { tree = c.self.inside.tree; owners = c.self.inside.owners; levels = c.self.inside.levels }) c.enlarge.new.self s c.enlarge.ensures.owners c.enlarge.ensures.next_owner c.enlarge.ensures.next_serial c.enlarge.ensures.recent c.enlarge.ensures.locks
+    same_session (record { tree = c.self.inside.tree; owners = c.self.inside.owners; levels = c.self.inside.levels }) c.enlarge.new.self s c.enlarge.ensures.owners c.enlarge.ensures.next_owner c.enlarge.ensures.next_serial c.enlarge.ensures.recent c.enlarge.ensures.locks c.enlarge.ensures.stack
     ∙ ap (λ (a : StoreState). session_of a s) c.self.view_is
 
 pub returns-clause-alone : goal.returns-clause-alone
@@ -34,5 +34,5 @@ pub returns-clause-acted : goal.returns-clause-acted
 returns-clause-acted g c s x commons =
     let a : StoreState = record { tree = c.self.inside.tree; owners = c.self.inside.owners; levels = c.self.inside.levels } in
     subst (λ (v : StoreState). Acted nothing v (record a { owners = c.enlarge.new.self }) s s x x commons commons IsSilent) c.self.view_is
-    (room_acted a c.enlarge.new.self s x commons (same_session a c.enlarge.new.self s c.enlarge.ensures.owners c.enlarge.ensures.next_owner c.enlarge.ensures.next_serial c.enlarge.ensures.recent c.enlarge.ensures.locks)
+    (room_acted a c.enlarge.new.self s x commons (same_session a c.enlarge.new.self s c.enlarge.ensures.owners c.enlarge.ensures.next_owner c.enlarge.ensures.next_serial c.enlarge.ensures.recent c.enlarge.ensures.locks c.enlarge.ensures.stack)
     c.enlarge.ensures.descriptors (c.enlarge.ensures.balances commons))

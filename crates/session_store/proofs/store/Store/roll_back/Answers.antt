@@ -1,5 +1,5 @@
 -- The level goes as the rules say, and what lies elsewhere still does.
-use Rattle.std.proofs.Common.{◌≡◌, ℕ, true, false, List, [], ◌∷◌, length, IfSome, refl, sym, ap, ◌∙◌, subst}
+use Rattle.std.proofs.Common.{◌≡◌, ℕ, false, List, [], ◌∷◌, length, IfSome, refl, sym, ap, ◌∙◌, subst}
 use Rattle.std.specs.Prelude.{◌==◌, MatchOption, drop, unwrap_or}
 use Rattle.forest.specs.Forest.{at}
 use Rattle.addr_space.specs.Space.{Space}
@@ -14,15 +14,16 @@ use Rattle.session_rules.specs.State.{LevelState, context_of, first_of}
 use Rattle.session_rules.specs.Making.{level_parent}
 use Rattle.session_rules.specs.Acts.{in_order, where_there}
 use Rattle.session_rules.specs.Releases.{owner_released}
-use Rattle.session_rules.specs.Ends.{aborted, cleaned_up}
+use Rattle.session_rules.specs.Ends.{aborted, cleaned_up, stack_popped}
 use Rattle.session_owners.specs.Fitting as fitting
+use Rattle.session_owners.specs.ResourceState.{AllAt, HoldsNothing}
 use Rattle.session_owners.specs.Commons.{Serves}
 use Rattle.session_owners.proofs.Balances.{balances_more}
 use Rattle.session_store.specs.State.{StoreState, level_state, levels_of}
 use Rattle.session_store.specs.Placed.{LevelLies}
 use Rattle.session_store.specs.Calls.{Acted}
 use Rattle.session_store.proofs.Deepest.{all_deepest, levels_are, levels_long}
-use Rattle.session_store.proofs.Ending.{agrees_current, apart_current, gone_apart, hooks_current, keeps_left, left_placed, lives_on, moves_back, owner_top, popped_is}
+use Rattle.session_store.proofs.Ending.{agrees_current, apart_current, gone_apart, hooks_current, keeps_left, left_placed, lives_on, moves_back, owner_top, popped_is, stack_holds, stack_places}
 use Rattle.session_store.proofs.Kept.{IsThere}
 use Rattle.session_store.proofs.Levelled.{HasOwner, context_live, have_owners, owner_live, parent_number}
 use Rattle.session_store.proofs.Through.{hooks_in, keeps_in, live_in, stands_in, there_in}
@@ -67,7 +68,7 @@ discard_owner-requires-clause-live g c =
     let outer : List Level = c.deepest-level.ensures.0 in
     let lies = all_deepest (LevelLies a.tree a.owners) a.levels outer c.deepest-level.result c.deepest-level.ensures.1 c.self.invariant.levels in
     let has = all_deepest (HasOwner a.owners) a.levels outer c.deepest-level.result c.deepest-level.ensures.1 (have_owners a _ _ c.args.commons.now (stands_in _ _ _ _ c.self.view_is _ _ c.args.commons.now c.requires.stands)) in
-    lives_on a.owners c.release_owner.new.resources c.deepest-level.result.owner c.release_owner.ensures.places (owner_live a.tree a.owners c.deepest-level.result lies.1 has.1)
+    lives_on a.owners c.pop_from.new.self c.deepest-level.result.owner (stack_places a.owners c.release_owner.new.resources c.pop_from.new.self c.pop_from.ensures.stack_alone c.release_owner.ensures.places) (owner_live a.tree a.owners c.deepest-level.result lies.1 has.1)
 
 pub release_owner-requires-clause-live : goal.release_owner-requires-clause-live
 release_owner-requires-clause-live g c =
@@ -103,7 +104,7 @@ invariant_of-self g c =
     let there = there_in _ _ _ _ c.self.view_is _ _ c.args.commons.now c.requires.stands in
     left_placed a.tree c.drop_context.new.tree a.owners c.discard_owner.new.resources
     (λ n still. c.drop_context.ensures.stays n still ∙ ap (λ (t : TreeState). place_of t n) c.switch.ensures)
-    (λ n still. c.discard_owner.ensures.stays n still ∙ ap (at n) c.release_owner.ensures.places)
+    (λ n still. c.discard_owner.ensures.stays n still ∙ ap (at n) (stack_places a.owners c.release_owner.new.resources c.pop_from.new.self c.pop_from.ensures.stack_alone c.release_owner.ensures.places))
     a.levels outer c.pop.new.self c.deepest-level.result up c.deepest-level.ensures.1
     (popped_is a.levels outer c.pop.new.self c.deepest-level.result c.pop.result c.deepest-level.ensures.1 c.pop.ensures.popped c.pop.ensures.some)
     c.self.invariant.levels there.levels (have_owners a _ _ c.args.commons.now (stands_in _ _ _ _ c.self.view_is _ _ c.args.commons.now c.requires.stands))
@@ -129,15 +130,20 @@ returns-clause-acted g c =
     subst (λ (v : StoreState). Acted (in_order (aborted ∷ cleaned_up ∷ [])) v b s t c.args.shelf.now c.drop_context.new.shelf c.args.commons.now c.release_owner.new.commons (λ events. g.E.Emit.emits c.args.out.now events c.drop_context.new.out)) c.self.view_is
     (acted_went _ (λ o events p. g.E.Emit.emits o events p) (in_order (aborted ∷ cleaned_up ∷ [])) a b a.levels ls (levels_of outer) s t c.args.shelf.now c.drop_context.new.shelf c.args.commons.now c.release_owner.new.commons c.args.out.now c.drop_context.new.out is (ap levels_of new)
     (λ around. rolled_went _ (λ o events p. g.E.Emit.emits o events p) g.met.E.Emit.emits_none (λ o p q xs ys h k. g.met.E.Emit.emits_more _ _ _ _ _ _ h k refl)
-    a (levels_of outer) level s t c.args.shelf.now c.drop_context.new.shelf c.args.commons.now c.release_owner.new.commons around up c.drop_context.new.tree c.release_owner.new.resources c.discard_owner.new.resources
-    c.args.out.now c.emit.new.self c.release_owner.new.out c.emit-2.new.self c.discard_owner.new.out c.drop_context.new.out
+    a (levels_of outer) level s t c.args.shelf.now c.drop_context.new.shelf c.args.commons.now c.release_owner.new.commons around up c.drop_context.new.tree c.release_owner.new.resources c.pop_from.new.self c.discard_owner.new.resources
+    c.args.out.now c.emit.new.self c.release_owner.new.out c.pop_from.new.out c.emit-2.new.self c.discard_owner.new.out c.drop_context.new.out
     (subst (λ (n : ℕ). g.E.Emit.emits c.args.out.now (what.AbortLevel n ∷ []) c.emit.new.self) number c.emit.ensures.emitted)
     (subst (λ (n : ℕ). fitting.Acted (λ scene. where_there (number_in level.owner) (owner_released false (n == 1)) scene) a.owners c.release_owner.new.resources c.args.commons.now c.release_owner.new.commons (λ events. g.E.Emit.emits c.emit.new.self events c.release_owner.new.out)) number c.release_owner.ensures.acted)
-    (subst (λ (n : ℕ). g.E.Emit.emits c.release_owner.new.out (what.CleanupLevel n ∷ []) c.emit-2.new.self) number c.emit-2.ensures.emitted)
+    (subst (λ (n : ℕ). fitting.Acted (stack_popped n) c.release_owner.new.resources c.pop_from.new.self c.release_owner.new.commons c.release_owner.new.commons (λ events. g.E.Emit.emits c.release_owner.new.out events c.pop_from.new.out)) number (c.pop_from.ensures.acted c.release_owner.new.commons))
+    (subst (λ (n : ℕ). g.E.Emit.emits c.pop_from.new.out (what.CleanupLevel n ∷ []) c.emit-2.new.self) number c.emit-2.ensures.emitted)
     (c.discard_owner.ensures.acted c.release_owner.new.commons) above
     (subst (λ (u : TreeState). MatchOption level.context (DidNothing u c.drop_context.new.tree s t c.args.shelf.now c.drop_context.new.shelf) (λ id. Did (gone id.number (stands_for u s)) u c.drop_context.new.tree s t c.args.shelf.now c.drop_context.new.shelf)) c.switch.ensures c.drop_context.ensures.did)
     (subst (λ (u : TreeState). MatchOption level.context (c.drop_context.new.out ≡ c.discard_owner.new.out) (λ id. g.E.Emit.emits c.discard_owner.new.out (gone id.number (stands_for u s)).events c.drop_context.new.out)) c.switch.ensures c.drop_context.ensures.emits))
-    (balances_more _ _ _ _ _ _ c.release_owner.ensures.balances (c.discard_owner.ensures.balances c.release_owner.new.commons)))
+    (balances_more _ _ _ _ _ _ (balances_more _ _ _ _ _ _ c.release_owner.ensures.balances (c.pop_from.ensures.balances c.release_owner.new.commons)) (c.discard_owner.ensures.balances c.release_owner.new.commons)))
 
 pub release_owner-requires-clause-serves : goal.release_owner-requires-clause-serves
 release_owner-requires-clause-serves g c = subst (λ (v : StoreState). Serves v.owners c.args.commons.now) (sym c.self.view_is) c.requires.serves
+
+pub discard_owner-requires-clause-empty : goal.discard_owner-requires-clause-empty
+discard_owner-requires-clause-empty g c =
+    stack_holds (λ owners. IfSome c.deepest-level.result.owner (λ o. AllAt HoldsNothing o.number owners)) c.release_owner.new.resources c.pop_from.new.self c.pop_from.ensures.stack_alone c.release_owner.ensures.nothing_left

@@ -1,0 +1,16 @@
+-- What the owners count, in as many contexts as the tree has, is what the session counts.
+use Rattle.std.proofs.Common.{◌≡◌, [], sym, subst}
+use Rattle.session_rules.specs.Counts.{counts}
+use Rattle.session_owners.specs.Commons.{CommonState}
+use Rattle.session_store.specs.State.{StoreState, scene_of, session_of}
+use Rattle.session_store.proofs.Kept.{nowhere}
+use Rattle.session_store.proofs.Owned.{owners_fit}
+use Rattle.session_store.proofs.store.Store.counts.Goals as goal
+
+pub returns : goal.returns
+unfolding session_of
+returns g c s =
+    let a : StoreState = record { tree = c.self.inside.tree; owners = c.self.inside.owners; levels = c.self.inside.levels } in
+    let none : CommonState = record { kinds = []; locks = []; pins = [] } in
+    subst (λ (v : StoreState). c.counts.result ≡ counts (session_of v s)) c.self.view_is
+    (c.counts.ensures none (scene_of a s nowhere.shelf none nowhere) (owners_fit a s nowhere.shelf none nowhere) (sym (c.count.ensures.value s)))

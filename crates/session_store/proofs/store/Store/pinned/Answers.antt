@@ -1,0 +1,16 @@
+-- The owners answer at each scene of the store.
+use Rattle.std.proofs.Common.{◌≡◌, sym, subst}
+use Rattle.session_rules.specs.Parts.{pinning}
+use Rattle.session_owners.specs.Commons.{Serves}
+use Rattle.session_store.specs.State.{StoreState, scene_of}
+use Rattle.session_store.proofs.Owned.{owners_fit}
+use Rattle.session_store.proofs.store.Store.pinned.Goals as goal
+
+pub pinned-requires-clause-serves : goal.pinned-requires-clause-serves
+pinned-requires-clause-serves g c = subst (λ (v : StoreState). Serves v.owners c.args.commons.now) (sym c.self.view_is) c.requires.serves
+
+pub returns : goal.returns
+returns g c s x around =
+    let a : StoreState = record { tree = c.self.inside.tree; owners = c.self.inside.owners; levels = c.self.inside.levels } in
+    subst (λ (v : StoreState). c.pinned.result ≡ pinning c.args.buffer (scene_of v s x c.args.commons.now around)) c.self.view_is
+    (c.pinned.ensures (scene_of a s x c.args.commons.now around) (owners_fit a s x c.args.commons.now around))
