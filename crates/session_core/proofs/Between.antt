@@ -1,30 +1,24 @@
 -- Behind the end of a level the session stands.
-use Rattle.std.proofs.Common.{◌≡◌, ℕ, suc, ◌<◌, Bool, true, false, Option, Some, None, List, [], ◌∷◌, length, IfSome, refl, sym, ◌∙◌, ap, subst, arith}
-use Rattle.std.specs.Prelude.{◌==◌}
+use Rattle.std.proofs.Common.{◌≡◌, ℕ, ◌<◌, true, false, Option, Some, None, List, [], ◌∷◌, length, IfSome, refl, sym, ◌∙◌, ap, subst, arith}
 use Rattle.addr_space.specs.Space.{Space}
-use Rattle.forest.specs.Forest.{removed}
-use Rattle.owner_core.specs.Owners.{OwnerTree}
-use Rattle.owner_kinds.specs.KindShelf.{table_of}
 use Rattle.pgs_step.specs.declared.errors.Error.{Error}
 use Rattle.pgs_step.specs.declared.events.What.{What}
 use Rattle.reset_callbacks.specs.ShelfState.{ShelfState}
-use Rattle.session_rules.specs.State.{LevelState, abort_context, deepest_changed, first_of}
+use Rattle.session_rules.specs.State.{LevelState, first_of, is_aborted}
 use Rattle.session_rules.specs.World.{Around, Scene}
-use Rattle.session_rules.specs.Acts.{Ended, changes, in_order}
-use Rattle.session_rules.specs.Releases.{owner_released}
-use Rattle.session_rules.specs.Ends.{aborted, cleaned_up, committed, recovered, stack_popped, subcommitted}
+use Rattle.session_rules.specs.Acts.{Ended, in_order}
+use Rattle.session_rules.specs.Ends.{aborted, cleaned_up, committed, recovered, subcommitted}
 use Rattle.session_rules.specs.Standing.{AreOuter, IsOpen, Stands, StandsBetweenLines}
-use Rattle.session_rules.proofs.EndsStand.{aborted_stands, cleaned_up_stands, committed_stands, recovered_stands, settled, stands_tabled, subcommitted_stands}
-use Rattle.session_rules.proofs.Releasing.{HasReleased, OnlyTables, release_is, swept_by, tabled, tables_of, with_owners}
+use Rattle.session_rules.proofs.EndsStand.{aborted_stands, away_stands, cleaned_up_stands, committed_stands, recovered_stands, settled, subcommitted_stands}
 use Rattle.session_rules.proofs.StepsStand.{settled_as}
-use Rattle.session_rules.proofs.Swept.{removed_swept}
 use Rattle.session_owners.specs.Commons.{CommonState}
 use Rattle.session_owners.proofs.Balances.{serves_still}
 use Rattle.session_store.specs.State.{StoreState, levels_of, scene_of, session_of}
 use Rattle.session_store.specs.Calls.{Acted, Keeps, StandsIn}
 use Rattle.session_store.proofs.Deepest.{levels_long}
 use Rattle.session_core.specs.Lines.{IsBetweenLines}
-use Rattle.session_core.specs.Performed.{Ends, IsBetweenSteps, Now}
+use Rattle.session_core.specs.Ended.{Ends}
+use Rattle.session_work.specs.Performed.{IsBetweenSteps, Now}
 
 -- the deepest level and those above it
 record HasDeepest (ls : List LevelState) : Type 0 where
@@ -40,49 +34,6 @@ alone_of : (ls : List LevelState) → length ls ≡ 1 → (l : LevelState) × (l
 alone_of [] h = absurd (omega (arith, h))
 alone_of (l ∷ []) h = (l, refl)
 alone_of (l ∷ k ∷ ls) h = absurd (omega (arith, h))
-
--- A level is rolled back, whether it is being started or not: but for the tables that is its cleanup.
-module _ (name : Option (List ℕ)) (i a st : Bool) (levels : List LevelState) (s : Scene) where
-  abbrev whole : Option ℕ → Option ℕ → Scene
-  whole c o = settled (record { name = name; context = c; owner = o; implicit = i; aborted = a; starting = st } ∷ levels) s
-
-  -- behind the release of its owner
-  abbrev released : ℕ → Option ℕ → Scene
-  released p c = record (whole c (Some p)) { session = record (whole c (Some p)).session { current = abort_context } }
-
-  abbrev behind_release : ℕ → Scene → Scene
-  behind_release n z =
-      (cleaned_up (in_order (stack_popped n ∷ changes (λ session. record session { levels = deepest_changed (λ old. record old { aborted = true }) session.levels }) ∷ []) z).scene).scene
-
-  rolled_owned : (c : Option ℕ) (p : ℕ) → HasReleased p (released p c) (owner_released false (suc (length levels) == 1) p (released p c)).scene
-      → OnlyTables (cleaned_up (whole c (Some p))).scene (in_order (aborted ∷ cleaned_up ∷ []) (whole c (Some p))).scene
-  rolled_owned None p r = record {
-    tables = r.tables;
-    same = r.same;
-    is =
-        ap (behind_release (suc (length levels))) r.is
-        ∙ ap (λ (z : OwnerTree). tabled r.tables (with_owners z (cleaned_up (whole None (Some p))).scene)) (ap (removed p) r.swept.is ∙ removed_swept (swept_by (table_of s.around.kinds)) p s.session.owners);
-  }
-  rolled_owned (Some n) p r = record {
-    tables = r.tables;
-    same = r.same;
-    is =
-        ap (behind_release (suc (length levels))) r.is
-        ∙ ap (λ (z : OwnerTree). tabled r.tables (with_owners z (cleaned_up (whole (Some n) (Some p))).scene)) (ap (removed p) r.swept.is ∙ removed_swept (swept_by (table_of s.around.kinds)) p s.session.owners);
-  }
-
-  rolled_is : (c o : Option ℕ) → OnlyTables (cleaned_up (whole c o)).scene (in_order (aborted ∷ cleaned_up ∷ []) (whole c o)).scene
-  rolled_is None None = record { tables = tables_of s; same = refl; is = refl }
-  rolled_is (Some n) None = record { tables = tables_of s; same = refl; is = refl }
-  rolled_is None (Some p) = rolled_owned None p (release_is false (suc (length levels) == 1) p (released p None) refl)
-  rolled_is (Some n) (Some p) = rolled_owned (Some n) p (release_is false (suc (length levels) == 1) p (released p (Some n)) refl)
-
-rolled_stands : (level : LevelState) (levels : List LevelState) (s : Scene) → Stands (settled (level ∷ levels) s) → Stands (in_order (aborted ∷ cleaned_up ∷ []) (settled (level ∷ levels) s)).scene
-rolled_stands level levels s h =
-    let r : OnlyTables (cleaned_up (settled (level ∷ levels) s)).scene (in_order (aborted ∷ cleaned_up ∷ []) (settled (level ∷ levels) s)).scene =
-    rolled_is level.name level.implicit level.aborted level.starting levels s level.context level.owner in
-    let left = cleaned_up_stands level levels s h in
-    subst Stands (sym r.is) (stands_tabled r.tables (cleaned_up (settled (level ∷ levels) s)).scene r.same left.between.stands)
 
 stood : (act : Scene → Ended) (a b : StoreState) (s t : Space) (x y : ShelfState) (c d : CommonState) (P : List What → Type 0) → Acted act a b s t x y c d P → ((around : Around) → Stands (act (scene_of a s x c around)).scene) → StandsIn b t y d
 stood act a b s t x y c d P acted stands around = subst Stands (acted.leads around) (stands around)
@@ -101,7 +52,8 @@ module _ (a b : Now) (P : List What → Type 0) (between : IsBetweenSteps a) (ke
       }
 
   -- the deepest level ends in one way or another
-  ended_between : (act : Scene → Ended) → ((level : LevelState) (levels : List LevelState) (s : Scene) → Stands (settled (level ∷ levels) s) → Stands (act (settled (level ∷ levels) s)).scene)
+  ended_between : (act : Scene → Ended)
+      → ((level : LevelState) (levels : List LevelState) (s : Scene) → levels_of a.store.levels ≡ level ∷ levels → Stands (settled (level ∷ levels) s) → Stands (act (settled (level ∷ levels) s)).scene)
       → 0 < length a.store.levels → Acted act a.store b.store a.space b.space a.shelf b.shelf a.commons b.commons P → IsBetweenSteps b
   unfolding session_of
   ended_between act stands some acted =
@@ -111,17 +63,20 @@ module _ (a b : Now) (P : List What → Type 0) (between : IsBetweenSteps a) (ke
         serves = serves_still _ _ _ _ between.serves acted.balances;
         stands = stood act a.store b.store a.space b.space a.shelf b.shelf a.commons b.commons P acted
             (λ around. settled_as (λ (w : Scene). Stands (act w).scene) (scene_of a.store a.space a.shelf a.commons around) (d.deepest ∷ d.above) (between.stands around) d.are
-            (λ k. stands d.deepest d.above (scene_of a.store a.space a.shelf a.commons around) k));
+            (λ k. stands d.deepest d.above (scene_of a.store a.space a.shelf a.commons around) d.are k));
       }
 
-  pub clean_between : 0 < length a.store.levels → Acted cleaned_up a.store b.store a.space b.space a.shelf b.shelf a.commons b.commons P → IsBetweenSteps b
-  clean_between some acted = ended_between cleaned_up (λ level levels s h. let left = cleaned_up_stands level levels s h in left.between.stands) some acted
+  pub clean_between : is_aborted (levels_of a.store.levels) ≡ true → 0 < length a.store.levels → Acted cleaned_up a.store b.store a.space b.space a.shelf b.shelf a.commons b.commons P → IsBetweenSteps b
+  clean_between aborted some acted =
+      ended_between cleaned_up (λ level levels s are h. let left = cleaned_up_stands level levels s (ap is_aborted (sym are) ∙ aborted) h in left.between.stands) some acted
 
-  pub subcommit_between : 0 < length a.store.levels → Acted subcommitted a.store b.store a.space b.space a.shelf b.shelf a.commons b.commons P → IsBetweenSteps b
-  subcommit_between some acted = ended_between subcommitted (λ level levels s h. let left = subcommitted_stands level levels s h in left.between.stands) some acted
+  pub subcommit_between : 1 < length a.store.levels → Acted subcommitted a.store b.store a.space b.space a.shelf b.shelf a.commons b.commons P → IsBetweenSteps b
+  subcommit_between more acted =
+      ended_between subcommitted (λ level levels s are h. let left = subcommitted_stands level levels s (omega (arith, more, levels_long a.store.levels, ap length are)) h in left.between.stands)
+      (omega (arith, more)) acted
 
   pub roll_between : 0 < length a.store.levels → Acted (in_order (aborted ∷ cleaned_up ∷ [])) a.store b.store a.space b.space a.shelf b.shelf a.commons b.commons P → IsBetweenSteps b
-  roll_between some acted = ended_between (in_order (aborted ∷ cleaned_up ∷ [])) rolled_stands some acted
+  roll_between some acted = ended_between (in_order (aborted ∷ cleaned_up ∷ [])) (λ level levels s are h. let left = away_stands level levels s h in left.between.stands) some acted
 
   abort_of : (l : LevelState) (ls : List LevelState) → levels_of a.store.levels ≡ l ∷ ls → l.aborted ≡ false → IsOpen l → Acted aborted a.store b.store a.space b.space a.shelf b.shelf a.commons b.commons P → IsBetweenSteps b
   unfolding session_of

@@ -20,10 +20,10 @@ use Rattle.session_rules.proofs.TurnStands.{turn_stands}
 use Rattle.session_owners.proofs.Balances.{serves_still}
 use Rattle.session_store.specs.State.{StoreState, levels_of, level_state, session_of}
 use Rattle.session_store.proofs.Deepest.{levels_long}
-use Rattle.session_core.specs.Answers.{at_calls, refusal_of}
-use Rattle.session_core.proofs.Standing.{empty_around}
+use Rattle.session_work.specs.Answers.{at_calls, refusal_of}
+use Rattle.session_work.proofs.Standing.{empty_around}
 use Rattle.session_core.specs.Lines.{IsAbortedBlock, IsBetweenLines, IsInBlock, IsPerformed}
-use Rattle.session_core.specs.Performed.{Now, IsBetweenSteps, Performed, scene_in}
+use Rattle.session_work.specs.Performed.{Now, IsBetweenSteps, Performed, scene_in}
 
 pub steps_of_lines : (a : Now) → IsBetweenLines a → IsBetweenSteps a
 steps_of_lines a h = record { keeps = h.keeps; serves = h.serves; stands = λ around. let z : StandsBetweenLines (scene_in a around) = h.stands around in z.stands }
@@ -97,6 +97,11 @@ is_here (command.Unlock object mode) h = tt
 is_here (command.Open file) h = tt
 is_here (command.Touch file) h = tt
 is_here (command.Close file) h = tt
+is_here command.Report h = tt
+is_here command.Stat h = tt
+is_here (command.Buffer buffer) h = tt
+is_here (command.Push snapshot) h = tt
+is_here command.Pop h = tt
 is_here (command.Context name parent kind) h = tt
 is_here (command.Switch name) h = tt
 is_here (command.OnReset name) h = tt

@@ -22,13 +22,13 @@ use Rattle.session_store.proofs.Deepest.{levels_long}
 use Rattle.session_store.specs.Calls.{Acted, Keeps}
 use Rattle.addr_space.specs.Space.{Space}
 use Rattle.session_rules.proofs.StepsStand.{IsWorking}
-use Rattle.session_core.specs.Answers.{refusal_of}
-use Rattle.session_core.specs.Works.{IsWork}
+use Rattle.session_work.specs.Answers.{refusal_of}
+use Rattle.session_work.specs.Works.{IsWork}
 use Rattle.session_rules.specs.Standing.{AreOuter}
 use Rattle.session_core.specs.Lines.{IsAbortedBlock, IsInBlock, IsPerformed}
-use Rattle.session_core.proofs.Commands.{fails}
-use Rattle.session_core.specs.Performed.{Now, Performed}
-use Rattle.session_core.proofs.Performing.{grows_nothing, moves_nothing, performed_both, performed_end, performed_more, performed_stop}
+use Rattle.session_work.proofs.Commands.{fails}
+use Rattle.session_work.specs.Performed.{Now, Performed}
+use Rattle.session_work.proofs.Performing.{grows_nothing, moves_nothing, performed_both, performed_end, performed_more, performed_stop}
 
 -- the elements of a command where these are the levels
 pub with_levels : (c : Command) (session : SessionState) (levels : List LevelState) → session.levels ≡ levels → elements_of c session ≡ elements_of c (record session { levels = levels })
@@ -50,6 +50,11 @@ worked (command.Unlock object mode) session h = refl
 worked (command.Open file) session h = refl
 worked (command.Touch file) session h = refl
 worked (command.Close file) session h = refl
+worked command.Report session h = refl
+worked command.Stat session h = refl
+worked (command.Buffer buffer) session h = refl
+worked (command.Push snapshot) session h = refl
+worked command.Pop session h = refl
 worked (command.Context name parent kind) session h = refl
 worked (command.Switch name) session h = refl
 worked (command.OnReset name) session h = refl
@@ -263,6 +268,11 @@ work_aborted (command.Unlock object mode) h level levels session = refl
 work_aborted (command.Open file) h level levels session = refl
 work_aborted (command.Touch file) h level levels session = refl
 work_aborted (command.Close file) h level levels session = refl
+work_aborted command.Report h level levels session = refl
+work_aborted command.Stat h level levels session = refl
+work_aborted (command.Buffer buffer) h level levels session = refl
+work_aborted (command.Push snapshot) h level levels session = refl
+work_aborted command.Pop h level levels session = refl
 work_aborted (command.Context name parent kind) h level levels session = refl
 work_aborted (command.Switch name) h level levels session = refl
 work_aborted (command.OnReset name) h level levels session = refl
@@ -346,6 +356,11 @@ others_aborted (command.Unlock object mode) h nothing commit rollback back level
 others_aborted (command.Open file) h nothing commit rollback back level levels session = work_aborted (command.Open file) h level levels session
 others_aborted (command.Touch file) h nothing commit rollback back level levels session = work_aborted (command.Touch file) h level levels session
 others_aborted (command.Close file) h nothing commit rollback back level levels session = work_aborted (command.Close file) h level levels session
+others_aborted command.Report h nothing commit rollback back level levels session = work_aborted command.Report h level levels session
+others_aborted command.Stat h nothing commit rollback back level levels session = work_aborted command.Stat h level levels session
+others_aborted (command.Buffer buffer) h nothing commit rollback back level levels session = work_aborted (command.Buffer buffer) h level levels session
+others_aborted (command.Push snapshot) h nothing commit rollback back level levels session = work_aborted (command.Push snapshot) h level levels session
+others_aborted command.Pop h nothing commit rollback back level levels session = work_aborted command.Pop h level levels session
 others_aborted (command.Context name parent kind) h nothing commit rollback back level levels session = work_aborted (command.Context name parent kind) h level levels session
 others_aborted (command.Switch name) h nothing commit rollback back level levels session = work_aborted (command.Switch name) h level levels session
 others_aborted (command.OnReset name) h nothing commit rollback back level levels session = work_aborted (command.OnReset name) h level levels session
@@ -403,6 +418,11 @@ idle_work (command.Unlock object mode) h session = refl
 idle_work (command.Open file) h session = refl
 idle_work (command.Touch file) h session = refl
 idle_work (command.Close file) h session = refl
+idle_work command.Report h session = refl
+idle_work command.Stat h session = refl
+idle_work (command.Buffer buffer) h session = refl
+idle_work (command.Push snapshot) h session = refl
+idle_work command.Pop h session = refl
 idle_work (command.Context name parent kind) h session = refl
 idle_work (command.Switch name) h session = refl
 idle_work (command.OnReset name) h session = refl

@@ -18,12 +18,12 @@ use Rattle.session_rules.proofs.StepsStand.{below_limit, level_context_stands, l
 use Rattle.session_rules.proofs.TurnStands.{At, Leads, leads_nowhere, leads_on}
 use Rattle.session_store.specs.State.{levels_of}
 use Rattle.session_store.proofs.Deepest.{levels_long}
-use Rattle.session_core.specs.Answers.{at_calls}
+use Rattle.session_work.specs.Answers.{at_calls}
 use Rattle.session_core.specs.Begun.{HasBegun}
 use Rattle.session_store.specs.Calls.{IsSilent}
-use Rattle.session_core.specs.Performed.{Now, Grows, HasRoom, IsBetweenSteps, Performed, scene_in}
-use Rattle.session_core.proofs.Performing.{performed_both, performed_more, performed_stop}
-use Rattle.session_core.proofs.Standing.{at_levels, empty_around, known_behind, levels_at, stands_behind}
+use Rattle.session_work.specs.Performed.{Now, Grows, HasRoom, IsBetweenSteps, Performed, scene_in}
+use Rattle.session_work.proofs.Performing.{performed_both, performed_more, performed_stop}
+use Rattle.session_work.proofs.Standing.{at_levels, empty_around, known_behind, levels_at, stands_behind}
 
 -- a level as it is being begun
 abbrev pub begun : Option Text → Bool → Option ℕ → Option ℕ → Bool → LevelState

@@ -5,18 +5,17 @@ use Rattle.pgs_step.specs.declared.events.What.{What}
 use Rattle.addr_space.specs.Space.{Space}
 use Rattle.reset_callbacks.specs.ShelfState.{ShelfState}
 use Rattle.context_rules.specs.Contexts.{is_empty}
-use Rattle.snap_table.specs.Snapshots.{lowered}
 use Rattle.session_rules.specs.State.{OpenPortal, abort_context, depth, level_context, level_owner, top_context}
 use Rattle.session_rules.specs.World.{Around, Scene}
 use Rattle.session_rules.specs.Acts.{Ended, changes, context_gone, for_each, in_order, nothing, portal_gone, switched, where_so, where_there}
 use Rattle.session_rules.specs.Releases.{owner_gone, owner_released}
-use Rattle.session_rules.specs.Ends.{aborted, cleaned_up, committed, empty_context_gone, level_owner_gone, level_released, stack_popped, subcommitted, switched_up}
+use Rattle.session_rules.specs.Ends.{aborted, cleaned_up, committed, empty_context_gone, level_owner_gone, level_released, stack_lowered, stack_popped, subcommitted, switched_up}
 use Rattle.session_rules.proofs.Releasing.{release_is}
 use Rattle.session_owners.specs.Commons.{CommonState}
 use Rattle.session_store.specs.State.{StoreState, scene_of, session_of}
 use Rattle.session_store.specs.Calls.{Acted}
-use Rattle.session_core.specs.Performed.{Grows, Now}
-use Rattle.session_core.proofs.Performing.{nowhere}
+use Rattle.session_work.specs.Performed.{Grows, Now}
+use Rattle.session_work.proofs.Performing.{nowhere}
 
 -- the three numbers, and how many descriptors there are
 pub record Numbers : Type 0 where
@@ -86,7 +85,7 @@ unfolding session_of
 subcommits a s x c around =
     let z : Scene = scene_of a s x c around in
     let r : Scene = (level_released true false z).scene in
-    let l : Scene = (changes (λ session. record session { snapshots = map (lowered (depth z.session)) session.snapshots }) r).scene in
+    let l : Scene = (stack_lowered (depth z.session) r).scene in
     let g : Scene = (switched_up (level_owner_gone l).scene).scene in
     empty_keeps g ∙ owner_keeps (level_owner l.session) l ∙ released_keeps true false (level_owner z.session) z refl
 

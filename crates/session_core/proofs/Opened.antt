@@ -1,5 +1,7 @@
 -- What a caller needs that performs one line after another: where a session starts, and the room that a line leaves.
-use Rattle.std.proofs.Common.{◌≡◌, false, ℕ, ◌+◌, ◌*◌, ◌<◌, [], refl, ap, ◌∙◌, arith}
+use Rattle.std.proofs.Common.{◌≡◌, false, ℕ, ◌+◌, ◌*◌, ◌<◌, ◌≤◌, List, [], refl, sym, ap, ◌∙◌, subst, arith}
+use Rattle.std.specs.Prelude.{◌^◌, get_or, replicate, slice_index}
+use Rattle.std.proofs.lemmas.Grind.{common_steps}
 use Rattle.addr_space.specs.Space.{Space, held}
 use Rattle.pgs_step.specs.declared.lock_modes.Mode.{Mode}
 use Rattle.lock_shared.specs.Holdings.{holds}
@@ -11,7 +13,7 @@ use Rattle.session_owners.proofs.Balances.{serves_nothing}
 use Rattle.session_store.specs.State.{session_of}
 use Rattle.session_store.specs.Calls.{Keeps, StandsIn}
 use Rattle.session_core.specs.Lines.{IsBetweenLines}
-use Rattle.session_core.specs.Performed.{Grows, HasRoom, Now, most_count}
+use Rattle.session_work.specs.Performed.{Grows, HasRoom, Now, most_count}
 use Rattle.session_core.proofs.BetweenLines.{opened_levels}
 
 -- Lines in turn, each of which raises the counters by 5 at most.
@@ -43,10 +45,18 @@ opened_lines a e keeps serves stands =
       stands = λ around. record { stands = stands around; open_levels = rw (none) tt };
     }
 
--- It holds nothing of the commons, where nothing is held for it.
-pub opened_serves : (a : Now) → session_of a.store a.space ≡ opening → IsSound (table_of a.commons.kinds) → ((o : ℕ) (m : Mode) → holds a.commons.locks o m a.store.owners.session ≡ false) → Serves a.store.owners a.commons
+-- It holds nothing of the commons, where nothing is held for it and not too many sessions pin a buffer.
+pub opened_serves : (a : Now) → session_of a.store a.space ≡ opening → IsSound (table_of a.commons.kinds) → ((o : ℕ) (m : Mode) → holds a.commons.locks o m a.store.owners.session ≡ false)
+    → ((buffer : ℕ) → slice_index a.commons.pins buffer ≤ 2 ^ 31) → Serves a.store.owners a.commons
 unfolding session_of opening
-opened_serves a e sound free = serves_nothing a.store.owners a.commons (ap (λ (s : SessionState). s.owners) e) sound (ap (λ (s : SessionState). s.locks) e) free
+opened_serves a e sound free few = serves_nothing a.store.owners a.commons (ap (λ (s : SessionState). s.owners) e) sound (ap (λ (s : SessionState). s.locks) e) free few
+
+zeros_at : (key n : ℕ) → get_or (replicate {A = ℕ} n 0) key 0 ≡ 0
+zeros_at key n = grind (arith, common_steps)
+
+-- no session pins a buffer
+pub none_pinned : (pins : List ℕ) → pins ≡ replicate 1024 0 → (buffer : ℕ) → slice_index pins buffer ≤ 2 ^ 31
+none_pinned pins none buffer = subst (λ (ps : List ℕ). slice_index ps buffer ≤ 2 ^ 31) (sym none) (omega (arith, zeros_at buffer 1024))
 
 pub none_held : (s : Space) (account : ℕ) → s.regions ≡ [] → held s account ≡ 0
 unfolding held

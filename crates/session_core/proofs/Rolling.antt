@@ -16,9 +16,9 @@ use Rattle.session_rules.specs.Elements as element
 use Rattle.session_rules.specs.Standing.{AreOuter, FitLevels, Stands}
 use Rattle.session_store.specs.State.{level_state, levels_of, session_of}
 use Rattle.session_store.proofs.Deepest.{levels_are, levels_long}
-use Rattle.session_core.specs.Performed.{IsBetweenSteps, Now, Performed, scene_in}
-use Rattle.session_core.proofs.Performing.{performed_both, performed_none}
-use Rattle.session_core.proofs.Standing.{empty_around}
+use Rattle.session_work.specs.Performed.{IsBetweenSteps, Now, Performed, scene_in}
+use Rattle.session_work.proofs.Performing.{performed_both, performed_none}
+use Rattle.session_work.proofs.Standing.{empty_around}
 
 -- how a level is rolled back
 abbrev level_ends : Bool → List Element

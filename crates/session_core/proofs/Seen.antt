@@ -1,35 +1,20 @@
 -- A session is seen as its store.
-use Rattle.std.proofs.Common.{◌≡◌, ℕ, List, [], Option, Some, None, OnErr, OnOk, Result, Ok, Err, refl, sym, ap, subst}
-use Rattle.std.specs.Option.{option_map}
+use Rattle.std.proofs.Common.{◌≡◌, ℕ, List, length, Option, sym, subst}
 use Rattle.pgs_step.specs.declared.errors.Error.{Error}
 use Rattle.pgs_step.specs.declared.events.What.{What}
 use Rattle.addr_space.specs.Space.{Space}
 use Rattle.reset_callbacks.specs.ShelfState.{ShelfState}
-use Rattle.context_rules.specs.declared.errors.TreeError.{TreeError}
-use Rattle.context_tree.specs.State.{error_of}
 use Rattle.session_rules.specs.Elements.{Element}
-use Rattle.session_rules.specs.Checks.{tree_error}
 use Rattle.session_owners.specs.Commons.{CommonState, Serves}
-use Rattle.session_store.specs.State.{StoreState, session_of}
-use Rattle.session_store.specs.Calls.{ContextsAlone, Keeps, Refused, StandsIn}
-use Rattle.session_core.specs.declared.calls.Calls.{Calls}
-use Rattle.session_core.specs.declared.shared.Shared.{Shared}
-use Rattle.session_core.specs.Performed.{Now, Performed, now}
-use Rattle.session_core.proofs.Performing.{moves_nothing}
+use Rattle.session_store.specs.State.{StoreState}
+use Rattle.session_store.specs.Calls.{Keeps, StandsIn}
+use Rattle.session_work.specs.declared.shared.Shared.{Shared}
+use Rattle.session_work.specs.Performed.{Now, Performed, now}
 
 module _ (store v : StoreState) (is : store ≡ v) where
   -- what was performed from the store was performed from the value
   pub seen : {Z W : Type 0} (k : ℕ) (es : List Element) (shared : Shared Z W) (b : Now) (P : List What → Type 0) (r : Option Error) → Performed k es (now store shared) b P r → Performed k es (now v shared) b P r
   seen k es shared b P r h = subst (λ (a : StoreState). Performed k es (now a shared) b P r) is h
-
-  -- the same, where nothing changed
-  pub seen_same : {Z W : Type 0} (k : ℕ) (es : List Element) (shared : Shared Z W) (P : List What → Type 0) (r : Option Error) → Performed k es (now store shared) (now store shared) P r → Performed k es (now v shared) (now v shared) P r
-  seen_same k es shared P r h = subst (λ (a : StoreState). Performed k es (now a shared) (now a shared) P r) is h
-
-  -- the same, where the store didn't change
-  pub seen_still : {Z W : Type 0} (k : ℕ) (es : List Element) (shared : Shared Z W) (s : Space) (x : ShelfState) (m : CommonState) (c : Calls) (P : List What → Type 0) (r : Option Error)
-      → Performed k es (now store shared) (record { store = store; space = s; shelf = x; commons = m; calls = c }) P r → Performed k es (now v shared) (record { store = v; space = s; shelf = x; commons = m; calls = c }) P r
-  seen_still k es shared s x m c P r h = subst (λ (a : StoreState). Performed k es (now a shared) (record { store = a; space = s; shelf = x; commons = m; calls = c }) P r) is h
 
   pub keeps_of : (s : Space) → Keeps v s → Keeps store s
   keeps_of s h = subst (λ (a : StoreState). Keeps a s) (sym is) h
@@ -40,53 +25,6 @@ module _ (store v : StoreState) (is : store ≡ v) where
   pub serves_of : (c : CommonState) → Serves v.owners c → Serves store.owners c
   serves_of c h = subst (λ (a : StoreState). Serves a.owners c) (sym is) h
 
--- the answer of a call on contexts as an answer of the session
-pub answered_ok : (k : ℕ) (es : List Element) (a b : Now) (P : List What → Type 0) (r : Result (Unit {0}) TreeError) (u : Unit {0}) → r ≡ Ok u → Performed k es a b P (option_map tree_error (error_of r)) → Performed k es a b P None
-answered_ok k es a b P r u is h = subst (λ (x : Result (Unit {0}) TreeError). Performed k es a b P (option_map tree_error (error_of x))) is h
-
-pub answered_err : (k : ℕ) (es : List Element) (a b : Now) (P : List What → Type 0) (r : Result (Unit {0}) TreeError) (e : TreeError) (t : Error) → r ≡ Err e → t ≡ tree_error e → Performed k es a b P (option_map tree_error (error_of r)) → Performed k es a b P (Some t)
-answered_err k es a b P r e t is told h =
-    subst (λ (x : Error). Performed k es a b P (Some x)) (sym told) (subst (λ (x : Result (Unit {0}) TreeError). Performed k es a b P (option_map tree_error (error_of x))) is h)
-
--- nothing was said where the call was refused
-pub silent_where : {A E O : Type 0} (emits : O → List What → O → Type 0) (r : Result A E) (x y : O) → emits x [] x → OnErr r (y ≡ x) → OnErr r (emits x [] y)
-silent_where emits (Ok a) x y nothing same = same
-silent_where emits (Err e) x y nothing same = subst (λ o. emits x [] o) (sym same) nothing
-
--- nothing changed
-pub nothing_changed : (a b : StoreState) (s : Space) (x : ShelfState) (c : CommonState) → b ≡ a → Refused a b s s x x c c
-nothing_changed a b s x c same = record { store = same; shelf = refl; commons = refl; session = ap (λ (z : StoreState). session_of z s) same; limit = refl }
-
--- where the store is as it was the call changed nothing
-pub refused_still : {A E : Type 0} (r : Result A E) (a b : StoreState) (s : Space) (x : ShelfState) (c : CommonState) → OnErr r (b ≡ a) → OnErr r (Refused a b s s x x c c)
-refused_still (Ok u) a b s x c same = same
-refused_still (Err e) a b s x c same = nothing_changed a b s x c same
-
--- contexts that didn't change
-pub alone_same : (a : StoreState) (s : Space) (c : CommonState) → Keeps a s → ContextsAlone a a s s c c
-alone_same a s c keeps = record { keeps = keeps; moves = moves_nothing a.tree s keeps.agrees; owners = refl; commons = refl; levels = refl; stays = λ id live had has. live }
-
--- an error by another name
-pub told_as : (k : ℕ) (es : List Element) (a b : Now) (P : List What → Type 0) (e t : Error) → t ≡ e → Performed k es a b P (Some e) → Performed k es a b P (Some t)
-told_as k es a b P e t is h = subst (λ (x : Error). Performed k es a b P (Some x)) (sym is) h
-
--- what holds where a call was refused
-pub err_of : {A E P : Type 0} (r : Result A E) (e : E) → r ≡ Err e → OnErr r P → P
-err_of (Err d) e is p = p
-err_of (Ok a) e is p = absurd (other is)
-  where
-    other : Ok a ≡ Err e → ⊥
-    other z = cc z
-
--- the store and the shelf are as they were
-pub both_still : (a b : StoreState) (s : Space) (x y : ShelfState) (c : CommonState) → b ≡ a → y ≡ x → Refused a b s s x y c c
-both_still a b s x y c store shelf = record { store = store; shelf = shelf; commons = refl; session = ap (λ (z : StoreState). session_of z s) store; limit = refl }
-
--- what was answered of any commons, of these
-pub ok_with : {A E : Type 0} (F : CommonState → Type 0) (r : Result A E) (c : CommonState) → OnOk r ((d : CommonState) → F d) → OnOk r (F c)
-ok_with F (Ok a) c h = h c
-ok_with F (Err e) c h = tt
-
-pub err_with : {A E : Type 0} (F : CommonState → Type 0) (r : Result A E) (c : CommonState) → OnErr r ((d : CommonState) → F d) → OnErr r (F c)
-err_with F (Ok a) c h = tt
-err_with F (Err e) c h = h c
+-- a store that is seen as a value has as many levels
+pub levels_seen : (store v : StoreState) (P : ℕ → Type 0) → store ≡ v → P (length v.levels) → P (length store.levels)
+levels_seen store v P is h = subst (λ (a : StoreState). P (length a.levels)) (sym is) h

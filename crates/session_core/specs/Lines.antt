@@ -9,8 +9,8 @@ use Rattle.pgs_command.specs.declared.commands.Command.TheVariants as command
 use Rattle.session_rules.specs.World.{Around}
 use Rattle.session_rules.specs.Standing.{AreOuter, StandsBetweenLines}
 use Rattle.session_store.specs.Calls.{Keeps}
-use Rattle.session_core.specs.Performed.{Now, scene_in}
-use Rattle.session_core.specs.Works.{IsWork}
+use Rattle.session_work.specs.Performed.{Now, scene_in}
+use Rattle.session_work.specs.Works.{IsWork}
 
 -- A session between two lines: besides what holds between two steps, no level is being started and none was begun for one command
 -- alone.

@@ -7,9 +7,9 @@ use Rattle.session_rules.specs.World.{Around, Moment}
 use Rattle.session_rules.specs.Transcript.{turn}
 use Rattle.session_rules.specs.Asked.{asked_by_turn}
 use Rattle.session_owners.specs.Commons.{Balances}
-use Rattle.session_core.specs.Answers.{Fits, at_calls}
+use Rattle.session_work.specs.Answers.{Fits, at_calls}
 use Rattle.session_core.specs.Lines.{IsPerformed}
-use Rattle.session_core.specs.Performed.{Now, Grows, Takes, scene_in}
+use Rattle.session_work.specs.Performed.{Now, Grows, Takes, scene_in}
 
 -- the session there as the rules see it before a line
 abbrev pub moment_in : Now → Around → Moment

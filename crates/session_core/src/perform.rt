@@ -3,20 +3,22 @@ ghost use Rattle.std.specs.Prelude.{◌≡◌, ◌∷◌, [], None, length, OnOk
 ghost use Rattle.pgs_command.specs.Ranges.{IsInRange};
 ghost use Rattle.pgs_step.specs.declared.events.What.TheVariants as what;
 ghost use Rattle.session_rules.specs.Elements as element;
+ghost use Rattle.session_rules.specs.State.{SessionState};
+ghost use Rattle.session_rules.specs.Works.{work_of};
 ghost use Rattle.session_rules.specs.Commands.{elements_of};
 ghost use Rattle.session_rules.proofs.StepsStand.{IsWorking};
 ghost use Rattle.session_store.specs.State.{levels_of, session_of};
-ghost use Rattle.session_core.specs.Answers.{refusal_of};
+ghost use Rattle.session_work.specs.Answers.{refusal_of};
 ghost use Rattle.session_core.specs.Lines.{IsAbortedBlock, IsBetweenLines, IsInBlock, IsPerformed};
-ghost use Rattle.session_core.specs.Performed.{now, HasRoom, IsBetweenSteps, Performed};
-ghost use Rattle.session_core.specs.Works.{IsWork};
+ghost use Rattle.session_work.specs.Performed.{now, HasRoom, IsBetweenSteps, Performed};
+ghost use Rattle.session_work.specs.Works.{IsWork};
 
 use crate::session::Session;
-use crate::shared::Shared;
 use owner_kinds::ExtKind;
 use pgs_command::Command;
 use pgs_step::{Emit, Error, What};
 use reset_callbacks::ResetHook;
+use session_work::{Shared, work};
 
 impl<H: ResetHook> Session<H> {
     /// Performs a command up to its `ok`: in the transaction that is open, or in one that is begun for it alone.
@@ -184,6 +186,25 @@ impl<H: ResetHook> Session<H> {
         }
         out.emit(What::Ok);
         Ok(())
+    }
+
+    /// What a command does in a transaction that isn't aborted.
+    fn work<K: ExtKind, E: Emit>(
+        &mut self,
+        command: &Command,
+        shared: &mut Shared<'_, H, K>,
+        out: &mut E,
+    ) -> Result<(), Error>
+        requires between { IsBetweenSteps (now self.old shared.old) }
+        requires active { IsWorking (levels_of self.old.levels) }
+        requires work { IsWork command.now }
+        requires range { IsInRange command.now }
+        requires room { HasRoom 2 (now self.old shared.old) }
+        ensures performed { (session : SessionState) → Performed 2 (work_of command.now session) (now self.old shared.old) (now self.new shared.new) (λ events. E.emits out.old events out.new) (refusal_of result) }
+        ensures between { IsBetweenSteps (now self.new shared.new) }
+        ensures levels { OnOk result (levels_of self.new.levels ≡ levels_of self.old.levels) }
+    {
+        work(&mut self.store, command, shared, out)
     }
 
     /// Performs a command in an aborted transaction: only its end is taken, and the way back to a savepoint.

@@ -1,17 +1,17 @@
 //! Lines are performed, and their errors recovered from.
-ghost use Rattle.std.specs.Prelude.{◌≡◌, IfSome};
+ghost use Rattle.std.specs.Prelude.{◌≡◌, IfSome, option_copied};
 ghost use Rattle.pgs_command.specs.Ranges.{IsInRange};
 ghost use Rattle.session_rules.specs.Transcript.{is_want};
 ghost use Rattle.session_core.specs.Lines.{IsBetweenLines};
-ghost use Rattle.session_core.specs.Performed.{now, HasRoom};
+ghost use Rattle.session_work.specs.Performed.{now, HasRoom};
 ghost use Rattle.session_core.specs.Turns.{IsRead, Turned};
 
 use crate::session::Session;
-use crate::shared::Shared;
 use owner_kinds::ExtKind;
 use pgs_command::Command;
 use pgs_step::{Emit, Error};
 use reset_callbacks::ResetHook;
+use session_work::Shared;
 
 impl<H: ResetHook> Session<H> {
     /// Performs what a line says, and recovers where that fails; a bad line is nothing but its error.
@@ -19,22 +19,22 @@ impl<H: ResetHook> Session<H> {
     /// Answers whether the error was a want of memory, which ends a script.
     pub fn take_turn<K: ExtKind, E: Emit>(
         &mut self,
-        command: Option<Command>,
+        command: Option<&Command>,
         shared: &mut Shared<'_, H, K>,
         out: &mut E,
     ) -> bool
         requires lines { IsBetweenLines (now self.old shared.old) }
-        requires known { IsRead command }
-        requires range { IfSome command IsInRange }
+        requires known { IsRead (option_copied command) }
+        requires range { IfSome (option_copied command) IsInRange }
         requires room { HasRoom 5 (now self.old shared.old) }
-        ensures turn { Turned command (now self.old shared.old) (now self.new shared.new) (λ events. E.emits out.old events out.new) result }
+        ensures turn { Turned (option_copied command.entry) (now self.old shared.old) (now self.new shared.new) (λ events. E.emits out.old events out.new) result }
         ensures lines { IsBetweenLines (now self.new shared.new) }
     {
         let Some(command) = command else {
             self.recover(Error::SyntaxError, shared, out);
             return false;
         };
-        match self.perform(&command, shared, out) {
+        match self.perform(command, shared, out) {
             Ok(()) => false,
             Err(error) => {
                 self.recover(error, shared, out);

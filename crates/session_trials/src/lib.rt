@@ -6,4 +6,6 @@ mod playing;
 pub use playing::{Played, outcome};
 
 #[cfg(test)]
+mod telling_tests;
+#[cfg(test)]
 mod tests;

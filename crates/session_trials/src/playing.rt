@@ -6,7 +6,7 @@ ghost use Rattle.owner_kinds.specs.KindTable.{IsSound};
 ghost use Rattle.reset_callbacks.specs.Hook.{AreDistinct};
 ghost use Rattle.reset_callbacks.specs.ShelfState.{held};
 ghost use Rattle.session_core.specs.Lines.{IsBetweenLines, IsPerformed};
-ghost use Rattle.session_core.specs.Performed.{now, Grows, HasRoom};
+ghost use Rattle.session_work.specs.Performed.{now, Grows, HasRoom};
 
 use addr_space::Space;
 use context_node::own_name;
@@ -117,6 +117,6 @@ fn play(
     ensures account { session.new.tree.account ≡ session.old.tree.account }
 {
     for command in commands {
-        let _wanted = session.take_turn(Some(*command), shared, out);
+        let _wanted = session.take_turn(Some(command), shared, out);
     }
 }

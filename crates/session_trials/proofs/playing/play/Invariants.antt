@@ -1,7 +1,7 @@
 -- Behind each command the session is between two lines, and each raised the counters by 5 at most.
 use Rattle.std.proofs.Common.{◌≡◌, ◌*◌}
 use Rattle.session_core.specs.Lines.{IsBetweenLines}
-use Rattle.session_core.specs.Performed.{now, Grows}
+use Rattle.session_work.specs.Performed.{now, Grows}
 use Rattle.session_trials.proofs.playing.play.Given as goal
 
 abbrev pub invariant-loop-command : goal.invariant-loop-command

@@ -3,7 +3,7 @@ use Rattle.session_rules.specs.Acts.{in_order}
 use Rattle.session_rules.specs.Ends.{aborted, cleaned_up, given_up}
 use Rattle.session_store.proofs.Deepest.{levels_long}
 use Rattle.session_store.specs.State.{StoreState, levels_of}
-use Rattle.session_core.specs.Performed.{Now, now}
+use Rattle.session_work.specs.Performed.{Now, now}
 use Rattle.session_core.proofs.Between.{between_of, roll_between}
 use Rattle.session_core.proofs.Numbers.{aborts, rolls}
 use Rattle.session_core.proofs.OnLevels.{moves_current}

@@ -1,6 +1,6 @@
-use Rattle.std.proofs.Common.{◌<◌, length, refl, subst, sym, arith}
+use Rattle.std.proofs.Common.{◌<◌, length, refl, subst, sym}
 use Rattle.session_store.specs.State.{StoreState}
-use Rattle.session_core.specs.Performed.{now}
+use Rattle.session_work.specs.Performed.{now}
 use Rattle.session_core.proofs.Between.{between_of, subcommit_between}
 use Rattle.session_core.proofs.OnLevels.{subcommit_performed}
 use Rattle.session_core.proofs.Seen.{seen, serves_of, stands_of}
@@ -16,9 +16,8 @@ returns-clause-performed g c =
 
 pub returns-clause-between : goal.returns-clause-between
 returns-clause-between g c =
-    let some : 0 < length c.args.self.now.levels = omega (arith, c.requires.level) in
     subcommit_between (now c.self.inside.store c.args.shared.now) _ _ (between_of c.self.inside.store c.args.self.now c.self.view_is (λ store. now store c.args.shared.now) c.requires.between)
-    c.subcommit.ensures.keeps (subst (λ (v : StoreState). 0 < length v.levels) (sym c.self.view_is) some) c.subcommit.ensures.acted
+    c.subcommit.ensures.keeps (subst (λ (v : StoreState). 1 < length v.levels) (sym c.self.view_is) c.requires.level) c.subcommit.ensures.acted
 
 pub subcommit-requires-clause-serves : goal.subcommit-requires-clause-serves
 subcommit-requires-clause-serves g c = serves_of c.self.inside.store c.args.self.now c.self.view_is c.args.shared.now.commons.now c.requires.between.serves

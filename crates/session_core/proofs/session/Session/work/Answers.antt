@@ -1,11 +1,16 @@
-use Rattle.session_rules.specs.State.{opening}
-use Rattle.session_core.proofs.Standing.{work_levels, work_stands}
-use Rattle.session_core.proofs.Working.{is_work, where_done}
+use Rattle.std.proofs.Common.{sym, subst}
+use Rattle.session_rules.proofs.StepsStand.{IsWorking}
+use Rattle.session_store.specs.State.{StoreState, levels_of}
+use Rattle.session_work.specs.Performed.{HasRoom, now}
+use Rattle.session_core.proofs.Between.{between_of}
+use Rattle.session_core.proofs.Seen.{seen}
 use Rattle.session_core.proofs.session.Session.work.Goals as goal
 
-pub returns : goal.returns
-returns g c = record {
-  performed = c.work_by_kind.ensures.performed;
-  between = work_stands 2 c.args.command.now opening (is_work c.args.command.now c.requires.work) _ _ _ _ c.requires.between c.requires.active (c.work_by_kind.ensures.performed opening);
-  levels = where_done c.work_by_kind.result (work_levels 2 c.args.command.now opening (is_work c.args.command.now c.requires.work) _ _ _ _ c.requires.between c.requires.active (c.work_by_kind.ensures.performed opening));
-}
+pub returns-clause-performed : goal.returns-clause-performed
+returns-clause-performed g c session = seen c.self.inside.store c.args.self.now c.self.view_is 2 _ c.args.shared.now _ _ _ (c.work.ensures.performed session)
+
+pub work-requires-clause-between : goal.work-requires-clause-between
+work-requires-clause-between g c = between_of c.self.inside.store c.args.self.now c.self.view_is (λ a. now a c.args.shared.now) c.requires.between
+
+pub work-requires-clause-active : goal.work-requires-clause-active
+work-requires-clause-active g c = subst (λ (v : StoreState). IsWorking (levels_of v.levels)) (sym c.self.view_is) c.requires.active

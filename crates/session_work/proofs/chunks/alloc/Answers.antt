@@ -1,0 +1,43 @@
+use Rattle.std.proofs.Common.{false, ap}
+use Rattle.session_work.specs.declared.calls.Calls.{Calls}
+use Rattle.session_work.proofs.OnChunks.{alloc_done, alloc_injected, alloc_refuses, alloc_taken}
+use Rattle.session_work.proofs.chunks.alloc.Goals as goal
+
+pub returns-then-is_chunk : goal.returns-then-is_chunk
+returns-then-is_chunk g c = record {
+  performed = λ session.
+      alloc_taken c.args.chunk c.args.size false _ _
+      c.requires.between.keeps (g.met.E.Emit.emits_none c.args.out.now)
+      c.is_chunk.result c.is_chunk.ensures c.if-is_chunk.true;
+}
+
+pub returns-in-Err : goal.returns-in-Err
+returns-in-Err g c = record {
+  performed = λ session.
+      alloc_injected c.args.chunk c.args.size false _ _
+      c.requires.between.keeps (g.met.E.Emit.emits_none c.args.out.now)
+      c.is_chunk.result c.is_chunk.ensures c.if-is_chunk.false _ c.next.ensures.counted c.in-Err.error c.in-Err.ensures.injected.0 c.in-Err.ensures.injected.1;
+}
+
+pub alloc-requires-clause-stands : goal.alloc-requires-clause-stands
+alloc-requires-clause-stands g c =
+    (c.args.shared.now.shelf.now, (c.args.shared.now.commons.now, c.requires.between.stands))
+
+pub returns-in-Err-alloc : goal.returns-in-Err-alloc
+returns-in-Err-alloc g c = record {
+  performed = λ session.
+      alloc_refuses c.args.chunk c.args.size false _ _
+      c.requires.between.keeps (g.met.E.Emit.emits_none c.args.out.now)
+      c.is_chunk.result c.is_chunk.ensures c.if-is_chunk.false _ c.next.ensures.counted _ _ c.alloc.result c.in_default.ensures.goes (c.alloc.ensures.alone c.args.shared.now.commons.now)
+      c.in-Err-alloc.refusal _ _ c.in-Err-alloc.is c.alloc.ensures.refused (ap (λ (k : Calls). k.count) c.next.ensures.counted) c.call_error.ensures.memory c.call_error.ensures.own
+      c.alloc.ensures.cause c.alloc.ensures.err_space;
+}
+
+pub returns : goal.returns
+returns g c = record {
+  performed = λ session.
+      alloc_done c.args.chunk c.args.size false _ _
+      c.requires.between.keeps (g.met.E.Emit.emits_none c.args.out.now)
+      c.is_chunk.result c.is_chunk.ensures c.if-is_chunk.false _ c.next.ensures.counted _ _ c.alloc.result c.in_default.ensures.goes (c.alloc.ensures.alone c.args.shared.now.commons.now)
+      _ c.in_default-alloc.is c.alloc.ensures.acted c.alloc.ensures.served c.alloc.ensures.asked;
+}

@@ -1,0 +1,16 @@
+-- The deepest level as steps need it.
+use Rattle.std.specs.Prelude.{◌≡◌, List, [], ◌∷◌, Some}
+use Rattle.pgs_step.specs.declared.ids.OwnerId.{OwnerId}
+use Rattle.addr_space.specs.Space.{Space}
+use Rattle.session_rules.specs.State.{LevelState, level_owner}
+use Rattle.session_rules.specs.Standing.{IsActive}
+use Rattle.session_store.specs.State.{StoreState, session_of}
+
+-- there is a level, and steps can be taken in the deepest
+abbrev pub InActiveLevel : List LevelState → Type 0
+InActiveLevel [] = ⊥
+InActiveLevel (level ∷ levels) = IsActive level
+
+-- the owner of the deepest level
+abbrev pub IsLevelOwner : StoreState → OwnerId → Type 0
+IsLevelOwner store owner = (s : Space) → level_owner (session_of store s) ≡ Some owner.number
