@@ -6,12 +6,15 @@ use Rattle.pgs_step.specs.declared.events.Event.{Event}
 use Rattle.session_rules.specs.Calls.{IsLater}
 use Rattle.session_rules.specs.State.{SessionState}
 use Rattle.session_rules.specs.Transcript.{Course, after_line, after_read, course_by, goes_on}
-use Rattle.session_core.specs.Answers.{Fits}
+use Rattle.session_rules.specs.World.{World, opened}
+use Rattle.session_work.specs.Answers.{Fits}
 use Rattle.pgs_world.specs.Script.{reads, said_in}
 use Rattle.pgs_world.specs.Transcript.{Setting, course_of}
 use Rattle.pgs_world.specs.World.{HaveDescriptors, IsOpening, Run, options_in, setting_of, sessions_in}
 use Rattle.pgs_world.specs.Turns.{GoesOn, TakesTurn, behind}
+use Rattle.pgs_world.specs.Hooks.{TellHooks}
 use Rattle.pgs_world.specs.Loop.{CourseAt, CoursesAre}
+use Rattle.pgs_world.proofs.ToldHooks.{tells_both, tells_none}
 
 -- a later call stays one where fewer were made
 later_le : (w : Option ℕ) (a b : ℕ) → IsLater b w → a ≤ b → IsLater a w
@@ -52,16 +55,18 @@ line_behind w course line goes =
     read ∙ read_behind w course (reads line)
 
 -- one line more
-CourseAt-line : (descriptors : ℕ) (w : Option ℕ) (course : Course) (line : List ℕ) (old new : Run) (before during after : List Event → Type 0) (n : ℕ) (wanted : Bool)
-    → HaveDescriptors descriptors old → CourseAt course descriptors old before n false → TakesTurn (said_in (reads line)) old new during wanted → Fits wanted new.calls.count w
+CourseAt-line : (opening : World) (descriptors : ℕ) (w : Option ℕ) (course : Course) (line : List ℕ) (old new : Run) (before during after : List Event → Type 0) (n : ℕ) (wanted : Bool)
+    → HaveDescriptors descriptors old → CourseAt opening course descriptors old before n false → TakesTurn (said_in (reads line)) old new during wanted → Fits wanted new.calls.count w
     → ((xs ys : List Event) → before xs → during ys → after (xs ++ ys))
-    → CourseAt (after_line reads w line course) descriptors new after (n + 1) wanted
-CourseAt-line descriptors w course line old new before during after n wanted has c t f joins =
+    → CourseAt opening (after_line reads w line course) descriptors new after (n + 1) wanted
+CourseAt-line opening descriptors w course line old new before during after n wanted has c t f joins =
     let goes : GoesOn course (behind w (said_in (reads line)) course) descriptors new during wanted = t.leads descriptors has w course f c.world_is in
-    subst (λ (z : Course). CourseAt z descriptors new after (n + 1) wanted) (sym (line_behind w course line c.wanted_is))
+    subst (λ (z : Course). CourseAt opening z descriptors new after (n + 1) wanted) (sym (line_behind w course line c.wanted_is))
     (record {
       world_is = goes.world_is;
       events = subst after (sym goes.events) (joins course.events goes.more c.events goes.shows);
+      hooks = subst (TellHooks opening (behind w (said_in (reads line)) course).world) (sym goes.events)
+          (tells_both opening course.world (behind w (said_in (reads line)) course).world course.events goes.more c.hooks goes.hooks);
       performed_is = goes.performed_is ∙ ap (λ (k : ℕ). k + 1) c.performed_is;
       wanted_is = goes.wanted_is;
     })
@@ -73,6 +78,7 @@ CoursesAre-start descriptors first emitted opens h w f = record {
       ap (λ (sessions : List SessionState). record { options = options_in descriptors first; sessions = sessions; kinds = first.commons.kinds; shelf = first.shelf; calls = 0 }) (sym opens.sessions)
       ∙ ap (λ (calls : ℕ). record { options = options_in descriptors first; sessions = sessions_in first.stores first.space; kinds = first.commons.kinds; shelf = first.shelf; calls = calls }) (sym opens.calls);
   events = h;
+  hooks = tells_none (opened (options_in descriptors first) first.commons.kinds first.shelf);
   performed_is = refl;
   wanted_is = refl;
 }
@@ -84,14 +90,15 @@ pub CoursesAre-line : (descriptors : ℕ) (setting : Setting) (lines : List (Lis
 CoursesAre-line descriptors setting lines line old new before during after wanted has courses t joins w f =
     let later : IsLater old.calls.count w = fits_later wanted old.calls.count new.calls.count w f t.calls t.counted in
     let count : length lines + 1 ≡ length (lines ++ line ∷ []) = omega (arith, length-append lines (line ∷ [])) in
-    subst (λ (z : Course). CourseAt z descriptors new after (length (lines ++ line ∷ [])) wanted) (sym (course_of-snoc setting w lines line))
-    (subst (λ (k : ℕ). CourseAt (after_line reads w line (course_of setting w lines)) descriptors new after k wanted) count
-    (CourseAt-line descriptors w (course_of setting w lines) line old new before during after (length lines) wanted has (courses w later) t f joins))
+    let start : World = opened setting.options setting.kinds setting.shelf in
+    subst (λ (z : Course). CourseAt start z descriptors new after (length (lines ++ line ∷ [])) wanted) (sym (course_of-snoc setting w lines line))
+    (subst (λ (k : ℕ). CourseAt start (after_line reads w line (course_of setting w lines)) descriptors new after k wanted) count
+    (CourseAt-line start descriptors w (course_of setting w lines) line old new before during after (length lines) wanted has (courses w later) t f joins))
 
-CourseAt-weaker : (descriptors : ℕ) (course : Course) (run : Run) (before after : List Event → Type 0) (k : ℕ) (wanted : Bool) → ((xs : List Event) → before xs → after xs) → CourseAt course descriptors run before k wanted
-    → CourseAt course descriptors run after k wanted
-CourseAt-weaker descriptors course run before after k wanted leads c = record { world_is = c.world_is; events = leads course.events c.events; performed_is = c.performed_is; wanted_is = c.wanted_is }
+CourseAt-weaker : (opening : World) (descriptors : ℕ) (course : Course) (run : Run) (before after : List Event → Type 0) (k : ℕ) (wanted : Bool) → ((xs : List Event) → before xs → after xs) → CourseAt opening course descriptors run before k wanted
+    → CourseAt opening course descriptors run after k wanted
+CourseAt-weaker opening descriptors course run before after k wanted leads c = record { world_is = c.world_is; events = leads course.events c.events; hooks = c.hooks; performed_is = c.performed_is; wanted_is = c.wanted_is }
 
 pub CoursesAre-weaker : (descriptors : ℕ) (setting : Setting) (wanted : Bool) (lines : List (List ℕ)) (run : Run) (before after : List Event → Type 0) → ((xs : List Event) → before xs → after xs)
     → CoursesAre descriptors setting wanted lines run before → CoursesAre descriptors setting wanted lines run after
-CoursesAre-weaker descriptors setting wanted lines run before after leads courses w f = CourseAt-weaker descriptors (course_of setting w lines) run before after (length lines) wanted leads (courses w f)
+CoursesAre-weaker descriptors setting wanted lines run before after leads courses w f = CourseAt-weaker (opened setting.options setting.kinds setting.shelf) descriptors (course_of setting w lines) run before after (length lines) wanted leads (courses w f)

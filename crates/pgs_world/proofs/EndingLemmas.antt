@@ -11,18 +11,20 @@ use Rattle.pgs_step.specs.declared.events.Event.{Event}
 use Rattle.owner_kinds.specs.Kind.{Kind}
 use Rattle.reset_callbacks.specs.ShelfState.{ShelfState}
 use Rattle.session_rules.specs.Transcript.{Course, ended, errors_in, text_of_transcript, transcript_by}
-use Rattle.session_rules.specs.World.{World}
-use Rattle.session_core.specs.Answers.{Fits}
+use Rattle.session_rules.specs.World.{World, opened}
+use Rattle.session_work.specs.Answers.{Fits}
 use Rattle.pgs_world.specs.declared.performing.End.{End}
 use Rattle.pgs_world.specs.declared.performing.End.TheVariants as end
 use Rattle.pgs_world.specs.Transcript.{Setting, course_of, kinds_after, names_of, shelf_after, text_in, transcript, EndsAt}
-use Rattle.pgs_world.specs.World.{HaveDescriptors, Run, world_in}
+use Rattle.pgs_world.specs.World.{HaveDescriptors, Run, all_waiting, sessions_in, world_in}
+use Rattle.pgs_world.specs.Hooks.{HooksAreTold, TellHooks}
 use Rattle.pgs_world.specs.Turns.{AllExit}
 use Rattle.pgs_world.specs.Printing.{Gathering, Shows, Moves, GoesOn, FailsWithin}
 use Rattle.pgs_world.specs.Outcome.{most_bytes, HasGiven, AreWhole, refused_call, IsWhole, IsWanted, IsCutOff, IsTooLong, IsUnwritten}
 use Rattle.pgs_world.specs.Ending.{outcome_of, status_of}
 use Rattle.pgs_world.specs.Loop.{EndIs, AreFront, CourseAt, is_wanted, OnUnwritten}
 use Rattle.pgs_world.proofs.CourseLemmas.{course_of-stopped}
+use Rattle.pgs_world.proofs.ToldHooks.{tells_both, told_in_all}
 
 -- What a sink and the counts show once these events were printed with these names and handed on.
 pub record Printed (names : List (List ℕ)) (written written' : Option (List ℕ)) (faults faults' errors : ℕ) (failed : Bool) (events : List Event) : Type 0 where
@@ -109,6 +111,7 @@ pub record Facts (setting : Setting) (e : End) (n calls errors : ℕ) (failed : 
   pub count : n ≡ length lines
   pub printed : (w : Option ℕ) → Fits (is_wanted e) calls w → Printed (names_of setting.kinds) written written' faults faults' errors failed (transcript setting w lines)
   pub hooks : (w : Option ℕ) → Fits (is_wanted e) calls w → shelf' ≡ shelf_after setting w lines
+  pub told : (w : Option ℕ) → Fits (is_wanted e) calls w → HooksAreTold setting.shelf shelf' (transcript setting w lines)
   pub kinds : (w : Option ℕ) → Fits (is_wanted e) calls w → kinds' ≡ kinds_after setting w lines
   pub stopped : is_wanted e ≡ true → EndsAt setting calls lines n
   pub called : is_wanted e ≡ true → 0 < calls
@@ -214,6 +217,7 @@ module _ (setting : Setting) (n calls errors : ℕ) (left left' written written'
         text = told.text refl;
         errors = told.errors_are;
         hooks = f.hooks None tt ∙ ap (shelf_after setting None) f.how.3;
+        hooks_told = subst (λ (z : List (List ℕ)). HooksAreTold setting.shelf shelf' (transcript setting None z)) f.how.3 (f.told None tt);
         kinds = f.kinds None tt ∙ ap (kinds_after setting None) f.how.3;
         status = status_one errors (errors_in (transcript setting None (lines_of f.bytes))) told.errors_are;
       }
@@ -230,7 +234,7 @@ module _ (setting : Setting) (n calls errors : ℕ) (left left' written written'
   cut_off end.SourceFault false f h =
       let none : Printed (names_of setting.kinds) written written' faults faults' errors false (transcript setting None f.lines) = f.printed None tt in
       let told : Printed (names_of setting.kinds) written written' faults faults' errors false (transcript setting None (ended_lines f.bytes)) = subst (λ (z : List (List ℕ)). Printed (names_of setting.kinds) written written' faults faults' errors false (transcript setting None z)) f.how.2 none in
-      record { bytes = f.bytes; given = f.how.0; short = f.how.1; lines = f.count ∙ ap length f.how.2; text = told.text refl; errors = told.errors_are; hooks = f.hooks None tt ∙ ap (shelf_after setting None) f.how.2; kinds = f.kinds None tt ∙ ap (kinds_after setting None) f.how.2 }
+      record { bytes = f.bytes; given = f.how.0; short = f.how.1; lines = f.count ∙ ap length f.how.2; text = told.text refl; errors = told.errors_are; hooks = f.hooks None tt ∙ ap (shelf_after setting None) f.how.2; hooks_told = subst (λ (z : List (List ℕ)). HooksAreTold setting.shelf shelf' (transcript setting None z)) f.how.2 (f.told None tt); kinds = f.kinds None tt ∙ ap (kinds_after setting None) f.how.2 }
   cut_off end.Whole false f h = absurd (not_by_errors errors 3 (omega arith) h)
   cut_off end.Wanted false f h = absurd (omega (arith, h))
   cut_off end.TooLong false f h = absurd (omega (arith, h))
@@ -241,7 +245,7 @@ module _ (setting : Setting) (n calls errors : ℕ) (left left' written written'
   too_long end.TooLong false f h =
       let none : Printed (names_of setting.kinds) written written' faults faults' errors false (transcript setting None f.lines) = f.printed None tt in
       let told : Printed (names_of setting.kinds) written written' faults faults' errors false (transcript setting None (ended_lines f.bytes)) = subst (λ (z : List (List ℕ)). Printed (names_of setting.kinds) written written' faults faults' errors false (transcript setting None z)) f.how.3 none in
-      record { bytes = f.bytes; over = f.how.0; given = f.how.1; full = f.how.2; lines = f.count ∙ ap length f.how.3; text = told.text refl; errors = told.errors_are; hooks = f.hooks None tt ∙ ap (shelf_after setting None) f.how.3; kinds = f.kinds None tt ∙ ap (kinds_after setting None) f.how.3 }
+      record { bytes = f.bytes; over = f.how.0; given = f.how.1; full = f.how.2; lines = f.count ∙ ap length f.how.3; text = told.text refl; errors = told.errors_are; hooks = f.hooks None tt ∙ ap (shelf_after setting None) f.how.3; hooks_told = subst (λ (z : List (List ℕ)). HooksAreTold setting.shelf shelf' (transcript setting None z)) f.how.3 (f.told None tt); kinds = f.kinds None tt ∙ ap (kinds_after setting None) f.how.3 }
   too_long end.Whole false f h = absurd (not_by_errors errors 6 (omega arith) h)
   too_long end.Wanted false f h = absurd (omega (arith, h))
   too_long end.SourceFault false f h = absurd (omega (arith, h))
@@ -264,6 +268,7 @@ module _ (setting : Setting) (n calls errors : ℕ) (left left' written written'
         text = told.text refl;
         errors = told.errors_are;
         hooks = f.hooks (Some calls) refl ∙ sym (ap (shelf_after setting (Some calls)) f.how.front ∙ shelf-stopped setting calls f.lines f.how.more at.wanted);
+        hooks_told = subst (HooksAreTold setting.shelf shelf') (sym same) (f.told (Some calls) refl);
         kinds = f.kinds (Some calls) refl ∙ sym (ap (kinds_after setting (Some calls)) f.how.front ∙ kinds-stopped setting calls f.lines f.how.more at.wanted);
       }
   wanted end.Whole false f h = absurd (not_by_errors errors 5 (omega arith) h)
@@ -330,6 +335,7 @@ module _ (setting : Setting) (n calls errors : ℕ) (left left' written written'
         defined = λ h. subst (λ (z : List (List ℕ)). EndsAt setting (outcome_of (record { end = e; lines = n }) calls true errors).call z n) (sym same) (stopped_of e f f.lines (f.stopped (is_wanted_of e h)) h);
         errors = told.errors_are ∙ ap (λ (z : List (List ℕ)). errors_in (transcript setting w z)) (sym same);
         hooks = f.hooks w (fits_of e f) ∙ ap (λ (z : List (List ℕ)). shelf_after setting w z) (sym same);
+        hooks_told = subst (λ (z : List (List ℕ)). HooksAreTold setting.shelf shelf' (transcript setting w z)) (sym same) (f.told w (fits_of e f));
         kinds = f.kinds w (fits_of e f) ∙ ap (λ (z : List (List ℕ)). kinds_after setting w z) (sym same);
       }
 
@@ -360,6 +366,18 @@ hooks_of_end descriptors setting w lines a b shown has there ends =
     let left = ends.leads descriptors has (course_of setting w lines) there in
     sym (ap (λ (x : World). x.shelf) left.3)
 
+-- what the transcript tells of them
+pub told_of_end : (descriptors : ℕ) (setting : Setting) (w : Option ℕ) (lines : List (List ℕ)) (a b : Run) (emitted shown : List Event → Type 0) (performed : ℕ) (wanted : Bool) → HaveDescriptors descriptors a
+    → CourseAt (opened setting.options setting.kinds setting.shelf) (course_of setting w lines) descriptors a emitted performed wanted → AllExit a b shown → HooksAreTold setting.shelf b.shelf (transcript setting w lines)
+unfolding transcript transcript_by course_of
+told_of_end descriptors setting w lines a b emitted shown performed wanted has at ends =
+    let course : Course = course_of setting w lines in
+    let start : World = opened setting.options setting.kinds setting.shelf in
+    let left = ends.leads descriptors has course at.world_is in
+    let all : TellHooks start (ended course).world (ended course).events =
+    subst (TellHooks start (ended course).world) (sym left.1) (tells_both start course.world (ended course).world course.events left.0 at.hooks left.4) in
+    told_in_all setting.options setting.kinds setting.shelf (world_in descriptors b) (ended course).events (subst (λ (x : World). TellHooks start x (ended course).events) left.3 all) ends.waiting
+
 -- and the kinds
 pub kinds_of_end : (descriptors : ℕ) (setting : Setting) (w : Option ℕ) (lines : List (List ℕ)) (a b : Run) (shown : List Event → Type 0) → HaveDescriptors descriptors a → (course_of setting w lines).world ≡ world_in descriptors a
     → AllExit a b shown → b.commons.kinds ≡ kinds_after setting w lines
@@ -369,7 +387,7 @@ kinds_of_end descriptors setting w lines a b shown has there ends =
     sym (ap (λ (x : World). x.kinds) left.3)
 
 pub ends_at : (descriptors : ℕ) (setting : Setting) (calls n : ℕ) (wanted : Bool) (lines : List (List ℕ)) (there : Run) (emitted : List Event → Type 0) → wanted ≡ true
-    → CourseAt (course_of setting (Some calls) lines) descriptors there emitted (length lines) wanted → n ≡ length lines → EndsAt setting calls lines n
+    → CourseAt (opened setting.options setting.kinds setting.shelf) (course_of setting (Some calls) lines) descriptors there emitted (length lines) wanted → n ≡ length lines → EndsAt setting calls lines n
 ends_at descriptors setting calls n wanted lines there emitted h c count = record { wanted = c.wanted_is ∙ h; line_is = c.performed_is ∙ sym count }
 
 pub fits_wanted : (wanted : Bool) (calls : ℕ) → wanted ≡ true → Fits wanted calls (Some calls)

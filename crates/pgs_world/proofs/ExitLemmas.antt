@@ -10,9 +10,10 @@ use Rattle.pgs_step.specs.declared.events.What.{What}
 use Rattle.addr_space.specs.Space.{Asks, held, taken}
 use Rattle.owner_kinds.specs.Kind.{Kind}
 use Rattle.reset_callbacks.specs.Hook.{Hook}
+use Rattle.context_rules.specs.Contexts.{Contexts}
+use Rattle.context_rules.specs.Ends.{waiting}
 use Rattle.reset_callbacks.specs.ShelfState.{ShelfState}
 use Rattle.lock_shared.specs.declared.shared_locks.Holding.{Holding}
-use Rattle.lock_shared.specs.Ranked as holding
 use Rattle.session_rules.specs.State.{SessionState, opening}
 use Rattle.session_rules.specs.World.{Around, Scene, World, around, with_scene}
 use Rattle.session_rules.specs.Acts.{Ended}
@@ -26,15 +27,19 @@ use Rattle.session_rules.proofs.EndsStand.{exited_stands}
 use Rattle.session_owners.specs.ResourceState.{owners_of}
 use Rattle.session_store.specs.State.{StoreState, session_of}
 use Rattle.session_store.specs.Calls.{StaysBeside}
-use Rattle.session_core.specs.declared.calls.Calls.{Calls}
+use Rattle.session_work.specs.declared.calls.Calls.{Calls}
 use Rattle.session_core.specs.Lines.{IsBetweenLines}
-use Rattle.session_core.specs.Performed.{Ends, scene_in}
-use Rattle.session_core.proofs.Standing.{empty_around}
+use Rattle.session_core.specs.Ended.{Ends}
+use Rattle.session_work.specs.Performed.{scene_in}
+use Rattle.session_work.proofs.Standing.{empty_around}
 use Rattle.pgs_world.specs.World.{AreStanding, HaveDescriptors, IsOpening, Run, SameRun, one_of, sessions_in, world_in}
+use Rattle.pgs_world.specs.Hooks.{TellHooks}
 use Rattle.pgs_world.specs.Turns.{AllExit}
 use Rattle.pgs_world.proofs.LockLemmas.{others_locked}
-use Rattle.pgs_world.proofs.SessionLemmas.{Changed, each_behind, fit_behind, have_behind, keys_fit_behind, lines_stay, locks_fit_behind, place_set, same_behind, same_on, same_run, session_there, sessions_behind, world_behind}
+use Rattle.pgs_world.proofs.PinLemmas.{others_pinned}
+use Rattle.pgs_world.proofs.SessionLemmas.{Changed, each_behind, fit_behind, have_behind, keys_fit_behind, few_behind, lines_stay, locks_fit_behind, pins_fit_behind, place_set, same_behind, same_on, same_run, session_there, sessions_behind, world_behind}
 use Rattle.pgs_world.proofs.KindLemmas.{gone_holds_none, none_held_together}
+use Rattle.pgs_world.proofs.ToldHooks.{none_waiting, tells_both, tells_none, tells_of_one}
 use Rattle.pgs_world.proofs.TurnLemmas.{took_other, took_own}
 
 -- A course whose lines are done, and where it stands once the sessions before this place have ended.
@@ -46,6 +51,7 @@ pub record Remains (place : ℕ) (descriptors : ℕ) (run : Run) (shown : List E
   pub more : List Event
   pub events : middle.events ≡ course.events ++ more
   pub shows : shown more
+  pub hooks : TellHooks course.world middle.world more
 
 -- the sessions before this place have ended
 pub record HaveExited (place : ℕ) (a run : Run) (shown : List Event → Type 0) : Type 0 where
@@ -53,6 +59,7 @@ pub record HaveExited (place : ℕ) (a run : Run) (shown : List Event → Type 0
   pub calls : run.calls ≡ a.calls
   pub given_back : (account : ℕ) → account < place → held run.space account ≡ 0
   pub gone : (j : ℕ) (store : StoreState) → j < place → slice_get run.stores j ≡ Some store → owners_of store.owners ≡ Empty
+  pub waits : (j : ℕ) (session : SessionState) → j < place → slice_get (sessions_in run.stores run.space) j ≡ Some session → waiting session.contexts ≡ []
   pub asks : (account : ℕ) → taken run.space account ≡ taken a.space account
   pub same : SameRun a run
 
@@ -66,10 +73,12 @@ none_exited a shown h = record {
     more = [];
     events = sym (append-nil course.events);
     shows = h;
+    hooks = tells_none course.world;
   };
   calls = refl;
   given_back = λ account less. absurd (omega (arith, less));
   gone = λ j store less there. absurd (omega (arith, less));
+  waits = λ j session less there. absurd (omega (arith, less));
   asks = λ account. refl;
   same = same_run a;
 }
@@ -115,30 +124,42 @@ module _ (start a b : Run) (place : ℕ) (store left : StoreState) (during : Lis
   abbrev ended_in : World → Ended
   ended_in world = exited (record { session = session_of store a.space; around = around (place + 1) world })
 
-  -- the session there with so many descriptors as its share, where others have locked so much
-  abbrev scene_with : ℕ → ℕ → List Holding → Scene
-  scene_with descriptors own locked = record { session = session_of store a.space; around = record (around (place + 1) (world_in descriptors a)) { descriptors = own; locked = locked } }
+  -- the session in its surroundings, where these are seen so: as many descriptors are its share as its store has, others have locked what is
+  -- held for them, and pin what is counted for them
+  abbrev scene_at : Around → Scene
+  scene_at scene_around = record { session = session_of store a.space; around = scene_around }
 
-  abbrev seen : List Holding
-  seen = holding.beside store.owners.session a.commons.locks
+  abbrev surroundings : ℕ → Around
+  surroundings descriptors = around (place + 1) (world_in descriptors a)
 
-  seen_is : (descriptors : ℕ) → seen ≡ (around (place + 1) (world_in descriptors a)).locked
-  seen_is descriptors = sym (others_locked a place store there standing.each standing.locks (place + 1) refl)
+  seen_is : (descriptors : ℕ) → HaveDescriptors descriptors a → (scene_in (one_of a store) (surroundings descriptors)).around ≡ surroundings descriptors
+  seen_is descriptors has =
+      ap (λ (n : ℕ). record (scene_in (one_of a store) (surroundings descriptors)).around { descriptors = n }) (has place store there)
+      ∙ ap (λ (hs : List Holding). record (surroundings descriptors) { locked = hs; pinned = (scene_in (one_of a store) (surroundings descriptors)).around.pinned })
+      (sym (others_locked a place store there standing.each standing.locks (place + 1) refl))
+      ∙ ap (λ (ns : List ℕ). record (surroundings descriptors) { pinned = ns })
+      (sym (others_pinned a.stores a.space a.commons.pins place store (session_there a place store there) standing.pins (place + 1) refl))
 
   world_is : (descriptors : ℕ) → HaveDescriptors descriptors a → with_scene (place + 1) (ended_in (world_in descriptors a)).scene (world_in descriptors a) ≡ world_in descriptors b
   world_is descriptors has =
-      let here : Around = around (place + 1) (world_in descriptors a) in
+      let here : Around = surroundings descriptors in
       let led : (ended_in (world_in descriptors a)).scene ≡ scene_in (one_of b left) here =
-      subst (λ (hs : List Holding). (exited (scene_with descriptors descriptors hs)).scene ≡ scene_in (one_of b left) here) (seen_is descriptors)
-      (subst (λ (n : ℕ). (exited (scene_with descriptors n seen)).scene ≡ scene_in (one_of b left) here) (has place store there) (ends.acted.leads here)) in
+      subst (λ (x : Around). (exited (scene_at x)).scene ≡ scene_in (one_of b left) here) (seen_is descriptors has) (ends.acted.leads here) in
       ap (λ (s : Scene). with_scene (place + 1) s (world_in descriptors a)) led
       ∙ ap (λ (c : Calls). record (with_scene (place + 1) (scene_in (one_of b left) here) (world_in descriptors a)) { calls = c.count }) (sym ends.calls)
       ∙ world_behind a b place store left change standing.each descriptors (place + 1) here refl
 
   told : (descriptors : ℕ) → HaveDescriptors descriptors a → during (ended_in (world_in descriptors a)).events
-  told descriptors has =
-      subst (λ (hs : List Holding). during (exited (scene_with descriptors descriptors hs)).events) (seen_is descriptors)
-      (subst (λ (n : ℕ). during (exited (scene_with descriptors n seen)).events) (has place store there) (ends.acted.says (around (place + 1) (world_in descriptors a))))
+  told descriptors has = subst (λ (x : Around). during (exited (scene_at x)).events) (seen_is descriptors has) (ends.acted.says (surroundings descriptors))
+
+  -- what its events say of its hooks, and so of those of the run
+  tells : (descriptors : ℕ)
+      → TellHooks (world_in descriptors a) (with_scene (place + 1) (ended_in (world_in descriptors a)).scene (world_in descriptors a)) (of_session (place + 1) (ended_in (world_in descriptors a)).events)
+  tells descriptors =
+      let own : Stands (scene_in (one_of a store) empty_around) = ((standing.lines place store (omega arith) there).stands empty_around).stands in
+      let scene : Scene = record { session = session_of store a.space; around = around (place + 1) (world_in descriptors a) } in
+      tells_of_one (world_in descriptors a) (place + 1) place (world_in descriptors a).calls (session_of store a.space) (ended_in (world_in descriptors a)).scene (ended_in (world_in descriptors a)).events refl
+      (session_there a place store there) (exited_counts_hooks scene (record { once = own.contexts.once; below = own.contexts.below })) own.hooks.out
 
   remains : (descriptors : ℕ) (course : Course) → Remains place descriptors a before course → Remains (place + 1) descriptors b shown course
   remains descriptors course r =
@@ -156,16 +177,22 @@ module _ (start a b : Run) (place : ℕ) (store left : StoreState) (during : Lis
         more = r.more ++ of_session (place + 1) (ended_in r.middle.world).events;
         events = ap (λ (xs : List Event). xs ++ of_session (place + 1) (ended_in r.middle.world).events) r.events ∙ append_assoc course.events r.more (of_session (place + 1) (ended_in r.middle.world).events);
         shows = joins r.more (ended_in r.middle.world).events r.shows (subst (λ (x : World). during (ended_in x).events) (sym r.world_is) (told descriptors r.has));
+        hooks = tells_both course.world r.middle.world next.world r.more (of_session (place + 1) (ended_in r.middle.world).events) r.hooks
+            (subst (λ (x : World). TellHooks x (with_scene (place + 1) (ended_in x).scene x) (of_session (place + 1) (ended_in x).events)) (sym r.world_is) (tells descriptors));
       }
 
-  -- the session's owners are gone
+  -- the session's owners are gone, and no hook waits in it
+  has_exited : HasExited (scene_in (one_of b left) empty_around)
+  has_exited =
+      let own : IsBetweenLines (one_of a store) = standing.lines place store (omega arith) there in
+      subst HasExited (ends.acted.leads empty_around) (exited_stands (scene_in (one_of a store) empty_around) (own.stands empty_around).stands)
+
   left_without_owners : owners_of left.owners ≡ Empty
   unfolding session_of
-  left_without_owners =
-      let own : IsBetweenLines (one_of a store) = standing.lines place store (omega arith) there in
-      let done : HasExited (scene_in (one_of b left) empty_around) =
-      subst HasExited (ends.acted.leads empty_around) (exited_stands (scene_in (one_of a store) empty_around) (own.stands empty_around).stands) in
-      done.owners
+  left_without_owners = has_exited.owners
+
+  left_without_hooks : waiting (session_of left b.space).contexts ≡ []
+  left_without_hooks = ap (λ (contexts : Contexts). waiting contexts) has_exited.contexts
 
   pub one_more_exited : HaveExited place start a before → HaveExited (place + 1) start b shown
   one_more_exited h =
@@ -181,6 +208,11 @@ module _ (start a b : Run) (place : ℕ) (store left : StoreState) (during : Lis
           | inl own ↦ ap (λ (s : StoreState). owners_of s.owners) own.1 ∙ left_without_owners
           | inr other ↦ h.gone j st (omega (arith, less, other.0)) other.1
         ];
+        waits = λ j session less now.
+            elim (place_set (sessions_in a.stores a.space) place (session_of left b.space) j session (ap (λ (all : List SessionState). slice_get all j) (sym (sessions_behind a b place store left change standing.each)) ∙ now)) [
+              | inl own ↦ ap (λ (s : SessionState). waiting s.contexts) own.1 ∙ left_without_hooks
+              | inr other ↦ h.waits j session (omega (arith, less, other.0)) other.1
+            ];
         asks = λ account. elim (cases_eq account store.tree.account) [
           | inl same ↦ took_own account 0 a.space b.space (subst (λ (n : ℕ). n < length a.space.taken) (sym same) own.keeps.agrees.account) (subst (λ (n : ℕ). Asks n 0 a.space b.space) (sym same) ends.asked) ∙ h.asks account
           | inr other ↦ took_other store.tree.account account 0 a.space b.space other ends.asked ∙ h.asks account
@@ -203,11 +235,13 @@ module _ (start a b : Run) (place : ℕ) (store left : StoreState) (during : Lis
     each = each_behind a b place store left change standing.each ends.keeps beside;
     lines = λ j st from now. elim (place_set a.stores place left j st (ap (λ (all : List StoreState). slice_get all j) (sym stores) ∙ now)) [
       | inl own ↦ absurd (omega (arith, own.0, from))
-      | inr other ↦ lines_stay a b place store left change standing.each standing.hooks events_of counts standing.kinds j st other.0 other.1 now (standing.lines j st (omega (arith, from)) other.1)
+      | inr other ↦ lines_stay a b place store left change standing.each standing.hooks events_of counts standing.kinds standing.pins standing.few j st other.0 other.1 now (standing.lines j st (omega (arith, from)) other.1)
     ];
     hooks = fit_behind a b place store left change standing.each standing.hooks events_of counts;
     kinds = keys_fit_behind a b place store left change standing.each standing.kinds;
     locks = locks_fit_behind a b place store left change standing.each standing.locks;
+    pins = pins_fit_behind a b place store left change standing.each standing.pins;
+    few = few_behind a b place store left change standing.each standing.few;
     alike = (standing.alike.0, have_behind a b place store left change standing.each standing.alike.0 standing.alike.1);
   }
 
@@ -222,12 +256,17 @@ all_exited n a b shown all h = record {
         ap (λ (c : Course). c.events) done ∙ r.events,
         r.shows,
         ap (λ (c : Course). c.world) done ∙ r.world_is,
+        subst (λ (c : Course). TellHooks course.world c.world r.more) (sym done) r.hooks,
       );
   calls = h.calls;
   given_back = λ account less. h.given_back account (omega (arith, less, all));
   asks = h.asks;
   none = λ kind key. none_held_together kind key b.stores
       (λ place store there. gone_holds_none kind key store (h.gone place store (omega (arith, all, h.same.sessions, slice_get_within b.stores place store there)) there));
+  waiting = none_waiting (sessions_in b.stores b.space)
+      (λ place session there.
+      let many = length-map b.stores (λ (s : StoreState). session_of s b.space) in
+      h.waits place session (omega (arith, all, h.same.sessions, many, slice_get_within (sessions_in b.stores b.space) place session there)) there);
   same = h.same;
 }
 

@@ -32,16 +32,16 @@ words_together n (session ∷ sessions) =
       sum_by-cons (words_in n) session sessions,
     )
 
-many_together : (sessions : List SessionState) → length (all_waiting sessions) ≡ sum_by many_in sessions
+pub many_together : (sessions : List SessionState) → length (all_waiting sessions) ≡ sum_by many_in sessions
 many_together sessions = length-flat_map (λ (s : SessionState). waiting s.contexts) sessions
 
 -- a session's part of the sum
-part_of : (f : SessionState → ℕ) (sessions : List SessionState) (place : ℕ) (session : SessionState) → slice_get sessions place ≡ Some session → f session ≤ sum_by f sessions
+pub part_of : (f : SessionState → ℕ) (sessions : List SessionState) (place : ℕ) (session : SessionState) → slice_get sessions place ≡ Some session → f session ≤ sum_by f sessions
 part_of f sessions place session there =
     let is : slice_index_or sessions place session ≡ session = get_or_from_slice_get sessions place session session there in
     omega (arith, ap f is, get_or-le-sum_by f sessions place session (slice_get_within sessions place session there))
 
-changed : (f : SessionState → ℕ) (sessions : List SessionState) (place : ℕ) (session left : SessionState) → slice_get sessions place ≡ Some session
+pub changed : (f : SessionState → ℕ) (sessions : List SessionState) (place : ℕ) (session left : SessionState) → slice_get sessions place ≡ Some session
     → sum_by f (slice_set sessions place left) + f session ≡ sum_by f sessions + f left
 changed f sessions place session left there =
     let is : slice_index_or sessions place session ≡ session = get_or_from_slice_get sessions place session session there in

@@ -12,7 +12,7 @@ use Rattle.owner_kinds.specs.KindShelf.{table_of, times_held}
 use Rattle.owner_kinds.specs.KindTable.{IsSound}
 use Rattle.owner_core.specs.Owners.{held}
 use Rattle.lock_local.specs.Locks.{OthersStay}
-use Rattle.session_owners.specs.Commons.{Balances, CommonState, Serves}
+use Rattle.session_owners.specs.Commons.{Balances, CommonState, PinsServe, Serves}
 use Rattle.session_owners.specs.ResourceState.{owners_of}
 use Rattle.session_owners.proofs.Balances.{serves_beside}
 use Rattle.session_store.specs.State.{StoreState, session_of}
@@ -72,9 +72,9 @@ module _ (stores : List StoreState) (place : ℕ) (store left : StoreState) (the
 
 -- The kinds serve each session, also once another one, of that number, has moved.
 pub served_there : (stores : List StoreState) (place : ℕ) (store : StoreState) (c d : CommonState) (n : ℕ) → slice_get stores place ≡ Some store → KindsFit stores d.kinds → table_of d.kinds ≡ table_of c.kinds
-    → store.owners.session ≢ n → OthersStay n c.locks d.locks → Serves store.owners c → Serves store.owners d
-served_there stores place store c d n there fit table other others h =
-    serves_beside store.owners c d n h table (λ kind key from. omega (arith, fit.held kind key from, part_held kind key stores place store there)) other others
+    → store.owners.session ≢ n → OthersStay n c.locks d.locks → PinsServe (owners_of store.owners) d.pins → Serves store.owners c → Serves store.owners d
+served_there stores place store c d n there fit table other others pins h =
+    serves_beside store.owners c d n h table (λ kind key from. omega (arith, fit.held kind key from, part_held kind key stores place store there)) other others pins
 
 -- a kind whose number isn't that of an extension kind holds nothing here
 kept_below : (before after : List Kind) (kind : KindId) (key : ℕ) → nat_lt kind.0 16 ≡ true → times_held after kind key ≡ times_held before kind key

@@ -5,12 +5,15 @@ pub mod ErrorLemmas
 pub mod ExitLemmas
 pub mod HalfLines
 pub mod HookLemmas
+pub mod IdleLemmas
 pub mod KindLemmas
 pub mod LoopLemmas
 pub mod ScriptLemmas
 pub mod LockLemmas
+pub mod PinLemmas
 pub mod SessionLemmas
 pub mod StartLemmas
 pub mod TakenLemmas
+pub mod ToldHooks
 pub mod TurnLemmas
 pub mod WorkedRows

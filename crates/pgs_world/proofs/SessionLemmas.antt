@@ -1,6 +1,6 @@
 -- The sessions of a run, when one of them changes.
-use Rattle.std.proofs.Common.{◌≡◌, ◌≢◌, true, false, ℕ, zero, suc, ◌+◌, ◌-◌, ◌<◌, ◌≤◌, ◌⊎◌, inl, inr, List, [], ◌∷◌, length, map, Some, refl, sym, ap, ◌∙◌, subst, arith}
-use Rattle.std.specs.Prelude.{All, slice_get, slice_set, replicate}
+use Rattle.std.proofs.Common.{◌≡◌, ◌≢◌, true, false, ◌^◌, ℕ, zero, suc, ◌+◌, ◌-◌, ◌<◌, ◌≤◌, ◌⊎◌, inl, inr, List, [], ◌∷◌, length, map, Some, refl, sym, ap, ◌∙◌, subst, arith}
+use Rattle.std.specs.Prelude.{All, slice_get, slice_index, slice_set, replicate}
 use Rattle.std.proofs.lemmas.List.Elements.{All-nil}
 use Rattle.std.specs.Option.{option_map}
 use Rattle.std.proofs.lemmas.List.{length-set, map-set}
@@ -30,11 +30,13 @@ use Rattle.session_rules.proofs.OpeningStands.{opening_stands}
 use Rattle.session_store.specs.State.{StoreState, session_of}
 use Rattle.session_store.specs.Calls.{Keeps, StaysBeside}
 use Rattle.session_core.specs.Lines.{IsBetweenLines}
-use Rattle.session_core.specs.Performed.{scene_in}
+use Rattle.session_work.specs.Performed.{scene_in}
 use Rattle.session_core.proofs.Opened.{opened_lines}
-use Rattle.pgs_world.specs.World.{AreStanding, HaveDescriptors, HooksFit, IsHeld, IsOpening, KindsFit, LocksFit, Run, SameRun, all_waiting, held_by_all, one_of, options_in, sessions_in, world_in}
+use Rattle.pgs_world.specs.World.{AreStanding, HaveDescriptors, HooksFit, IsHeld, IsOpening, KindsFit, LocksFit, PinsFit, Run, SameRun, all_waiting, held_by_all, one_of, options_in, sessions_in, world_in}
 use Rattle.pgs_world.specs.Turns.{AreOpened}
 use Rattle.pgs_world.proofs.HookLemmas.{hooks_behind, hooks_of_one}
+use Rattle.pgs_world.proofs.ToldHooks.{none_wait}
+use Rattle.pgs_world.proofs.PinLemmas.{no_pins, pins_behind, pins_opened, pins_serve}
 use Rattle.pgs_world.proofs.KindLemmas.{gone_holds_none, keys_behind, kinds_behind, none_held_together, opening_owns, served_there}
 
 pub same_run : (a : Run) → SameRun a a
@@ -156,6 +158,15 @@ module _ (a b : Run) (place : ℕ) (store left : StoreState) (c : Changed a b pl
       as_before n many (inl zero_is) = inl zero_is
       as_before n many (inr more) = inr (omega (arith, many, more))
 
+  -- each buffer is counted for those that pin it
+  pub pins_fit_behind : PinsFit a.stores a.commons.pins → PinsFit b.stores b.commons.pins
+  pins_fit_behind h =
+      subst (λ (stores : List StoreState). PinsFit stores b.commons.pins) (sym c.stores)
+      (pins_behind a.stores place store left a.commons b.commons c.there c.balances h)
+
+  pub few_behind : length a.stores ≤ 64 → length b.stores ≤ 64
+  few_behind few = omega (arith, few, same_behind.sessions)
+
   -- each session has as many descriptors as before
   pub have_behind : (descriptors : ℕ) → HaveDescriptors descriptors a → HaveDescriptors descriptors b
   have_behind descriptors h j st there = elim (place_set a.stores place left j st (ap (λ (stores : List StoreState). slice_get stores j) (sym c.stores) ∙ there)) [
@@ -207,14 +218,14 @@ module _ (a b : Run) (place : ℕ) (store left : StoreState) (c : Changed a b pl
         (hooks_behind (sessions_in a.stores a.space) a.shelf b.shelf place (session_of store a.space) (session_of left b.space) events (session_there a place store c.there) counts hooks)
 
     -- another session stays between two lines
-    pub lines_stay : KindsFit a.stores a.commons.kinds → (j : ℕ) (st : StoreState) → j ≢ place → slice_get a.stores j ≡ Some st → slice_get b.stores j ≡ Some st → IsBetweenLines (one_of a st) → IsBetweenLines (one_of b st)
-    lines_stay kinds j st other there now h =
+    pub lines_stay : KindsFit a.stores a.commons.kinds → PinsFit a.stores a.commons.pins → length a.stores ≤ 64 → (j : ℕ) (st : StoreState) → j ≢ place → slice_get a.stores j ≡ Some st → slice_get b.stores j ≡ Some st → IsBetweenLines (one_of a st) → IsBetweenLines (one_of b st)
+    lines_stay kinds pins few j st other there now h =
         let stays = other_stays j st other there in
         let fit = hooks_of_one (sessions_in b.stores b.space) b.shelf j (session_of st b.space) (session_there b j st now) fit_behind in
         record {
           keeps = stays.0;
           serves = served_there b.stores j st a.commons b.commons store.owners.session now (keys_fit_behind kinds) c.balances.table
-              (other_number j st other there) c.balances.locks.others h.serves;
+              (other_number j st other there) c.balances.locks.others (pins_serve b.stores b.commons.pins (pins_fit_behind pins) (omega (arith, few_behind few)) j st now) h.serves;
           stands = λ scene_around.
               let was : StandsBetweenLines (scene_in (one_of a st) scene_around) = h.stands scene_around in
               subst (λ (session : SessionState). StandsBetweenLines (record { session = session; around = (scene_in (one_of b st) scene_around).around })) (sym stays.1)
@@ -223,11 +234,6 @@ module _ (a b : Run) (place : ℕ) (store left : StoreState) (c : Changed a b pl
         }
 
 -- Sessions as they were started stand, where the hooks of the shelf differ.
-none_wait : (n : ℕ) → all_waiting (replicate n opening) ≡ []
-unfolding opening
-none_wait zero = refl
-none_wait (suc n) = none_wait n
-
 opened_sessions : (stores : List StoreState) (s : Space) → ((place : ℕ) (store : StoreState) → slice_get stores place ≡ Some store → session_of store s ≡ opening) → sessions_in stores s ≡ replicate (length stores) opening
 opened_sessions [] s h = refl
 opened_sessions (store ∷ stores) s h =
@@ -259,14 +265,15 @@ no_locks = record { in_order = tt; owned = All-nil (λ (l : Lock). has_owner l �
 none_locked : (shared : List Holding) → shared ≡ [] → (o : ℕ) (m : Mode) (n : ℕ) → holds shared o m n ≡ false
 none_locked shared e o m n = ap (λ (hs : List Holding). holds hs o m n) e
 
-pub opened_standing : (descriptors : ℕ) (before : Space) (run : Run) → AreOpened descriptors before run.stores run.space → AreDistinct (shelf.held run.shelf) → IsSound (table_of run.commons.kinds) → run.commons.locks ≡ [] → AreStanding 0 run
-opened_standing descriptors before run opened differ sound unlocked =
+pub opened_standing : (descriptors : ℕ) (before : Space) (run : Run) → AreOpened descriptors before run.stores run.space → AreDistinct (shelf.held run.shelf) → IsSound (table_of run.commons.kinds) → run.commons.locks ≡ [] → run.commons.pins ≡ replicate 1024 0 → length run.stores ≤ 64 → AreStanding 0 run
+opened_standing descriptors before run opened differ sound unlocked unpinned few =
     let sessions = opened_sessions run.stores run.space (λ place store there. (opened.each place store there).session) in
     record {
       each = λ place store there. let o = opened.each place store there in record { keeps = o.keeps; account = o.account; number = o.number; beside = o.beside };
       lines = λ place store from there.
           let o = opened.each place store there in
-          opened_lines (one_of run store) o.session o.keeps (serves_nothing store.owners run.commons (opening_owns store run.space o.session) sound (opening_locks store run.space o.session) (λ o m. none_locked run.commons.locks unlocked o m store.owners.session))
+          opened_lines (one_of run store) o.session o.keeps (serves_nothing store.owners run.commons (opening_owns store run.space o.session) sound (opening_locks store run.space o.session) (λ o m. none_locked run.commons.locks unlocked o m store.owners.session)
+          (λ buffer. omega (arith, ap (λ (xs : List ℕ). slice_index xs buffer) unpinned, no_pins buffer)))
           (λ scene_around.
           let stands = opening_stands (scene_in (one_of run store) scene_around).around differ sound in
           (subst (λ (session : SessionState). StandsBetweenLines (record { session = session; around = (scene_in (one_of run store) scene_around).around })) (sym o.session) stands).stands);
@@ -285,5 +292,7 @@ opened_standing descriptors before run opened differ sound unlocked =
         in_order = λ place store there. subst AreLocks (sym (opening_locks store run.space (opened.each place store there).session)) no_locks;
         none = λ o m n past. none_locked run.commons.locks unlocked o m n;
       };
+      pins = pins_opened run.stores run.commons.pins (λ place store there. opening_owns store run.space (opened.each place store there).session) unpinned;
+      few = few;
       alike = (descriptors, opened_have descriptors before run opened);
     }

@@ -12,7 +12,7 @@ use Rattle.session_rules.specs.State.{opening}
 use Rattle.session_store.specs.State.{StoreState}
 use Rattle.reset_callbacks.specs.ShelfState.{ShelfState}
 use Rattle.session_owners.specs.Commons.{CommonState}
-use Rattle.session_core.specs.declared.calls.Calls.{Calls}
+use Rattle.session_work.specs.declared.calls.Calls.{Calls}
 use Rattle.pgs_world.specs.Outcome.{TakesAll, TakesAsked}
 use Rattle.pgs_world.specs.Transcript.{Setting}
 use Rattle.pgs_world.specs.World.{setting_of}

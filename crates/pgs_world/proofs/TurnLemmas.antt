@@ -11,26 +11,31 @@ use Rattle.pgs_step.specs.declared.events.What.TheVariants as what
 use Rattle.addr_space.specs.Space.{Asks, Space, risen, taken}
 use Rattle.addr_space.proofs.Asked.{raised-set}
 use Rattle.lock_shared.specs.declared.shared_locks.Holding.{Holding}
-use Rattle.lock_shared.specs.Ranked as holding
 use Rattle.session_rules.specs.State.{SessionState}
 use Rattle.session_rules.specs.World.{Around, Moment, World, around, moment, session_at, with_scene}
 use Rattle.session_rules.specs.Transcript.{Course, Turn, after_command, after_turn, missing, of_session, turn}
 use Rattle.session_rules.specs.Asked.{asked_by_command, asked_by_turn}
 use Rattle.session_rules.specs.HookCounts.{CountsHooks, HooksCounted}
 use Rattle.session_rules.proofs.Asking.{other_line, own_line}
+use Rattle.session_rules.specs.Standing.{StandsBetweenLines}
 use Rattle.session_rules.proofs.HookLaws.{turn_counts_hooks}
+use Rattle.session_rules.proofs.HookSums.{more_runs, none_run}
+use Rattle.session_rules.proofs.Standings.{stands_between_elsewhere}
 use Rattle.session_store.specs.State.{StoreState, session_of}
 use Rattle.session_store.specs.Calls.{StaysBeside}
-use Rattle.session_core.specs.Answers.{Fits}
+use Rattle.session_work.specs.Answers.{Fits}
 use Rattle.session_core.specs.Lines.{IsBetweenLines}
-use Rattle.session_core.specs.Performed.{Takes, scene_in}
+use Rattle.session_work.specs.Performed.{Takes, scene_in}
 use Rattle.session_core.specs.Turns.{Turned, moment_in}
-use Rattle.session_core.proofs.Standing.{empty_around, fitting, fitting_fits}
+use Rattle.session_work.proofs.Standing.{empty_around, fitting, fitting_fits}
 use Rattle.pgs_world.specs.declared.lines.Said.{Said}
 use Rattle.pgs_world.specs.World.{AreStanding, HaveDescriptors, Run, one_of, sessions_in, world_in}
+use Rattle.pgs_world.specs.Hooks.{TellHooks}
 use Rattle.pgs_world.specs.Turns.{GoesOn, IsWithin, TakesTurn}
 use Rattle.pgs_world.proofs.LockLemmas.{others_locked}
-use Rattle.pgs_world.proofs.SessionLemmas.{Changed, each_behind, fit_behind, have_behind, keys_fit_behind, lines_stay, locks_fit_behind, place_set, same_behind, same_run, session_there, world_behind}
+use Rattle.pgs_world.proofs.PinLemmas.{others_pinned}
+use Rattle.pgs_world.proofs.ToldHooks.{tells_nothing, tells_of_one}
+use Rattle.pgs_world.proofs.SessionLemmas.{Changed, each_behind, fit_behind, have_behind, keys_fit_behind, few_behind, lines_stay, locks_fit_behind, pins_fit_behind, place_set, same_behind, same_run, session_there, world_behind}
 
 -- the session of a number
 pub at_place : (n place : ℕ) (world : World) → n ≡ place + 1 → session_at n world ≡ slice_get world.sessions place
@@ -73,6 +78,7 @@ module _ (a : Run) (said : Said) (shown : List Event → Type 0) (past : length 
           more = of_session said.session (what.Error (missing said.command) ∷ []);
           events = refl;
           shows = shows;
+          hooks = tells_nothing course.world said.session (what.Error (missing said.command) ∷ []) (more_runs (what.Error (missing said.command)) refl none_run);
           performed_is = refl;
           wanted_is = refl;
         } in
@@ -123,44 +129,46 @@ module _ (a b : Run) (place : ℕ) (store left : StoreState) (said : Said) (duri
   there_in : (descriptors : ℕ) (course : Course) → course.world ≡ world_in descriptors a → session_at said.session course.world ≡ Some (session_of store a.space)
   there_in descriptors course e = ap (session_at said.session) e ∙ at_place said.session place (world_in descriptors a) number ∙ session_there a place store there
 
-  -- the session in its surroundings, as the rules see it before the line; as many descriptors are its share as its store has, and others
-  -- have locked what is held for them
-  abbrev moment_with : ℕ → ℕ → List Holding → Moment
-  moment_with descriptors own locked = record {
-    scene = record { session = session_of store a.space; around = record (surroundings descriptors) { descriptors = own; locked = locked } };
-    calls = a.calls.count;
-    fail = a.calls.fail;
-  }
+  -- the session in its surroundings, as the rules see it before the line, where these are seen so
+  abbrev moment_at : Around → Moment
+  moment_at scene_around = record { scene = record { session = session_of store a.space; around = scene_around }; calls = a.calls.count; fail = a.calls.fail }
 
   module _ (descriptors : ℕ) (has : HaveDescriptors descriptors a) (w : Option ℕ) (f : Fits wanted b.calls.count w) where
-    own_number : store.owners.descriptors ≡ descriptors
-    own_number = has place store there
-
-    abbrev seen : List Holding
-    seen = holding.beside store.owners.session a.commons.locks
-
-    seen_is : seen ≡ (surroundings descriptors).locked
-    seen_is = sym (others_locked a place store there standing.each standing.locks said.session number)
+    -- as many descriptors are its share as its store has, others have locked what is held for them, and pin what is counted for them
+    seen_is : (scene_in (one_of a store) (surroundings descriptors)).around ≡ surroundings descriptors
+    seen_is =
+        ap (λ (n : ℕ). record (scene_in (one_of a store) (surroundings descriptors)).around { descriptors = n }) (has place store there)
+        ∙ ap (λ (hs : List Holding). record (surroundings descriptors) { locked = hs; pinned = (scene_in (one_of a store) (surroundings descriptors)).around.pinned })
+        (sym (others_locked a place store there standing.each standing.locks said.session number))
+        ∙ ap (λ (ns : List ℕ). record (surroundings descriptors) { pinned = ns })
+        (sym (others_pinned a.stores a.space a.commons.pins place store (session_there a place store there) standing.pins said.session number))
 
     led : (turn_in w (world_in descriptors a)).moment ≡ moment_in (one_of b left) (surroundings descriptors)
-    led =
-        subst (λ (hs : List Holding). (turn w said.command (moment_with descriptors descriptors hs)).moment ≡ moment_in (one_of b left) (surroundings descriptors)) seen_is
-        (subst (λ (n : ℕ). (turn w said.command (moment_with descriptors n seen)).moment ≡ moment_in (one_of b left) (surroundings descriptors)) own_number (turned.moment (surroundings descriptors) w f))
+    led = subst (λ (x : Around). (turn w said.command (moment_at x)).moment ≡ moment_in (one_of b left) (surroundings descriptors)) seen_is (turned.moment (surroundings descriptors) w f)
 
     told : during (turn_in w (world_in descriptors a)).events
-    told =
-        subst (λ (hs : List Holding). during (turn w said.command (moment_with descriptors descriptors hs)).events) seen_is
-        (subst (λ (n : ℕ). during (turn w said.command (moment_with descriptors n seen)).events) own_number (turned.says (surroundings descriptors) w f))
+    told = subst (λ (x : Around). during (turn w said.command (moment_at x)).events) seen_is (turned.says (surroundings descriptors) w f)
 
     wants : (turn_in w (world_in descriptors a)).wanted ≡ wanted
-    wants =
-        subst (λ (hs : List Holding). (turn w said.command (moment_with descriptors descriptors hs)).wanted ≡ wanted) seen_is
-        (subst (λ (n : ℕ). (turn w said.command (moment_with descriptors n seen)).wanted ≡ wanted) own_number (turned.wanted_is (surroundings descriptors) w f))
+    wants = subst (λ (x : Around). (turn w said.command (moment_at x)).wanted ≡ wanted) seen_is (turned.wanted_is (surroundings descriptors) w f)
 
     took_of : Takes wanted store.tree.account (asked_by_turn w said.command (moment said.session (session_of store a.space) (world_in descriptors a))) a.space b.space
-    took_of =
-        subst (λ (hs : List Holding). Takes wanted store.tree.account (asked_by_turn w said.command (moment_with descriptors descriptors hs)) a.space b.space) seen_is
-        (subst (λ (n : ℕ). Takes wanted store.tree.account (asked_by_turn w said.command (moment_with descriptors n seen)) a.space b.space) own_number (turned.taken (surroundings descriptors) w f))
+    took_of = subst (λ (x : Around). Takes wanted store.tree.account (asked_by_turn w said.command (moment_at x)) a.space b.space) seen_is (turned.taken (surroundings descriptors) w f)
+
+  -- what its events say of its hooks, and so of those of the run
+  stands_there : (descriptors : ℕ) → StandsBetweenLines (moment said.session (session_of store a.space) (world_in descriptors a)).scene
+  stands_there descriptors =
+      let own : StandsBetweenLines (scene_in (one_of a store) empty_around) = (standing.lines place store (omega arith) there).stands empty_around in
+      stands_between_elsewhere (session_of store a.space) (scene_in (one_of a store) empty_around).around (surroundings descriptors) own.stands.hooks refl own
+
+  tells : (descriptors : ℕ) (w : Option ℕ)
+      → TellHooks (world_in descriptors a) (record (with_scene said.session (turn_in w (world_in descriptors a)).moment.scene (world_in descriptors a)) { calls = (turn_in w (world_in descriptors a)).moment.calls })
+      (of_session said.session (turn_in w (world_in descriptors a)).events)
+  tells descriptors w =
+      tells_of_one (world_in descriptors a) said.session place (turn_in w (world_in descriptors a)).moment.calls (session_of store a.space) (turn_in w (world_in descriptors a)).moment.scene
+      (turn_in w (world_in descriptors a)).events number (session_there a place store there)
+      (turn_counts_hooks w said.command (moment said.session (session_of store a.space) (world_in descriptors a)) (stands_there descriptors))
+      (stands_there descriptors).stands.hooks.out
 
   goes_on : (descriptors : ℕ) → HaveDescriptors descriptors a → (w : Option ℕ) (course : Course) → Fits wanted b.calls.count w → course.world ≡ world_in descriptors a
       → GoesOn course (after_turn course said.session (turn_in w course.world)) descriptors b shown wanted
@@ -172,6 +180,9 @@ module _ (a b : Run) (place : ℕ) (store left : StoreState) (said : Said) (duri
     more = of_session said.session (turn_in w course.world).events;
     events = refl;
     shows = shows _ (subst (λ (x : World). during (turn_in w x).events) (sym e) (told descriptors has w f));
+    hooks =
+        subst (λ (x : World). TellHooks x (record (with_scene said.session (turn_in w x).moment.scene x) { calls = (turn_in w x).moment.calls }) (of_session said.session (turn_in w x).events)) (sym e)
+        (tells descriptors w);
     performed_is = refl;
     wanted_is = ap (λ (x : World). (turn_in w x).wanted) e ∙ wants descriptors has w f;
   }
@@ -246,10 +257,12 @@ module _ (a b : Run) (place : ℕ) (store left : StoreState) (said : Said) (duri
     each = each_behind a b place store left change standing.each lines.keeps beside;
     lines = λ j st from now. elim (place_set a.stores place left j st (ap (λ (all : List StoreState). slice_get all j) (sym stores) ∙ now)) [
       | inl own ↦ subst (λ (s : StoreState). IsBetweenLines (one_of b s)) (sym own.1) lines
-      | inr other ↦ lines_stay a b place store left change standing.each standing.hooks events_of counts standing.kinds j st other.0 other.1 now (standing.lines j st from other.1)
+      | inr other ↦ lines_stay a b place store left change standing.each standing.hooks events_of counts standing.kinds standing.pins standing.few j st other.0 other.1 now (standing.lines j st from other.1)
     ];
     hooks = fit_behind a b place store left change standing.each standing.hooks events_of counts;
     kinds = keys_fit_behind a b place store left change standing.each standing.kinds;
     locks = locks_fit_behind a b place store left change standing.each standing.locks;
+    pins = pins_fit_behind a b place store left change standing.each standing.pins;
+    few = few_behind a b place store left change standing.each standing.few;
     alike = (standing.alike.0, have_behind a b place store left change standing.each standing.alike.0 standing.alike.1);
   }

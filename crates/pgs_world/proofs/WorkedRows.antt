@@ -7,7 +7,7 @@ use Rattle.pgs_step.specs.Text.{text_of, what_text, kind_name, error_text}
 use Rattle.pgs_command.specs.Lines.{read_line}
 use Rattle.pgs_command.specs.Table as table
 use Rattle.pgs_command.specs.Words.{words_of}
-use Rattle.pgs_command.specs.Values.{number_between, mode_of, name_of, kind_of}
+use Rattle.pgs_command.specs.Values.{class_of, number_between, mode_of, name_of, kind_of}
 use Rattle.chunk_header.specs.Growth.{up8, grown, doubled}
 use Rattle.alloc_set.specs.Ledger as set
 use Rattle.context_rules.specs.Names.{is_reserved}
@@ -52,7 +52,7 @@ unfolding text_of what_text kind_name error_text digits read_line table.command_
 no_such_buffer = refl
 
 -- lines that aren't performed yet, and a line with a prefix
-pub bad_lines : told 0 (codes "begin" ∷ codes "plan 5" ∷ codes "report" ∷ codes "pin 1" ∷ codes "@1 rollback" ∷ codes "rollback" ∷ [])
+pub bad_lines : told 0 (codes "begin" ∷ codes "plan 5" ∷ codes "planref 5" ∷ codes "pin 1" ∷ codes "@1 rollback" ∷ codes "rollback" ∷ [])
     ≡ codes "1 begin level 1\n1 create c6 TopTransactionContext in c1\n1 owner o1\n1 ok\n1 ERROR 42601 syntax error\n1 abort level 1\n1 ERROR 42601 syntax error\n1 ERROR 25P02 transaction is aborted\n1 cleanup level 1\n1 owner o1 gone\n1 delete c6\n1 ok\n1 warning there is no transaction in progress\n1 ok\n1 delete c5\n1 delete c4\n1 delete c3\n1 delete c2\n1 delete c1\n1 exit\n"
 unfolding text_of what_text kind_name error_text digits read_line table.command_of words_of number_between mode_of name_of kind_of is_reserved row_of reads opening elements_of does does_all recovered exited turn course_by transcript_by transcript set.created set.stats set.take set.take_class set.take_own set.chunk_limit set.limit_class set.class_of set.class_up_to set.cut_off set.reused set.from_new set.block_size set.halved set.halved_by set.renewed set.cut_up set.cut_rest set.with_own up8 grown doubled
 bad_lines = refl
@@ -98,3 +98,15 @@ pub registered : told 0 (codes "begin" ∷ codes "snapshot 3" ∷ codes "snapsho
     ≡ codes "1 begin level 1\n1 create c6 TopTransactionContext in c1\n1 owner o1\n1 ok\n1 acquire snapshot reference 3 #1 o1\n1 ok\n1 acquire snapshot reference 3 #2 o1\n1 ok\n1 release snapshot reference 3 #2 o1\n1 ok\n1 ERROR 55000 not held by this owner\n1 abort level 1\n1 release snapshot reference 3 #1 o1\n1 cleanup level 1\n1 owner o1 gone\n1 delete c6\n1 delete c5\n1 delete c4\n1 delete c3\n1 delete c2\n1 delete c1\n1 exit\n"
 unfolding text_of what_text kind_name error_text digits read_line table.command_of words_of number_between mode_of name_of kind_of is_reserved row_of reads opening elements_of does does_all recovered exited turn course_by transcript_by transcript set.created set.stats set.take set.take_class set.take_own set.chunk_limit set.limit_class set.class_of set.class_up_to set.cut_off set.reused set.from_new set.block_size set.halved set.halved_by set.renewed set.cut_up set.cut_rest set.with_own up8 grown doubled
 registered = refl
+
+-- two sessions pin a buffer, one of them twice
+pub pinned_by_two : told_of_two (codes "begin" ∷ codes "pin 7" ∷ codes "pin 7" ∷ codes "@2 begin" ∷ codes "@2 pin 7" ∷ codes "buffer 7" ∷ [])
+    ≡ codes "1 begin level 1\n1 create c6 TopTransactionContext in c1\n1 owner o1\n1 ok\n1 acquire buffer pin 7 #1 o1\n1 ok\n1 acquire buffer pin 7 #2 o1\n1 ok\n2 begin level 1\n2 create c6 TopTransactionContext in c1\n2 owner o1\n2 ok\n2 acquire buffer pin 7 #1 o1\n2 ok\n1 buffer 7 pinned by 2\n1 ok\n1 abort level 1\n1 release buffer pin 7 #2 o1\n1 release buffer pin 7 #1 o1\n1 cleanup level 1\n1 owner o1 gone\n1 delete c6\n1 delete c5\n1 delete c4\n1 delete c3\n1 delete c2\n1 delete c1\n1 exit\n2 abort level 1\n2 release buffer pin 7 #1 o1\n2 cleanup level 1\n2 owner o1 gone\n2 delete c6\n2 delete c5\n2 delete c4\n2 delete c3\n2 delete c2\n2 delete c1\n2 exit\n"
+unfolding text_of what_text kind_name error_text digits read_line table.command_of words_of number_between mode_of name_of kind_of is_reserved row_of reads opening elements_of does does_all recovered exited turn course_by transcript_by transcript set.created set.stats set.take set.take_class set.take_own set.chunk_limit set.limit_class set.class_of set.class_up_to set.cut_off set.reused set.from_new set.block_size set.halved set.halved_by set.renewed set.cut_up set.cut_rest set.with_own up8 grown doubled
+pinned_by_two = refl
+
+-- active snapshots: those of a level that commits belong to the one above
+pub pushed : told 0 (codes "begin" ∷ codes "push 4" ∷ codes "savepoint s" ∷ codes "push 5" ∷ codes "release s" ∷ codes "pop" ∷ codes "ref tupdesc 6" ∷ codes "stat" ∷ [])
+    ≡ codes "1 begin level 1\n1 create c6 TopTransactionContext in c1\n1 owner o1\n1 ok\n1 push 4\n1 ok\n1 begin level 2\n1 create c7 CurTransactionContext in c6\n1 owner o2 in o1\n1 ok\n1 push 5\n1 ok\n1 commit level 2\n1 owner o2 gone\n1 delete c7\n1 ok\n1 pop 5\n1 ok\n1 acquire tuple descriptor reference 6 #1 o1\n1 ok\n1 stat pins 0 files 0 descriptors 0 locks 0 snapshots 1 plans 0 refs 1 owners 1 contexts 6\n1 ok\n1 abort level 1\n1 release tuple descriptor reference 6 #1 o1\n1 pop 4\n1 cleanup level 1\n1 owner o1 gone\n1 delete c6\n1 delete c5\n1 delete c4\n1 delete c3\n1 delete c2\n1 delete c1\n1 exit\n"
+unfolding text_of what_text kind_name error_text digits read_line table.command_of words_of number_between mode_of class_of name_of kind_of is_reserved row_of reads opening elements_of does does_all recovered exited turn course_by transcript_by transcript set.created set.stats set.take set.take_class set.take_own set.chunk_limit set.limit_class set.class_of set.class_up_to set.cut_off set.reused set.from_new set.block_size set.halved set.halved_by set.renewed set.cut_up set.cut_rest set.with_own up8 grown doubled
+pushed = refl

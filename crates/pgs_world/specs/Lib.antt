@@ -1,6 +1,7 @@
 pub mod Script
 pub mod Transcript
 pub mod World
+pub mod Hooks
 pub mod Turns
 pub mod Printing
 pub mod PrintingLaws

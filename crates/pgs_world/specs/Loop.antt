@@ -5,7 +5,8 @@ use Rattle.pgs_io.specs.Lines.{lines_of, ended_lines}
 use Rattle.pgs_io.specs.Reading.{Reading, HasRead}
 use Rattle.pgs_step.specs.declared.events.Event.{Event}
 use Rattle.session_rules.specs.Transcript.{Course}
-use Rattle.session_core.specs.Answers.{Fits}
+use Rattle.session_rules.specs.World.{World, opened}
+use Rattle.session_work.specs.Answers.{Fits}
 use Rattle.session_rules.specs.Asked.{asked_by}
 use Rattle.addr_space.specs.Space.{risen, taken}
 use Rattle.pgs_world.specs.Script.{reads}
@@ -14,6 +15,7 @@ use Rattle.pgs_world.specs.declared.performing.End.TheVariants as end
 use Rattle.pgs_world.specs.declared.performing.Ended.{Ended}
 use Rattle.pgs_world.specs.Transcript.{Setting, course_of}
 use Rattle.pgs_world.specs.World.{HaveDescriptors, Run, SameRun, setting_of, world_in}
+use Rattle.pgs_world.specs.Hooks.{TellHooks}
 use Rattle.pgs_world.specs.Turns.{IsWithin}
 use Rattle.pgs_world.specs.Outcome.{HasGiven, most_bytes}
 
@@ -29,16 +31,17 @@ abbrev pub is_wanted_in : Option End → Bool
 is_wanted_in None = false
 is_wanted_in (Some end) = is_wanted end
 
--- A course led to this run by events that were emitted.
-pub record CourseAt (course : Course) (descriptors : ℕ) (run : Run) (emitted : List Event → Type 0) (performed : ℕ) (wanted : Bool) : Type 0 where
+-- A course led from its opening to this run by events that were emitted, which tell what became of the hooks.
+pub record CourseAt (opening : World) (course : Course) (descriptors : ℕ) (run : Run) (emitted : List Event → Type 0) (performed : ℕ) (wanted : Bool) : Type 0 where
   pub world_is : course.world ≡ world_in descriptors run
   pub events : emitted course.events
+  pub hooks : TellHooks opening course.world course.events
   pub performed_is : course.performed ≡ performed
   pub wanted_is : course.wanted ≡ wanted
 
 -- The lines led to this run by events that were emitted, whichever later call is refused for want of memory; or, where they met a want, by the refusal of the last call.
 abbrev pub CoursesAre : ℕ → Setting → Bool → List (List ℕ) → Run → (List Event → Type 0) → Type 0
-CoursesAre descriptors setting wanted lines run emitted = (w : Option ℕ) → Fits wanted run.calls.count w → CourseAt (course_of setting w lines) descriptors run emitted (length lines) wanted
+CoursesAre descriptors setting wanted lines run emitted = (w : Option ℕ) → Fits wanted run.calls.count w → CourseAt (opened setting.options setting.kinds setting.shelf) (course_of setting w lines) descriptors run emitted (length lines) wanted
 
 -- Each account took what the lines ask for the session that counts for it, whichever later call is refused for want of memory.
 abbrev pub TakesLines : Setting → List (List ℕ) → Run → Run → Type 0

@@ -13,6 +13,7 @@ use Rattle.addr_space.specs.Space.{Space, risen, taken}
 use Rattle.session_rules.specs.Asked.{asked_by, asked_in_all}
 use Rattle.session_rules.specs.Transcript.{errors_in}
 use Rattle.pgs_world.specs.Script.{reads}
+use Rattle.pgs_world.specs.Hooks.{HooksAreTold}
 use Rattle.pgs_world.specs.Transcript.{Setting, transcript, kinds_after, shelf_after, text_in, EndsAt}
 
 -- the most bytes that a script has
@@ -35,7 +36,8 @@ HasGiven taken before after = before ≡ prepend_known taken after
 abbrev pub HasWritten : Setting → Option ℕ → List (List ℕ) → Option (List ℕ) → Option (List ℕ) → Type 0
 HasWritten setting w lines before after = after ≡ append_known before (text_in setting (transcript setting w lines))
 
--- Status 0 or 1: all of the source was read, and its whole transcript was written. Hooks and kinds are those that the rules leave.
+-- Status 0 or 1: all of the source was read, and its whole transcript was written. Hooks and kinds are those that the rules leave, and the
+-- transcript tells what became of the hooks.
 pub record IsWhole (setting : Setting) (outcome : Outcome) (left left' written written' : Option (List ℕ)) (shelf' : ShelfState) (kinds' : List Kind) : Type 0 where
   pub bytes : List ℕ
   pub given : HasGiven bytes left left'
@@ -45,6 +47,7 @@ pub record IsWhole (setting : Setting) (outcome : Outcome) (left left' written w
   pub text : HasWritten setting None (lines_of bytes) written written'
   pub errors : outcome.errors ≡ errors_in (transcript setting None (lines_of bytes))
   pub hooks : shelf' ≡ shelf_after setting None (lines_of bytes)
+  pub hooks_told : HooksAreTold setting.shelf shelf' (transcript setting None (lines_of bytes))
   pub kinds : kinds' ≡ kinds_after setting None (lines_of bytes)
   pub status : (outcome.status ≡ 1) ↔ (0 < errors_in (transcript setting None (lines_of bytes)))
 
@@ -79,6 +82,7 @@ pub record IsWanted (setting : Setting) (outcome : Outcome) (left left' written 
   pub text : HasWritten setting (Some outcome.call) (lines_of bytes) written written'
   pub errors : outcome.errors ≡ errors_in (transcript setting (Some outcome.call) (lines_of bytes))
   pub hooks : shelf' ≡ shelf_after setting (Some outcome.call) (lines_of bytes)
+  pub hooks_told : HooksAreTold setting.shelf shelf' (transcript setting (Some outcome.call) (lines_of bytes))
   pub kinds : kinds' ≡ kinds_after setting (Some outcome.call) (lines_of bytes)
 
 -- Status 3: the source failed, and the transcript of the lines whose newline it had given was written.
@@ -90,6 +94,7 @@ pub record IsCutOff (setting : Setting) (outcome : Outcome) (left left' written 
   pub text : HasWritten setting None (ended_lines bytes) written written'
   pub errors : outcome.errors ≡ errors_in (transcript setting None (ended_lines bytes))
   pub hooks : shelf' ≡ shelf_after setting None (ended_lines bytes)
+  pub hooks_told : HooksAreTold setting.shelf shelf' (transcript setting None (ended_lines bytes))
   pub kinds : kinds' ≡ kinds_after setting None (ended_lines bytes)
 
 -- Status 6: the source has a byte past the most bytes of a script, and the transcript of the lines whose newline is among those was written.
@@ -102,6 +107,7 @@ pub record IsTooLong (setting : Setting) (outcome : Outcome) (left left' written
   pub text : HasWritten setting None (ended_lines bytes) written written'
   pub errors : outcome.errors ≡ errors_in (transcript setting None (ended_lines bytes))
   pub hooks : shelf' ≡ shelf_after setting None (ended_lines bytes)
+  pub hooks_told : HooksAreTold setting.shelf shelf' (transcript setting None (ended_lines bytes))
   pub kinds : kinds' ≡ kinds_after setting None (ended_lines bytes)
 
 -- the fallible call that a number names as refused; 0 names none
@@ -122,6 +128,7 @@ pub record IsUnwritten (setting : Setting) (outcome : Outcome) (left left' writt
   pub defined : 0 < outcome.call → EndsAt setting outcome.call (take outcome.lines (lines_of bytes)) outcome.lines
   pub errors : outcome.errors ≡ errors_in (transcript setting (refused_call outcome.call) (take outcome.lines (lines_of bytes)))
   pub hooks : shelf' ≡ shelf_after setting (refused_call outcome.call) (take outcome.lines (lines_of bytes))
+  pub hooks_told : HooksAreTold setting.shelf shelf' (transcript setting (refused_call outcome.call) (take outcome.lines (lines_of bytes)))
   pub kinds : kinds' ≡ kinds_after setting (refused_call outcome.call) (take outcome.lines (lines_of bytes))
 
 -- Status 5 without a call: not all sessions were started, nothing was read or written, and hooks and kinds are as they were.

@@ -1,5 +1,5 @@
 -- What the sessions of a run do: they start, take turns and end.
-use Rattle.std.specs.Prelude.{◌≡◌, ℕ, ◌+◌, ◌<◌, ◌≤◌, Bool, true, false, List, ◌++◌, length, slice_get, Option, Some}
+use Rattle.std.specs.Prelude.{◌≡◌, ℕ, ◌+◌, ◌<◌, ◌≤◌, Bool, true, false, List, [], ◌++◌, length, slice_get, Option, Some}
 use Rattle.addr_space.specs.Space.{Space, accounts, held, risen, taken}
 use Rattle.pgs_step.specs.declared.events.Event.{Event}
 use Rattle.pgs_step.specs.declared.ids.KindId.{KindId}
@@ -9,10 +9,11 @@ use Rattle.session_rules.specs.Transcript.{Course, after_command, ended}
 use Rattle.session_rules.specs.Asked.{asked_by_command}
 use Rattle.session_store.specs.State.{StoreState, session_of}
 use Rattle.session_store.specs.Calls.{Keeps, StaysBeside}
-use Rattle.session_core.specs.Answers.{Fits}
-use Rattle.session_core.specs.Performed.{HasRoom}
+use Rattle.session_work.specs.Answers.{Fits}
+use Rattle.session_work.specs.Performed.{HasRoom}
 use Rattle.pgs_world.specs.declared.lines.Said.{Said}
-use Rattle.pgs_world.specs.World.{HaveDescriptors, Run, SameRun, held_by_all, one_of, world_in}
+use Rattle.pgs_world.specs.World.{HaveDescriptors, Run, SameRun, all_waiting, held_by_all, one_of, sessions_in, world_in}
+use Rattle.pgs_world.specs.Hooks.{TellHooks}
 
 -- no count of the run, or of one of its sessions, is above this bound
 pub record IsWithin (bound : ℕ) (run : Run) : Type 0 where
@@ -25,12 +26,14 @@ pub record IsWithin (bound : ℕ) (run : Run) : Type 0 where
 abbrev pub HaveRoom : Run → Type 0
 HaveRoom run = (place : ℕ) (store : StoreState) → slice_get run.stores place ≡ Some store → HasRoom 5 (one_of run store)
 
--- A course went on to another one: events that were shown came behind its own, one line more was performed, and it leads to this run.
+-- A course went on to another one: events that were shown came behind its own, which tell what became of the hooks, one line more was
+-- performed, and it leads to this run.
 pub record GoesOn (course next : Course) (descriptors : ℕ) (run : Run) (shown : List Event → Type 0) (wanted : Bool) : Type 0 where
   pub world_is : next.world ≡ world_in descriptors run
   pub more : List Event
   pub events : next.events ≡ course.events ++ more
   pub shows : shown more
+  pub hooks : TellHooks course.world next.world more
   pub performed_is : next.performed ≡ course.performed + 1
   pub wanted_is : next.wanted ≡ wanted
 
@@ -51,14 +54,16 @@ pub record TakesTurn (said : Said) (a b : Run) (shown : List Event → Type 0) (
   pub counted : wanted ≡ true → a.calls.count < b.calls.count
   pub same : SameRun a b
 
--- What the ends of all sessions made of a run: the same as of each course that leads to it. No account of a session holds anything then,
--- none took anything, and no session holds an item of an extension kind.
+-- What the ends of all sessions made of a run: the same as of each course that leads to it, and what they say tells what became of the
+-- hooks. No account of a session holds anything then, none took anything, no session holds an item of an extension kind, and no hook
+-- waits in one.
 pub record AllExit (a b : Run) (shown : List Event → Type 0) : Type 0 where
-  pub leads : (descriptors : ℕ) → HaveDescriptors descriptors a → (course : Course) → course.world ≡ world_in descriptors a → (more : List Event) × ((ended course).events ≡ course.events ++ more) × shown more × ((ended course).world ≡ world_in descriptors b)
+  pub leads : (descriptors : ℕ) → HaveDescriptors descriptors a → (course : Course) → course.world ≡ world_in descriptors a → (more : List Event) × ((ended course).events ≡ course.events ++ more) × shown more × ((ended course).world ≡ world_in descriptors b) × TellHooks course.world (ended course).world more
   pub calls : b.calls ≡ a.calls
   pub given_back : (account : ℕ) → account < length a.stores → held b.space account ≡ 0
   pub asks : (account : ℕ) → taken b.space account ≡ taken a.space account
   pub none : (kind : KindId) (key : ℕ) → held_by_all kind key b.stores ≡ 0
+  pub waiting : all_waiting (sessions_in b.stores b.space) ≡ []
   pub same : SameRun a b
 
 -- sessions that were started in a space with so many descriptors, one for each account from the first on

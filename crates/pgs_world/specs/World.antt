@@ -1,5 +1,5 @@
 -- What the program holds, as a run of the rules.
-use Rattle.std.specs.Prelude.{◌≡◌, ◌⊎◌, false, ℕ, ◌+◌, ◌<◌, ◌≤◌, List, ◌++◌, length, map, replicate, slice_get, Some}
+use Rattle.std.specs.Prelude.{◌≡◌, ◌⊎◌, false, ℕ, ◌+◌, ◌<◌, ◌≤◌, List, ◌++◌, length, map, replicate, slice_get, slice_index, Some}
 use Rattle.std.specs.List.{flat_map, sum_by}
 use Rattle.addr_space.specs.Space.{Space, accounts, held, taken}
 use Rattle.pgs_step.specs.declared.ids.KindId.{KindId}
@@ -17,14 +17,14 @@ use Rattle.reset_callbacks.specs.ShelfState.{ShelfState}
 use Rattle.context_rules.specs.Ends.{waiting}
 use Rattle.session_rules.specs.State.{SessionState, opening}
 use Rattle.session_rules.specs.World.{Options, World}
-use Rattle.session_owners.specs.Commons.{CommonState}
+use Rattle.session_owners.specs.Commons.{CommonState, pinned_once}
 use Rattle.session_owners.specs.ResourceState.{locks_of, owners_of}
 use Rattle.session_store.specs.State.{StoreState, session_of}
 use Rattle.session_store.specs.Calls.{Keeps, StaysBeside}
-use Rattle.session_core.specs.declared.calls.Calls.{Calls}
-use Rattle.session_core.specs.declared.shared.Shared.{Shared}
+use Rattle.session_work.specs.declared.calls.Calls.{Calls}
+use Rattle.session_work.specs.declared.shared.Shared.{Shared}
 use Rattle.session_core.specs.Lines.{IsBetweenLines}
-use Rattle.session_core.specs.Performed.{Now}
+use Rattle.session_work.specs.Performed.{Now}
 use Rattle.pgs_world.specs.Transcript.{Setting}
 
 -- where a run stands: the stores of its sessions, session n at place n - 1, and what they share
@@ -106,6 +106,10 @@ pub record LocksFit (stores : List StoreState) (shared : List Holding) : Type 0 
   pub in_order : (place : ℕ) (store : StoreState) → slice_get stores place ≡ Some store → AreLocks store.owners.locks
   pub none : (object : ℕ) (mode : Mode) (n : ℕ) → (n ≡ 0) ⊎ (length stores < n) → holds shared object mode n ≡ false
 
+-- Each buffer is counted for as many sessions as pin it.
+pub record PinsFit (stores : List StoreState) (pins : List ℕ) : Type 0 where
+  pub counted : (buffer : ℕ) → slice_index pins buffer ≡ sum_by (λ store. pinned_once buffer (owners_of store.owners)) stores
+
 -- A session at its place: its account, which is that of the place, holds the blocks of its contexts, it holds locks under the number behind
 -- that, and it stays while others change.
 pub record IsHeld (run : Run) (place : ℕ) (store : StoreState) : Type 0 where
@@ -114,14 +118,17 @@ pub record IsHeld (run : Run) (place : ℕ) (store : StoreState) : Type 0 where
   pub number : store.owners.session ≡ place + 1
   pub beside : StaysBeside store
 
--- The sessions from this place on are between two lines, those before it have ended, the hooks of all sessions fit the shelf, the keys that
--- they hold fit the kinds, what they have locked fits what is held for all, and all have as many descriptors.
+-- The sessions, at most 64, from this place on are between two lines, those before it have ended, the hooks of all sessions fit the shelf,
+-- the keys that they hold fit the kinds, what they have locked fits what is held for all, each buffer is counted for those that pin it, and
+-- all have as many descriptors.
 pub record AreStanding (from : ℕ) (run : Run) : Type 0 where
   pub each : (place : ℕ) (store : StoreState) → slice_get run.stores place ≡ Some store → IsHeld run place store
   pub lines : (place : ℕ) (store : StoreState) → from ≤ place → slice_get run.stores place ≡ Some store → IsBetweenLines (one_of run store)
   pub hooks : HooksFit (sessions_in run.stores run.space) run.shelf
   pub kinds : KindsFit run.stores run.commons.kinds
   pub locks : LocksFit run.stores run.commons.locks
+  pub pins : PinsFit run.stores run.commons.pins
+  pub few : length run.stores ≤ 64
   pub alike : (descriptors : ℕ) × HaveDescriptors descriptors run
 
 -- The run has as many sessions, with the same limit, and the same call fails; accounts that aren't of its sessions hold what they held and

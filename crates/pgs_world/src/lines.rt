@@ -1,6 +1,7 @@
 //! What the lines of a script ask for.
 ghost use Rattle.std.specs.Prelude.{◌≡◌, ℕ, List, IfSome};
 ghost use Rattle.pgs_io.specs.Lines.{IsKept};
+ghost use Rattle.pgs_command.specs.Lines.{is_comment};
 ghost use Rattle.pgs_command.specs.Ranges.{IsInRange, IsSession};
 ghost use Rattle.session_core.specs.Turns.{IsRead};
 ghost use Rattle.pgs_world.specs.Script.{is_built, reads, said_in};
@@ -46,6 +47,16 @@ pub(crate) fn read_line(kept: &[u8], long: bool) -> Said
     }
 }
 
+/// Whether the line is an empty one or a comment, which asks for nothing. Of the line these are the first bytes.
+pub(crate) fn is_comment(kept: &[u8]) -> bool
+    ensures { result ≡ is_comment kept.now }
+{
+    match kept {
+        [] => true,
+        [first, ..] => *first == b'#',
+    }
+}
+
 /// Whether the program performs the command.
 fn is_built(command: &Command) -> bool
     ensures { result ≡ is_built command.now }
@@ -60,8 +71,11 @@ fn is_built(command: &Command) -> bool
             | Command::Release(_)
             | Command::RollbackTo(_)
             | Command::Raise
+            | Command::Report
+            | Command::Stat
             | Command::Pin(_)
             | Command::Unpin(_)
+            | Command::Buffer(_)
             | Command::Reference { .. }
             | Command::Unreference { .. }
             | Command::Open(_)
@@ -71,6 +85,8 @@ fn is_built(command: &Command) -> bool
             | Command::Drop { .. }
             | Command::Snapshot(_)
             | Command::Unsnapshot(_)
+            | Command::Push(_)
+            | Command::Pop
             | Command::Lock { .. }
             | Command::Unlock { .. }
             | Command::Context { .. }

@@ -10,7 +10,7 @@ ghost use Rattle.pgs_world.specs.World.{run_of, AreStanding, HaveDescriptors, Is
 ghost use Rattle.pgs_world.specs.Turns.{HaveRoom, TakesTurn};
 ghost use Rattle.pgs_world.specs.Loop.{Performs, is_wanted_in, IsLineEnd, OnSourceFault, OnNoSourceFault, OnUnwritten};
 
-use crate::lines::read_line;
+use crate::lines::{is_comment, read_line};
 use crate::printer::Printer;
 use crate::sessions::take_turn;
 use owner_kinds::ExtKind;
@@ -154,7 +154,30 @@ fn perform_line<K: Sink, H: ResetHook, X: ExtKind>(
     ensures standing { AreStanding 0 (run_of sessions.new shared.new) }
     ensures end { IfSome result (λ end. IsLineEnd end printer.new.failed) }
 {
-    let wanted = take_turn(sessions, read_line(kept, long), shared, printer);
+    if is_comment(kept) && !long && !sessions.is_empty() {
+        return None;
+    }
+    perform_said(sessions, kept, long, shared, printer)
+}
+
+/// The same, where the line is perhaps no comment.
+#[inline(never)]
+fn perform_said<K: Sink, H: ResetHook, X: ExtKind>(
+    sessions: &mut [Session<H>],
+    kept: &[u8],
+    long: bool,
+    shared: &mut Shared<'_, H, X>,
+    printer: &mut Printer<'_, K>,
+) -> Option<End>
+    requires standing { AreStanding 0 (run_of sessions.old shared.old) }
+    requires room { HaveRoom (run_of sessions.old shared.old) }
+    ensures turn { (line : List ℕ) → IsKept line kept.now long
+        → TakesTurn (said_in (reads line)) (run_of sessions.old shared.old) (run_of sessions.new shared.new) (λ xs. ShowsEvents K.written K.faults printer.old xs printer.new) (is_wanted_in result) }
+    ensures standing { AreStanding 0 (run_of sessions.new shared.new) }
+    ensures end { IfSome result (λ end. IsLineEnd end printer.new.failed) }
+{
+    let said = read_line(kept, long);
+    let wanted = take_turn(sessions, &said, shared, printer);
     if wanted {
         return Some(End::Wanted);
     }

@@ -153,11 +153,12 @@ impl<'a, K: Sink> Emit for Printer<'a, K> {
     ghost emits = { TakesEvents K.written K.faults };
 
     fn emit(&mut self, what: What) {
-        self.count(&what);
-        self.gather(&Event {
+        let event = Event {
             session: self.session,
             what,
-        });
+        };
+        self.count(&event.what);
+        self.gather(&event);
     }
 
     ghost emits_none = { TakesEvents-none K.written K.faults };

@@ -2,7 +2,7 @@
 ghost use Rattle.std.specs.Prelude.{◌≡◌, ◌≢◌, ◌<◌, ◌≤◌, ◌⊎◌, ℕ, List, Some, [], length, vec_capacity};
 ghost use Rattle.std.specs.Io.KnownBytes.{append_known};
 ghost use Rattle.pgs_io.specs.Faults.{HasRisen};
-ghost use Rattle.std.specs.Prelude.{map, None, ◌++◌, IfOk};
+ghost use Rattle.std.specs.Prelude.{map, replicate, None, ◌++◌, IfOk};
 ghost use Rattle.std.specs.Prelude.{string_bytes as string_text};
 ghost use Rattle.addr_space.specs.Space.{accounts, held, risen, taken};
 ghost use Rattle.reset_callbacks.specs.Hook.{AreDistinct};
@@ -138,7 +138,7 @@ pub fn run<S: Source, K: Sink, H: ResetHook, X: ExtKind>(
     }
 }
 
-/// Lends space, shelf and kinds to the sessions, and plays the script.
+/// Plays the script where there is memory for what the sessions need before they start.
 fn start<S: Source, K: Sink, H: ResetHook, X: ExtKind>(
     alloc: Global,
     options: &Options,
@@ -181,6 +181,77 @@ fn start<S: Source, K: Sink, H: ResetHook, X: ExtKind>(
     let Ok(sessions) = Vec::with_capacity(alloc, options.sessions as usize) else {
         return NOT_STARTED;
     };
+    play_lent(
+        alloc, options, places, sessions, &names, src, out, space, shelf, kinds,
+    )
+}
+
+/// What stands in the places of the space, of the shelf and of the kinds while these are lent to the sessions: the kinds are lent in
+/// the commons of the run.
+#[derive(Drop)]
+struct Places<H: ResetHook, X: ExtKind> {
+    space: Space,
+    shelf: Shelf<H>,
+    commons: Commons<X>,
+}
+
+impl<H: ResetHook, X: ExtKind> Places<H, X> {
+    /// A space, a shelf and commons without anything. It fails for want of memory alone.
+    fn new(alloc: Global) -> Result<Places<H, X>, AllocError>
+        ensures unlocked { IfOk result (λ places. places.commons.locks ≡ []) }
+        ensures unpinned { IfOk result (λ places. places.commons.pins ≡ replicate 1024 0) }
+    {
+        Ok(Places {
+            space: Space::new(alloc, 0, 0)?,
+            shelf: Shelf::new(alloc, Vec::new(alloc))?,
+            commons: Commons::new(alloc)?,
+        })
+    }
+}
+
+/// Lends space, shelf and kinds to the sessions, and plays the script.
+fn play_lent<S: Source, K: Sink, H: ResetHook, X: ExtKind>(
+    alloc: Global,
+    options: &Options,
+    places: Places<H, X>,
+    sessions: Vec<Session<H>>,
+    names: &[Name],
+    src: &mut S,
+    out: &mut K,
+    space: &mut Space,
+    shelf: &mut Shelf<H>,
+    kinds: &mut KindShelf<X>,
+) -> Outcome
+    requires none { sessions.items ≡ [] }
+    requires reserved { options.now.sessions ≤ vec_capacity sessions }
+    requires names { names.now ≡ names_of kinds.old }
+    requires unlocked { places.commons.locks ≡ [] }
+    requires unpinned { places.commons.pins ≡ replicate 1024 0 }
+    requires sound { IsSound (table_of kinds.old) }
+    requires accounts { options.now.sessions ≤ accounts space.old }
+    requires some { 0 < options.now.sessions }
+    requires few { options.now.sessions ≤ 64 }
+    requires descriptors { 0 < options.now.descriptors }
+    requires empty { (account : ℕ) → held space.old account ≡ 0 }
+    requires hooks { AreDistinct (shelf_state.held shelf.old) }
+    ensures taken { (result.status ≡ 0) ⊎ (result.status ≡ 1) → TakesAll (setting_for options.now shelf.old kinds.old) (S.left src.old) space.old space.new }
+    ensures whole { (result.status ≡ 0) ⊎ (result.status ≡ 1) → IsWhole (setting_for options.now shelf.old kinds.old) result (S.left src.old) (S.left src.new) (K.written out.old) (K.written out.new) shelf.new kinds.new }
+    ensures source_fault { result.status ≡ 3 → HasRisen (S.faults src.old) (S.faults src.new) }
+    ensures cut_off { result.status ≡ 3 → IsCutOff (setting_for options.now shelf.old kinds.old) result (S.left src.old) (S.left src.new) (K.written out.old) (K.written out.new) shelf.new kinds.new }
+    ensures too_long { result.status ≡ 6 → IsTooLong (setting_for options.now shelf.old kinds.old) result (S.left src.old) (S.left src.new) (K.written out.old) (K.written out.new) shelf.new kinds.new }
+    ensures sink_fault { result.status ≡ 4 → HasRisen (K.faults out.old) (K.faults out.new) }
+    ensures unwritten { result.status ≡ 4 → IsUnwritten (setting_for options.now shelf.old kinds.old) result (S.left src.old) (S.left src.new) (K.written out.old) (K.written out.new) shelf.new kinds.new }
+    ensures wanted { result.status ≡ 5 → 0 < result.call → IsWanted (setting_for options.now shelf.old kinds.old) result (S.left src.old) (S.left src.new) (K.written out.old) (K.written out.new) shelf.new kinds.new }
+    ensures not_started { result.status ≡ 5 → result.call ≡ 0 → IsNotStarted result (S.left src.old) (S.left src.new) (K.written out.old) (K.written out.new) shelf.old shelf.new kinds.old kinds.new }
+    ensures source_grew { S.faults src.old < S.faults src.new → (result.status ≡ 3) ⊎ (result.status ≡ 4) }
+    ensures sink_grew { K.faults out.old < K.faults out.new → result.status ≡ 4 }
+    ensures statuses { IsPlayed result.status }
+    ensures call { result.status ≢ 4 → result.status ≢ 5 → result.call ≡ 0 }
+    ensures given_back { (account : ℕ) → held space.new account ≡ 0 }
+    ensures accounts { accounts space.new ≡ accounts space.old }
+    ensures kinds_kept { AreKept kinds.old kinds.new }
+    ensures shared_out { (result.status ≡ 5 → 0 < result.call) → IsSharedOut options.now.sessions options.now.space space.old space.new }
+{
     space.set_limit(options.space as u64);
     let Places {
         space: mut lent_space,
@@ -200,12 +271,13 @@ fn start<S: Source, K: Sink, H: ResetHook, X: ExtKind>(
         commons: &mut commons,
         calls: &mut calls,
     };
+    let (count, descriptors) = (options.sessions, options.descriptors);
     let outcome = play(
         alloc,
-        options.sessions,
-        options.descriptors,
+        count,
+        descriptors,
         sessions,
-        &names,
+        names,
         src,
         out,
         &mut shared,
@@ -220,28 +292,6 @@ fn start<S: Source, K: Sink, H: ResetHook, X: ExtKind>(
     mem::swap(shelf, given_shelf);
     given_commons.swap_kinds(kinds);
     outcome
-}
-
-/// What stands in the places of the space, of the shelf and of the kinds while these are lent to the sessions: the kinds are lent in
-/// the commons of the run.
-#[derive(Drop)]
-struct Places<H: ResetHook, X: ExtKind> {
-    space: Space,
-    shelf: Shelf<H>,
-    commons: Commons<X>,
-}
-
-impl<H: ResetHook, X: ExtKind> Places<H, X> {
-    /// A space, a shelf and commons without anything. It fails for want of memory alone.
-    fn new(alloc: Global) -> Result<Places<H, X>, AllocError>
-        ensures unlocked { IfOk result (λ places. places.commons.locks ≡ []) }
-    {
-        Ok(Places {
-            space: Space::new(alloc, 0, 0)?,
-            shelf: Shelf::new(alloc, Vec::new(alloc))?,
-            commons: Commons::new(alloc)?,
-        })
-    }
 }
 
 /// Starts so many sessions, each with so many descriptors, and plays the script with them. Where not all of them start, those that did end without a word.
@@ -265,6 +315,7 @@ fn play<S: Source, K: Sink, H: ResetHook, X: ExtKind>(
     requires hooks { AreDistinct (shelf_state.held shared.old.shelf.now) }
     requires kinds { IsSound (table_of shared.old.commons.now.kinds) }
     requires unlocked { shared.old.commons.now.locks ≡ [] }
+    requires unpinned { shared.old.commons.now.pins ≡ replicate 1024 0 }
     requires names { names.now ≡ names_of shared.old.commons.now.kinds }
     requires calls { shared.old.calls.now.count ≡ 0 }
     ensures taken { (result.status ≡ 0) ⊎ (result.status ≡ 1) → TakesAll (setting_at count descriptors shared.old) (S.left src.old) shared.old.space.now shared.new.space.now }

@@ -55,16 +55,16 @@ pub(crate) fn start_sessions<H: ResetHook>(
 /// Answers whether the line met a want of memory.
 pub(crate) fn take_turn<K: Sink, H: ResetHook, X: ExtKind>(
     sessions: &mut [Session<H>],
-    said: Said,
+    said: &Said,
     shared: &mut Shared<'_, H, X>,
     printer: &mut Printer<'_, K>,
 ) -> bool
     requires standing { AreStanding 0 (run_of sessions.old shared.old) }
-    requires session { IsSession said.session }
-    requires known { IsRead said.command }
-    requires range { IfSome said.command IsInRange }
+    requires session { IsSession said.now.session }
+    requires known { IsRead said.now.command }
+    requires range { IfSome said.now.command IsInRange }
     requires room { HaveRoom (run_of sessions.old shared.old) }
-    ensures turn { TakesTurn said (run_of sessions.old shared.old) (run_of sessions.new shared.new) (λ xs. ShowsEvents K.written K.faults printer.old xs printer.new) result }
+    ensures turn { TakesTurn said.now (run_of sessions.old shared.old) (run_of sessions.new shared.new) (λ xs. ShowsEvents K.written K.faults printer.old xs printer.new) result }
     ensures standing { AreStanding 0 (run_of sessions.new shared.new) }
 {
     printer.turn_to(said.session);
@@ -74,7 +74,7 @@ pub(crate) fn take_turn<K: Sink, H: ResetHook, X: ExtKind>(
         return false;
     }
     let session = &mut sessions[place];
-    let wanted = session.take_turn(said.command, shared, printer);
+    let wanted = session.take_turn(said.command.as_ref(), shared, printer);
     session.beside();
     wanted
 }

@@ -156,7 +156,7 @@ fn fourteen_scripts(rt: HostRuntime) -> Result<(), Fail> {
         },
         Row {
             words: &[],
-            script: b"begin\nplan 5\nreport\npin 1\n@1 rollback\nrollback\n",
+            script: b"begin\nplan 5\nplanref 5\npin 1\n@1 rollback\nrollback\n",
             transcript: b"1 begin level 1\n1 create c6 TopTransactionContext in c1\n1 owner o1\n1 ok\n1 ERROR 42601 syntax error\n1 abort level 1\n1 ERROR 42601 syntax error\n1 ERROR 25P02 transaction is aborted\n1 cleanup level 1\n1 owner o1 gone\n1 delete c6\n1 ok\n1 warning there is no transaction in progress\n1 ok\n1 delete c5\n1 delete c4\n1 delete c3\n1 delete c2\n1 delete c1\n1 exit\n",
             status: 1,
             errors: 3,

@@ -1,10 +1,15 @@
+use Rattle.std.proofs.Common.{◌≡◌, ◌<◌, true, false, length, sym, ◌∙◌, arith}
+use Rattle.std.proofs.lemmas.Bool.Decides.{nat_tests}
+use Rattle.pgs_world.specs.PrinterLaws.{ShowsEvents-none}
+use Rattle.pgs_world.specs.Script.{reads, said_in}
+use Rattle.pgs_world.specs.World.{run_of}
+use Rattle.pgs_world.proofs.IdleLemmas.{comment_is_idle, first_there, idle_turned}
 use Rattle.pgs_world.proofs.performing.perform_line.Goals as goal
 
-pub returns-then-wanted-clause-turn : goal.returns-then-wanted-clause-turn
-returns-then-wanted-clause-turn g c line k = rw (← c.read_line.ensures.read line k) c.if-wanted.ensures.turn
-
-pub returns-then-has_failed-clause-turn : goal.returns-then-has_failed-clause-turn
-returns-then-has_failed-clause-turn g c line k = rw (← c.read_line.ensures.read line k) c.if-wanted.ensures.turn
-
-pub returns-clause-turn : goal.returns-clause-turn
-returns-clause-turn g c line k = rw (← c.read_line.ensures.read line k) c.if-wanted.ensures.turn
+-- a line that asks for nothing
+pub returns-then-not-is_empty-clause-turn : goal.returns-then-not-is_empty-clause-turn
+returns-then-not-is_empty-clause-turn g c line k =
+    let some : 0 < length c.args.sessions.now = grind (arith, nat_tests, c.is_empty.ensures, c.if-not-is_empty.true) in
+    let first = first_there c.args.sessions.now some in
+    idle_turned (run_of c.args.sessions.now c.args.shared.now) first.0 first.1 _ (ShowsEvents-none g.K.Sink.written g.K.Sink.faults c.args.printer.now) (said_in (reads line))
+    (comment_is_idle line c.args.kept.now c.args.long k (sym c.is_comment.ensures ∙ c.if-is_comment.true) c.if-not-long.true)

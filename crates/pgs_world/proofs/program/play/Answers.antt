@@ -1,4 +1,4 @@
-use Rattle.std.proofs.Common.{◌≡◌, ◌∙◌, ℕ, Some, ap, refl, sym, subst, List, length}
+use Rattle.std.proofs.Common.{◌≡◌, ◌∙◌, ℕ, Some, ap, refl, sym, subst, List, length, arith}
 use Rattle.std.specs.Prelude.{slice_get}
 use Rattle.session_store.specs.State.{StoreState}
 use Rattle.pgs_world.specs.Transcript.{Setting}
@@ -13,13 +13,13 @@ pub end_unheard-requires-clause-opening : goal.end_unheard-requires-clause-openi
 end_unheard-requires-clause-opening g c = rw c.deref_mut.ensures.value (opened_run _ _ _ c.start_sessions.ensures.opened c.requires.calls)
 
 pub end_unheard-requires-clause-standing : goal.end_unheard-requires-clause-standing
-end_unheard-requires-clause-standing g c = rw c.deref_mut.ensures.value (opened_standing _ _ _ c.start_sessions.ensures.opened c.requires.hooks c.requires.kinds c.requires.unlocked)
+end_unheard-requires-clause-standing g c = rw c.deref_mut.ensures.value (opened_standing _ _ _ c.start_sessions.ensures.opened c.requires.hooks c.requires.kinds c.requires.unlocked c.requires.unpinned (omega (arith, c.start_sessions.ensures.few, c.requires.few)))
 
 pub play_started-requires-clause-opening : goal.play_started-requires-clause-opening
 play_started-requires-clause-opening g c = rw c.deref_mut-2.ensures.value (opened_run _ _ _ c.start_sessions.ensures.opened c.requires.calls)
 
 pub play_started-requires-clause-standing : goal.play_started-requires-clause-standing
-play_started-requires-clause-standing g c = rw c.deref_mut-2.ensures.value (opened_standing _ _ _ c.start_sessions.ensures.opened c.requires.hooks c.requires.kinds c.requires.unlocked)
+play_started-requires-clause-standing g c = rw c.deref_mut-2.ensures.value (opened_standing _ _ _ c.start_sessions.ensures.opened c.requires.hooks c.requires.kinds c.requires.unlocked c.requires.unpinned (omega (arith, c.start_sessions.ensures.few, c.requires.few)))
 
 module _ (g : Over) (c : goal.After-drop-sessions-2 g) where
   -- the sessions that play have as many descriptors as were asked for

@@ -1,8 +1,8 @@
 use Rattle.std.proofs.Common.{◌≡◌, ℕ, ◌^◌, ◌<◌, List, Option, Some, sym, ◌∙◌, ap, subst, arith, ◌⊎◌}
 use Rattle.pgs_step.specs.declared.events.Event.{Event}
 use Rattle.session_rules.specs.Transcript.{errors_in}
-use Rattle.session_core.specs.declared.calls.Calls.{Calls}
-use Rattle.session_core.specs.Answers.{Fits}
+use Rattle.session_work.specs.declared.calls.Calls.{Calls}
+use Rattle.session_work.specs.Answers.{Fits}
 use Rattle.pgs_world.specs.Transcript.{Setting, course_of, names_of, transcript}
 use Rattle.pgs_world.specs.Loop.{Performs, is_wanted}
 use Rattle.pgs_world.specs.PrinterView.{ShowsEvents, seen}
@@ -11,7 +11,7 @@ use Rattle.pgs_world.specs.World.{HaveDescriptors, Run, SameRun, run_of, setting
 use Rattle.pgs_world.proofs.KindLemmas.{all_kept}
 use Rattle.pgs_world.proofs.SessionLemmas.{opening_hold_none, same_on}
 use Rattle.pgs_world.proofs.ErrorLemmas.{few_errors}
-use Rattle.pgs_world.proofs.EndingLemmas.{Facts, Printed, ended_whole, printed_all, printed_told, transcript_events, hooks_of_end, kinds_of_end, ends_at, a_fit, fits_wanted, stays_failed, unwritten_leads, whole, cut_off, too_long, wanted, called_of, unwritten, sink_fault, sink_grew}
+use Rattle.pgs_world.proofs.EndingLemmas.{Facts, Printed, ended_whole, printed_all, printed_told, transcript_events, hooks_of_end, told_of_end, kinds_of_end, ends_at, a_fit, fits_wanted, stays_failed, unwritten_leads, whole, cut_off, too_long, wanted, called_of, unwritten, sink_fault, sink_grew}
 use Rattle.pgs_world.specs.declared.program.Outcome.{Outcome}
 use Rattle.pgs_world.proofs.TakenLemmas.{taken_all}
 use Rattle.pgs_world.proofs.program.play_started.Goals as goal
@@ -86,6 +86,10 @@ module _ (g : Over) (c : goal.After-made_outcome g) (descriptors : ℕ) (has : H
     hooks = λ w f. hooks_of_end descriptors setting w performs.lines behind last
         (λ ys. ShowsEvents g.K.Sink.written g.K.Sink.faults c.perform_lines-ended.new.printer ys c.exit_all.new.printer)
         performs.has (performs.courses w (fits_behind w f)).world_is c.exit_all.ensures.exits;
+    told = λ w f. told_of_end descriptors setting w performs.lines behind last
+        (λ xs. ShowsEvents g.K.Sink.written g.K.Sink.faults c.new-printer.result xs c.perform_lines-ended.new.printer)
+        (λ ys. ShowsEvents g.K.Sink.written g.K.Sink.faults c.perform_lines-ended.new.printer ys c.exit_all.new.printer)
+        _ _ performs.has (performs.courses w (fits_behind w f)) c.exit_all.ensures.exits;
     kinds = λ w f. kinds_of_end descriptors setting w performs.lines behind last
         (λ ys. ShowsEvents g.K.Sink.written g.K.Sink.faults c.perform_lines-ended.new.printer ys c.exit_all.new.printer)
         performs.has (performs.courses w (fits_behind w f)).world_is c.exit_all.ensures.exits;

@@ -14,35 +14,35 @@ use Rattle.pgs_world.proofs.sessions.take_turn.Goals as goal
 
 pub returns-then-place-sessions-clause-turn : goal.returns-then-place-sessions-clause-turn
 returns-then-place-sessions-clause-turn g c =
-    missing_turn (run_of c.args.sessions.now c.args.shared.now) c.args.said _ (omega (arith, c.if-place-sessions.true, c.requires.session.0)) (length-map c.args.sessions.now _)
-    (ShowsEvents-turn g.K.Sink.written g.K.Sink.faults c.args.printer.now c.turn_to.new.self c.emit.new.self c.args.said.session _ c.turn_to.ensures
+    missing_turn (run_of c.args.sessions.now c.args.shared.now) c.args.said.now _ (omega (arith, c.if-place-sessions.true, c.requires.session.0)) (length-map c.args.sessions.now _)
+    (ShowsEvents-turn g.K.Sink.written g.K.Sink.faults c.args.printer.now c.turn_to.new.self c.emit.new.self c.args.said.now.session _ c.turn_to.ensures
     (subst (λ (e : Error). TakesEvents g.K.Sink.written g.K.Sink.faults c.turn_to.new.self (what.Error e ∷ []) c.emit.new.self) c.missing_error.ensures c.emit.ensures.emitted))
 
 -- the session of the line
 pub take_turn-wanted-requires-clause-lines : goal.take_turn-wanted-requires-clause-lines
 take_turn-wanted-requires-clause-lines g c =
-    c.requires.standing.lines (c.args.said.session - 1) _ (omega arith) (slice_get-get_or c.args.sessions.now (c.args.said.session - 1) c.index-sessions-place.result (omega (arith, c.if-place-sessions.false)))
+    c.requires.standing.lines (c.args.said.now.session - 1) _ (omega arith) (slice_get-get_or c.args.sessions.now (c.args.said.now.session - 1) c.index-sessions-place.result (omega (arith, c.if-place-sessions.false)))
 
 pub take_turn-wanted-requires-clause-room : goal.take_turn-wanted-requires-clause-room
 take_turn-wanted-requires-clause-room g c =
-    c.requires.room (c.args.said.session - 1) _ (slice_get-get_or c.args.sessions.now (c.args.said.session - 1) c.index-sessions-place.result (omega (arith, c.if-place-sessions.false)))
+    c.requires.room (c.args.said.now.session - 1) _ (slice_get-get_or c.args.sessions.now (c.args.said.now.session - 1) c.index-sessions-place.result (omega (arith, c.if-place-sessions.false)))
 
 pub returns-clause-turn : goal.returns-clause-turn
 returns-clause-turn g c =
-    turn_taken (run_of c.args.sessions.now c.args.shared.now) (run_of (slice_set c.args.sessions.now (c.args.said.session - 1) c.take_turn-wanted.new.self) c.take_turn-wanted.new.shared)
-    (c.args.said.session - 1) (slice_index_or c.args.sessions.now (c.args.said.session - 1) c.index-sessions-place.result) c.take_turn-wanted.new.self c.args.said
+    turn_taken (run_of c.args.sessions.now c.args.shared.now) (run_of (slice_set c.args.sessions.now (c.args.said.now.session - 1) c.take_turn-wanted.new.self) c.take_turn-wanted.new.shared)
+    (c.args.said.now.session - 1) (slice_index_or c.args.sessions.now (c.args.said.now.session - 1) c.index-sessions-place.result) c.take_turn-wanted.new.self c.args.said.now
     (λ (ys : List What). TakesEvents g.K.Sink.written g.K.Sink.faults c.turn_to.new.self ys c.take_turn-wanted.new.out)
     (λ (xs : List Event). ShowsEvents g.K.Sink.written g.K.Sink.faults c.args.printer.now xs c.take_turn-wanted.new.out) c.take_turn-wanted.result
-    c.requires.standing (slice_get-get_or c.args.sessions.now (c.args.said.session - 1) c.index-sessions-place.result (omega (arith, c.if-place-sessions.false))) refl
-    (omega (arith, c.requires.session.0)) c.take_turn-wanted.ensures.turn c.take_turn-wanted.ensures.lines c.beside.ensures
-    (λ ys p. ShowsEvents-turn g.K.Sink.written g.K.Sink.faults c.args.printer.now c.turn_to.new.self c.take_turn-wanted.new.out c.args.said.session ys c.turn_to.ensures p)
+    c.requires.standing (slice_get-get_or c.args.sessions.now (c.args.said.now.session - 1) c.index-sessions-place.result (omega (arith, c.if-place-sessions.false))) refl
+    (omega (arith, c.requires.session.0)) (rw c.as_ref.ensures.value at c.take_turn-wanted.ensures.turn) c.take_turn-wanted.ensures.lines c.beside.ensures
+    (λ ys p. ShowsEvents-turn g.K.Sink.written g.K.Sink.faults c.args.printer.now c.turn_to.new.self c.take_turn-wanted.new.out c.args.said.now.session ys c.turn_to.ensures p)
 
 pub returns-clause-standing : goal.returns-clause-standing
 returns-clause-standing g c =
-    turn_standing (run_of c.args.sessions.now c.args.shared.now) (run_of (slice_set c.args.sessions.now (c.args.said.session - 1) c.take_turn-wanted.new.self) c.take_turn-wanted.new.shared)
-    (c.args.said.session - 1) (slice_index_or c.args.sessions.now (c.args.said.session - 1) c.index-sessions-place.result) c.take_turn-wanted.new.self c.args.said
+    turn_standing (run_of c.args.sessions.now c.args.shared.now) (run_of (slice_set c.args.sessions.now (c.args.said.now.session - 1) c.take_turn-wanted.new.self) c.take_turn-wanted.new.shared)
+    (c.args.said.now.session - 1) (slice_index_or c.args.sessions.now (c.args.said.now.session - 1) c.index-sessions-place.result) c.take_turn-wanted.new.self c.args.said.now
     (λ (ys : List What). TakesEvents g.K.Sink.written g.K.Sink.faults c.turn_to.new.self ys c.take_turn-wanted.new.out)
     (λ (xs : List Event). ShowsEvents g.K.Sink.written g.K.Sink.faults c.args.printer.now xs c.take_turn-wanted.new.out) c.take_turn-wanted.result
-    c.requires.standing (slice_get-get_or c.args.sessions.now (c.args.said.session - 1) c.index-sessions-place.result (omega (arith, c.if-place-sessions.false))) refl
-    (omega (arith, c.requires.session.0)) c.take_turn-wanted.ensures.turn c.take_turn-wanted.ensures.lines c.beside.ensures
-    (λ ys p. ShowsEvents-turn g.K.Sink.written g.K.Sink.faults c.args.printer.now c.turn_to.new.self c.take_turn-wanted.new.out c.args.said.session ys c.turn_to.ensures p)
+    c.requires.standing (slice_get-get_or c.args.sessions.now (c.args.said.now.session - 1) c.index-sessions-place.result (omega (arith, c.if-place-sessions.false))) refl
+    (omega (arith, c.requires.session.0)) (rw c.as_ref.ensures.value at c.take_turn-wanted.ensures.turn) c.take_turn-wanted.ensures.lines c.beside.ensures
+    (λ ys p. ShowsEvents-turn g.K.Sink.written g.K.Sink.faults c.args.printer.now c.turn_to.new.self c.take_turn-wanted.new.out c.args.said.now.session ys c.turn_to.ensures p)

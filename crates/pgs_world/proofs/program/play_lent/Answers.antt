@@ -1,11 +1,14 @@
 use Rattle.std.proofs.Common.{◌∙◌, ap}
 use Rattle.addr_space.specs.Space.{Space, held}
 use Rattle.pgs_world.proofs.StartLemmas.{limited_held}
-use Rattle.pgs_world.proofs.program.start.Goals as goal
+use Rattle.pgs_world.proofs.program.play_lent.Goals as goal
 
 pub play-outcome-requires-clause-empty : goal.play-outcome-requires-clause-empty
 play-outcome-requires-clause-empty g c account =
     ap (λ (s : Space). held s account) (c.swap.ensures.y_after ∙ c.set_limit.ensures) ∙ limited_held c.args.space.now c.args.options.now.space account ∙ c.requires.empty account
+
+pub play-outcome-requires-clause-kinds : goal.play-outcome-requires-clause-kinds
+play-outcome-requires-clause-kinds g c = rw c.swap_kinds.ensures.swapped c.requires.sound
 
 pub returns-clause-taken : goal.returns-clause-taken
 returns-clause-taken g c h = rw c.swap-3.ensures.x_after (rw (c.swap.ensures.y_after, c.swap-2.ensures.y_after, c.swap_kinds.ensures.swapped, c.set_limit.ensures) at (c.play-outcome.ensures.taken h))
