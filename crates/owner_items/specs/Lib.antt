@@ -1,3 +1,4 @@
+pub mod Boxed
 pub mod Gathered
 pub mod Held
 pub mod Index

@@ -1,9 +1,11 @@
-ghost use Rattle.std.specs.Prelude.{◌≡◌, ◌+◌, ◌<◌, ◌≤◌, ◌∷◌, [], length, reverse, find, true, false, All, IsSome, OnOk, OnErr, IfNone, MatchOption};
+ghost use Rattle.std.specs.Prelude.{◌≡◌, ◌↔◌, ◌+◌, ◌<◌, ◌≤◌, ◌∷◌, ◌++◌, [], length, reverse, find, true, false, All, IsNone, IsSome, OnOk, OnErr, IfNone, IfSome, MatchOption};
+ghost use Rattle.std.specs.Option.{option_to_list};
 ghost use Rattle.owner_kinds.specs.KindShelf.{table_of};
-ghost use Rattle.owner_items.specs.ItemList.{AreFalling, is_of, without_newest};
+ghost use Rattle.owner_kinds.specs.KindTable.{IsKind};
+ghost use Rattle.owner_items.specs.ItemList.{AreFalling, is_of, without_newest, without_serial};
 ghost use Rattle.owner_items.specs.Table.{live_items};
 ghost use Rattle.owner_items.specs.Gathered.{all_items};
-ghost use Rattle.owner_items.specs.Next.{is_of_phase};
+ghost use Rattle.owner_items.specs.Next.{is_of_phase, items_left, release_order};
 ghost use Rattle.owner_items.specs.Held.{IsHeld, HasRoom, IsGathered, IsNextOf, items_of, spare_of};
 
 use crate::gather::{
@@ -222,5 +224,21 @@ impl Held {
         self.table.entries.pop();
         self.table.live -= 1;
         Some(last.item)
+    }
+
+    // The next item of this phase, as the order of its release has it.
+    pub fn take_in_order<K: ExtKind>(&mut self, kinds: &KindShelf<K>, phase: Phase) -> Option<Item>
+        requires held { IsHeld self.old }
+        requires kinds { All (λ item. IsKind (table_of kinds.now) item.kind) (items_of self.old) }
+        ensures held { IsHeld self.new }
+        ensures none { IsNone result ↔ (release_order (table_of kinds.now) phase (items_of self.old) ≡ []) }
+        ensures order { release_order (table_of kinds.now) phase (items_of self.old) ≡ option_to_list result ++ release_order (table_of kinds.now) phase (items_of self.new) }
+        ensures rest { IfSome result (λ item. items_of self.new ≡ without_serial item.serial (items_of self.old)) }
+        ensures left { items_left (table_of kinds.now) phase (items_of self.new) ≡ items_left (table_of kinds.now) phase (items_of self.old) }
+        ensures done { IfNone result (items_left (table_of kinds.now) phase (items_of self.new) ≡ items_of self.new) }
+        ensures unchanged { IfNone result (self.new ≡ self.old) }
+        ensures kinds { All (λ item. IsKind (table_of kinds.now) item.kind) (items_of self.new) }
+    {
+        self.take_next(kinds, phase)
     }
 }

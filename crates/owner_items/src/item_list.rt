@@ -14,21 +14,23 @@ use std::marker::Model;
 /// The items that one owner remembers: an array of the newest 32 and a table of the others, as in PostgreSQL's
 /// `ResourceOwner`.
 ///
-/// Contracts see the list of the items, newest first. Their serials fall along it.
+/// They lie in a box, which is made with the first room, so that an owner that holds nothing is small. Contracts see the
+/// list of the items, newest first. Their serials fall along it.
 #[derive(Drop)]
 pub struct Items {
-    held: Held,
+    held: Option<Box<Held>>,
+    alloc: Global,
 }
 
 impl Model for Items {
     ghost use Rattle.owner_items.specs.ItemList.{ItemList};
-    ghost use Rattle.owner_items.specs.Held.{IsHeld, items_of, spare_of};
+    ghost use Rattle.owner_items.specs.Boxed.{list_in, IsSound};
 
     ghost Value = { ItemList };
 
-    ghost view = { λ s. record { items = items_of s.held; spare = spare_of s.held } };
+    ghost view = { λ s. list_in s.held };
 
-    ghost invariant = { λ s. IsHeld s.held };
+    ghost invariant = { λ s. IsSound s.held };
 }
 
 impl Items {
@@ -36,9 +38,7 @@ impl Items {
     pub fn new(alloc: Global) -> Items
         ensures { result.items ≡ [] }
     {
-        Items {
-            held: Held::new(alloc),
-        }
+        Items { held: None, alloc }
     }
 
     /// How many more items may be remembered without memory.
@@ -46,7 +46,10 @@ impl Items {
         ensures spare { result ≡ self.now.spare }
         ensures falling { AreFalling self.now.items }
     {
-        self.held.spare()
+        match &self.held {
+            Some(held) => held.spare(),
+            None => 0,
+        }
     }
 
     /// How many items are remembered.
@@ -54,7 +57,10 @@ impl Items {
         ensures count { result ≡ length self.now.items }
         ensures falling { AreFalling self.now.items }
     {
-        self.held.len()
+        match &self.held {
+            Some(held) => held.len(),
+            None => 0,
+        }
     }
 
     /// Makes room for one more item: `ResourceOwnerEnlarge`. Over many calls it takes constant time.
@@ -68,7 +74,15 @@ impl Items {
         ensures err { OnErr result (self.new ≡ self.old) }
         ensures falling { AreFalling self.new.items }
     {
-        self.held.enlarge()
+        match &mut self.held {
+            Some(held) => held.enlarge(),
+            None => {
+                let mut held = Box::new(self.alloc, Held::new(self.alloc))?;
+                held.enlarge()?;
+                self.held = Some(held);
+                Ok(())
+            }
+        }
     }
 
     /// Remembers an item, which is the newest then: `ResourceOwnerRemember`. It uses room that `enlarge` made.
@@ -79,7 +93,10 @@ impl Items {
         ensures spare { self.old.spare ≤ self.new.spare + 1 }
         ensures falling { AreFalling self.new.items }
     {
-        self.held.remember(item);
+        match &mut self.held {
+            Some(held) => held.remember(item),
+            None => unreachable!(),
+        }
     }
 
     /// Forgets the newest item of this kind and key: `ResourceOwnerForget`.
@@ -92,7 +109,10 @@ impl Items {
         ensures unchanged { IfNone result (self.new ≡ self.old) }
         ensures falling { AreFalling self.new.items }
     {
-        self.held.forget(kind, key)
+        match &mut self.held {
+            Some(held) => held.forget(kind, key),
+            None => None,
+        }
     }
 
     /// Takes the item that is released next in this phase, if any is left: of those with the lowest
@@ -113,6 +133,9 @@ impl Items {
         ensures kinds { All (λ item. IsKind (table_of kinds.now) item.kind) self.new.items }
         ensures falling { AreFalling self.new.items }
     {
-        self.held.take_next(kinds, phase)
+        match &mut self.held {
+            Some(held) => held.take_in_order(kinds, phase),
+            None => None,
+        }
     }
 }

@@ -1,7 +1,7 @@
 //! Reading a source by lines.
-ghost use Rattle.std.specs.Prelude.{◌≡◌, ◌<◌, ◌≤◌, ◌+◌, [], ℕ, List, Option, length};
+ghost use Rattle.std.specs.Prelude.{◌≡◌, ◌<◌, ◌≤◌, ◌+◌, [], ◌∷◌, ℕ, List, Option, IsTrue, drop, length};
 ghost use Rattle.pgs_io.specs.Faults.{HasRisen};
-ghost use Rattle.pgs_io.specs.Lines.{HasNoNewline};
+ghost use Rattle.pgs_io.specs.Lines.{HasNoNewline, newline};
 ghost use Rattle.pgs_io.specs.Reading.{GivesLine, GivesLast, MeetsEnd, MeetsFault, MeetsLimit};
 ghost use Rattle.pgs_io.specs.Answers.{IfLine, IfLast, OnEnd, OnFault, OnTooMuch, OnNoFault, IfWhole, OnPartial};
 ghost use Rattle.pgs_io.specs.Filling.{TakesPart, Fills, FillsNoFault, Probes};
@@ -88,6 +88,11 @@ impl LineReader {
         ensures line_unchanged { OnPartial result (line.new ≡ line.old) }
     {
         let pending = &self.chunk[self.start..self.end];
+        if begins_with_newline(pending) {
+            line.clear();
+            self.start += 1;
+            return Buffered::Whole { long: false };
+        }
         let Some(at) = first_of(pending, NEWLINE) else {
             return Buffered::Partial;
         };
@@ -205,5 +210,16 @@ fn probe<S: Source>(source: &mut S) -> Filled
         Ok(0) => Filled::End,
         Ok(_) => Filled::TooMuch,
         Err(Failed) => Filled::Fault,
+    }
+}
+
+/// Whether the first of the bytes is a newline: an empty line, which needs no search.
+#[inline(always)]
+fn begins_with_newline(bytes: &[u8]) -> bool
+    ensures { IsTrue result → bytes.now ≡ newline ∷ drop 1 bytes.now }
+{
+    match bytes {
+        [] => false,
+        [first, ..] => *first == NEWLINE,
     }
 }
