@@ -14,15 +14,16 @@ use Rattle.owner_kinds.specs.KindShelf.{table_of}
 use Rattle.owner_core.specs.Owners.{OwnerTree, AllAt, HoldsNothing}
 use Rattle.owner_core.specs.Sound.{IsSound}
 use Rattle.owner_core.proofs.Sounds.{once_of}
+use Rattle.portal_store.specs.Portal.{lowered as level_lowered}
 use Rattle.snap_table.specs.declared.active.Active.{Active}
 use Rattle.snap_table.specs.Snapshots.{kept_below, lowered}
 use Rattle.session_rules.specs.State.{LevelState, OpenPortal, abort_context, context_of, first_of, deepest_changed, is_aborted, owner_of, plan_reference, portals_context, top_context}
 use Rattle.session_rules.specs.World.{Scene}
-use Rattle.session_rules.specs.Acts.{Ended, changes, context_gone, for_each, in_order, portal_gone, switched, where_so, where_there}
+use Rattle.session_rules.specs.Acts.{Ended, changes, context_gone, for_each, in_order, portal_becomes, portal_gone, switched, where_so, where_there}
 use Rattle.session_rules.specs.Portals.{portal_aborted, portal_closed, portal_passed}
-use Rattle.session_rules.specs.Releases.{owner_released}
+use Rattle.session_rules.specs.Releases.{owner_moved, owner_released}
 use Rattle.session_rules.specs.Ends.{aborted, cleaned_up, committed, empty_context_gone, exited, given_up, level_context_gone, level_owner_gone, level_popped, level_released, level_rolled_back, recovered, stack_lowered, stack_popped, subcommitted, switched_up}
-use Rattle.session_rules.specs.Standing.{AreContexts, AreHooks, AreLevels, AreOpen, AreDifferent, AreOwners, AreOuter, ArePlans, ArePortals, AreStacked, FitLevels, HasExited, HasItems, IsAttached, IsDead, IsLevel, IsLive, IsOfPortal, IsOwner, IsPlace, IsPortal, IsMade, IsOpen, Stands, StandsBetweenLines, active_depth, owner_at, referred}
+use Rattle.session_rules.specs.Standing.{AreContexts, AreHooks, AreLevels, AreOpen, AreDifferent, AreOwners, AreOuter, ArePlans, ArePortals, AreStacked, FitLevels, HasExited, HasItems, IsAtRest, IsAttached, IsDead, IsLevel, IsLive, IsOfPortal, IsOwner, IsPlace, IsPortal, IsMade, IsOpen, Stands, StandsBetweenLines, active_depth, owner_at, referred}
 use Rattle.session_rules.proofs.Forests.{has_left, parent_left}
 use Rattle.session_rules.proofs.ContextsKept.{IsSame, contexts_level_gone, nothing_left, off_outside, protected_has, same_removed, stay_same, top_protected}
 use Rattle.session_rules.proofs.HooksKept.{conserves_gone, hooks_ended}
@@ -34,6 +35,7 @@ use Rattle.session_rules.proofs.Stacked.{depth_small, depth_still, none_stacked,
 use Rattle.session_rules.proofs.LevelsKept.{AreEnding, HasLeft, IsStill, is_there, left_nothing, left_still, levels_stay, one_value, outer_contexts, outer_owners, owners_aborted, owners_end, owners_without, without_owner}
 use Rattle.session_rules.proofs.Lone.{lone_left, lone_swept}
 use Rattle.session_rules.proofs.PortalsAmong.{IsRowOf, attached_by, off_levels, off_rows, place_level, place_own, place_same, place_spared, row_left, row_of}
+use Rattle.session_rules.proofs.Resting.{all_rest_aborted, all_rest_outside, rests_becomes, rests_but}
 use Rattle.session_rules.proofs.Ending.{Ending, IsAway, IsDone, Leads, Parts, with_parts}
 use Rattle.session_rules.proofs.Replacing.{all_closed, all_swept_away, swept_away}
 use Rattle.session_rules.proofs.Passing.{all_passed}
@@ -374,6 +376,16 @@ sweep_owners level levels gone (p ∷ ps) s = sweep_owners level levels gone ps 
     one true (Some n) = refl
     one false c = refl
 
+-- and leaves portals at rest
+sweep_rests : (level : LevelState) (levels : List LevelState) (gone : level.aborted ≡ true) (ps : List OpenPortal) (s : Scene) → All IsAtRest s.session.portals → All IsAtRest (for_each (swept_away level levels gone) ps s).scene.session.portals
+sweep_rests level levels gone [] s h = h
+sweep_rests level levels gone (p ∷ ps) s h = sweep_rests level levels gone ps (swept_away level levels gone p s).scene (one (p.created == length (level ∷ levels)) p.context)
+  where
+    one : (b : Bool) (c : Option ℕ) → All IsAtRest (where_so b (in_order (where_there c context_gone ∷ portal_gone p.name ∷ [])) s).scene.session.portals
+    one true None = rests_but p.name s.session.portals h
+    one true (Some n) = rests_but p.name s.session.portals h
+    one false c = h
+
 clean_from : (level : LevelState) (levels : List LevelState) (s : Scene) → level.aborted ≡ true → Ending level levels levels [] s.session.portals s → ((n : ℕ) → level.owner ≡ Some n → AllAt HoldsNothing n s.session.owners)
     → AreStacked 1 (active_depth levels) s.session.snapshots → Leaves levels (cleaned_up (settled (level ∷ levels) s)).scene
 clean_from level levels s gone h idle stacked =
@@ -381,6 +393,8 @@ clean_from level levels s gone h idle stacked =
     let loop2 : Leads level levels levels [] st (for_each (swept_away level levels gone) s.session.portals st).scene = all_swept_away level levels gone s.session.portals st (resettled level levels levels [] s.session.portals s h) in
     let z : Scene = with_parts loop2.goes.parts s in
     let owners : loop2.goes.parts.owners ≡ s.session.owners = sym (ap (λ (y : Scene). y.session.owners) loop2.goes.is) ∙ sweep_owners level levels gone s.session.portals st in
+    let at_rest : All IsAtRest loop2.goes.parts.portals = subst (All IsAtRest) (ap (λ (y : Scene). y.session.portals) loop2.goes.is)
+    (sweep_rests level levels gone s.session.portals st (all_rest_aborted s.session.portals level levels s.session.contexts s.session.owners s.session.current gone h.rest)) in
     let still : (n : ℕ) → level.owner ≡ Some n → AllAt HoldsNothing n loop2.goes.parts.owners = λ n e. subst (λ (x : OwnerTree). AllAt HoldsNothing n x) (sym owners) (idle n e) in
     let may : MayEnd (referred loop2.goes.parts.owners) level levels levels z = may_end level levels levels loop2.front z (unsettled level levels levels loop2.front [] (level ∷ levels) z loop2.goes.ending) in
     subst (Leaves levels) (sym (ap behind_sweep loop2.goes.is ∙ sweep_is level.name level.context level.owner level.implicit level.aborted level.starting levels z))
@@ -388,6 +402,7 @@ clean_from level levels s gone h idle stacked =
       between = record {
         stands = popped_stands level levels z level.context s.session.snapshots (λ n e. e) stacked (idle_ends level levels levels z still may);
         open_levels = outer_open levels h.outer;
+        at_rest = at_rest;
       };
       are = refl;
     })
@@ -507,10 +522,12 @@ commit_from level s h stacked =
     ap behind_commit g.is
     ∙ behind_is level.name c o level.implicit level.aborted level.starting (with_owners g.owners z)
     ∙ ap (λ (w : OwnerTree). with_owners w (popped c o [] stack z)) (without_left (table_of s.around.kinds) o s.session.owners g.owners g.left) in
+    let stands : Stands (popped c o [] stack z) = popped_stands level [] z c stack (λ n e. e) stacked (released_ends level [] [] s g.besides g.owners h g.same g.left g.fits g.spares) in
     subst (Leaves []) (sym is) (record {
       between = record {
-        stands = popped_stands level [] z c stack (λ n e. e) stacked (released_ends level [] [] s g.besides g.owners h g.same g.left g.fits g.spares);
+        stands = stands;
         open_levels = tt;
+        at_rest = all_rest_outside s.session.portals _ _ _ stands.portals.each;
       };
       are = refl;
     })
@@ -571,8 +588,14 @@ context_to_go_is (Some m) t n e = go (is_empty m t) e
     go true e = e
     go false e = absurd (cc e)
 
+-- what a merge leads to: the session stands with the levels above, and where portals were at rest they still are
+pub record Merges (levels : List LevelState) (s z : Scene) : Type 0 where
+  pub stands : Stands z
+  pub are : z.session.levels ≡ levels
+  pub at_rest : All IsAtRest s.session.portals → All IsAtRest z.session.portals
+
 merge_from : (level : LevelState) (levels : List LevelState) (s : Scene) → MayEnd (referred s.session.owners) level levels levels s → AreStacked 1 (active_depth levels) (map (lowered (length (level ∷ levels))) s.session.snapshots)
-    → Leaves levels (behind_merge (length (level ∷ levels)) (where_there level.owner (owner_released true false) (settled (level ∷ levels) s)).scene)
+    → Merges levels s (behind_merge (length (level ∷ levels)) (where_there level.owner (owner_released true false) (settled (level ∷ levels) s)).scene)
 merge_from level levels s h stacked =
     let n : ℕ = length (level ∷ levels) in
     let o : Option ℕ = level.owner in
@@ -584,16 +607,28 @@ merge_from level levels s h stacked =
     ap (behind_merge n) g.is
     ∙ merge_is n level.name level.context o level.implicit level.aborted level.starting levels (with_owners g.owners z)
     ∙ ap (λ (w : OwnerTree). with_owners w (popped c o levels stack z)) (without_left (table_of s.around.kinds) o s.session.owners g.owners g.left) in
-    subst (Leaves levels) (sym is) (record {
-      between = record {
-        stands = popped_stands level levels z c stack (λ k e. context_to_go_is level.context g.besides.contexts k e) stacked (released_ends level levels levels s g.besides g.owners h g.same g.left g.fits g.spares);
-        open_levels = outer_open levels h.outer;
-      };
+    subst (Merges levels s) (sym is) (record {
+      stands = popped_stands level levels z c stack (λ k e. context_to_go_is level.context g.besides.contexts k e) stacked (released_ends level levels levels s g.besides g.owners h g.same g.left g.fits g.spares);
       are = refl;
+      at_rest = λ r. r;
     })
 
+-- portals that pass stay at rest
+passes_rest : (n : ℕ) (above : Option ℕ) (ps : List OpenPortal) (s : Scene) → All IsAtRest s.session.portals → All IsAtRest (for_each (portal_passed n above) ps s).scene.session.portals
+passes_rest n above [] s h = h
+passes_rest n above (p ∷ ps) s h = passes_rest n above ps (portal_passed n above p s).scene (one (p.created == n) p.owner above)
+  where
+    passes : OpenPortal → OpenPortal
+    passes = λ old. record old { created = level_lowered n old.created; active = level_lowered n old.active }
+
+    one : (b : Bool) (o up : Option ℕ) → All IsAtRest (in_order (where_so b (where_there o (λ owner. where_there up (owner_moved owner))) ∷ portal_becomes p.name passes ∷ []) s).scene.session.portals
+    one false o up = rests_becomes p.name passes s.session.portals (λ q r. r) h
+    one true None up = rests_becomes p.name passes s.session.portals (λ q r. r) h
+    one true (Some k) None = rests_becomes p.name passes s.session.portals (λ q r. r) h
+    one true (Some k) (Some q) = rests_becomes p.name passes s.session.portals (λ q r. r) h
+
 -- A level that isn't level 1 is merged into the one above it.
-pub subcommitted_stands : (level : LevelState) (levels : List LevelState) (s : Scene) → 1 ≤ length levels → Stands (settled (level ∷ levels) s) → Leaves levels (subcommitted (settled (level ∷ levels) s)).scene
+pub subcommitted_stands : (level : LevelState) (levels : List LevelState) (s : Scene) → 1 ≤ length levels → Stands (settled (level ∷ levels) s) → Merges levels s (subcommitted (settled (level ∷ levels) s)).scene
 subcommitted_stands level levels s some h =
     let st : Scene = settled (level ∷ levels) s in
     let n : ℕ = length (level ∷ levels) in
@@ -604,8 +639,22 @@ subcommitted_stands level levels s some h =
     all_passed level levels some s.session.portals st (resettled level levels levels [] s.session.portals s (begins level levels levels s h)) in
     let z : Scene = with_parts loop.goes.parts s in
     let may : MayEnd (referred z.session.owners) level levels levels z = may_end level levels levels loop.front z (unsettled level levels levels loop.front [] (level ∷ levels) z loop.goes.ending) in
-    subst (Leaves levels) (sym (ap (λ (y : Scene). behind_merge n (level_released true false y).scene) loop.goes.is))
-    (merge_from level levels z may stacked)
+    let m : Merges levels z (behind_merge n (where_there level.owner (owner_released true false) (settled (level ∷ levels) z)).scene) = merge_from level levels z may stacked in
+    subst (Merges levels s) (sym (ap (λ (y : Scene). behind_merge n (level_released true false y).scene) loop.goes.is))
+    (record {
+      stands = m.stands;
+      are = m.are;
+      at_rest = λ r. m.at_rest (subst (All IsAtRest) (ap (λ (y : Scene). y.session.portals) loop.goes.is) (passes_rest n (owner_of (first_of levels)) s.session.portals st r));
+    })
+
+-- and between two lines it stands between two lines
+pub subcommitted_leaves : (level : LevelState) (levels : List LevelState) (s : Scene) → 1 ≤ length levels → All IsAtRest s.session.portals → Stands (settled (level ∷ levels) s) → Leaves levels (subcommitted (settled (level ∷ levels) s)).scene
+subcommitted_leaves level levels s some at_rest h =
+    let m : Merges levels s (subcommitted (settled (level ∷ levels) s)).scene = subcommitted_stands level levels s some h in
+    record {
+      between = record { stands = m.stands; open_levels = subst AreOpen (sym m.are) (outer_open levels h.fit.1); at_rest = m.at_rest at_rest };
+      are = m.are;
+    }
 
 -- the deepest level is aborted, with these owners left
 abbrev shut : LevelState → List LevelState → OwnerTree → Scene → Scene
@@ -757,10 +806,12 @@ pub aborted_stands : (level : LevelState) (levels : List LevelState) (s : Scene)
 aborted_stands level levels s active open_level h =
     let z : Scene = (aborted (settled (level ∷ levels) s)).scene in
     let a : HasShut level levels s z = aborted_is level levels s h in
+    let stands : Stands (shut level levels a.parts.owners (with_parts a.parts s)) = shut_stands level levels s z open_level a h in
     subst (Leaves (record level { aborted = true } ∷ levels)) (sym a.is) (record {
       between = record {
-        stands = shut_stands level levels s z open_level a h;
+        stands = stands;
         open_levels = (record { started = open_level.started; block = open_level.block }, outer_open levels h.fit.1);
+        at_rest = all_rest_aborted a.parts.portals (record level { aborted = true }) levels _ _ _ refl stands.portals.each;
       };
       are = refl;
     })
@@ -820,11 +871,15 @@ given_up_stands level levels s false false e q active h = (aborted_stands level 
 
 recovered_settled : (error : Error) (levels : List LevelState) (s : Scene) → Stands (settled levels s) → StandsBetweenLines (recovered error (settled levels s)).scene
 unfolding recovered
-recovered_settled error [] s h = record { stands = h; open_levels = tt }
+recovered_settled error [] s h = record { stands = h; open_levels = tt; at_rest = all_rest_outside s.session.portals s.session.contexts s.session.owners s.session.current h.portals.each }
 recovered_settled error (level ∷ levels) s h = go level.aborted refl
   where
     go : (b : Bool) → level.aborted ≡ b → StandsBetweenLines (where_so (not b) (given_up (level ∷ levels)) (settled (level ∷ levels) s)).scene
-    go true e = record { stands = h; open_levels = (h.fit.0.open_level e, outer_open levels h.fit.1) }
+    go true e = record {
+      stands = h;
+      open_levels = (h.fit.0.open_level e, outer_open levels h.fit.1);
+      at_rest = all_rest_aborted s.session.portals level levels s.session.contexts s.session.owners s.session.current e h.portals.each;
+    }
     go false e = given_up_stands level levels s level.starting level.implicit refl refl e h
 
 -- A recovery leads from each state between two steps to one between two lines.

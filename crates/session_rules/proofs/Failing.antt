@@ -6,6 +6,7 @@ use Rattle.std.proofs.lemmas.Bool.{cases_eq, cases_Bool, eqb-true, eqb-false}
 use Rattle.forest.specs.Forest.{Empty, Once, has, at, children, moved, with_children}
 use Rattle.forest.proofs.Trees.{Moves, first_child_other}
 use Rattle.forest.proofs.Moved.{below_parent}
+use Rattle.portal_store.specs.declared.portal.PortalState.{PortalState}
 use Rattle.portal_store.specs.declared.portal.PortalState.TheVariants as portal
 use Rattle.reset_callbacks.specs.ShelfState.{ShelfState}
 use Rattle.context_rules.specs.Contexts.{Contexts}
@@ -20,8 +21,8 @@ use Rattle.session_rules.specs.Lookup.{portal_changed}
 use Rattle.session_rules.specs.Acts.{Ended, children_gone, for_each, in_order, portal_becomes, where_so, where_there}
 use Rattle.session_rules.specs.Releases.{owner_moved}
 use Rattle.session_rules.specs.Checks.{has_failed}
-use Rattle.session_rules.specs.Portals.{portal_aborted, portal_failed, portal_withdrawn}
-use Rattle.session_rules.specs.Standing.{HasItems, IsAttached, IsDead, IsLive, IsOwner, IsPlace, IsPortal, active_depth, owner_at, referred}
+use Rattle.session_rules.specs.Portals.{is_ready, portal_aborted, portal_failed, portal_withdrawn}
+use Rattle.session_rules.specs.Standing.{HasItems, IsAtRest, IsAttached, IsDead, IsLive, IsOwner, IsPlace, IsPortal, active_depth, owner_at, referred}
 use Rattle.session_rules.proofs.Guarded.{all_moved}
 use Rattle.session_rules.proofs.ContextsKept.{contexts_emptied, protected_has, same_emptied}
 use Rattle.session_rules.proofs.HooksKept.{conserves_children, hooks_ended}
@@ -189,10 +190,20 @@ module _ (level : LevelState) (levels : List LevelState) where
     changes_drawn : (b : Bool) (p : OpenPortal) → Changes p (drawn b p)
     changes_drawn b p = record { name = refl; context = λ n e. e; owner = λ n e. drawn_owner b p n e }
 
-    drawn_live : (b : Bool) (p : OpenPortal) → IsLive p (level ∷ levels) → p.created ≢ deep → IsLive (drawn b p) gone_levels
-    drawn_live b p l ne =
+    -- it is at rest then: where it has failed it has no owner, and it isn't new
+    drawn_rests : (b : Bool) (p : OpenPortal) → has_failed p.state ≡ b → IsLive p (level ∷ levels) → p.created ≢ deep → IsAtRest (drawn b p)
+    drawn_rests true p e l ne = λ _. refl
+    drawn_rests false p e l ne = elim l.line [ inl r ↦ r | inr a ↦ λ unready. absurd (ne (a.1 (is_new p.state e unready))) ]
+      where
+        is_new : (state : PortalState) → has_failed state ≡ false → is_ready state ≡ false → state ≡ portal.New
+        is_new portal.New e unready = refl
+        is_new portal.Ready e unready = absurd (cc unready)
+        is_new portal.Failed e unready = absurd (cc e)
+
+    drawn_live : (b : Bool) (p : OpenPortal) → has_failed p.state ≡ b → IsLive p (level ∷ levels) → p.created ≢ deep → IsLive (drawn b p) gone_levels
+    drawn_live b p e l ne =
         let few : active_depth (level ∷ levels) ≤ deep = depth_small (level ∷ levels) in
-        record { some = l.some; within = omega (arith, l.within, l.active, few, ne); active = omega (arith, gone_depth) }
+        record { some = l.some; within = omega (arith, l.within, l.active, few, ne); active = omega (arith, gone_depth); line = inl (drawn_rests b p e l ne) }
 
     live : (p : OpenPortal) (t : Contexts) (x : OwnerTree) (current : ℕ) → IsPortal p (level ∷ levels) t x current → p.created ≢ deep → IsLive p (level ∷ levels)
     live p t x current i ne = elim i.stage [ inl l ↦ l | inr d ↦ absurd (ne d.created) ]
@@ -216,7 +227,7 @@ module _ (level : LevelState) (levels : List LevelState) where
           place = i.place;
           made = i.made;
           owner = λ n f. attached_gone n p.created s.session.owners (i.owner n (drawn_owner b p n f));
-          stage = inl (drawn_live b p l ne);
+          stage = inl (drawn_live b p e l ne);
         } in
         let keeps : (n : ℕ) → p.owner ≡ Some n → (if b then None else p.owner) ≡ Some n = keep b none in
         let owners : AreEnding (table_of s.around.kinds) s.session.owners s.session.next_owner s.session.next_serial level levels (front ++ (q ∷ back)) = record {
@@ -270,7 +281,7 @@ module _ (level : LevelState) (levels : List LevelState) where
           place = i.place;
           made = i.made;
           owner = λ n f. absurd (cc f);
-          stage = inl (drawn_live true p l ne);
+          stage = inl (drawn_live true p e l ne);
         } in
         let off : (k : ℕ) → level.owner ≡ Some k → k ≢ o = λ k f z. a.other (inl (f ∙ ap Some z)) in
         let active : level.aborted ≡ false = elim (cases_Bool level.aborted) [
@@ -342,7 +353,7 @@ module _ (level : LevelState) (levels : List LevelState) where
               place = i.place;
               made = i.made;
               owner = λ n f. attached_gone n p.created s.session.owners (i.owner n f);
-              stage = inl (record { some = l.some; within = l.within; active = omega (arith, l.active, few, off, gone_depth) });
+              stage = inl (record { some = l.some; within = l.within; active = omega (arith, l.active, few, off, gone_depth); line = elim l.line [ inl r ↦ inl r | inr a ↦ absurd (off a.0) ] });
             } in
             record { front = front ++ (p ∷ []); goes = goes_nothing level levels gone_levels (front ++ (p ∷ [])) back s (kept level levels gone_levels p front back s h now (λ n f z. (i.owner n f).other (inl z))) }
 

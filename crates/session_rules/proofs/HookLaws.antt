@@ -138,7 +138,7 @@ transaction_counts w c session (level ∷ levels) m h is all =
 transaction_counts w c session [] m h is all =
     some_then w (HasBegun None true []) (start None true) (work_of c session ++ (e.CommitTop ∷ e.Says what.Ok ∷ [])) m
     (does_all_counts w (start None true) m (tt, (tt, (tt, (tt, tt)))) (numbered_of m.scene h.stands))
-    (start_leads w None true [] m (record { stands = h.stands; are = is }) tt (λ _. refl))
+    (start_leads w None true [] m (record { stands = h.stands; are = is; at_rest = h.at_rest }) tt (λ _. refl))
     (λ n begun. all n (e.CommitTop ∷ e.Says what.Ok ∷ []) (λ k l. does_all_counts w (e.CommitTop ∷ e.Says what.Ok ∷ []) k (tt, (refl, tt)) l) begun.stands)
 
 last_or_more_counts : (w : Option ℕ) (b : Bool) (xs ys : List Element) (m : Moment) → HasCounted m.scene (does_all w xs m) → HasCounted m.scene (does_all w ys m)

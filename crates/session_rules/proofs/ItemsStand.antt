@@ -181,7 +181,7 @@ give_step s n kind key h working there (Some item) e =
     let now : Stands (with_besides g.besides t) =
     items_step s n s.session.next_serial (λ owner. record owner { items = without_newest (is_of kind key) owner.items }) g.besides h working (λ o. refl) (λ o k. All-without (IsItem (table_of s.around.kinds)) (is_of kind key) o.items k)
     (sound_forgotten n a.0 (is_of kind key) s.session.owners s.session.next_owner s.session.next_serial h.owners.sound a.1) g.same g.fits g.spares in
-    subst (Works s) (sym g.is) (record { stands = now; levels = refl })
+    subst (Works s) (sym g.is) (record { stands = now; levels = refl; at_rest = λ r. r })
 
 -- the owner of the deepest level is there
 pub owner_there : (levels : List LevelState) (t : Contexts) (x : OwnerTree) (n : ℕ) → AreLevels levels t x → option_and_then (λ (level : LevelState). level.owner) (first_of levels) ≡ Some n → has n x ≡ true
@@ -258,7 +258,7 @@ module _ (w : Option ℕ) (moment : Moment) (h : Stands moment.scene) (working :
       fallible_keeps (Works moment.scene) w moment _ (at_owner OfLevel (λ owner. item_taken owner kind key)) (nothing_works moment.scene h)
       (λ _. at_name (Works moment.scene) (level_owner moment.scene.session) (λ owner. item_taken owner kind key) moment.scene (nothing_works moment.scene h)
       (λ n e. subst (Works moment.scene) (sym (ap (λ (k : Keeper). (in_order (taken_by k key ∷ remembers n kind key ∷ []) moment.scene).scene) unkept))
-      (record { stands = other_step moment.scene n kind key (tables_of moment.scene) h working (there n e) ne is refl; levels = refl })))
+      (record { stands = other_step moment.scene n kind key (tables_of moment.scene) h working (there n e) ne is refl; levels = refl; at_rest = λ r. r })))
 
   pub pin_works : (key : ℕ) → key < 1024 → Works moment.scene (does w (element.Take OfLevel buffer_pin key) moment).moment.scene
   pin_works key small = take_works buffer_pin key refl (λ z. absurd (omega (arith, z))) (λ serial. record { kind = inl (record { from = omega arith; to = omega arith }); buffer = λ _. small })
@@ -269,14 +269,14 @@ module _ (w : Option ℕ) (moment : Moment) (h : Stands moment.scene) (working :
   take_plan_works key p stands =
       fallible_keeps (Works moment.scene) w moment _ (at_owner OfLevel (λ owner. item_taken owner plan_reference key)) (nothing_works moment.scene h)
       (λ _. at_name (Works moment.scene) (level_owner moment.scene.session) (λ owner. item_taken owner plan_reference key) moment.scene (nothing_works moment.scene h)
-      (λ n e. record { stands = plan_step moment.scene n key p h working (there n e) stands; levels = refl }))
+      (λ n e. record { stands = plan_step moment.scene n key p h working (there n e) stands; levels = refl; at_rest = λ r. r }))
 
   -- a file gets a descriptor
   pub touch_works : (file : ℕ) → Works moment.scene (does w (element.Touch file) moment).moment.scene
   unfolding does
   touch_works file =
       fallible_keeps (Works moment.scene) w moment _ (descriptor_given file) (nothing_works moment.scene h)
-      (λ _. record { stands = stands_tabled (tables_of (descriptor_given file moment.scene).scene) moment.scene refl h; levels = refl })
+      (λ _. record { stands = stands_tabled (tables_of (descriptor_given file moment.scene).scene) moment.scene refl h; levels = refl; at_rest = λ r. r })
 
   -- the owner takes a file
   pub file_works : (file : ℕ) → Works moment.scene (does w (element.Take OfLevel file_kind file) moment).moment.scene
@@ -285,7 +285,7 @@ module _ (w : Option ℕ) (moment : Moment) (h : Stands moment.scene) (working :
       let x : Tables = tables_of (descriptor_given file moment.scene).scene in
       fallible_keeps (Works moment.scene) w moment _ (at_owner OfLevel (λ owner. item_taken owner file_kind file)) (nothing_works moment.scene h)
       (λ _. at_name (Works moment.scene) (level_owner moment.scene.session) (λ owner. item_taken owner file_kind file) moment.scene (nothing_works moment.scene h)
-      (λ n e. record { stands = other_step moment.scene n file_kind file x h working (there n e) (λ z. absurd (omega (arith, z))) (file_item (table_of moment.scene.around.kinds) file) refl; levels = refl }))
+      (λ n e. record { stands = other_step moment.scene n file_kind file x h working (there n e) (λ z. absurd (omega (arith, z))) (file_item (table_of moment.scene.around.kinds) file) refl; levels = refl; at_rest = λ r. r }))
 
   pub give_back_works : (kind : KindId) (key : ℕ) → Works moment.scene (does w (element.GiveBack kind key) moment).moment.scene
   unfolding does
@@ -305,7 +305,7 @@ module _ (w : Option ℕ) (moment : Moment) (h : Stands moment.scene) (working :
       } in
       subst (Works moment.scene)
       (sym (ap (λ (k : Keeper). (in_order (taken_by k key ∷ remembers n kind key ∷ []) moment.scene).scene) (extension_keeps kind extension.from)))
-      (record { stands = other_step moment.scene n kind key x h working (there n e) (λ z. absurd (omega (arith, z, extension.from))) is same; levels = refl })
+      (record { stands = other_step moment.scene n kind key x h working (there n e) (λ z. absurd (omega (arith, z, extension.from))) is same; levels = refl; at_rest = λ r. r })
 
   pub take_named_works : (name : Text) (key : ℕ) → Works moment.scene (does w (element.TakeNamed name key) moment).moment.scene
   unfolding does
@@ -329,10 +329,10 @@ module _ (w : Option ℕ) (moment : Moment) (h : Stands moment.scene) (working :
   lock_works object mode =
       fallible_keeps (Works moment.scene) w moment _ (at_owner OfLevel (lock_taken object mode)) (nothing_works moment.scene h)
       (λ _. at_name (Works moment.scene) (level_owner moment.scene.session) (lock_taken object mode) moment.scene (nothing_works moment.scene h)
-      (λ n e. record { stands = stands_tabled (record (tables_of moment.scene) { locks = acquired n object mode moment.scene.session.locks }) moment.scene refl h; levels = refl }))
+      (λ n e. record { stands = stands_tabled (record (tables_of moment.scene) { locks = acquired n object mode moment.scene.session.locks }) moment.scene refl h; levels = refl; at_rest = λ r. r }))
 
   pub unlock_works : (object : ℕ) (mode : Mode) → Works moment.scene (does w (element.Unlock object mode) moment).moment.scene
   unfolding does
   unlock_works object mode =
       at_name (Works moment.scene) (level_owner moment.scene.session) (lock_given_back object mode) moment.scene (nothing_works moment.scene h)
-      (λ n e. record { stands = stands_tabled (record (tables_of moment.scene) { locks = locks.given_back n object mode moment.scene.session.locks }) moment.scene refl h; levels = refl })
+      (λ n e. record { stands = stands_tabled (record (tables_of moment.scene) { locks = locks.given_back n object mode moment.scene.session.locks }) moment.scene refl h; levels = refl; at_rest = λ r. r })

@@ -22,6 +22,7 @@ pub mod PlansAmong
 pub mod PortalLists
 pub mod PortalsAmong
 pub mod Stacked
+pub mod Resting
 pub mod Ending
 pub mod Replacing
 pub mod Moving

@@ -344,6 +344,7 @@ module _ (w : Option ℕ) (moment : Moment) (h : Stands moment.scene) (working :
             (portals_moved moment.scene.session.portals moment.scene.session.levels moment.scene.session.contexts moment.scene.session.contexts moment.scene.session.owners moment.scene.session.current n
             (λ m expr k. named_place name moment.scene n h e m expr k) h.portals);
         levels = refl;
+        at_rest = λ r. r;
       })
 
   pub delete_works : (name : Text) → failure (element.MayDelete name) moment.scene ≡ None → Works moment.scene (does w (element.Delete name) moment).moment.scene
@@ -353,7 +354,7 @@ module _ (w : Option ℕ) (moment : Moment) (h : Stands moment.scene) (working :
       (λ n e.
       let b = both_none (is_protected n moment.scene.session.contexts) (is_within n moment.scene.session.current moment.scene.session.contexts) Protected InUse
       (checked name moment.scene.session (λ m. delete_refusal m moment.scene.session.current moment.scene.session.contexts) n e ok) in
-      record { stands = gone_step moment.scene n h working b.0 b.1; levels = refl })
+      record { stands = gone_step moment.scene n h working b.0 b.1; levels = refl; at_rest = λ r. r })
 
   pub delete_children_works : (name : Text) → failure (element.MayReset name) moment.scene ≡ None → Works moment.scene (does w (element.DeleteChildren name) moment).moment.scene
   unfolding does
@@ -362,7 +363,7 @@ module _ (w : Option ℕ) (moment : Moment) (h : Stands moment.scene) (working :
       (λ n e.
       let b = both_none (is_protected n moment.scene.session.contexts) (is_above n moment.scene.session.current moment.scene.session.contexts) Protected InUse
       (checked name moment.scene.session (λ m. reset_refusal m moment.scene.session.current moment.scene.session.contexts) n e ok) in
-      record { stands = children_step moment.scene n h working b.0 b.1; levels = refl })
+      record { stands = children_step moment.scene n h working b.0 b.1; levels = refl; at_rest = λ r. r })
 
   pub reset_works : (name : Text) → failure (element.MayReset name) moment.scene ≡ None → Works moment.scene (does w (element.Reset name) moment).moment.scene
   unfolding does
@@ -371,13 +372,13 @@ module _ (w : Option ℕ) (moment : Moment) (h : Stands moment.scene) (working :
       (λ n e.
       let b = both_none (is_protected n moment.scene.session.contexts) (is_above n moment.scene.session.current moment.scene.session.contexts) Protected InUse
       (checked name moment.scene.session (λ m. reset_refusal m moment.scene.session.current moment.scene.session.contexts) n e ok) in
-      record { stands = cleared_step moment.scene n h working b.0 b.1; levels = refl })
+      record { stands = cleared_step moment.scene n h working b.0 b.1; levels = refl; at_rest = λ r. r })
 
   pub reset_only_works : (name : Text) → Works moment.scene (does w (element.ResetOnly name) moment).moment.scene
   unfolding does
   reset_only_works name =
       at_name (Works moment.scene) (context_named name moment.scene.session) context_cleared_alone moment.scene (nothing_works moment.scene h)
-      (λ n e. record { stands = alone_step moment.scene n h working; levels = refl })
+      (λ n e. record { stands = alone_step moment.scene n h working; levels = refl; at_rest = λ r. r })
 
   pub reparent_works : (name parent : Text) → failure (element.MayMove name parent) moment.scene ≡ None → Works moment.scene (does w (element.Reparent name parent) moment).moment.scene
   unfolding does
@@ -389,7 +390,7 @@ module _ (w : Option ℕ) (moment : Moment) (h : Stands moment.scene) (working :
       ap (option_and_then (λ (m : ℕ). set_parent_refusal n m moment.scene.session.contexts)) (sym q)
       ∙ checked name moment.scene.session (λ m. option_and_then (λ k. set_parent_refusal m k moment.scene.session.contexts) (context_named parent moment.scene.session)) n e ok in
       let b = both_none (is_protected n moment.scene.session.contexts) (is_within n p moment.scene.session.contexts) Protected Cycle may in
-      record { stands = moved_step moment.scene n p h working (named_there name moment.scene n h e) (named_there parent moment.scene p h q) b.0 b.1 (named_other parent moment.scene p h q) (named_place parent moment.scene p h q); levels = refl }))
+      record { stands = moved_step moment.scene n p h working (named_there name moment.scene n h e) (named_there parent moment.scene p h q) b.0 b.1 (named_other parent moment.scene p h q) (named_place parent moment.scene p h q); levels = refl; at_rest = λ r. r }))
 
   pub make_script_context_works : (name parent : Text) (kind : CtxKind) → Works moment.scene (does w (element.MakeContext (element.ScriptContext name parent kind)) moment).moment.scene
   unfolding does
@@ -414,6 +415,7 @@ module _ (w : Option ℕ) (moment : Moment) (h : Stands moment.scene) (working :
             row_put t h.contexts.once m expr moment.scene.session.current k p next (new_context name kind false) Empty (λ z. other.other (sym z)) (λ z. omega (arith, z, h.contexts.below m (protected_has m t k.protected))) refl
             (λ e q z. other.apart (q ∙ ap Some z))));
         levels = refl;
+        at_rest = λ r. r;
       }))
 
   pub register_works : (name : Text) → Works moment.scene (does w (element.Register name) moment).moment.scene
@@ -425,4 +427,4 @@ module _ (w : Option ℕ) (moment : Moment) (h : Stands moment.scene) (working :
     where
       at_hook : (n : ℕ) → has n moment.scene.session.contexts ≡ true → (o : Option Hook) → first_of moment.scene.around.shelf.fresh ≡ o → Works moment.scene (where_there o (hook_waits n) moment.scene).scene
       at_hook n there None e = nothing_works moment.scene h
-      at_hook n there (Some hook) e = record { stands = waits_step moment.scene n hook h working there e; levels = refl }
+      at_hook n there (Some hook) e = record { stands = waits_step moment.scene n hook h working there e; levels = refl; at_rest = λ r. r }

@@ -10,7 +10,7 @@ use Rattle.owner_kinds.specs.KindTable.{IsSound}
 use Rattle.owner_kinds.specs.KindShelf.{table_of}
 use Rattle.session_rules.specs.State.{abort_context, opening}
 use Rattle.session_rules.specs.World.{Around}
-use Rattle.session_rules.specs.Standing.{AreContexts, IsOfSession, IsPlan, IsPortal, StandsBetweenLines}
+use Rattle.session_rules.specs.Standing.{AreContexts, IsAtRest, IsOfSession, IsPlan, IsPortal, StandsBetweenLines}
 
 first_once : Once contexts.opening
 first_once = record { once = λ n. grind (arith, nat_tests) }
@@ -68,4 +68,5 @@ opening_stands around differ sound = record {
     snapshots = tt;
   };
   open_levels = tt;
+  at_rest = All-nil IsAtRest;
 }

@@ -16,7 +16,7 @@ use Rattle.session_rules.specs.Lookup.{portal_changed}
 use Rattle.session_rules.specs.Acts.{for_each, in_order, portal_becomes, where_so, where_there}
 use Rattle.session_rules.specs.Releases.{owner_moved}
 use Rattle.session_rules.specs.Portals.{portal_passed}
-use Rattle.session_rules.specs.Standing.{AreLevels, AreOuter, ArePlans, HasItems, IsAttached, IsDead, IsLive, IsOwner, IsPortal, owner_at, referred}
+use Rattle.session_rules.specs.Standing.{AreLevels, AreOuter, ArePlans, HasItems, IsAtRest, IsAtWork, IsAttached, IsDead, IsLive, IsOwner, IsPortal, owner_at, referred}
 use Rattle.session_rules.proofs.Guarded.{all_moved}
 use Rattle.session_rules.proofs.ContextsKept.{stay_same}
 use Rattle.session_rules.proofs.HeldItems.{held_moved}
@@ -95,6 +95,15 @@ module _ (level : LevelState) (levels : List LevelState) (some : 1 ≤ length le
   abbrev passed : OpenPortal → OpenPortal
   passed old = record old { created = lowered depth old.created; active = lowered depth old.active }
 
+  passed_line : (p : OpenPortal) → IsAtRest p ⊎ IsAtWork p depth → IsAtRest (passed p) ⊎ IsAtWork (passed p) (length levels)
+  passed_line p line = elim line [
+    | inl r ↦ inl r
+    | inr a ↦ inr (number p.active a.0, λ new. number p.created (a.1 new))
+  ]
+    where
+      number : (n : ℕ) → n ≡ depth → lowered depth n ≡ length levels
+      number n e = rw (eq-eqb n depth e) (omega (arith, e))
+
   passed_live : (p : OpenPortal) → AreOuter levels → IsLive p (level ∷ levels) ⊎ IsDead p (level ∷ levels) → IsLive (passed p) levels
   passed_live p outer s =
       let b : IsBounded p depth = bounded p (level ∷ levels) s in
@@ -104,6 +113,7 @@ module _ (level : LevelState) (levels : List LevelState) (some : 1 ≤ length le
         some = lowered_some depth p.created (omega (arith, some)) low;
         within = lowered_within depth p.created p.active b.within b.active;
         active = omega (arith, most, depth_outer levels outer);
+        line = elim s [ inl l ↦ passed_line p l.line | inr d ↦ inl (λ _. d.owner) ];
       }
 
   changes_passed : (p : OpenPortal) → Changes p (passed p)

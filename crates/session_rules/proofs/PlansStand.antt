@@ -108,7 +108,7 @@ dropped_step s n p h working stands =
     let have : references_of n s.session.plans ≡ p.references = ap (λ (o : Option StandingPlan). option_map_or (λ plan. plan.references) o 0) stands in
     let g : Settles times s (plan_becomes (record p { discarded = true }) s).scene =
     becomes s times times fits n p (record p { discarded = true }) stands refl refl (sym (h.plans.counted n) ∙ have) (λ m ne. refl) in
-    subst (Works s) (sym g.is) (record { stands = besides_step s g.besides h working g.same g.fits g.spares; levels = refl })
+    subst (Works s) (sym g.is) (record { stands = besides_step s g.besides h working g.same g.fits g.spares; levels = refl; at_rest = λ r. r })
 
 -- what the checks say
 pub is_new : (o : Option StandingPlan) (error : Error) → unless (is_none o) error ≡ None → o ≡ None
@@ -123,7 +123,7 @@ module _ (w : Option ℕ) (moment : Moment) (h : Stands moment.scene) (working :
   pub make_plan_works : (n : ℕ) → plan_at n moment.scene.session.plans ≡ None → Works moment.scene (does w (element.MakePlan n) moment).moment.scene
   unfolding does
   make_plan_works n free =
-      fallible_keeps (Works moment.scene) w moment _ (plan_made n) (nothing_works moment.scene h) (λ _. record { stands = made_step moment.scene n h working free; levels = refl })
+      fallible_keeps (Works moment.scene) w moment _ (plan_made n) (nothing_works moment.scene h) (λ _. record { stands = made_step moment.scene n h working free; levels = refl; at_rest = λ r. r })
 
   pub drop_plan_works : (n : ℕ) → Works moment.scene (does w (element.DropPlan n) moment).moment.scene
   unfolding does

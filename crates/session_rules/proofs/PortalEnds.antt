@@ -1,30 +1,27 @@
--- A portal ends within its level: a session that stands leads to one that stands, where the portal is ready or has no owner.
-use Rattle.std.proofs.Common.{◌≡◌, ◌≢◌, ℕ, ◌-◌, Bool, true, false, Option, Some, None, List, [], ◌∷◌, ◌++◌, refl, sym, ap, ◌∙◌, subst, inl, inr}
-use Rattle.std.specs.Prelude.{◌==◌, ◌&&◌, All}
+-- A portal ends within its level: a session that stands leads to one that stands, where portals are at rest.
+use Rattle.std.proofs.Common.{◌≡◌, ◌≢◌, ℕ, Bool, true, false, Option, Some, None, List, [], ◌∷◌, ◌++◌, refl, sym, ap, ◌∙◌, subst, inl, inr}
+use Rattle.std.specs.Prelude.{All}
 use Rattle.std.specs.Option.{option_map_or}
-use Rattle.std.proofs.lemmas.List.Elements.{All-append, All-cons, All-tail, All-weaker}
+use Rattle.std.proofs.lemmas.List.Elements.{All-append, All-cons, All-head, All-tail, All-weaker}
 use Rattle.forest.specs.Forest.{Once, has, children, removed}
 use Rattle.forest.proofs.Trees.{has_of_removed, left_apart}
-use Rattle.pgs_step.specs.declared.events.What.TheVariants as what
-use Rattle.pgs_step.specs.declared.ids.Item.{Item}
 use Rattle.pgs_step.specs.declared.ids.KindId.{KindId}
 use Rattle.context_rules.specs.Contexts.{Contexts}
 use Rattle.context_rules.specs.Ends.{gone}
-use Rattle.file_table.specs.Descriptors.{is_among, without}
 use Rattle.owner_kinds.specs.KindTable.{KindTable, IsSound as IsSoundTable}
 use Rattle.owner_kinds.specs.KindShelf.{table_of}
-use Rattle.owner_core.specs.Owners.{Owner, OwnerTree, forgotten, has_begun}
+use Rattle.owner_core.specs.Owners.{Owner, OwnerTree, has_begun}
 use Rattle.owner_core.proofs.Sounds.{once_of, sound_removed}
-use Rattle.session_rules.specs.State.{LevelState, OpenPortal, StandingPlan, buffer_pin, relcache_reference, snapshot_reference}
+use Rattle.session_rules.specs.State.{LevelState, OpenPortal, buffer_pin, relcache_reference, snapshot_reference}
 use Rattle.session_rules.specs.World.{Scene, Moment}
 use Rattle.session_rules.specs.Elements as element
 use Rattle.session_rules.specs.Does.{does}
-use Rattle.session_rules.specs.Lookup.{newest, plan_at, portal_changed, portal_named, portals_but}
+use Rattle.session_rules.specs.Lookup.{portal_changed, portal_named, portals_but}
 use Rattle.session_rules.specs.Elements.{Text}
-use Rattle.session_rules.specs.Acts.{Ended, changes, context_gone, in_order, portal_gone, say, where_so, where_there}
-use Rattle.session_rules.specs.Releases.{Keeper, NoOne, ThePlans, TheDescriptors, TheKind, given_back, item_released, keeper_of, left_to, owner_gone, owner_released, plan_becomes, plan_settled, plan_stays}
+use Rattle.session_rules.specs.Acts.{context_gone, in_order, portal_gone, where_so, where_there}
+use Rattle.session_rules.specs.Releases.{item_released, owner_gone, owner_released}
 use Rattle.session_rules.specs.Portals.{executor_ended, is_ready, portal_ended, portal_owner_ended}
-use Rattle.session_rules.specs.Standing.{AreContexts, AreLevels, AreOwners, ArePortals, HasItems, IsAttached, IsLive, IsOfPortal, IsOwner, IsPlace, IsPlan, IsPortal, Stands, referred}
+use Rattle.session_rules.specs.Standing.{AreContexts, AreLevels, AreOwners, ArePortals, HasItems, IsAtRest, IsAttached, IsLive, IsOfPortal, IsOwner, IsPlace, IsPlan, IsPortal, Stands, referred}
 use Rattle.session_rules.proofs.Forests.{at_left, has_left, parent_left}
 use Rattle.session_rules.proofs.Guarded.{all_removed}
 use Rattle.session_rules.proofs.ContextsKept.{contexts_level_gone}
@@ -37,46 +34,12 @@ use Rattle.session_rules.proofs.EndsStand.{left_count}
 use Rattle.session_rules.proofs.Lone.{lone_left}
 use Rattle.session_rules.proofs.PortalLists.{all_back, all_front, but_one, different_changed, different_without, others_back, others_front, owner_beside, owner_split}
 use Rattle.session_rules.proofs.PortalsAmong.{attached_by, place_spared}
+use Rattle.session_rules.proofs.Resting.{rests_becomes, rests_but}
 use Rattle.session_rules.proofs.Ending.{Beside, below_place, beside_removed, levels_beside, places_beside, plans_beside}
 use Rattle.session_rules.proofs.PlansAmong.{levels_apart, plans_counted}
 use Rattle.session_rules.proofs.StepsStand.{IsWorking, Works, fit_working, not_released, nothing_works}
-use Rattle.session_rules.proofs.ItemsStand.{give_step}
 use Rattle.session_rules.proofs.PortalsStand.{Named, changes_in, named_changed, named_in, split_portals, this_live, this_portal}
-use Rattle.session_rules.proofs.PortalWorks.{Beside as LeavesPortals, nothing_beside}
-
--- what is given back leaves the portals
-given_portals : (keeper : Keeper) (key : ℕ) (s : Scene) → (left_to keeper key s).scene.session.portals ≡ s.session.portals
-given_portals NoOne key s = refl
-given_portals ThePlans key s = go (plan_at key s.session.plans)
-  where
-    settled : (q : StandingPlan) (b : Bool) → (elim b as (λ _. Ended) [ true ↦ plan_settled q s | false ↦ plan_stays q s ]).scene.session.portals ≡ s.session.portals
-    settled q true = refl
-    settled q false = refl
-
-    go : (o : Option StandingPlan) → (where_there o (λ plan. plan_becomes (record plan { references = plan.references - 1 })) s).scene.session.portals ≡ s.session.portals
-    go None = refl
-    go (Some p) = settled (record p { references = p.references - 1 }) (p.discarded && (p.references - 1 == 0))
-given_portals TheDescriptors key s = go (is_among key s.session.recent)
-  where
-    go : (b : Bool)
-        → (where_so b (λ scene. record { scene = record scene { session = record scene.session { recent = without key scene.session.recent } }; events = what.DescriptorClosed key ∷ [] }) s).scene.session.portals ≡ s.session.portals
-    go true = refl
-    go false = refl
-given_portals (TheKind place) key s = refl
-
--- an owner gives an item back
-pub item_beside : (s : Scene) (o : ℕ) (kind : KindId) (key : ℕ) → Stands s → IsWorking s.session.levels → has o s.session.owners ≡ true → LeavesPortals s (item_released o kind key s).scene
-item_beside s o kind key h working there = record {
-  works = give_step s o kind key h working there (newest o kind key s.session) refl;
-  portals = go (newest o kind key s.session);
-}
-  where
-    go : (i : Option Item) → (where_there i (λ item. in_order (changes (λ session. record session { owners = forgotten o kind key session.owners }) ∷ say (what.Release item o) ∷ given_back item ∷ [])) s).scene.session.portals ≡ s.session.portals
-    go None = refl
-    go (Some item) = given_portals (keeper_of item.kind) item.key (record s { session = record s.session { owners = forgotten o kind key s.session.owners } })
-
-then_beside : (a b c : Scene) → LeavesPortals a b → LeavesPortals b c → LeavesPortals a c
-then_beside a b c x y = record { works = record { stands = y.works.stands; levels = y.works.levels ∙ x.works.levels }; portals = y.portals ∙ x.portals }
+use Rattle.session_rules.proofs.PortalWorks.{Beside as LeavesPortals, item_beside, nothing_beside, then_beside}
 
 -- the executor of a portal ends
 module _ (name : Text) (p : OpenPortal) where
@@ -159,6 +122,7 @@ gone_works s name p h working e none = go p.context refl
             snapshots = h.snapshots;
           };
           levels = refl;
+          at_rest = rests_but p.name s.session.portals;
         }
     go (Some c) q =
         let m : Named name p s.session.portals = named_in name p s.session.portals e in
@@ -198,6 +162,7 @@ gone_works s name p h working e none = go p.context refl
             snapshots = h.snapshots;
           };
           levels = refl;
+          at_rest = rests_but p.name s.session.portals;
         }
 
 -- A portal's owner is released into its parent, and goes; the portal has none any more.
@@ -244,7 +209,7 @@ owner_ends s name p o h working e owns =
     let own : IsPortal (unowned p) ls u y cur =
     let i = this_portal s h working name p n in
     let l : IsLive p ls = this_live s h working name p n in
-    record { place = λ m f. spared m p.expr (i.place m f); made = i.made; owner = λ m f. absurd (cc f); stage = inl (record { some = l.some; within = l.within; active = l.active }) } in
+    record { place = λ m f. spared m p.expr (i.place m f); made = i.made; owner = λ m f. absurd (cc f); stage = inl (record { some = l.some; within = l.within; active = l.active; line = inl (λ _. refl) }) } in
     let fronts = others_front p n.front n.back was.different in
     let backs = others_back p n.front n.back was.different in
     let P : OpenPortal → Type 0 = λ r. IsPortal r ls t x cur in
@@ -320,35 +285,40 @@ rest_works s t name p h working e x =
     ∙ but_one (unowned p) n.front n.back (different_changed p (unowned p) n.front n.back (record { name = refl; context = λ k f. f; owner = λ k f. absurd (cc f) }) was.different) in
     let same : (in_order (where_there p.context context_gone ∷ portal_gone p.name ∷ []) t).scene ≡ (in_order (where_there p.context context_gone ∷ portal_gone p.name ∷ []) z).scene =
     ap (λ (w : Scene). (in_order (where_there p.context context_gone ∷ portal_gone p.name ∷ []) w).scene) x.is ∙ ended_same p.name p.context z s.session.portals (here ∙ sym there) in
-    subst (Works s) (sym same) (record { stands = end.stands; levels = end.levels ∙ x.levels })
+    subst (Works s) (sym same) (record {
+      stands = end.stands;
+      levels = end.levels ∙ x.levels;
+      at_rest = λ r. end.at_rest (subst (All IsAtRest) (sym x.portals) (rests_becomes name unowned s.session.portals (λ q _ _. refl) r));
+    })
 
--- A portal ends, where it is ready or has no owner.
-pub portal_ended_works : (s : Scene) (name : Text) (p : OpenPortal) → Stands s → IsWorking s.session.levels → portal_named name s.session.portals ≡ Some p → (is_ready p.state ≡ false → p.owner ≡ None) → Works s (portal_ended p s).scene
-portal_ended_works s name p h working e settled = by_state (is_ready p.state) refl
+-- A portal ends that was at rest.
+pub portal_ended_works : (s : Scene) (name : Text) (p : OpenPortal) → Stands s → IsWorking s.session.levels → portal_named name s.session.portals ≡ Some p → IsAtRest p → Works s (portal_ended p s).scene
+portal_ended_works s name p h working e rests = by_state (is_ready p.state) refl
   where
     by_owner : (z : Scene) → LeavesPortals s z → (c : Option ℕ) → p.owner ≡ c
         → Works s (in_order (where_there p.context context_gone ∷ portal_gone p.name ∷ []) (where_there c (λ owner. in_order (owner_released true false owner ∷ owner_gone owner ∷ [])) z).scene).scene
     by_owner z b None q =
         let now : IsWorking z.session.levels = subst IsWorking (sym b.works.levels) working in
         let r : Works z (in_order (where_there p.context context_gone ∷ portal_gone p.name ∷ []) z).scene = gone_works z name p b.works.stands now (ap (portal_named name) b.portals ∙ e) q in
-        record { stands = r.stands; levels = r.levels ∙ b.works.levels }
+        record { stands = r.stands; levels = r.levels ∙ b.works.levels; at_rest = λ a. r.at_rest (b.works.at_rest a) }
     by_owner z b (Some o) q =
         let now : IsWorking z.session.levels = subst IsWorking (sym b.works.levels) working in
         let named : portal_named name z.session.portals ≡ Some p = ap (portal_named name) b.portals ∙ e in
         let t : Scene = (in_order (owner_released true false o ∷ owner_gone o ∷ []) z).scene in
         let r : Works z (in_order (where_there p.context context_gone ∷ portal_gone p.name ∷ []) t).scene = rest_works z t name p b.works.stands now named (owner_ends z name p o b.works.stands now named q) in
-        record { stands = r.stands; levels = r.levels ∙ b.works.levels }
+        record { stands = r.stands; levels = r.levels ∙ b.works.levels; at_rest = λ a. r.at_rest (b.works.at_rest a) }
 
     by_state : (b : Bool) → is_ready p.state ≡ b → Works s (in_order (where_so b (in_order (executor_ended p ∷ portal_owner_ended p ∷ [])) ∷ where_there p.context context_gone ∷ portal_gone p.name ∷ []) s).scene
-    by_state false q = gone_works s name p h working e (settled q)
+    by_state false q = gone_works s name p h working e (rests q)
     by_state true q = by_owner (executor_ended p s).scene (executor_beside name p s h working e) p.owner refl
 
--- The element, where the portal of that name is ready or has no owner.
-pub end_portal_works : (w : Option ℕ) (moment : Moment) → Stands moment.scene → IsWorking moment.scene.session.levels → (name : Text)
-    → ((p : OpenPortal) → portal_named name moment.scene.session.portals ≡ Some p → is_ready p.state ≡ false → p.owner ≡ None) → Works moment.scene (does w (element.EndPortal name) moment).moment.scene
+-- The element, where portals are at rest.
+pub end_portal_works : (w : Option ℕ) (moment : Moment) → Stands moment.scene → IsWorking moment.scene.session.levels → All IsAtRest moment.scene.session.portals → (name : Text) → Works moment.scene (does w (element.EndPortal name) moment).moment.scene
 unfolding does
-end_portal_works w moment h working name settled = go (portal_named name moment.scene.session.portals) refl
+end_portal_works w moment h working at_rest name = go (portal_named name moment.scene.session.portals) refl
   where
     go : (o : Option OpenPortal) → portal_named name moment.scene.session.portals ≡ o → Works moment.scene (where_there o portal_ended moment.scene).scene
     go None e = nothing_works moment.scene h
-    go (Some p) e = portal_ended_works moment.scene name p h working e (settled p e)
+    go (Some p) e =
+        let n : Named name p moment.scene.session.portals = named_in name p moment.scene.session.portals e in
+        portal_ended_works moment.scene name p h working e (All-head IsAtRest p n.back (all_back IsAtRest n.front (p ∷ n.back) (subst (All IsAtRest) n.is at_rest)))

@@ -1,9 +1,12 @@
 -- The elements of portals lead from a session that stands to one that stands, with its levels as they were.
-use Rattle.std.proofs.Common.{◌≡◌, ◌≢◌, ℕ, true, false, Option, Some, None, List, [], ◌∷◌, length, refl, sym, ap, ◌∙◌, subst, inl, inr}
+use Rattle.std.proofs.Common.{◌≡◌, ◌≢◌, ℕ, ◌-◌, Bool, true, false, Option, Some, None, List, [], ◌∷◌, length, refl, sym, ap, ◌∙◌, subst, inl, inr}
+use Rattle.std.specs.Prelude.{◌==◌, ◌&&◌}
 use Rattle.std.specs.Option.{option_and_then}
 use Rattle.std.proofs.lemmas.Bool.{cases_Bool}
 use Rattle.forest.specs.Forest.{has}
 use Rattle.pgs_step.specs.declared.errors.Error.{Error}
+use Rattle.pgs_step.specs.declared.events.What.TheVariants as what
+use Rattle.pgs_step.specs.declared.ids.Item.{Item}
 use Rattle.pgs_step.specs.declared.ids.KindId.{KindId}
 use Rattle.pgs_step.specs.declared.lock_modes.Mode.{Mode}
 use Rattle.pgs_command.specs.Words.{is_text}
@@ -13,26 +16,29 @@ use Rattle.exec_core.specs.declared.steps.ScanStep.TheVariants as step
 use Rattle.exec_core.specs.Turn.{taken}
 use Rattle.owner_kinds.specs.KindShelf.{table_of}
 use Rattle.lock_local.specs.Changes.{acquired}
-use Rattle.session_rules.specs.State.{OpenPortal, buffer_pin}
+use Rattle.file_table.specs.Descriptors.{is_among, without}
+use Rattle.owner_core.specs.Owners.{forgotten}
+use Rattle.session_rules.specs.State.{OpenPortal, StandingPlan, buffer_pin}
 use Rattle.session_rules.specs.World.{Scene, Moment}
 use Rattle.session_rules.specs.Elements as element
 use Rattle.session_rules.specs.Elements.{Check, Element, InPortal, InRow, OfPortal, Text}
-use Rattle.session_rules.specs.Lookup.{newest, portal_changed, portal_named}
-use Rattle.session_rules.specs.Acts.{context_cleared_alone, in_order, nothing, portal_becomes, where_there}
+use Rattle.session_rules.specs.Lookup.{newest, plan_at, portal_changed, portal_named}
+use Rattle.session_rules.specs.Acts.{Ended, changes, context_cleared_alone, in_order, nothing, portal_becomes, say, where_so, where_there}
 use Rattle.session_rules.specs.Checks.{failure}
-use Rattle.session_rules.specs.Calls.{unless_refused}
-use Rattle.session_rules.specs.Releases.{Keeper, NoOne, item_released, keeper_of}
+use Rattle.session_rules.specs.Calls.{Done, unless_refused}
+use Rattle.session_rules.specs.Releases.{Keeper, NoOne, TheDescriptors, TheKind, ThePlans, given_back, item_released, keeper_of, left_to, plan_becomes, plan_settled, plan_stays}
 use Rattle.session_rules.specs.Making.{left}
 use Rattle.session_rules.specs.Taking.{item_taken, lock_taken, memory_taken, remembers, taken_by}
 use Rattle.session_rules.specs.Parts.{at_owner, scan_part, scanned}
 use Rattle.session_rules.specs.Does.{does, failing_turn}
-use Rattle.session_rules.specs.Standing.{IsItem, Stands}
+use Rattle.session_rules.specs.Standing.{IsAtRest, IsItem, Stands}
 use Rattle.session_rules.proofs.EndsStand.{stands_tabled}
 use Rattle.session_rules.proofs.ItemsStand.{give_step, other_step}
 use Rattle.session_rules.proofs.NamesStand.{alone_step, at_name}
 use Rattle.session_rules.proofs.Releasing.{tables_of}
 use Rattle.session_rules.proofs.StepsStand.{IsWorking, Works, fallible_keeps, keeps_allocated, kept_step, nothing_works}
-use Rattle.session_rules.proofs.PortalsStand.{Named, active_portal, named_in, scan_portal, state_portal, this_portal}
+use Rattle.session_rules.proofs.PortalsStand.{Named, active_portal, named_changed, named_in, scan_portal, state_portal, this_portal}
+use Rattle.session_rules.proofs.Resting.{rests_becomes}
 
 -- steps that leave the portals as they are
 pub record Beside (s z : Scene) : Type 0 where
@@ -41,6 +47,40 @@ pub record Beside (s z : Scene) : Type 0 where
 
 pub nothing_beside : (s : Scene) → Stands s → Beside s s
 nothing_beside s h = record { works = nothing_works s h; portals = refl }
+
+-- what is given back leaves the portals
+given_portals : (keeper : Keeper) (key : ℕ) (s : Scene) → (left_to keeper key s).scene.session.portals ≡ s.session.portals
+given_portals NoOne key s = refl
+given_portals ThePlans key s = go (plan_at key s.session.plans)
+  where
+    settled : (q : StandingPlan) (b : Bool) → (elim b as (λ _. Ended) [ true ↦ plan_settled q s | false ↦ plan_stays q s ]).scene.session.portals ≡ s.session.portals
+    settled q true = refl
+    settled q false = refl
+
+    go : (o : Option StandingPlan) → (where_there o (λ plan. plan_becomes (record plan { references = plan.references - 1 })) s).scene.session.portals ≡ s.session.portals
+    go None = refl
+    go (Some p) = settled (record p { references = p.references - 1 }) (p.discarded && (p.references - 1 == 0))
+given_portals TheDescriptors key s = go (is_among key s.session.recent)
+  where
+    go : (b : Bool)
+        → (where_so b (λ scene. record { scene = record scene { session = record scene.session { recent = without key scene.session.recent } }; events = what.DescriptorClosed key ∷ [] }) s).scene.session.portals ≡ s.session.portals
+    go true = refl
+    go false = refl
+given_portals (TheKind place) key s = refl
+
+-- an owner gives an item back
+pub item_beside : (s : Scene) (o : ℕ) (kind : KindId) (key : ℕ) → Stands s → IsWorking s.session.levels → has o s.session.owners ≡ true → Beside s (item_released o kind key s).scene
+item_beside s o kind key h working there = record {
+  works = give_step s o kind key h working there (newest o kind key s.session) refl;
+  portals = go (newest o kind key s.session);
+}
+  where
+    go : (i : Option Item) → (where_there i (λ item. in_order (changes (λ session. record session { owners = forgotten o kind key session.owners }) ∷ say (what.Release item o) ∷ given_back item ∷ [])) s).scene.session.portals ≡ s.session.portals
+    go None = refl
+    go (Some item) = given_portals (keeper_of item.kind) item.key (record s { session = record s.session { owners = forgotten o kind key s.session.owners } })
+
+pub then_beside : (a b c : Scene) → Beside a b → Beside b c → Beside a c
+then_beside a b c x y = record { works = record { stands = y.works.stands; levels = y.works.levels ∙ x.works.levels; at_rest = λ r. y.works.at_rest (x.works.at_rest r) }; portals = y.portals ∙ x.portals }
 
 -- without a portal of the name nothing changes
 none_changed : (name : Text) (f : OpenPortal → OpenPortal) (ps : List OpenPortal) → portal_named name ps ≡ None → portal_changed name f ps ≡ ps
@@ -51,17 +91,55 @@ none_changed name f (p ∷ ps) e = elim (cases_Bool (is_text p.name name)) [
 ]
 
 -- a portal changes, where one has the name
-becomes_works : (s : Scene) (name : Text) (f : OpenPortal → OpenPortal) → Stands s → ((p : OpenPortal) → portal_named name s.session.portals ≡ Some p → Stands (portal_becomes name f s).scene) → Works s (portal_becomes name f s).scene
-becomes_works s name f h named = go (portal_named name s.session.portals) refl
+becomes_works : (s : Scene) (name : Text) (f : OpenPortal → OpenPortal) → Stands s → ((p : OpenPortal) → IsAtRest p → IsAtRest (f p)) → ((p : OpenPortal) → portal_named name s.session.portals ≡ Some p → Stands (portal_becomes name f s).scene) → Works s (portal_becomes name f s).scene
+becomes_works s name f h rests named = go (portal_named name s.session.portals) refl
   where
     go : (o : Option OpenPortal) → portal_named name s.session.portals ≡ o → Works s (portal_becomes name f s).scene
     go None e =
         subst (λ (ps : List OpenPortal). Works s (record s { session = record s.session { portals = ps } })) (sym (none_changed name f s.session.portals e)) (nothing_works s h)
-    go (Some p) e = record { stands = named p e; levels = refl }
+    go (Some p) e = record { stands = named p e; levels = refl; at_rest = rests_becomes name f s.session.portals rests }
 
-pub failed_works : (s : Scene) (name : Text) → Stands s → IsWorking s.session.levels → Works s (portal_becomes name (λ p. record p { state = portal.Failed }) s).scene
-failed_works s name h working =
-    becomes_works s name (λ p. record p { state = portal.Failed }) h (λ p e. state_portal s h working name p (named_in name p s.session.portals e) portal.Failed)
+-- the portal of a name, if any, is active in the deepest level
+abbrev pub IsFetched : Text → Scene → Type 0
+IsFetched name s = (p : OpenPortal) → portal_named name s.session.portals ≡ Some p → p.active ≡ length s.session.levels
+
+-- a step of a turn of the portal of a name
+pub record Turns (name : Text) (s z : Scene) : Type 0 where
+  pub works : Works s z
+  pub fetched : IsFetched name s → IsFetched name z
+
+pub beside_turns : (name : Text) (s z : Scene) → Beside s z → Turns name s z
+beside_turns name s z b = record {
+  works = b.works;
+  fetched = λ f p e. f p (sym (ap (portal_named name) b.portals) ∙ e) ∙ sym (ap length b.works.levels);
+}
+
+becomes_fetched : (s : Scene) (name : Text) (f : OpenPortal → OpenPortal) → ((p : OpenPortal) → (f p).name ≡ p.name) → ((p : OpenPortal) → portal_named name s.session.portals ≡ Some p → (f p).active ≡ length s.session.levels)
+    → IsFetched name (portal_becomes name f s).scene
+becomes_fetched s name f keeps active q e = go (portal_named name s.session.portals) refl
+  where
+    go : (o : Option OpenPortal) → portal_named name s.session.portals ≡ o → q.active ≡ length s.session.levels
+    go None n =
+        let z : None ≡ Some q = sym n ∙ sym (ap (portal_named name) (none_changed name f s.session.portals n)) ∙ e in
+        absurd (cc z)
+    go (Some p) n =
+        let z : Some (f p) ≡ Some q = sym (named_changed name p f s.session.portals keeps n) ∙ e in
+        let same : f p ≡ q = cc z in
+        ap (λ (r : OpenPortal). r.active) (sym same) ∙ active p n
+
+-- where it fails, its line is at work on it
+failed_stands : (s : Scene) (name : Text) → Stands s → IsWorking s.session.levels → IsFetched name s → Stands (portal_becomes name (λ p. record p { state = portal.Failed }) s).scene
+failed_stands s name h working fetched = go (portal_named name s.session.portals) refl
+  where
+    go : (o : Option OpenPortal) → portal_named name s.session.portals ≡ o → Stands (portal_becomes name (λ p. record p { state = portal.Failed }) s).scene
+    go None e =
+        subst (λ (ps : List OpenPortal). Stands (record s { session = record s.session { portals = ps } })) (sym (none_changed name (λ p. record p { state = portal.Failed }) s.session.portals e)) h
+    go (Some p) e = state_portal s h working name p (named_in name p s.session.portals e) portal.Failed (inr (fetched p e, λ z. absurd (cc z)))
+
+-- what a step of a turn led to
+pub record Turned (name : Text) (s : Scene) (done : Done) : Type 0 where
+  pub stands : Stands done.moment.scene
+  pub passed : done.refusal ≡ None → Turns name s done.moment.scene
 
 module _ (w : Option ℕ) (moment : Moment) (h : Stands moment.scene) (working : IsWorking moment.scene.session.levels) (name : Text) where
   -- the owner of the portal of a name is there
@@ -85,7 +163,7 @@ module _ (w : Option ℕ) (moment : Moment) (h : Stands moment.scene) (working :
       fallible_keeps (Beside moment.scene) w moment _ (at_owner (OfPortal name) (lock_taken object mode)) (nothing_beside moment.scene h)
       (λ _. at_name (Beside moment.scene) (option_and_then (λ (p : OpenPortal). p.owner) (portal_named name moment.scene.session.portals)) (lock_taken object mode) moment.scene (nothing_beside moment.scene h)
       (λ n e. record {
-        works = record { stands = stands_tabled (record (tables_of moment.scene) { locks = acquired n object mode moment.scene.session.locks }) moment.scene refl h; levels = refl };
+        works = record { stands = stands_tabled (record (tables_of moment.scene) { locks = acquired n object mode moment.scene.session.locks }) moment.scene refl h; levels = refl; at_rest = λ r. r };
         portals = refl;
       }))
 
@@ -96,7 +174,7 @@ module _ (w : Option ℕ) (moment : Moment) (h : Stands moment.scene) (working :
       fallible_keeps (Beside moment.scene) w moment _ (at_owner (OfPortal name) (λ owner. item_taken owner kind key)) (nothing_beside moment.scene h)
       (λ _. at_name (Beside moment.scene) (option_and_then (λ (p : OpenPortal). p.owner) (portal_named name moment.scene.session.portals)) (λ owner. item_taken owner kind key) moment.scene (nothing_beside moment.scene h)
       (λ n e. subst (Beside moment.scene) (sym (ap (λ (k : Keeper). (in_order (taken_by k key ∷ remembers n kind key ∷ []) moment.scene).scene) unkept))
-      (record { works = record { stands = other_step moment.scene n kind key (tables_of moment.scene) h working (owner_named n e) ne is refl; levels = refl }; portals = refl })))
+      (record { works = record { stands = other_step moment.scene n kind key (tables_of moment.scene) h working (owner_named n e) ne is refl; levels = refl; at_rest = λ r. r }; portals = refl })))
 
   -- memory is taken in a context
   memory : (o : Option ℕ) (title : Option Text) (bytes : ℕ) → Beside moment.scene (where_there o (memory_taken title bytes false) moment.scene).scene
@@ -105,6 +183,7 @@ module _ (w : Option ℕ) (moment : Moment) (h : Stands moment.scene) (working :
     works = record {
       stands = kept_step moment.scene h working _ (keeps_allocated moment.scene.session.contexts moment.scene.session.next_context n (left moment.scene) title bytes [] h.contexts);
       levels = refl;
+      at_rest = λ r. r;
     };
     portals = refl;
   }
@@ -121,71 +200,83 @@ module _ (w : Option ℕ) (moment : Moment) (h : Stands moment.scene) (working :
       fallible_keeps (Beside moment.scene) w moment _ (λ scene. where_there (option_and_then (λ (p : OpenPortal). p.expr) (portal_named name scene.session.portals)) (memory_taken title bytes false) scene) (nothing_beside moment.scene h)
       (λ _. memory (option_and_then (λ (p : OpenPortal). p.expr) (portal_named name moment.scene.session.portals)) title bytes)
 
-  pub check_works : (check : Check) → Works moment.scene (does w (element.Checks check) moment).moment.scene
+  pub check_beside : (check : Check) → Beside moment.scene (does w (element.Checks check) moment).moment.scene
   unfolding does
-  check_works check = go (failure check moment.scene)
+  check_beside check = go (failure check moment.scene)
     where
-      go : (r : Option Error) → Works moment.scene (unless_refused r moment nothing).moment.scene
-      go None = nothing_works moment.scene h
-      go (Some e) = nothing_works moment.scene h
+      go : (r : Option Error) → Beside moment.scene (unless_refused r moment nothing).moment.scene
+      go None = nothing_beside moment.scene h
+      go (Some e) = nothing_beside moment.scene h
 
   pub begins_works : Works moment.scene (does w (element.FetchBegins name) moment).moment.scene
   unfolding does
   begins_works =
-      becomes_works moment.scene name (λ p. record p { active = length moment.scene.session.levels }) h
+      becomes_works moment.scene name (λ p. record p { active = length moment.scene.session.levels }) h (λ p r. r)
       (λ p e. active_portal moment.scene h working name p (named_in name p moment.scene.session.portals e))
+
+  pub begins_fetched : IsFetched name (does w (element.FetchBegins name) moment).moment.scene
+  unfolding does
+  begins_fetched = becomes_fetched moment.scene name (λ p. record p { active = length moment.scene.session.levels }) (λ p. refl) (λ p e. refl)
 
   pub ready_works : Works moment.scene (does w (element.PortalReady name) moment).moment.scene
   unfolding does
   ready_works =
-      becomes_works moment.scene name (λ p. record p { state = portal.Ready }) h
-      (λ p e. state_portal moment.scene h working name p (named_in name p moment.scene.session.portals e) portal.Ready)
+      becomes_works moment.scene name (λ p. record p { state = portal.Ready }) h (λ p r unready. absurd (cc unready))
+      (λ p e. state_portal moment.scene h working name p (named_in name p moment.scene.session.portals e) portal.Ready (inl (λ unready. absurd (cc unready))))
 
   -- what a step of a scan does by itself
-  part_works : (s : Scene) (st : ScanStep) (p : OpenPortal) → Stands s → IsWorking s.session.levels → ((o : ℕ) → p.owner ≡ Some o → has o s.session.owners ≡ true) → Works s (scan_part st p s).scene
-  part_works s step.Reset p k work own = go p.expr
+  part_beside : (s : Scene) (st : ScanStep) (p : OpenPortal) → Stands s → IsWorking s.session.levels → ((o : ℕ) → p.owner ≡ Some o → has o s.session.owners ≡ true) → Beside s (scan_part st p s).scene
+  part_beside s step.Reset p k work own = go p.expr
     where
-      go : (o : Option ℕ) → Works s (where_there o context_cleared_alone s).scene
-      go None = nothing_works s k
-      go (Some n) = record { stands = alone_step s n k work; levels = refl }
-  part_works s (step.Unpin page) p k work own = go p.owner refl
+      go : (o : Option ℕ) → Beside s (where_there o context_cleared_alone s).scene
+      go None = nothing_beside s k
+      go (Some n) = record { works = record { stands = alone_step s n k work; levels = refl; at_rest = λ r. r }; portals = refl }
+  part_beside s (step.Unpin page) p k work own = go p.owner refl
     where
-      go : (o : Option ℕ) → p.owner ≡ o → Works s (where_there o (λ owner. item_released owner buffer_pin page) s).scene
-      go None e = nothing_works s k
-      go (Some n) e = give_step s n buffer_pin page k work (own n e) (newest n buffer_pin page s.session) refl
-  part_works s (step.Row row value) p k work own = nothing_works s k
-  part_works s (step.Pin page) p k work own = nothing_works s k
-  part_works s (step.Bad row) p k work own = nothing_works s k
-  part_works s step.Alloc p k work own = nothing_works s k
-  part_works s step.End p k work own = nothing_works s k
+      go : (o : Option ℕ) → p.owner ≡ o → Beside s (where_there o (λ owner. item_released owner buffer_pin page) s).scene
+      go None e = nothing_beside s k
+      go (Some n) e = item_beside s n buffer_pin page k work (own n e)
+  part_beside s (step.Row row value) p k work own = nothing_beside s k
+  part_beside s (step.Pin page) p k work own = nothing_beside s k
+  part_beside s (step.Bad row) p k work own = nothing_beside s k
+  part_beside s step.Alloc p k work own = nothing_beside s k
+  part_beside s step.End p k work own = nothing_beside s k
 
-  pub scan_works : (st : ScanStep) → Works moment.scene (does w (element.Scans name st) moment).moment.scene
+  pub scan_turns : (st : ScanStep) → Turns name moment.scene (does w (element.Scans name st) moment).moment.scene
   unfolding does
-  scan_works st = go (portal_named name moment.scene.session.portals) refl
+  scan_turns st = go (portal_named name moment.scene.session.portals) refl
     where
-      at_part : (p : OpenPortal) → portal_named name moment.scene.session.portals ≡ Some p → (z : Scene) → Stands z → z.session.levels ≡ moment.scene.session.levels → z.session.owners ≡ moment.scene.session.owners → Works moment.scene z
-          → Works moment.scene (scan_part st p z).scene
-      at_part p e z k same owners works =
-          let r : Works z (scan_part st p z).scene = part_works z st p k (subst IsWorking (sym same) working) (λ o q. ap (has o) owners ∙ there p e o q) in
-          record { stands = r.stands; levels = r.levels ∙ works.levels }
+      at_part : (p : OpenPortal) → portal_named name moment.scene.session.portals ≡ Some p → (z : Scene) → Stands z → z.session.levels ≡ moment.scene.session.levels → z.session.owners ≡ moment.scene.session.owners → Turns name moment.scene z
+          → Turns name moment.scene (scan_part st p z).scene
+      at_part p e z k same owners turns =
+          let b : Beside z (scan_part st p z).scene = part_beside z st p k (subst IsWorking (sym same) working) (λ o q. ap (has o) owners ∙ there p e o q) in
+          let r : Turns name z (scan_part st p z).scene = beside_turns name z (scan_part st p z).scene b in
+          record {
+            works = record { stands = r.works.stands; levels = r.works.levels ∙ turns.works.levels; at_rest = λ a. r.works.at_rest (turns.works.at_rest a) };
+            fetched = λ f. r.fetched (turns.fetched f);
+          }
 
-      go : (o : Option OpenPortal) → portal_named name moment.scene.session.portals ≡ o → Works moment.scene (where_there o (scanned st) moment.scene).scene
-      go None e = nothing_works moment.scene h
+      go : (o : Option OpenPortal) → portal_named name moment.scene.session.portals ≡ o → Turns name moment.scene (where_there o (scanned st) moment.scene).scene
+      go None e = beside_turns name moment.scene moment.scene (nothing_beside moment.scene h)
       go (Some p) e =
           let n : Named name p moment.scene.session.portals = named_in name p moment.scene.session.portals e in
           let z : Scene = (portal_becomes name (λ old. record old { scan = taken st old.scan }) moment.scene).scene in
           let k : Stands z = scan_portal moment.scene h working name p n (taken st) in
-          subst (λ (t : Text). Works moment.scene (in_order (portal_becomes t (λ old. record old { scan = taken st old.scan }) ∷ scan_part st p ∷ []) moment.scene).scene) (sym n.titled)
-          (at_part p e z k refl refl (record { stands = k; levels = refl }))
+          let f : OpenPortal → OpenPortal = λ old. record old { scan = taken st old.scan } in
+          subst (λ (t : Text). Turns name moment.scene (in_order (portal_becomes t (λ old. record old { scan = taken st old.scan }) ∷ scan_part st p ∷ []) moment.scene).scene) (sym n.titled)
+          (at_part p e z k refl refl (record {
+            works = record { stands = k; levels = refl; at_rest = rests_becomes name f moment.scene.session.portals (λ q r. r) };
+            fetched = λ fetched. becomes_fetched moment.scene name f (λ q. refl) fetched;
+          }))
 
   -- an element of a turn
-  pub turn_works : (x : Element) → Works moment.scene (does w x moment).moment.scene → Works moment.scene (does w (element.InTurn name x) moment).moment.scene
+  pub turned : (x : Element) → IsFetched name moment.scene → Turns name moment.scene (does w x moment).moment.scene → Turned name moment.scene (does w (element.InTurn name x) moment)
   unfolding does
-  turn_works x works = go (does w x moment).refusal
+  turned x fetched turns = go (does w x moment).refusal refl
     where
-      go : (r : Option Error) → Works moment.scene (failing_turn name (does w x moment) r).moment.scene
-      go None = works
-      go (Some error) =
-          let f : Works (does w x moment).moment.scene (portal_becomes name (λ p. record p { state = portal.Failed }) (does w x moment).moment.scene).scene =
-          failed_works (does w x moment).moment.scene name works.stands (subst IsWorking (sym works.levels) working) in
-          record { stands = f.stands; levels = f.levels ∙ works.levels }
+      go : (r : Option Error) → (does w x moment).refusal ≡ r → Turned name moment.scene (failing_turn name (does w x moment) r)
+      go None e = record { stands = turns.works.stands; passed = λ _. turns }
+      go (Some error) e = record {
+        stands = failed_stands (does w x moment).moment.scene name turns.works.stands (subst IsWorking (sym turns.works.levels) working) (turns.fetched fetched);
+        passed = λ none. let z : Some error ≡ None = sym e ∙ none in absurd (cc z);
+      }

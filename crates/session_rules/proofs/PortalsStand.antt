@@ -25,7 +25,7 @@ use Rattle.session_rules.specs.Making.{context_made, new_context_made, new_owner
 use Rattle.session_rules.proofs.ItemsStand.{owner_there}
 use Rattle.portal_store.specs.declared.portal.PortalState.{PortalState}
 use Rattle.exec_core.specs.declared.scan.Scan.{Scan}
-use Rattle.session_rules.specs.Standing.{AreContexts, AreDifferent, AreHooks, AreLevels, AreOther, AreOwners, ArePlans, ArePortals, IsAttached, IsDead, IsLive, IsOfPortal, IsOwner, IsPlace, IsPortal, Stands, active_depth, owner_at, referred}
+use Rattle.session_rules.specs.Standing.{AreContexts, AreDifferent, AreHooks, AreLevels, AreOther, AreOwners, ArePlans, ArePortals, IsAtRest, IsAtWork, IsAttached, IsDead, IsLive, IsOfPortal, IsOwner, IsPlace, IsPortal, Stands, active_depth, owner_at, referred}
 use Rattle.session_rules.proofs.Forests.{children_put, has_put_other}
 use Rattle.session_rules.proofs.ContextsKept.{Stay, contexts_created, has_created, is_unused, new_parent, new_protected, protected_has, stay_created, stay_same}
 use Rattle.session_rules.proofs.HeldItems.{held_created}
@@ -35,7 +35,7 @@ use Rattle.session_rules.proofs.Lone.{lone_put}
 use Rattle.session_rules.proofs.PlansAmong.{plans_counted}
 use Rattle.session_rules.proofs.PortalLists.{Changes, all_back, all_front, changed_one, different_new, different_changed, different_owned, others_back, others_front, owner_beside, owner_here, owner_split}
 use Rattle.session_rules.proofs.PortalsAmong.{IsRowOf, attached_by, own_rows, place_same, row_of, row_put}
-use Rattle.session_rules.proofs.Stacked.{depth_working}
+use Rattle.session_rules.proofs.Stacked.{depth_small, depth_working}
 use Rattle.session_rules.proofs.StepsStand.{IsNewOwner, IsWorking, fit_working, new_owner_is, not_released, still_planned}
 
 -- the portal of a name among the others
@@ -185,7 +185,7 @@ module _ (s : Scene) (h : Stands s) (working : IsWorking s.session.levels) (name
         }));
         made = λ z. absurd (cc z);
         owner = i.owner;
-        stage = inl (record { some = this_live.some; within = this_live.within; active = this_live.active });
+        stage = inl (record { some = this_live.some; within = this_live.within; active = this_live.active; line = this_live.line });
       } in
       let fresh_context : (r : OpenPortal) → IsPortal r s.session.levels t s.session.owners cur → (m : ℕ) → r.context ≡ Some m → m ≢ next = λ r k m e. newer m (protected_has m t (k.place m e).protected) in
       portal_step s p q n.front n.back u (next + 1) s.session.owners s.session.next_owner h working n.is
@@ -269,7 +269,7 @@ module _ (s : Scene) (h : Stands s) (working : IsWorking s.session.levels) (name
           lone = new.alone;
           other = λ j. both_ways (has count x) unused (owners_there ls t x count h.levels j);
         });
-        stage = inl (record { some = l.some; within = l.within; active = l.active });
+        stage = inl (record { some = l.some; within = l.within; active = l.active; line = inr (omega (arith, l.within, l.active, depth_small ls, deep), λ _. deep) });
       } in
       let was : ArePortals (n.front ++ (p ∷ n.back)) ls t x cur = split_portals s h working name p n in
       let owned : AreOwners (table_of s.around.kinds) y (count + 1) b ls (n.front ++ (q ∷ n.back)) = record {
@@ -348,7 +348,7 @@ module _ (s : Scene) (h : Stands s) (working : IsWorking s.session.levels) (name
         });
         made = λ z. absurd (no_value p.context c z at_c);
         owner = i.owner;
-        stage = inl (let l : IsLive p ls = this_live s h working name p n in record { some = l.some; within = l.within; active = l.active });
+        stage = inl (let l : IsLive p ls = this_live s h working name p n in record { some = l.some; within = l.within; active = l.active; line = l.line });
       } in
       portal_step s p q n.front n.back u (next + 1) x s.session.next_owner h working n.is
       (contexts_created t next h.contexts c title kind.Small true there (λ _. place.protected)) stay
@@ -363,19 +363,19 @@ module _ (s : Scene) (h : Stands s) (working : IsWorking s.session.levels) (name
       others own (portal_changed name f s.session.portals) (changes_in s h working name p n f)
 
   -- It is ready, has failed, is fetched from, or its scan is another one.
-  pub state_portal : (state : PortalState) → Stands (portal_becomes name (λ r. record r { state = state }) s).scene
-  state_portal state =
+  pub state_portal : (state : PortalState) → IsAtRest (record p { state = state }) ⊎ IsAtWork (record p { state = state }) (length s.session.levels) → Stands (portal_becomes name (λ r. record r { state = state }) s).scene
+  state_portal state line =
       let i = this_portal s h working name p n in
       let l : IsLive p s.session.levels = this_live s h working name p n in
       alone_portal s h working name p n (λ r. record r { state = state }) (record { name = refl; context = λ k e. e; owner = λ k e. e }) (λ k e. e)
-      (record { place = i.place; made = i.made; owner = i.owner; stage = inl (record { some = l.some; within = l.within; active = l.active }) })
+      (record { place = i.place; made = i.made; owner = i.owner; stage = inl (record { some = l.some; within = l.within; active = l.active; line = line }) })
 
   pub scan_portal : (change : Scan → Scan) → Stands (portal_becomes name (λ r. record r { scan = change r.scan }) s).scene
   scan_portal change =
       let i = this_portal s h working name p n in
       let l : IsLive p s.session.levels = this_live s h working name p n in
       alone_portal s h working name p n (λ r. record r { scan = change r.scan }) (record { name = refl; context = λ k e. e; owner = λ k e. e }) (λ k e. e)
-      (record { place = i.place; made = i.made; owner = i.owner; stage = inl (record { some = l.some; within = l.within; active = l.active }) })
+      (record { place = i.place; made = i.made; owner = i.owner; stage = inl (record { some = l.some; within = l.within; active = l.active; line = l.line }) })
 
   pub active_portal : Stands (portal_becomes name (λ r. record r { active = length s.session.levels }) s).scene
   active_portal =
@@ -383,7 +383,7 @@ module _ (s : Scene) (h : Stands s) (working : IsWorking s.session.levels) (name
       let l : IsLive p s.session.levels = this_live s h working name p n in
       let d = depth_here s.session.levels working in
       alone_portal s h working name p n (λ r. record r { active = length s.session.levels }) (record { name = refl; context = λ k e. e; owner = λ k e. e }) (λ k e. e)
-      (record { place = i.place; made = i.made; owner = i.owner; stage = inl (record { some = l.some; within = omega (arith, l.within, l.active, d.0); active = omega (arith, d.0) }) })
+      (record { place = i.place; made = i.made; owner = i.owner; stage = inl (record { some = l.some; within = omega (arith, l.within, l.active, d.0); active = omega (arith, d.0); line = elim l.line [ inl r ↦ inl r | inr a ↦ inr (refl, a.1) ] }) })
 
 -- A portal of a new name is made.
 new_names : (name : Text) (ps : List OpenPortal) → portal_named name ps ≡ None → (p : OpenPortal) → p.name ≡ name → p.context ≡ None → p.owner ≡ None → All (AreOther p) ps
@@ -407,7 +407,7 @@ made_portal s name object rows bad h working free =
       place = λ n e. absurd (cc e);
       made = λ _. refl;
       owner = λ n e. absurd (cc e);
-      stage = inl (record { some = d.1; within = omega arith; active = omega (arith, d.0) });
+      stage = inl (record { some = d.1; within = omega arith; active = omega (arith, d.0); line = inl (λ _. refl) });
     } in
     record {
       contexts = h.contexts;

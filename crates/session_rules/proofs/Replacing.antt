@@ -20,6 +20,7 @@ use Rattle.session_rules.proofs.LevelsKept.{AreEnding, IsLoose, no_value}
 use Rattle.session_rules.proofs.Stacked.{depth_outer, depth_small, depth_still}
 use Rattle.session_rules.proofs.PortalLists.{Changes, different_changed, others_back, others_front}
 use Rattle.session_rules.proofs.PortalsAmong.{attached_by}
+use Rattle.session_rules.proofs.Resting.{rests_aborted}
 use Rattle.session_rules.proofs.Ending.{Ending, Goes, IsAway, IsDone, Leads, close_goes, each_goes, goes_nothing, item_goes, parts_of, then_goes, with_parts}
 
 -- another portal has neither the context nor the owner of one
@@ -165,7 +166,7 @@ module _ (level : LevelState) (levels : List LevelState) (aborted : level.aborte
             owner = λ n q. attached_by n p.created (level ∷ levels) levels s.session.owners s.session.owners (λ w. w) refl (λ w. w)
                 (sym (rw (ne_eqb (length levels + 1) p.created (λ z. ne (sym z ∙ omega arith))) refl)) (λ j. inr j) (i.owner n q);
             stage = elim i.stage [
-              | inl l ↦ inl (record { some = l.some; within = l.within; active = omega (arith, l.active, depth_still level levels aborted, depth_outer levels h.outer) })
+              | inl l ↦ inl (record { some = l.some; within = l.within; active = omega (arith, l.active, depth_still level levels aborted, depth_outer levels h.outer); line = inl (rests_aborted p level levels aborted i.stage) })
               | inr d ↦ absurd (ne d.created)
             ];
           } in

@@ -85,4 +85,4 @@ stands_elsewhere session a b hooks same h = record {
 
 pub stands_between_elsewhere : (session : SessionState) (a b : Around) → AreHooks session.contexts b.shelf → table_of b.kinds ≡ table_of a.kinds → StandsBetweenLines (record { session = session; around = a })
     → StandsBetweenLines (record { session = session; around = b })
-stands_between_elsewhere session a b hooks same h = record { stands = stands_elsewhere session a b hooks same h.stands; open_levels = h.open_levels }
+stands_between_elsewhere session a b hooks same h = record { stands = stands_elsewhere session a b hooks same h.stands; open_levels = h.open_levels; at_rest = h.at_rest }

@@ -1,6 +1,6 @@
 -- The steps of commands lead from a session that stands to one that stands.
 use Rattle.std.proofs.Common.{◌≡◌, ◌≢◌, ℕ, ◌+◌, ◌-◌, ◌<◌, ◌≤◌, ◌⊎◌, ◌++◌, length, Bool, true, false, Option, Some, None, List, [], ◌∷◌, refl, sym, ap, ◌∙◌, subst, inl, inr, arith}
-use Rattle.std.specs.Prelude.{◌==◌, take, nat_le, if◌then◌else◌, Result, Ok, Err}
+use Rattle.std.specs.Prelude.{◌==◌, All, take, nat_le, if◌then◌else◌, Result, Ok, Err}
 use Rattle.std.specs.Option.{option_map_or}
 use Rattle.std.proofs.lemmas.Bool.{cases_eq, cases_Bool, cases_lt, eq-eqb, ne_eqb, both_ways, le-ltb, leb-false}
 use Rattle.std.proofs.lemmas.List.Elements.{All-nil, All-weaker}
@@ -38,7 +38,7 @@ use Rattle.session_rules.specs.Making.{held, left, level_context_name, level_mad
 use Rattle.session_rules.specs.Taking.{chunk_resized, memory_taken, snapshot_pushed}
 use Rattle.session_rules.specs.Parts.{level_stands}
 use Rattle.session_rules.specs.Calls.{fallible, is_call, refused_call, unless_refused}
-use Rattle.session_rules.specs.Standing.{AreContexts, AreHooks, AreLevels, AreOuter, AreOwners, ArePlans, ArePortals, AreStacked, FitLevels, HasItems, IsActive, IsContextOf, IsDead, IsDeepest, IsFresh, IsItem, IsLive, IsMade, IsOpen, IsOwner, IsOwnerOf, IsPlace, IsPlan, IsPortal, IsReleased, IsRow, Stands, WasReleased, active_depth, owner_at, referred}
+use Rattle.session_rules.specs.Standing.{AreContexts, AreHooks, AreLevels, AreOuter, AreOwners, ArePlans, ArePortals, AreStacked, FitLevels, HasItems, IsActive, IsAtRest, IsContextOf, IsDead, IsDeepest, IsFresh, IsItem, IsLive, IsMade, IsOpen, IsOwner, IsOwnerOf, IsPlace, IsPlan, IsPortal, IsReleased, IsRow, Stands, WasReleased, active_depth, owner_at, referred}
 use Rattle.session_rules.proofs.Forests.{at_put, at_put_other, children_put, has_put_other, parent_put, parent_put_other}
 use Rattle.session_rules.proofs.Guarded.{all_put}
 use Rattle.session_rules.proofs.ContextsKept.{Stay, contexts_changed, contexts_created, has_created, new_empty, new_parent, new_protected, protected_has, stay_changed, stay_created, stay_same, top_protected}
@@ -50,7 +50,7 @@ use Rattle.session_rules.proofs.Settling.{Besides, Fits, Spares, besides_of, wit
 use Rattle.session_rules.proofs.PlansAmong.{IsCached, levels_apart, levels_other, parent_apart, plans_counted, plans_current, plans_moved}
 use Rattle.session_rules.proofs.PortalsAmong.{IsRowOf, attached_by, off_parent, place_level, place_same, place_spared, portals_by, portals_moved, row_changed, row_of, row_parent_off, row_put}
 use Rattle.session_rules.proofs.LevelsKept.{is_there, levels_stay, no_value, one_value}
-use Rattle.session_rules.proofs.EndsStand.{Leaves, aborted_stands, cleaned_up_stands, committed_stands, is_settled, settled, subcommitted_stands}
+use Rattle.session_rules.proofs.EndsStand.{Leaves, aborted_stands, cleaned_up_stands, committed_stands, is_settled, settled, subcommitted_leaves}
 
 -- a refused call changes nothing but the count
 not_refused : (a b : Bool) (x y : Error) (own : Option Error) → (if a then Some x else (if b then Some y else own)) ≡ None → own ≡ None
@@ -85,13 +85,14 @@ abbrev pub IsWorking : List LevelState → Type 0
 IsWorking [] = ⊥
 IsWorking (level ∷ levels) = IsActive level
 
--- what work in a level leads to: the session stands, and its levels are as they were
+-- what work in a level leads to: the session stands, its levels are as they were, and where portals were at rest they still are
 pub record Works (s z : Scene) : Type 0 where
   pub stands : Stands z
   pub levels : z.session.levels ≡ s.session.levels
+  pub at_rest : All IsAtRest s.session.portals → All IsAtRest z.session.portals
 
 pub nothing_works : (s : Scene) → Stands s → Works s s
-nothing_works s h = record { stands = h; levels = refl }
+nothing_works s h = record { stands = h; levels = refl; at_rest = λ r. r }
 
 pub fit_working : (levels : List LevelState) (t u : Contexts) (x y : OwnerTree) (a b : ℕ) → IsWorking levels → FitLevels levels t x a → FitLevels levels u y b
 fit_working [] t u x y a b w h = absurd w
@@ -170,6 +171,7 @@ stack_works s stack h stacked = record {
     snapshots = stacked;
   };
   levels = refl;
+  at_rest = λ r. r;
 }
 
 -- a snapshot is pushed in a level
@@ -270,8 +272,9 @@ not_dead p [] outer d = let z : false ≡ true = d.aborted in absurd (cc z)
 not_dead p (level ∷ levels) outer d = both_ways level.aborted outer.0.unaborted d.aborted
 
 -- a portal stays where a level is pushed
-pushed_portal : (new : LevelState) (levels : List LevelState) (t : Contexts) (x : OwnerTree) (current : ℕ) (p : OpenPortal) → new.starting ≡ true → new.owner ≡ None → AreOuter levels → IsPortal p levels t x current → IsPortal p (new ∷ levels) t x current
-pushed_portal new levels t x current p starting none outer i =
+pushed_portal : (new : LevelState) (levels : List LevelState) (t : Contexts) (x : OwnerTree) (current : ℕ) (p : OpenPortal) → new.starting ≡ true → new.owner ≡ None → AreOuter levels → IsAtRest p → IsPortal p levels t x current
+    → IsPortal p (new ∷ levels) t x current
+pushed_portal new levels t x current p starting none outer rests i =
     elim i.stage [
       | inl l ↦
           let deep : p.active ≤ length levels = omega (arith, l.active, depth_small levels) in
@@ -282,7 +285,7 @@ pushed_portal new levels t x current p starting none outer i =
             owner = λ n e.
                 attached_by n p.created levels (new ∷ levels) x x (λ u. u) refl (λ u. u) (rw (ne_eqb (length levels + 1) p.created (λ z. omega (arith, z, below))) refl)
                 (λ j. elim j [ inl q ↦ absurd (no_value new.owner n none q) | inr k ↦ k ]) (i.owner n e);
-            stage = inl (record { some = l.some; within = l.within; active = rw starting deep });
+            stage = inl (record { some = l.some; within = l.within; active = rw starting deep; line = inl rests });
           }
       | inr d ↦ absurd (not_dead p levels outer d)
     ]
@@ -302,8 +305,8 @@ same_portal old new levels t u x a b p same live aborted stay i = record {
     at false = refl
 
 -- A level is pushed.
-pub level_made_stands : (name : Option Text) (implicit : Bool) (s : Scene) → Stands s → AreOuter s.session.levels → (implicit ≡ true → s.session.levels ≡ []) → Stands (level_made name implicit s).scene
-level_made_stands name implicit s h outer alone = let new : LevelState = record { name = name; context = None; owner = None; implicit = implicit; aborted = false; starting = true } in record {
+pub level_made_stands : (name : Option Text) (implicit : Bool) (s : Scene) → Stands s → All IsAtRest s.session.portals → AreOuter s.session.levels → (implicit ≡ true → s.session.levels ≡ []) → Stands (level_made name implicit s).scene
+level_made_stands name implicit s h at_rest outer alone = let new : LevelState = record { name = name; context = None; owner = None; implicit = implicit; aborted = false; starting = true } in record {
   contexts = h.contexts;
   current = h.current;
   hooks = h.hooks;
@@ -337,8 +340,10 @@ level_made_stands name implicit s h outer alone = let new : LevelState = record 
     items = h.owners.items;
   };
   kinds = h.kinds;
-  portals = portals_by s.session.portals s.session.levels (new ∷ s.session.levels) s.session.contexts s.session.contexts s.session.owners s.session.owners s.session.current s.session.current
-      (λ p i. pushed_portal new s.session.levels s.session.contexts s.session.owners s.session.current p refl refl outer i) h.portals;
+  portals = record {
+    each = λ k r below. pushed_portal new s.session.levels s.session.contexts s.session.owners s.session.current _ refl refl outer (at_rest k r below) (h.portals.each k r below);
+    different = h.portals.different;
+  };
   plans = h.plans;
   snapshots = stacked_above_it s.session.levels s.session.snapshots h.snapshots;
 }
@@ -407,7 +412,7 @@ level_context_stands level levels s starting none h =
       };
       kinds = h.kinds;
       portals = portals_by s.session.portals (level ∷ levels) (record level { context = Some next } ∷ levels) t u x x s.session.current s.session.current
-          (λ q i. same_portal level (record level { context = Some next }) levels t u x s.session.current s.session.current q refl (λ l. record { some = l.some; within = l.within; active = l.active }) refl
+          (λ q i. same_portal level (record level { context = Some next }) levels t u x s.session.current s.session.current q refl (λ l. record { some = l.some; within = l.within; active = l.active; line = l.line }) refl
           (λ n expr k. place_same n expr t u s.session.current (stay n k.protected)
           (row_put t c.once n expr s.session.current k p next (new_context name kind.Default true) Empty
           (λ z. off_parent levels t x h.levels.1 outer n k.parent k.own (sym z)) (λ z. omega (arith, z, c.below n (protected_has n t k.protected))) refl
@@ -563,7 +568,7 @@ level_owner_stands level levels s starting none few h =
                 (rw (ne_eqb (length levels + 1) q.created (λ z. omega (arith, z, small))) refl)
                 (λ j. elim j [ inl f ↦ absurd (both_ways (has n x) unused (ap (λ (k : ℕ). has k x) (one_value (Some n) n m refl f) ∙ a.there)) | inr k ↦ inr k ]) a;
             stage = elim i.stage [
-              | inl l ↦ inl (record { some = l.some; within = l.within; active = l.active })
+              | inl l ↦ inl (record { some = l.some; within = l.within; active = l.active; line = l.line })
               | inr d ↦ inr (record { aborted = d.aborted; created = d.created; within = d.within; active = d.active; failed = d.failed; owner = d.owner; expr = d.expr })
             ];
           }) h.portals;
@@ -606,7 +611,7 @@ level_stands_stands level levels s active made h =
       kinds = h.kinds;
       portals = portals_by s.session.portals (level ∷ levels) (now ∷ levels) s.session.contexts s.session.contexts x x s.session.current c.0
           (λ q i. same_portal level now levels s.session.contexts s.session.contexts x s.session.current c.0 q refl
-          (λ l. record { some = l.some; within = l.within; active = omega (arith, l.active, depth_small (level ∷ levels), depth_working now levels working) }) refl
+          (λ l. record { some = l.some; within = l.within; active = omega (arith, l.active, depth_small (level ∷ levels), depth_working now levels working); line = l.line }) refl
           (λ n expr k. place_level (level ∷ levels) s.session.contexts x h.contexts.once h.levels c.0 (inl c.1) n expr s.session.current k) i) h.portals;
       plans = plans_current s.session.plans s.session.contexts s.session.current c.0 (referred x) (levels_other (level ∷ levels) s.session.contexts x h.levels c.0 (inl c.1)) h.plans;
       snapshots = stacked_within 1 (active_depth (now ∷ levels)) 1 (active_depth (level ∷ levels)) s.session.snapshots (omega arith) (omega (arith, depth_small (level ∷ levels), depth_working now levels working)) h.snapshots;
@@ -649,10 +654,10 @@ module _ (w : Option ℕ) (moment : Moment) (h : Stands moment.scene) where
   unfolding does
   show_stands name from n = h
 
-  pub make_level_stands : (name : Option Text) (implicit : Bool) → AreOuter moment.scene.session.levels → (implicit ≡ true → moment.scene.session.levels ≡ []) → Stands (does w (element.MakeLevel name implicit) moment).moment.scene
+  pub make_level_stands : (name : Option Text) (implicit : Bool) → All IsAtRest moment.scene.session.portals → AreOuter moment.scene.session.levels → (implicit ≡ true → moment.scene.session.levels ≡ []) → Stands (does w (element.MakeLevel name implicit) moment).moment.scene
   unfolding does
-  make_level_stands name implicit outer alone =
-      fallible_keeps Stands w moment _ (level_made name implicit) h (λ _. level_made_stands name implicit moment.scene h outer alone)
+  make_level_stands name implicit at_rest outer alone =
+      fallible_keeps Stands w moment _ (level_made name implicit) h (λ _. level_made_stands name implicit moment.scene h at_rest outer alone)
 
   pub make_context_stands : (level : LevelState) (levels : List LevelState) → moment.scene.session.levels ≡ level ∷ levels → level.starting ≡ true → level.context ≡ None
       → Stands (does w (element.MakeContext LevelContext) moment).moment.scene
@@ -681,10 +686,10 @@ module _ (w : Option ℕ) (moment : Moment) (h : Stands moment.scene) where
   commit_stands level is =
       settled_as (λ (z : Scene). Leaves [] (committed z).scene) moment.scene (level ∷ []) h is (λ k. committed_stands level moment.scene k)
 
-  pub merge_stands : (level : LevelState) (levels : List LevelState) → moment.scene.session.levels ≡ level ∷ levels → 1 ≤ length levels → Leaves levels (does w element.Subcommit moment).moment.scene
+  pub merge_stands : (level : LevelState) (levels : List LevelState) → moment.scene.session.levels ≡ level ∷ levels → 1 ≤ length levels → All IsAtRest moment.scene.session.portals → Leaves levels (does w element.Subcommit moment).moment.scene
   unfolding does
-  merge_stands level levels is some =
-      settled_as (λ (z : Scene). Leaves levels (subcommitted z).scene) moment.scene (level ∷ levels) h is (λ k. subcommitted_stands level levels moment.scene some k)
+  merge_stands level levels is some at_rest =
+      settled_as (λ (z : Scene). Leaves levels (subcommitted z).scene) moment.scene (level ∷ levels) h is (λ k. subcommitted_leaves level levels moment.scene some at_rest k)
 
   pub abort_stands : (level : LevelState) (levels : List LevelState) → moment.scene.session.levels ≡ level ∷ levels → level.aborted ≡ false → IsOpen level
       → Leaves (record level { aborted = true } ∷ levels) (does w element.Abort moment).moment.scene
@@ -727,6 +732,7 @@ module _ (w : Option ℕ) (moment : Moment) (h : Stands moment.scene) where
         record {
           stands = kept_step moment.scene h working (freed name moment.scene.session.contexts) (keeps_freed moment.scene.session.contexts moment.scene.session.next_context name h.contexts);
           levels = refl;
+          at_rest = λ r. r;
         }
 
     pub put_works : (name : Text) (from : ℕ) (bytes : List ℕ) → Works moment.scene (does w (element.Put name from bytes) moment).moment.scene
@@ -736,6 +742,7 @@ module _ (w : Option ℕ) (moment : Moment) (h : Stands moment.scene) where
           stands = kept_step moment.scene h working (written name from bytes moment.scene.session.contexts)
               (keeps_written moment.scene.session.contexts moment.scene.session.next_context name from bytes h.contexts);
           levels = refl;
+          at_rest = λ r. r;
         }
 
     pub realloc_works : (name : Text) (bytes : ℕ) → Works moment.scene (does w (element.Realloc name bytes) moment).moment.scene
@@ -746,6 +753,7 @@ module _ (w : Option ℕ) (moment : Moment) (h : Stands moment.scene) where
           stands = kept_step moment.scene h working (resized (held moment.scene.session) moment.scene.around.space name bytes moment.scene.session.contexts)
               (keeps_resized moment.scene.session.contexts moment.scene.session.next_context (held moment.scene.session) moment.scene.around.space name bytes h.contexts);
           levels = refl;
+          at_rest = λ r. r;
         })
 
     pub alloc_works : (name : Option Text) (bytes : ℕ) (zeroed : Bool) → Works moment.scene (does w (element.Alloc InCurrent name bytes zeroed) moment).moment.scene
@@ -756,4 +764,5 @@ module _ (w : Option ℕ) (moment : Moment) (h : Stands moment.scene) where
           stands = kept_step moment.scene h working (allocated moment.scene.session.current (left moment.scene) name bytes (if zeroed then zeros bytes else []) moment.scene.session.contexts)
               (keeps_allocated moment.scene.session.contexts moment.scene.session.next_context moment.scene.session.current (left moment.scene) name bytes (if zeroed then zeros bytes else []) h.contexts);
           levels = refl;
+          at_rest = λ r. r;
         })

@@ -1,8 +1,9 @@
 -- Commands lead from a session between two lines to one between two lines.
 use Rattle.std.proofs.Common.{◌≡◌, ℕ, ◌+◌, ◌≤◌, ◌<◌, Bool, true, false, Option, Some, None, List, [], ◌∷◌, ◌++◌, refl, sym, ap, ◌∙◌, subst, inl, arith}
-use Rattle.std.specs.Prelude.{zero, suc, ◌-◌, ◌&&◌, ◌==◌, not, length, map, codes, is_none, is_some, replicate, nat_lt, if◌then◌else◌}
+use Rattle.std.specs.Prelude.{All, zero, suc, ◌-◌, ◌&&◌, ◌==◌, not, length, map, codes, is_none, is_some, replicate, nat_lt, if◌then◌else◌}
 use Rattle.std.specs.Option.{option_and_then, option_map_or}
 use Rattle.std.proofs.lemmas.Bool.{le-ltb, ltb-true}
+use Rattle.std.proofs.lemmas.List.Elements.{All-cons}
 use Rattle.pgs_step.specs.declared.errors.Error.{Error}
 use Rattle.pgs_step.specs.declared.errors.Error.TheVariants as error
 use Rattle.pgs_step.specs.declared.events.What.{What}
@@ -37,9 +38,11 @@ use Rattle.any_ctx.specs.declared.any.CtxKind.TheVariants as kind
 use Rattle.std.specs.List.{flat_map}
 use Rattle.session_rules.proofs.LevelsKept.{is_there}
 use Rattle.session_rules.proofs.PortalsStand.{context_portal, made_portal, named_changed, named_in, owner_portal, row_portal}
-use Rattle.session_rules.proofs.PortalWorks.{Beside, begins_works, check_works, portal_allocates, portal_enlarges, portal_locks, portal_takes, ready_works, row_allocates, scan_works, turn_works}
+use Rattle.session_rules.proofs.PortalWorks.{Beside, IsFetched, Turned, Turns, begins_fetched, begins_works, beside_turns, check_beside, portal_allocates, portal_enlarges, portal_locks, portal_takes, ready_works, row_allocates, scan_turns, turned}
+use Rattle.session_rules.proofs.PortalEnds.{end_portal_works}
+use Rattle.session_rules.proofs.Resting.{RestsBeside, beside_becomes, beside_rests, rests_beside}
 use Rattle.session_rules.specs.Transcript.{line_elements, turn, turn_of}
-use Rattle.session_rules.specs.Standing.{AreOpen, AreOuter, FitLevels, IsActive, IsOpen, Stands, StandsBetweenLines}
+use Rattle.session_rules.specs.Standing.{AreOpen, AreOuter, FitLevels, IsActive, IsAtRest, IsOpen, Stands, StandsBetweenLines}
 use Rattle.session_rules.proofs.EndsStand.{Leaves, outer_open, recovered_stands}
 use Rattle.session_rules.proofs.StepsStand.{IsWorking, Works, abort_stands, alloc_works, below_limit, cleanup_stands, commit_stands, enlarge_works, free_works, level_context_stands, level_made_stands, level_owner_stands, level_stands_stands, merge_stands, nothing_works, own_refusal, pop_works, push_works, put_works, realloc_works, settled_as}
 use Rattle.owner_kinds.specs.KindShelf.{table_of}
@@ -100,13 +103,17 @@ fallible_leads Q w moment own act before so behind =
     go None h = let q : Q (act moment.scene).scene = behind (h refl) in record { stands = so (act moment.scene).scene q; passed = λ _. q }
     go (Some r) h = record { stands = before; passed = λ e. absurd (cc e) }
 
--- a session that stands, with these levels
+-- a session that stands, with these levels, whose portals are at rest
 pub record At (levels : List LevelState) (scene : Scene) : Type 0 where
   pub stands : Stands scene
   pub are : scene.session.levels ≡ levels
+  pub at_rest : All IsAtRest scene.session.portals
+
+working_in : (levels : List LevelState) (scene : Scene) → IsWorking levels → scene.session.levels ≡ levels → IsWorking scene.session.levels
+working_in levels scene h are = subst IsWorking (sym are) h
 
 working_at : (levels : List LevelState) (scene : Scene) → IsWorking levels → At levels scene → IsWorking scene.session.levels
-working_at levels scene h at = subst IsWorking (sym at.are) h
+working_at levels scene h at = working_in levels scene h at.are
 
 -- a check, and what is done behind it
 check_leads : (Q : Scene → Type 0) (w : Option ℕ) (check : Check) (moment : Moment) → Stands moment.scene → (failure check moment.scene ≡ None → Q moment.scene) → Leads Q (does w (element.Checks check) moment)
@@ -137,7 +144,7 @@ module _ (w : Option ℕ) (levels : List LevelState) (Q : Scene → Type 0) wher
   behind_work : (x : Element) (xs : List Element) (moment : Moment) → At levels moment.scene → Works moment.scene (does w x moment).moment.scene → ((m : Moment) → At levels m.scene → Leads Q (does_all w xs m))
       → Leads Q (does_all w (x ∷ xs) moment)
   behind_work x xs moment at works next =
-      leads_on w (At levels) Q x xs moment (record { stands = works.stands; passed = λ _. record { stands = works.stands; are = works.levels ∙ at.are } }) next
+      leads_on w (At levels) Q x xs moment (record { stands = works.stands; passed = λ _. record { stands = works.stands; are = works.levels ∙ at.are; at_rest = works.at_rest at.at_rest } }) next
 
 nothing_more : (w : Option ℕ) (levels : List LevelState) (moment : Moment) → At levels moment.scene → Leads (At levels) (does_all w [] moment)
 nothing_more w levels moment at = leads_nowhere w (At levels) moment at.stands at
@@ -206,20 +213,10 @@ IsWork (command.PlanUnreference plan) = Unit {0}
 IsWork (command.PlanDrop plan) = Unit {0}
 IsWork (command.Portal name object rows bad) = Unit {0}
 IsWork (command.Fetch name count) = Unit {0}
+IsWork (command.EndPortal name) = Unit {0}
 IsWork (command.Lock object mode) = Unit {0}
 IsWork (command.Unlock object mode) = Unit {0}
 IsWork other = ⊥
-
--- the same and those on transactions
-abbrev pub IsHere : Command → Type 0
-IsHere command.Nothing = Unit {0}
-IsHere command.Begin = Unit {0}
-IsHere command.Commit = Unit {0}
-IsHere command.Rollback = Unit {0}
-IsHere (command.Savepoint name) = Unit {0}
-IsHere (command.Release name) = Unit {0}
-IsHere (command.RollbackTo name) = Unit {0}
-IsHere other = IsWork other
 
 -- A portal on its way: it has its context and its owner, or hasn't them yet.
 record IsMaking (context owner : Bool) (depth : ℕ) (p : OpenPortal) : Type 0 where
@@ -228,8 +225,14 @@ record IsMaking (context owner : Bool) (depth : ℕ) (p : OpenPortal) : Type 0 w
   expr : p.expr ≡ None
   created : p.created ≡ depth
 
+-- a session that stands, with these levels, whose portals are at rest but the one of a name
+record Nears (levels : List LevelState) (name : Text) (scene : Scene) : Type 0 where
+  stands : Stands scene
+  are : scene.session.levels ≡ levels
+  beside : All (RestsBeside name) scene.session.portals
+
 record Makes (levels : List LevelState) (name : Text) (context owner : Bool) (scene : Scene) : Type 0 where
-  at : At levels scene
+  at : Nears levels name scene
   portal : OpenPortal
   named : portal_named name scene.session.portals ≡ Some portal
   is : IsMaking context owner (length levels) portal
@@ -247,7 +250,7 @@ module _ (w : Option ℕ) (levels : List LevelState) (active : IsWorking levels)
       (record {
         stands = b.works.stands;
         passed = λ _. record {
-          at = record { stands = b.works.stands; are = b.works.levels ∙ k.at.are };
+          at = record { stands = b.works.stands; are = b.works.levels ∙ k.at.are; beside = subst (All (RestsBeside name)) (sym b.portals) k.at.beside };
           portal = k.portal;
           named = ap (portal_named name) b.portals ∙ k.named;
           is = k.is;
@@ -261,7 +264,11 @@ module _ (w : Option ℕ) (levels : List LevelState) (active : IsWorking levels)
       leads_on w (Makes levels name false false) Q (element.MakePortal name object rows bad) xs moment
       (fallible_leads (Makes levels name false false) w moment _ (portal_made name object rows bad) at.stands (λ z q. q.at.stands)
       (λ _. record {
-        at = record { stands = made_portal moment.scene name object rows bad at.stands (working_at levels moment.scene active at) free; are = at.are };
+        at = record {
+          stands = made_portal moment.scene name object rows bad at.stands (working_at levels moment.scene active at) free;
+          are = at.are;
+          beside = All-cons (RestsBeside name) _ moment.scene.session.portals (λ _ _. refl) (rests_beside name moment.scene.session.portals at.at_rest);
+        };
         portal = record { name = name; context = None; expr = None; owner = None; scan = new_scan object rows bad; created = length moment.scene.session.levels; active = length moment.scene.session.levels; state = portal.New };
         named = rw (is_text-same name) refl;
         is = record { has_context = refl; has_owner = refl; expr = refl; created = ap length at.are };
@@ -275,16 +282,17 @@ module _ (w : Option ℕ) (levels : List LevelState) (active : IsWorking levels)
       (fallible_leads (Makes levels name true false) w moment _ (new_context_made (PortalContext name)) k.at.stands (λ z q. q.at.stands)
       (λ _. record {
         at = record {
-          stands = context_portal moment.scene k.at.stands (working_at levels moment.scene active k.at) name k.portal (named_in name k.portal moment.scene.session.portals k.named) (no_value_of k.portal.context k.is.has_context);
+          stands = context_portal moment.scene k.at.stands (working_in levels moment.scene active k.at.are) name k.portal (named_in name k.portal moment.scene.session.portals k.named) (no_value_of k.portal.context k.is.has_context);
           are = k.at.are;
+          beside = beside_becomes name (λ p. record p { context = Some moment.scene.session.next_context }) moment.scene.session.portals (λ q. refl) k.at.beside;
         };
         portal = record k.portal { context = Some moment.scene.session.next_context };
         named = named_changed name k.portal (λ p. record p { context = Some moment.scene.session.next_context }) moment.scene.session.portals (λ q. refl) k.named;
         is = record { has_context = refl; has_owner = k.is.has_owner; expr = k.is.expr; created = k.is.created };
       })) next
 
-  level_owned : (moment : Moment) → At levels moment.scene → (lo : ℕ) × (level_owner moment.scene.session ≡ Some lo)
-  level_owned moment at = go moment.scene.session.levels (working_at levels moment.scene active at)
+  level_owned : (moment : Moment) → Nears levels name moment.scene → (lo : ℕ) × (level_owner moment.scene.session ≡ Some lo)
+  level_owned moment at = go moment.scene.session.levels (working_in levels moment.scene active at.are)
     where
       go : (ls : List LevelState) → IsWorking ls → (lo : ℕ) × (owner_of (first_of ls) ≡ Some lo)
       go [] a = absurd a
@@ -299,9 +307,10 @@ module _ (w : Option ℕ) (levels : List LevelState) (active : IsWorking levels)
       (fallible_leads (Makes levels name true true) w moment _ (new_owner_made (OfPortal name)) k.at.stands (λ z q. q.at.stands)
       (λ room. record {
         at = record {
-          stands = owner_portal moment.scene k.at.stands (working_at levels moment.scene active k.at) name k.portal (named_in name k.portal moment.scene.session.portals k.named) lo.0 lo.1
+          stands = owner_portal moment.scene k.at.stands (working_in levels moment.scene active k.at.are) name k.portal (named_in name k.portal moment.scene.session.portals k.named) lo.0 lo.1
               (no_value_of k.portal.owner k.is.has_owner) (k.is.created ∙ sym (ap length k.at.are)) (below_limit 65536 (size moment.scene.session.owners) room);
           are = k.at.are;
+          beside = beside_becomes name (λ p. record p { owner = Some moment.scene.session.next_owner }) moment.scene.session.portals (λ q. refl) k.at.beside;
         };
         portal = record k.portal { owner = Some moment.scene.session.next_owner };
         named = named_changed name k.portal (λ p. record p { owner = Some moment.scene.session.next_owner }) moment.scene.session.portals (λ q. refl) k.named;
@@ -309,13 +318,13 @@ module _ (w : Option ℕ) (levels : List LevelState) (active : IsWorking levels)
       })) next
 
   -- the context of one row, and then the portal is ready
-  behind_row : (xs : List Element) (moment : Moment) → Makes levels name true true moment.scene → ((m : Moment) → At levels m.scene → Leads Q (does_all w xs m))
+  behind_row : (xs : List Element) (moment : Moment) → Makes levels name true true moment.scene → ((m : Moment) → Nears levels name m.scene → Leads Q (does_all w xs m))
       → Leads Q (does_all w (element.MakeContext (RowContext name) ∷ xs) moment)
   unfolding does
   behind_row xs moment k next =
-      leads_on w (At levels) Q (element.MakeContext (RowContext name)) xs moment
-      (fallible_leads (At levels) w moment _ (new_context_made (RowContext name)) k.at.stands (λ z q. q.stands)
-      (λ _. record { stands = row_made k; are = row_levels k })) next
+      leads_on w (Nears levels name) Q (element.MakeContext (RowContext name)) xs moment
+      (fallible_leads (Nears levels name) w moment _ (new_context_made (RowContext name)) k.at.stands (λ z q. q.stands)
+      (λ _. record { stands = row_made k; are = row_levels k; beside = row_beside k })) next
     where
       row_made : (k : Makes levels name true true moment.scene) → Stands (new_context_made (RowContext name) moment.scene).scene
       row_made k =
@@ -323,7 +332,7 @@ module _ (w : Option ℕ) (levels : List LevelState) (active : IsWorking levels)
           let is : option_and_then (λ (p : OpenPortal). p.context) (portal_named name moment.scene.session.portals) ≡ Some c.0 = ap (option_and_then (λ (p : OpenPortal). p.context)) k.named ∙ c.1 in
           subst (λ (o : Option ℕ).
           Stands (where_there o (λ parent. in_order (context_made parent (codes "ExprContext") true kind.Small ∷ portal_becomes name (λ p. record p { expr = Some moment.scene.session.next_context }) ∷ [])) moment.scene).scene) (sym is)
-          (row_portal moment.scene k.at.stands (working_at levels moment.scene active k.at) name k.portal (named_in name k.portal moment.scene.session.portals k.named) c.0 c.1 k.is.expr)
+          (row_portal moment.scene k.at.stands (working_in levels moment.scene active k.at.are) name k.portal (named_in name k.portal moment.scene.session.portals k.named) c.0 c.1 k.is.expr)
 
       row_levels : (k : Makes levels name true true moment.scene) → (new_context_made (RowContext name) moment.scene).scene.session.levels ≡ levels
       row_levels k = go (option_and_then (λ (p : OpenPortal). p.context) (portal_named name moment.scene.session.portals))
@@ -333,18 +342,50 @@ module _ (w : Option ℕ) (levels : List LevelState) (active : IsWorking levels)
           go None = k.at.are
           go (Some c) = k.at.are
 
--- The elements of a fetch keep a session in its levels.
-abbrev AllWork : Option ℕ → List LevelState → List Element → Type 0
-AllWork w levels [] = Unit {0}
-AllWork w levels (x ∷ xs) = ((m : Moment) → At levels m.scene → Works m.scene (does w x m).moment.scene) × AllWork w levels xs
+      row_beside : (k : Makes levels name true true moment.scene) → All (RestsBeside name) (new_context_made (RowContext name) moment.scene).scene.session.portals
+      row_beside k = go (option_and_then (λ (p : OpenPortal). p.context) (portal_named name moment.scene.session.portals))
+        where
+          go : (o : Option ℕ)
+              → All (RestsBeside name) (where_there o (λ parent. in_order (context_made parent (codes "ExprContext") true kind.Small ∷ portal_becomes name (λ p. record p { expr = Some moment.scene.session.next_context }) ∷ [])) moment.scene).scene.session.portals
+          go None = k.at.beside
+          go (Some c) = beside_becomes name (λ p. record p { expr = Some moment.scene.session.next_context }) moment.scene.session.portals (λ q. refl) k.at.beside
 
-both_work : (w : Option ℕ) (levels : List LevelState) (xs ys : List Element) → AllWork w levels xs → AllWork w levels ys → AllWork w levels (xs ++ ys)
-both_work w levels [] ys a b = b
-both_work w levels (x ∷ xs) ys a b = (a.0, both_work w levels xs ys a.1 b)
+  ready_leads : (moment : Moment) → Nears levels name moment.scene → Leads (At levels) (does w (element.PortalReady name) moment)
+  unfolding does
+  ready_leads moment k =
+      let works : Works moment.scene (does w (element.PortalReady name) moment).moment.scene = ready_works w moment k.stands (working_in levels moment.scene active k.are) name in
+      record {
+        stands = works.stands;
+        passed = λ _. record {
+          stands = works.stands;
+          are = works.levels ∙ k.are;
+          at_rest = beside_rests name (λ p. record p { state = portal.Ready }) moment.scene.session.portals (λ q unready. absurd (cc unready)) k.beside;
+        };
+      }
 
-all_work : (w : Option ℕ) (levels : List LevelState) (xs : List Element) (moment : Moment) → At levels moment.scene → AllWork w levels xs → Leads (At levels) (does_all w xs moment)
-all_work w levels [] moment at a = nothing_more w levels moment at
-all_work w levels (x ∷ xs) moment at a = behind_work w levels (At levels) x xs moment at (a.0 moment at) (λ m k. all_work w levels xs m k a.1)
+-- The portal of a name is fetched from in a session with these levels, whose portals are at rest.
+record Fetches (levels : List LevelState) (name : Text) (scene : Scene) : Type 0 where
+  at : At levels scene
+  fetched : IsFetched name scene
+
+-- The elements of a fetch.
+abbrev AllFetch : Option ℕ → List LevelState → Text → List Element → Type 0
+AllFetch w levels name [] = Unit {0}
+AllFetch w levels name (x ∷ xs) = ((m : Moment) → Fetches levels name m.scene → Leads (Fetches levels name) (does w x m)) × AllFetch w levels name xs
+
+both_fetch : (w : Option ℕ) (levels : List LevelState) (name : Text) (xs ys : List Element) → AllFetch w levels name xs → AllFetch w levels name ys → AllFetch w levels name (xs ++ ys)
+both_fetch w levels name [] ys a b = b
+both_fetch w levels name (x ∷ xs) ys a b = (a.0, both_fetch w levels name xs ys a.1 b)
+
+all_fetch : (w : Option ℕ) (levels : List LevelState) (name : Text) (xs : List Element) (moment : Moment) → Fetches levels name moment.scene → AllFetch w levels name xs → Leads (Fetches levels name) (does_all w xs moment)
+all_fetch w levels name [] moment k a = leads_nowhere w (Fetches levels name) moment k.at.stands k
+all_fetch w levels name (x ∷ xs) moment k a = leads_on w (Fetches levels name) (Fetches levels name) x xs moment (a.0 moment k) (λ m l. all_fetch w levels name xs m l a.1)
+
+fetches_on : (levels : List LevelState) (name : Text) (s z : Scene) → Fetches levels name s → Turns name s z → Fetches levels name z
+fetches_on levels name s z k t = record {
+  at = record { stands = t.works.stands; are = t.works.levels ∙ k.at.are; at_rest = t.works.at_rest k.at.at_rest };
+  fetched = t.fetched k.fetched;
+}
 
 module _ (w : Option ℕ) (levels : List LevelState) (active : IsWorking levels) (name : Text) where
   -- a page that is pinned is one of the buffers
@@ -379,47 +420,73 @@ module _ (w : Option ℕ) (levels : List LevelState) (active : IsWorking levels)
   turn_is true scan = both_steps (unpinned scan.page) (step.End ∷ []) (unpinned_steps scan.page) (tt, tt)
   turn_is false scan = (tt, both_steps (page_steps scan) (row_steps scan) (pages (is_tenth scan) scan) (rows_are (is_bad scan) scan))
 
-  -- the elements of a step, each in its turn
-  in_turn : (x : Element) → ((m : Moment) → At levels m.scene → Works m.scene (does w x m).moment.scene) → (m : Moment) → At levels m.scene → Works m.scene (does w (element.InTurn name x) m).moment.scene
-  in_turn x works m k = turn_works w m k.stands (working_at levels m.scene active k) name x (works m k)
+  abbrev AllTurn : List Element → Type 0
+  AllTurn xs = AllFetch w levels name xs
 
-  step_work : (s : ScanStep) → IsStep s → AllWork w levels (map (element.InTurn name) (element.Scans name s ∷ fallible_part name s))
-  step_work s is = (in_turn (element.Scans name s) (λ m k. scan_works w m k.stands (working_at levels m.scene active k) name s), parts s is)
+  -- the elements of a step, each in its turn
+  in_turn : (x : Element) → ((m : Moment) → At levels m.scene → Turns name m.scene (does w x m).moment.scene) → (m : Moment) → Fetches levels name m.scene → Leads (Fetches levels name) (does w (element.InTurn name x) m)
+  in_turn x turns m k =
+      let t : Turned name m.scene (does w (element.InTurn name x) m) = turned w m k.at.stands (working_at levels m.scene active k.at) name x k.fetched (turns m k.at) in
+      record { stands = t.stands; passed = λ none. fetches_on levels name m.scene (does w (element.InTurn name x) m).moment.scene k (t.passed none) }
+
+  -- and one that leaves the portals as they are
+  beside_turn : (x : Element) → ((m : Moment) → At levels m.scene → Beside m.scene (does w x m).moment.scene) → (m : Moment) → Fetches levels name m.scene → Leads (Fetches levels name) (does w (element.InTurn name x) m)
+  beside_turn x beside = in_turn x (λ m k. beside_turns name m.scene (does w x m).moment.scene (beside m k))
+
+  says_fetched : (event : What) (m : Moment) → Fetches levels name m.scene → Leads (Fetches levels name) (does w (element.Says event) m)
+  unfolding does
+  says_fetched event m k = record { stands = k.at.stands; passed = λ _. k }
+
+  step_work : (s : ScanStep) → IsStep s → AllTurn (map (element.InTurn name) (element.Scans name s ∷ fallible_part name s))
+  step_work s is = (in_turn (element.Scans name s) (λ m k. scan_turns w m k.stands (working_at levels m.scene active k) name s), parts s is)
     where
-      parts : (s : ScanStep) → IsStep s → AllWork w levels (map (element.InTurn name) (fallible_part name s))
+      parts : (s : ScanStep) → IsStep s → AllTurn (map (element.InTurn name) (fallible_part name s))
       parts (step.Pin page) small = (
-        in_turn (element.Enlarge (OfPortal name)) (λ m k. let b = portal_enlarges w m k.stands (working_at levels m.scene active k) name in b.works),
+        beside_turn (element.Enlarge (OfPortal name)) (λ m k. portal_enlarges w m k.stands (working_at levels m.scene active k) name),
         (
-          in_turn (element.Take (OfPortal name) buffer_pin page)
+          beside_turn (element.Take (OfPortal name) buffer_pin page)
               (λ m k.
-              let b = portal_takes w m k.stands (working_at levels m.scene active k) name buffer_pin page refl (λ z. absurd (omega (arith, z))) (λ serial. record { kind = inl (record { from = omega arith; to = omega arith }); buffer = λ _. small }) in
-              b.works),
+              portal_takes w m k.stands (working_at levels m.scene active k) name buffer_pin page refl (λ z. absurd (omega (arith, z))) (λ serial. record { kind = inl (record { from = omega arith; to = omega arith }); buffer = λ _. small })),
           tt,
         ),
       )
-      parts (step.Bad row) is = (in_turn (element.Checks (element.Refuse (error.BadRow row))) (λ m k. check_works w m k.stands (working_at levels m.scene active k) name (element.Refuse (error.BadRow row))), tt)
-      parts step.Alloc is = (in_turn (element.Alloc (InRow name) None 64 false) (λ m k. let b = row_allocates w m k.stands (working_at levels m.scene active k) name None 64 in b.works), tt)
+      parts (step.Bad row) is = (beside_turn (element.Checks (element.Refuse (error.BadRow row))) (λ m k. check_beside w m k.stands (working_at levels m.scene active k) name (element.Refuse (error.BadRow row))), tt)
+      parts step.Alloc is = (beside_turn (element.Alloc (InRow name) None 64 false) (λ m k. row_allocates w m k.stands (working_at levels m.scene active k) name None 64), tt)
       parts step.Reset is = tt
       parts (step.Unpin page) is = tt
       parts (step.Row row value) is = tt
       parts step.End is = tt
 
-  steps_work : (ss : List ScanStep) → AreSteps ss → AllWork w levels (flat_map (λ s. map (element.InTurn name) (element.Scans name s ∷ fallible_part name s)) ss)
+  steps_work : (ss : List ScanStep) → AreSteps ss → AllTurn (flat_map (λ s. map (element.InTurn name) (element.Scans name s ∷ fallible_part name s)) ss)
   steps_work [] a = tt
-  steps_work (s ∷ ss) a = both_work w levels (map (element.InTurn name) (element.Scans name s ∷ fallible_part name s)) _ (step_work s a.0) (steps_work ss a.1)
+  steps_work (s ∷ ss) a = both_fetch w levels name (map (element.InTurn name) (element.Scans name s ∷ fallible_part name s)) _ (step_work s a.0) (steps_work ss a.1)
 
-  fetch_work : (count : ℕ) (scan : Scan) (rows : ℕ) → AllWork w levels (fetch_steps name count scan rows)
-  fetch_work zero scan rows = (λ m k. says_works w (what.Fetched name rows) m k.stands, tt)
+  fetch_work : (count : ℕ) (scan : Scan) (rows : ℕ) → AllTurn (fetch_steps name count scan rows)
+  fetch_work zero scan rows = (says_fetched (what.Fetched name rows), tt)
   fetch_work (suc count) scan rows =
-      both_work w levels (turn_steps name scan) _ (steps_work (scan_turn scan) (turn_is (scan.at == scan.rows) scan)) (rest (scan.at == scan.rows) (fetch_work count (after_turn scan) (rows + 1)))
+      both_fetch w levels name (turn_steps name scan) _ (steps_work (scan_turn scan) (turn_is (scan.at == scan.rows) scan)) (rest (scan.at == scan.rows) (fetch_work count (after_turn scan) (rows + 1)))
     where
-      rest : (b : Bool) → AllWork w levels (fetch_steps name count (after_turn scan) (rows + 1)) → AllWork w levels (elim b as (λ _. List Element) [ true ↦ element.Says (what.Fetched name rows) ∷ [] | false ↦ fetch_steps name count (after_turn scan) (rows + 1) ])
-      rest true more = (λ m k. says_works w (what.Fetched name rows) m k.stands, tt)
+      rest : (b : Bool) → AllTurn (fetch_steps name count (after_turn scan) (rows + 1)) → AllTurn (elim b as (λ _. List Element) [ true ↦ element.Says (what.Fetched name rows) ∷ [] | false ↦ fetch_steps name count (after_turn scan) (rows + 1) ])
+      rest true more = (says_fetched (what.Fetched name rows), tt)
       rest false more = more
 
-  fetch_all : (count : ℕ) (o : Option OpenPortal) → AllWork w levels (option_map_or (λ portal. fetch_steps name count portal.scan 0) o [])
+  fetch_all : (count : ℕ) (o : Option OpenPortal) → AllTurn (option_map_or (λ portal. fetch_steps name count portal.scan 0) o [])
   fetch_all count None = tt
   fetch_all count (Some p) = fetch_work count p.scan 0
+
+behind_begin : (w : Option ℕ) (levels : List LevelState) → IsWorking levels → (name : Text) (Q : Scene → Type 0) (xs : List Element) (moment : Moment) → At levels moment.scene → ((m : Moment) → Fetches levels name m.scene → Leads Q (does_all w xs m))
+    → Leads Q (does_all w (element.FetchBegins name ∷ xs) moment)
+behind_begin w levels active name Q xs moment k next =
+    let working = working_at levels moment.scene active k in
+    let works : Works moment.scene (does w (element.FetchBegins name) moment).moment.scene = begins_works w moment k.stands working name in
+    leads_on w (Fetches levels name) Q (element.FetchBegins name) xs moment
+    (record {
+      stands = works.stands;
+      passed = λ _. record {
+        at = record { stands = works.stands; are = works.levels ∙ k.are; at_rest = works.at_rest k.at_rest };
+        fetched = begins_fetched w moment k.stands working name;
+      };
+    }) next
 
 is_unnamed : (o : Option OpenPortal) (error : Error) → unless (is_none o) error ≡ None → o ≡ None
 is_unnamed None error e = refl
@@ -431,16 +498,16 @@ module _ (w : Option ℕ) (levels : List LevelState) (active : IsWorking levels)
       behind_made w levels active name (At levels) object rows bad _ moment at free
       (λ m k. behind_context w levels active name (At levels) _ m k
       (λ m k. behind_owner w levels active name (At levels) _ m k
-      (λ m k. behind_beside w levels active name (At levels) true true (element.TakeLock (OfPortal name) object AccessShareLock) _ m k (portal_locks w m k.at.stands (working_at levels m.scene active k.at) name object AccessShareLock)
-      (λ m k. behind_beside w levels active name (At levels) true true (element.Enlarge (OfPortal name)) _ m k (portal_enlarges w m k.at.stands (working_at levels m.scene active k.at) name)
+      (λ m k. behind_beside w levels active name (At levels) true true (element.TakeLock (OfPortal name) object AccessShareLock) _ m k (portal_locks w m k.at.stands (working_in levels m.scene active k.at.are) name object AccessShareLock)
+      (λ m k. behind_beside w levels active name (At levels) true true (element.Enlarge (OfPortal name)) _ m k (portal_enlarges w m k.at.stands (working_in levels m.scene active k.at.are) name)
       (λ m k. behind_beside w levels active name (At levels) true true (element.Take (OfPortal name) relcache_reference object) _ m k
-      (portal_takes w m k.at.stands (working_at levels m.scene active k.at) name relcache_reference object refl (λ z. absurd (omega (arith, z))) (class_item (table_of m.scene.around.kinds) Relcache object))
-      (λ m k. behind_beside w levels active name (At levels) true true (element.Enlarge (OfPortal name)) _ m k (portal_enlarges w m k.at.stands (working_at levels m.scene active k.at) name)
+      (portal_takes w m k.at.stands (working_in levels m.scene active k.at.are) name relcache_reference object refl (λ z. absurd (omega (arith, z))) (class_item (table_of m.scene.around.kinds) Relcache object))
+      (λ m k. behind_beside w levels active name (At levels) true true (element.Enlarge (OfPortal name)) _ m k (portal_enlarges w m k.at.stands (working_in levels m.scene active k.at.are) name)
       (λ m k. behind_beside w levels active name (At levels) true true (element.Take (OfPortal name) snapshot_reference object) _ m k
-      (portal_takes w m k.at.stands (working_at levels m.scene active k.at) name snapshot_reference object refl (λ z. absurd (omega (arith, z))) (snapshot_item (table_of m.scene.around.kinds) object))
-      (λ m k. behind_beside w levels active name (At levels) true true (element.Alloc (InPortal name) None 200 false) _ m k (portal_allocates w m k.at.stands (working_at levels m.scene active k.at) name None 200)
+      (portal_takes w m k.at.stands (working_in levels m.scene active k.at.are) name snapshot_reference object refl (λ z. absurd (omega (arith, z))) (snapshot_item (table_of m.scene.around.kinds) object))
+      (λ m k. behind_beside w levels active name (At levels) true true (element.Alloc (InPortal name) None 200 false) _ m k (portal_allocates w m k.at.stands (working_in levels m.scene active k.at.are) name None 200)
       (λ m k. behind_row w levels active name (At levels) _ m k
-      (λ m k. behind_work w levels (At levels) (element.PortalReady name) [] m k (ready_works w m k.stands (working_at levels m.scene active k) name) (λ m k. nothing_more w levels m k)))))))))))
+      (λ m k. leads_on w (At levels) (At levels) (element.PortalReady name) [] m (ready_leads w levels active name (At levels) m k) (λ m k. nothing_more w levels m k)))))))))))
 
 module _ (w : Option ℕ) (levels : List LevelState) (active : IsWorking levels) where
   pub work_leads : (c : Command) (session : SessionState) → IsWork c → (moment : Moment) → At levels moment.scene → Leads (At levels) (does_all w (work_of c session) moment)
@@ -566,8 +633,14 @@ module _ (w : Option ℕ) (levels : List LevelState) (active : IsWorking levels)
   work_leads (command.Fetch name count) session is moment at =
       behind_check w levels (At levels) (element.IsPortal name) _ moment at
       (λ m k _. behind_check w levels (At levels) (element.HasNotFailed name) _ m k
-      (λ m k _. behind_work w levels (At levels) (element.FetchBegins name) _ m k (begins_works w m k.stands (working_at levels m.scene active k) name)
-      (λ m k. all_work w levels _ m k (fetch_all w levels active name count (portal_named name session.portals)))))
+      (λ m k _. behind_begin w levels active name (At levels) _ m k
+      (λ m k.
+      let l : Leads (Fetches levels name) (does_all w (option_map_or (λ portal. fetch_steps name count portal.scan 0) (portal_named name session.portals) []) m) =
+      all_fetch w levels name _ m k (fetch_all w levels active name count (portal_named name session.portals)) in
+      record { stands = l.stands; passed = λ none. let q = l.passed none in q.at })))
+  work_leads (command.EndPortal name) session is moment at =
+      behind_check w levels (At levels) (element.IsPortal name) _ moment at
+      (λ m k _. behind_work w levels (At levels) (element.EndPortal name) [] m k (end_portal_works w m k.stands (working_at levels m.scene active k) k.at_rest name) (λ m k. nothing_more w levels m k))
   work_leads (command.Lock object mode) session is moment at =
       behind_work w levels (At levels) (element.TakeLock OfLevel object mode) [] moment at (lock_works w moment at.stands (working_at levels moment.scene active at) object mode) (λ m k. nothing_more w levels m k)
   work_leads (command.Unlock object mode) session is moment at =
@@ -582,17 +655,20 @@ begun name implicit c o starting =
 
 record HasContext (name : Option Text) (implicit : Bool) (outer : List LevelState) (scene : Scene) : Type 0 where
   stands : Stands scene
+  at_rest : All IsAtRest scene.session.portals
   context : ℕ
   levels : scene.session.levels ≡ begun name implicit (Some context) None true ∷ outer
 
 record HasOwner (name : Option Text) (implicit : Bool) (outer : List LevelState) (scene : Scene) : Type 0 where
   stands : Stands scene
+  at_rest : All IsAtRest scene.session.portals
   context : ℕ
   owner : ℕ
   levels : scene.session.levels ≡ begun name implicit (Some context) (Some owner) true ∷ outer
 
 pub record HasBegun (name : Option Text) (implicit : Bool) (outer : List LevelState) (scene : Scene) : Type 0 where
   pub stands : Stands scene
+  pub at_rest : All IsAtRest scene.session.portals
   pub context : ℕ
   pub owner : ℕ
   pub levels : scene.session.levels ≡ begun name implicit (Some context) (Some owner) false ∷ outer
@@ -603,8 +679,9 @@ module _ (w : Option ℕ) (name : Option Text) (implicit : Bool) (levels : List 
   level_leads moment at outer alone =
       fallible_leads (At (begun name implicit None None true ∷ levels)) w moment _ (level_made name implicit) at.stands (λ z q. q.stands)
       (λ _. record {
-        stands = level_made_stands name implicit moment.scene at.stands (subst AreOuter (sym at.are) outer) (λ e. at.are ∙ alone e);
+        stands = level_made_stands name implicit moment.scene at.stands at.at_rest (subst AreOuter (sym at.are) outer) (λ e. at.are ∙ alone e);
         are = ap (λ (ls : List LevelState). begun name implicit None None true ∷ ls) at.are;
+        at_rest = at.at_rest;
       })
 
   context_leads : (moment : Moment) → At (begun name implicit None None true ∷ levels) moment.scene → Leads (HasContext name implicit levels) (does w (element.MakeContext LevelContext) moment)
@@ -614,6 +691,7 @@ module _ (w : Option ℕ) (name : Option Text) (implicit : Bool) (levels : List 
       (λ _. settled_as (λ (z : Scene). HasContext name implicit levels (new_context_made LevelContext z).scene) moment.scene (begun name implicit None None true ∷ levels) at.stands at.are
       (λ k. record {
         stands = level_context_stands (begun name implicit None None true) levels moment.scene refl refl k;
+        at_rest = at.at_rest;
         context = moment.scene.session.next_context;
         levels = refl;
       }))
@@ -625,6 +703,7 @@ module _ (w : Option ℕ) (name : Option Text) (implicit : Bool) (levels : List 
       (λ free. settled_as (λ (z : Scene). HasOwner name implicit levels (new_owner_made OfLevel z).scene) moment.scene (begun name implicit (Some at.context) None true ∷ levels) at.stands at.levels
       (λ k. record {
         stands = level_owner_stands (begun name implicit (Some at.context) None true) levels moment.scene refl refl (below_limit 65536 (size moment.scene.session.owners) free) k;
+        at_rest = at.at_rest;
         context = at.context;
         owner = moment.scene.session.next_owner;
         levels = refl;
@@ -637,6 +716,7 @@ module _ (w : Option ℕ) (name : Option Text) (implicit : Bool) (levels : List 
       settled_as (λ (z : Scene). HasBegun name implicit levels (level_stands z).scene) moment.scene (begun name implicit (Some at.context) (Some at.owner) true ∷ levels) at.stands at.levels
       (λ k. record {
         stands = level_stands_stands (begun name implicit (Some at.context) (Some at.owner) true) levels moment.scene refl (record { context = refl; owner = refl }) k;
+        at_rest = at.at_rest;
         context = at.context;
         owner = at.owner;
         levels = refl;
@@ -660,9 +740,13 @@ begun_between : (name : Option Text) (levels : List LevelState) (scene : Scene) 
 begun_between name levels scene outer h = record {
   stands = h.stands;
   open_levels = subst AreOpen (sym h.levels) (record { started = refl; block = refl }, outer_open levels outer);
+  at_rest = h.at_rest;
 }
 
--- what is known between two lines of the levels
+-- what is known between two lines, and of the levels
+at_left : (levels : List LevelState) (scene : Scene) → Leaves levels scene → At levels scene
+at_left levels scene h = record { stands = h.between.stands; are = h.are; at_rest = h.between.at_rest }
+
 outer_of : (scene : Scene) (level : LevelState) (levels : List LevelState) → Stands scene → scene.session.levels ≡ level ∷ levels → AreOuter levels
 outer_of scene level levels h is =
     (subst (λ (ls : List LevelState). FitLevels ls scene.session.contexts scene.session.owners scene.session.current) is h.fit).1
@@ -768,7 +852,7 @@ module _ (w : Option ℕ) where
   merges_leads (suc k) n [] moment h some e = absurd (omega (arith, e))
   merges_leads (suc k) n (level ∷ levels) moment h some e =
       leads_on w (Leaves levels) (HasMerged n) element.Subcommit (replicate k element.Subcommit) moment
-      (end_leads levels (does w element.Subcommit moment) (merge_stands w moment h.between.stands level levels h.are (omega (arith, e, some))))
+      (end_leads levels (does w element.Subcommit moment) (merge_stands w moment h.between.stands level levels h.are (omega (arith, e, some)) h.between.at_rest))
       (λ m l. merges_leads k n levels m l some (omega (arith, e)))
 
   -- level 1 commits
@@ -828,25 +912,25 @@ module _ (w : Option ℕ) where
       record { stands = k.stands; passed = λ e. (k.passed e).leaves.between }
 
   -- a block or a savepoint is begun
-  block_leads : (name : Option Text) (levels : List LevelState) (moment : Moment) → Stands moment.scene → moment.scene.session.levels ≡ levels → AreOuter levels → Between (does_all w (start name false) moment)
-  block_leads name levels moment h is outer =
-      let k : Leads (HasBegun name false levels) (does_all w (start name false) moment) = start_leads w name false levels moment (record { stands = h; are = is }) outer (λ e. absurd (cc e)) in
+  block_leads : (name : Option Text) (levels : List LevelState) (moment : Moment) → Leaves levels moment.scene → AreOuter levels → Between (does_all w (start name false) moment)
+  block_leads name levels moment h outer =
+      let k : Leads (HasBegun name false levels) (does_all w (start name false) moment) = start_leads w name false levels moment (at_left levels moment.scene h) outer (λ e. absurd (cc e)) in
       record { stands = k.stands; passed = λ e. begun_between name levels _ outer (k.passed e) }
 
   back_leads : (name : Text) (n : ℕ) (levels : List LevelState) (moment : Moment) → Leaves levels moment.scene → 2 ≤ n → n ≤ length levels → Between (does_all w (rolled_back_to n levels ++ start (Some name) false) moment)
   back_leads name n [] moment h low high = absurd (omega (arith, low, high))
   back_leads name n (level ∷ levels) moment h low high =
       leads_both w IsOuter StandsBetweenLines (rolled_back_to n (level ∷ levels)) (start (Some name) false) moment (rolled_leads n level levels moment h (omega (arith, high)))
-      (λ m k. block_leads (Some name) m.scene.session.levels m k.0.stands refl k.1)
+      (λ m k. block_leads (Some name) m.scene.session.levels m (record { between = k.0; are = refl }) k.1)
 
   begin_leads : (levels : List LevelState) (moment : Moment) → Leaves levels moment.scene → Between (does_all w (begin levels) moment)
-  begin_leads [] moment h = block_leads None [] moment h.between.stands h.are tt
+  begin_leads [] moment h = block_leads None [] moment h tt
   begin_leads (level ∷ levels) moment h = between_says what.AlreadyInTransaction [] moment h.between (λ m k. between_nothing m k)
 
   save_leads : (name : Text) (levels : List LevelState) (moment : Moment) → Leaves levels moment.scene → is_aborted levels ≡ false → Between (does_all w (save name levels) moment)
   save_leads name [] moment h active = refused_leads StandsBetweenLines error.NoTransactionBlock moment h.between.stands
   save_leads name (level ∷ levels) moment h active =
-      block_leads (Some name) (level ∷ levels) moment h.between.stands h.are
+      block_leads (Some name) (level ∷ levels) moment h
       (active_of moment.scene level levels h.between h.are active, open_of moment.scene level levels h.between h.are, outer_of moment.scene level levels h.between.stands h.are)
 
   -- what a command does in a level, and the level that is begun for it alone
@@ -854,54 +938,52 @@ module _ (w : Option ℕ) where
       → ((ls : List LevelState) → IsWorking ls → (m : Moment) → At ls m.scene → Leads (At ls) (does_all w work m)) → Between (does_all w (in_transaction levels work) moment)
   work_between [] work moment h active does_work =
       leads_both w (HasBegun None true []) StandsBetweenLines (start None true) _ moment
-      (start_leads w None true [] moment (record { stands = h.between.stands; are = h.are }) tt (λ _. refl))
+      (start_leads w None true [] moment (at_left [] moment.scene h) tt (λ _. refl))
       (λ m b.
       leads_both w (At (begun None true (Some b.context) (Some b.owner) false ∷ [])) StandsBetweenLines work _ m
-      (does_work (begun None true (Some b.context) (Some b.owner) false ∷ []) (begun_active None true b.context b.owner) m (record { stands = b.stands; are = b.levels }))
+      (does_work (begun None true (Some b.context) (Some b.owner) false ∷ []) (begun_active None true b.context b.owner) m (record { stands = b.stands; are = b.levels; at_rest = b.at_rest }))
       (λ m k.
       leads_on w (Leaves []) StandsBetweenLines element.CommitTop _ m
       (end_leads [] (does w element.CommitTop m) (commit_stands w m k.stands (begun None true (Some b.context) (Some b.owner) false) k.are))
       (λ m l. between_says what.Ok [] m l.between (λ m k. between_nothing m k))))
   work_between (level ∷ levels) work moment h active does_work =
       leads_both w (At (level ∷ levels)) StandsBetweenLines work _ moment
-      (does_work (level ∷ levels) (active_of moment.scene level levels h.between h.are active) moment (record { stands = h.between.stands; are = h.are }))
+      (does_work (level ∷ levels) (active_of moment.scene level levels h.between h.are active) moment (at_left (level ∷ levels) moment.scene h))
       (λ m k. between_says what.Ok [] m
-      (record { stands = k.stands; open_levels = subst AreOpen (sym k.are) (subst AreOpen h.are h.between.open_levels) })
+      (record { stands = k.stands; open_levels = subst AreOpen (sym k.are) (subst AreOpen h.are h.between.open_levels); at_rest = k.at_rest })
       (λ m k. between_nothing m k))
 
   -- each command in a transaction that isn't aborted, and each end in one that is
-  unaborted_leads : (c : Command) (moment : Moment) → IsHere c → StandsBetweenLines moment.scene → (is_aborted moment.scene.session.levels && not (is_end c)) ≡ false
+  unaborted_leads : (c : Command) (moment : Moment) → StandsBetweenLines moment.scene → (is_aborted moment.scene.session.levels && not (is_end c)) ≡ false
       → Between (does_all w (unaborted c moment.scene.session) moment)
-  unaborted_leads command.Nothing moment is h active = between_nothing moment h
-  unaborted_leads command.Begin moment is h active = then_ok_leads _ moment (begin_leads moment.scene.session.levels moment (record { between = h; are = refl }))
-  unaborted_leads command.Commit moment is h active = then_ok_leads _ moment (commit_leads moment.scene.session.levels moment (record { between = h; are = refl }))
-  unaborted_leads command.Rollback moment is h active = then_ok_leads _ moment (rollback_leads moment.scene.session.levels moment (record { between = h; are = refl }))
-  unaborted_leads (command.Savepoint name) moment is h active =
+  unaborted_leads command.Nothing moment h active = between_nothing moment h
+  unaborted_leads command.Begin moment h active = then_ok_leads _ moment (begin_leads moment.scene.session.levels moment (record { between = h; are = refl }))
+  unaborted_leads command.Commit moment h active = then_ok_leads _ moment (commit_leads moment.scene.session.levels moment (record { between = h; are = refl }))
+  unaborted_leads command.Rollback moment h active = then_ok_leads _ moment (rollback_leads moment.scene.session.levels moment (record { between = h; are = refl }))
+  unaborted_leads (command.Savepoint name) moment h active =
       then_ok_leads _ moment (save_leads name moment.scene.session.levels moment (record { between = h; are = refl }) (only_left (is_aborted moment.scene.session.levels) active))
-  unaborted_leads (command.Release name) moment is h active =
+  unaborted_leads (command.Release name) moment h active =
       then_ok_leads _ moment
       (at_savepoint_leads name moment.scene.session.levels (λ n. committed_to n moment.scene.session.levels) moment (record { between = h; are = refl })
       (λ n low high. release_leads n moment.scene.session.levels moment (record { between = h; are = refl }) low high))
-  unaborted_leads (command.RollbackTo name) moment is h active =
+  unaborted_leads (command.RollbackTo name) moment h active =
       then_ok_leads _ moment
       (at_savepoint_leads name moment.scene.session.levels (λ n. rolled_back_to n moment.scene.session.levels ++ start (Some name) false) moment (record { between = h; are = refl })
       (λ n low high. back_leads name n moment.scene.session.levels moment (record { between = h; are = refl }) low high))
-  unaborted_leads other moment is h active =
+  unaborted_leads other moment h active =
       work_between moment.scene.session.levels (work_of other moment.scene.session) moment (record { between = h; are = refl }) (only_left (is_aborted moment.scene.session.levels) active)
-      (λ ls working m k. work_leads w ls working other moment.scene.session is m k)
+      (λ ls working m k. work_leads w ls working other moment.scene.session tt m k)
 
-  command_leads : (c : Command) (moment : Moment) → IsHere c → StandsBetweenLines moment.scene → Between (does_all w (elements_of c moment.scene.session) moment)
+  command_leads : (c : Command) (moment : Moment) → StandsBetweenLines moment.scene → Between (does_all w (elements_of c moment.scene.session) moment)
   unfolding elements_of
-  command_leads c moment is h = go (is_aborted moment.scene.session.levels && not (is_end c)) refl
+  command_leads c moment h = go (is_aborted moment.scene.session.levels && not (is_end c)) refl
     where
       go : (b : Bool) → (is_aborted moment.scene.session.levels && not (is_end c)) ≡ b
           → Between (does_all w (elim b as (λ _. List Element) [ true ↦ refused error.TransactionAborted | false ↦ unaborted c moment.scene.session ]) moment)
       go true e = refused_leads StandsBetweenLines error.TransactionAborted moment h.stands
-      go false e = unaborted_leads c moment is h e
+      go false e = unaborted_leads c moment h e
 
-  -- A line leads from a session between two lines to one between two lines: a bad one, and one of these commands.
-  pub bad_line_stands : (moment : Moment) → StandsBetweenLines moment.scene → StandsBetweenLines (turn w None moment).moment.scene
-  bad_line_stands moment h = turn_leads w None moment (refused_leads StandsBetweenLines error.SyntaxError moment h.stands)
-
-  pub turn_stands : (c : Command) (moment : Moment) → IsHere c → StandsBetweenLines moment.scene → StandsBetweenLines (turn w (Some c) moment).moment.scene
-  turn_stands c moment is h = turn_leads w (Some c) moment (command_leads c moment is h)
+  -- A line leads from a session between two lines to one between two lines, whatever it says and whatever is refused.
+  pub turn_stands : (line : Option Command) (moment : Moment) → StandsBetweenLines moment.scene → StandsBetweenLines (turn w line moment).moment.scene
+  turn_stands None moment h = turn_leads w None moment (refused_leads StandsBetweenLines error.SyntaxError moment h.stands)
+  turn_stands (Some c) moment h = turn_leads w (Some c) moment (command_leads c moment h)

@@ -15,9 +15,10 @@ use Rattle.owner_kinds.specs.KindShelf.{table_of}
 use Rattle.owner_core.specs.Owners.{Owner, OwnerTree, AllAt, HoldsNothing, has_begun, held, items_of}
 use Rattle.owner_core.specs.Sound.{IsSound}
 use Rattle.session_rules.specs.State.{LevelState, OpenPortal, StandingPlan, abort_context, cache_context, first_of, is_aborted, owner_of, plan_reference, portals_context, top_context}
-use Rattle.portal_store.specs.declared.portal.PortalState.TheVariants.{Failed}
+use Rattle.portal_store.specs.declared.portal.PortalState.TheVariants.{New, Failed}
 use Rattle.session_rules.specs.World.{Scene}
 use Rattle.session_rules.specs.Lookup.{plan_at}
+use Rattle.session_rules.specs.Portals.{is_ready}
 use Rattle.session_rules.specs.Making.{level_parent}
 use Rattle.session_rules.specs.Guarded.{AreGuarded, IsRooted}
 
@@ -170,11 +171,20 @@ pub record IsAttached (n number : ℕ) (levels : List LevelState) (owners : Owne
   pub lone : children n owners ≡ Empty
   pub other : IsOwner n levels → ⊥
 
+-- a portal at rest: it is ready or has no owner
+abbrev pub IsAtRest : OpenPortal → Type 0
+IsAtRest p = is_ready p.state ≡ false → p.owner ≡ None
+
+-- a portal on which a line is at work: it is active in the deepest level, which has this number, and where it is new it belongs to that
+abbrev pub IsAtWork : OpenPortal → ℕ → Type 0
+IsAtWork p deepest = (p.active ≡ deepest) × (p.state ≡ New → p.created ≡ deepest)
+
 -- a portal of a level in which it may be fetched from: it belongs to a level, and no deeper one than where it is active
 pub record IsLive (p : OpenPortal) (levels : List LevelState) : Type 0 where
   pub some : 1 ≤ p.created
   pub within : p.created ≤ p.active
   pub active : p.active ≤ active_depth levels
+  pub line : IsAtRest p ⊎ IsAtWork p (length levels)
 
 -- a portal of the deepest level, which is aborted
 pub record IsDead (p : OpenPortal) (levels : List LevelState) : Type 0 where
@@ -265,7 +275,8 @@ pub record Stands (scene : Scene) : Type 0 where
   pub plans : ArePlans scene.session.plans scene.session.contexts scene.session.current (referred scene.session.owners)
   pub snapshots : AreStacked 1 (active_depth scene.session.levels) scene.session.snapshots
 
--- A session in its surroundings between two lines: besides, no level is being started, and none was begun for one command alone.
+-- A session in its surroundings between two lines: besides, no level is being started, none was begun for one command alone, and
+-- each portal is at rest.
 abbrev pub AreOpen : List LevelState → Type 0
 AreOpen [] = Unit {0}
 AreOpen (level ∷ levels) = IsOpen level × AreOpen levels
@@ -273,6 +284,7 @@ AreOpen (level ∷ levels) = IsOpen level × AreOpen levels
 pub record StandsBetweenLines (scene : Scene) : Type 0 where
   pub stands : Stands scene
   pub open_levels : AreOpen scene.session.levels
+  pub at_rest : All IsAtRest scene.session.portals
 
 -- a session that has ended: nothing is left, and no hook waits
 pub record HasExited (scene : Scene) : Type 0 where
