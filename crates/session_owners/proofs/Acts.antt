@@ -1,6 +1,7 @@
 -- The acts of a session's rules on its owners.
-use Rattle.std.proofs.Common.{◌≡◌, ℕ, ◌+◌, ◌-◌, ◌≤◌, Bool, find, Option, Some, List, [], ◌∷◌, ◌++◌, append-nil, length, map, reverse, take, refl, sym, ap, ◌∙◌, subst, arith}
+use Rattle.std.proofs.Common.{◌≡◌, ℕ, ◌+◌, ◌-◌, ◌≤◌, Bool, false, find, Option, None, Some, List, [], ◌∷◌, ◌++◌, append-nil, length, map, reverse, take, refl, sym, ap, ◌∙◌, subst, arith}
 use Rattle.std.specs.Prelude.{slice_index}
+use Rattle.std.proofs.lemmas.List.{map-append}
 use Rattle.pgs_step.specs.declared.events.What.{What}
 use Rattle.pgs_step.specs.declared.events.What.TheVariants as what
 use Rattle.pgs_step.specs.declared.ids.Item.{Item}
@@ -20,7 +21,12 @@ use Rattle.lock_shared.proofs.BesideLemmas.{beside_stays}
 use Rattle.lock_local.specs.Locks.{Lock, SessionLocks}
 use Rattle.snap_table.specs.declared.active.Active.{Active}
 use Rattle.snap_table.specs.Snapshots.{kept_below, lowered, pops}
-use Rattle.session_rules.specs.State.{StandingPlan, buffer_pin, file_kind, last_of}
+use Rattle.plan_store.specs.Plans.{Plans}
+use Rattle.plan_store.specs.declared.plan.Plan.{Plan}
+use Rattle.context_rules.specs.Contexts.{Contexts}
+use Rattle.reset_callbacks.specs.ShelfState.{ShelfState}
+use Rattle.session_rules.specs.State.{StandingPlan, buffer_pin, file_kind, last_of, plan_reference}
+use Rattle.session_rules.specs.Lookup.{plan_changed}
 use Rattle.session_rules.specs.Ends.{stack_lowered, stack_popped}
 use Rattle.session_rules.specs.Parts.{snapshot_popped}
 use Rattle.session_rules.specs.World.{Scene}
@@ -30,10 +36,11 @@ use Rattle.session_rules.proofs.ItemsStand.{extension_keeps}
 use Rattle.session_rules.specs.Taking.{descriptor_given, item_taken, pushed_at, remembers, taken_by}
 use Rattle.session_rules.specs.Releases.{Keeper, NoOne, TheKind, given_back, item_released, keeper_of, owner_gone, owner_released, phase_released}
 use Rattle.file_table.specs.Files.{Files, touch_events, touched_file}
-use Rattle.session_owners.specs.ResourceState.{OwnerTree, ResourceState, created, files_of, forgotten, items_of, locks_of, owners_of, remembered}
+use Rattle.session_owners.specs.ResourceState.{OwnerTree, ResourceState, created, files_of, forgotten, items_of, locks_of, owners_of, plan_state, plans_of, remembered}
 use Rattle.session_owners.specs.Commons.{CommonState, LocksBalance, pinned_beside, pinned_once}
 use Rattle.session_owners.specs.Tables.{Lending, TablesDo, TablesFit}
-use Rattle.session_owners.specs.Fitting.{Acted, OwnersFit, with_owners}
+use Rattle.session_owners.specs.Placing.{PlansDo, plan_added, with_plans}
+use Rattle.session_owners.specs.Fitting.{Acted, ActedOn, Hosting, HostsFit, OwnersFit, hosting_of, with_hosting, with_owners}
 use Rattle.session_owners.proofs.Counts.{held_created}
 use Rattle.session_owners.proofs.OwnPins.{beside_same, beside_still, pinned_remembered, pinned_same}
 use Rattle.session_owners.proofs.Stack.{last_newest, take_others}
@@ -51,30 +58,30 @@ fits_with a b c d scene fit = record {
   pinned = refl;
   locks = refl;
   snapshots = refl;
-  plans = fit.plans;
+  plans = refl;
 }
 
--- a scene with these owners, files, locks and active snapshots, these kinds, what others have locked, and how many pin each buffer
-parts_in : Scene → OwnerTree → ℕ → ℕ → List ℕ → ℕ → List Kind → List Lock → List Holding → List ℕ → List Active → Scene
-parts_in scene owners next_owner next_serial recent descriptors kinds ls hs pinned stack = record scene {
-  session = record scene.session { owners = owners; next_owner = next_owner; next_serial = next_serial; recent = recent; locks = ls; snapshots = stack };
+-- a scene with these owners, files, locks, active snapshots and plans, these kinds, what others have locked, and how many pin each buffer
+parts_in : Scene → OwnerTree → ℕ → ℕ → List ℕ → ℕ → List Kind → List Lock → List Holding → List ℕ → List Active → List StandingPlan → Scene
+parts_in scene owners next_owner next_serial recent descriptors kinds ls hs pinned stack plans = record scene {
+  session = record scene.session { owners = owners; next_owner = next_owner; next_serial = next_serial; recent = recent; locks = ls; snapshots = stack; plans = plans };
   around = record scene.around { kinds = kinds; locked = hs; pinned = pinned; descriptors = descriptors };
 }
 
-owners_same : (scene : Scene) (o p : OwnerTree) (m n s t : ℕ) (fs gs : List ℕ) (d e : ℕ) (ks js : List Kind) (ls ms : List Lock) (hs is : List Holding) (us vs : List ℕ) (xs ys : List Active)
-    → o ≡ p → m ≡ n → s ≡ t → fs ≡ gs → d ≡ e → ks ≡ js → ls ≡ ms → hs ≡ is → us ≡ vs → xs ≡ ys → parts_in scene o m s fs d ks ls hs us xs ≡ parts_in scene p n t gs e js ms is vs ys
-owners_same scene o p m n s t fs gs d e ks js ls ms hs is us vs xs ys f g h i j k l q u x = rw (f, g, h, i, j, k, l, q, u, x) refl
+owners_same : (scene : Scene) (o p : OwnerTree) (m n s t : ℕ) (fs gs : List ℕ) (d e : ℕ) (ks js : List Kind) (ls ms : List Lock) (hs is : List Holding) (us vs : List ℕ) (xs ys : List Active) (ps qs : List StandingPlan)
+    → o ≡ p → m ≡ n → s ≡ t → fs ≡ gs → d ≡ e → ks ≡ js → ls ≡ ms → hs ≡ is → us ≡ vs → xs ≡ ys → ps ≡ qs → parts_in scene o m s fs d ks ls hs us xs ps ≡ parts_in scene p n t gs e js ms is vs ys qs
+owners_same scene o p m n s t fs gs d e ks js ls ms hs is us vs xs ys ps qs f g h i j k l q u x y = rw (f, g, h, i, j, k, l, q, u, x, y) refl
 
 pub fit_is : (a : ResourceState) (c : CommonState) (scene : Scene) → OwnersFit a c scene → scene ≡ with_owners a c scene
 unfolding parts_in
 fit_is a c scene fit =
     owners_same scene scene.session.owners (owners_of a) scene.session.next_owner a.next_owner scene.session.next_serial a.next_serial scene.session.recent a.recent scene.around.descriptors a.descriptors scene.around.kinds c.kinds
-    scene.session.locks a.locks scene.around.locked (beside a.session c.locks) scene.around.pinned (pinned_beside (owners_of a) c.pins) scene.session.snapshots a.stack
-    fit.owners fit.next_owner fit.next_serial fit.recent fit.descriptors fit.kinds fit.locks fit.locked fit.pinned fit.snapshots
+    scene.session.locks a.locks scene.around.locked (beside a.session c.locks) scene.around.pinned (pinned_beside (owners_of a) c.pins) scene.session.snapshots a.stack scene.session.plans (plans_of a)
+    fit.owners fit.next_owner fit.next_serial fit.recent fit.descriptors fit.kinds fit.locks fit.locked fit.pinned fit.snapshots fit.plans
 
--- owners, files, locks and active snapshots as a session's resources
-abbrev pub state_of : OwnerTable → Files → SessionLocks → List Active → ResourceState
-state_of table files locks stack = record {
+-- owners, files, locks, active snapshots and plans as a session's resources
+abbrev pub state_of : OwnerTable → Files → SessionLocks → List Active → Plans → ResourceState
+state_of table files locks stack plans = record {
   rooms = table.rooms;
   places = table.places;
   next_owner = table.next_owner;
@@ -84,6 +91,7 @@ state_of table files locks stack = record {
   session = locks.session;
   locks = locks.locks;
   stack = stack;
+  plans = plans;
 }
 
 -- no act, and one act behind another
@@ -113,13 +121,13 @@ parts_same scene o p m n s t fs gs c d ls ms ps qs ks js hs is us vs xs ys e f g
 
 -- a scene that owners and files fit, with its parts
 bare : ResourceState → CommonState → Scene → Scene
-bare a c scene = with_parts scene (owners_of a) a.next_owner a.next_serial a.recent a.descriptors a.locks [] c.kinds (beside a.session c.locks) (pinned_beside (owners_of a) c.pins) a.stack
+bare a c scene = with_parts scene (owners_of a) a.next_owner a.next_serial a.recent a.descriptors a.locks (plans_of a) c.kinds (beside a.session c.locks) (pinned_beside (owners_of a) c.pins) a.stack
 
 is_bare : (a : ResourceState) (c : CommonState) (scene : Scene) → OwnersFit a c scene → scene ≡ bare a c scene
 unfolding bare with_parts
 is_bare a c scene fit =
     parts_same scene scene.session.owners (owners_of a) scene.session.next_owner a.next_owner scene.session.next_serial a.next_serial scene.session.recent a.recent scene.around.descriptors a.descriptors
-    scene.session.locks a.locks scene.session.plans [] scene.around.kinds c.kinds scene.around.locked (beside a.session c.locks) scene.around.pinned (pinned_beside (owners_of a) c.pins) scene.session.snapshots a.stack
+    scene.session.locks a.locks scene.session.plans (plans_of a) scene.around.kinds c.kinds scene.around.locked (beside a.session c.locks) scene.around.pinned (pinned_beside (owners_of a) c.pins) scene.session.snapshots a.stack
     fit.owners fit.next_owner fit.next_serial fit.recent fit.descriptors fit.locks fit.plans fit.kinds fit.locked fit.pinned fit.snapshots
 
 -- an act that leads so from each such scene
@@ -136,11 +144,15 @@ pub record SameFiles (a b : ResourceState) : Type 0 where
   pub recent : b.recent ≡ a.recent
   pub descriptors : b.descriptors ≡ a.descriptors
 
--- the locks are the same, under the same number, and so are the active snapshots
+-- the locks are the same, under the same number, and so are the active snapshots and the plans
 pub record SameLocks (a b : ResourceState) : Type 0 where
   pub session : b.session ≡ a.session
   pub locks : b.locks ≡ a.locks
   pub stack : b.stack ≡ a.stack
+  pub plans : b.plans ≡ a.plans
+
+plans_same : (a b : ResourceState) → b.plans ≡ a.plans → plans_of a ≡ plans_of b
+plans_same a b same = sym (ap (λ (p : Plans). map plan_state p.standing) same)
 
 seen_same : (a b : ResourceState) (c d : CommonState) → SameLocks a b → d.locks ≡ c.locks → beside a.session c.locks ≡ beside b.session d.locks
 seen_same a b c d same held = ap (λ (n : ℕ). beside n c.locks) (sym same.session) ∙ ap (beside b.session) (sym held)
@@ -150,8 +162,8 @@ pub acted_made : (parent : Option ℕ) (a b : ResourceState) (c : CommonState) (
 unfolding bare with_parts parts_in
 acted_made parent a b c Says e f g files same says =
     acted_bare (owner_made parent) a b c c Says
-    (λ scene. owners_same (bare a c scene) (created parent a.next_owner (owners_of a)) (owners_of b) (a.next_owner + 1) b.next_owner a.next_serial b.next_serial a.recent b.recent a.descriptors b.descriptors c.kinds c.kinds a.locks b.locks (beside a.session c.locks) (beside b.session c.locks) (pinned_beside (owners_of a) c.pins) (pinned_beside (owners_of b) c.pins) a.stack b.stack
-    (sym e) (sym f) (sym g) (sym files.recent) (sym files.descriptors) refl (sym same.locks) (seen_same a b c c same refl) (beside_still (owners_of a) (owners_of b) c.pins (λ buffer. ap (pinned_once buffer) e ∙ pinned_same (owners_of a) (created parent a.next_owner (owners_of a)) buffer (held_created buffer_pin buffer parent a.next_owner (owners_of a)))) (sym same.stack))
+    (λ scene. owners_same (bare a c scene) (created parent a.next_owner (owners_of a)) (owners_of b) (a.next_owner + 1) b.next_owner a.next_serial b.next_serial a.recent b.recent a.descriptors b.descriptors c.kinds c.kinds a.locks b.locks (beside a.session c.locks) (beside b.session c.locks) (pinned_beside (owners_of a) c.pins) (pinned_beside (owners_of b) c.pins) a.stack b.stack (plans_of a) (plans_of b)
+    (sym e) (sym f) (sym g) (sym files.recent) (sym files.descriptors) refl (sym same.locks) (seen_same a b c c same refl) (beside_still (owners_of a) (owners_of b) c.pins (λ buffer. ap (pinned_once buffer) e ∙ pinned_same (owners_of a) (created parent a.next_owner (owners_of a)) buffer (held_created buffer_pin buffer parent a.next_owner (owners_of a)))) (sym same.stack) (plans_same a b same.plans))
     (λ scene. says)
 
 pub acted_taken : (n : ℕ) (kind : KindId) (key : ℕ) (a b : ResourceState) (c : CommonState) (Says : List What → Type 0) → keeper_of kind ≡ NoOne → 2 ≤ kind.0
@@ -162,8 +174,8 @@ unfolding bare with_parts parts_in
 acted_taken n kind key a b c Says unkept from e f g files same says =
     acted_bare (item_taken n kind key) a b c c Says
     (λ scene. ap (λ (k : Keeper). (in_order (taken_by k key ∷ remembers n kind key ∷ []) (bare a c scene)).scene) unkept
-    ∙ owners_same (bare a c scene) (remembered n (record { kind = kind; key = key; serial = a.next_serial }) (owners_of a)) (owners_of b) a.next_owner b.next_owner (a.next_serial + 1) b.next_serial a.recent b.recent a.descriptors b.descriptors c.kinds c.kinds a.locks b.locks (beside a.session c.locks) (beside b.session c.locks) (pinned_beside (owners_of a) c.pins) (pinned_beside (owners_of b) c.pins) a.stack b.stack
-    (sym e) (sym f) (sym g) (sym files.recent) (sym files.descriptors) refl (sym same.locks) (seen_same a b c c same refl) (beside_still (owners_of a) (owners_of b) c.pins (λ buffer. ap (pinned_once buffer) e ∙ pinned_remembered n (record { kind = kind; key = key; serial = a.next_serial }) (owners_of a) buffer (λ z. omega (arith, z, from)))) (sym same.stack))
+    ∙ owners_same (bare a c scene) (remembered n (record { kind = kind; key = key; serial = a.next_serial }) (owners_of a)) (owners_of b) a.next_owner b.next_owner (a.next_serial + 1) b.next_serial a.recent b.recent a.descriptors b.descriptors c.kinds c.kinds a.locks b.locks (beside a.session c.locks) (beside b.session c.locks) (pinned_beside (owners_of a) c.pins) (pinned_beside (owners_of b) c.pins) a.stack b.stack (plans_of a) (plans_of b)
+    (sym e) (sym f) (sym g) (sym files.recent) (sym files.descriptors) refl (sym same.locks) (seen_same a b c c same refl) (beside_still (owners_of a) (owners_of b) c.pins (λ buffer. ap (pinned_once buffer) e ∙ pinned_remembered n (record { kind = kind; key = key; serial = a.next_serial }) (owners_of a) buffer (λ z. omega (arith, z, from)))) (sym same.stack) (plans_same a b same.plans))
     (λ scene. subst (λ (k : Keeper). Says (in_order (taken_by k key ∷ remembers n kind key ∷ []) (bare a c scene)).events) (sym unkept) says)
 
 pub acted_pinned : (n buffer : ℕ) (a b : ResourceState) (c d : CommonState) (Says : List What → Type 0)
@@ -175,8 +187,8 @@ unfolding bare with_parts parts_in
 acted_pinned n buffer a b c d Says e f g files same kinds held pins says =
     acted_bare (item_taken n buffer_pin buffer) a b c d Says
     (λ scene. owners_same (bare a c scene) (remembered n (record { kind = buffer_pin; key = buffer; serial = a.next_serial }) (owners_of a)) (owners_of b) a.next_owner b.next_owner (a.next_serial + 1) b.next_serial a.recent b.recent a.descriptors b.descriptors
-    c.kinds d.kinds a.locks b.locks (beside a.session c.locks) (beside b.session d.locks) (pinned_beside (owners_of a) c.pins) (pinned_beside (owners_of b) d.pins) a.stack b.stack
-    (sym e) (sym f) (sym g) (sym files.recent) (sym files.descriptors) (sym kinds) (sym same.locks) (seen_same a b c d same held) (beside_same (owners_of a) (owners_of b) c.pins d.pins pins) (sym same.stack))
+    c.kinds d.kinds a.locks b.locks (beside a.session c.locks) (beside b.session d.locks) (pinned_beside (owners_of a) c.pins) (pinned_beside (owners_of b) d.pins) a.stack b.stack (plans_of a) (plans_of b)
+    (sym e) (sym f) (sym g) (sym files.recent) (sym files.descriptors) (sym kinds) (sym same.locks) (seen_same a b c d same held) (beside_same (owners_of a) (owners_of b) c.pins d.pins pins) (sym same.stack) (plans_same a b same.plans))
     (λ scene. says)
 
 -- a key of an extension kind is taken
@@ -190,8 +202,8 @@ acted_extension n kind key a b c d Says high e f g files same kinds held counted
     acted_bare (item_taken n kind key) a b c d Says
     (λ scene. ap (λ (k : Keeper). (in_order (taken_by k key ∷ remembers n kind key ∷ []) (bare a c scene)).scene) kept
     ∙ owners_same (bare a c scene) (remembered n (record { kind = kind; key = key; serial = a.next_serial }) (owners_of a)) (owners_of b) a.next_owner b.next_owner (a.next_serial + 1) b.next_serial a.recent b.recent a.descriptors b.descriptors
-    (changed_at (kind.0 - 16) (opened key) c.kinds) d.kinds a.locks b.locks (beside a.session c.locks) (beside b.session d.locks) (pinned_beside (owners_of a) c.pins) (pinned_beside (owners_of b) d.pins) a.stack b.stack
-    (sym e) (sym f) (sym g) (sym files.recent) (sym files.descriptors) (sym kinds) (sym same.locks) (seen_same a b c d same held) (beside_still (owners_of a) (owners_of b) c.pins (λ buffer. ap (pinned_once buffer) e ∙ pinned_remembered n (record { kind = kind; key = key; serial = a.next_serial }) (owners_of a) buffer (λ z. omega (arith, z, high))) ∙ ap (pinned_beside (owners_of b)) (sym counted)) (sym same.stack))
+    (changed_at (kind.0 - 16) (opened key) c.kinds) d.kinds a.locks b.locks (beside a.session c.locks) (beside b.session d.locks) (pinned_beside (owners_of a) c.pins) (pinned_beside (owners_of b) d.pins) a.stack b.stack (plans_of a) (plans_of b)
+    (sym e) (sym f) (sym g) (sym files.recent) (sym files.descriptors) (sym kinds) (sym same.locks) (seen_same a b c d same held) (beside_still (owners_of a) (owners_of b) c.pins (λ buffer. ap (pinned_once buffer) e ∙ pinned_remembered n (record { kind = kind; key = key; serial = a.next_serial }) (owners_of a) buffer (λ z. omega (arith, z, high))) ∙ ap (pinned_beside (owners_of b)) (sym counted)) (sym same.stack) (plans_same a b same.plans))
     (λ scene. subst (λ (k : Keeper). Says (in_order (taken_by k key ∷ remembers n kind key ∷ []) (bare a c scene)).events) (sym kept) says)
 
 -- a file gets a descriptor
@@ -200,8 +212,8 @@ pub acted_touched : (file : ℕ) (a b : ResourceState) (c : CommonState) (Says :
 unfolding bare with_parts parts_in
 acted_touched file a b c Says e f g recent descriptors same says =
     acted_bare (descriptor_given file) a b c c Says
-    (λ scene. owners_same (bare a c scene) (owners_of a) (owners_of b) a.next_owner b.next_owner a.next_serial b.next_serial (touched_file file (files_of a)).recent b.recent a.descriptors b.descriptors c.kinds c.kinds a.locks b.locks (beside a.session c.locks) (beside b.session c.locks) (pinned_beside (owners_of a) c.pins) (pinned_beside (owners_of b) c.pins) a.stack b.stack
-    (sym e) (sym f) (sym g) (sym recent) (sym descriptors) refl (sym same.locks) (seen_same a b c c same refl) (beside_still (owners_of a) (owners_of b) c.pins (λ buffer. ap (pinned_once buffer) e)) (sym same.stack))
+    (λ scene. owners_same (bare a c scene) (owners_of a) (owners_of b) a.next_owner b.next_owner a.next_serial b.next_serial (touched_file file (files_of a)).recent b.recent a.descriptors b.descriptors c.kinds c.kinds a.locks b.locks (beside a.session c.locks) (beside b.session c.locks) (pinned_beside (owners_of a) c.pins) (pinned_beside (owners_of b) c.pins) a.stack b.stack (plans_of a) (plans_of b)
+    (sym e) (sym f) (sym g) (sym recent) (sym descriptors) refl (sym same.locks) (seen_same a b c c same refl) (beside_still (owners_of a) (owners_of b) c.pins (λ buffer. ap (pinned_once buffer) e)) (sym same.stack) (plans_same a b same.plans))
     (λ scene. says)
 
 -- a file is opened
@@ -213,8 +225,8 @@ unfolding bare with_parts parts_in
 acted_opened n file a b c Says e f g recent descriptors same says =
     acted_bare (item_taken n file_kind file) a b c c Says
     (λ scene. owners_same (bare a c scene) (remembered n (record { kind = file_kind; key = file; serial = a.next_serial }) (owners_of a)) (owners_of b) a.next_owner b.next_owner (a.next_serial + 1) b.next_serial
-    (touched_file file (files_of a)).recent b.recent a.descriptors b.descriptors c.kinds c.kinds a.locks b.locks (beside a.session c.locks) (beside b.session c.locks) (pinned_beside (owners_of a) c.pins) (pinned_beside (owners_of b) c.pins) a.stack b.stack
-    (sym e) (sym f) (sym g) (sym recent) (sym descriptors) refl (sym same.locks) (seen_same a b c c same refl) (beside_still (owners_of a) (owners_of b) c.pins (λ buffer. ap (pinned_once buffer) e ∙ pinned_remembered n (record { kind = file_kind; key = file; serial = a.next_serial }) (owners_of a) buffer (λ z. omega (arith, z)))) (sym same.stack))
+    (touched_file file (files_of a)).recent b.recent a.descriptors b.descriptors c.kinds c.kinds a.locks b.locks (beside a.session c.locks) (beside b.session c.locks) (pinned_beside (owners_of a) c.pins) (pinned_beside (owners_of b) c.pins) a.stack b.stack (plans_of a) (plans_of b)
+    (sym e) (sym f) (sym g) (sym recent) (sym descriptors) refl (sym same.locks) (seen_same a b c c same refl) (beside_still (owners_of a) (owners_of b) c.pins (λ buffer. ap (pinned_once buffer) e ∙ pinned_remembered n (record { kind = file_kind; key = file; serial = a.next_serial }) (owners_of a) buffer (λ z. omega (arith, z)))) (sym same.stack) (plans_same a b same.plans))
     (λ scene. says)
 
 pub acted_gone : (n : ℕ) (a b : ResourceState) (c : CommonState) (Says : List What → Type 0) → owners_of b ≡ removed n (owners_of a)
@@ -222,8 +234,8 @@ pub acted_gone : (n : ℕ) (a b : ResourceState) (c : CommonState) (Says : List 
 unfolding bare with_parts parts_in
 acted_gone n a b c Says e f g files same pins says =
     acted_bare (owner_gone n) a b c c Says
-    (λ scene. owners_same (bare a c scene) (removed n (owners_of a)) (owners_of b) a.next_owner b.next_owner a.next_serial b.next_serial a.recent b.recent a.descriptors b.descriptors c.kinds c.kinds a.locks b.locks (beside a.session c.locks) (beside b.session c.locks) (pinned_beside (owners_of a) c.pins) (pinned_beside (owners_of b) c.pins) a.stack b.stack
-    (sym e) (sym f) (sym g) (sym files.recent) (sym files.descriptors) refl (sym same.locks) (seen_same a b c c same refl) (beside_same (owners_of a) (owners_of b) c.pins c.pins pins) (sym same.stack))
+    (λ scene. owners_same (bare a c scene) (removed n (owners_of a)) (owners_of b) a.next_owner b.next_owner a.next_serial b.next_serial a.recent b.recent a.descriptors b.descriptors c.kinds c.kinds a.locks b.locks (beside a.session c.locks) (beside b.session c.locks) (pinned_beside (owners_of a) c.pins) (pinned_beside (owners_of b) c.pins) a.stack b.stack (plans_of a) (plans_of b)
+    (sym e) (sym f) (sym g) (sym files.recent) (sym files.descriptors) refl (sym same.locks) (seen_same a b c c same refl) (beside_same (owners_of a) (owners_of b) c.pins c.pins pins) (sym same.stack) (plans_same a b same.plans))
     (λ scene. says)
 
 -- The stack of active snapshots becomes another one.
@@ -271,59 +283,159 @@ acted_lowered level a b c Says is says = record {
   says = λ scene fit. says;
 }
 
+-- a plan is reserved, so that nothing happens that the rules tell, or comes, or is referred to
+pub acted_silent : (a b : ResourceState) (c : CommonState) (reserved : Option ℕ) (Says : List What → Type 0) → b ≡ record a { plans = record a.plans { reserved = reserved } } → Says [] → Acted nothing a b c c Says
+acted_silent a b c reserved Says is says = record {
+  leads = λ scene fit. fit_is a c scene fit ∙ ap (λ (r : ResourceState). with_owners r c scene) (sym is);
+  says = λ scene fit. says;
+}
+
+-- The plans become others.
+plans_lead : (a b : ResourceState) (c : CommonState) (scene : Scene) (plans : Plans) → OwnersFit a c scene → b ≡ record a { plans = plans } → record scene { session = record scene.session { plans = map plan_state plans.standing } } ≡ with_owners b c scene
+plans_lead a b c scene plans fit is =
+    ap (λ (s : Scene). record s { session = record s.session { plans = map plan_state plans.standing } }) (fit_is a c scene fit) ∙ ap (λ (r : ResourceState). with_owners r c scene) (sym is)
+
+pub acted_added : (n : ℕ) (plan : Plan) (a b : ResourceState) (c : CommonState) (Says : List What → Type 0) → plan.discarded ≡ false → plan.references ≡ 0
+    → b ≡ record a { plans = record { standing = a.plans.standing ++ (n, plan) ∷ []; reserved = None } } → Says [] → Acted (plan_added n plan.context.number) a b c c Says
+acted_added n plan a b c Says fresh none is says = record {
+  leads = λ scene fit.
+      ap (λ (ps : List StandingPlan). record scene { session = record scene.session { plans = ps } })
+      (ap (λ (ps : List StandingPlan). ps ++ (record { number = n; context = plan.context.number; discarded = false; references = 0 } ∷ [])) fit.plans
+      ∙ ap (λ (b : Bool). map plan_state a.plans.standing ++ (record { number = n; context = plan.context.number; discarded = b; references = 0 } ∷ [])) (sym fresh)
+      ∙ ap (λ (m : ℕ). map plan_state a.plans.standing ++ (record { number = n; context = plan.context.number; discarded = plan.discarded; references = m } ∷ [])) (sym none)
+      ∙ sym (map-append plan_state a.plans.standing ((n, plan) ∷ [])))
+      ∙ plans_lead a b c scene (record { standing = a.plans.standing ++ (n, plan) ∷ []; reserved = None }) fit is;
+  says = λ scene fit. says;
+}
+
+pub acted_referred : (n plan : ℕ) (a b : ResourceState) (c : CommonState) (Says : List What → Type 0)
+    → owners_of b ≡ remembered n (record { kind = plan_reference; key = plan; serial = a.next_serial }) (owners_of a)
+    → b.next_owner ≡ a.next_owner → b.next_serial ≡ a.next_serial + 1 → SameFiles a b → b.session ≡ a.session → b.locks ≡ a.locks → b.stack ≡ a.stack
+    → plans_of b ≡ plan_changed plan (λ p. record p { references = p.references + 1 }) (plans_of a)
+    → Says (what.Acquire (record { kind = plan_reference; key = plan; serial = a.next_serial }) n ∷ []) → Acted (item_taken n plan_reference plan) a b c c Says
+unfolding bare with_parts parts_in
+acted_referred n plan a b c Says e f g files session held stack plans says =
+    acted_bare (item_taken n plan_reference plan) a b c c Says
+    (λ scene. owners_same (bare a c scene) (remembered n (record { kind = plan_reference; key = plan; serial = a.next_serial }) (owners_of a)) (owners_of b) a.next_owner b.next_owner (a.next_serial + 1) b.next_serial
+    a.recent b.recent a.descriptors b.descriptors c.kinds c.kinds a.locks b.locks (beside a.session c.locks) (beside b.session c.locks) (pinned_beside (owners_of a) c.pins) (pinned_beside (owners_of b) c.pins) a.stack b.stack
+    (plan_changed plan (λ p. record p { references = p.references + 1 }) (plans_of a)) (plans_of b)
+    (sym e) (sym f) (sym g) (sym files.recent) (sym files.descriptors) refl (sym held) (ap (λ (m : ℕ). beside m c.locks) (sym session)) (beside_still (owners_of a) (owners_of b) c.pins (λ buffer. ap (pinned_once buffer) e ∙ pinned_remembered n (record { kind = plan_reference; key = plan; serial = a.next_serial }) (owners_of a) buffer (λ z. omega (arith, z)))) (sym stack) (sym plans))
+    (λ scene. says)
+
+-- A scene that owners and files fit, and contexts and hooks besides, with its parts.
+hosted : ResourceState → CommonState → Hosting → Scene → Scene
+hosted a c h scene = with_hosting h (bare a c scene)
+
+is_hosted : (a : ResourceState) (c : CommonState) (h : Hosting) (scene : Scene) → OwnersFit a c scene → HostsFit h scene → scene ≡ hosted a c h scene
+unfolding hosted bare with_parts
+is_hosted a c h scene fit hosts =
+    is_bare a c scene fit
+    ∙ ap (λ (contexts : Contexts). with_hosting (hosting_of contexts scene.around.shelf) (bare a c scene)) hosts.contexts
+    ∙ ap (λ (shelf : ShelfState). with_hosting (hosting_of h.contexts shelf) (bare a c scene)) hosts.shelf
+
+-- an act that leads so from each such scene
+acted_hosted : (act : Scene → Ended) (a b : ResourceState) (h k : Hosting) (c d : CommonState) (Says : List What → Type 0)
+    → ((scene : Scene) → (act (hosted a c h scene)).scene ≡ with_hosting k (with_owners b d (hosted a c h scene))) → ((scene : Scene) → Says (act (hosted a c h scene)).events)
+    → ActedOn act a b h k c d Says
+acted_hosted act a b h k c d Says leads says = record {
+  leads = λ scene fit hosts.
+      let e = is_hosted a c h scene fit hosts in
+      ap (λ (s : Scene). (act s).scene) e ∙ leads scene ∙ ap (λ (s : Scene). with_hosting k (with_owners b d s)) (sym e);
+  says = λ scene fit hosts. subst (λ (s : Scene). Says (act s).events) (sym (is_hosted a c h scene fit hosts)) (says scene);
+}
+
 -- The tables do what follows the release of an item, and the steps of a release.
 module _ (a b : ResourceState) (c d : CommonState) (old new : Lending) (recent : a.recent ≡ old.held.files.recent) (after : b.recent ≡ new.held.files.recent) (kinds : c.kinds ≡ old.kinds) (left : d.kinds ≡ new.kinds) (descriptors : b.descriptors ≡ a.descriptors)
     (held : a.locks ≡ old.locks) (holds : b.locks ≡ new.locks) (balance : LocksBalance (locks_of a) (locks_of b) c.locks d.locks)
-    (pins : pinned_beside (owners_of a) c.pins ≡ pinned_beside (owners_of b) d.pins) (stack : b.stack ≡ a.stack) where
-  tables_fit : (scene : Scene) → TablesFit old (bare a c scene)
-  unfolding bare with_parts
-  tables_fit scene = record { recent = recent; kinds = kinds; locks = held; plans = refl }
+    (pins : pinned_beside (owners_of a) c.pins ≡ pinned_beside (owners_of b) d.pins) (stack : b.stack ≡ a.stack) (planned : a.plans ≡ old.held.plans) (plans : b.plans ≡ new.held.plans) where
+  tables_fit : (scene : Scene) → TablesFit old (hosted a c (hosting_of old.contexts old.shelf) scene)
+  unfolding hosted bare with_parts
+  tables_fit scene = record { recent = recent; kinds = kinds; locks = held; plans = ap (λ (p : Plans). map plan_state p.standing) planned; contexts = refl; shelf = refl }
 
   seen_on : beside a.session c.locks ≡ beside b.session d.locks
   seen_on = beside_stays a.session c.locks d.locks balance.others ∙ ap (λ (n : ℕ). beside n d.locks) (sym balance.session)
 
+  plans_on : map plan_state new.held.plans.standing ≡ plans_of b
+  plans_on = sym (ap (λ (p : Plans). map plan_state p.standing) plans)
+
   -- an item is given back
   pub acted_given : (n : ℕ) (kind : KindId) (key : ℕ) (item : Item) (events : List What) (Says : List What → Type 0) → find (is_of kind key) (items_of n (owners_of a)) ≡ Some item
       → owners_of b ≡ forgotten n kind key (owners_of a) → b.next_owner ≡ a.next_owner → b.next_serial ≡ a.next_serial → TablesDo old (GivesBack item ∷ []) events new
-      → Says (what.Release item n ∷ events) → Acted (item_released n kind key) a b c d Says
-  unfolding bare with_parts parts_in
+      → Says (what.Release item n ∷ events) → ActedOn (item_released n kind key) a b (hosting_of old.contexts old.shelf) (hosting_of new.contexts new.shelf) c d Says
+  unfolding hosted bare with_parts parts_in
   acted_given n kind key item events Says found e f g does says =
-      acted_bare (item_released n kind key) a b c d Says
+      acted_hosted (item_released n kind key) a b (hosting_of old.contexts old.shelf) (hosting_of new.contexts new.shelf) c d Says
       (λ scene. ap (λ (o : Option Item). (act o scene).scene) found ∙ does.leads (forgot scene) (forgot_fits scene)
-      ∙ owners_same (bare a c scene) (forgotten n kind key (owners_of a)) (owners_of b) a.next_owner b.next_owner a.next_serial b.next_serial new.held.files.recent b.recent a.descriptors b.descriptors new.kinds d.kinds
-      new.locks b.locks (beside a.session c.locks) (beside b.session d.locks) (pinned_beside (owners_of a) c.pins) (pinned_beside (owners_of b) d.pins) a.stack b.stack (sym e) (sym f) (sym g) (sym after) (sym descriptors) (sym left) (sym holds) seen_on pins (sym stack))
+      ∙ owners_same (hosted a c (hosting_of new.contexts new.shelf) scene) (forgotten n kind key (owners_of a)) (owners_of b) a.next_owner b.next_owner a.next_serial b.next_serial new.held.files.recent b.recent a.descriptors b.descriptors new.kinds d.kinds
+      new.locks b.locks (beside a.session c.locks) (beside b.session d.locks) (pinned_beside (owners_of a) c.pins) (pinned_beside (owners_of b) d.pins) a.stack b.stack (map plan_state new.held.plans.standing) (plans_of b)
+      (sym e) (sym f) (sym g) (sym after) (sym descriptors) (sym left) (sym holds) seen_on pins (sym stack) plans_on)
       (λ scene. subst (λ (o : Option Item). Says (act o scene).events) (sym found)
       (subst (λ (es : List What). Says (what.Release item n ∷ es)) (sym (does.says (forgot scene) (forgot_fits scene))) says))
     where
+      at : Scene → Scene
+      at scene = hosted a c (hosting_of old.contexts old.shelf) scene
+
       act : Option Item → Scene → Ended
       act o scene = where_there o
-          (λ item. in_order (changes (λ session. record session { owners = forgotten n kind key session.owners }) ∷ say (what.Release item n) ∷ given_back item ∷ [])) (bare a c scene)
+          (λ item. in_order (changes (λ session. record session { owners = forgotten n kind key session.owners }) ∷ say (what.Release item n) ∷ given_back item ∷ [])) (at scene)
 
       forgot : Scene → Scene
-      forgot scene = record (bare a c scene) { session = record (bare a c scene).session { owners = forgotten n kind key (owners_of a) } }
+      forgot scene = record (at scene) { session = record (at scene).session { owners = forgotten n kind key (owners_of a) } }
 
       forgot_fits : (scene : Scene) → TablesFit old (forgot scene)
-      forgot_fits scene = record { recent = recent; kinds = kinds; locks = held; plans = refl }
+      forgot_fits scene = record { recent = recent; kinds = kinds; locks = held; plans = ap (λ (p : Plans). map plan_state p.standing) planned; contexts = refl; shelf = refl }
 
   -- a phase
   pub acted_phase : (commit top : Bool) (n : ℕ) (phase : Phase) (events : List What) (Says : List What → Type 0) → owners_of b ≡ released (table_of c.kinds) phase n (owners_of a)
       → b.next_owner ≡ a.next_owner → b.next_serial ≡ a.next_serial → TablesDo old (release_steps (table_of c.kinds) phase commit top n (owners_of a)) events new → Says events
-      → Acted (phase_released commit top n phase) a b c d Says
-  unfolding bare with_parts parts_in
+      → ActedOn (phase_released commit top n phase) a b (hosting_of old.contexts old.shelf) (hosting_of new.contexts new.shelf) c d Says
+  unfolding hosted bare with_parts parts_in
   acted_phase commit top n phase events Says e f g does says =
-      acted_bare (phase_released commit top n phase) a b c d Says
-      (λ scene. ap (λ (z : Scene). record z { session = record z.session { owners = released (table_of c.kinds) phase n z.session.owners } }) (does.leads (bare a c scene) (tables_fit scene))
-      ∙ owners_same (bare a c scene) (released (table_of c.kinds) phase n (owners_of a)) (owners_of b) a.next_owner b.next_owner a.next_serial b.next_serial new.held.files.recent b.recent a.descriptors b.descriptors new.kinds d.kinds
-      new.locks b.locks (beside a.session c.locks) (beside b.session d.locks) (pinned_beside (owners_of a) c.pins) (pinned_beside (owners_of b) d.pins) a.stack b.stack (sym e) (sym f) (sym g) (sym after) (sym descriptors) (sym left) (sym holds) seen_on pins (sym stack))
-      (λ scene. subst Says (sym (append-nil _ ∙ does.says (bare a c scene) (tables_fit scene))) says)
+      acted_hosted (phase_released commit top n phase) a b (hosting_of old.contexts old.shelf) (hosting_of new.contexts new.shelf) c d Says
+      (λ scene. ap (λ (z : Scene). record z { session = record z.session { owners = released (table_of c.kinds) phase n z.session.owners } }) (does.leads (hosted a c (hosting_of old.contexts old.shelf) scene) (tables_fit scene))
+      ∙ owners_same (hosted a c (hosting_of new.contexts new.shelf) scene) (released (table_of c.kinds) phase n (owners_of a)) (owners_of b) a.next_owner b.next_owner a.next_serial b.next_serial new.held.files.recent b.recent a.descriptors b.descriptors new.kinds d.kinds
+      new.locks b.locks (beside a.session c.locks) (beside b.session d.locks) (pinned_beside (owners_of a) c.pins) (pinned_beside (owners_of b) d.pins) a.stack b.stack (map plan_state new.held.plans.standing) (plans_of b)
+      (sym e) (sym f) (sym g) (sym after) (sym descriptors) (sym left) (sym holds) seen_on pins (sym stack) plans_on)
+      (λ scene. subst Says (sym (append-nil _ ∙ does.says (hosted a c (hosting_of old.contexts old.shelf) scene) (tables_fit scene))) says)
+
+-- no such act, and one behind another
+acted_nothing_on : (a : ResourceState) (h : Hosting) (c : CommonState) (Says : List What → Type 0) → Says [] → ActedOn nothing a a h h c c Says
+unfolding hosted bare with_parts
+acted_nothing_on a h c Says none = acted_hosted nothing a a h h c c Says (λ scene. refl) (λ scene. none)
+
+acted_both_on : (f g : Scene → Ended) (a b z : ResourceState) (h k l : Hosting) (c d e : CommonState) (First Second Both : List What → Type 0)
+    → ((xs ys : List What) → First xs → Second ys → Both (xs ++ ys))
+    → ActedOn f a b h k c d First → ActedOn g b z k l d e Second → ActedOn (λ scene. and_then (f scene) g) a z h l c e Both
+acted_both_on f g a b z h k l c d e First Second Both more p q = record {
+  leads = λ scene fit hosts. ap (λ (s : Scene). (g s).scene) (p.leads scene fit hosts) ∙ q.leads (next scene) (fits scene) (record { contexts = refl; shelf = refl });
+  says = λ scene fit hosts.
+      more (f scene).events (g (f scene).scene).events (p.says scene fit hosts)
+      (subst (λ (s : Scene). Second (g s).events) (sym (p.leads scene fit hosts)) (q.says (next scene) (fits scene) (record { contexts = refl; shelf = refl })));
+}
+  where
+    next : Scene → Scene
+    next scene = with_hosting k (with_owners b d scene)
+
+    fits : (scene : Scene) → OwnersFit b d (next scene)
+    fits scene = record { owners = refl; next_owner = refl; next_serial = refl; recent = refl; descriptors = refl; kinds = refl; locked = refl; pinned = refl; locks = refl; snapshots = refl; plans = refl }
 
 -- the three phases
-pub acted_release : (commit top : Bool) (n : ℕ) (a b y z : ResourceState) (c d e f : CommonState) (First Second Third Last Rest All : List What → Type 0)
+pub acted_release : (commit top : Bool) (n : ℕ) (a b y z : ResourceState) (h i j k : Hosting) (c d e f : CommonState) (First Second Third Last Rest All : List What → Type 0)
     → Last [] → ((xs ys : List What) → Third xs → Last ys → Third (xs ++ ys))
     → ((xs ys : List What) → Second xs → Third ys → Rest (xs ++ ys)) → ((xs ys : List What) → First xs → Rest ys → All (xs ++ ys))
-    → Acted (phase_released commit top n BeforeLocks) a b c d First → Acted (phase_released commit top n Locks) b y d e Second → Acted (phase_released commit top n AfterLocks) y z e f Third
-    → Acted (owner_released commit top n) a z c f All
-acted_release commit top n a b y z c d e f First Second Third Last Rest All last third second first p q r =
-    acted_both (phase_released commit top n BeforeLocks) (for_each (phase_released commit top n) (Locks ∷ AfterLocks ∷ [])) a b z c d f First Rest All first p
-    (acted_both (phase_released commit top n Locks) (for_each (phase_released commit top n) (AfterLocks ∷ [])) b y z d e f Second Third Rest second q
-    (acted_both (phase_released commit top n AfterLocks) (for_each (phase_released commit top n) []) y z z e f f Third Last Third third r (acted_nothing z f Last last)))
+    → ActedOn (phase_released commit top n BeforeLocks) a b h i c d First → ActedOn (phase_released commit top n Locks) b y i j d e Second → ActedOn (phase_released commit top n AfterLocks) y z j k e f Third
+    → ActedOn (owner_released commit top n) a z h k c f All
+acted_release commit top n a b y z h i j k c d e f First Second Third Last Rest All last third second first p q r =
+    acted_both_on (phase_released commit top n BeforeLocks) (for_each (phase_released commit top n) (Locks ∷ AfterLocks ∷ [])) a b z h i k c d f First Rest All first p
+    (acted_both_on (phase_released commit top n Locks) (for_each (phase_released commit top n) (AfterLocks ∷ [])) b y z i j k d e f Second Third Rest second q
+    (acted_both_on (phase_released commit top n AfterLocks) (for_each (phase_released commit top n) []) y z z j k k e f f Third Last Third third r (acted_nothing_on z k f Last last)))
+
+-- a plan is discarded
+pub acted_dropped : (act : Scene → Ended) (events : List What) (a b : ResourceState) (h k : Hosting) (c : CommonState) (Says : List What → Type 0)
+    → b ≡ record a { plans = b.plans } → PlansDo act events a.plans.standing b.plans.standing h k → Says events → ActedOn act a b h k c c Says
+acted_dropped act events a b h k c Says is does says = record {
+  leads = λ scene fit hosts. does.leads scene fit.plans hosts
+      ∙ ap (λ (s : Scene). with_plans b.plans.standing k s) (fit_is a c scene fit)
+      ∙ ap (λ (r : ResourceState). with_hosting k (with_owners r c scene)) (sym is);
+  says = λ scene fit hosts. subst Says (sym (does.says scene fit.plans hosts)) says;
+}

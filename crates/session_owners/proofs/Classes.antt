@@ -35,7 +35,7 @@ classes_less old new class key less all c k other = omega (arith, less c k, all 
 
 -- what is held of a class is counted by references
 class_held : (held : Held) (n key : ℕ) → is_class n ≡ true → times_held held (record { 0 = n }) key ≡ count_of pair_cmp held.references (n, key)
-class_held held n key listed = rw (apart 1 refl, apart 8 refl, apart 7 refl) refl
+class_held held n key listed = rw (apart 1 refl, apart 8 refl, apart 7 refl, apart 5 refl) refl
   where
     apart : (m : ℕ) → is_class m ≡ false → (n == m) ≡ false
     apart m other = ne_eqb n m (λ e. both_ways (is_class m) other (ap is_class (sym e) ∙ listed))

@@ -1,6 +1,6 @@
 -- How often the owners hold a kind and key, and how often that is counted, behind each change.
-use Rattle.std.proofs.Common.{◌≡◌, ◌≢◌, ℕ, ◌+◌, ◌-◌, ◌<◌, ◌≤◌, length, replicate, get_or, find, cond, Bool, true, false, List, [], ◌∷◌, Option, Some, None, refl, sym, ◌∙◌, ap, arith, inl, inr}
-use Rattle.std.specs.Prelude.{◌==◌, ◌&&◌, if◌then◌else◌, slice_set, slice_index}
+use Rattle.std.proofs.Common.{◌≡◌, ◌≢◌, ℕ, ◌+◌, ◌<◌, ◌≤◌, length, replicate, get_or, find, cond, Bool, true, false, List, [], ◌∷◌, Option, Some, None, refl, sym, ◌∙◌, ap, arith, inl, inr}
+use Rattle.std.specs.Prelude.{◌==◌, ◌&&◌, if◌then◌else◌, count_by, slice_set, slice_index}
 use Rattle.std.specs.Ordering.{nat_cmp}
 use Rattle.std.proofs.lemmas.Grind.{common_steps}
 use Rattle.std.proofs.lemmas.Bool.{both_ways, cases_Bool, eqb-true, le-ltb, lt-ltb, ne_eqb}
@@ -21,9 +21,11 @@ use Rattle.owner_core.proofs.ItemLemmas.{uses-cons, uses_phase}
 use Rattle.owner_core.proofs.Releasing.{held_changed}
 use Rattle.owner_core.proofs.Sounds.{total_removed, total_swept}
 use Rattle.counts.specs.Counts.{count_of}
-use Rattle.ref_table.specs.References.{RefersOneLess, RefersOneMore, references_of}
-use Rattle.snap_table.specs.Snapshots.{RegisteredOneLess, RegisteredOneMore, registrations}
-use Rattle.file_table.specs.Files.{Files, OpensOneLess, OpensOneMore, opens}
+use Rattle.ref_table.specs.References.{references_of}
+use Rattle.snap_table.specs.Snapshots.{registrations}
+use Rattle.file_table.specs.Files.{OpensOneMore, opens}
+use Rattle.plan_store.specs.Plans.{RefersAlike, RefersOneMore, references_to}
+use Rattle.plan_store.specs.declared.plan.Plan.{Plan}
 use Rattle.owner_kinds.specs.KindShelf as shelf
 use Rattle.session_owners.specs.Tables.{Held, Lending, times_held, times_lent}
 
@@ -117,12 +119,9 @@ module _ (kind : KindId) (key : ℕ) where
       uses_single : (x : Item) → uses kind key (x ∷ []) ≡ cond (is_of kind key x) 1 0
       uses_single x = grind (arith, common_steps)
 
--- one pin more, and one fewer
+-- one pin more
 slice_index-pinned : (pins : List ℕ) (buffer key : ℕ) → buffer < length pins → slice_index (slice_set pins buffer (slice_index pins buffer + 1)) key ≡ slice_index pins key + (if buffer == key then 1 else 0)
 slice_index-pinned pins buffer key h = grind (arith, common_steps, nat_tests)
-
-slice_index-unpinned : (pins : List ℕ) (buffer key : ℕ) → buffer < length pins → 0 < slice_index pins buffer → slice_index (slice_set pins buffer (slice_index pins buffer - 1)) key + (if buffer == key then 1 else 0) ≡ slice_index pins key
-slice_index-unpinned pins buffer key h some = grind (arith, common_steps, nat_tests)
 
 eq-flip : (m n : ℕ) → (m == n) ≡ (n == m)
 eq-flip m n = grind (arith, nat_tests)
@@ -142,16 +141,20 @@ flag_off c k hit other = rw (ne_eqb c k (λ e. other (sym e))) refl
 
 -- How often a kind and key are held goes up and down with what the table of that kind counts.
 pub times_held-moved : (a b : Held) (kind : KindId) (key m n : ℕ) → (kind.0 ≡ 1 → slice_index b.pins key + m ≡ slice_index a.pins key + n) → (kind.0 ≡ 8 → opens b.files key + m ≡ opens a.files key + n)
-    → (kind.0 ≡ 7 → registrations b.snapshots key + m ≡ registrations a.snapshots key + n) → (kind.0 ≢ 1 → kind.0 ≢ 8 → kind.0 ≢ 7 → references_of b.references kind key + m ≡ references_of a.references kind key + n)
+    → (kind.0 ≡ 7 → registrations b.snapshots key + m ≡ registrations a.snapshots key + n) → (kind.0 ≡ 5 → references_to b.plans key + m ≡ references_to a.plans key + n)
+    → (kind.0 ≢ 1 → kind.0 ≢ 8 → kind.0 ≢ 7 → kind.0 ≢ 5 → references_of b.references kind key + m ≡ references_of a.references kind key + n)
     → times_held b kind key + m ≡ times_held a kind key + n
-times_held-moved a b kind key m n pins files snapshots references =
+times_held-moved a b kind key m n pins files snapshots plans references =
     elim (cases_Bool (kind.0 == 1)) [
       | inl y ↦ rw y (pins (eqb-true kind.0 1 y))
       | inr y ↦ elim (cases_Bool (kind.0 == 8)) [
         | inl f ↦ rw (y, f) (files (eqb-true kind.0 8 f))
         | inr f ↦ elim (cases_Bool (kind.0 == 7)) [
           | inl s ↦ rw (y, f, s) (snapshots (eqb-true kind.0 7 s))
-          | inr s ↦ rw (y, f, s) (references (is_other kind.0 1 y) (is_other kind.0 8 f) (is_other kind.0 7 s))
+          | inr s ↦ elim (cases_Bool (kind.0 == 5)) [
+            | inl r ↦ rw (y, f, s, r) (plans (eqb-true kind.0 5 r))
+            | inr r ↦ rw (y, f, s, r) (references (is_other kind.0 1 y) (is_other kind.0 8 f) (is_other kind.0 7 s) (is_other kind.0 5 r))
+          ]
         ]
       ]
     ]
@@ -167,69 +170,16 @@ times_held-pinned a b buffer kind key within is =
     (λ e. omega (arith, ap (λ (h : Held). slice_index h.pins key) is, slice_index-pinned a.pins buffer key within, flag_on 1 kind.0 (buffer == key) e))
     (λ e. omega (arith, ap (λ (h : Held). opens h.files key) is, flag_off 1 kind.0 (buffer == key) (λ z. omega (arith, e, z))))
     (λ e. omega (arith, ap (λ (h : Held). registrations h.snapshots key) is, flag_off 1 kind.0 (buffer == key) (λ z. omega (arith, e, z))))
-    (λ pin file snapshot. omega (arith, ap (λ (h : Held). references_of h.references kind key) is, flag_off 1 kind.0 (buffer == key) pin)) in
+    (λ e. omega (arith, ap (λ (h : Held). references_to h.plans key) is, flag_off 1 kind.0 (buffer == key) (λ z. omega (arith, e, z))))
+    (λ pin file snapshot plan. omega (arith, ap (λ (h : Held). references_of h.references kind key) is, flag_off 1 kind.0 (buffer == key) pin)) in
     omega (arith, more)
 
-pub times_held-unpinned : (a b : Held) (buffer : ℕ) (kind : KindId) (key : ℕ) → buffer < length a.pins → 0 < slice_index a.pins buffer → b ≡ record a { pins = slice_set a.pins buffer (slice_index a.pins buffer - 1) }
-    → times_held b kind key + (if (1 == kind.0) && (buffer == key) then 1 else 0) ≡ times_held a kind key
-times_held-unpinned a b buffer kind key within some is =
-    let less : times_held b kind key + (if (1 == kind.0) && (buffer == key) then 1 else 0) ≡ times_held a kind key + 0 =
-    times_held-moved a b kind key (if (1 == kind.0) && (buffer == key) then 1 else 0) 0
-    (λ e. omega (arith, ap (λ (h : Held). slice_index h.pins key) is, slice_index-unpinned a.pins buffer key within some, flag_on 1 kind.0 (buffer == key) e))
-    (λ e. omega (arith, ap (λ (h : Held). opens h.files key) is, flag_off 1 kind.0 (buffer == key) (λ z. omega (arith, e, z))))
-    (λ e. omega (arith, ap (λ (h : Held). registrations h.snapshots key) is, flag_off 1 kind.0 (buffer == key) (λ z. omega (arith, e, z))))
-    (λ pin file snapshot. omega (arith, ap (λ (h : Held). references_of h.references kind key) is, flag_off 1 kind.0 (buffer == key) pin)) in
-    omega (arith, less)
-
--- one reference more, and one fewer
-module _ (a b : Held) (class : KindId) (k : ℕ) (kind : KindId) (key : ℕ) (no_pin : class.0 ≢ 1) (no_file : class.0 ≢ 8) (pins : b.pins ≡ a.pins) (files : b.files ≡ a.files) where
-  same_pins : kind.0 ≡ 1 → slice_index b.pins key ≡ slice_index a.pins key + (if (class.0 == kind.0) && (k == key) then 1 else 0)
-  same_pins e = omega (arith, ap (λ (z : List ℕ). slice_index z key) pins, flag_off class.0 kind.0 (k == key) (λ z. no_pin (sym z ∙ e)))
-
-  same_files : kind.0 ≡ 8 → opens b.files key ≡ opens a.files key + (if (class.0 == kind.0) && (k == key) then 1 else 0)
-  same_files e = omega (arith, ap (λ (z : Files). opens z key) files, flag_off class.0 kind.0 (k == key) (λ z. no_file (sym z ∙ e)))
-
-  pub times_held-added : class.0 ≢ 7 → b.snapshots.registered ≡ a.snapshots.registered → RefersOneMore a.references b.references class.0 k
-      → times_held b kind key ≡ times_held a kind key + (if (class.0 == kind.0) && (k == key) then 1 else 0)
-  times_held-added other snapshots more =
-      let all : times_held b kind key + 0 ≡ times_held a kind key + (if (class.0 == kind.0) && (k == key) then 1 else 0) =
-      times_held-moved a b kind key 0 (if (class.0 == kind.0) && (k == key) then 1 else 0) (λ e. omega (arith, same_pins e)) (λ e. omega (arith, same_files e))
-      (λ e. omega (arith, ap (λ (z : List (ℕ × ℕ)). count_of nat_cmp z key) snapshots, flag_off class.0 kind.0 (k == key) (λ z. other (sym z ∙ e))))
-      (λ pin file snapshot. omega (arith, more kind.0 key)) in
-      omega (arith, all)
-
-  pub times_held-registered : class.0 ≡ 7 → b.references ≡ a.references → RegisteredOneMore a.snapshots b.snapshots k
-      → times_held b kind key ≡ times_held a kind key + (if (class.0 == kind.0) && (k == key) then 1 else 0)
-  times_held-registered is references more =
-      let all : times_held b kind key + 0 ≡ times_held a kind key + (if (class.0 == kind.0) && (k == key) then 1 else 0) =
-      times_held-moved a b kind key 0 (if (class.0 == kind.0) && (k == key) then 1 else 0) (λ e. omega (arith, same_pins e)) (λ e. omega (arith, same_files e))
-      (λ e. omega (arith, more key, flag_on class.0 kind.0 (k == key) (e ∙ sym is)))
-      (λ pin file snapshot. omega (arith, ap (λ (z : List ((ℕ × ℕ) × ℕ)). references_of z kind key) references, flag_off class.0 kind.0 (k == key) (λ z. snapshot (z ∙ is)))) in
-      omega (arith, all)
-
-  pub times_held-dropped : class.0 ≢ 7 → b.snapshots.registered ≡ a.snapshots.registered → RefersOneLess a.references b.references class.0 k
-      → times_held b kind key + (if (class.0 == kind.0) && (k == key) then 1 else 0) ≡ times_held a kind key
-  times_held-dropped other snapshots less =
-      let all : times_held b kind key + (if (class.0 == kind.0) && (k == key) then 1 else 0) ≡ times_held a kind key + 0 =
-      times_held-moved a b kind key (if (class.0 == kind.0) && (k == key) then 1 else 0) 0
-      (λ e. omega (arith, same_pins e, flag_off class.0 kind.0 (k == key) (λ z. no_pin (sym z ∙ e)))) (λ e. omega (arith, same_files e, flag_off class.0 kind.0 (k == key) (λ z. no_file (sym z ∙ e))))
-      (λ e. omega (arith, ap (λ (z : List (ℕ × ℕ)). count_of nat_cmp z key) snapshots, flag_off class.0 kind.0 (k == key) (λ z. other (sym z ∙ e))))
-      (λ pin file snapshot. omega (arith, less kind.0 key)) in
-      omega (arith, all)
-
-  pub times_held-unregistered : class.0 ≡ 7 → b.references ≡ a.references → RegisteredOneLess a.snapshots b.snapshots k
-      → times_held b kind key + (if (class.0 == kind.0) && (k == key) then 1 else 0) ≡ times_held a kind key
-  times_held-unregistered is references less =
-      let all : times_held b kind key + (if (class.0 == kind.0) && (k == key) then 1 else 0) ≡ times_held a kind key + 0 =
-      times_held-moved a b kind key (if (class.0 == kind.0) && (k == key) then 1 else 0) 0
-      (λ e. omega (arith, same_pins e, flag_off class.0 kind.0 (k == key) (λ z. no_pin (sym z ∙ e)))) (λ e. omega (arith, same_files e, flag_off class.0 kind.0 (k == key) (λ z. no_file (sym z ∙ e))))
-      (λ e. omega (arith, less key, flag_on class.0 kind.0 (k == key) (e ∙ sym is)))
-      (λ pin file snapshot. omega (arith, ap (λ (z : List ((ℕ × ℕ) × ℕ)). references_of z kind key) references, flag_off class.0 kind.0 (k == key) (λ z. snapshot (z ∙ is)))) in
-      omega (arith, all)
-
--- one file more, and one fewer
+-- one file more
 pub pin_is_other : (kind : ℕ) → (kind == 1) ≡ true → (kind == 8) ≡ false
 pin_is_other kind y = ne_eqb kind 8 (λ e. omega (arith, e, eqb-true kind 1 y))
+
+pub pin_is_none : (kind : ℕ) → (kind == 1) ≡ true → (kind == 5) ≡ false
+pin_is_none kind y = ne_eqb kind 5 (λ e. omega (arith, e, eqb-true kind 1 y))
 
 pub times_held-opened : (a b : Held) (file : ℕ) (kind : KindId) (key : ℕ) → b ≡ record a { files = b.files } → OpensOneMore a.files b.files file
     → times_held b kind key ≡ times_held a kind key + (if (8 == kind.0) && (file == key) then 1 else 0)
@@ -239,41 +189,56 @@ times_held-opened a b file kind key is more =
     (λ e. omega (arith, ap (λ (h : Held). slice_index h.pins key) is, flag_off 8 kind.0 (file == key) (λ z. omega (arith, e, z))))
     (λ e. omega (arith, more key, flag_on 8 kind.0 (file == key) e))
     (λ e. omega (arith, ap (λ (h : Held). registrations h.snapshots key) is, flag_off 8 kind.0 (file == key) (λ z. omega (arith, e, z))))
-    (λ pin no_file snapshot. omega (arith, ap (λ (h : Held). references_of h.references kind key) is, flag_off 8 kind.0 (file == key) no_file)) in
+    (λ e. omega (arith, ap (λ (h : Held). references_to h.plans key) is, flag_off 8 kind.0 (file == key) (λ z. omega (arith, e, z))))
+    (λ pin no_file snapshot plan. omega (arith, ap (λ (h : Held). references_of h.references kind key) is, flag_off 8 kind.0 (file == key) no_file)) in
     omega (arith, all)
 
-pub times_held-closed : (a b : Held) (file : ℕ) (kind : KindId) (key : ℕ) → b ≡ record a { files = b.files } → OpensOneLess a.files b.files file
-    → times_held b kind key + (if (8 == kind.0) && (file == key) then 1 else 0) ≡ times_held a kind key
-times_held-closed a b file kind key is less =
-    let all : times_held b kind key + (if (8 == kind.0) && (file == key) then 1 else 0) ≡ times_held a kind key + 0 =
-    times_held-moved a b kind key (if (8 == kind.0) && (file == key) then 1 else 0) 0
-    (λ e. omega (arith, ap (λ (h : Held). slice_index h.pins key) is, flag_off 8 kind.0 (file == key) (λ z. omega (arith, e, z))))
-    (λ e. omega (arith, less key, flag_on 8 kind.0 (file == key) e))
-    (λ e. omega (arith, ap (λ (h : Held). registrations h.snapshots key) is, flag_off 8 kind.0 (file == key) (λ z. omega (arith, e, z))))
-    (λ pin no_file snapshot. omega (arith, ap (λ (h : Held). references_of h.references kind key) is, flag_off 8 kind.0 (file == key) no_file)) in
+-- one reference to a plan more
+pub times_held-referred : (a b : Held) (plan : ℕ) (kind : KindId) (key : ℕ) → b ≡ record a { plans = b.plans } → RefersOneMore a.plans b.plans plan
+    → times_held b kind key ≡ times_held a kind key + (if (5 == kind.0) && (plan == key) then 1 else 0)
+times_held-referred a b plan kind key is more =
+    let all : times_held b kind key + 0 ≡ times_held a kind key + (if (5 == kind.0) && (plan == key) then 1 else 0) =
+    times_held-moved a b kind key 0 (if (5 == kind.0) && (plan == key) then 1 else 0)
+    (λ e. omega (arith, ap (λ (h : Held). slice_index h.pins key) is, flag_off 5 kind.0 (plan == key) (λ z. omega (arith, e, z))))
+    (λ e. omega (arith, ap (λ (h : Held). opens h.files key) is, flag_off 5 kind.0 (plan == key) (λ z. omega (arith, e, z))))
+    (λ e. omega (arith, ap (λ (h : Held). registrations h.snapshots key) is, flag_off 5 kind.0 (plan == key) (λ z. omega (arith, e, z))))
+    (λ e. omega (arith, more key, flag_on 5 kind.0 (plan == key) e))
+    (λ pin file snapshot no_plan. omega (arith, ap (λ (h : Held). references_of h.references kind key) is, flag_off 5 kind.0 (plan == key) no_plan)) in
     omega (arith, all)
 
--- the same pins, references, open files and registered snapshots
-pub times_held-same : (a b : Held) (kind : KindId) (key : ℕ) → b.pins ≡ a.pins → b.references ≡ a.references → b.files.opened ≡ a.files.opened → b.snapshots.registered ≡ a.snapshots.registered → times_held b kind key ≡ times_held a kind key
-times_held-same a b kind key pins references opened registered =
-    ap (λ (z : List ℕ). times_held (record b { pins = z }) kind key) pins
-    ∙ ap (λ (z : List ((ℕ × ℕ) × ℕ)). times_held (record b { pins = a.pins; references = z }) kind key) references
-    ∙ ap (λ (z : List ℕ). times_held (record a { files = record a.files { opened = z }; snapshots = b.snapshots }) kind key) opened
-    ∙ ap (λ (z : List (ℕ × ℕ)). times_held (record a { snapshots = record a.snapshots { registered = z } }) kind key) registered
+-- the same pins, references, open files, registered snapshots, and as many references to each plan
+pub times_held-same : (a b : Held) (kind : KindId) (key : ℕ) → b.pins ≡ a.pins → b.references ≡ a.references → b.files.opened ≡ a.files.opened → b.snapshots.registered ≡ a.snapshots.registered → RefersAlike a.plans b.plans
+    → times_held b kind key ≡ times_held a kind key
+times_held-same a b kind key pins references opened registered alike =
+    let all : times_held b kind key + 0 ≡ times_held a kind key + 0 =
+    times_held-moved a b kind key 0 0
+    (λ e. omega (arith, ap (λ (z : List ℕ). slice_index z key) pins))
+    (λ e. omega (arith, ap (λ (z : List ℕ). count_by (λ other. key == other) z) opened))
+    (λ e. omega (arith, ap (λ (z : List (ℕ × ℕ)). count_of nat_cmp z key) registered))
+    (λ e. omega (arith, alike key))
+    (λ pin file snapshot plan. omega (arith, ap (λ (z : List ((ℕ × ℕ) × ℕ)). references_of z kind key) references)) in
+    omega (arith, all)
 
 zeros_at : (key n : ℕ) → get_or (replicate {A = ℕ} n 0) key 0 ≡ 0
 zeros_at key n = grind (arith, common_steps)
 
 -- nothing is held
-pub none_held : (held : Held) (kind : KindId) (key : ℕ) → held.pins ≡ replicate 1024 0 → held.references ≡ [] → held.files.opened ≡ [] → held.snapshots.registered ≡ [] → times_held held kind key ≡ 0
-none_held held kind key p r f t =
-    times_held-same (record { pins = replicate 1024 0; references = []; files = record { descriptors = 0; opened = []; recent = [] }; snapshots = record { registered = []; stack = [] } }) held kind key p r f t ∙ go (kind.0 == 1) (kind.0 == 8) (kind.0 == 7)
+pub none_held : (held : Held) (kind : KindId) (key : ℕ) → held.pins ≡ replicate 1024 0 → held.references ≡ [] → held.files.opened ≡ [] → held.snapshots.registered ≡ [] → held.plans.standing ≡ [] → times_held held kind key ≡ 0
+none_held held kind key p r f t q =
+    times_held-same (record {
+      pins = replicate 1024 0;
+      references = [];
+      files = record { descriptors = 0; opened = []; recent = [] };
+      snapshots = record { registered = []; stack = [] };
+      plans = record { standing = []; reserved = None };
+    }) held kind key p r f t (λ n. ap (λ (ps : List (ℕ × Plan)). references_to (record { standing = ps; reserved = None }) n) q) ∙ go (kind.0 == 1) (kind.0 == 8) (kind.0 == 7) (kind.0 == 5)
   where
-    go : (b c d : Bool) → (if b then slice_index (replicate 1024 0) key else (if c then 0 else (if d then 0 else 0))) ≡ 0
-    go true c d = zeros_at key 1024
-    go false true d = refl
-    go false false true = refl
-    go false false false = refl
+    go : (b c d e : Bool) → (if b then slice_index (replicate 1024 0) key else (if c then 0 else (if d then 0 else (if e then 0 else 0)))) ≡ 0
+    go true c d e = zeros_at key 1024
+    go false true d e = refl
+    go false false true e = refl
+    go false false false true = refl
+    go false false false false = refl
 
 -- what a release works on counts built-in kinds in the tables, and extension kinds by what they hold
 pub lent_low : (lending : Lending) (kind : KindId) (key : ℕ) → kind.0 < 16 → times_lent lending kind key ≡ times_held lending.held kind key

@@ -25,11 +25,13 @@ use Rattle.owner_core.proofs.Swept.{all_swept}
 use Rattle.session_rules.proofs.Guarded.{all_changed}
 use Rattle.file_table.specs.Files.{Files, OpensOneMore, opened_file}
 use Rattle.owner_kinds.specs.KindTable.{KindTable}
+use Rattle.plan_store.specs.Plans as plans
+use Rattle.plan_store.specs.Plans.{Plans}
 use Rattle.snap_table.specs.declared.active.Active.{Active}
 use Rattle.owner_kinds.specs.KindShelf as shelf
 use Rattle.session_owners.specs.Tables.{Held, Lending, times_held, times_lent}
 use Rattle.session_owners.specs.Counted.{HoldsCounted, IsCounted, IsHeld}
-use Rattle.session_owners.proofs.Counts.{lent_high, lent_low, held_created, held_forgotten, held_released, held_remembered, held_removed, held_subtree, none_held, times_held-opened, times_held-pinned, times_held-same}
+use Rattle.session_owners.proofs.Counts.{lent_high, lent_low, held_created, held_forgotten, held_released, held_remembered, held_removed, held_subtree, none_held, times_held-opened, times_held-pinned, times_held-referred, times_held-same}
 use Rattle.session_owners.proofs.Left.{items_left}
 
 -- what a call keeps of the owners
@@ -69,28 +71,30 @@ counted : (new : OwnerTable) (counts : Held) (owners : OwnerTree) (next_owner ne
     → owners_of new ≡ owners → new.next_owner ≡ next_owner → new.next_serial ≡ next_serial
     → IsSound owners next_owner next_serial → AllNodes HoldsCounted owners → length counts.pins ≡ 1024
     → ((kind : KindId) (key : ℕ) → kind.0 < 16 → times_held counts kind key ≡ held kind key owners) → ((kind : KindId) (key : ℕ) → held kind key owners < next_serial)
-    → total counts.references < next_serial → IsCounted new counts
-counted new counts owners next_owner next_serial e f g sound items buffers times few references = record {
+    → total counts.references < next_serial → plans.references counts.plans < next_serial → IsCounted new counts
+counted new counts owners next_owner next_serial e f g sound items buffers times few references referred = record {
   sound = rw (e, f, g) sound;
   items = rw e items;
   buffers = buffers;
   counted = λ kind key low. rw e (times kind key low);
   few = λ kind key. rw (e, g) (few kind key);
   references = rw g references;
+  plan_references = rw g referred;
 }
 
-pub counted_opening : (table : OwnerTable) (counts : Held) → table ≡ record { rooms = Empty; places = Empty; next_owner = 1; next_serial = 1 } → counts.pins ≡ replicate 1024 0 → counts.references ≡ [] → counts.files.opened ≡ [] → counts.snapshots.registered ≡ [] → IsCounted table counts
-counted_opening table counts t p r f g = record {
+pub counted_opening : (table : OwnerTable) (counts : Held) → table ≡ record { rooms = Empty; places = Empty; next_owner = 1; next_serial = 1 } → counts.pins ≡ replicate 1024 0 → counts.references ≡ [] → counts.files.opened ≡ [] → counts.snapshots.registered ≡ [] → counts.plans ≡ record { standing = []; reserved = None } → IsCounted table counts
+counted_opening table counts t p r f g q = record {
   sound = rw t (record { numbers = λ n. omega arith; serials = λ n. omega arith; few = omega arith });
   items = subst (AllNodes HoldsCounted) (sym (ap owners_of t)) tt;
   buffers = ap length p ∙ length-replicate {A = ℕ} 1024 0;
-  counted = λ kind key low. none_held counts kind key p r f g ∙ ap (λ (z : OwnerTable). held kind key (owners_of z)) (sym t);
+  counted = λ kind key low. none_held counts kind key p r f g (ap (λ (z : Plans). z.standing) q) ∙ ap (λ (z : OwnerTable). held kind key (owners_of z)) (sym t);
   few = λ kind key. omega (arith, ap (λ (z : OwnerTable). held kind key (owners_of z)) t, ap (λ (z : OwnerTable). z.next_serial) t);
   references = let none : total counts.references ≡ 0 = ap (λ (z : List ((ℕ × ℕ) × ℕ)). total z) r in omega (arith, none, ap (λ (z : OwnerTable). z.next_serial) t);
+  plan_references = let none : plans.references counts.plans ≡ 0 = ap (λ (z : Plans). plans.references z) q in omega (arith, none, ap (λ (z : OwnerTable). z.next_serial) t);
 }
 
 pub counted_same : (old new : OwnerTable) (counts : Held) → IsCounted old counts → owners_of new ≡ owners_of old → new.next_owner ≡ old.next_owner → new.next_serial ≡ old.next_serial → IsCounted new counts
-counted_same old new counts s e f g = counted new counts (owners_of old) old.next_owner old.next_serial e f g s.sound s.items s.buffers s.counted s.few s.references
+counted_same old new counts s e f g = counted new counts (owners_of old) old.next_owner old.next_serial e f g s.sound s.items s.buffers s.counted s.few s.references s.plan_references
 
 -- an owner more, unless there are too many
 pub counted_made : (old new : OwnerTable) (counts : Held) (parent : Option ℕ) (result : Result OwnerId OwnerError) → IsCounted old counts
@@ -103,7 +107,7 @@ counted_made old new counts parent (Ok owner) s e f g many refused =
     (items_created parent old.next_owner (owners_of old) s.items) s.buffers
     (λ kind key low. s.counted kind key low ∙ sym (held_created kind key parent old.next_owner (owners_of old)))
     (λ kind key. omega (arith, held_created kind key parent old.next_owner (owners_of old), s.few kind key))
-    s.references
+    s.references s.plan_references
 counted_made old new counts parent (Err error) s e f g many refused = subst (λ (t : OwnerTable). IsCounted t counts) (sym refused) s
 
 -- an owner with room is there
@@ -116,11 +120,11 @@ there n table h = go (at n table.rooms) refl
 
 -- an item more
 pub counted_taken : (old new : OwnerTable) (counts counts' : Held) (n : ℕ) (kind : KindId) (key : ℕ) → IsCounted old counts → 1 ≤ spare_of n old → IsHeld (record { kind = kind; key = key; serial = old.next_serial })
-    → length counts'.pins ≡ 1024 → total counts'.references ≤ total counts.references + 1
+    → length counts'.pins ≡ 1024 → total counts'.references ≤ total counts.references + 1 → plans.references counts'.plans ≤ plans.references counts.plans + 1
     → ((k : KindId) (j : ℕ) → k.0 < 16 → times_held counts' k j ≡ times_held counts k j + (if (kind.0 == k.0) && (key == j) then 1 else 0))
     → owners_of new ≡ remembered n (record { kind = kind; key = key; serial = old.next_serial }) (owners_of old)
     → new.next_owner ≡ old.next_owner → new.next_serial ≡ old.next_serial + 1 → IsCounted new counts'
-counted_taken old new counts counts' n kind key s spare is buffers references more e f g =
+counted_taken old new counts counts' n kind key s spare is buffers references referred more e f g =
     let item : Item = record { kind = kind; key = key; serial = old.next_serial } in
     let w = there n old spare in
     let o : Once (owners_of old) = once_of (owners_of old) old.next_owner old.next_serial s.sound in
@@ -133,6 +137,7 @@ counted_taken old new counts counts' n kind key s spare is buffers references mo
       | inr y ↦ let up = held_remembered k j n item w.0 (owners_of old) o w.1 in omega (arith, s.few k j, rw y at up)
     ])
     (omega (arith, references, s.references))
+    (omega (arith, referred, s.plan_references))
 
 -- a pin more
 pub counted_pinned : (old new : OwnerTable) (counts counts' : Held) (n buffer : ℕ) → IsCounted old counts → 1 ≤ spare_of n old → buffer < 1024
@@ -143,6 +148,7 @@ counted_pinned old new counts counts' n buffer s spare small set e f g =
     counted_taken old new counts counts' n (record { 0 = 1 }) buffer s spare (inl (record { kind = refl; buffer = small }))
     (ap (λ (z : Held). length z.pins) set ∙ length-set counts.pins buffer (slice_index counts.pins buffer + 1) ∙ s.buffers)
     (let same : total counts'.references ≡ total counts.references = ap (λ (z : Held). total z.references) set in omega (arith, same))
+    (let same : plans.references counts'.plans ≡ plans.references counts.plans = ap (λ (z : Held). plans.references z.plans) set in omega (arith, same))
     (λ k j low. times_held-pinned counts counts' buffer k j (omega (arith, s.buffers, small)) set)
     e f g
 
@@ -156,6 +162,7 @@ counted_opened old new counts counts' n file s spare set more e f g =
     let references : counts'.references ≡ counts.references = ap (λ (z : Held). z.references) set in
     counted_taken old new counts counts' n (record { 0 = 8 }) file s spare (inr (inr (inl refl))) (ap length pins ∙ s.buffers)
     (omega (arith, ap (λ (z : List ((ℕ × ℕ) × ℕ)). total z) references))
+    (let same : plans.references counts'.plans ≡ plans.references counts.plans = ap (λ (z : Held). plans.references z.plans) set in omega (arith, same))
     (λ k j low. times_held-opened counts counts' file k j (set ∙ ap (λ (f : Files). record counts { files = f }) (sym (ap (λ (z : Held). z.files) set))) more)
     e f g
 
@@ -164,25 +171,50 @@ pub counted_extended : (old new : OwnerTable) (counts : Held) (n : ℕ) (kind : 
     → owners_of new ≡ remembered n (record { kind = kind; key = key; serial = old.next_serial }) (owners_of old)
     → new.next_owner ≡ old.next_owner → new.next_serial ≡ old.next_serial + 1 → IsCounted new counts
 counted_extended old new counts n kind key s spare high e f g =
-    counted_taken old new counts counts n kind key s spare (inr (inr (inr high))) s.buffers (omega arith)
+    counted_taken old new counts counts n kind key s spare (inr (inr (inr (inr high)))) s.buffers (omega arith) (omega arith)
     (λ k j low. let other : (kind.0 == k.0) ≡ false = ne_eqb kind.0 k.0 (λ z. omega (arith, z, low, high)) in rw other (omega arith))
     e f g
 
--- the same items, with other descriptors
-pub counted_touched : (table : OwnerTable) (counts counts' : Held) → IsCounted table counts → counts'.pins ≡ counts.pins → counts'.references ≡ counts.references → counts'.files.opened ≡ counts.files.opened → counts'.snapshots.registered ≡ counts.snapshots.registered → IsCounted table counts'
-counted_touched table counts counts' s pins references opened registered = record {
+-- a reference to a plan more
+pub counted_referred : (old new : OwnerTable) (counts counts' : Held) (n plan : ℕ) → IsCounted old counts → 1 ≤ spare_of n old → counts' ≡ record counts { plans = counts'.plans }
+    → plans.RefersOneMore counts.plans counts'.plans plan → plans.references counts'.plans ≡ plans.references counts.plans + 1
+    → owners_of new ≡ remembered n (record { kind = record { 0 = 5 }; key = plan; serial = old.next_serial }) (owners_of old)
+    → new.next_owner ≡ old.next_owner → new.next_serial ≡ old.next_serial + 1 → IsCounted new counts'
+counted_referred old new counts counts' n plan s spare is more referred e f g =
+    counted_taken old new counts counts' n (record { 0 = 5 }) plan s spare (inr (inr (inr (inl refl)))) (ap (λ (z : Held). length z.pins) is ∙ s.buffers)
+    (let same : total counts'.references ≡ total counts.references = ap (λ (z : Held). total z.references) is in omega (arith, same))
+    (omega (arith, referred))
+    (λ k j low. times_held-referred counts counts' plan k j is more)
+    e f g
+
+-- the same items, with other descriptors, and as many references to each plan
+counted_alike : (table : OwnerTable) (counts counts' : Held) → IsCounted table counts → counts'.pins ≡ counts.pins → counts'.references ≡ counts.references → counts'.files.opened ≡ counts.files.opened → counts'.snapshots.registered ≡ counts.snapshots.registered
+    → plans.RefersAlike counts.plans counts'.plans → plans.references counts'.plans ≡ plans.references counts.plans → IsCounted table counts'
+counted_alike table counts counts' s pins references opened registered alike referred = record {
   sound = s.sound;
   items = s.items;
   buffers = ap length pins ∙ s.buffers;
-  counted = λ kind key low. times_held-same counts counts' kind key pins references opened registered ∙ s.counted kind key low;
+  counted = λ kind key low. times_held-same counts counts' kind key pins references opened registered alike ∙ s.counted kind key low;
   few = s.few;
   references = omega (arith, ap (λ (z : List ((ℕ × ℕ) × ℕ)). total z) references, s.references);
+  plan_references = omega (arith, referred, s.plan_references);
 }
+
+pub counted_touched : (table : OwnerTable) (counts counts' : Held) → IsCounted table counts → counts'.pins ≡ counts.pins → counts'.references ≡ counts.references → counts'.files.opened ≡ counts.files.opened → counts'.snapshots.registered ≡ counts.snapshots.registered
+    → counts'.plans ≡ counts.plans → IsCounted table counts'
+counted_touched table counts counts' s pins references opened registered same =
+    counted_alike table counts counts' s pins references opened registered (λ q. ap (λ (p : Plans). plans.references_to p q) same) (ap (λ (p : Plans). plans.references p) same)
+
+-- the same items, with other plans
+pub counted_planned : (table : OwnerTable) (counts counts' : Held) → IsCounted table counts → counts' ≡ record counts { plans = counts'.plans }
+    → plans.RefersAlike counts.plans counts'.plans → plans.references counts'.plans ≡ plans.references counts.plans → IsCounted table counts'
+counted_planned table counts counts' s is alike referred =
+    counted_alike table counts counts' s (ap (λ (z : Held). z.pins) is) (ap (λ (z : Held). z.references) is) (ap (λ (z : Held). z.files.opened) is) (ap (λ (z : Held). z.snapshots.registered) is) alike referred
 
 -- the same items, with other active snapshots
 pub counted_stacked : (table : OwnerTable) (counts counts' : Held) (stack : List Active) → IsCounted table counts → counts' ≡ record counts { snapshots = record counts.snapshots { stack = stack } } → IsCounted table counts'
 counted_stacked table counts counts' stack s is =
-    counted_touched table counts counts' s (ap (λ (z : Held). z.pins) is) (ap (λ (z : Held). z.references) is) (ap (λ (z : Held). z.files.opened) is) (ap (λ (z : Held). z.snapshots.registered) is)
+    counted_touched table counts counts' s (ap (λ (z : Held). z.pins) is) (ap (λ (z : Held). z.references) is) (ap (λ (z : Held). z.files.opened) is) (ap (λ (z : Held). z.snapshots.registered) is) (ap (λ (z : Held). z.plans) is)
 
 -- an item fewer
 with_item : (test : Item → Bool) (o : Option Owner) (item : Item) → find test (option_map_or (λ owner. owner.items) o []) ≡ Some item → (a : Owner) × (o ≡ Some a) × (find test a.items ≡ Some item)
@@ -222,10 +254,10 @@ is_counted n kind key item old lending s served found =
 
 pub counted_given : (old new : OwnerTable) (lending lending' : Lending) (n : ℕ) (kind : KindId) (key : ℕ) (item : Item) → IsCounted old lending.held
     → find (is_of kind key) (items_of n (owners_of old)) ≡ Some item
-    → length lending'.held.pins ≡ 1024 → total lending'.held.references ≤ total lending.held.references
+    → length lending'.held.pins ≡ 1024 → total lending'.held.references ≤ total lending.held.references → plans.references lending'.held.plans ≤ plans.references lending.held.plans
     → ((k : KindId) (j : ℕ) → times_lent lending' k j + uses k j (item ∷ []) ≡ times_lent lending k j)
     → owners_of new ≡ forgotten n kind key (owners_of old) → new.next_owner ≡ old.next_owner → new.next_serial ≡ old.next_serial → IsCounted new lending'.held
-counted_given old new lending lending' n kind key item s found buffers references fewer e f g =
+counted_given old new lending lending' n kind key item s found buffers references referred fewer e f g =
     let w = with_item (is_of kind key) (at n (owners_of old)) item found in
     counted new lending'.held (forgotten n kind key (owners_of old)) old.next_owner old.next_serial e f g
     (sound_forgotten n w.0 (is_of kind key) (owners_of old) old.next_owner old.next_serial s.sound w.1)
@@ -233,6 +265,7 @@ counted_given old new lending lending' n kind key item s found buffers reference
     (λ k j low. omega (arith, fewer k j, lent_low lending k j low, lent_low lending' k j low, held_found n kind key item old lending.held s found k j, s.counted k j low))
     (λ k j. omega (arith, held_found n kind key item old lending.held s found k j, s.few k j))
     (omega (arith, references, s.references))
+    (omega (arith, referred, s.plan_references))
 
 -- what a release asks for
 pub asked_counts : (table : OwnerTable) (lending : Lending) (n : ℕ) → IsCounted table lending.held
@@ -244,16 +277,17 @@ asked_counts table lending n s served kind key =
 -- a phase was released
 pub counted_released : (kinds : KindTable) (old new : OwnerTable) (lending lending' : Lending) (n : ℕ) (phase : Phase) → IsCounted old lending.held
     → owners_of new ≡ released kinds phase n (owners_of old) → new.next_owner ≡ old.next_owner → new.next_serial ≡ old.next_serial → length lending'.held.pins ≡ 1024
-    → total lending'.held.references ≤ total lending.held.references
+    → total lending'.held.references ≤ total lending.held.references → plans.references lending'.held.plans ≤ plans.references lending.held.plans
     → ((kind : KindId) (key : ℕ) → times_lent lending' kind key + held kind key (owners_of old) ≡ times_lent lending kind key + held kind key (owners_of new))
     → IsCounted new lending'.held
-counted_released kinds old new lending lending' n phase s e f g buffers references times =
+counted_released kinds old new lending lending' n phase s e f g buffers references referred times =
     counted new lending'.held (released kinds phase n (owners_of old)) old.next_owner old.next_serial e f g
     (sound_released kinds phase n (owners_of old) old.next_owner old.next_serial s.sound)
     (all_swept HoldsCounted (own_released kinds phase) (items_left kinds phase) n (owners_of old) s.items) buffers
     (λ kind key low. omega (arith, times kind key, lent_low lending kind key low, lent_low lending' kind key low, s.counted kind key low, ap (held kind key) e))
     (λ kind key. omega (arith, held_released kind key kinds phase n (owners_of old), s.few kind key))
     (omega (arith, references, s.references))
+    (omega (arith, referred, s.plan_references))
 
 -- an owner without items was discarded
 pub counted_gone : (old new : OwnerTable) (counts : Held) (n : ℕ) → IsCounted old counts → AllAt HoldsNothing n (owners_of old)
@@ -265,4 +299,4 @@ counted_gone old new counts n s empty e f g =
     (items_removed n (owners_of old) s.items) s.buffers
     (λ kind key low. s.counted kind key low ∙ sym (held_removed kind key n (owners_of old) o empty))
     (λ kind key. omega (arith, held_removed kind key n (owners_of old) o empty, s.few kind key))
-    s.references
+    s.references s.plan_references

@@ -10,5 +10,6 @@ pub mod Remembered
 pub mod LockActs
 pub mod OwnPins
 pub mod Stack
+pub mod PlanSteps
 pub mod Stat
 pub mod Classes

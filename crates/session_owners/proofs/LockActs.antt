@@ -12,10 +12,11 @@ use Rattle.lock_shared.specs.Ranked.{beside, least_conflict}
 use Rattle.lock_shared.proofs.BesideLemmas.{beside_stays, conflict_is, conflict_stands}
 use Rattle.lock_local.specs.Locks.{Lock, SessionLocks, OthersStay}
 use Rattle.lock_local.specs.Changes.{acquired, given_back}
+use Rattle.session_rules.specs.State.{StandingPlan}
 use Rattle.session_rules.specs.World.{Scene}
 use Rattle.session_rules.specs.Taking.{lock_taken}
 use Rattle.session_rules.specs.Parts.{lock_given_back}
-use Rattle.session_owners.specs.ResourceState.{OwnerTree, ResourceState, owners_of}
+use Rattle.session_owners.specs.ResourceState.{OwnerTree, ResourceState, owners_of, plans_of}
 use Rattle.session_owners.specs.Commons.{CommonState, pinned_beside}
 use Rattle.session_owners.specs.Fitting.{Acted, OwnersFit, with_owners}
 
@@ -27,15 +28,15 @@ conflict_seen n shared a c o w Refused e f refused s m =
     (λ r. conflict_is c.locks o w a.session s m (now.0 r), λ r. now.1 (conflict_stands c.locks o w a.session s m r))
 
 -- a scene with all that owners, locks and commons show of it
-shown_in : Scene → OwnerTree → ℕ → ℕ → List ℕ → List Lock → List Kind → List Holding → ℕ → List ℕ → List Active → Scene
-shown_in scene owners next_owner next_serial recent locks kinds locked descriptors pinned stack = record scene {
-  session = record scene.session { owners = owners; next_owner = next_owner; next_serial = next_serial; recent = recent; locks = locks; snapshots = stack };
+shown_in : Scene → OwnerTree → ℕ → ℕ → List ℕ → List Lock → List Kind → List Holding → ℕ → List ℕ → List Active → List StandingPlan → Scene
+shown_in scene owners next_owner next_serial recent locks kinds locked descriptors pinned stack plans = record scene {
+  session = record scene.session { owners = owners; next_owner = next_owner; next_serial = next_serial; recent = recent; locks = locks; snapshots = stack; plans = plans };
   around = record scene.around { kinds = kinds; locked = locked; pinned = pinned; descriptors = descriptors };
 }
 
-shown_same : (scene : Scene) (o p : OwnerTree) (m n s t : ℕ) (fs gs : List ℕ) (ls ms : List Lock) (ks js : List Kind) (hs is : List Holding) (d e : ℕ) (us vs : List ℕ) (xs ys : List Active)
-    → o ≡ p → m ≡ n → s ≡ t → fs ≡ gs → ls ≡ ms → ks ≡ js → hs ≡ is → d ≡ e → us ≡ vs → xs ≡ ys → shown_in scene o m s fs ls ks hs d us xs ≡ shown_in scene p n t gs ms js is e vs ys
-shown_same scene o p m n s t fs gs ls ms ks js hs is d e us vs xs ys f g h i j k l q u x = rw (f, g, h, i, j, k, l, q, u, x) refl
+shown_same : (scene : Scene) (o p : OwnerTree) (m n s t : ℕ) (fs gs : List ℕ) (ls ms : List Lock) (ks js : List Kind) (hs is : List Holding) (d e : ℕ) (us vs : List ℕ) (xs ys : List Active) (ps qs : List StandingPlan)
+    → o ≡ p → m ≡ n → s ≡ t → fs ≡ gs → ls ≡ ms → ks ≡ js → hs ≡ is → d ≡ e → us ≡ vs → xs ≡ ys → ps ≡ qs → shown_in scene o m s fs ls ks hs d us xs ps ≡ shown_in scene p n t gs ms js is e vs ys qs
+shown_same scene o p m n s t fs gs ls ms ks js hs is d e us vs xs ys ps qs f g h i j k l q u x y = rw (f, g, h, i, j, k, l, q, u, x, y) refl
 
 -- only the locks of the session became others, and what others hold stays
 pub record LocksAlone (a b : ResourceState) (c d : CommonState) : Type 0 where
@@ -59,11 +60,11 @@ unfolding shown_in
 locks_lead scene ls a b c d alone is fit =
     let seen : beside a.session c.locks ≡ beside b.session d.locks = beside_stays a.session c.locks d.locks alone.others ∙ ap (λ (n : ℕ). beside n d.locks) (sym (ap (λ (r : ResourceState). r.session) alone.alone)) in
     shown_same scene scene.session.owners (owners_of b) scene.session.next_owner b.next_owner scene.session.next_serial b.next_serial scene.session.recent b.recent ls b.locks
-    scene.around.kinds d.kinds scene.around.locked (beside b.session d.locks) scene.around.descriptors b.descriptors scene.around.pinned (pinned_beside (owners_of b) d.pins) scene.session.snapshots b.stack
+    scene.around.kinds d.kinds scene.around.locked (beside b.session d.locks) scene.around.descriptors b.descriptors scene.around.pinned (pinned_beside (owners_of b) d.pins) scene.session.snapshots b.stack scene.session.plans (plans_of b)
     (fit.owners ∙ sym (ap owners_of alone.alone)) (fit.next_owner ∙ sym (ap (λ (r : ResourceState). r.next_owner) alone.alone))
     (fit.next_serial ∙ sym (ap (λ (r : ResourceState). r.next_serial) alone.alone)) (fit.recent ∙ sym (ap (λ (r : ResourceState). r.recent) alone.alone)) is
     (fit.kinds ∙ sym alone.kinds) (fit.locked ∙ seen) (fit.descriptors ∙ sym (ap (λ (r : ResourceState). r.descriptors) alone.alone))
-    (fit.pinned ∙ ap (λ (r : ResourceState). pinned_beside (owners_of r) c.pins) (sym alone.alone) ∙ ap (pinned_beside (owners_of b)) (sym alone.pins)) (fit.snapshots ∙ sym (ap (λ (r : ResourceState). r.stack) alone.alone))
+    (fit.pinned ∙ ap (λ (r : ResourceState). pinned_beside (owners_of r) c.pins) (sym alone.alone) ∙ ap (pinned_beside (owners_of b)) (sym alone.pins)) (fit.snapshots ∙ sym (ap (λ (r : ResourceState). r.stack) alone.alone)) (fit.plans ∙ sym (ap plans_of alone.alone))
 
 pub acted_locked : (o : ℕ) (w : Mode) (n : ℕ) (a b : ResourceState) (c d : CommonState) (Says : List What → Type 0) → LocksAlone a b c d → b.locks ≡ acquired n o w a.locks
     → Says (what.AcquireLock o w n ∷ []) → Acted (lock_taken o w n) a b c d Says

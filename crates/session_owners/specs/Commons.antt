@@ -1,5 +1,5 @@
 -- What the sessions of a run share of resources, and how what one session holds of it stands to it.
-use Rattle.std.specs.Prelude.{◌≡◌, ℕ, ◌+◌, ◌-◌, ◌≤◌, ◌^◌, Bool, if◌then◌else◌, true, List, map, slice_index}
+use Rattle.std.specs.Prelude.{◌≡◌, ℕ, ◌+◌, ◌-◌, ◌≤◌, ◌^◌, Bool, if◌then◌else◌, List, map, slice_index}
 use Rattle.std.specs.List.{list_any}
 use Rattle.lock_shared.specs.declared.shared_locks.Holding.{Holding}
 use Rattle.lock_shared.specs.Ranked.{beside}

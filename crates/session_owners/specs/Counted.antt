@@ -2,6 +2,7 @@
 use Rattle.std.specs.Prelude.{◌≡◌, ◌⊎◌, ℕ, ◌<◌, ◌≤◌, Bool, List, length, All}
 use Rattle.std.specs.List.{list_any}
 use Rattle.counts.specs.Counts.{total}
+use Rattle.plan_store.specs.Plans as plans
 use Rattle.pgs_step.specs.declared.ids.Item.{Item}
 use Rattle.pgs_step.specs.declared.ids.KindId.{KindId}
 use Rattle.pgs_step.specs.declared.ids.Phase.TheVariants.{BeforeLocks, Locks, AfterLocks}
@@ -27,15 +28,15 @@ pub record IsReference (kind : KindId) : Type 0 where
   pub to : kind.0 ≤ 8
   pub unkept : keeper_of kind ≡ NoOne
 
--- an item that is counted: a pin, a reference, an open file, or what an extension kind holds
+-- an item that is counted: a pin, a reference, an open file, a reference to a plan, or what an extension kind holds
 abbrev pub IsHeld : Item → Type 0
-IsHeld item = IsPin item ⊎ (IsReference item.kind ⊎ ((item.kind.0 ≡ 8) ⊎ (16 ≤ item.kind.0)))
+IsHeld item = IsPin item ⊎ (IsReference item.kind ⊎ ((item.kind.0 ≡ 8) ⊎ ((item.kind.0 ≡ 5) ⊎ (16 ≤ item.kind.0))))
 
 abbrev pub HoldsCounted : Owner → Type 0
 HoldsCounted owner = All IsHeld owner.items
 
--- The owners hold pins, references and files, each just as often as it is counted, and what extension kinds hold; of each fewer than
--- serials were given.
+-- The owners hold pins, references, files and references to plans, each just as often as it is counted, and what extension kinds hold; of
+-- each fewer than serials were given.
 pub record IsCounted (table : OwnerTable) (counts : Held) : Type 0 where
   pub sound : IsSoundTable table
   pub items : AllNodes HoldsCounted (owners_of table)
@@ -43,6 +44,7 @@ pub record IsCounted (table : OwnerTable) (counts : Held) : Type 0 where
   pub counted : (kind : KindId) (key : ℕ) → kind.0 < 16 → times_held counts kind key ≡ held kind key (owners_of table)
   pub few : (kind : KindId) (key : ℕ) → held kind key (owners_of table) < table.next_serial
   pub references : total counts.references < table.next_serial
+  pub plan_references : plans.references counts.plans < table.next_serial
 
 -- whether owners hold a file, and the files that they hold
 abbrev pub holds_file : ℕ → OwnerTree → Bool

@@ -1,21 +1,25 @@
 -- What the resources of a session are seen as: its owners, and its files as far as their descriptors go.
-use Rattle.std.specs.Prelude.{◌≡◌, ℕ, List, [], Some, refl}
+use Rattle.std.specs.Prelude.{◌≡◌, ℕ, List, [], map, Option, Some, refl}
 use Rattle.std.specs.Option.{option_map_or}
-use Rattle.std.specs.Coded.{Coded, code_by, coded×, coded_ℕ, coded_list}
+use Rattle.std.specs.Coded.{Coded, code_by, coded×, coded_ℕ, coded_list, coded_option}
 use Rattle.pgs_step.specs.declared.ids.OwnerId.{OwnerId}
 use Rattle.forest.specs.Forest.{Forest, at}
 use Rattle.forest.specs.Code.{forest_code}
 use Rattle.file_table.specs.Files.{Files}
 use Rattle.snap_table.specs.declared.active.Active.{Active}
 use Rattle.snap_table.specs.contracts.active.Active as active
+use Rattle.plan_store.specs.Plans.{Plans}
+use Rattle.plan_store.specs.declared.plan.Plan.{Plan}
+use Rattle.plan_store.specs.contracts.plan.Plan as plan
 use Rattle.lock_local.specs.Locks.{Lock, SessionLocks}
 use Rattle.lock_local.specs.Code.{lock_code}
 use Rattle.owner_core.specs.TableCode.{roomy_code}
+use Rattle.session_rules.specs.State.{StandingPlan}
 pub use Rattle.owner_core.specs.Owners.{Owner, OwnerTree, Roomy, AllAt, HoldsNothing, created, entered, forgotten, has_begun, held, items_of, remembered, tree_of}
 
 -- the owners with their room, where each lies, the numbers that the next owner and the next item get, the files that have a
--- descriptor, the most recently used first, how many descriptors there are, the session's number and its locks, and its active
--- snapshots, the newest last
+-- descriptor, the most recently used first, how many descriptors there are, the session's number and its locks, its active
+-- snapshots, the newest last, and its plans
 pub record ResourceState : Type 0 where
   pub rooms : Forest Roomy
   pub places : Forest ℕ
@@ -26,13 +30,20 @@ pub record ResourceState : Type 0 where
   pub session : ℕ
   pub locks : List Lock
   pub stack : List Active
+  pub plans : Plans
+
+-- the plans as a value
+abbrev pub plans_code : Coded Plans
+plans_code =
+    code_by (List (ℕ × Plan) × Option ℕ) (coded× (coded_list (coded× coded_ℕ plan.the_row.coded)) (coded_option coded_ℕ))
+    (λ p. (p.standing, p.reserved)) (λ p. record { standing = p.0; reserved = p.1 }) (λ _. refl)
 
 abbrev pub resource_code : Coded ResourceState
 resource_code =
-    code_by (Forest Roomy × (Forest ℕ × (ℕ × (ℕ × (List ℕ × (ℕ × (ℕ × (List Lock × List Active))))))))
-    (coded× (forest_code roomy_code) (coded× (forest_code coded_ℕ) (coded× coded_ℕ (coded× coded_ℕ (coded× (coded_list coded_ℕ) (coded× coded_ℕ (coded× coded_ℕ (coded× (coded_list lock_code) (coded_list active.the_row.coded)))))))))
-    (λ r. (r.rooms, (r.places, (r.next_owner, (r.next_serial, (r.recent, (r.descriptors, (r.session, (r.locks, r.stack)))))))))
-    (λ p. record { rooms = p.0; places = p.1.0; next_owner = p.1.1.0; next_serial = p.1.1.1.0; recent = p.1.1.1.1.0; descriptors = p.1.1.1.1.1.0; session = p.1.1.1.1.1.1.0; locks = p.1.1.1.1.1.1.1.0; stack = p.1.1.1.1.1.1.1.1 }) (λ _. refl)
+    code_by (Forest Roomy × (Forest ℕ × (ℕ × (ℕ × (List ℕ × (ℕ × (ℕ × (List Lock × (List Active × Plans)))))))))
+    (coded× (forest_code roomy_code) (coded× (forest_code coded_ℕ) (coded× coded_ℕ (coded× coded_ℕ (coded× (coded_list coded_ℕ) (coded× coded_ℕ (coded× coded_ℕ (coded× (coded_list lock_code) (coded× (coded_list active.the_row.coded) plans_code)))))))))
+    (λ r. (r.rooms, (r.places, (r.next_owner, (r.next_serial, (r.recent, (r.descriptors, (r.session, (r.locks, (r.stack, r.plans))))))))))
+    (λ p. record { rooms = p.0; places = p.1.0; next_owner = p.1.1.0; next_serial = p.1.1.1.0; recent = p.1.1.1.1.0; descriptors = p.1.1.1.1.1.0; session = p.1.1.1.1.1.1.0; locks = p.1.1.1.1.1.1.1.0; stack = p.1.1.1.1.1.1.1.1.0; plans = p.1.1.1.1.1.1.1.1.1 }) (λ _. refl)
 
 -- the owners alone
 abbrev pub owners_of : ResourceState → OwnerTree
@@ -53,3 +64,10 @@ spare_of n state = option_map_or (λ room. room.spare) (at n state.rooms) 0
 -- the files, as far as their descriptors go
 abbrev pub files_of : ResourceState → Files
 files_of state = record { descriptors = state.descriptors; opened = []; recent = state.recent }
+
+-- a plan that stands, by the number of its context, and the plans as the session's rules have them
+abbrev pub plan_state : ℕ × Plan → StandingPlan
+plan_state plan = record { number = plan.0; context = plan.1.context.number; discarded = plan.1.discarded; references = plan.1.references }
+
+abbrev pub plans_of : ResourceState → List StandingPlan
+plans_of state = map plan_state state.plans.standing

@@ -1,5 +1,5 @@
 -- The laws of what the tables do in a release: nothing, an event, and some steps behind others.
-use Rattle.std.specs.Prelude.{◌≡◌, ℕ, List, [], ◌∷◌, ◌++◌}
+use Rattle.std.specs.Prelude.{◌≡◌, ℕ, List, [], ◌∷◌, ◌++◌, map}
 use Rattle.std.proofs.Common.{refl, sym, ap, ◌∙◌, subst, arith}
 use Rattle.std.proofs.lemmas.List.{append_assoc}
 use Rattle.pgs_step.specs.declared.events.What.{What}
@@ -7,9 +7,13 @@ use Rattle.owner_core.specs.Steps.{Step, Said}
 use Rattle.lock_local.specs.Locks.{Lock, SessionLocks, OthersStay}
 use Rattle.lock_shared.specs.declared.shared_locks.Holding.{Holding}
 use Rattle.owner_kinds.specs.Kind.{Kind}
+use Rattle.context_rules.specs.Contexts.{Contexts}
+use Rattle.reset_callbacks.specs.ShelfState.{ShelfState}
+use Rattle.session_rules.specs.State.{StandingPlan}
 use Rattle.session_rules.specs.World.{Scene}
 use Rattle.session_rules.specs.Acts.{Ended, and_then, behind, for_each}
 use Rattle.session_rules.specs.Releases.{step_done}
+use Rattle.session_owners.specs.ResourceState.{plan_state}
 use Rattle.session_owners.specs.Commons.{LocksBalance}
 use Rattle.session_owners.specs.Tables.{Lending, PinsBalance, TablesDo, TablesFit, with_lending, with_tables}
 
@@ -24,14 +28,17 @@ steps_both (step ∷ ss) ts scene =
     ∙ ap (λ (events : List What). record { scene = third.scene; events = events }) (sym (append_assoc first.events second.events third.events))
 
 still_fits : (old new : Lending) (scene : Scene) → TablesFit old scene → TablesFit new (with_lending new scene)
-still_fits old new scene fit = record { recent = refl; kinds = refl; locks = refl; plans = fit.plans }
+still_fits old new scene fit = record { recent = refl; kinds = refl; locks = refl; plans = refl; contexts = refl; shelf = refl }
 
-pub tables_same : (scene : Scene) (fs gs : List ℕ) (ks js : List Kind) (ls ms : List Lock) → fs ≡ gs → ks ≡ js → ls ≡ ms → with_tables fs ks ls scene ≡ with_tables gs js ms scene
-tables_same scene fs gs ks js ls ms e f g = rw (e, f, g) refl
+pub tables_same : (scene : Scene) (fs gs : List ℕ) (ks js : List Kind) (ls ms : List Lock) (ps qs : List StandingPlan) (cs ds : Contexts) (xs ys : ShelfState)
+    → fs ≡ gs → ks ≡ js → ls ≡ ms → ps ≡ qs → cs ≡ ds → xs ≡ ys → with_tables fs ks ls ps cs xs scene ≡ with_tables gs js ms qs ds ys scene
+tables_same scene fs gs ks js ls ms ps qs cs ds xs ys e f g h i j = rw (e, f, g, h, i, j) refl
 
--- the files, kinds and locks of a scene are those that it has
-pub lending_is : (lending : Lending) (scene : Scene) → scene.session.recent ≡ lending.held.files.recent → scene.around.kinds ≡ lending.kinds → scene.session.locks ≡ lending.locks → scene ≡ with_lending lending scene
-lending_is lending scene recent kinds locks = tables_same scene scene.session.recent lending.held.files.recent scene.around.kinds lending.kinds scene.session.locks lending.locks recent kinds locks
+-- what a scene has of what is lent is what is lent
+pub lending_is : (lending : Lending) (scene : Scene) → TablesFit lending scene → scene ≡ with_lending lending scene
+lending_is lending scene fit =
+    tables_same scene scene.session.recent lending.held.files.recent scene.around.kinds lending.kinds scene.session.locks lending.locks scene.session.plans (map plan_state lending.held.plans.standing)
+    scene.session.contexts lending.contexts scene.around.shelf lending.shelf fit.recent fit.kinds fit.locks fit.plans fit.contexts fit.shelf
 
 -- nothing is done to locks, and one thing behind another
 pub LocksBalance-nothing : (a : SessionLocks) (c : List Holding) → LocksBalance a a c c
@@ -54,21 +61,25 @@ PinsBalance-more a b e c d f p q buffer = omega (arith, p buffer, q buffer)
 
 pub TablesDo-nothing : (a : Lending) → TablesDo a [] [] a
 TablesDo-nothing a = record {
-  leads = λ scene fit. lending_is a scene fit.recent fit.kinds fit.locks;
+  leads = λ scene fit. lending_is a scene fit;
   says = λ scene fit. refl;
   descriptors = refl;
   stack = refl;
   fewer = omega arith;
+  fewer_plans = omega arith;
+  left = λ id here. here;
   limits = refl;
 }
 
 pub TablesDo-said : (a : Lending) (event : What) → TablesDo a (Said event ∷ []) (event ∷ []) a
 TablesDo-said a event = record {
-  leads = λ scene fit. lending_is a scene fit.recent fit.kinds fit.locks;
+  leads = λ scene fit. lending_is a scene fit;
   says = λ scene fit. refl;
   descriptors = refl;
   stack = refl;
   fewer = omega arith;
+  fewer_plans = omega arith;
+  left = λ id here. here;
   limits = refl;
 }
 
@@ -87,5 +98,7 @@ TablesDo-more a b c ss ts both xs ys all p q e f =
       descriptors = q.descriptors ∙ p.descriptors;
       stack = q.stack ∙ p.stack;
       fewer = omega (arith, p.fewer, q.fewer);
+      fewer_plans = omega (arith, p.fewer_plans, q.fewer_plans);
+      left = λ id here. p.left id (q.left id here);
       limits = q.limits ∙ p.limits;
     }))

@@ -4,10 +4,13 @@
 
 mod commons;
 mod lent;
+mod place;
+mod plans;
 mod resources;
 mod tables;
 
 pub use commons::Commons;
+pub use place::PlanContexts;
 pub use resources::Resources;
 
 #[cfg(test)]

@@ -1,11 +1,14 @@
-//! The owners of a session together with the tables of what they hold.
-ghost use Rattle.std.specs.Prelude.{◌≡◌, ◌↔◌, ◌≢◌, ℕ, ◌+◌, ◌-◌, ◌<◌, ◌≤◌, ◌^◌, ◌==◌, true, false, [], ◌∷◌, find, length, slice_get, IfErr, IfOk, IfSome, IsErr, IsErrOf, IsOkUnless, OnOk, OnErr, Some, None};
+//! The owners of a session together with the tables of what they hold, and its plans.
+ghost use Rattle.std.specs.Prelude.{◌≡◌, ◌↔◌, ◌≢◌, ◌⊎◌, ℕ, ◌+◌, ◌-◌, ◌<◌, ◌≤◌, ◌^◌, ◌==◌, true, false, not, [], ◌∷◌, ◌++◌, find, is_some, length, slice_get, IfErr, IfOk, IfSome, IsErr, IsErrOf, IsOkUnless, OnOk, OnErr, Some, None};
 ghost use Rattle.std.specs.Option.{option_map, option_map_or, ok_or};
 ghost use Rattle.forest.specs.Forest.{Empty, has, at, size, parent_of, removed, AllNodes};
 ghost use Rattle.owner_items.specs.ItemList.{is_of};
 ghost use Rattle.owner_core.specs.Sound.{IsSound};
 ghost use Rattle.owner_core.specs.Released.{released};
-ghost use Rattle.session_rules.specs.State.{buffer_pin, file_kind};
+ghost use Rattle.plan_store.specs.Plans.{is_usable, plan_of};
+ghost use Rattle.session_rules.specs.State.{buffer_pin, file_kind, plan_reference};
+ghost use Rattle.session_rules.specs.Lookup.{plan_at};
+ghost use Rattle.session_rules.specs.Acts.{nothing};
 ghost use Rattle.session_rules.specs.Making.{owner_made};
 ghost use Rattle.session_rules.specs.Counts.{counts};
 ghost use Rattle.session_rules.specs.Ends.{stack_lowered, stack_popped};
@@ -22,27 +25,30 @@ ghost use Rattle.owner_kinds.specs.Kind.{IsFull};
 ghost use Rattle.owner_kinds.specs.KindShelf.{table_of};
 ghost use Rattle.owner_kinds.specs.KindTable.{IsExtension};
 ghost use Rattle.session_owners.specs.Counted.{HoldsCounted, IsReference, all_released, files_held, holds_file};
-ghost use Rattle.session_owners.specs.ResourceState.{owners_of, IsLive, has_begun, items_of, spare_of, created, entered, forgotten, remembered, AllAt, HoldsNothing};
+ghost use Rattle.session_owners.specs.ResourceState.{owners_of, IsLive, has_begun, items_of, plans_of, spare_of, created, entered, forgotten, remembered, AllAt, HoldsNothing};
 ghost use Rattle.session_owners.specs.Commons.{Balances, CommonState, Serves};
-ghost use Rattle.session_owners.specs.Fitting.{Acted, OwnersFit};
+ghost use Rattle.session_owners.specs.Fitting.{hosting_of, Acted, ActedOn, OwnersFit};
+ghost use Rattle.session_owners.specs.Placing.{plan_added, plan_dropped, AreLeft, PlansFit};
 
 use crate::commons::Commons;
 use crate::lent::Lent;
+use crate::place::PlanContexts;
 use crate::tables::Tables;
 use file_table::FileError;
 use lock_local::{LockError, LockTable};
 use owner_core::{OwnerError, Owners, Release};
 use owner_kinds::{ExtKind, KindError};
-use pgs_step::{Emit, Item, KindId, Mode, OwnerId, Phase, SessionCounts};
+use pgs_step::{CtxId, Emit, Item, KindId, Mode, OwnerId, Phase, SessionCounts};
+use plan_store::PlanError;
 use snap_table::SnapError;
 use std::alloc::{AllocError, Global};
 use std::marker::Model;
 
-/// The resource owners of a session, the counts of the pins, references and files that they hold, its locks and its active
-/// snapshots.
+/// The resource owners of a session, the counts of the pins, references and files that they hold, its locks, its active
+/// snapshots and its plans.
 ///
-/// Contracts see it as the owners, the files that have a descriptor, how many can have one, the locks, and the stack of active
-/// snapshots: the tables count each item just as often as the owners hold it. Each call that says something is an act of the session's rules, at each scene with these
+/// Contracts see it as the owners, the files that have a descriptor, how many can have one, the locks, the stack of active
+/// snapshots, and the plans: the tables count each item just as often as the owners hold it. Each call that says something is an act of the session's rules, at each scene with these
 /// owners and files.
 #[derive(Drop)]
 pub struct Resources {
@@ -60,17 +66,17 @@ impl Model for Resources {
 
     ghost use Rattle.session_owners.specs.Counted.{IsCounted};
 
-    ghost view = { λ r. record { rooms = r.owners.rooms; places = r.owners.places; next_owner = r.owners.next_owner; next_serial = r.owners.next_serial; recent = r.tables.files.recent; descriptors = r.tables.files.descriptors; session = r.locks.session; locks = r.locks.locks; stack = r.tables.snapshots.stack } };
+    ghost view = { λ r. record { rooms = r.owners.rooms; places = r.owners.places; next_owner = r.owners.next_owner; next_serial = r.owners.next_serial; recent = r.tables.files.recent; descriptors = r.tables.files.descriptors; session = r.locks.session; locks = r.locks.locks; stack = r.tables.snapshots.stack; plans = r.tables.plans } };
 
     ghost invariant = { λ r. IsCounted r.owners r.tables };
 }
 
 impl Resources {
-    /// No owner, no buffer is pinned, no reference and no lock is held, no file is open and no snapshot is active, and this many
-    /// files can have a descriptor. It is the session of this number that will hold the locks. It fails for want of memory alone.
+    /// No owner, no buffer is pinned, no reference and no lock is held, no file is open, no snapshot is active and no plan stands,
+    /// and this many files can have a descriptor. It is the session of this number that will hold the locks. It fails for want of memory alone.
     pub fn new(alloc: Global, session: u8, descriptors: u8) -> Result<Resources, AllocError>
         requires descriptors { 0 < descriptors }
-        ensures begins { IfOk result (λ resources. resources ≡ record { rooms = Empty; places = Empty; next_owner = 1; next_serial = 1; recent = []; descriptors = descriptors; session = session; locks = []; stack = [] }) }
+        ensures begins { IfOk result (λ resources. resources ≡ record { rooms = Empty; places = Empty; next_owner = 1; next_serial = 1; recent = []; descriptors = descriptors; session = session; locks = []; stack = []; plans = record { standing = []; reserved = None } }) }
     {
         Ok(Resources {
             owners: Owners::new(alloc),
@@ -96,6 +102,7 @@ impl Resources {
         ensures owners { OnOk result (owners_of self.new ≡ created (option_map (λ p. p.number) parent) self.old.next_owner (owners_of self.old)) }
         ensures places { IfOk result (λ owner. self.new.places ≡ entered (option_map (λ p. p.number) parent) owner.number owner.slot self.old.places) }
         ensures stack { self.new.stack ≡ self.old.stack }
+        ensures plans { self.new.plans ≡ self.old.plans }
         ensures next_owner { OnOk result (self.new.next_owner ≡ self.old.next_owner + 1) }
         ensures next_serial { self.new.next_serial ≡ self.old.next_serial }
         ensures acted { OnOk result ((commons : CommonState) → Acted (owner_made (option_map (λ p. p.number) parent)) self.old self.new commons commons (λ events. E.emits out.old events out.new)) }
@@ -127,6 +134,7 @@ impl Resources {
         ensures descriptors { self.new.descriptors ≡ self.old.descriptors }
         ensures locks { self.new.locks ≡ self.old.locks }
         ensures stack { self.new.stack ≡ self.old.stack }
+        ensures plans { self.new.plans ≡ self.old.plans }
         ensures balances { (commons : CommonState) → Balances self.old self.new commons commons }
         ensures releasing { (result ≡ Err OwnerError.Releasing) ↔ (has_begun owner.number (owners_of self.old) ≡ true) }
         ensures refused { OnErr result (self.new ≡ self.old) }
@@ -156,6 +164,7 @@ impl Resources {
         ensures owners { owners_of self.new ≡ remembered owner.number (record { kind = buffer_pin; key = buffer; serial = self.old.next_serial }) (owners_of self.old) }
         ensures places { self.new.places ≡ self.old.places }
         ensures stack { self.new.stack ≡ self.old.stack }
+        ensures plans { self.new.plans ≡ self.old.plans }
         ensures next_owner { self.new.next_owner ≡ self.old.next_owner }
         ensures next_serial { self.new.next_serial ≡ self.old.next_serial + 1 }
         ensures acted { Acted (item_taken owner.number buffer_pin buffer) self.old self.new commons.old commons.new (λ events. E.emits out.old events out.new) }
@@ -194,6 +203,7 @@ impl Resources {
         ensures owners { OnOk result (owners_of self.new ≡ remembered owner.number (record { kind = class; key = key; serial = self.old.next_serial }) (owners_of self.old)) }
         ensures places { self.new.places ≡ self.old.places }
         ensures stack { self.new.stack ≡ self.old.stack }
+        ensures plans { self.new.plans ≡ self.old.plans }
         ensures next_owner { self.new.next_owner ≡ self.old.next_owner }
         ensures next_serial { OnOk result (self.new.next_serial ≡ self.old.next_serial + 1) }
         ensures acted { OnOk result ((commons : CommonState) → Acted (item_taken owner.number class key) self.old self.new commons commons (λ events. E.emits out.old events out.new)) }
@@ -224,6 +234,7 @@ impl Resources {
         ensures owners { OnOk result (owners_of self.new ≡ remembered owner.number (record { kind = file_kind; key = file; serial = self.old.next_serial }) (owners_of self.old)) }
         ensures places { self.new.places ≡ self.old.places }
         ensures stack { self.new.stack ≡ self.old.stack }
+        ensures plans { self.new.plans ≡ self.old.plans }
         ensures acted { OnOk result ((commons : CommonState) → Acted (item_taken owner.number file_kind file) self.old self.new commons commons (λ events. E.emits out.old events out.new)) }
         ensures balances { (commons : CommonState) → Balances self.old self.new commons commons }
         ensures too_many { (result ≡ Err FileError.TooMany) ↔ (4096 ≤ length (files_held (owners_of self.old))) }
@@ -245,6 +256,7 @@ impl Resources {
         ensures owners { owners_of self.new ≡ owners_of self.old }
         ensures places { self.new.places ≡ self.old.places }
         ensures stack { self.new.stack ≡ self.old.stack }
+        ensures plans { self.new.plans ≡ self.old.plans }
         ensures acted { OnOk result ((commons : CommonState) → Acted (descriptor_given file) self.old self.new commons commons (λ events. E.emits out.old events out.new)) }
         ensures balances { (commons : CommonState) → Balances self.old self.new commons commons }
         ensures causes { IfErr result (λ error. error ≡ FileError.Memory) }
@@ -282,6 +294,7 @@ impl Resources {
         ensures owners { OnOk result (owners_of self.new ≡ remembered owner.number (record { kind = kind; key = key; serial = self.old.next_serial }) (owners_of self.old)) }
         ensures places { self.new.places ≡ self.old.places }
         ensures stack { self.new.stack ≡ self.old.stack }
+        ensures plans { self.new.plans ≡ self.old.plans }
         ensures next_owner { self.new.next_owner ≡ self.old.next_owner }
         ensures next_serial { OnOk result (self.new.next_serial ≡ self.old.next_serial + 1) }
         ensures acted { OnOk result (Acted (item_taken owner.number kind key) self.old self.new commons.old commons.new (λ events. E.emits out.old events out.new)) }
@@ -355,16 +368,18 @@ impl Resources {
     /// The owner forgets its newest item of this kind and key, and that is given back: `ResourceOwnerForget`.
     ///
     /// `Releasing` comes where the owner's release has begun, else `NotOwned` where it has no such item.
-    pub fn give_back<K: ExtKind, E: Emit>(
+    pub fn give_back<K: ExtKind, P: PlanContexts, E: Emit>(
         &mut self,
         owner: OwnerId,
         kind: KindId,
         key: u32,
+        place: &mut P,
         commons: &mut Commons<K>,
         out: &mut E,
     ) -> Result<Item, OwnerError>
         requires live { IsLive self.old owner }
         requires serves { Serves self.old commons.old }
+        requires fit { PlansFit (P.MayGo place.old) self.old.plans.standing }
         ensures item { has_begun owner.number (owners_of self.old) ≡ false → result ≡ ok_or (find (is_of kind key) (items_of owner.number (owners_of self.old))) OwnerError.NotOwned }
         ensures releasing { has_begun owner.number (owners_of self.old) ≡ true → result ≡ Err OwnerError.Releasing }
         ensures others { (other : ℕ) → other ≢ owner.number → spare_of other self.new ≡ spare_of other self.old }
@@ -374,11 +389,15 @@ impl Resources {
         ensures next_owner { self.new.next_owner ≡ self.old.next_owner }
         ensures next_serial { self.new.next_serial ≡ self.old.next_serial }
         ensures descriptors { self.new.descriptors ≡ self.old.descriptors }
-        ensures acted { OnOk result (Acted (item_released owner.number kind key) self.old self.new commons.old commons.new (λ events. E.emits out.old events out.new)) }
+        ensures acted { OnOk result (ActedOn (item_released owner.number kind key) self.old self.new (hosting_of (P.contexts place.old) (P.shelf place.old)) (hosting_of (P.contexts place.new) (P.shelf place.new)) commons.old commons.new (λ events. E.emits out.old events out.new)) }
         ensures balances { Balances self.old self.new commons.old commons.new }
         ensures serves { Serves self.new commons.new }
+        ensures went { P.went place.old place.new }
+        ensures fit { PlansFit (P.MayGo place.new) self.new.plans.standing }
+        ensures left { AreLeft self.old.plans.standing self.new.plans.standing }
         ensures refused { OnErr result (self.new ≡ self.old) }
         ensures untouched { OnErr result (commons.new ≡ commons.old) }
+        ensures place { OnErr result (place.new ≡ place.old) }
         ensures silent { OnErr result (out.new ≡ out.old) }
     {
         let item = match self.owners.forget(owner, kind, key, out) {
@@ -391,6 +410,7 @@ impl Resources {
             locks: &mut self.locks,
             shared: &mut commons.locks,
             pins: &mut commons.pins,
+            place,
         };
         lent.give_back(item, out);
         Ok(item)
@@ -401,53 +421,63 @@ impl Resources {
     ///
     /// `top` says that the owner is the topmost one. At commit each item's release stands behind its warning. It
     /// takes no memory.
-    pub fn release<K: ExtKind, E: Emit>(
+    pub fn release<K: ExtKind, P: PlanContexts, E: Emit>(
         &mut self,
         owner: OwnerId,
         commit: bool,
         top: bool,
+        place: &mut P,
         commons: &mut Commons<K>,
         out: &mut E,
     )
         requires live { IsLive self.old owner }
         requires top { (top ≡ true) ↔ (parent_of owner.number (owners_of self.old) ≡ None) }
         requires serves { Serves self.old commons.old }
+        requires fit { PlansFit (P.MayGo place.old) self.old.plans.standing }
         ensures owners { owners_of self.new ≡ all_released (table_of commons.old.kinds) owner.number (owners_of self.old) }
         ensures nothing_left { AllAt HoldsNothing owner.number (owners_of self.new) }
         ensures places { self.new.places ≡ self.old.places }
         ensures stack { self.new.stack ≡ self.old.stack }
         ensures next_owner { self.new.next_owner ≡ self.old.next_owner }
         ensures next_serial { self.new.next_serial ≡ self.old.next_serial }
-        ensures acted { Acted (owner_released commit top owner.number) self.old self.new commons.old commons.new (λ events. E.emits out.old events out.new) }
+        ensures acted { ActedOn (owner_released commit top owner.number) self.old self.new (hosting_of (P.contexts place.old) (P.shelf place.old)) (hosting_of (P.contexts place.new) (P.shelf place.new)) commons.old commons.new (λ events. E.emits out.old events out.new) }
         ensures balances { Balances self.old self.new commons.old commons.new }
         ensures serves { Serves self.new commons.new }
+        ensures went { P.went place.old place.new }
+        ensures fit { PlansFit (P.MayGo place.new) self.new.plans.standing }
+        ensures left { AreLeft self.old.plans.standing self.new.plans.standing }
     {
-        self.release_phase(owner, Phase::BeforeLocks, commit, top, commons, out);
-        self.release_phase(owner, Phase::Locks, commit, top, commons, out);
-        self.release_phase(owner, Phase::AfterLocks, commit, top, commons, out);
+        self.release_phase(owner, Phase::BeforeLocks, commit, top, place, commons, out);
+        self.release_phase(owner, Phase::Locks, commit, top, place, commons, out);
+        self.release_phase(owner, Phase::AfterLocks, commit, top, place, commons, out);
     }
 
     /// Releases a phase of the owner and of all below it.
-    fn release_phase<K: ExtKind, E: Emit>(
+    fn release_phase<K: ExtKind, P: PlanContexts, E: Emit>(
         &mut self,
         owner: OwnerId,
         phase: Phase,
         commit: bool,
         top: bool,
+        place: &mut P,
         commons: &mut Commons<K>,
         out: &mut E,
     )
         requires live { IsLive self.old owner }
         requires top { (top ≡ true) ↔ (parent_of owner.number (owners_of self.old) ≡ None) }
         requires serves { Serves self.old commons.old }
+        requires fit { PlansFit (P.MayGo place.old) self.old.plans.standing }
         ensures owners { owners_of self.new ≡ released (table_of commons.old.kinds) phase owner.number (owners_of self.old) }
         ensures places { self.new.places ≡ self.old.places }
         ensures stack { self.new.stack ≡ self.old.stack }
         ensures next_owner { self.new.next_owner ≡ self.old.next_owner }
         ensures next_serial { self.new.next_serial ≡ self.old.next_serial }
-        ensures acted { Acted (phase_released commit top owner.number phase) self.old self.new commons.old commons.new (λ events. E.emits out.old events out.new) }
+        ensures acted { ActedOn (phase_released commit top owner.number phase) self.old self.new (hosting_of (P.contexts place.old) (P.shelf place.old)) (hosting_of (P.contexts place.new) (P.shelf place.new)) commons.old commons.new (λ events. E.emits out.old events out.new) }
         ensures balances { Balances self.old self.new commons.old commons.new }
         ensures serves { Serves self.new commons.new }
+        ensures went { P.went place.old place.new }
+        ensures fit { PlansFit (P.MayGo place.new) self.new.plans.standing }
+        ensures left { AreLeft self.old.plans.standing self.new.plans.standing }
     {
         let mut lent = Lent {
             tables: &mut self.tables,
@@ -455,6 +485,7 @@ impl Resources {
             locks: &mut self.locks,
             shared: &mut commons.locks,
             pins: &mut commons.pins,
+            place,
         };
         self.owners
             .release(owner, phase, commit, top, &mut lent, out);
@@ -467,12 +498,102 @@ impl Resources {
         ensures owners { owners_of self.new ≡ removed owner.number (owners_of self.old) }
         ensures stays { (other : ℕ) → has other (owners_of self.new) ≡ true → at other self.new.places ≡ at other self.old.places }
         ensures stack { self.new.stack ≡ self.old.stack }
+        ensures plans { self.new.plans ≡ self.old.plans }
         ensures next_owner { self.new.next_owner ≡ self.old.next_owner }
         ensures next_serial { self.new.next_serial ≡ self.old.next_serial }
         ensures acted { (commons : CommonState) → Acted (owner_gone owner.number) self.old self.new commons commons (λ events. E.emits out.old events out.new) }
         ensures balances { (commons : CommonState) → Balances self.old self.new commons commons }
     {
         self.owners.discard(owner, out);
+    }
+
+    /// Takes the room for a plan of a number that no plan has, so that `make_plan` can't fail.
+    ///
+    /// `TooMany` comes exactly where 1,024 plans stand, else `Memory` where memory is refused.
+    pub fn reserve_plan(&mut self, plan: u32) -> Result<(), PlanError>
+        requires new { plan_of self.old.plans plan ≡ None }
+        ensures reserved { OnOk result (self.new ≡ record self.old { plans = record self.old.plans { reserved = Some plan } }) }
+        ensures acted { (commons : CommonState) → Acted nothing self.old self.new commons commons (λ events. events ≡ []) }
+        ensures balances { (commons : CommonState) → Balances self.old self.new commons commons }
+        ensures too_many { (result ≡ Err PlanError.TooMany) ↔ (1024 ≤ length self.old.plans.standing) }
+        ensures causes { IfErr result (λ error. (error ≡ PlanError.TooMany) ⊎ (error ≡ PlanError.Memory)) }
+        ensures refused { OnErr result (self.new ≡ self.old) }
+    {
+        self.tables.reserve_plan(plan)
+    }
+
+    /// Makes the plan for which room is reserved, whose memory context this is: PostgreSQL's `CreateCachedPlan`.
+    pub fn make_plan(&mut self, plan: u32, context: CtxId)
+        requires reserved { self.old.plans.reserved ≡ Some plan }
+        ensures made { self.new ≡ record self.old { plans = record { standing = self.old.plans.standing ++ (plan, record { context = context; discarded = false; references = 0 }) ∷ []; reserved = None } } }
+        ensures acted { (commons : CommonState) → Acted (plan_added plan context.number) self.old self.new commons commons (λ events. events ≡ []) }
+        ensures balances { (commons : CommonState) → Balances self.old self.new commons commons }
+    {
+        self.tables.make_plan(plan, context);
+    }
+
+    /// Takes a reference to a plan that isn't discarded, and the owner remembers it, in room that `enlarge` has made:
+    /// `GetCachedPlan` for an owner.
+    ///
+    /// It fails for want of memory alone.
+    pub fn reference_plan<E: Emit>(
+        &mut self,
+        owner: OwnerId,
+        plan: u32,
+        out: &mut E,
+    ) -> Result<(), AllocError>
+        requires live { IsLive self.old owner }
+        requires spare { 1 ≤ spare_of owner.number self.old }
+        requires not_begun { has_begun owner.number (owners_of self.old) ≡ false }
+        requires usable { is_usable self.old.plans plan ≡ true }
+        requires serial { self.old.next_serial < 2 ^ 62 }
+        ensures others { (other : ℕ) → other ≢ owner.number → spare_of other self.new ≡ spare_of other self.old }
+        ensures owners { OnOk result (owners_of self.new ≡ remembered owner.number (record { kind = plan_reference; key = plan; serial = self.old.next_serial }) (owners_of self.old)) }
+        ensures places { self.new.places ≡ self.old.places }
+        ensures stack { self.new.stack ≡ self.old.stack }
+        ensures next_owner { self.new.next_owner ≡ self.old.next_owner }
+        ensures next_serial { OnOk result (self.new.next_serial ≡ self.old.next_serial + 1) }
+        ensures acted { OnOk result ((commons : CommonState) → Acted (item_taken owner.number plan_reference plan) self.old self.new commons commons (λ events. E.emits out.old events out.new)) }
+        ensures balances { (commons : CommonState) → Balances self.old self.new commons commons }
+        ensures left { AreLeft self.old.plans.standing self.new.plans.standing }
+        ensures refused { OnErr result (self.new ≡ self.old) }
+        ensures silent { OnErr result (out.new ≡ out.old) }
+    {
+        self.tables.reference_plan(plan)?;
+        self.owners
+            .remember(owner, KindId::PLAN_REFERENCE, plan, out);
+        Ok(())
+    }
+
+    /// Discards a plan: `DropCachedPlan`. It takes no new reference then, and goes with its last one, together with its memory
+    /// context: at once where none is held. It takes no memory.
+    pub fn drop_plan<P: PlanContexts, E: Emit>(&mut self, plan: u32, place: &mut P, out: &mut E)
+        requires usable { is_usable self.old.plans plan ≡ true }
+        requires fit { PlansFit (P.MayGo place.old) self.old.plans.standing }
+        ensures plans_alone { self.new ≡ record self.old { plans = self.new.plans } }
+        ensures acted { (commons : CommonState) → ActedOn (plan_dropped plan) self.old self.new (hosting_of (P.contexts place.old) (P.shelf place.old)) (hosting_of (P.contexts place.new) (P.shelf place.new)) commons commons (λ events. E.emits out.old events out.new) }
+        ensures balances { (commons : CommonState) → Balances self.old self.new commons commons }
+        ensures went { P.went place.old place.new }
+        ensures fit { PlansFit (P.MayGo place.new) self.new.plans.standing }
+        ensures left { AreLeft self.old.plans.standing self.new.plans.standing }
+    {
+        self.tables.drop_plan(plan, place, out);
+    }
+
+    /// Whether a plan of that number stands, discarded or not.
+    pub fn has_plan(&self, plan: u32) -> bool
+        ensures kept { result ≡ is_some (plan_of self.now.plans plan) }
+        ensures standing { result ≡ is_some (plan_at plan (plans_of self.now)) }
+    {
+        self.tables.has_plan(plan)
+    }
+
+    /// Whether a plan of that number stands that isn't discarded, so that it can be referred to.
+    pub fn can_refer(&self, plan: u32) -> bool
+        ensures usable { result ≡ is_usable self.now.plans plan }
+        ensures standing { result ≡ option_map_or (λ p. not p.discarded) (plan_at plan (plans_of self.now)) false }
+    {
+        self.tables.can_refer(plan)
     }
 
     /// Puts a snapshot of a level on the stack of active ones: `PushActiveSnapshot`. It fails for want of memory alone.
@@ -525,7 +646,7 @@ impl Resources {
         self.tables.lower_stack(level);
     }
 
-    /// What the session holds, as the command `stat` shows it, where it has so many contexts and no plan.
+    /// What the session holds, as the command `stat` shows it, where it has so many contexts.
     pub fn counts(&self, contexts: u64) -> SessionCounts
         ensures { (commons : CommonState) (scene : Scene) → OwnersFit self.now commons scene → size scene.session.contexts ≡ contexts → result ≡ counts scene.session }
     {
@@ -536,7 +657,7 @@ impl Resources {
             descriptors,
             locks: self.locks.distinct(),
             snapshots: self.tables.different_snapshots(),
-            plans: 0,
+            plans: self.tables.standing_plans(),
             refs: self.tables.referenced(),
             owners: self.owners.count(),
             contexts,

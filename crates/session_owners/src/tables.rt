@@ -1,5 +1,5 @@
-//! How often a session pins each buffer and holds each reference, its open files, and its snapshots.
-ghost use Rattle.std.specs.Prelude.{◌≡◌, ◌≢◌, ◌↔◌, ◌<◌, ◌≤◌, ◌+◌, ◌-◌, ◌^◌, ◌==◌, ◌&&◌, if◌then◌else◌, [], ◌∷◌, ◌++◌, ℕ, nat_lt, List, false, length, map, reverse, count_by, slice_index, slice_set, replicate, IsTrue, IsOk, IfOk, OnOk, OnErr};
+//! How often a session pins each buffer and holds each reference, its open files, its snapshots and its plans.
+ghost use Rattle.std.specs.Prelude.{◌≡◌, ◌≢◌, ◌↔◌, ◌⊎◌, ◌<◌, ◌≤◌, ◌+◌, ◌-◌, ◌^◌, ◌==◌, ◌&&◌, if◌then◌else◌, [], ◌∷◌, ◌++◌, ℕ, nat_lt, List, true, false, length, map, reverse, count_by, is_some, slice_index, slice_set, replicate, IsTrue, IsOk, IfErr, IfOk, OnOk, OnErr, None, Some};
 ghost use Rattle.std.specs.Ordering.{nat_cmp, eq_by_cmp};
 ghost use Rattle.std.specs.BTreeMap.{is_at};
 ghost use Rattle.std.specs.Set.{distinct_count};
@@ -11,6 +11,11 @@ ghost use Rattle.owner_core.specs.Steps.{GivesBack};
 ghost use Rattle.owner_kinds.specs.Kind.{Kind as ExtensionKind};
 ghost use Rattle.session_owners.specs.Tables.{is_class, lending_of, times_held, ArePinsShared, PinsBalance, TablesDo};
 ghost use Rattle.session_owners.specs.Counted.{IsReference};
+ghost use Rattle.session_rules.specs.Lookup.{plan_changed};
+ghost use Rattle.session_owners.specs.ResourceState.{plan_state};
+ghost use Rattle.session_owners.specs.Fitting.{hosting_of};
+ghost use Rattle.session_owners.specs.Placing.{plan_dropped, AreLeft, PlansDo, PlansFit};
+ghost use Rattle.plan_store.specs.Plans.{is_usable, plan_of, references, RefersAlike, RefersOneMore};
 ghost use Rattle.lock_local.specs.Locks.{Lock};
 ghost use Rattle.ref_table.specs.References.{pair_cmp};
 ghost use Rattle.snap_table.specs.declared.active.Active.{Active};
@@ -18,21 +23,25 @@ ghost use Rattle.snap_table.specs.Snapshots.{kept_below, lowered, pops, snapshot
 ghost use Rattle.file_table.specs.Descriptors.{is_among};
 ghost use Rattle.file_table.specs.Files.{IsSound, OpensOneLess, OpensOneMore, closed_file, closing_events, opened_file, opening_events, opens, touch_events, touched_file};
 
+use crate::place::PlanContexts;
+use crate::plans;
 use file_table::{FileError, FileTable};
-use pgs_step::{Emit, Item, KindId};
+use pgs_step::{CtxId, Emit, Item, KindId};
 use pin_table::{BUFFERS, SharedPins};
+use plan_store::{PlanError, PlanStore};
 use ref_table::RefTable;
 use snap_table::{SnapError, SnapTable};
 use std::alloc::{AllocError, Global};
 use std::marker::Model;
 
-/// The session's counts of pins of each buffer and of references, its open files, and its snapshots.
+/// The session's counts of pins of each buffer and of references, its open files, its snapshots, and its plans.
 #[derive(Drop)]
 pub(crate) struct Tables {
     pins: Vec<u64>,
     references: RefTable,
     files: FileTable,
     snapshots: SnapTable,
+    plans: PlanStore,
 }
 
 impl Model for Tables {
@@ -44,20 +53,21 @@ impl Model for Tables {
 
     ghost coded = { held_code };
 
-    ghost view = { λ t. record { pins = t.pins.items; references = t.references; files = t.files; snapshots = t.snapshots } };
+    ghost view = { λ t. record { pins = t.pins.items; references = t.references; files = t.files; snapshots = t.snapshots; plans = t.plans } };
 
     ghost invariant = { λ t. (vec_len t.pins ≡ 1024) × AreOfClasses t.references };
 }
 
 impl Tables {
-    /// No buffer is pinned, no reference is held, no file is open and there is no snapshot, and this many files can have a
-    /// descriptor. It fails for want of memory alone.
+    /// No buffer is pinned, no reference is held, no file is open, there is no snapshot and no plan, and this many files can
+    /// have a descriptor. It fails for want of memory alone.
     pub(crate) fn new(alloc: Global, descriptors: u8) -> Result<Tables, AllocError>
         requires descriptors { 0 < descriptors }
         ensures pins { IfOk result (λ tables. tables.pins ≡ replicate 1024 0) }
         ensures references { IfOk result (λ tables. tables.references ≡ []) }
         ensures files { IfOk result (λ tables. tables.files ≡ record { descriptors = descriptors; opened = []; recent = [] }) }
         ensures snapshots { IfOk result (λ tables. tables.snapshots ≡ record { registered = []; stack = [] }) }
+        ensures plans { IfOk result (λ tables. tables.plans ≡ record { standing = []; reserved = None }) }
     {
         let files = match FileTable::new(alloc, descriptors) {
             Ok(files) => files,
@@ -68,6 +78,7 @@ impl Tables {
             references: RefTable::new(alloc),
             files,
             snapshots: SnapTable::new(alloc),
+            plans: PlanStore::new(alloc),
         })
     }
 
@@ -107,6 +118,7 @@ impl Tables {
         ensures pins { self.new.pins ≡ self.old.pins }
         ensures files { self.new.files ≡ self.old.files }
         ensures stack { self.new.snapshots.stack ≡ self.old.snapshots.stack }
+        ensures plans { self.new.plans ≡ self.old.plans }
         ensures buffers { length self.new.pins ≡ 1024 }
         ensures counts { OnOk result ((kind : Kind) (k : ℕ) → times_held self.new kind k ≡ times_held self.old kind k + (if (class.0 == kind.0) && (key == k) then 1 else 0)) }
         ensures total { total self.new.references ≤ total self.old.references + 1 }
@@ -141,6 +153,7 @@ impl Tables {
         ensures open { self.new.files.opened ≡ self.old.files.opened }
         ensures pins { self.new.pins ≡ self.old.pins }
         ensures references { self.new.references ≡ self.old.references }
+        ensures plans { self.new.plans ≡ self.old.plans }
         ensures events { OnOk result (E.emits out.old (touch_events file self.old.files) out.new) }
         ensures no_file { (result ≡ Err FileError.NoFile) ↔ (is_among file self.old.files.opened ≡ false) }
         ensures no_other { (result ≢ Err FileError.Taken) × (result ≢ Err FileError.TooMany) }
@@ -182,10 +195,12 @@ impl Tables {
     fn drop_reference(&mut self, class: KindId, key: u32)
         requires no_pin { class.0 ≢ 1 }
         requires no_file { class.0 ≢ 8 }
+        requires no_plan { class.0 ≢ 5 }
         requires counted { 0 < times_held self.old class key }
         ensures pins { self.new.pins ≡ self.old.pins }
         ensures files { self.new.files ≡ self.old.files }
         ensures stack { self.new.snapshots.stack ≡ self.old.snapshots.stack }
+        ensures plans { self.new.plans ≡ self.old.plans }
         ensures buffers { length self.new.pins ≡ 1024 }
         ensures counts { (kind : Kind) (k : ℕ) → times_held self.new kind k + (if (class.0 == kind.0) && (key == k) then 1 else 0) ≡ times_held self.old kind k }
         ensures fewer { total self.new.references ≤ total self.old.references }
@@ -202,15 +217,24 @@ impl Tables {
         }
     }
 
-    /// Gives a pin, a reference or a file back.
-    pub(crate) fn give_back<E: Emit>(&mut self, item: Item, shared: &mut SharedPins, out: &mut E)
+    /// Gives a pin, a reference or a file back. The last reference to a discarded plan takes its context with it.
+    pub(crate) fn give_back<P: PlanContexts, E: Emit>(
+        &mut self,
+        item: Item,
+        shared: &mut SharedPins,
+        place: &mut P,
+        out: &mut E,
+    )
         requires built_in { item.kind.0 < 16 }
         requires counted { 0 < times_held self.old item.kind item.key }
         requires shared { ArePinsShared self.old.pins shared.old }
+        requires fit { PlansFit (P.MayGo place.old) self.old.plans.standing }
         ensures buffers { length self.new.pins ≡ 1024 }
         ensures counted { (kind : Kind) (key : ℕ) → times_held self.new kind key + uses kind key (item ∷ []) ≡ times_held self.old kind key }
         ensures balance { PinsBalance self.old.pins self.new.pins shared.old shared.new }
-        ensures done { (kinds : List ExtensionKind) (locks : List Lock) → (events : List What) × TablesDo (lending_of self.old kinds locks) (GivesBack item ∷ []) events (lending_of self.new kinds locks) × E.emits out.old events out.new }
+        ensures done { (kinds : List ExtensionKind) (locks : List Lock) → (events : List What) × TablesDo (lending_of self.old kinds locks (P.contexts place.old) (P.shelf place.old)) (GivesBack item ∷ []) events (lending_of self.new kinds locks (P.contexts place.new) (P.shelf place.new)) × E.emits out.old events out.new }
+        ensures went { P.went place.old place.new }
+        ensures fit { PlansFit (P.MayGo place.new) self.new.plans.standing }
     {
         if item.kind == KindId::BUFFER_PIN {
             return self.unpin(item.key, shared);
@@ -218,7 +242,94 @@ impl Tables {
         if item.kind == KindId::FILE {
             return self.close_file(item.key, out);
         }
+        if item.kind == KindId::PLAN_REFERENCE {
+            return plans::leave(&mut self.plans, item.key, place, out);
+        }
         self.drop_reference(item.kind, item.key);
+    }
+
+    /// Takes the room for a plan of a number that no plan has.
+    ///
+    /// `TooMany` comes exactly where 1,024 plans stand, else `Memory` where memory is refused.
+    pub(crate) fn reserve_plan(&mut self, plan: u32) -> Result<(), PlanError>
+        requires new { plan_of self.old.plans plan ≡ None }
+        ensures reserved { OnOk result (self.new ≡ record self.old { plans = record self.old.plans { reserved = Some plan } }) }
+        ensures too_many { (result ≡ Err PlanError.TooMany) ↔ (1024 ≤ length self.old.plans.standing) }
+        ensures causes { IfErr result (λ error. (error ≡ PlanError.TooMany) ⊎ (error ≡ PlanError.Memory)) }
+        ensures refused { OnErr result (self.new ≡ self.old) }
+    {
+        self.plans.reserve(plan)
+    }
+
+    /// Makes the plan for which room is reserved.
+    pub(crate) fn make_plan(&mut self, plan: u32, context: CtxId)
+        requires reserved { self.old.plans.reserved ≡ Some plan }
+        ensures made { self.new ≡ record self.old { plans = record { standing = self.old.plans.standing ++ (plan, record { context = context; discarded = false; references = 0 }) ∷ []; reserved = None } } }
+        ensures counts { RefersAlike self.old.plans self.new.plans }
+        ensures total { references self.new.plans ≡ references self.old.plans }
+    {
+        self.plans.make(plan, context);
+    }
+
+    /// Takes one more reference to a plan that isn't discarded. It fails for want of memory alone.
+    pub(crate) fn reference_plan(&mut self, plan: u32) -> Result<(), AllocError>
+        requires usable { is_usable self.old.plans plan ≡ true }
+        requires room { references self.old.plans < 2 ^ 62 }
+        ensures alone { self.new ≡ record self.old { plans = self.new.plans } }
+        ensures buffers { length self.new.pins ≡ 1024 }
+        ensures changed { OnOk result (map plan_state self.new.plans.standing ≡ plan_changed plan (λ p. record p { references = p.references + 1 }) (map plan_state self.old.plans.standing)) }
+        ensures left { AreLeft self.old.plans.standing self.new.plans.standing }
+        ensures counts { OnOk result (RefersOneMore self.old.plans self.new.plans plan) }
+        ensures total { OnOk result (references self.new.plans ≡ references self.old.plans + 1) }
+        ensures reserved { self.new.plans.reserved ≡ self.old.plans.reserved }
+        ensures refused { OnErr result (self.new ≡ self.old) }
+    {
+        self.plans.laws();
+        if let Err(_) = self.plans.add_ref(plan) {
+            return Err(AllocError);
+        }
+        Ok(())
+    }
+
+    /// Discards a plan, which goes with its context where no reference to it is held.
+    pub(crate) fn drop_plan<P: PlanContexts, E: Emit>(
+        &mut self,
+        plan: u32,
+        place: &mut P,
+        out: &mut E,
+    )
+        requires usable { is_usable self.old.plans plan ≡ true }
+        requires fit { PlansFit (P.MayGo place.old) self.old.plans.standing }
+        ensures alone { self.new ≡ record self.old { plans = self.new.plans } }
+        ensures counts { RefersAlike self.old.plans self.new.plans }
+        ensures total { references self.new.plans ≡ references self.old.plans }
+        ensures done { (events : List What) × PlansDo (plan_dropped plan) events self.old.plans.standing self.new.plans.standing (hosting_of (P.contexts place.old) (P.shelf place.old)) (hosting_of (P.contexts place.new) (P.shelf place.new)) × E.emits out.old events out.new }
+        ensures went { P.went place.old place.new }
+        ensures fit { PlansFit (P.MayGo place.new) self.new.plans.standing }
+        ensures left { AreLeft self.old.plans.standing self.new.plans.standing }
+    {
+        plans::discard(&mut self.plans, plan, place, out);
+    }
+
+    /// Whether a plan of that number stands, discarded or not.
+    pub(crate) fn has_plan(&self, plan: u32) -> bool
+        ensures { result ≡ is_some (plan_of self.now.plans plan) }
+    {
+        self.plans.stands(plan)
+    }
+
+    /// Whether a plan of that number stands that isn't discarded.
+    pub(crate) fn can_refer(&self, plan: u32) -> bool
+        ensures { result ≡ is_usable self.now.plans plan }
+    {
+        self.plans.usable(plan)
+    }
+
+    /// How many plans stand, discarded or not.
+    pub(crate) fn standing_plans(&self) -> u64
+        ensures { result ≡ length self.now.plans.standing }
+    {
+        self.plans.count()
     }
 
     /// Puts a snapshot of a level on the stack of active ones. It fails for want of memory alone.

@@ -1,11 +1,12 @@
 use Rattle.std.proofs.Common.{◌≡◌, ℕ, ◌++◌, List, length, sym, ap, ◌∙◌, arith}
+use Rattle.std.proofs.lemmas.List.{length-map}
 use Rattle.forest.specs.Forest.{size}
 use Rattle.snap_table.specs.declared.active.Active.{Active}
 use Rattle.snap_table.specs.Snapshots.{snapshots_of}
 use Rattle.owner_core.specs.Owners as owners
 use Rattle.session_rules.specs.Counts.{all_items, distinct, keys_of}
-use Rattle.session_rules.specs.State.{StandingPlan, buffer_pin, file_kind}
-use Rattle.session_owners.specs.ResourceState.{OwnerTree, ResourceState, owners_of}
+use Rattle.session_rules.specs.State.{buffer_pin, file_kind}
+use Rattle.session_owners.specs.ResourceState.{OwnerTree, ResourceState, owners_of, plan_state}
 use Rattle.session_owners.proofs.OpenFiles.{open_length}
 use Rattle.session_owners.proofs.Stat.{class_counted, classes_different, counts_are, different_keys, different_pins, keys_tally, pairs_count, pairs_different, pairs_held}
 use Rattle.session_owners.proofs.resources.Resources.counts.Goals as goal
@@ -24,7 +25,7 @@ returns c = λ commons scene fit contexts.
     (c.different_snapshots.ensures taken (keys_tally (record { 0 = 7 }) t c.self.inside.tables.snapshots.registered (λ key. c.self.invariant.counted (record { 0 = 7 }) key (omega arith))) ∙ different_keys (taken ++ snapshots_of c.self.inside.tables.snapshots.stack)
     ∙ ap (λ (o : OwnerTree). length (distinct (keys_of (record { 0 = 7 }) (all_items o) ++ snapshots_of c.self.inside.tables.snapshots.stack))) same
     ∙ ap (λ (xs : List Active). length (distinct (keys_of (record { 0 = 7 }) (all_items scene.session.owners) ++ snapshots_of xs))) stack)
-    (sym (ap (λ (ps : List StandingPlan). length ps) fit.plans))
+    (c.standing_plans.ensures ∙ ap (λ (r : ResourceState). length r.plans.standing) c.self.view_is ∙ sym (ap length fit.plans ∙ length-map _ plan_state))
     (c.referenced.ensures (pairs_held t) (λ class key. pairs_count t class key ∙ class_counted c.self.inside.owners c.self.inside.tables class key c.self.invariant) ∙ pairs_different t
     ∙ ap classes_different same)
     (c.count.ensures.count ∙ ap size same)

@@ -8,6 +8,7 @@ use Rattle.owner_kinds.specs.KindTable.{KindTable}
 use Rattle.owner_core.specs.Released.{own_released, released}
 use Rattle.owner_core.proofs.Swept.{parent_swept}
 use Rattle.session_owners.specs.ResourceState.{AllAt, HoldsNothing, OwnerTree, owners_of}
+use Rattle.session_owners.specs.Fitting.{hosting_of}
 use Rattle.session_owners.proofs.Acts.{acted_release}
 use Rattle.session_owners.proofs.Balances.{balances_more}
 use Rattle.session_owners.proofs.Left.{nothing_left}
@@ -48,6 +49,8 @@ returns-clause-balances g c =
 pub returns-clause-acted : goal.returns-clause-acted
 returns-clause-acted g c =
     acted_release c.args.commit c.args.top c.args.owner.number c.args.self.now c.release_phase.new.self c.release_phase-2.new.self c.release_phase-3.new.self
+    (hosting_of (g.P.PlanContexts.contexts c.args.place.now) (g.P.PlanContexts.shelf c.args.place.now)) (hosting_of (g.P.PlanContexts.contexts c.release_phase.new.place) (g.P.PlanContexts.shelf c.release_phase.new.place))
+    (hosting_of (g.P.PlanContexts.contexts c.release_phase-2.new.place) (g.P.PlanContexts.shelf c.release_phase-2.new.place)) (hosting_of (g.P.PlanContexts.contexts c.release_phase-3.new.place) (g.P.PlanContexts.shelf c.release_phase-3.new.place))
     c.args.commons.now c.release_phase.new.commons c.release_phase-2.new.commons c.release_phase-3.new.commons
     (λ (events : List What). g.E.Emit.emits c.args.out.now events c.release_phase.new.out)
     (λ (events : List What). g.E.Emit.emits c.release_phase.new.out events c.release_phase-2.new.out)
@@ -60,3 +63,10 @@ returns-clause-acted g c =
     (λ xs ys p q. g.met.E.Emit.emits_more _ _ _ _ _ _ p q refl)
     (λ xs ys p q. g.met.E.Emit.emits_more _ _ _ _ _ _ p q refl)
     c.release_phase.ensures.acted c.release_phase-2.ensures.acted c.release_phase-3.ensures.acted
+
+pub returns-clause-went : goal.returns-clause-went
+returns-clause-went g c =
+    g.met.P.PlanContexts.went_more _ _ _ c.release_phase.ensures.went (g.met.P.PlanContexts.went_more _ _ _ c.release_phase-2.ensures.went c.release_phase-3.ensures.went)
+
+pub returns-clause-left : goal.returns-clause-left
+returns-clause-left g c = λ id here. c.release_phase.ensures.left id (c.release_phase-2.ensures.left id (c.release_phase-3.ensures.left id here))
