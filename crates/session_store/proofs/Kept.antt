@@ -13,15 +13,17 @@ use Rattle.context_node.specs.State.{context_of}
 use Rattle.context_rules.specs.Ends.{Ended}
 use Rattle.context_tree.specs.Calls.{Did, DidNothing}
 use Rattle.context_tree.specs.State.{TreeState, Agrees, IsLive, Moves, StaysPut, place_of, stands_for}
-use Rattle.session_owners.specs.ResourceState.{ResourceState, OwnerTree, owners_of}
+use Rattle.plan_store.specs.declared.plan.Plan.{Plan}
+use Rattle.session_owners.specs.ResourceState.{ResourceState, OwnerTree, owners_of, plan_state}
+use Rattle.session_owners.specs.Placing.{contexts_of}
 use Rattle.subxact_stack.specs.Levels.{level_at}
 use Rattle.subxact_stack.specs.declared.levels.Level.{Level}
 use Rattle.session_rules.specs.World.{Around}
-use Rattle.session_rules.specs.Standing.{AreLevels, Stands}
+use Rattle.session_rules.specs.Standing.{AreLevels, IsPlan, Stands}
 use Rattle.session_rules.proofs.ContextsKept.{protected_has}
 use Rattle.session_owners.specs.Commons.{CommonState}
 use Rattle.session_store.specs.State.{StoreState, level_state, scene_of, session_of}
-use Rattle.session_store.specs.Placed.{IsPlaced, LevelLies, Lies}
+use Rattle.session_store.specs.Placed.{IsPlaced, IsThere, LevelLies, Lies}
 use Rattle.session_store.specs.Calls.{ContextsAlone, Keeps, StandsIn}
 use Rattle.session_store.proofs.Answered.{some_both}
 use Rattle.session_store.proofs.Lists.{all_at, all_reverse}
@@ -32,38 +34,48 @@ pub has_kept : (n : ℕ) (tree : TreeState) (s : Space) → has n (stands_for tr
 unfolding stands_for
 has_kept n tree s = mapped-has (context_of s) n tree.kept
 
--- the context of a level, once it is made, is there
-abbrev pub IsThere : TreeState → Level → Type 0
-IsThere tree level = IfSome level.context (λ id. has id.number tree.kept ≡ true)
+-- a context is there
+abbrev pub HasContext : TreeState → CtxId → Type 0
+HasContext tree id = has id.number tree.kept ≡ true
 
 -- the contexts that a store names are there
-pub record AreThere (tree : TreeState) (list : List Level) : Type 0 where
+pub record AreThere (tree : TreeState) (table : ResourceState) (list : List Level) : Type 0 where
   pub current : has tree.current.number tree.kept ≡ true
   pub levels : All (IsThere tree) list
+  pub plans : All (HasContext tree) (contexts_of table.plans.standing)
 
 level_there : (tree : TreeState) (s : Space) (o : Option CtxId) → ((n : ℕ) → option_map (λ (id : CtxId). id.number) o ≡ Some n → has n (stands_for tree s) ≡ true) → IfSome o (λ id. has id.number tree.kept ≡ true)
 level_there tree s None there = tt
 level_there tree s (Some id) there = sym (has_kept id.number tree s) ∙ there id.number refl
 
-levels_there : (tree : TreeState) (s : Space) (owners : OwnerTree) (levels : List Level) → AreLevels (map level_state levels) (stands_for tree s) owners → All (IsThere tree) levels
+pub levels_there : (tree : TreeState) (s : Space) (owners : OwnerTree) (levels : List Level) → AreLevels (map level_state levels) (stands_for tree s) owners → All (IsThere tree) levels
 levels_there tree s owners [] h = All-nil (IsThere tree)
 levels_there tree s owners (level ∷ levels) h =
     All-cons (IsThere tree) level levels
     (level_there tree s level.context (λ n e. protected_has n (stands_for tree s) (h.0.context n e).protected))
     (levels_there tree s owners levels h.1)
 
+pub plans_there : (tree : TreeState) (s : Space) (current : ℕ) (standing : List (ℕ × Plan)) → All (λ plan. IsPlan plan (stands_for tree s) current) (map plan_state standing) → All (HasContext tree) (contexts_of standing)
+plans_there tree s current [] h = All-nil (HasContext tree)
+plans_there tree s current (plan ∷ plans) h =
+    let first = All-head (λ p. IsPlan p (stands_for tree s) current) (plan_state plan) (map plan_state plans) h in
+    All-cons (HasContext tree) plan.1.context (contexts_of plans)
+    (sym (has_kept plan.1.context.number tree s) ∙ protected_has plan.1.context.number (stands_for tree s) first.protected)
+    (plans_there tree s current plans (All-tail (λ p. IsPlan p (stands_for tree s) current) (plan_state plan) (map plan_state plans) h))
+
 -- no surroundings at all
 abbrev pub nowhere : Around
 nowhere = record { kinds = []; shelf = record { fresh = []; spent = []; out = 0 }; pinned = []; locked = []; space = 0; descriptors = 0 }
 
 -- where the session stands, they are
-pub are_there : (a : StoreState) (s : Space) (x : ShelfState) (commons : CommonState) → StandsIn a s x commons → AreThere a.tree a.levels
+pub are_there : (a : StoreState) (s : Space) (x : ShelfState) (commons : CommonState) → StandsIn a s x commons → AreThere a.tree a.owners a.levels
 unfolding session_of
 are_there a s x commons stands =
     let h : Stands (scene_of a s x commons nowhere) = stands nowhere in
     record {
       current = sym (has_kept a.tree.current.number a.tree s) ∙ h.current;
       levels = all_reverse (IsThere a.tree) a.levels (levels_there a.tree s (owners_of a.owners) (reverse a.levels) h.levels);
+      plans = plans_there a.tree s a.tree.current.number a.owners.plans.standing h.plans.each;
     }
 
 -- A tree and its space went on: the space has what it has, and what was there and is there lies where it lay.
@@ -127,14 +139,21 @@ levels_on a b table (level ∷ levels) stays lies there =
     (record { context = some_both level.context (λ id. lies_on a b id stays) first.context (All-head (IsThere a) level levels there); owner = first.owner })
     (levels_on a b table levels stays (All-tail (LevelLies a table) level levels lies) (All-tail (IsThere a) level levels there))
 
-pub placed_on : (a b : TreeState) (table : ResourceState) (levels : List Level) → IsPlaced a table levels → AreThere a levels → ((n : ℕ) → has n a.kept ≡ true → has n b.kept ≡ true → place_of b n ≡ place_of a n) → b.current ≡ a.current
+pub plans_on : (a b : TreeState) (contexts : List CtxId) → ((n : ℕ) → has n a.kept ≡ true → has n b.kept ≡ true → place_of b n ≡ place_of a n) → All (Lies a) contexts → All (HasContext a) contexts → All (Lies b) contexts
+plans_on a b [] stays lies there = All-nil (Lies b)
+plans_on a b (id ∷ ids) stays lies there =
+    All-cons (Lies b) id ids (lies_on a b id stays (All-head (Lies a) id ids lies) (All-head (HasContext a) id ids there))
+    (plans_on a b ids stays (All-tail (Lies a) id ids lies) (All-tail (HasContext a) id ids there))
+
+pub placed_on : (a b : TreeState) (table : ResourceState) (levels : List Level) → IsPlaced a table levels → AreThere a table levels → ((n : ℕ) → has n a.kept ≡ true → has n b.kept ≡ true → place_of b n ≡ place_of a n) → b.current ≡ a.current
     → IsPlaced b table levels
 placed_on a b table levels placed there stays current = record {
   current = subst (λ (id : CtxId). Lies b id) (sym current) (lies_on a b a.current stays placed.current there.current);
   levels = levels_on a b table levels stays placed.levels there.levels;
+  plans = plans_on a b (contexts_of table.plans.standing) stays placed.plans there.plans;
 }
 
-pub placed_put : (a b : TreeState) (table : ResourceState) (levels : List Level) → IsPlaced a table levels → AreThere a levels → StaysPut a b → IsPlaced b table levels
+pub placed_put : (a b : TreeState) (table : ResourceState) (levels : List Level) → IsPlaced a table levels → AreThere a table levels → StaysPut a b → IsPlaced b table levels
 placed_put a b table levels placed there put = placed_on a b table levels placed there (λ n was now. ap (λ (places : Forest ℕ). at n places) put.places) put.current
 
 -- the context of the level of a number lies where its id says
@@ -145,7 +164,7 @@ at_level P levels n level h e = go (n == 0) e
     go true e = absurd (cc e)
     go false e = all_at P levels (n - 1) level h e
 
-pub level_live : (tree : TreeState) (table : ResourceState) (levels : List Level) (n : ℕ) (level : Level) → IsPlaced tree table levels → AreThere tree levels → level_at levels n ≡ Some level → IfSome level.context (IsLive tree)
+pub level_live : (tree : TreeState) (table : ResourceState) (levels : List Level) (n : ℕ) (level : Level) → IsPlaced tree table levels → AreThere tree table levels → level_at levels n ≡ Some level → IfSome level.context (IsLive tree)
 level_live tree table levels n level placed there e =
     let lies : LevelLies tree table level = at_level (LevelLies tree table) levels n level placed.levels e in
     some_both level.context (λ id lies here. lies here) lies.context (at_level (IsThere tree) levels n level there.levels e)

@@ -15,7 +15,7 @@ use Rattle.context_rules.specs.Ends.{handed_in}
 use Rattle.context_tree.specs.Calls.{Did, DidNothing}
 use Rattle.context_tree.specs.State.{TreeState, SameRegions, StaysPut, left_of, stands_for}
 use Rattle.context_tree.proofs.Adding.{stands_still}
-use Rattle.session_owners.specs.ResourceState.{owners_of}
+use Rattle.session_owners.specs.ResourceState.{owners_of, plans_of}
 use Rattle.session_owners.specs.Commons.{CommonState, seen_by}
 use Rattle.session_rules.specs.State.{first_of}
 use Rattle.session_rules.specs.World.{Around, Scene}
@@ -42,7 +42,7 @@ scene_by a around contexts current next x commons limit = record {
     levels = levels_of a.levels;
     portals = [];
     snapshots = a.owners.stack;
-    plans = [];
+    plans = plans_of a.owners;
     recent = a.owners.recent;
   };
   around = record (seen_by a.owners commons around) { shelf = x; space = limit; descriptors = a.owners.descriptors };

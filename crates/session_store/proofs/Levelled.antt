@@ -15,7 +15,8 @@ use Rattle.context_rules.specs.Contexts.{Contexts, created, created_events}
 use Rattle.any_ctx.specs.declared.any.CtxKind.TheVariants as kind
 use Rattle.context_tree.specs.State.{TreeState, IsLive, stands_for}
 use Rattle.session_owners.specs.ResourceState as owners
-use Rattle.session_owners.specs.ResourceState.{ResourceState, OwnerTree, Roomy, owners_of}
+use Rattle.session_owners.specs.ResourceState.{ResourceState, OwnerTree, Roomy, owners_of, plans_of}
+use Rattle.session_owners.specs.Placing.{contexts_of}
 use Rattle.subxact_stack.specs.declared.levels.Level.{Level}
 use Rattle.subxact_stack.specs.Levels.{level_at, new_level}
 use Rattle.session_rules.specs.State.{LevelState, context_of, deepest_changed, first_of, owner_of}
@@ -32,11 +33,11 @@ use Rattle.session_owners.specs.Fitting.{OwnersFit, with_owners}
 use Rattle.session_owners.specs.Commons.{Balances, CommonState, seen_by}
 use Rattle.session_owners.proofs.Balances.{balances_none}
 use Rattle.session_store.specs.State.{StoreState, level_state, levels_of, scene_of, session_of}
-use Rattle.session_store.specs.Placed.{IsPlaced, LevelLies, Lies}
+use Rattle.session_store.specs.Placed.{IsPlaced, IsThere, LevelLies, Lies}
 use Rattle.session_store.specs.Calls.{Acted, IsSilent, Keeps, StandsIn}
 use Rattle.session_store.proofs.Answered.{if_some, some_both}
-use Rattle.session_store.proofs.Deepest.{above_is, all_deepest, all_level, levels_are, levels_long}
-use Rattle.session_store.proofs.Kept.{IsThere, nowhere}
+use Rattle.session_store.proofs.Depths.{above_is, all_deepest, all_level, levels_are, levels_long}
+use Rattle.session_store.proofs.Kept.{nowhere}
 use Rattle.session_store.proofs.Lists.{all_reverse}
 
 -- the space has what the store has in it, whatever its owners and its levels
@@ -76,6 +77,7 @@ pub begun_placed : (tree : TreeState) (table : ResourceState) (levels : List Lev
 begun_placed tree table levels name implicit placed = record {
   current = placed.current;
   levels = All-push (LevelLies tree table) levels (new_level name implicit) placed.levels (record { context = tt; owner = tt });
+  plans = placed.plans;
 }
 
 -- a level stands
@@ -132,7 +134,7 @@ owner_acted a outer level s x commons p id parent Said e up number made balances
 abbrev pub HasOwner : ResourceState → Level → Type 0
 HasOwner table level = IfSome level.owner (λ id. has id.number (owners_of table) ≡ true)
 
-owners_there : (contexts : Contexts) (table : ResourceState) (levels : List Level) → AreLevels (map level_state levels) contexts (owners_of table) → All (HasOwner table) levels
+pub owners_there : (contexts : Contexts) (table : ResourceState) (levels : List Level) → AreLevels (map level_state levels) contexts (owners_of table) → All (HasOwner table) levels
 owners_there contexts table [] h = All-nil (HasOwner table)
 owners_there contexts table (level ∷ levels) h =
     All-cons (HasOwner table) level levels
@@ -171,13 +173,14 @@ abort_there a s x commons stands = own_there (scene_of a s x commons nowhere) (s
 -- the levels lie once the deepest is another one
 pub deepest_placed : (tree tree' : TreeState) (table table' : ResourceState) (levels outer : List Level) (level new : Level) → IsPlaced tree table levels → levels ≡ outer ++ level ∷ []
     → ((l : Level) → LevelLies tree table l → HasOwner table l → LevelLies tree' table' l) → All (HasOwner table) levels → (LevelLies tree table level → LevelLies tree' table' new)
-    → Lies tree' tree'.current → IsPlaced tree' table' (outer ++ new ∷ [])
-deepest_placed tree tree' table table' levels outer level new placed e on owned then current =
+    → Lies tree' tree'.current → All (Lies tree') (contexts_of table'.plans.standing) → IsPlaced tree' table' (outer ++ new ∷ [])
+deepest_placed tree tree' table table' levels outer level new placed e on owned then current plans =
     let both = all_deepest (LevelLies tree table) levels outer level e placed.levels in
     let has = all_deepest (HasOwner table) levels outer level e owned in
     record {
       current = current;
       levels = All-push (LevelLies tree' table') outer new (all_more outer both.0 has.0) (then both.1);
+      plans = plans;
     }
   where
     all_more : (ls : List Level) → All (LevelLies tree table) ls → All (HasOwner table) ls → All (LevelLies tree' table') ls
@@ -248,7 +251,7 @@ scene_made a x commons around contexts current next levels limit = record {
     levels = levels;
     portals = [];
     snapshots = a.owners.stack;
-    plans = [];
+    plans = plans_of a.owners;
     recent = a.owners.recent;
   };
   around = record (seen_by a.owners commons around) { shelf = x; space = limit; descriptors = a.owners.descriptors };

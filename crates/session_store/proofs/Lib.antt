@@ -7,10 +7,8 @@ pub mod Led
 pub mod Through
 pub mod Opened
 pub mod Named
-pub mod Deepest
+pub mod Depths
 pub mod Levelled
-pub mod Went
-pub mod Closing
-pub mod Ending
 pub mod Owned
 pub mod Savepoints
+pub mod Planned

@@ -1,8 +1,8 @@
 -- Lists from their other end.
 use Rattle.std.proofs.Common.{◌≡◌, ℕ, zero, suc, ◌<◌, List, [], ◌∷◌, ◌++◌, length, map, All, Some, refl, sym, ap, ◌∙◌, subst, arith}
-use Rattle.std.specs.Prelude.{reverse, slice_get, option_map}
+use Rattle.std.specs.Prelude.{Contains, reverse, slice_get, option_map}
 use Rattle.std.proofs.lemmas.List.{length-reverse, map-append, reverse-append, reverse-reverse}
-use Rattle.std.proofs.lemmas.List.Elements.{All-cons, All-head, All-pop, All-tail}
+use Rattle.std.proofs.lemmas.List.Elements.{All-cons, All-contains, All-contains_itself, All-head, All-pop, All-tail, All-weaker}
 use Rattle.session_rules.specs.State.{first_of, last_of}
 
 module _ {A : Type 0} where
@@ -33,6 +33,10 @@ module _ {A : Type 0} where
   all_at P [] i x h e = absurd (cc e)
   all_at P (y ∷ xs) zero x h e = let same : y ≡ x = cc e in subst P same (All-head P y xs h)
   all_at P (y ∷ xs) (suc i) x h e = all_at P xs i x (All-tail P y xs h) e
+
+  -- what holds of the elements of a list holds of those of a part of it
+  pub all_left : (P : A → Type 0) (xs ys : List A) → ((x : A) → Contains ys x → Contains xs x) → All P xs → All P ys
+  all_left P xs ys left all = All-weaker (Contains ys) P (λ y here. All-contains P xs y all (left y here)) ys (All-contains_itself ys)
 
 module _ {A B : Type 0} (f : A → B) where
   pub reverse_map : (xs : List A) → reverse (map f xs) ≡ map f (reverse xs)

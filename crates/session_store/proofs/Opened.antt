@@ -1,5 +1,5 @@
 -- A session that opens.
-use Rattle.std.proofs.Common.{◌≡◌, ℕ, List, [], ap, sym, ◌∙◌, arith, subst}
+use Rattle.std.proofs.Common.{◌≡◌, ℕ, List, [], None, ap, sym, ◌∙◌, arith, subst}
 use Rattle.addr_space.specs.Space.{Space, held}
 use Rattle.forest.specs.Forest.{Empty}
 use Rattle.context_rules.specs.Contexts.{Contexts}
@@ -7,7 +7,7 @@ use Rattle.context_rules.specs.Opening as contexts
 use Rattle.context_tree.specs.State.{TreeState, Moves, no_contexts, stands_for, total_of}
 use Rattle.owner_kinds.specs.KindShelf.{table_of}
 use Rattle.owner_kinds.specs.KindTable.{IsSound}
-use Rattle.session_owners.specs.ResourceState.{ResourceState, owners_of}
+use Rattle.session_owners.specs.ResourceState.{ResourceState, owners_of, plans_of}
 use Rattle.subxact_stack.specs.declared.levels.Level.{Level}
 use Rattle.reset_callbacks.specs.Hook.{AreDistinct}
 use Rattle.reset_callbacks.specs.ShelfState as shelf
@@ -34,19 +34,19 @@ session_by contexts current next owners levels = record {
   levels = levels_of levels;
   portals = [];
   snapshots = owners.stack;
-  plans = [];
+  plans = plans_of owners;
   recent = owners.recent;
 }
 
 pub opens : (tree : TreeState) (owners : ResourceState) (levels : List Level) (s : Space) (session descriptors : ℕ) → stands_for tree s ≡ contexts.opening → tree.current.number ≡ 1 → tree.next ≡ 6
-    → owners ≡ record { rooms = Empty; places = Empty; next_owner = 1; next_serial = 1; recent = []; descriptors = descriptors; session = session; locks = []; stack = [] } → levels ≡ [] → session_of (record { tree = tree; owners = owners; levels = levels }) s ≡ opening
+    → owners ≡ record { rooms = Empty; places = Empty; next_owner = 1; next_serial = 1; recent = []; descriptors = descriptors; session = session; locks = []; stack = []; plans = record { standing = []; reserved = None } } → levels ≡ [] → session_of (record { tree = tree; owners = owners; levels = levels }) s ≡ opening
 unfolding session_of opening
 opens tree owners levels s session descriptors p q r u v =
     ap (λ (z : Contexts). session_by z tree.current.number tree.next owners levels) p
     ∙ ap (λ (z : ℕ). session_by contexts.opening z tree.next owners levels) q
     ∙ ap (λ (z : ℕ). session_by contexts.opening 1 z owners levels) r
     ∙ ap (λ (z : ResourceState). session_by contexts.opening 1 6 z levels) u
-    ∙ ap (λ (z : List Level). session_by contexts.opening 1 6 (record { rooms = Empty; places = Empty; next_owner = 1; next_serial = 1; recent = []; descriptors = descriptors; session = session; locks = []; stack = [] }) z) v
+    ∙ ap (λ (z : List Level). session_by contexts.opening 1 6 (record { rooms = Empty; places = Empty; next_owner = 1; next_serial = 1; recent = []; descriptors = descriptors; session = session; locks = []; stack = []; plans = record { standing = []; reserved = None } }) z) v
 
 -- what the account holds are the blocks of its contexts, where it held nothing before
 pub keeps_opened : (a : StoreState) (account : ℕ) (s t : Space) → Moves (no_contexts account) a.tree s t → a.tree.account ≡ account → held s account ≡ 0 → Keeps a t

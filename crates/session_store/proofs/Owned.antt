@@ -15,7 +15,9 @@ use Rattle.reset_callbacks.specs.ShelfState.{ShelfState}
 use Rattle.context_rules.specs.Contexts.{Contexts}
 use Rattle.context_tree.specs.State.{TreeState, stands_for}
 use Rattle.session_owners.specs.ResourceState as ids
-use Rattle.session_owners.specs.ResourceState.{Owner, ResourceState, OwnerTree, Roomy, owners_of}
+use Rattle.plan_store.specs.Plans.{Plans}
+use Rattle.session_owners.specs.ResourceState.{Owner, ResourceState, OwnerTree, Roomy, owners_of, plan_state, plans_of}
+use Rattle.session_owners.specs.Placing.{AreLeft, contexts_of}
 use Rattle.owner_core.specs.Released.{own_released}
 use Rattle.owner_kinds.specs.KindTable.{KindTable}
 use Rattle.subxact_stack.specs.Levels.{level_at}
@@ -36,20 +38,21 @@ use Rattle.session_owners.specs.Fitting as own
 use Rattle.session_owners.specs.Fitting.{OwnersFit}
 use Rattle.session_owners.specs.Commons.{Balances, CommonState, pinned_beside, seen_by}
 use Rattle.session_store.specs.State.{StoreState, level_state, levels_of, scene_of, session_of}
-use Rattle.session_store.specs.Placed.{IsPlaced, LevelLies, OwnerLies}
+use Rattle.session_store.specs.Placed.{IsPlaced, LevelLies, Lies, OwnerLies}
 use Rattle.session_store.specs.Calls.{Acted, IsSilent, Keeps, Refused, StandsIn}
 use Rattle.session_store.specs.Owned.{OwnersAlone}
 use Rattle.session_store.proofs.Answered.{some_both, some_more}
-use Rattle.session_store.proofs.Deepest.{levels_long}
-use Rattle.session_store.proofs.Lists.{all_reverse, first_map, first_reverse}
+use Rattle.session_store.proofs.Depths.{levels_long}
+use Rattle.session_store.proofs.Lists.{all_left, all_reverse, first_map, first_reverse}
 use Rattle.session_store.proofs.Named.{at_end}
 use Rattle.session_store.proofs.Sums.{held_is}
 use Rattle.session_store.proofs.Kept.{at_level, nowhere}
 
--- The owners change. What is there was there, and lies where it lay.
+-- The owners change. What is there was there, and lies where it lay, and no context of a plan comes.
 pub record OwnersGo (a b : ResourceState) : Type 0 where
   pub had : (n : ℕ) → has n (owners_of b) ≡ true → has n (owners_of a) ≡ true
   pub stays : (n : ℕ) → has n (owners_of b) ≡ true → at n b.places ≡ at n a.places
+  pub left : AreLeft a.plans.standing b.plans.standing
 
 has_rooms : (n : ℕ) (table : ResourceState) → has n (owners_of table) ≡ has n table.rooms
 has_rooms n table = mapped-has (λ (room : Roomy). room.owner) n table.rooms
@@ -67,7 +70,11 @@ owners_levels tree a b (level ∷ levels) go lies =
     (owners_levels tree a b levels go (All-tail (LevelLies tree a) level levels lies))
 
 pub placed_owners : (tree : TreeState) (a b : ResourceState) (levels : List Level) → IsPlaced tree a levels → OwnersGo a b → IsPlaced tree b levels
-placed_owners tree a b levels placed go = record { current = placed.current; levels = owners_levels tree a b levels go placed.levels }
+placed_owners tree a b levels placed go = record {
+  current = placed.current;
+  levels = owners_levels tree a b levels go placed.levels;
+  plans = all_left (Lies tree) (contexts_of a.plans.standing) (contexts_of b.plans.standing) go.left placed.plans;
+}
 
 -- nothing of the tree changes
 pub keeps_owners : (a : StoreState) (b : ResourceState) (s : Space) → Keeps a s → Keeps (record a { owners = b }) s
@@ -83,28 +90,42 @@ owners_alone a b c d go balances = record {
 }
 
 -- an owner's data changes, all below it are released, it goes
-pub go_same : (a b : ResourceState) → owners_of b ≡ owners_of a → b.places ≡ a.places → OwnersGo a b
-go_same a b same places = record {
+plans_same : (a b : ResourceState) → b.plans ≡ a.plans → AreLeft a.plans.standing b.plans.standing
+plans_same a b same = subst (λ (p : Plans). AreLeft a.plans.standing p.standing) (sym same) (λ id here. here)
+
+pub go_same : (a b : ResourceState) → owners_of b ≡ owners_of a → b.places ≡ a.places → b.plans ≡ a.plans → OwnersGo a b
+go_same a b same places plans = record {
+  left = plans_same a b plans;
   had = λ n there. ap (has n) (sym same) ∙ there;
   stays = λ n there. ap (λ (f : Forest ℕ). at n f) places;
 }
 
 pub go_stack : (a b : ResourceState) → b ≡ record a { stack = b.stack } → OwnersGo a b
-go_stack a b is = go_same a b (ap owners_of is) (ap (λ (r : ResourceState). r.places) is)
+go_stack a b is = go_same a b (ap owners_of is) (ap (λ (r : ResourceState). r.places) is) (ap (λ (r : ResourceState). r.plans) is)
 
-pub go_changed : (a b : ResourceState) (owner : ℕ) (f : Owner → Owner) → owners_of b ≡ changed owner f (owners_of a) → b.places ≡ a.places → OwnersGo a b
-go_changed a b owner f is places = record {
+pub go_changed : (a b : ResourceState) (owner : ℕ) (f : Owner → Owner) → owners_of b ≡ changed owner f (owners_of a) → b.places ≡ a.places → AreLeft a.plans.standing b.plans.standing → OwnersGo a b
+go_changed a b owner f is places left = record {
+  left = left;
   had = λ n there. sym (has_changed n owner f (owners_of a)) ∙ ap (has n) (sym is) ∙ there;
   stays = λ n there. ap (λ (f : Forest ℕ). at n f) places;
 }
 
--- where the call was answered, and where it was refused
-pub go_answered : {A E : Type 0} (r : Result A E) (a b : ResourceState) (owner : ℕ) (f : Owner → Owner) → OnOk r (owners_of b ≡ changed owner f (owners_of a)) → OnErr r (b ≡ a) → b.places ≡ a.places → OwnersGo a b
-go_answered (Ok x) a b owner f is same places = go_changed a b owner f is places
-go_answered (Err e) a b owner f is same places = go_same a b (ap owners_of same) places
+-- the owners change, and no plan does
+pub go_alone : (a b : ResourceState) (owner : ℕ) (f : Owner → Owner) → owners_of b ≡ changed owner f (owners_of a) → b.places ≡ a.places → b.plans ≡ a.plans → OwnersGo a b
+go_alone a b owner f is places plans = go_changed a b owner f is places (plans_same a b plans)
 
-pub go_released : (table : KindTable) (a b : ResourceState) (owner : ℕ) → owners_of b ≡ all_released table owner (owners_of a) → b.places ≡ a.places → OwnersGo a b
-go_released table a b owner is places =
+-- where the call was answered, and where it was refused
+pub go_answered : {A E : Type 0} (r : Result A E) (a b : ResourceState) (owner : ℕ) (f : Owner → Owner) → OnOk r (owners_of b ≡ changed owner f (owners_of a)) → OnErr r (b ≡ a) → b.places ≡ a.places → b.plans ≡ a.plans → OwnersGo a b
+go_answered (Ok x) a b owner f is same places plans = go_alone a b owner f is places plans
+go_answered (Err e) a b owner f is same places plans = go_same a b (ap owners_of same) places plans
+
+-- the same, where references to plans change
+pub go_left : {A E : Type 0} (r : Result A E) (a b : ResourceState) (owner : ℕ) (f : Owner → Owner) → OnOk r (owners_of b ≡ changed owner f (owners_of a)) → OnErr r (b ≡ a) → b.places ≡ a.places → AreLeft a.plans.standing b.plans.standing → OwnersGo a b
+go_left (Ok x) a b owner f is same places left = go_changed a b owner f is places left
+go_left (Err e) a b owner f is same places left = go_same a b (ap owners_of same) places (ap (λ (q : ResourceState). q.plans) same)
+
+pub go_released : (table : KindTable) (a b : ResourceState) (owner : ℕ) → owners_of b ≡ all_released table owner (owners_of a) → b.places ≡ a.places → AreLeft a.plans.standing b.plans.standing → OwnersGo a b
+go_released table a b owner is places left =
     let one = own_released table BeforeLocks in
     let two = own_released table Locks in
     let three = own_released table AfterLocks in
@@ -112,11 +133,13 @@ go_released table a b owner is places =
       had = λ n there.
           sym (has_swept one n owner (owners_of a)) ∙ sym (has_swept two n owner (swept one owner (owners_of a)))
           ∙ sym (has_swept three n owner (swept two owner (swept one owner (owners_of a)))) ∙ ap (has n) (sym is) ∙ there;
+      left = left;
       stays = λ n there. ap (λ (f : Forest ℕ). at n f) places;
     }
 
-pub go_gone : (a b : ResourceState) (owner : ℕ) → owners_of b ≡ removed owner (owners_of a) → ((n : ℕ) → has n (owners_of b) ≡ true → at n b.places ≡ at n a.places) → OwnersGo a b
-go_gone a b owner is stays = record {
+pub go_gone : (a b : ResourceState) (owner : ℕ) → owners_of b ≡ removed owner (owners_of a) → ((n : ℕ) → has n (owners_of b) ≡ true → at n b.places ≡ at n a.places) → b.plans ≡ a.plans → OwnersGo a b
+go_gone a b owner is stays plans = record {
+  left = plans_same a b plans;
   had = λ n there. has_of_removed n owner (owners_of a) (ap (has n) (sym is) ∙ there);
   stays = stays;
 }
@@ -189,15 +212,17 @@ owner_number None = refl
 owner_number (Some level) = refl
 
 -- the owners' room is no matter
-pub same_session : (a : StoreState) (b : ResourceState) (s : Space) → owners_of b ≡ owners_of a.owners → b.next_owner ≡ a.owners.next_owner → b.next_serial ≡ a.owners.next_serial → b.recent ≡ a.owners.recent → b.locks ≡ a.owners.locks → b.stack ≡ a.owners.stack → session_of (record a { owners = b }) s ≡ session_of a s
+pub same_session : (a : StoreState) (b : ResourceState) (s : Space) → owners_of b ≡ owners_of a.owners → b.next_owner ≡ a.owners.next_owner → b.next_serial ≡ a.owners.next_serial → b.recent ≡ a.owners.recent → b.locks ≡ a.owners.locks → b.stack ≡ a.owners.stack → b.plans ≡ a.owners.plans
+    → session_of (record a { owners = b }) s ≡ session_of a s
 unfolding session_of
-same_session a b s p q r f l k =
-    ap (λ (z : OwnerTree). record (session_of a s) { owners = z; next_owner = b.next_owner; next_serial = b.next_serial; recent = b.recent; locks = b.locks; snapshots = b.stack }) p
-    ∙ ap (λ (z : ℕ). record (session_of a s) { next_owner = z; next_serial = b.next_serial; recent = b.recent; locks = b.locks; snapshots = b.stack }) q
-    ∙ ap (λ (z : ℕ). record (session_of a s) { next_serial = z; recent = b.recent; locks = b.locks; snapshots = b.stack }) r
-    ∙ ap (λ (z : List ℕ). record (session_of a s) { recent = z; locks = b.locks; snapshots = b.stack }) f
-    ∙ ap (λ (z : List Lock). record (session_of a s) { locks = z; snapshots = b.stack }) l
-    ∙ ap (λ (z : List Active). record (session_of a s) { snapshots = z }) k
+same_session a b s p q r f l k m =
+    ap (λ (z : OwnerTree). record (session_of a s) { owners = z; next_owner = b.next_owner; next_serial = b.next_serial; recent = b.recent; locks = b.locks; snapshots = b.stack; plans = plans_of b }) p
+    ∙ ap (λ (z : ℕ). record (session_of a s) { next_owner = z; next_serial = b.next_serial; recent = b.recent; locks = b.locks; snapshots = b.stack; plans = plans_of b }) q
+    ∙ ap (λ (z : ℕ). record (session_of a s) { next_serial = z; recent = b.recent; locks = b.locks; snapshots = b.stack; plans = plans_of b }) r
+    ∙ ap (λ (z : List ℕ). record (session_of a s) { recent = z; locks = b.locks; snapshots = b.stack; plans = plans_of b }) f
+    ∙ ap (λ (z : List Lock). record (session_of a s) { locks = z; snapshots = b.stack; plans = plans_of b }) l
+    ∙ ap (λ (z : List Active). record (session_of a s) { snapshots = z; plans = plans_of b }) k
+    ∙ ap (λ (z : Plans). record (session_of a s) { plans = map plan_state z.standing }) m
 
 -- only the owners' room is another one
 pub room_acted : (a : StoreState) (b : ResourceState) (s : Space) (x : ShelfState) (commons : CommonState) → session_of (record a { owners = b }) s ≡ session_of a s → b.descriptors ≡ a.owners.descriptors → Balances a.owners b commons commons

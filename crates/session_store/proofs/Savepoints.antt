@@ -8,7 +8,7 @@ use Rattle.subxact_stack.specs.declared.levels.Level.{Level}
 use Rattle.subxact_stack.specs.Levels.{deepest_named, deepest_named_from, is_named}
 use Rattle.session_rules.specs.Commands.{savepoint}
 use Rattle.session_store.specs.State.{levels_of}
-use Rattle.session_store.proofs.Deepest.{ends, levels_are, levels_long}
+use Rattle.session_store.proofs.Depths.{ends, levels_are, levels_long}
 
 -- the number of a level that has the name
 abbrev numbered : Bool → ℕ → Option ℕ

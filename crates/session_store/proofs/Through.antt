@@ -1,5 +1,5 @@
 -- What calls on the tree of a store make of the store: it is seen as a value, and the tree is one of its fields.
-use Rattle.std.proofs.Common.{◌≡◌, ℕ, ◌+◌, ◌≤◌, Bool, true, false, List, [], ◌∷◌, Option, Some, Result, OnOk, OnErr, refl, sym, ap, subst}
+use Rattle.std.proofs.Common.{◌≡◌, ℕ, ◌+◌, ◌≤◌, Bool, true, false, List, [], ◌∷◌, Option, Some, Result, OnOk, OnErr, refl, sym, ap, ◌∙◌, subst, arith}
 use Rattle.std.specs.Prelude.{if◌then◌else◌}
 use Rattle.addr_space.specs.Space.{Asks, Space, held}
 use Rattle.addr_space.proofs.Options.{both_err, either_way, on_err}
@@ -26,12 +26,12 @@ use Rattle.session_rules.specs.Taking.{chunk_resized, hook_waits, memory_taken}
 use Rattle.session_rules.specs.Standing.{Stands}
 use Rattle.session_owners.specs.Commons.{CommonState}
 use Rattle.session_store.specs.State.{StoreState, contexts_in, held_in, left_in, scene_of, session_of}
-use Rattle.session_store.specs.Placed.{IsPlaced}
+use Rattle.session_store.specs.Placed.{HasLevels, IsPlaced}
 use Rattle.session_store.specs.Calls.{Acted, ContextsAlone, IsSilent, Keeps, Refused, StandsIn}
 use Rattle.session_rules.proofs.Standings.{own_there}
 use Rattle.session_store.proofs.Answered.{on_answer, on_both, on_three}
 use Rattle.session_store.proofs.Sums.{left_is}
-use Rattle.session_store.proofs.Kept.{AreThere, Goes, alone_on, are_there, goes_did, goes_nothing, nowhere, placed_on, switch_alone}
+use Rattle.session_store.proofs.Kept.{AreThere, Goes, alone_on, are_there, goes_did, goes_nothing, has_kept, nowhere, placed_on, switch_alone}
 use Rattle.session_store.proofs.Led.{change_acted, did_acted, made_acted, moved_acted, refused_nothing, refused_regions, refused_same, resized_acted, switch_acted, taken_acted, waits_acted}
 
 module _ (tree : TreeState) (owners : ResourceState) (levels : List Level) (v : StoreState) (is : record { tree = tree; owners = owners; levels = levels } ≡ v) where
@@ -48,8 +48,23 @@ module _ (tree : TreeState) (owners : ResourceState) (levels : List Level) (v : 
   pub stands_in : (s : Space) (x : ShelfState) (commons : CommonState) → StandsIn v s x commons → StandsIn (record { tree = tree; owners = owners; levels = levels }) s x commons
   stands_in s x commons stands = subst (λ (a : StoreState). StandsIn a s x commons) (sym is) stands
 
-  pub there_in : (s : Space) (x : ShelfState) (commons : CommonState) → StandsIn v s x commons → AreThere tree levels
+  pub there_in : (s : Space) (x : ShelfState) (commons : CommonState) → StandsIn v s x commons → AreThere tree owners levels
   there_in s x commons stands = are_there (record { tree = tree; owners = owners; levels = levels }) s x commons (stands_in s x commons stands)
+
+  -- the topmost context is there, and so are those of the levels
+  pub levels_in : (s : Space) (x : ShelfState) (commons : CommonState) → StandsIn v s x commons → HasLevels v.tree v.levels
+  unfolding session_of
+  levels_in s x commons stands =
+      let h : Stands (scene_of (record { tree = tree; owners = owners; levels = levels }) s x commons nowhere) = stands_in s x commons stands nowhere in
+      let there = there_in s x commons stands in
+      subst (λ (a : StoreState). HasLevels a.tree a.levels) is
+      (record {
+        top = sym (has_kept 1 tree s) ∙ own_there (scene_of (record { tree = tree; owners = owners; levels = levels }) s x commons nowhere) h 1 (omega arith) (omega arith);
+        levels = there.levels;
+      })
+
+  pub had_levels : HasLevels v.tree v.levels → HasLevels tree levels
+  had_levels h = subst (λ (a : StoreState). HasLevels a.tree a.levels) (sym is) h
 
   pub hooks_in : (s : Space) (x : ShelfState) (commons : CommonState) → StandsIn v s x commons → HooksFit (stands_for tree s) x
   unfolding session_of

@@ -1,6 +1,7 @@
 -- What calls make of a store, its space, the shelf of hooks and the commons of the run.
 use Rattle.std.specs.Prelude.{◌≡◌, ◌≢◌, true, List, []}
 use Rattle.pgs_step.specs.declared.ids.CtxId.{CtxId}
+use Rattle.pgs_step.specs.declared.ids.OwnerId.{OwnerId}
 use Rattle.pgs_step.specs.declared.events.What.{What}
 use Rattle.addr_space.specs.Space.{Space, held}
 use Rattle.forest.specs.Forest.{has}
@@ -9,6 +10,8 @@ use Rattle.context_tree.specs.State.{Agrees, IsLive, Moves, TreeState}
 use Rattle.session_rules.specs.World.{Around, Scene}
 use Rattle.session_rules.specs.Acts.{Ended}
 use Rattle.session_rules.specs.Standing.{Stands}
+use Rattle.session_owners.specs.ResourceState as owners
+use Rattle.session_owners.specs.ResourceState.{owners_of}
 use Rattle.session_owners.specs.Commons.{Balances, CommonState}
 use Rattle.session_store.specs.State.{StoreState, contexts_in, held_in, scene_of, session_of}
 
@@ -48,9 +51,27 @@ pub record ContextsAlone (a b : StoreState) (s t : Space) (c d : CommonState) : 
   pub levels : b.levels ≡ a.levels
   pub stays : (id : CtxId) → IsLive a.tree id → has id.number (contexts_in a s) ≡ true → has id.number (contexts_in b t) ≡ true → IsLive b.tree id
 
+-- Contexts and owners changed and nothing else of a store: the space has what the contexts have, it keeps what isn't theirs, the commons are
+-- in balance, and what is there still lies where it did.
+pub record BothAlone (a b : StoreState) (s t : Space) (c d : CommonState) : Type 0 where
+  pub keeps : Keeps b t
+  pub moves : Moves a.tree b.tree s t
+  pub balances : Balances a.owners b.owners c d
+  pub levels : b.levels ≡ a.levels
+  pub stays : (id : CtxId) → IsLive a.tree id → has id.number (contexts_in a s) ≡ true → has id.number (contexts_in b t) ≡ true → IsLive b.tree id
+  pub owner_stays : (id : OwnerId) → owners.IsLive a.owners id → has id.number (owners_of b.owners) ≡ true → owners.IsLive b.owners id
+
 -- The call was refused: the store, the shelf and the commons are as they were, and the session is.
 pub record Refused (a b : StoreState) (s t : Space) (x y : ShelfState) (c d : CommonState) : Type 0 where
   pub store : b ≡ a
+  pub shelf : y ≡ x
+  pub commons : d ≡ c
+  pub session : session_of b t ≡ session_of a s
+  pub limit : t.limit ≡ s.limit
+
+-- No plan was made: the same, but for the number for which room is reserved.
+pub record Unmade (a b : StoreState) (s t : Space) (x y : ShelfState) (c d : CommonState) : Type 0 where
+  pub store : b ≡ record a { owners = record a.owners { plans = record a.owners.plans { reserved = b.owners.plans.reserved } } }
   pub shelf : y ≡ x
   pub commons : d ≡ c
   pub session : session_of b t ≡ session_of a s

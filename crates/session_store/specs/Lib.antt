@@ -4,3 +4,4 @@ pub mod StateCode
 pub mod Placed
 pub mod Calls
 pub mod Owned
+pub mod Plans

@@ -6,7 +6,7 @@ use Rattle.reset_callbacks.specs.ShelfState.{ShelfState}
 use Rattle.pgs_step.specs.declared.ids.CtxId.{CtxId}
 use Rattle.context_rules.specs.Contexts.{Contexts, is_empty}
 use Rattle.context_tree.specs.State.{TreeState, stands_for}
-use Rattle.session_owners.specs.ResourceState.{ResourceState, owners_of}
+use Rattle.session_owners.specs.ResourceState.{ResourceState, owners_of, plans_of}
 use Rattle.session_owners.specs.Commons.{CommonState, seen_by}
 use Rattle.subxact_stack.specs.declared.levels.Level.{Level}
 use Rattle.session_rules.specs.State.{LevelState, SessionState}
@@ -34,7 +34,7 @@ level_state level = record {
 abbrev pub levels_of : List Level → List LevelState
 levels_of levels = map level_state (reverse levels)
 
--- The session that a store and its space stand for. No step yet makes a portal or a plan.
+-- The session that a store and its space stand for. No step yet makes a portal.
 unfoldable pub session_of : StoreState → Space → SessionState
 session_of store s = record {
   contexts = stands_for store.tree s;
@@ -47,7 +47,7 @@ session_of store s = record {
   levels = levels_of store.levels;
   portals = [];
   snapshots = store.owners.stack;
-  plans = [];
+  plans = plans_of store.owners;
   recent = store.owners.recent;
 }
 

@@ -20,6 +20,7 @@ ghost use Rattle.session_rules.specs.Making.{level_made, level_context_name, lev
 ghost use Rattle.session_rules.specs.Parts.{level_stands};
 ghost use Rattle.session_owners.specs.Commons.{CommonState};
 ghost use Rattle.session_store.specs.State.{contexts_in, left_in, level_state, levels_of};
+ghost use Rattle.session_store.specs.Placed.{HasLevels};
 ghost use Rattle.session_store.specs.Calls.{Acted, IsSilent, Keeps, Refused, StandsIn};
 
 use crate::store::Store;
@@ -34,7 +35,7 @@ use reset_callbacks::ResetHook;
 use subxact_stack::{Level, LevelError, Levels};
 
 /// The deepest level.
-pub(crate) fn deepest(levels: &Levels) -> Level
+pub fn deepest(levels: &Levels) -> Level
     requires { 0 < length levels.now }
     ensures { (outer : List ALevel) × (levels.now ≡ outer ++ result ∷ []) }
 {
@@ -144,9 +145,9 @@ impl<H: ResetHook> Store<H> {
     }
 
     /// The context of the level above the deepest, and where there is no such level the topmost one.
-    pub(crate) fn context_above(&self) -> CtxId
+    pub fn context_above(&self) -> CtxId
         requires level { 0 < length self.now.levels }
-        requires stands { (s : Space) × ((x : ShelfState) × ((c : CommonState) × StandsIn self.now s x c)) }
+        requires there { (s : Space) × HasLevels self.now.tree self.now.levels }
         ensures number { result.number ≡ level_parent (first_of (drop 1 (levels_of self.now.levels))) }
         ensures live { IsLive self.now.tree result }
     {

@@ -5,11 +5,12 @@ mod chunks;
 mod contexts;
 mod ends;
 mod hooks;
-mod level_ends;
 mod levels;
 mod owners;
+mod plans;
 mod snapshots;
 mod store;
 
 pub use hooks::RegisterError;
+pub use levels::deepest;
 pub use store::Store;

@@ -69,6 +69,7 @@ impl<H: ResetHook> Store<H> {
         ensures acted { (s : Space) (x : ShelfState) (c : CommonState) → Acted nothing self.old self.new s s x x c c IsSilent }
         ensures session { (s : Space) → session_of self.new s ≡ session_of self.old s }
         ensures alone { (c : CommonState) → OwnersAlone self.old self.new c c }
+        ensures plans { self.new.owners.plans ≡ self.old.owners.plans }
         ensures releasing { (result ≡ Err OwnerError.Releasing) ↔ (has_begun owner.number (owners_of self.old.owners) ≡ true) }
         ensures refused { OnErr result (self.new ≡ self.old) }
         ensures not_too_many { result ≢ Err OwnerError.TooMany }
@@ -252,64 +253,5 @@ impl<H: ResetHook> Store<H> {
         ensures silent { OnErr result (out.new ≡ out.old) }
     {
         self.owners.unlock(owner, object, mode, commons, out)
-    }
-
-    /// An owner forgets its newest item of this kind and key, and that is given back: `ResourceOwnerForget`.
-    ///
-    /// `Releasing` comes where the owner's release has begun, else `NotOwned` where it has no such item.
-    pub fn give_back<K: ExtKind, E: Emit>(
-        &mut self,
-        owner: OwnerId,
-        kind: KindId,
-        key: u32,
-        commons: &mut Commons<K>,
-        out: &mut E,
-    ) -> Result<Item, OwnerError>
-        requires live { IsLive self.old.owners owner }
-        requires serves { Serves self.old.owners commons.old }
-        ensures item { has_begun owner.number (owners_of self.old.owners) ≡ false → result ≡ ok_or (find (is_of kind key) (items_of owner.number (owners_of self.old.owners))) OwnerError.NotOwned }
-        ensures releasing { has_begun owner.number (owners_of self.old.owners) ≡ true → result ≡ Err OwnerError.Releasing }
-        ensures others { (other : ℕ) → other ≢ owner.number → spare_of other self.new.owners ≡ spare_of other self.old.owners }
-        ensures next_owner { self.new.owners.next_owner ≡ self.old.owners.next_owner }
-        ensures next_serial { self.new.owners.next_serial ≡ self.old.owners.next_serial }
-        ensures descriptors { self.new.owners.descriptors ≡ self.old.owners.descriptors }
-        ensures acted { OnOk result ((s : Space) (x : ShelfState) → Acted (item_released owner.number kind key) self.old self.new s s x x commons.old commons.new (λ events. E.emits out.old events out.new)) }
-        ensures alone { OnOk result (OwnersAlone self.old self.new commons.old commons.new) }
-        ensures refused { OnErr result (self.new ≡ self.old) }
-        ensures untouched { OnErr result (commons.new ≡ commons.old) }
-        ensures silent { OnErr result (out.new ≡ out.old) }
-    {
-        self.owners.give_back(owner, kind, key, commons, out)
-    }
-
-    /// Releases an owner and all below it, in the three phases: `ResourceOwnerRelease`. It takes no memory.
-    ///
-    /// `top` says that the owner is the topmost one. At commit each item's release stands behind its warning.
-    pub fn release<K: ExtKind, E: Emit>(
-        &mut self,
-        owner: OwnerId,
-        commit: bool,
-        top: bool,
-        commons: &mut Commons<K>,
-        out: &mut E,
-    )
-        requires live { IsLive self.old.owners owner }
-        requires top { (top ≡ true) ↔ (parent_of owner.number (owners_of self.old.owners) ≡ None) }
-        requires serves { Serves self.old.owners commons.old }
-        ensures nothing_left { AllAt HoldsNothing owner.number (owners_of self.new.owners) }
-        ensures acted { (s : Space) (x : ShelfState) → Acted (owner_released commit top owner.number) self.old self.new s s x x commons.old commons.new (λ events. E.emits out.old events out.new) }
-        ensures alone { OwnersAlone self.old self.new commons.old commons.new }
-    {
-        self.owners.release(owner, commit, top, commons, out);
-    }
-
-    /// Takes an owner out, with all below it, which hold nothing any more: `ResourceOwnerDelete`.
-    pub fn discard<E: Emit>(&mut self, owner: OwnerId, out: &mut E)
-        requires live { IsLive self.old.owners owner }
-        requires empty { AllAt HoldsNothing owner.number (owners_of self.old.owners) }
-        ensures acted { (s : Space) (x : ShelfState) (c : CommonState) → Acted (owner_gone owner.number) self.old self.new s s x x c c (λ events. E.emits out.old events out.new) }
-        ensures alone { (c : CommonState) → OwnersAlone self.old self.new c c }
-    {
-        self.owners.discard(owner, out);
     }
 }

@@ -29,15 +29,18 @@ use std::alloc::Global;
 use std::marker::Model;
 use subxact_stack::Levels;
 
-/// What one session of a backend holds: its memory contexts, its resource owners with what they hold, and the levels of its
-/// transaction. Each method does what one part of the session's rules says.
+/// What one session of a backend holds: its memory contexts, its resource owners with what they hold, its plans, and the levels of
+/// its transaction. Each method does what one part of the session's rules says.
 ///
 /// Contracts speak of the session that the store and its space stand for.
 #[derive(Drop)]
 pub struct Store<H: ResetHook> {
-    pub(crate) tree: ContextTree<H>,
-    pub(crate) owners: Resources,
-    pub(crate) levels: Levels,
+    /// The memory contexts.
+    pub tree: ContextTree<H>,
+    /// The resource owners with what they hold, and the plans.
+    pub owners: Resources,
+    /// The levels of the transaction, level 1 first.
+    pub levels: Levels,
 }
 
 impl<H: ResetHook> Model for Store<H> {

@@ -1,5 +1,5 @@
 use Rattle.std.proofs.Common.{sym}
-use Rattle.session_store.proofs.Deepest.{deepest_is}
+use Rattle.session_store.proofs.Depths.{deepest_is}
 use Rattle.session_store.proofs.levels.deepest.Goals as goal
 
 pub returns : goal.returns

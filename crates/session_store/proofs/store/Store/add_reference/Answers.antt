@@ -1,13 +1,13 @@
 -- The owner remembers one reference more, or nothing changed.
 use Rattle.session_rules.specs.Taking.{item_taken}
 use Rattle.session_store.proofs.Answered.{on_answer}
-use Rattle.session_store.proofs.Owned.{go_answered, go_changed, owners_after, owners_alone_after, placed_owners}
+use Rattle.session_store.proofs.Owned.{go_answered, go_alone, owners_after, owners_alone_after, placed_owners}
 use Rattle.session_store.proofs.store.Store.add_reference.Goals as goal
 
 pub invariant_of-self : goal.invariant_of-self
 invariant_of-self g c =
     placed_owners _ _ _ _ c.self.invariant
-    (go_answered c.add_reference.result _ _ _ _ c.add_reference.ensures.owners c.add_reference.ensures.refused c.add_reference.ensures.places)
+    (go_answered c.add_reference.result _ _ _ _ c.add_reference.ensures.owners c.add_reference.ensures.refused c.add_reference.ensures.places c.add_reference.ensures.plans)
 
 pub returns-clause-acted : goal.returns-clause-acted
 returns-clause-acted g c =
@@ -17,4 +17,4 @@ returns-clause-acted g c =
 
 pub returns-clause-alone : goal.returns-clause-alone
 returns-clause-alone g c =
-    on_answer c.add_reference.result (λ is commons. owners_alone_after _ _ _ _ c.self.view_is _ commons commons (go_changed _ _ _ _ is c.add_reference.ensures.places) (c.add_reference.ensures.balances commons)) c.add_reference.ensures.owners
+    on_answer c.add_reference.result (λ is commons. owners_alone_after _ _ _ _ c.self.view_is _ commons commons (go_alone _ _ _ _ is c.add_reference.ensures.places c.add_reference.ensures.plans) (c.add_reference.ensures.balances commons)) c.add_reference.ensures.owners

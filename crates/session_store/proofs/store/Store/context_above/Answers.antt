@@ -1,4 +1,4 @@
--- The level above has a context where the session stands, and it lies where its id says.
+-- The level above has a context that is there, and it lies where its id says.
 use Rattle.std.proofs.Common.{◌≡◌, ◌<◌, ℕ, Option, Some, length, IfSome, sym, ap, ◌∙◌, subst}
 use Rattle.std.specs.Prelude.{drop}
 use Rattle.std.specs.Option.{option_map, option_map_or}
@@ -7,28 +7,26 @@ use Rattle.context_tree.specs.State.{IsLive}
 use Rattle.session_rules.specs.State.{first_of}
 use Rattle.session_rules.specs.Making.{level_parent}
 use Rattle.session_store.specs.State.{StoreState, level_state, levels_of}
-use Rattle.session_store.specs.Placed.{LevelLies}
-use Rattle.session_store.proofs.Deepest.{above_first, all_level}
-use Rattle.session_store.proofs.Kept.{IsThere}
-use Rattle.session_store.proofs.Levelled.{context_live, top_there}
-use Rattle.session_store.proofs.Through.{stands_in, there_in}
+use Rattle.session_store.specs.Placed.{IsThere, LevelLies}
+use Rattle.session_store.proofs.Depths.{above_first, all_level}
+use Rattle.session_store.proofs.Kept.{has_kept}
+use Rattle.session_store.proofs.Levelled.{context_live}
+use Rattle.session_store.proofs.Through.{had_levels}
 use Rattle.session_store.proofs.store.Store.context_above.Goals as goal
 
 pub returns-in-None-clause-live : goal.returns-in-None-clause-live
 returns-in-None-clause-live g c =
     subst (λ (a : StoreState). IsLive a.tree c.top.result) c.self.view_is
-    (c.top.ensures.stands c.requires.stands.0
-    (top_there (record { tree = c.self.inside.tree; owners = c.self.inside.owners; levels = c.self.inside.levels }) _ _ c.requires.stands.1.1.0 (stands_in _ _ _ _ c.self.view_is _ _ c.requires.stands.1.1.0 c.requires.stands.1.1.1)))
+    (c.top.ensures.stands c.requires.there.0 (has_kept 1 c.self.inside.tree c.requires.there.0 ∙ (had_levels _ _ _ _ c.self.view_is c.requires.there.1).top))
 
 pub returns-in-None-context-clause-live : goal.returns-in-None-context-clause-live
 returns-in-None-context-clause-live g c =
     subst (λ (a : StoreState). IsLive a.tree c.top-in-None-context.result) c.self.view_is
-    (c.top-in-None-context.ensures.stands c.requires.stands.0
-    (top_there (record { tree = c.self.inside.tree; owners = c.self.inside.owners; levels = c.self.inside.levels }) _ _ c.requires.stands.1.1.0 (stands_in _ _ _ _ c.self.view_is _ _ c.requires.stands.1.1.0 c.requires.stands.1.1.1)))
+    (c.top-in-None-context.ensures.stands c.requires.there.0 (has_kept 1 c.self.inside.tree c.requires.there.0 ∙ (had_levels _ _ _ _ c.self.view_is c.requires.there.1).top))
 
 pub returns-in-Some-context-clause-live : goal.returns-in-Some-context-clause-live
 returns-in-Some-context-clause-live g c =
-    let there = there_in _ _ _ _ c.self.view_is _ _ c.requires.stands.1.1.0 c.requires.stands.1.1.1 in
+    let there = had_levels _ _ _ _ c.self.view_is c.requires.there.1 in
     let at = sym c.above.ensures ∙ c.in-Some.is in
     let live = context_live c.self.inside.tree c.self.inside.owners c.in-Some.level
     (all_level (LevelLies c.self.inside.tree c.self.inside.owners) c.self.inside.levels _ c.in-Some.level c.self.invariant.levels at)

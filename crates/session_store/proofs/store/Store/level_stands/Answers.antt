@@ -6,10 +6,9 @@ use Rattle.context_tree.specs.State.{TreeState}
 use Rattle.subxact_stack.specs.declared.levels.Level.{Level}
 use Rattle.session_rules.specs.Parts.{level_stands}
 use Rattle.session_store.specs.State.{StoreState}
-use Rattle.session_store.specs.Placed.{IsPlaced, LevelLies}
+use Rattle.session_store.specs.Placed.{IsPlaced, IsThere, LevelLies}
 use Rattle.session_store.specs.Calls.{Acted, IsSilent, Keeps}
-use Rattle.session_store.proofs.Deepest.{all_deepest, deepest_new}
-use Rattle.session_store.proofs.Kept.{IsThere}
+use Rattle.session_store.proofs.Depths.{all_deepest, deepest_new}
 use Rattle.session_store.proofs.Levelled.{context_live, current_lies, deepest_placed, have_owners, keeps_current, lies_at, stood_acted}
 use Rattle.session_store.proofs.Through.{stands_in, there_in}
 use Rattle.session_store.proofs.store.Store.level_stands.Goals as goal
@@ -35,7 +34,7 @@ invariant_of-self g c =
     (deepest_placed tree (record tree { current = to }) c.self.inside.owners c.self.inside.owners c.self.inside.levels c.deepest.ensures.0 c.deepest.result (record c.deepest.result { starting = false }) c.self.invariant c.deepest.ensures.1
     (λ l lies has. lies_at tree c.self.inside.owners to l lies) owned
     (λ lies. record { context = lies.context; owner = lies.owner })
-    (current_lies tree c.deepest.result.context (context_live tree c.self.inside.owners c.deepest.result lies.1 is.1) c.self.invariant.current)))
+    (current_lies tree c.deepest.result.context (context_live tree c.self.inside.owners c.deepest.result lies.1 is.1) c.self.invariant.current) c.self.invariant.plans))
 
 pub returns-clause-acted : goal.returns-clause-acted
 returns-clause-acted g c s x commons =

@@ -14,11 +14,11 @@ use Rattle.session_rules.specs.Making.{level_context_name, level_parent, new_con
 use Rattle.session_store.specs.State.{StoreState, level_state, levels_of}
 use Rattle.session_store.specs.Placed.{IsPlaced}
 use Rattle.session_store.specs.Calls.{Acted, Refused}
-use Rattle.session_store.proofs.Deepest.{deepest_new, ends, levels_are}
+use Rattle.session_store.proofs.Depths.{deepest_new, ends, levels_are}
 use Rattle.session_store.proofs.Kept.{goes_made}
 use Rattle.session_store.proofs.Levelled.{above_in, context_acted, deepest_placed, have_owners, keeps_parts}
 use Rattle.session_store.proofs.Sums.{keeps_on}
-use Rattle.session_store.proofs.Through.{agrees_in, keeps_in, left_through, live_in, placed_after, stands_in}
+use Rattle.session_store.proofs.Through.{agrees_in, keeps_in, left_through, levels_in, live_in, placed_after, stands_in}
 use Rattle.session_store.proofs.Led.{refused_regions}
 use Rattle.session_store.proofs.store.Store.make_level_context.Goals as goal
 
@@ -31,8 +31,8 @@ create-requires-clause-live g c = live_in _ _ _ _ c.self.view_is c.context_above
 pub create-requires-clause-room : goal.create-requires-clause-room
 create-requires-clause-room g c = subst (λ (a : StoreState). a.tree.next < 2 ^ 62) (sym c.self.view_is) c.requires.room
 
-pub context_above-parent-requires-clause-stands : goal.context_above-parent-requires-clause-stands
-context_above-parent-requires-clause-stands g c = (c.args.space.now, c.requires.stands)
+pub context_above-parent-requires-clause-there : goal.context_above-parent-requires-clause-there
+context_above-parent-requires-clause-there g c = (c.args.space.now, levels_in _ _ _ _ c.self.view_is _ _ c.requires.stands.1.0 c.requires.stands.1.1)
 
 pub invariant_of-self : goal.invariant_of-self
 invariant_of-self g c =
@@ -44,7 +44,7 @@ invariant_of-self g c =
     (deepest_placed c.create.new.self c.create.new.self a.owners a.owners a.levels e.0 e.1.0 (record e.1.0 { context = Some c.in-Ok.context }) placed e.1.1
     (λ l lies has. lies) (have_owners a _ _ c.requires.stands.1.0 (stands_in _ _ _ _ c.self.view_is _ _ c.requires.stands.1.0 c.requires.stands.1.1))
     (λ lies. record { context = λ there. c.in-Ok.ensures.live; owner = lies.owner })
-    placed.current)
+    placed.current placed.plans)
 
 pub returns-in-Ok-clause-acted : goal.returns-in-Ok-clause-acted
 returns-in-Ok-clause-acted g c x commons =

@@ -1,16 +1,18 @@
 -- The owner of the level above lies where its id says, and the new one is below it.
-use Rattle.std.proofs.Common.{◌<◌, List, Option, Some, length, IfSome, sym, ap, ◌∙◌, subst}
+use Rattle.std.proofs.Common.{◌<◌, All, List, Option, Some, length, IfSome, sym, ap, ◌∙◌, subst}
 use Rattle.std.specs.Prelude.{◌-◌}
 use Rattle.std.specs.Option.{option_and_then, option_map}
 use Rattle.pgs_step.specs.declared.ids.OwnerId.{OwnerId}
+use Rattle.plan_store.specs.Plans.{Plans}
 use Rattle.session_owners.specs.ResourceState as owners
+use Rattle.session_owners.specs.Placing.{contexts_of}
 use Rattle.subxact_stack.specs.declared.levels.Level.{Level}
 use Rattle.session_rules.specs.Elements.{OfLevel}
 use Rattle.session_rules.specs.Making.{new_owner_made}
 use Rattle.session_store.specs.State.{StoreState}
-use Rattle.session_store.specs.Placed.{IsPlaced}
+use Rattle.session_store.specs.Placed.{IsPlaced, Lies}
 use Rattle.session_store.specs.Calls.{Acted, Keeps}
-use Rattle.session_store.proofs.Deepest.{deepest_new, ends}
+use Rattle.session_store.proofs.Depths.{deepest_new, ends}
 use Rattle.session_store.proofs.Levelled.{above_live, above_owner, deepest_placed, have_owners, keeps_parts, owner_acted, owner_on}
 use Rattle.session_store.proofs.Through.{stands_in}
 use Rattle.session_store.proofs.store.Store.make_level_owner.Goals as goal
@@ -30,7 +32,7 @@ invariant_of-self g c =
     (λ l lies has. owner_on a.tree a.owners c.make_owner.new.self l c.in-Ok.ensures.stays lies has)
     (have_owners a _ _ c.requires.stands.1.1.0 (stands_in _ _ _ _ c.self.view_is _ _ c.requires.stands.1.1.0 c.requires.stands.1.1.1))
     (λ lies. record { context = lies.context; owner = λ there. c.in-Ok.ensures.live })
-    c.self.invariant.current)
+    c.self.invariant.current (subst (λ (p : Plans). All (Lies a.tree) (contexts_of p.standing)) (sym c.make_owner.ensures.plans) c.self.invariant.plans))
 
 pub returns-in-Ok-clause-acted : goal.returns-in-Ok-clause-acted
 returns-in-Ok-clause-acted g c s x commons =

@@ -2,13 +2,13 @@
 use Rattle.session_rules.specs.State.{file_kind}
 use Rattle.session_rules.specs.Taking.{item_taken}
 use Rattle.session_store.proofs.Answered.{on_answer}
-use Rattle.session_store.proofs.Owned.{go_answered, go_changed, owners_after, owners_alone_after, placed_owners}
+use Rattle.session_store.proofs.Owned.{go_answered, go_alone, owners_after, owners_alone_after, placed_owners}
 use Rattle.session_store.proofs.store.Store.open_file.Goals as goal
 
 pub invariant_of-self : goal.invariant_of-self
 invariant_of-self g c =
     placed_owners _ _ _ _ c.self.invariant
-    (go_answered c.open_file.result _ _ _ _ c.open_file.ensures.owners c.open_file.ensures.refused c.open_file.ensures.places)
+    (go_answered c.open_file.result _ _ _ _ c.open_file.ensures.owners c.open_file.ensures.refused c.open_file.ensures.places c.open_file.ensures.plans)
 
 pub returns-clause-acted : goal.returns-clause-acted
 returns-clause-acted g c =
@@ -18,4 +18,4 @@ returns-clause-acted g c =
 
 pub returns-clause-alone : goal.returns-clause-alone
 returns-clause-alone g c =
-    on_answer c.open_file.result (λ is commons. owners_alone_after _ _ _ _ c.self.view_is _ commons commons (go_changed _ _ _ _ is c.open_file.ensures.places) (c.open_file.ensures.balances commons)) c.open_file.ensures.owners
+    on_answer c.open_file.result (λ is commons. owners_alone_after _ _ _ _ c.self.view_is _ commons commons (go_alone _ _ _ _ is c.open_file.ensures.places c.open_file.ensures.plans) (c.open_file.ensures.balances commons)) c.open_file.ensures.owners

@@ -5,7 +5,7 @@ use Rattle.session_store.proofs.Owned.{go_same, owners_after, owners_alone_after
 use Rattle.session_store.proofs.store.Store.touch.Goals as goal
 
 pub invariant_of-self : goal.invariant_of-self
-invariant_of-self g c = placed_owners _ _ _ _ c.self.invariant (go_same _ _ c.touch.ensures.owners c.touch.ensures.places)
+invariant_of-self g c = placed_owners _ _ _ _ c.self.invariant (go_same _ _ c.touch.ensures.owners c.touch.ensures.places c.touch.ensures.plans)
 
 pub returns-clause-acted : goal.returns-clause-acted
 returns-clause-acted g c =
@@ -15,4 +15,4 @@ returns-clause-acted g c =
 
 pub returns-clause-alone : goal.returns-clause-alone
 returns-clause-alone g c =
-    on_answer c.touch.result (λ acted commons. owners_alone_after _ _ _ _ c.self.view_is _ commons commons (go_same _ _ c.touch.ensures.owners c.touch.ensures.places) (c.touch.ensures.balances commons)) c.touch.ensures.acted
+    on_answer c.touch.result (λ acted commons. owners_alone_after _ _ _ _ c.self.view_is _ commons commons (go_same _ _ c.touch.ensures.owners c.touch.ensures.places c.touch.ensures.plans) (c.touch.ensures.balances commons)) c.touch.ensures.acted

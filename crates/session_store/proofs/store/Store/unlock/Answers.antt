@@ -11,7 +11,7 @@ use Rattle.session_store.proofs.store.Store.unlock.Goals as goal
 pub invariant_of-self : goal.invariant_of-self
 invariant_of-self g c =
     placed_owners _ _ _ _ c.self.invariant
-    (go_same _ _ (ap owners_of c.unlock.ensures.locks_alone) (ap (λ (r : ResourceState). r.places) c.unlock.ensures.locks_alone))
+    (go_same _ _ (ap owners_of c.unlock.ensures.locks_alone) (ap (λ (r : ResourceState). r.places) c.unlock.ensures.locks_alone) (ap (λ (r : ResourceState). r.plans) c.unlock.ensures.locks_alone))
 
 pub returns-clause-acted : goal.returns-clause-acted
 returns-clause-acted g c =
@@ -23,7 +23,7 @@ pub returns-clause-alone : goal.returns-clause-alone
 returns-clause-alone g c =
     on_answer c.unlock.result
     (λ acted. owners_alone_after _ _ _ _ c.self.view_is _ c.args.commons.now c.unlock.new.commons
-    (go_same _ _ (ap owners_of c.unlock.ensures.locks_alone) (ap (λ (r : ResourceState). r.places) c.unlock.ensures.locks_alone)) c.unlock.ensures.balances)
+    (go_same _ _ (ap owners_of c.unlock.ensures.locks_alone) (ap (λ (r : ResourceState). r.places) c.unlock.ensures.locks_alone) (ap (λ (r : ResourceState). r.plans) c.unlock.ensures.locks_alone)) c.unlock.ensures.balances)
     c.unlock.ensures.acted
 
 pub unlock-requires : goal.unlock-requires

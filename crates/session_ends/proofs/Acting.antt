@@ -1,0 +1,92 @@
+-- Acts of the rules one behind the other, from store to store.
+use Rattle.std.proofs.Common.{ℕ, List, [], ◌∷◌, ◌++◌, refl, sym, ap, ◌∙◌, subst}
+use Rattle.addr_space.specs.Space.{Space}
+use Rattle.pgs_step.specs.declared.events.What.{What}
+use Rattle.pgs_step.specs.declared.ids.CtxId.{CtxId}
+use Rattle.reset_callbacks.specs.ShelfState.{ShelfState}
+use Rattle.context_rules.specs.Contexts.{Contexts}
+use Rattle.context_tree.specs.State.{TreeState, stands_for}
+use Rattle.session_rules.specs.World.{Around, Scene}
+use Rattle.session_rules.specs.Acts.{Ended, in_order, nothing, say}
+use Rattle.session_owners.specs.ResourceState.{ResourceState, owners_of, plans_of}
+use Rattle.session_owners.specs.Fitting as fitting
+use Rattle.session_owners.specs.Commons.{Balances, CommonState, seen_by}
+use Rattle.session_owners.proofs.Acts.{acted_nothing}
+use Rattle.session_owners.proofs.Balances.{balances_more, balances_none}
+use Rattle.session_store.specs.State.{StoreState, levels_of, scene_of, session_of}
+use Rattle.session_store.specs.Calls.{Acted, IsSilent}
+use Rattle.session_store.proofs.Owned.{owners_fit}
+use Rattle.session_ends.specs.Place.{HaveGone, hosting}
+
+-- a scene by what a release changes besides its owners
+abbrev scene_on : StoreState → ResourceState → Around → Contexts → ℕ → ℕ → ShelfState → CommonState → ℕ → Scene
+scene_on a q around contexts current next x commons limit = record {
+  session = record {
+    contexts = contexts;
+    current = current;
+    next_context = next;
+    owners = owners_of q;
+    next_owner = q.next_owner;
+    next_serial = q.next_serial;
+    locks = q.locks;
+    levels = levels_of a.levels;
+    portals = [];
+    snapshots = q.stack;
+    plans = plans_of q;
+    recent = q.recent;
+  };
+  around = record (seen_by q commons around) { shelf = x; space = limit; descriptors = q.descriptors };
+}
+
+-- an act on owners, by which contexts of plans may go
+pub acted_on : (act : Scene → Ended) (a : StoreState) (b : TreeState) (q : ResourceState) (s t : Space) (x y : ShelfState) (c d : CommonState) (Said : List What → Type 0) → fitting.ActedOn act a.owners q (hosting a.tree s x) (hosting b t y) c d Said → HaveGone a.tree b s t → Balances a.owners q c d
+    → Acted act a (record a { tree = b; owners = q }) s t x y c d Said
+unfolding session_of
+acted_on act a b q s t x y c d Said h gone balances = record {
+  leads = λ around.
+      h.leads (scene_of a s x c around) (owners_fit a s x c around) (record { contexts = refl; shelf = refl })
+      ∙ ap (λ (n : ℕ). scene_on a q around (stands_for b t) n a.tree.next y d s.limit) (ap (λ (id : CtxId). id.number) (sym gone.current))
+      ∙ ap (λ (n : ℕ). scene_on a q around (stands_for b t) b.current.number n y d s.limit) (sym gone.next)
+      ∙ ap (λ (n : ℕ). scene_on a q around (stands_for b t) b.current.number b.next y d n) (sym gone.moves.limit);
+  says = λ around. h.says (scene_of a s x c around) (owners_fit a s x c around) (record { contexts = refl; shelf = refl });
+  balances = balances;
+}
+
+-- nothing is done
+pub acted_on_nothing : (a : ResourceState) (h : fitting.Hosting) (c : CommonState) (Said : List What → Type 0) → Said [] → fitting.ActedOn nothing a a h h c c Said
+acted_on_nothing a h c Said none = record {
+  leads = λ scene fit hosts.
+      (acted_nothing a c Said none).leads scene fit
+      ∙ ap (λ (u : Contexts). fitting.with_hosting (record { contexts = u; shelf = scene.around.shelf }) (fitting.with_owners a c scene)) hosts.contexts
+      ∙ ap (λ (x : ShelfState). fitting.with_hosting (record { contexts = h.contexts; shelf = x }) (fitting.with_owners a c scene)) hosts.shelf;
+  says = λ scene fit hosts. none;
+}
+
+module _ (O : Type 0) (emits : O → List What → O → Type 0) (none : (o : O) → emits o [] o) (more : (o p q : O) (xs ys : List What) → emits o xs p → emits p ys q → emits o (xs ++ ys) q) where
+  pub acted_then : (f : Scene → Ended) (acts : List (Scene → Ended)) (a b e : StoreState) (s t u : Space) (x y z : ShelfState) (c d g : CommonState) (o p q : O) → Acted f a b s t x y c d (λ events. emits o events p) → Acted (in_order acts) b e t u y z d g (λ events. emits p events q)
+      → Acted (in_order (f ∷ acts)) a e s u x z c g (λ events. emits o events q)
+  acted_then f acts a b e s t u x y z c d g o p q first second = record {
+    leads = λ around. ap (λ (w : Scene). (in_order acts w).scene) (first.leads around) ∙ second.leads around;
+    says = λ around.
+        more o p q (f (scene_of a s x c around)).events (in_order acts (f (scene_of a s x c around)).scene).events (first.says around)
+        (subst (λ (w : Scene). emits p (in_order acts w).events q) (sym (first.leads around)) (second.says around));
+    balances = balances_more _ _ _ _ _ _ first.balances second.balances;
+  }
+
+  pub acted_end : (a : StoreState) (s : Space) (x : ShelfState) (c : CommonState) (o : O) → Acted (in_order []) a a s s x x c c (λ events. emits o events o)
+  acted_end a s x c o = record { leads = λ around. refl; says = λ around. none o; balances = balances_none a.owners c }
+
+  pub acted_nowhere : (a : StoreState) (s : Space) (x : ShelfState) (c : CommonState) (o : O) → Acted nothing a a s s x x c c (λ events. emits o events o)
+  acted_nowhere a s x c o = record { leads = λ around. refl; says = λ around. none o; balances = balances_none a.owners c }
+
+  -- an event is said
+  pub acted_said : (event : What) (a : StoreState) (s : Space) (x : ShelfState) (c : CommonState) (o p : O) → emits o (event ∷ []) p → Acted (say event) a a s s x x c c (λ events. emits o events p)
+  acted_said event a s x c o p says = record { leads = λ around. refl; says = λ around. says; balances = balances_none a.owners c }
+
+  -- nothing is said
+  pub acted_quiet : (act : Scene → Ended) (a b : StoreState) (s t : Space) (x y : ShelfState) (c d : CommonState) (o : O) → Acted act a b s t x y c d IsSilent → Acted act a b s t x y c d (λ events. emits o events o)
+  acted_quiet act a b s t x y c d o h = record {
+    leads = h.leads;
+    says = λ around. subst (λ (events : List What). emits o events o) (sym (h.says around)) (none o);
+    balances = h.balances;
+  }

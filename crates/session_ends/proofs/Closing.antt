@@ -1,0 +1,85 @@
+-- The topmost context goes with all below it: nothing is left.
+use Rattle.std.proofs.Common.{◌≡◌, ◌⊎◌, ℕ, true, false, List, [], ◌∷◌, ◌++◌, All, sym, ap, ◌∙◌, subst, inr, append-nil}
+use Rattle.std.proofs.lemmas.Bool.{both_ways}
+use Rattle.std.proofs.lemmas.List.Elements.{All-cons, All-nil}
+use Rattle.addr_space.specs.Space.{Space, held}
+use Rattle.forest.specs.Forest.{Empty, has, removed}
+use Rattle.pgs_step.specs.declared.ids.CtxId.{CtxId}
+use Rattle.pgs_step.specs.declared.events.What.{What}
+use Rattle.reset_callbacks.specs.ShelfState.{ShelfState}
+use Rattle.context_rules.specs.Ends.{gone}
+use Rattle.context_rules.specs.Refusals.{is_within}
+use Rattle.context_tree.specs.Calls.{Did}
+use Rattle.context_tree.specs.State.{TreeState, stands_for, total_of}
+use Rattle.session_rules.specs.World.{Scene}
+use Rattle.session_rules.specs.Acts.{Ended, context_gone, in_order, switched}
+use Rattle.session_rules.specs.Standing.{Stands}
+use Rattle.session_rules.proofs.ContextsKept.{nothing_left}
+use Rattle.session_owners.specs.Placing.{contexts_of}
+use Rattle.session_owners.specs.Commons.{CommonState}
+use Rattle.session_owners.proofs.Balances.{balances_more}
+use Rattle.session_store.specs.State.{StoreState, scene_of, session_of}
+use Rattle.session_store.specs.Placed.{IsPlaced, LevelLies, Lies}
+use Rattle.session_store.specs.Calls.{Acted, IsSilent, Keeps, StandsIn}
+use Rattle.session_store.proofs.Kept.{has_kept, nowhere}
+use Rattle.session_store.proofs.Led.{did_acted, switch_acted}
+use Rattle.session_store.proofs.Sums.{held_is}
+use Rattle.session_ends.proofs.Ending.{keeps_left}
+
+-- no context lies
+none_lies : (b : TreeState) → ((n : ℕ) → has n b.kept ≡ true → ⊥) → (ids : List CtxId) → All (Lies b) ids
+none_lies b none [] = All-nil (Lies b)
+none_lies b none (id ∷ ids) = All-cons (Lies b) id ids (λ there. absurd (none id.number there)) (none_lies b none ids)
+
+-- one act in silence, and then another
+acted_two : (f h : Scene → Ended) (a b c : StoreState) (s t u : Space) (x y z : ShelfState) (commons : CommonState) (Said : List What → Type 0) → Acted f a b s t x y commons commons IsSilent → Acted h b c t u y z commons commons Said → Acted (in_order (f ∷ h ∷ [])) a c s u x z commons commons Said
+acted_two f h a b c s t u x y z commons Said first second = record {
+  leads = λ around. ap (λ (w : Scene). (h w).scene) (first.leads around) ∙ second.leads around;
+  says = λ around.
+      subst Said
+      (sym
+      (ap (λ (es : List What). es ++ ((h (f (scene_of a s x commons around)).scene).events ++ [])) (first.says around)
+      ∙ append-nil (h (f (scene_of a s x commons around)).scene).events
+      ∙ ap (λ (w : Scene). (h w).events) (first.leads around)))
+      (second.says around);
+  balances = balances_more _ _ _ _ _ _ first.balances second.balances;
+}
+
+module _ (a : StoreState) (s : Space) (x : ShelfState) (commons : CommonState) (top : CtxId) (number : top.number ≡ 1) (stands : StandsIn a s x commons) where
+  all_gone : removed top.number (stands_for a.tree s) ≡ Empty
+  unfolding session_of
+  all_gone =
+      let h : Stands (scene_of a s x commons nowhere) = stands nowhere in
+      ap (λ (n : ℕ). removed n (stands_for a.tree s)) number ∙ nothing_left (stands_for a.tree s) a.tree.next h.contexts
+
+  pub top_apart : (tree : TreeState) → tree ≡ record a.tree { current = top }
+      → (is_within top.number tree.current.number (stands_for tree s) ≡ false) ⊎ ((tree.current.number ≡ top.number) × (removed top.number (stands_for tree s) ≡ Empty))
+  unfolding stands_for
+  top_apart tree is = inr (ap (λ (t : TreeState). t.current.number) is, ap (λ (t : TreeState). removed top.number (stands_for t s)) is ∙ all_gone)
+
+  module _ (b : TreeState) (t : Space) (y : ShelfState) (did : Did (gone top.number (stands_for (record a.tree { current = top }) s)) (record a.tree { current = top }) b s t x y) where
+    left_empty : stands_for b t ≡ Empty
+    unfolding stands_for
+    left_empty = did.contexts ∙ all_gone
+
+    nowhere_kept : (n : ℕ) → has n b.kept ≡ true → ⊥
+    nowhere_kept n there = both_ways (has n b.kept) (sym (has_kept n b t) ∙ ap (has n) left_empty) there
+
+    pub placed_nowhere : a.levels ≡ [] → IsPlaced b a.owners a.levels
+    placed_nowhere none = record {
+      current = λ there. absurd (nowhere_kept b.current.number there);
+      levels = subst (All (LevelLies b a.owners)) (sym none) (All-nil (LevelLies b a.owners));
+      plans = none_lies b nowhere_kept (contexts_of a.owners.plans.standing);
+    }
+
+    pub holds_nothing : Keeps a s → held t a.tree.account ≡ 0
+    holds_nothing keeps =
+        let k = keeps_left a top b a.owners a.levels s t keeps did.moves in
+        ap (held t) (sym did.moves.account) ∙ k.held ∙ held_is (record { tree = b; owners = a.owners; levels = a.levels }) t ∙ ap total_of left_empty
+
+    pub closed : (m : CommonState) (Said : List What → Type 0) → Said (gone top.number (stands_for (record a.tree { current = top }) s)).events
+        → Acted (in_order (switched 1 ∷ context_gone 1 ∷ [])) a (record { tree = b; owners = a.owners; levels = a.levels }) s t x y m m Said
+    closed m Said says =
+        subst (λ (n : ℕ). Acted (in_order (switched n ∷ context_gone n ∷ [])) a (record { tree = b; owners = a.owners; levels = a.levels }) s t x y m m Said) number
+        (acted_two (switched top.number) (context_gone top.number) a (record a { tree = record a.tree { current = top } }) (record { tree = b; owners = a.owners; levels = a.levels }) s s t x x y m Said
+        (switch_acted a top s x m) (did_acted (gone top.number) (record a { tree = record a.tree { current = top } }) b s t x y m Said did says))

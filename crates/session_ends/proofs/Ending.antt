@@ -1,0 +1,224 @@
+-- What the ends of levels ask for, where the deepest level may go, and what still lies behind them.
+use Rattle.std.proofs.Common.{◌≡◌, ◌↔◌, ℕ, ◌+◌, ◌<◌, Bool, true, false, Option, Some, None, List, [], ◌∷◌, ◌++◌, length, All, IfSome, IsSome, refl, sym, ap, ◌∙◌, subst, arith}
+use Rattle.std.specs.Prelude.{◌==◌, drop, if◌then◌else◌, reverse, unwrap_or}
+use Rattle.std.specs.Option.{option_map, option_to_list}
+use Rattle.std.proofs.lemmas.Bool.{eq-eqb, eqb-true}
+use Rattle.std.proofs.lemmas.List.{length-append}
+use Rattle.std.proofs.lemmas.List.Elements.{All-cons, All-head, All-nil, All-tail}
+use Rattle.addr_space.specs.Space.{Asks, Space}
+use Rattle.forest.specs.Forest.{has, at, parent_of}
+use Rattle.forest.proofs.Mapped.{mapped-has}
+use Rattle.pgs_step.specs.declared.ids.CtxId.{CtxId}
+use Rattle.pgs_step.specs.declared.ids.OwnerId.{OwnerId}
+use Rattle.reset_callbacks.specs.ShelfState.{ShelfState}
+use Rattle.context_rules.specs.Contexts.{Contexts, is_empty}
+use Rattle.context_rules.specs.Refusals.{is_within}
+use Rattle.context_tree.specs.State.{TreeState, Agrees, HooksFit, IsLive, Moves, place_of, stands_for}
+use Rattle.context_tree.proofs.Composed.{tree_more}
+use Rattle.plan_store.specs.Plans.{Plans}
+use Rattle.session_owners.specs.ResourceState.{AllAt, HoldsNothing, ResourceState, Roomy, owners_of}
+use Rattle.session_owners.specs.Placing.{contexts_of}
+use Rattle.subxact_stack.specs.declared.levels.Level.{Level}
+use Rattle.session_rules.specs.State.{LevelState, context_of, first_of, owner_of}
+use Rattle.session_rules.specs.World.{Scene}
+use Rattle.session_rules.specs.Acts.{context_gone, where_so, where_there}
+use Rattle.session_rules.specs.Standing.{AreLevels, AreOuter}
+use Rattle.session_rules.proofs.ContextsKept.{protected_has, top_protected}
+use Rattle.session_rules.proofs.Standings.{top_owner}
+use Rattle.session_owners.specs.Commons.{CommonState}
+use Rattle.session_store.specs.State.{StoreState, level_state, levels_of, only_empty, scene_of, session_of}
+use Rattle.session_store.specs.Placed.{HasLevels, IsPlaced, IsThere, LevelLies, Lies}
+use Rattle.session_store.specs.Calls.{Keeps, StandsIn}
+use Rattle.session_store.proofs.Answered.{if_some, some_both}
+use Rattle.session_store.proofs.Depths.{all_deepest, levels_are, levels_long}
+use Rattle.session_store.proofs.Kept.{HasContext, has_kept, levels_there, nowhere, plans_on}
+use Rattle.session_store.proofs.Levelled.{HasOwner, keeps_current, keeps_parts, owners_there, stands_deep}
+use Rattle.session_store.proofs.Lists.{all_reverse}
+use Rattle.session_store.proofs.Sums.{keeps_on}
+use Rattle.session_ends.specs.Parts.{IsFreed, going}
+use Rattle.session_ends.proofs.Freed.{outside}
+
+-- the levels without the deepest
+before_last : List Level → List Level
+before_last [] = []
+before_last (x ∷ []) = []
+before_last (x ∷ y ∷ xs) = x ∷ before_last (y ∷ xs)
+
+before_is : (xs : List Level) (x : Level) → before_last (xs ++ x ∷ []) ≡ xs
+unfolding before_last
+before_is [] x = refl
+before_is (y ∷ []) x = refl
+before_is (y ∷ z ∷ xs) x = ap (λ (zs : List Level). y ∷ zs) (before_is (z ∷ xs) x)
+
+pub popped_is : (levels outer new : List Level) (level : Level) (r : Option Level) → levels ≡ outer ++ level ∷ [] → levels ≡ new ++ option_to_list r → (IsSome r ↔ (0 < length levels)) → new ≡ outer
+popped_is levels outer new level None e f some =
+    absurd (let no : false ≡ true = some.1 (omega (arith, ap length e, length-append outer (level ∷ []))) in cc)
+popped_is levels outer new level (Some last) e f some = sym (before_is new last) ∙ ap before_last (sym f ∙ e) ∙ before_is outer level
+
+-- what stands before the last of some levels
+pub same_before : (outer new : List Level) (level last : Level) → outer ++ level ∷ [] ≡ new ++ last ∷ [] → new ≡ outer
+same_before outer new level last e = sym (before_is new last) ∙ ap before_last (sym e) ∙ before_is outer level
+
+no_levels : (outer : List Level) → length outer ≡ 0 → levels_of outer ≡ []
+no_levels [] e = refl
+no_levels (x ∷ xs) e = absurd (cc e)
+
+-- one level alone
+pub alone : (levels outer : List Level) (level : Level) → levels ≡ outer ++ level ∷ [] → length levels ≡ 1 → outer ≡ []
+alone levels [] level e one = refl
+alone levels (x ∷ xs) level e one = absurd (omega (arith, one, ap length e, length-append (x ∷ xs) (level ∷ [])))
+
+-- the owner of the deepest level is a topmost one exactly where that is level 1
+pub owner_top : (a : StoreState) (s : Space) (x : ShelfState) (commons : CommonState) (outer : List Level) (level : Level) → a.levels ≡ outer ++ level ∷ [] → StandsIn a s x commons → (b : Bool) → b ≡ (length a.levels == 1)
+    → IfSome level.owner (λ o. (b ≡ true) ↔ (parent_of o.number (owners_of a.owners) ≡ None))
+unfolding session_of
+owner_top a s x commons outer level e stands b is =
+    if_some level.owner (λ id f.
+    let t = top_owner (level_state level) (levels_of outer) (scene_of a s x commons nowhere) id.number (stands_deep a s x commons outer level e stands) (ap (option_map (λ (o : OwnerId). o.number)) f) in
+    let long : length a.levels ≡ length outer + 1 = ap length e ∙ length-append outer (level ∷ []) in (
+      λ y. t.0 (no_levels outer (let one : length a.levels ≡ 1 = eqb-true (length a.levels) 1 (sym is ∙ y) in omega (arith, one, long))),
+      λ top. is ∙ eq-eqb (length a.levels) 1 (omega (arith, long, levels_long outer, ap length (t.1 top))),
+    ))
+
+-- where the deepest level may go
+module _ (a : StoreState) (s : Space) (x : ShelfState) (freed : IsFreed a s x) where
+  pub there_freed : All (IsThere a.tree) a.levels
+  unfolding session_of
+  there_freed = all_reverse (IsThere a.tree) a.levels (levels_there a.tree s (owners_of a.owners) (reverse a.levels) freed.levels)
+
+  pub owners_freed : All (HasOwner a.owners) a.levels
+  unfolding session_of
+  owners_freed = all_reverse (HasOwner a.owners) a.levels (owners_there (stands_for a.tree s) a.owners (reverse a.levels) freed.levels)
+
+  pub levels_freed : HasLevels a.tree a.levels
+  unfolding session_of
+  levels_freed = record {
+    top = sym (has_kept 1 a.tree s) ∙ protected_has 1 (stands_for a.tree s) (top_protected (stands_for a.tree s) a.tree.next freed.contexts);
+    levels = there_freed;
+  }
+
+  pub hooks_freed : HooksFit (stands_for a.tree s) x
+  unfolding session_of
+  hooks_freed = record { out = freed.hooks.out; words = freed.hooks.words }
+
+  module _ (outer : List Level) (level : Level) (e : a.levels ≡ outer ++ level ∷ []) where
+    are_levels : levels_of a.levels ≡ level_state level ∷ levels_of outer
+    are_levels = ap levels_of e ∙ levels_are outer level
+
+    -- the deepest level's owner holds nothing
+    pub idle_freed : IfSome level.owner (λ o. AllAt HoldsNothing o.number (owners_of a.owners))
+    unfolding session_of
+    idle_freed = if_some level.owner (λ id f. freed.idle id.number (ap (λ (ls : List LevelState). owner_of (first_of ls)) are_levels ∙ ap (option_map (λ (o : OwnerId). o.number)) f))
+
+    -- the context that is the current one behind it isn't among those that go
+    pub gone_apart : (up : ℕ) → up ≡ unwrap_or (context_of (first_of (levels_of outer))) 1 → IfSome level.context (λ id. is_within id.number up (stands_for a.tree s) ≡ false)
+    unfolding session_of
+    gone_apart up is =
+        if_some level.context (λ id f.
+        subst (λ (n : ℕ). is_within id.number n (stands_for a.tree s) ≡ false) (sym is)
+        (outside (level_state level) (levels_of outer) (stands_for a.tree s) (owners_of a.owners) a.tree.next id.number freed.contexts
+        (subst (λ (ls : List LevelState). AreLevels ls (stands_for a.tree s) (owners_of a.owners)) are_levels freed.levels)
+        (subst (λ (ls : List LevelState). AreOuter (drop 1 ls)) are_levels freed.outer)
+        (ap (option_map (λ (c : CtxId). c.number)) f)))
+
+-- what holds of a context holds of it where it is empty
+kept_some : (P : CtxId → Type 0) (context : Option CtxId) (contexts : Contexts) → IfSome context P → IfSome (only_empty context contexts) P
+kept_some P None contexts holds = holds
+kept_some P (Some id) contexts holds = go (is_empty id.number contexts)
+  where
+    go : (b : Bool) → IfSome (if b then Some id else None) P
+    go true = holds
+    go false = tt
+
+-- a context goes where it is empty
+only_gone : (context : Option CtxId) (z : Scene)
+    → where_there (option_map (λ (id : CtxId). id.number) context) (λ n. where_so (is_empty n z.session.contexts) (context_gone n)) z
+    ≡ where_there (option_map (λ (id : CtxId). id.number) (only_empty context z.session.contexts)) context_gone z
+only_gone None z = refl
+only_gone (Some id) z = go (is_empty id.number z.session.contexts)
+  where
+    go : (b : Bool) → where_so b (context_gone id.number) z ≡ where_there (option_map (λ (id : CtxId). id.number) (if b then Some id else None)) context_gone z
+    go true = refl
+    go false = refl
+
+pub going_some : (P : CtxId → Type 0) (merged : Bool) (context : Option CtxId) (contexts : Contexts) → IfSome context P → IfSome (going merged context contexts) P
+going_some P true context contexts holds = kept_some P context contexts holds
+going_some P false context contexts holds = holds
+
+pub going_gone : (merged : Bool) (context : Option CtxId) (z : Scene)
+    → (if merged then where_there (option_map (λ (id : CtxId). id.number) context) (λ n. where_so (is_empty n z.session.contexts) (context_gone n)) z else where_there (option_map (λ (id : CtxId). id.number) context) context_gone z)
+    ≡ where_there (option_map (λ (id : CtxId). id.number) (going merged context z.session.contexts)) context_gone z
+going_gone true context z = only_gone context z
+going_gone false context z = refl
+
+-- the levels above still lie
+module _ (tree b : TreeState) (table now : ResourceState) (contexts : (n : ℕ) → has n b.kept ≡ true → place_of b n ≡ place_of tree n)
+    (others : (n : ℕ) → has n (owners_of now) ≡ true → at n now.places ≡ at n table.places) where
+  level_left : (level : Level) → LevelLies tree table level → IsThere tree level → HasOwner table level → LevelLies b now level
+  level_left level lies there has = record {
+    context = some_both level.context (λ id l h still. contexts id.number still ∙ l h) lies.context there;
+    owner =
+        some_both level.owner (λ id l h still.
+        others id.number (mapped-has (λ (r : Roomy). r.owner) id.number now.rooms ∙ still) ∙ l (sym (mapped-has (λ (r : Roomy). r.owner) id.number table.rooms) ∙ h)) lies.owner has;
+  }
+
+  pub all_left : (levels : List Level) → All (LevelLies tree table) levels → All (IsThere tree) levels → All (HasOwner table) levels → All (LevelLies b now) levels
+  all_left [] lies there has = All-nil (LevelLies b now)
+  all_left (l ∷ ls) lies there has =
+      All-cons (LevelLies b now) l ls
+      (level_left l (All-head (LevelLies tree table) l ls lies) (All-head (IsThere tree) l ls there) (All-head (HasOwner table) l ls has))
+      (all_left ls (All-tail (LevelLies tree table) l ls lies) (All-tail (IsThere tree) l ls there) (All-tail (HasOwner table) l ls has))
+
+  pub left_placed : (levels outer new : List Level) (level : Level) (up : CtxId) → levels ≡ outer ++ level ∷ [] → new ≡ outer → All (LevelLies tree table) levels → All (IsThere tree) levels → All (HasOwner table) levels
+      → IsLive tree up → b.current ≡ up → now.plans ≡ table.plans → All (Lies tree) (contexts_of table.plans.standing) → All (HasContext tree) (contexts_of table.plans.standing) → IsPlaced b now new
+  left_placed levels outer new level up e f lies there has live current same lie had =
+      subst (IsPlaced b now) (sym f)
+      (record {
+        current = subst (λ (id : CtxId). Lies b id) (sym current) (λ still. contexts up.number still ∙ live);
+        levels =
+            let l = all_deepest (LevelLies tree table) levels outer level e lies in
+            let t = all_deepest (IsThere tree) levels outer level e there in
+            let h = all_deepest (HasOwner table) levels outer level e has in
+            all_left outer l.0 t.0 h.0;
+        plans =
+            subst (λ (p : Plans). All (Lies b) (contexts_of p.standing)) (sym same)
+            (plans_on tree b (contexts_of table.plans.standing) (λ n was still. contexts n still) lie had);
+      })
+
+-- the tree changed, whichever context was the current one before
+pub moves_back : (tree b : TreeState) (id : CtxId) (s t : Space) → Moves (record tree { current = id }) b s t → Moves tree b s t
+unfolding stands_for
+moves_back tree b id s t m = record {
+  agrees = m.agrees;
+  account = m.account;
+  outside = m.outside;
+  accounts = m.accounts;
+  limit = m.limit;
+  own = m.own;
+  others = m.others;
+}
+
+-- the store keeps up with the space behind the end of a level
+pub keeps_left : (a : StoreState) (id : CtxId) (b : TreeState) (now : ResourceState) (new : List Level) (s t : Space) → Keeps a s → Moves (record a.tree { current = id }) b s t → Keeps (record { tree = b; owners = now; levels = new }) t
+keeps_left a id b now new s t keeps moves =
+    keeps_parts (record { tree = b; owners = a.owners; levels = a.levels }) now new t
+    (keeps_on (record { tree = record a.tree { current = id }; owners = a.owners; levels = a.levels }) b s t (keeps_current a id a.owners a.levels s keeps) moves)
+
+pub agrees_current : (a : StoreState) (id : CtxId) (s : Space) → Keeps a s → Agrees (record a.tree { current = id }) s
+agrees_current a id s keeps = let k = keeps_current a id a.owners a.levels s keeps in k.agrees
+
+pub hooks_current : (tree : TreeState) (id : CtxId) (s : Space) (x : ShelfState) → HooksFit (stands_for tree s) x → HooksFit (stands_for (record tree { current = id }) s) x
+unfolding stands_for
+hooks_current tree id s x fit = fit
+
+pub apart_current : (tree : TreeState) (id : CtxId) (s : Space) (context : Option CtxId) → IfSome context (λ c. is_within c.number id.number (stands_for tree s) ≡ false)
+    → IfSome context (λ c. is_within c.number (record tree { current = id }).current.number (stands_for (record tree { current = id }) s) ≡ false)
+unfolding stands_for
+apart_current tree id s context apart = apart
+
+-- one thing behind another, from a store that is seen as another one
+pub moves_then : (a b d e : TreeState) (s t u : Space) → Moves a b s t → d ≡ b → Moves d e t u → Moves a e s u
+moves_then a b d e s t u first is second = tree_more a b e s t u first (subst (λ (z : TreeState). Moves z e t u) is second)
+
+pub asked_then : (a b d : TreeState) (s t u : Space) → Asks a.account 0 s t → b.account ≡ a.account → d ≡ b → Asks d.account 0 t u → Asks a.account 0 s u
+asked_then a b d s t u first same is second = subst (λ (n : ℕ). Asks n 0 t u) (ap (λ (z : TreeState). z.account) is ∙ same) second ∙ first

@@ -1,0 +1,132 @@
+-- The deepest level is marked as aborted, another context is the current one, and active snapshots are popped: what that leaves as it was.
+use Rattle.std.proofs.Common.{◌≡◌, ℕ, ◌<◌, true, Some, List, [], ◌∷◌, ◌++◌, length, All, refl, sym, ap, ◌∙◌, subst, arith}
+use Rattle.std.specs.Prelude.{drop}
+use Rattle.std.proofs.lemmas.List.Elements.{All-push, All-weaker}
+use Rattle.addr_space.specs.Space.{Space}
+use Rattle.pgs_step.specs.declared.ids.CtxId.{CtxId}
+use Rattle.reset_callbacks.specs.ShelfState.{ShelfState}
+use Rattle.context_rules.specs.Contexts.{Contexts}
+use Rattle.context_tree.specs.State.{TreeState, stands_for}
+use Rattle.session_owners.specs.ResourceState.{ResourceState, owners_of}
+use Rattle.session_owners.specs.Commons.{CommonState}
+use Rattle.session_owners.proofs.Balances.{balances_none}
+use Rattle.subxact_stack.specs.declared.levels.Level.{Level}
+use Rattle.subxact_stack.specs.Levels.{with_deepest}
+use Rattle.session_rules.specs.State.{LevelState, abort_context, deepest_changed, first_of, owner_of}
+use Rattle.session_rules.specs.World.{Scene}
+use Rattle.session_rules.specs.Acts.{changes}
+use Rattle.session_rules.specs.Standing.{AreLevels, AreOuter, IsPortal, Stands, referred}
+use Rattle.session_rules.proofs.ContextsKept.{protected_has}
+use Rattle.session_rules.proofs.EndsStand.{settled}
+use Rattle.session_rules.proofs.PlansAmong.{own_other, plans_current}
+use Rattle.session_rules.proofs.PortalsAmong.{place_own}
+use Rattle.session_store.specs.State.{StoreState, level_state, levels_of, scene_of, session_of}
+use Rattle.session_store.specs.Placed.{IsPlaced, LevelLies}
+use Rattle.session_store.specs.Calls.{Acted, IsSilent, StandsIn}
+use Rattle.session_store.proofs.Depths.{all_deepest, deepest_new, levels_are, levels_long}
+use Rattle.session_store.proofs.Levelled.{leveled}
+use Rattle.session_ends.specs.Parts.{IsFreed}
+
+-- the context for aborts is the current one, where there is a level
+off_stands : (levels : List LevelState) (s : Scene) → 0 < length levels → Stands (settled levels s) → Stands (settled levels (record s { session = record s.session { current = abort_context } }))
+off_stands [] s some h = absurd (omega (arith, some))
+off_stands (level ∷ levels) s some h =
+    let t : Contexts = s.session.contexts in
+    let cur : ℕ = s.session.current in
+    record {
+      contexts = h.contexts;
+      current = protected_has abort_context t (h.contexts.own abort_context (omega arith) (omega arith)).protected;
+      hooks = h.hooks;
+      levels = h.levels;
+      fit = (
+        record {
+          made = h.fit.0.made;
+          empty = h.fit.0.empty;
+          alone = h.fit.0.alone;
+          idle = h.fit.0.idle;
+          released = h.fit.0.released;
+          at_abort = λ _. refl;
+          open_level = h.fit.0.open_level;
+        },
+        h.fit.1,
+      );
+      kinds = h.kinds;
+      owners = h.owners;
+      portals = record {
+        each = All-weaker (λ p. IsPortal p (level ∷ levels) t s.session.owners cur) (λ p. IsPortal p (level ∷ levels) t s.session.owners abort_context)
+            (λ p i. record {
+              place = λ n f. place_own t s.session.next_context h.contexts abort_context (omega arith) (omega arith) n p.expr cur (i.place n f);
+              made = i.made;
+              owner = i.owner;
+              stage = i.stage;
+            }) s.session.portals h.portals.each;
+        different = h.portals.different;
+      };
+      plans = plans_current s.session.plans t cur abort_context (referred s.session.owners) (own_other abort_context (omega arith) t) h.plans;
+      snapshots = h.snapshots;
+    }
+
+pub stands_off : (a : StoreState) (s : Space) (x : ShelfState) (commons : CommonState) (id : CtxId) → id.number ≡ abort_context → 0 < length a.levels → StandsIn a s x commons → StandsIn (record a { tree = record a.tree { current = id } }) s x commons
+unfolding session_of stands_for
+stands_off a s x commons id number some stands around =
+    let some' : 0 < length (levels_of a.levels) = omega (arith, some, levels_long a.levels) in
+    let z : Scene = scene_of a s x commons around in
+    subst (λ (n : ℕ). Stands (record z { session = record z.session { current = n } })) (sym number) (off_stands (levels_of a.levels) z some' (stands around))
+
+-- only active snapshots are others
+pub stacked_freed : (b : StoreState) (q : ResourceState) (s : Space) (x : ShelfState) → q ≡ record b.owners { stack = q.stack } → IsFreed b s x → IsFreed (record b { owners = q }) s x
+unfolding session_of
+stacked_freed b q s x is f =
+    subst (λ (r : ResourceState). IsFreed (record b { owners = r }) s x) (sym {b = record b.owners { stack = q.stack }} is)
+    (record { contexts = f.contexts; current = f.current; hooks = f.hooks; levels = f.levels; outer = f.outer; plans = f.plans; idle = f.idle })
+
+-- the deepest level is marked
+abbrev pub marked : Level → Level
+marked level = record level { aborted = true }
+
+module _ (a : StoreState) (outer : List Level) (level : Level) (new : List Level) (e : a.levels ≡ outer ++ level ∷ []) (is : new ≡ with_deepest marked a.levels) where
+  new_levels : new ≡ outer ++ marked level ∷ []
+  new_levels = deepest_new marked a.levels outer level new is e
+
+  levels_now : levels_of new ≡ record (level_state level) { aborted = true } ∷ levels_of outer
+  levels_now = ap levels_of new_levels ∙ levels_are outer (marked level)
+
+  levels_then : levels_of a.levels ≡ level_state level ∷ levels_of outer
+  levels_then = ap levels_of e ∙ levels_are outer level
+
+  pub marked_acted : (s : Space) (x : ShelfState) (commons : CommonState)
+      → Acted (changes (λ session. record session { levels = deepest_changed (λ old. record old { aborted = true }) session.levels })) a (record a { levels = new }) s s x x commons commons IsSilent
+  unfolding session_of
+  marked_acted s x commons = record {
+    leads = λ around. ap (λ (ls : List LevelState). leveled a ls s x commons around) (ap (deepest_changed (λ old. record old { aborted = true })) levels_then ∙ sym levels_now);
+    says = λ around. refl;
+    balances = balances_none a.owners commons;
+  }
+
+  pub marked_placed : (tree : TreeState) (table : ResourceState) → IsPlaced tree table a.levels → IsPlaced tree table new
+  marked_placed tree table placed =
+      let both = all_deepest (LevelLies tree table) a.levels outer level e placed.levels in
+      record {
+        current = placed.current;
+        levels = subst (All (LevelLies tree table)) (sym new_levels) (All-push (LevelLies tree table) outer (marked level) both.0 (record { context = both.1.context; owner = both.1.owner }));
+        plans = placed.plans;
+      }
+
+  pub marked_freed : (s : Space) (x : ShelfState) → IsFreed a s x → IsFreed (record a { levels = new }) s x
+  unfolding session_of
+  marked_freed s x f =
+      let l : AreLevels (level_state level ∷ levels_of outer) (stands_for a.tree s) (owners_of a.owners) = subst (λ (ls : List LevelState). AreLevels ls (stands_for a.tree s) (owners_of a.owners)) levels_then f.levels in
+      record {
+        contexts = f.contexts;
+        current = f.current;
+        hooks = f.hooks;
+        levels =
+            subst (λ (ls : List LevelState). AreLevels ls (stands_for a.tree s) (owners_of a.owners)) (sym levels_now)
+            (record { context = l.0.context; owner = l.0.owner; implicit = l.0.implicit }, l.1);
+        outer = subst (λ (ls : List LevelState). AreOuter (drop 1 ls)) (sym levels_now) (subst (λ (ls : List LevelState). AreOuter (drop 1 ls)) levels_then f.outer);
+        plans = f.plans;
+        idle = λ n o.
+            f.idle n
+            (ap (λ (ls : List LevelState). owner_of (first_of ls)) levels_then
+            ∙ (let now : owner_of (first_of (levels_of new)) ≡ owner_of (Some (level_state level)) = ap (λ (ls : List LevelState). owner_of (first_of ls)) levels_now in sym now ∙ o));
+      }

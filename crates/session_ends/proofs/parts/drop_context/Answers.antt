@@ -1,0 +1,8 @@
+use Rattle.std.proofs.Common.{◌∙◌, ap, sym}
+use Rattle.forest.specs.Forest.{has}
+use Rattle.session_store.proofs.Kept.{has_kept}
+use Rattle.session_ends.proofs.parts.drop_context.Goals as goal
+
+pub returns-in-Some-clause-stays : goal.returns-in-Some-clause-stays
+returns-in-Some-clause-stays g c n still =
+    c.gone.ensures.did.stays n (ap (has n) (sym c.gone.ensures.did.contexts) ∙ has_kept n c.gone.new.self c.gone.new.space ∙ still)
