@@ -15,7 +15,7 @@ use Rattle.session_owners.specs.Commons.{CommonState}
 use Rattle.session_owners.proofs.Balances.{serves_still}
 use Rattle.session_store.specs.State.{StoreState, levels_of, scene_of, session_of}
 use Rattle.session_store.specs.Calls.{Acted, Keeps, StandsIn}
-use Rattle.session_store.proofs.Deepest.{levels_long}
+use Rattle.session_store.proofs.Depths.{levels_long}
 use Rattle.session_core.specs.Lines.{IsBetweenLines}
 use Rattle.session_core.specs.Ended.{Ends}
 use Rattle.session_work.specs.Performed.{IsBetweenSteps, Now}
@@ -72,7 +72,7 @@ module _ (a b : Now) (P : List What → Type 0) (between : IsBetweenSteps a) (ke
 
   pub subcommit_between : 1 < length a.store.levels → Acted subcommitted a.store b.store a.space b.space a.shelf b.shelf a.commons b.commons P → IsBetweenSteps b
   subcommit_between more acted =
-      ended_between subcommitted (λ level levels s are h. let left = subcommitted_stands level levels s (omega (arith, more, levels_long a.store.levels, ap length are)) h in left.between.stands)
+      ended_between subcommitted (λ level levels s are h. let left = subcommitted_stands level levels s (omega (arith, more, levels_long a.store.levels, ap length are)) h in left.stands)
       (omega (arith, more)) acted
 
   pub roll_between : 0 < length a.store.levels → Acted (in_order (aborted ∷ cleaned_up ∷ [])) a.store b.store a.space b.space a.shelf b.shelf a.commons b.commons P → IsBetweenSteps b

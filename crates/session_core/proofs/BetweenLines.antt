@@ -2,7 +2,6 @@
 use Rattle.std.proofs.Common.{◌≡◌, ◌∙◌, ℕ, ◌<◌, ◌≤◌, true, false, List, [], ◌∷◌, length, Option, Some, None, Result, Ok, Err, OnOk, refl, sym, ap, subst, arith}
 use Rattle.std.specs.Option.{option_map, option_map_or}
 use Rattle.pgs_command.specs.declared.commands.Command.{Command}
-use Rattle.pgs_command.specs.declared.commands.Command.TheVariants as command
 use Rattle.pgs_step.specs.declared.errors.Error.{Error}
 use Rattle.pgs_step.specs.declared.events.What.{What}
 use Rattle.subxact_stack.specs.declared.levels.Level.{Level}
@@ -15,14 +14,13 @@ use Rattle.session_rules.specs.Standing.{AreOpen, AreOuter, FitLevels, StandsBet
 use Rattle.session_rules.specs.Commands.{elements_of}
 use Rattle.session_rules.specs.Does.{does_all}
 use Rattle.session_rules.specs.Transcript.{turn, turn_of}
-use Rattle.session_rules.proofs.TurnStands as rules
 use Rattle.session_rules.proofs.TurnStands.{turn_stands}
 use Rattle.session_owners.proofs.Balances.{serves_still}
 use Rattle.session_store.specs.State.{StoreState, levels_of, level_state, session_of}
-use Rattle.session_store.proofs.Deepest.{levels_long}
+use Rattle.session_store.proofs.Depths.{levels_long}
 use Rattle.session_work.specs.Answers.{at_calls, refusal_of}
 use Rattle.session_work.proofs.Standing.{empty_around}
-use Rattle.session_core.specs.Lines.{IsAbortedBlock, IsBetweenLines, IsInBlock, IsPerformed}
+use Rattle.session_core.specs.Lines.{IsAbortedBlock, IsBetweenLines, IsInBlock}
 use Rattle.session_work.specs.Performed.{Now, IsBetweenSteps, Performed, scene_in}
 
 pub steps_of_lines : (a : Now) → IsBetweenLines a → IsBetweenSteps a
@@ -74,64 +72,20 @@ aborted_block levels l first aborted = record {
   aborted = ap (λ (o : Option LevelState). option_map_or (λ level. level.aborted) o false) (sym first) ∙ aborted;
 }
 
--- the rules lead each command that is performed from a session between two lines to one between two lines
-is_here : (c : Command) → IsPerformed c → rules.IsHere c
-is_here command.Nothing h = tt
-is_here command.Begin h = tt
-is_here command.Commit h = tt
-is_here command.Rollback h = tt
-is_here (command.Savepoint name) h = tt
-is_here (command.Release name) h = tt
-is_here (command.RollbackTo name) h = tt
-is_here command.Raise h = tt
-is_here (command.Pin buffer) h = tt
-is_here (command.Unpin buffer) h = tt
-is_here (command.Reference class key) h = tt
-is_here (command.Unreference class key) h = tt
-is_here (command.Acquire kind key) h = tt
-is_here (command.Drop kind key) h = tt
-is_here (command.Snapshot snapshot) h = tt
-is_here (command.Unsnapshot snapshot) h = tt
-is_here (command.Lock object mode) h = tt
-is_here (command.Unlock object mode) h = tt
-is_here (command.Open file) h = tt
-is_here (command.Touch file) h = tt
-is_here (command.Close file) h = tt
-is_here command.Report h = tt
-is_here command.Stat h = tt
-is_here (command.Buffer buffer) h = tt
-is_here (command.Push snapshot) h = tt
-is_here command.Pop h = tt
-is_here (command.Context name parent kind) h = tt
-is_here (command.Switch name) h = tt
-is_here (command.OnReset name) h = tt
-is_here (command.Reset name) h = tt
-is_here (command.ResetOnly name) h = tt
-is_here (command.Delete name) h = tt
-is_here (command.DeleteChildren name) h = tt
-is_here (command.Reparent name parent) h = tt
-is_here (command.Alloc chunk size) h = tt
-is_here (command.AllocZeroed chunk size) h = tt
-is_here (command.Realloc chunk size) h = tt
-is_here (command.Free chunk) h = tt
-is_here (command.Put chunk at bytes) h = tt
-is_here (command.Show chunk at length) h = tt
-is_here other h = absurd h
-
 -- a turn whose elements were all done
 turn_done : (c : Command) (m : Moment) → (does_all None (elements_of c m.scene.session) m).refusal ≡ None → (turn None (Some c) m).moment ≡ (does_all None (elements_of c m.scene.session) m).moment
 unfolding turn
 turn_done c m e = ap (λ (o : Option Error). (turn_of (does_all None (elements_of c m.scene.session) m) o).moment) e
 
-pub lines_behind : (c : Command) (a b : Now) (P : List What → Type 0) (r : Result (Unit {0}) Error) → IsPerformed c → IsBetweenLines a → Performed 5 (elements_of c (session_of a.store a.space)) a b P (refusal_of r)
+pub lines_behind : (c : Command) (a b : Now) (P : List What → Type 0) (r : Result (Unit {0}) Error) → IsBetweenLines a → Performed 5 (elements_of c (session_of a.store a.space)) a b P (refusal_of r)
     → OnOk r (IsBetweenLines b)
-lines_behind c a b P (Err e) known lines done = tt
-lines_behind c a b P (Ok u) known lines done = record {
+lines_behind c a b P (Err e) lines done = tt
+lines_behind c a b P (Ok u) lines done = record {
   keeps = done.keeps;
   serves = serves_still _ _ _ _ lines.serves done.balances;
   stands = λ around.
       let moment : Moment = at_calls (scene_in a) a.calls.count a.calls.fail around in
-      let stands : StandsBetweenLines (turn None (Some c) moment).moment.scene = turn_stands None c moment (is_here c known) (lines.stands around) in
+      let stands : StandsBetweenLines (turn None (Some c) moment).moment.scene = turn_stands None (Some c) moment (lines.stands around) in
       subst (λ (m : Moment). StandsBetweenLines m.scene) (turn_done c moment (done.answers.answer around None tt) ∙ done.answers.moment around None tt) stands;
 }
 

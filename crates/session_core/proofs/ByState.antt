@@ -18,7 +18,7 @@ use Rattle.session_rules.specs.Does.{does}
 use Rattle.subxact_stack.specs.declared.levels.Level.{Level}
 use Rattle.session_owners.proofs.Balances.{balances_none}
 use Rattle.session_store.specs.State.{StoreState, levels_of, session_of}
-use Rattle.session_store.proofs.Deepest.{levels_long}
+use Rattle.session_store.proofs.Depths.{levels_long}
 use Rattle.session_store.specs.Calls.{Acted, Keeps}
 use Rattle.addr_space.specs.Space.{Space}
 use Rattle.session_rules.proofs.StepsStand.{IsWorking}
@@ -55,6 +55,10 @@ worked command.Stat session h = refl
 worked (command.Buffer buffer) session h = refl
 worked (command.Push snapshot) session h = refl
 worked command.Pop session h = refl
+worked (command.Plan plan) session h = refl
+worked (command.PlanReference plan) session h = refl
+worked (command.PlanUnreference plan) session h = refl
+worked (command.PlanDrop plan) session h = refl
 worked (command.Context name parent kind) session h = refl
 worked (command.Switch name) session h = refl
 worked (command.OnReset name) session h = refl
@@ -273,6 +277,10 @@ work_aborted command.Stat h level levels session = refl
 work_aborted (command.Buffer buffer) h level levels session = refl
 work_aborted (command.Push snapshot) h level levels session = refl
 work_aborted command.Pop h level levels session = refl
+work_aborted (command.Plan plan) h level levels session = refl
+work_aborted (command.PlanReference plan) h level levels session = refl
+work_aborted (command.PlanUnreference plan) h level levels session = refl
+work_aborted (command.PlanDrop plan) h level levels session = refl
 work_aborted (command.Context name parent kind) h level levels session = refl
 work_aborted (command.Switch name) h level levels session = refl
 work_aborted (command.OnReset name) h level levels session = refl
@@ -361,6 +369,10 @@ others_aborted command.Stat h nothing commit rollback back level levels session 
 others_aborted (command.Buffer buffer) h nothing commit rollback back level levels session = work_aborted (command.Buffer buffer) h level levels session
 others_aborted (command.Push snapshot) h nothing commit rollback back level levels session = work_aborted (command.Push snapshot) h level levels session
 others_aborted command.Pop h nothing commit rollback back level levels session = work_aborted command.Pop h level levels session
+others_aborted (command.Plan plan) h nothing commit rollback back level levels session = work_aborted (command.Plan plan) h level levels session
+others_aborted (command.PlanReference plan) h nothing commit rollback back level levels session = work_aborted (command.PlanReference plan) h level levels session
+others_aborted (command.PlanUnreference plan) h nothing commit rollback back level levels session = work_aborted (command.PlanUnreference plan) h level levels session
+others_aborted (command.PlanDrop plan) h nothing commit rollback back level levels session = work_aborted (command.PlanDrop plan) h level levels session
 others_aborted (command.Context name parent kind) h nothing commit rollback back level levels session = work_aborted (command.Context name parent kind) h level levels session
 others_aborted (command.Switch name) h nothing commit rollback back level levels session = work_aborted (command.Switch name) h level levels session
 others_aborted (command.OnReset name) h nothing commit rollback back level levels session = work_aborted (command.OnReset name) h level levels session
@@ -423,6 +435,10 @@ idle_work command.Stat h session = refl
 idle_work (command.Buffer buffer) h session = refl
 idle_work (command.Push snapshot) h session = refl
 idle_work command.Pop h session = refl
+idle_work (command.Plan plan) h session = refl
+idle_work (command.PlanReference plan) h session = refl
+idle_work (command.PlanUnreference plan) h session = refl
+idle_work (command.PlanDrop plan) h session = refl
 idle_work (command.Context name parent kind) h session = refl
 idle_work (command.Switch name) h session = refl
 idle_work (command.OnReset name) h session = refl

@@ -17,7 +17,7 @@ use Rattle.session_rules.specs.Standing.{AreOuter, Stands}
 use Rattle.session_rules.proofs.StepsStand.{below_limit, level_context_stands, level_made_stands, level_owner_stands, level_stands_stands, own_refusal, settled_as}
 use Rattle.session_rules.proofs.TurnStands.{At, Leads, leads_nowhere, leads_on}
 use Rattle.session_store.specs.State.{levels_of}
-use Rattle.session_store.proofs.Deepest.{levels_long}
+use Rattle.session_store.proofs.Depths.{levels_long}
 use Rattle.session_work.specs.Answers.{at_calls}
 use Rattle.session_core.specs.Begun.{HasBegun}
 use Rattle.session_store.specs.Calls.{IsSilent}
@@ -58,8 +58,9 @@ module _ (name : Option Text) (implicit : Bool) (outer : List LevelState) (w : O
   level_leads at are alone =
       fallible_leads (At (begun name implicit None None true ∷ outer)) w moment _ (level_made name implicit) at.stands (λ z q. q.stands)
       (λ _. record {
-        stands = level_made_stands name implicit moment.scene at.stands (subst AreOuter (sym at.are) are) (λ e. at.are ∙ alone e);
+        stands = level_made_stands name implicit moment.scene at.stands at.at_rest (subst AreOuter (sym at.are) are) (λ e. at.are ∙ alone e);
         are = ap (λ (ls : List LevelState). begun name implicit None None true ∷ ls) at.are;
+        at_rest = at.at_rest;
       })
 
   context_leads : At (begun name implicit None None true ∷ outer) moment.scene → Leads (HasContext name implicit outer) (does w (element.MakeContext LevelContext) moment)
@@ -69,7 +70,7 @@ module _ (name : Option Text) (implicit : Bool) (outer : List LevelState) (w : O
       (λ _. settled_as (λ (z : Scene). HasContext name implicit outer (new_context_made LevelContext z).scene) moment.scene (begun name implicit None None true ∷ outer) at.stands at.are
       (λ k. record {
         context = moment.scene.session.next_context;
-        at = record { stands = level_context_stands (begun name implicit None None true) outer moment.scene refl refl k; are = refl };
+        at = record { stands = level_context_stands (begun name implicit None None true) outer moment.scene refl refl k; are = refl; at_rest = at.at_rest };
       }))
 
   owner_leads : (context : ℕ) → At (begun name implicit (Some context) None true ∷ outer) moment.scene → Leads (HasOwner name implicit context outer) (does w (element.MakeOwner OfLevel) moment)
@@ -79,7 +80,7 @@ module _ (name : Option Text) (implicit : Bool) (outer : List LevelState) (w : O
       (λ free. settled_as (λ (z : Scene). HasOwner name implicit context outer (new_owner_made OfLevel z).scene) moment.scene (begun name implicit (Some context) None true ∷ outer) at.stands at.are
       (λ k. record {
         owner = moment.scene.session.next_owner;
-        at = record { stands = level_owner_stands (begun name implicit (Some context) None true) outer moment.scene refl refl (below_limit 65536 (size moment.scene.session.owners) free) k; are = refl };
+        at = record { stands = level_owner_stands (begun name implicit (Some context) None true) outer moment.scene refl refl (below_limit 65536 (size moment.scene.session.owners) free) k; are = refl; at_rest = at.at_rest };
       }))
 
   stands_leads : (context owner : ℕ) → At (begun name implicit (Some context) (Some owner) true ∷ outer) moment.scene
@@ -91,6 +92,7 @@ module _ (name : Option Text) (implicit : Bool) (outer : List LevelState) (w : O
       (λ k. record {
         stands = level_stands_stands (begun name implicit (Some context) (Some owner) true) outer moment.scene refl (record { context = refl; owner = refl }) k;
         are = refl;
+        at_rest = at.at_rest;
       }) in
       record { stands = x.stands; passed = λ _. x }
 

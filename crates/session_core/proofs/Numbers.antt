@@ -8,46 +8,39 @@ use Rattle.context_rules.specs.Contexts.{is_empty}
 use Rattle.session_rules.specs.State.{OpenPortal, abort_context, depth, level_context, level_owner, top_context}
 use Rattle.session_rules.specs.World.{Around, Scene}
 use Rattle.session_rules.specs.Acts.{Ended, changes, context_gone, for_each, in_order, nothing, portal_gone, switched, where_so, where_there}
-use Rattle.session_rules.specs.Releases.{owner_gone, owner_released}
+use Rattle.owner_kinds.specs.KindShelf.{table_of}
+use Rattle.owner_core.specs.Steps.{Step, Said, GivesBack, ReleasesLocks, PassesLocks, ReleasesAllLocks, release_steps}
+use Rattle.pgs_step.specs.declared.ids.Phase.{Phase}
+use Rattle.pgs_step.specs.declared.ids.Phase.TheVariants.{BeforeLocks, Locks, AfterLocks}
+use Rattle.session_rules.specs.Releases.{keeper_of, owner_gone, owner_released, phase_released, step_done}
 use Rattle.session_rules.specs.Ends.{aborted, cleaned_up, committed, empty_context_gone, level_owner_gone, level_released, stack_lowered, stack_popped, subcommitted, switched_up}
-use Rattle.session_rules.proofs.Releasing.{release_is}
 use Rattle.session_owners.specs.Commons.{CommonState}
 use Rattle.session_store.specs.State.{StoreState, scene_of, session_of}
 use Rattle.session_store.specs.Calls.{Acted}
 use Rattle.session_work.specs.Performed.{Grows, Now}
+use Rattle.session_work.proofs.Numbering.{Numbers, for_keeps, left_keeps, numbers, so_keeps, there_keeps}
 use Rattle.session_work.proofs.Performing.{nowhere}
 
--- the three numbers, and how many descriptors there are
-pub record Numbers : Type 0 where
-  pub context : ℕ
-  pub owner : ℕ
-  pub serial : ℕ
-  pub descriptors : ℕ
+-- a release leaves them, step by step
+step_keeps : (step : Step) (s : Scene) → numbers (step_done step s).scene ≡ numbers s
+step_keeps (Said event) s = refl
+step_keeps (GivesBack item) s = left_keeps (keeper_of item.kind) item.key s
+step_keeps (ReleasesLocks owner) s = refl
+step_keeps (PassesLocks from to) s = refl
+step_keeps (ReleasesAllLocks top) s = refl
 
-abbrev pub numbers : Scene → Numbers
-numbers s = record { context = s.session.next_context; owner = s.session.next_owner; serial = s.session.next_serial; descriptors = s.around.descriptors }
+phase_keeps : (commit top : Bool) (owner : ℕ) (phase : Phase) (s : Scene) → numbers (phase_released commit top owner phase s).scene ≡ numbers s
+phase_keeps commit top owner phase s = for_keeps step_done (release_steps (table_of s.around.kinds) phase commit top owner s.session.owners) s step_keeps
 
--- an act on what is there keeps them
-there_keeps : {A : Type 0} (o : Option A) (act : A → Scene → Ended) (s : Scene) → ((x : A) → numbers (act x s).scene ≡ numbers s) → numbers (where_there o act s).scene ≡ numbers s
-there_keeps None act s h = refl
-there_keeps (Some x) act s h = h x
-
-released_keeps : (commit top : Bool) (o : Option ℕ) (s : Scene) → s.session.plans ≡ [] → numbers (where_there o (owner_released commit top) s).scene ≡ numbers s
-released_keeps commit top o s none = there_keeps o (owner_released commit top) s (λ p. ap numbers (release_is commit top p s none).is)
+released_keeps : (commit top : Bool) (o : Option ℕ) (s : Scene) → numbers (where_there o (owner_released commit top) s).scene ≡ numbers s
+released_keeps commit top o s =
+    there_keeps o (owner_released commit top) s (λ p. for_keeps (phase_released commit top p) (BeforeLocks ∷ Locks ∷ AfterLocks ∷ []) s (phase_keeps commit top p))
 
 context_keeps : (o : Option ℕ) (s : Scene) → numbers (where_there o context_gone s).scene ≡ numbers s
 context_keeps o s = there_keeps o context_gone s (λ n. refl)
 
 owner_keeps : (o : Option ℕ) (s : Scene) → numbers (where_there o owner_gone s).scene ≡ numbers s
 owner_keeps o s = there_keeps o owner_gone s (λ n. refl)
-
-so_keeps : (b : Bool) (act : Scene → Ended) (s : Scene) → numbers (act s).scene ≡ numbers s → numbers (where_so b act s).scene ≡ numbers s
-so_keeps true act s h = h
-so_keeps false act s h = refl
-
-for_keeps : {A : Type 0} (act : A → Scene → Ended) (xs : List A) (s : Scene) → ((x : A) (z : Scene) → numbers (act x z).scene ≡ numbers z) → numbers (for_each act xs s).scene ≡ numbers s
-for_keeps act [] s h = refl
-for_keeps act (x ∷ xs) s h = for_keeps act xs (act x s).scene h ∙ h x s
 
 -- a portal of the level that is cleaned up goes
 abbrev portal_cleaned : ℕ → OpenPortal → Scene → Ended
@@ -74,7 +67,7 @@ commits a s x c around =
     let g : Scene = (level_owner_gone (stack_popped 1 r).scene).scene in
     context_keeps (level_context (switched top_context g).scene.session) (switched top_context g).scene
     ∙ owner_keeps (level_owner r.session) (stack_popped 1 r).scene
-    ∙ released_keeps true true (level_owner z.session) z refl
+    ∙ released_keeps true true (level_owner z.session) z
 
 empty_keeps : (s : Scene) → numbers (empty_context_gone s).scene ≡ numbers s
 empty_keeps s =
@@ -87,7 +80,7 @@ subcommits a s x c around =
     let r : Scene = (level_released true false z).scene in
     let l : Scene = (stack_lowered (depth z.session) r).scene in
     let g : Scene = (switched_up (level_owner_gone l).scene).scene in
-    empty_keeps g ∙ owner_keeps (level_owner l.session) l ∙ released_keeps true false (level_owner z.session) z refl
+    empty_keeps g ∙ owner_keeps (level_owner l.session) l ∙ released_keeps true false (level_owner z.session) z
 
 pub cleans : KeepsNumbers cleaned_up
 cleans a s x c around = cleaned_keeps (scene_of a s x c around)
@@ -96,7 +89,7 @@ pub aborts : KeepsNumbers aborted
 unfolding session_of
 aborts a s x c around =
     let z : Scene = (switched abort_context (scene_of a s x c around)).scene in
-    released_keeps false (length z.session.levels == 1) (level_owner z.session) z refl
+    released_keeps false (length z.session.levels == 1) (level_owner z.session) z
 
 pub rolls : KeepsNumbers (in_order (aborted ∷ cleaned_up ∷ []))
 rolls a s x c around = cleaned_keeps (aborted (scene_of a s x c around)).scene ∙ aborts a s x c around

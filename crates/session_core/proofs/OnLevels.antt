@@ -1,8 +1,8 @@
 -- What the ends of levels perform.
 use Rattle.std.proofs.Common.{◌≡◌, ℕ, List, [], ◌∷◌, ◌++◌, Option, None, refl, sym, ◌∙◌, ap, subst, arith, append-nil}
 use Rattle.pgs_step.specs.declared.events.What.{What}
-use Rattle.addr_space.specs.Space.{Asks, Space}
-use Rattle.context_tree.specs.State.{Agrees, Moves, TreeState}
+use Rattle.addr_space.specs.Space.{Asks}
+use Rattle.context_tree.specs.State.{Moves}
 use Rattle.session_rules.specs.World.{Around, Moment, Scene}
 use Rattle.session_rules.specs.Acts.{Ended, in_order}
 use Rattle.session_rules.specs.Elements.{Element}
@@ -15,10 +15,9 @@ use Rattle.session_store.specs.Calls.{Acted, Keeps}
 use Rattle.session_work.specs.Performed.{Now, Performed, scene_in}
 use Rattle.session_work.specs.Answers.{Answers, at_calls}
 use Rattle.session_work.specs.declared.calls.Calls.{Calls}
-use Rattle.session_store.proofs.Ending.{moves_back}
 use Rattle.session_work.proofs.Answered.{does_one}
 use Rattle.session_core.proofs.Numbers.{KeepsNumbers, aborts, cleans, commits, numbers_grow, rolls, subcommits}
-use Rattle.session_work.proofs.Performing.{moves_nothing, performed_end}
+use Rattle.session_work.proofs.Performing.{performed_end}
 
 -- elements that can't fail, one behind the other
 both_do : (x y : Element) (f h : Scene → Ended) → ((w : Option ℕ) (m : Moment) → does w x m ≡ unfailing m f) → ((w : Option ℕ) (m : Moment) → does w y m ≡ unfailing m h)
@@ -93,9 +92,3 @@ module _ (a b : Now) (P : List What → Type 0) (keeps : Keeps b.store b.space) 
     balances = acted.balances;
     grows = numbers_grow (in_order (aborted ∷ cleaned_up ∷ [])) a b P rolls acted calls;
   }
-
--- another context is the current one, and nothing else changed
-pub moves_current : (a b : TreeState) (s : Space) → b ≡ record a { current = b.current } → Agrees b s → Moves a b s s
-moves_current a b s is agrees =
-    subst (λ (t : TreeState). Moves a t s s) (sym is)
-    (moves_back a (record a { current = b.current }) b.current s s (moves_nothing (record a { current = b.current }) s (subst (λ (t : TreeState). Agrees t s) is agrees)))

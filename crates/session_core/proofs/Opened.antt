@@ -2,10 +2,12 @@
 use Rattle.std.proofs.Common.{◌≡◌, false, ℕ, ◌+◌, ◌*◌, ◌<◌, ◌≤◌, List, [], refl, sym, ap, ◌∙◌, subst, arith}
 use Rattle.std.specs.Prelude.{◌^◌, get_or, replicate, slice_index}
 use Rattle.std.proofs.lemmas.Grind.{common_steps}
+use Rattle.std.proofs.lemmas.List.Elements.{All-nil}
 use Rattle.addr_space.specs.Space.{Space, held}
 use Rattle.pgs_step.specs.declared.lock_modes.Mode.{Mode}
 use Rattle.lock_shared.specs.Holdings.{holds}
 use Rattle.session_rules.specs.State.{SessionState, opening}
+use Rattle.session_rules.specs.Standing.{IsAtRest}
 use Rattle.session_owners.specs.Commons.{Serves}
 use Rattle.owner_kinds.specs.KindShelf.{table_of}
 use Rattle.owner_kinds.specs.KindTable.{IsSound}
@@ -42,7 +44,7 @@ opened_lines a e keeps serves stands =
     record {
       keeps = keeps;
       serves = serves;
-      stands = λ around. record { stands = stands around; open_levels = rw (none) tt };
+      stands = λ around. record { stands = stands around; open_levels = rw (none) tt; at_rest = All-nil IsAtRest };
     }
 
 -- It holds nothing of the commons, where nothing is held for it and not too many sessions pin a buffer.

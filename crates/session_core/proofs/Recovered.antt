@@ -17,7 +17,7 @@ use Rattle.session_store.specs.State.{StoreState, levels_of, scene_of, session_o
 use Rattle.context_tree.specs.State.{Moves}
 use Rattle.context_tree.proofs.Composed.{tree_more}
 use Rattle.session_store.specs.Calls.{Acted, Keeps}
-use Rattle.session_store.proofs.Deepest.{levels_long}
+use Rattle.session_store.proofs.Depths.{levels_long}
 use Rattle.session_work.specs.declared.shared.Shared.{Shared}
 use Rattle.session_core.specs.Begun.{IsStarting}
 use Rattle.session_core.specs.Ended.{Ends}

@@ -15,7 +15,7 @@ use Rattle.session_rules.specs.Elements.{Element, Text}
 use Rattle.session_rules.specs.Elements as element
 use Rattle.session_rules.specs.Standing.{AreOuter, FitLevels, Stands}
 use Rattle.session_store.specs.State.{level_state, levels_of, session_of}
-use Rattle.session_store.proofs.Deepest.{levels_are, levels_long}
+use Rattle.session_store.proofs.Depths.{levels_are, levels_long}
 use Rattle.session_work.specs.Performed.{IsBetweenSteps, Now, Performed, scene_in}
 use Rattle.session_work.proofs.Performing.{performed_both, performed_none}
 use Rattle.session_work.proofs.Standing.{empty_around}

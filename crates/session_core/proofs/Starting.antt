@@ -32,7 +32,7 @@ use Rattle.session_rules.specs.Making.{level_made, limit, new_context_made, new_
 use Rattle.session_rules.specs.Parts.{level_stands}
 use Rattle.session_store.specs.State.{StoreState, contexts_in, left_in, session_of}
 use Rattle.session_store.specs.Calls.{Acted, Keeps, Refused}
-use Rattle.session_store.proofs.Deepest.{levels_long}
+use Rattle.session_store.proofs.Depths.{levels_long}
 use Rattle.session_work.specs.declared.calls.Calls.{Calls}
 use Rattle.session_work.specs.Performed.{Now, Performed, scene_in}
 use Rattle.session_work.proofs.Commands.{tree_error_plain}

@@ -17,6 +17,7 @@ use crate::session::Session;
 use owner_kinds::ExtKind;
 use pgs_step::{Emit, Error, What};
 use reset_callbacks::ResetHook;
+use session_ends::{abort, clean_up, close, commit_top, roll_back, subcommit};
 use session_work::Shared;
 
 impl<H: ResetHook> Session<H> {
@@ -32,8 +33,13 @@ impl<H: ResetHook> Session<H> {
         ensures levels { self.new.levels ≡ [] }
         ensures between { IsBetweenSteps (now self.new shared.new) }
     {
-        self.store
-            .commit_top(shared.space, shared.shelf, shared.commons, out);
+        commit_top(
+            &mut self.store,
+            shared.space,
+            shared.shelf,
+            shared.commons,
+            out,
+        );
     }
 
     /// The deepest level, which isn't level 1, commits, and the one above it is the deepest then: `CommitSubTransaction`.
@@ -48,8 +54,13 @@ impl<H: ResetHook> Session<H> {
         ensures levels { (level : ALevel) × (self.old.levels ≡ self.new.levels ++ level ∷ []) }
         ensures between { IsBetweenSteps (now self.new shared.new) }
     {
-        self.store
-            .subcommit(shared.space, shared.shelf, shared.commons, out);
+        subcommit(
+            &mut self.store,
+            shared.space,
+            shared.shelf,
+            shared.commons,
+            out,
+        );
     }
 
     /// The deepest level aborts: `AbortTransaction` and `AbortSubTransaction`.
@@ -60,7 +71,13 @@ impl<H: ResetHook> Session<H> {
         ensures levels { self.new.levels ≡ with_deepest (λ level. record level { aborted = true }) self.old.levels }
         ensures between { IfSome (first_of (levels_of self.old.levels)) (λ level. level.aborted ≡ false → IsOpen level → IsBetweenSteps (now self.new shared.new)) }
     {
-        self.store.abort(shared.commons, out);
+        abort(
+            &mut self.store,
+            shared.space,
+            shared.shelf,
+            shared.commons,
+            out,
+        );
     }
 
     /// The deepest level, which is aborted, is cleaned up: `CleanupTransaction` and `CleanupSubTransaction`.
@@ -76,7 +93,7 @@ impl<H: ResetHook> Session<H> {
         ensures levels { (level : ALevel) × (self.old.levels ≡ self.new.levels ++ level ∷ []) }
         ensures between { IsBetweenSteps (now self.new shared.new) }
     {
-        self.store.clean_up(shared.space, shared.shelf, out);
+        clean_up(&mut self.store, shared.space, shared.shelf, out);
     }
 
     /// The deepest level, which isn't aborted, is rolled back: it aborts, and is cleaned up.
@@ -91,8 +108,13 @@ impl<H: ResetHook> Session<H> {
         ensures levels { (level : ALevel) × (self.old.levels ≡ self.new.levels ++ level ∷ []) }
         ensures between { IsBetweenSteps (now self.new shared.new) }
     {
-        self.store
-            .roll_back(shared.space, shared.shelf, shared.commons, out);
+        roll_back(
+            &mut self.store,
+            shared.space,
+            shared.shelf,
+            shared.commons,
+            out,
+        );
     }
 
     /// What becomes of the transaction after an error, which is said: `AbortCurrentTransaction`. A level that is being started
@@ -120,11 +142,22 @@ impl<H: ResetHook> Session<H> {
             return;
         }
         if level.implicit {
-            self.store
-                .roll_back(shared.space, shared.shelf, shared.commons, out);
+            roll_back(
+                &mut self.store,
+                shared.space,
+                shared.shelf,
+                shared.commons,
+                out,
+            );
             return;
         }
-        self.store.abort(shared.commons, out);
+        abort(
+            &mut self.store,
+            shared.space,
+            shared.shelf,
+            shared.commons,
+            out,
+        );
     }
 
     /// The deepest level, which is being started, is rolled back, and the one above it, where there is one, aborts.
@@ -133,12 +166,23 @@ impl<H: ResetHook> Session<H> {
         requires level { IsStarting (levels_of self.old.levels) }
         ensures did { Ends (given_up (levels_of self.old.levels)) (now self.old shared.old) (now self.new shared.new) (λ events. E.emits out.old events out.new) }
     {
-        self.store
-            .roll_back(shared.space, shared.shelf, shared.commons, out);
+        roll_back(
+            &mut self.store,
+            shared.space,
+            shared.shelf,
+            shared.commons,
+            out,
+        );
         if self.store.depth() == 0 {
             return;
         }
-        self.store.abort(shared.commons, out);
+        abort(
+            &mut self.store,
+            shared.space,
+            shared.shelf,
+            shared.commons,
+            out,
+        );
     }
 
     /// The session ends: its transaction is rolled back, and all contexts go. Its account of the space holds nothing then.
@@ -148,7 +192,7 @@ impl<H: ResetHook> Session<H> {
         ensures held { held shared.new.space.now self.old.tree.account ≡ 0 }
     {
         self.roll_back_to(1, shared, out);
-        self.store.close(shared.space, shared.shelf, out);
+        close(&mut self.store, shared.space, shared.shelf, out);
         out.emit(What::Exit);
     }
 }

@@ -6,6 +6,8 @@ mod playing;
 pub use playing::{Played, outcome};
 
 #[cfg(test)]
+mod plan_tests;
+#[cfg(test)]
 mod telling_tests;
 #[cfg(test)]
 mod tests;

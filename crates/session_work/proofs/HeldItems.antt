@@ -11,13 +11,13 @@ use Rattle.pgs_step.specs.declared.ids.OwnerId.{OwnerId}
 use Rattle.pgs_command.specs.declared.kinds.ReferenceClass.{ReferenceClass}
 use Rattle.pgs_command.specs.declared.kinds.ReferenceClass.TheVariants.{Relcache, Catcache, CatcacheList, TupleDescriptor}
 use Rattle.pgs_command.specs.Kinds.{class_kind}
-use Rattle.addr_space.specs.Space.{Space}
+use Rattle.addr_space.specs.Space.{Asks, Space}
 use Rattle.owner_items.specs.ItemList.{is_of}
 use Rattle.owner_core.specs.declared.errors.OwnerError.{OwnerError}
 use Rattle.owner_core.specs.declared.errors.OwnerError.TheVariants.{NotOwned}
 use Rattle.session_owners.specs.ResourceState.{items_of, owners_of}
 use Rattle.session_rules.specs.State.{level_owner, snapshot_reference}
-use Rattle.session_rules.specs.World.{Moment, Scene}
+use Rattle.session_rules.specs.World.{Around, Moment, Scene}
 use Rattle.session_rules.specs.Acts.{Ended, in_order, where_there}
 use Rattle.session_rules.specs.Elements.{OfLevel}
 use Rattle.session_rules.specs.Elements as element
@@ -30,10 +30,12 @@ use Rattle.session_rules.specs.Releases.{Keeper, NoOne, item_released, keeper_of
 use Rattle.session_rules.specs.Taking.{item_taken, remembers, take_refused, taken_by}
 use Rattle.session_owners.specs.Counted.{IsReference}
 use Rattle.session_store.specs.State.{StoreState, session_of}
-use Rattle.session_store.specs.Calls.{Acted, Keeps}
+use Rattle.context_tree.specs.State.{Moves}
+use Rattle.session_store.specs.Calls.{Acted, Keeps, Refused}
 use Rattle.session_work.specs.Deepest.{IsLevelOwner}
 use Rattle.session_work.specs.Performed.{Now, Performed, scene_in}
 use Rattle.session_work.proofs.Commands.{fails, passes, unchanged}
+use Rattle.session_work.proofs.Numbering.{item_keeps, keeps_rises, there_keeps}
 use Rattle.session_work.proofs.Performing.{performed_both, performed_end, performed_made, performed_more, performed_stop}
 use Rattle.session_work.proofs.Pinning.{performed_said}
 use Rattle.session_work.proofs.Stepping.{Rises, count_behind, grown, lent, moves_same, step_injected, step_wants, still_asks, still_keeps, still_moves, still_refused, still_some}
@@ -77,13 +79,14 @@ module _ (kind : KindId) (key : ℕ) (a b : Now) (P : List What → Type 0) (cou
         step_wants (element.Take OfLevel kind key) (λ s. take_refused (keeper_of kind) s) (takes_item kind key) (does_take kind key) a b P counted (still_refused a b store space shelf)
         (still_keeps a b store space shelf keeps) (still_moves a b store space shelf keeps) silent goes (still_some a b store space shelf)
 
-  pub take_item_done : keeper_of kind ≡ NoOne → (a.calls.count + 1 == a.calls.fail) ≡ false → (owner : OwnerId) → IsLevelOwner a.store owner → b.store.tree ≡ a.store.tree → Keeps b.store b.space
+  -- whatever else keeps count of it
+  pub take_kept_done : ((around : Around) → take_refused (keeper_of kind) (scene_in a around) ≡ None) → ((s : Scene) → Rises 1 s (takes_item kind key s).scene) → (a.calls.count + 1 == a.calls.fail) ≡ false
+      → (owner : OwnerId) → IsLevelOwner a.store owner → b.store.tree ≡ a.store.tree → Keeps b.store b.space
       → Acted (item_taken owner.number kind key) a.store b.store a.space b.space a.shelf b.shelf a.commons b.commons P → Performed 1 (element.Take OfLevel kind key ∷ []) a b P None
-  take_item_done unkept goes owner is tree after taken =
-      performed_made (element.Take OfLevel kind key) (λ s. take_refused (keeper_of kind) s) (takes_item kind key) (does_take kind key) a b P counted 1 goes
-      (λ around. ap (λ (k : Keeper). take_refused k (scene_in a around)) unkept) acted after
+  take_kept_done free rises goes owner is tree after taken =
+      performed_made (element.Take OfLevel kind key) (λ s. take_refused (keeper_of kind) s) (takes_item kind key) (does_take kind key) a b P counted 1 goes free acted after
       (moves_same a.store.tree b.store.tree a.space b.space tree space keeps.agrees)
-      (grown 1 (takes_item kind key) a b P (take_rises kind key unkept) acted (omega (arith, count_behind a b counted))) (λ around. ap (λ (s : Space). s.taken) space)
+      (grown 1 (takes_item kind key) a b P rises acted (omega (arith, count_behind a b counted))) (λ around. ap (λ (s : Space). s.taken) space)
     where
       acted : Acted (takes_item kind key) a.store b.store a.space b.space a.shelf b.shelf a.commons b.commons P
       acted = record {
@@ -91,6 +94,10 @@ module _ (kind : KindId) (key : ℕ) (a b : Now) (P : List What → Type 0) (cou
         says = λ around. subst (λ (o : Option ℕ). P (where_there o (λ n. item_taken n kind key) (scene_in a around)).events) (sym (is a.space)) (taken.says around);
         balances = taken.balances;
       }
+
+  pub take_item_done : keeper_of kind ≡ NoOne → (a.calls.count + 1 == a.calls.fail) ≡ false → (owner : OwnerId) → IsLevelOwner a.store owner → b.store.tree ≡ a.store.tree → Keeps b.store b.space
+      → Acted (item_taken owner.number kind key) a.store b.store a.space b.space a.shelf b.shelf a.commons b.commons P → Performed 1 (element.Take OfLevel kind key ∷ []) a b P None
+  take_item_done unkept = take_kept_done (λ around. ap (λ (k : Keeper). take_refused k (scene_in a around)) unkept) (take_rises kind key unkept)
 
 -- a kind by another name
 pub takes_as : (kind other : KindId) (key : ℕ) (a b : Now) (P : List What → Type 0) (r : Option Error) → kind ≡ other → Performed 2 (element.Enlarge OfLevel ∷ element.Take OfLevel kind key ∷ []) a b P r
@@ -140,22 +147,20 @@ does_give_back : (kind : KindId) (key : ℕ) (w : Option ℕ) (m : Moment) → d
 unfolding does
 does_give_back kind key w m = refl
 
-module _ (kind : KindId) (key : ℕ) (a b : Now) (P : List What → Type 0) (owner : OwnerId) (is : IsLevelOwner a.store owner) (keeps : Keeps a.store a.space) (space : b.space ≡ a.space) (calls : b.calls ≡ a.calls) where
+gives_rises : (kind : KindId) (key : ℕ) (s : Scene) → Rises 0 s (gives_back kind key s).scene
+gives_rises kind key s =
+    keeps_rises s (gives_back kind key s).scene (there_keeps (level_owner s.session) (λ owner. item_released owner kind key) s (λ owner. item_keeps owner kind key s))
+
+module _ (kind : KindId) (key : ℕ) (a b : Now) (P : List What → Type 0) (owner : OwnerId) (is : IsLevelOwner a.store owner) (keeps : Keeps a.store a.space) (calls : b.calls ≡ a.calls)
+    (after : Keeps b.store b.space) (moves : Moves a.store.tree b.store.tree a.space b.space) (asks : Asks a.store.tree.account 0 a.space b.space) where
   -- the owner gives its newest item back
-  pub given_back : (item : Item) → find (is_of kind key) (items_of owner.number (owners_of a.store.owners)) ≡ Some item → b.store.tree ≡ a.store.tree
-      → b.store.owners.next_owner ≡ a.store.owners.next_owner → b.store.owners.next_serial ≡ a.store.owners.next_serial → b.store.owners.descriptors ≡ a.store.owners.descriptors → Keeps b.store b.space
+  pub given_back : (item : Item) → find (is_of kind key) (items_of owner.number (owners_of a.store.owners)) ≡ Some item
       → Acted (item_released owner.number kind key) a.store b.store a.space b.space a.shelf b.shelf a.commons b.commons P → Performed 0 (element.Checks (element.Holds kind key) ∷ element.GiveBack kind key ∷ []) a b P None
-  given_back item found tree next_owner next_serial descriptors after given =
+  given_back item found given =
       passes 0 (element.Holds kind key) (element.GiveBack kind key ∷ []) a b P None keeps
       (λ around. ap (λ (o : Option Item). unless (is_some o) error.NotHeld) (newest_is a.store a.space owner kind key is ∙ found))
-      (performed_end 0 (element.GiveBack kind key) (gives_back kind key) a b P (does_give_back kind key) acted after (moves_same a.store.tree b.store.tree a.space b.space tree space keeps.agrees)
-      (record {
-        contexts = rw tree (omega arith);
-        owners = omega (arith, next_owner);
-        serials = omega (arith, next_serial);
-        calls = rw calls (omega arith);
-        descriptors = descriptors;
-      }) calls (λ around. ap (λ (s : Space). s.taken) space))
+      (performed_end 0 (element.GiveBack kind key) (gives_back kind key) a b P (does_give_back kind key) acted after moves
+      (grown 0 (gives_back kind key) a b P (gives_rises kind key) acted (rw calls (omega arith))) calls (λ around. asks))
     where
       acted : Acted (gives_back kind key) a.store b.store a.space b.space a.shelf b.shelf a.commons b.commons P
       acted = record {
@@ -165,10 +170,10 @@ module _ (kind : KindId) (key : ℕ) (a b : Now) (P : List What → Type 0) (own
       }
 
   -- it has none
-  pub not_held : find (is_of kind key) (items_of owner.number (owners_of a.store.owners)) ≡ None → P [] → b.store ≡ a.store → lent b ≡ lent a
+  pub not_held : find (is_of kind key) (items_of owner.number (owners_of a.store.owners)) ≡ None → P [] → Refused a.store b.store a.space b.space a.shelf b.shelf a.commons b.commons
       → Performed 0 (element.Checks (element.Holds kind key) ∷ element.GiveBack kind key ∷ []) a b P (Some error.NotHeld)
-  not_held missing silent store shelf =
+  not_held missing silent same =
       unchanged 0 (element.Checks (element.Holds kind key) ∷ element.GiveBack kind key ∷ []) a b P (Some error.NotHeld)
       (fails (element.Holds kind key) (element.GiveBack kind key ∷ []) a P error.NotHeld keeps silent refl
       (λ around. ap (λ (o : Option Item). unless (is_some o) error.NotHeld) (newest_is a.store a.space owner kind key is ∙ missing)))
-      (still_refused a b store space shelf) (still_keeps a b store space shelf keeps) (still_moves a b store space shelf keeps) calls (ap (λ (s : Space). s.taken) space)
+      same after moves calls asks

@@ -8,6 +8,7 @@ pub mod OnOthers
 pub mod Working
 pub mod Standing
 pub mod Stepping
+pub mod Numbering
 pub mod Pinning
 pub mod HeldItems
 pub mod OnFiles
@@ -16,3 +17,4 @@ pub mod OnLocks
 pub mod Refusing
 pub mod OnSnapshots
 pub mod OnTelling
+pub mod OnPlans

@@ -18,7 +18,7 @@ use Rattle.session_rules.specs.Does.{does}
 use Rattle.session_rules.specs.Asked.{asks_in}
 use Rattle.session_rules.specs.Transcript.{is_want}
 use Rattle.session_owners.specs.ResourceState.{ResourceState}
-use Rattle.session_owners.specs.Commons.{CommonState, seen_by}
+use Rattle.session_owners.specs.Commons.{Balances, CommonState, seen_by}
 use Rattle.session_owners.proofs.Balances.{balances_more, balances_none}
 use Rattle.session_store.specs.State.{StoreState, scene_of, session_of}
 use Rattle.session_store.specs.Calls.{Acted, ContextsAlone, Keeps, Refused}
@@ -180,7 +180,7 @@ performed_act x act a b P is rises acted alone calls asks =
     }) calls asks
 
 -- the scene where a call was refused
-abbrev scene_with : SessionState → ResourceState → CommonState → ShelfState → ℕ → Around → Scene
+abbrev pub scene_with : SessionState → ResourceState → CommonState → ShelfState → ℕ → Around → Scene
 scene_with session owners commons x limit around = record { session = session; around = record (seen_by owners commons around) { shelf = x; space = limit; descriptors = owners.descriptors } }
 
 pub same_scene_in : (a b : Now) → Refused a.store b.store a.space b.space a.shelf b.shelf a.commons b.commons → (around : Around) → scene_in a around ≡ scene_in b around
@@ -227,13 +227,14 @@ module _ (x : Element) (own : Scene → Option Error) (act : Scene → Ended) (i
     descriptors = ap (λ (r : ResourceState). r.descriptors) alone.owners;
   }) asks
 
-  -- that was refused: the session is as it was
-  module _ (same : Refused a.store b.store a.space b.space a.shelf b.shelf a.commons b.commons) (keeps : Keeps b.store b.space) (moves : Moves a.store.tree b.store.tree a.space b.space) where
+  -- That was refused: the session is as it was.
+  module _ (still : (around : Around) → scene_in a around ≡ scene_in b around) (balances : Balances a.store.owners b.store.owners a.commons b.commons) (grows : Grows 1 a b) (keeps : Keeps b.store b.space)
+      (moves : Moves a.store.tree b.store.tree a.space b.space) where
     refused : (e : Error) → Answers (x ∷ []) (scene_in a) (scene_in a) a.calls.count (a.calls.count + 1) a.calls.fail P (Some e) → Takes (is_want e) a.store.tree.account 0 a.space b.space
         → Performed 1 (x ∷ []) a b P (Some e)
     refused e answers takes =
         let told : Answers (x ∷ []) (scene_in a) (scene_in b) a.calls.count b.calls.count a.calls.fail P (Some e) =
-        answers_as (x ∷ []) (scene_in a) (scene_in a) (scene_in b) a.calls.count b.calls.count a.calls.fail P (Some e) (same_scene_in a b same)
+        answers_as (x ∷ []) (scene_in a) (scene_in a) (scene_in b) a.calls.count b.calls.count a.calls.fail P (Some e) still
         (subst (λ (n : ℕ). Answers (x ∷ []) (scene_in a) (scene_in a) a.calls.count n a.calls.fail P (Some e)) (sym count_up) answers) in
         record {
           answers = told;
@@ -241,23 +242,41 @@ module _ (x : Element) (own : Scene → Option Error) (act : Scene → Ended) (i
           keeps = keeps;
           moves = moves;
           taken = taken_one x a b P (Some e) told (λ around. takes);
-          balances = rw (same.store, same.commons) (balances_none a.store.owners a.commons);
-          grows = record {
-            contexts = rw same.store (omega arith);
-            owners = rw same.store (omega arith);
-            serials = rw same.store (omega arith);
-            calls = omega (arith, count_up);
-            descriptors = ap (λ (c : StoreState). c.owners.descriptors) same.store;
-          };
+          balances = balances;
+          grows = grows;
         }
+
+    pub refused_own : (e : Error) → (a.calls.count + 1 == a.calls.fail) ≡ false → is_want e ≡ false → P [] → ((around : Around) → own (scene_in a around) ≡ Some e)
+        → Asks a.store.tree.account 0 a.space b.space → Performed 1 (x ∷ []) a b P (Some e)
+    refused_own e goes plain h cause asks =
+        refused e (answers_own a.calls.fail x own act is (scene_in a) a.calls.count P e goes plain h cause) (takes_nothing (is_want e) a.store.tree.account a.space b.space asks)
+
+    pub refused_want : (a.calls.count + 1 == a.calls.fail) ≡ false → P [] → (n : ℕ) × Asks a.store.tree.account n a.space b.space → Performed 1 (x ∷ []) a b P (Some (NoMemory (a.calls.count + 1)))
+    refused_want goes h some = refused (NoMemory (a.calls.count + 1)) (answers_want a.calls.fail x own act is (scene_in a) a.calls.count P goes h) some
+
+    refused_injected : (a.calls.count + 1 == a.calls.fail) ≡ true → P [] → Asks a.store.tree.account 0 a.space b.space → Performed 1 (x ∷ []) a b P (Some (Injected (a.calls.count + 1)))
+    refused_injected fails h asks = refused (Injected (a.calls.count + 1)) (answers_injected a.calls.fail x own act is (scene_in a) a.calls.count P fails h) asks
+
+  -- and so are the store and all that is lent
+  module _ (same : Refused a.store b.store a.space b.space a.shelf b.shelf a.commons b.commons) (keeps : Keeps b.store b.space) (moves : Moves a.store.tree b.store.tree a.space b.space) where
+    balanced : Balances a.store.owners b.store.owners a.commons b.commons
+    balanced = rw (same.store, same.commons) (balances_none a.store.owners a.commons)
+
+    unraised : Grows 1 a b
+    unraised = record {
+      contexts = rw same.store (omega arith);
+      owners = rw same.store (omega arith);
+      serials = rw same.store (omega arith);
+      calls = omega (arith, count_up);
+      descriptors = ap (λ (c : StoreState). c.owners.descriptors) same.store;
+    }
 
     pub performed_own : (e : Error) → (a.calls.count + 1 == a.calls.fail) ≡ false → is_want e ≡ false → P [] → ((around : Around) → own (scene_in a around) ≡ Some e)
         → Asks a.store.tree.account 0 a.space b.space → Performed 1 (x ∷ []) a b P (Some e)
-    performed_own e goes plain h cause asks =
-        refused e (answers_own a.calls.fail x own act is (scene_in a) a.calls.count P e goes plain h cause) (takes_nothing (is_want e) a.store.tree.account a.space b.space asks)
+    performed_own = refused_own (same_scene_in a b same) balanced unraised keeps moves
 
     pub performed_want : (a.calls.count + 1 == a.calls.fail) ≡ false → P [] → (n : ℕ) × Asks a.store.tree.account n a.space b.space → Performed 1 (x ∷ []) a b P (Some (NoMemory (a.calls.count + 1)))
-    performed_want goes h some = refused (NoMemory (a.calls.count + 1)) (answers_want a.calls.fail x own act is (scene_in a) a.calls.count P goes h) some
+    performed_want = refused_want (same_scene_in a b same) balanced unraised keeps moves
 
     pub performed_injected : (a.calls.count + 1 == a.calls.fail) ≡ true → P [] → Asks a.store.tree.account 0 a.space b.space → Performed 1 (x ∷ []) a b P (Some (Injected (a.calls.count + 1)))
-    performed_injected fails h asks = refused (Injected (a.calls.count + 1)) (answers_injected a.calls.fail x own act is (scene_in a) a.calls.count P fails h) asks
+    performed_injected = refused_injected (same_scene_in a b same) balanced unraised keeps moves

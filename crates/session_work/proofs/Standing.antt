@@ -1,5 +1,6 @@
 -- A session stands behind what it performed.
 use Rattle.std.proofs.Common.{◌≡◌, ℕ, Bool, true, false, List, [], ◌∷◌, Option, Some, None, refl, ◌∙◌, subst}
+use Rattle.std.proofs.lemmas.List.Elements.{All-nil}
 use Rattle.pgs_step.specs.declared.errors.Error.{Error}
 use Rattle.pgs_step.specs.declared.events.What.{What}
 use Rattle.pgs_command.specs.declared.commands.Command.{Command}
@@ -7,7 +8,7 @@ use Rattle.session_rules.specs.State.{LevelState, SessionState}
 use Rattle.session_rules.specs.World.{Around, Moment, Scene}
 use Rattle.session_rules.specs.Elements.{Element}
 use Rattle.session_rules.specs.Does.{does_all}
-use Rattle.session_rules.specs.Standing.{Stands}
+use Rattle.session_rules.specs.Standing.{IsAtRest, Stands}
 use Rattle.session_rules.specs.Works.{work_of}
 use Rattle.session_rules.proofs.StepsStand.{IsWorking}
 use Rattle.session_rules.proofs.TurnStands.{At, IsWork, Leads, work_leads}
@@ -54,7 +55,7 @@ module _ (k : ℕ) (es : List Element) (a b : Now) (P : List What → Type 0) (r
 -- a session between two steps, with its levels
 pub at_levels : (a : Now) (around : Around) → IsBetweenSteps a → At (levels_of a.store.levels) (scene_in a around)
 unfolding session_of
-at_levels a around h = record { stands = h.stands around; are = refl }
+at_levels a around h = record { stands = h.stands around; are = refl; at_rest = All-nil IsAtRest }
 
 pub levels_at : (a : Now) (levels : List LevelState) (around : Around) → At levels (scene_in a around) → levels_of a.store.levels ≡ levels
 unfolding session_of

@@ -31,8 +31,8 @@ OnlyTells command.Stat = Unit {0}
 OnlyTells (command.Buffer buffer) = Unit {0}
 OnlyTells other = ⊥
 
--- a command that works in a transaction: those, the ones on pins, references, extension kinds, snapshots, locks and files, the ones that
--- only tell what is there, and the one that fails
+-- a command that works in a transaction: those, the ones on pins, references, extension kinds, snapshots, plans, locks and files, the ones
+-- that only tell what is there, and the one that fails
 abbrev pub IsWork : Command → Type 0
 IsWork command.Raise = Unit {0}
 IsWork (command.Pin buffer) = Unit {0}
@@ -53,6 +53,10 @@ IsWork command.Stat = Unit {0}
 IsWork (command.Buffer buffer) = Unit {0}
 IsWork (command.Push snapshot) = Unit {0}
 IsWork command.Pop = Unit {0}
+IsWork (command.Plan plan) = Unit {0}
+IsWork (command.PlanReference plan) = Unit {0}
+IsWork (command.PlanUnreference plan) = Unit {0}
+IsWork (command.PlanDrop plan) = Unit {0}
 IsWork (command.Context name parent kind) = Unit {0}
 IsWork (command.Switch name) = Unit {0}
 IsWork (command.OnReset name) = Unit {0}

@@ -24,6 +24,7 @@ use owner_kinds::ExtKind;
 use pgs_command::ReferenceClass;
 use pgs_step::{Emit, Error, KindId, OwnerId};
 use reset_callbacks::ResetHook;
+use session_ends::release_item;
 use session_store::Store;
 
 /// How many buffers there are.
@@ -216,6 +217,7 @@ pub(crate) fn enlarge<H: ResetHook, K: ExtKind>(
     ensures spare { OnOk result (1 ≤ spare_of owner.number store.new.owners) }
     ensures session { OnOk result ((s : Space) → session_of store.new s ≡ session_of store.old s) }
     ensures commons { shared.new.commons.now ≡ shared.old.commons.now }
+    ensures plans { store.new.owners.plans ≡ store.old.owners.plans }
     ensures alone { OnOk result (OwnersAlone store.old store.new shared.old.commons.now shared.new.commons.now) }
 {
     if let Err(error) = shared.calls.next() {
@@ -342,7 +344,16 @@ pub(crate) fn give_back<H: ResetHook, K: ExtKind, E: Emit>(
     ensures performed { Performed 0 (e.Checks (e.Holds kind key) ∷ e.GiveBack kind key ∷ []) (now store.old shared.old) (now store.new shared.new) (λ events. E.emits out.old events out.new) (refusal_of result) }
 {
     let owner = owner_of_level(store);
-    if let Err(_) = store.give_back(owner, kind, key, shared.commons, out) {
+    if let Err(_) = release_item(
+        store,
+        owner,
+        kind,
+        key,
+        shared.space,
+        shared.shelf,
+        shared.commons,
+        out,
+    ) {
         return Err(Error::NotHeld);
     }
     Ok(())

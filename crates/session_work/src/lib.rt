@@ -8,6 +8,7 @@ mod errors;
 mod extensions;
 mod items;
 mod locks;
+mod plans;
 mod shared;
 mod snapshots;
 mod telling;

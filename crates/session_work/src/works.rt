@@ -18,6 +18,7 @@ use crate::items::{
     close_file, open_file, pin, reference, snapshot, touch, unpin, unreference, unsnapshot,
 };
 use crate::locks::{lock, unlock};
+use crate::plans::{discard_plan, make_plan, reference_plan, unreference_plan};
 use crate::shared::Shared;
 use crate::snapshots::{pop, push};
 use crate::telling::{tell_buffer, tell_contexts, tell_counts};
@@ -75,6 +76,10 @@ fn work_by_kind<H: ResetHook, K: ExtKind, E: Emit>(
         Command::Unsnapshot(number) => unsnapshot(store, *number, shared, out),
         Command::Push(number) => push(store, *number, shared, out),
         Command::Pop => pop(store, shared, out),
+        Command::Plan(plan) => make_plan(store, *plan, shared, out),
+        Command::PlanReference(plan) => reference_plan(store, *plan, shared, out),
+        Command::PlanUnreference(plan) => unreference_plan(store, *plan, shared, out),
+        Command::PlanDrop(plan) => discard_plan(store, *plan, shared, out),
         Command::Lock { object, mode } => lock(store, *object, *mode, shared, out),
         Command::Unlock { object, mode } => unlock(store, *object, *mode, shared, out),
         Command::Open(file) => open_file(store, *file, shared, out),

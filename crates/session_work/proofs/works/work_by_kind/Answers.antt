@@ -92,3 +92,21 @@ returns-in-Pop g c = record { performed = λ session. as_command 0 2 _ _ session
 
 pub returns-in-Report : goal.returns-in-Report
 returns-in-Report g c = record { performed = λ session. performed_more 0 2 _ _ _ _ _ (omega arith) (c.tell.ensures.performed session) }
+
+pub returns-in-Plan : goal.returns-in-Plan
+returns-in-Plan g c = record { performed = λ session. as_command 1 2 _ _ session _ _ _ _ (omega arith) c.in-Plan.is (c.make_plan.ensures.performed session) }
+
+pub returns-in-PlanReference : goal.returns-in-PlanReference
+returns-in-PlanReference g c = record { performed = λ session. as_command 2 2 _ _ session _ _ _ _ (omega arith) c.in-PlanReference.is (c.reference_plan.ensures.performed session) }
+
+pub returns-in-PlanUnreference : goal.returns-in-PlanUnreference
+returns-in-PlanUnreference g c = record { performed = λ session. as_command 0 2 _ _ session _ _ _ _ (omega arith) c.in-PlanUnreference.is (c.unreference_plan.ensures.performed session) }
+
+pub returns-in-PlanDrop : goal.returns-in-PlanDrop
+returns-in-PlanDrop g c = record { performed = λ session. as_command 0 2 _ _ session _ _ _ _ (omega arith) c.in-PlanDrop.is (c.discard_plan.ensures.performed session) }
+
+pub reference_plan-requires-clause-active : goal.reference_plan-requires-clause-active
+reference_plan-requires-clause-active g c = in_active _ c.requires.active
+
+pub unreference_plan-requires-clause-active : goal.unreference_plan-requires-clause-active
+unreference_plan-requires-clause-active g c = in_active _ c.requires.active

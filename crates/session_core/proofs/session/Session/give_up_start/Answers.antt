@@ -1,12 +1,11 @@
 use Rattle.std.proofs.Common.{◌≡◌, ◌<◌, [], ◌∷◌, length, ap, refl, subst, sym, arith}
 use Rattle.session_rules.specs.Acts.{in_order}
 use Rattle.session_rules.specs.Ends.{aborted, cleaned_up, given_up}
-use Rattle.session_store.proofs.Deepest.{levels_long}
+use Rattle.session_store.proofs.Depths.{levels_long}
 use Rattle.session_store.specs.State.{StoreState, levels_of}
 use Rattle.session_work.specs.Performed.{Now, now}
 use Rattle.session_core.proofs.Between.{between_of, roll_between}
 use Rattle.session_core.proofs.Numbers.{aborts, rolls}
-use Rattle.session_core.proofs.OnLevels.{moves_current}
 use Rattle.session_core.proofs.Recovered.{ended, ends_as, ends_both, ends_seen, gives_start, gives_start_alone, starting_some}
 use Rattle.session_core.proofs.Rolling.{one_less}
 use Rattle.session_core.proofs.Seen.{serves_of, stands_of}
@@ -30,15 +29,15 @@ returns-then-depth-eq0 g c =
 
 pub abort-requires-clause-stands : goal.abort-requires-clause-stands
 abort-requires-clause-stands g c =
-    let left : Now = record { store = c.roll_back.new.self; space = c.roll_back.new.space; shelf = c.roll_back.new.shelf; commons = c.roll_back.new.commons; calls = c.args.shared.now.calls.now } in
+    let left : Now = record { store = c.roll_back.new.store; space = c.roll_back.new.space; shelf = c.roll_back.new.shelf; commons = c.roll_back.new.commons; calls = c.args.shared.now.calls.now } in
     let some : 0 < length c.self.inside.store.levels = subst (λ (v : StoreState). 0 < length v.levels) (sym c.self.view_is) (starting_some c.args.self.now.levels c.requires.level) in
     let between = roll_between (now c.self.inside.store c.args.shared.now) left _
     (between_of c.self.inside.store c.args.self.now c.self.view_is (λ store. now store c.args.shared.now) c.requires.between) c.roll_back.ensures.keeps some c.roll_back.ensures.acted in
-    (c.roll_back.new.space, (c.roll_back.new.shelf, between.stands))
+    between.stands
 
 pub abort-requires-clause-serves : goal.abort-requires-clause-serves
 abort-requires-clause-serves g c =
-    let left : Now = record { store = c.roll_back.new.self; space = c.roll_back.new.space; shelf = c.roll_back.new.shelf; commons = c.roll_back.new.commons; calls = c.args.shared.now.calls.now } in
+    let left : Now = record { store = c.roll_back.new.store; space = c.roll_back.new.space; shelf = c.roll_back.new.shelf; commons = c.roll_back.new.commons; calls = c.args.shared.now.calls.now } in
     let some : 0 < length c.self.inside.store.levels = subst (λ (v : StoreState). 0 < length v.levels) (sym c.self.view_is) (starting_some c.args.self.now.levels c.requires.level) in
     let between = roll_between (now c.self.inside.store c.args.shared.now) left _
     (between_of c.self.inside.store c.args.self.now c.self.view_is (λ store. now store c.args.shared.now) c.requires.between) c.roll_back.ensures.keeps some c.roll_back.ensures.acted in
@@ -46,9 +45,8 @@ abort-requires-clause-serves g c =
 
 pub returns : goal.returns
 returns g c =
-    let left : Now = record { store = c.roll_back.new.self; space = c.roll_back.new.space; shelf = c.roll_back.new.shelf; commons = c.roll_back.new.commons; calls = c.args.shared.now.calls.now } in
-    let behind : Now = record left { store = c.abort.new.self; commons = c.abort.new.commons } in
-    let keeps = c.abort.ensures.keeps c.roll_back.new.space c.roll_back.ensures.keeps in
+    let left : Now = record { store = c.roll_back.new.store; space = c.roll_back.new.space; shelf = c.roll_back.new.shelf; commons = c.roll_back.new.commons; calls = c.args.shared.now.calls.now } in
+    let behind : Now = record left { store = c.abort.new.store; space = c.abort.new.space; shelf = c.abort.new.shelf; commons = c.abort.new.commons } in
     let more : 1 < length (levels_of c.args.self.now.levels) =
     omega (arith, levels_long c.args.self.now.levels, ap (λ (v : StoreState). length v.levels) c.self.view_is, one_less _ _ _ c.roll_back.ensures.levels.1, c.depth.ensures.depth, c.if-depth-eq0.false) in
     record {
@@ -56,7 +54,7 @@ returns g c =
           (ends_as (given_up (levels_of c.args.self.now.levels)) (in_order (in_order (aborted ∷ cleaned_up ∷ []) ∷ aborted ∷ [])) _ behind _ (gives_start (levels_of c.args.self.now.levels) c.requires.level more)
           (ends_both (in_order (aborted ∷ cleaned_up ∷ [])) aborted _ left behind _ _ _
           (ended _ _ left _ rolls c.roll_back.ensures.acted c.roll_back.ensures.keeps c.roll_back.ensures.moves c.roll_back.ensures.asked refl)
-          (ended _ left behind _ aborts (c.abort.ensures.acted c.roll_back.new.space c.roll_back.new.shelf) keeps (moves_current _ _ c.roll_back.new.space c.abort.ensures.tree keeps.agrees) refl refl)
+          (ended _ left behind _ aborts c.abort.ensures.acted c.abort.ensures.keeps c.abort.ensures.moves c.abort.ensures.asked refl)
           (λ us vs first second. g.met.E.Emit.emits_more _ _ _ _ _ _ first second refl)));
     }
 

@@ -3,7 +3,6 @@ use Rattle.session_rules.specs.State.{first_of}
 use Rattle.session_store.specs.State.{StoreState, level_state, levels_of}
 use Rattle.session_core.proofs.Between.{recovery_lines}
 use Rattle.session_core.proofs.Numbers.{aborts, nothing_keeps, rolls}
-use Rattle.session_core.proofs.OnLevels.{moves_current}
 use Rattle.session_work.proofs.Performing.{moves_nothing}
 use Rattle.session_core.proofs.Recovered.{acted_nothing, ended, ends_same, ends_seen, gives_aborted, gives_implicit, gives_none, gives_open, gives_up, recovery_ends}
 use Rattle.session_core.proofs.Seen.{keeps_of, serves_of, stands_of}
@@ -55,15 +54,14 @@ returns-then-level-3-clause-lines g c = recovery_lines c.args.error _ _ _ c.requ
 
 pub abort-requires-clause-stands : goal.abort-requires-clause-stands
 abort-requires-clause-stands g c =
-    (c.args.shared.now.space.now, (c.args.shared.now.shelf.now, stands_of c.self.inside.store c.args.self.now c.self.view_is c.args.shared.now.space.now c.args.shared.now.shelf.now c.args.shared.now.commons.now c.requires.between.stands))
+    stands_of c.self.inside.store c.args.self.now c.self.view_is c.args.shared.now.space.now c.args.shared.now.shelf.now c.args.shared.now.commons.now c.requires.between.stands
 
 pub returns-clause-did : goal.returns-clause-did
 returns-clause-did g c =
-    let keeps = c.abort.ensures.keeps c.args.shared.now.space.now (keeps_of c.self.inside.store c.args.self.now c.self.view_is c.args.shared.now.space.now c.requires.between.keeps) in
     ends_seen c.self.inside.store c.args.self.now c.self.view_is _ c.args.shared.now _ _
     (recovery_ends _ (λ o events p. g.E.Emit.emits o events p) (λ o p q xs ys h k. g.met.E.Emit.emits_more _ _ _ _ _ _ h k refl) c.args.error _ _ _ c.args.out.now c.emit.new.self c.abort.new.out
     (gives_open _ _ (sym c.in-Some.ensures.level) c.if-level.false c.if-level-2.false c.if-level-3.false) c.emit.ensures.emitted
-    (ended _ _ _ _ aborts (c.abort.ensures.acted c.args.shared.now.space.now c.args.shared.now.shelf.now) keeps (moves_current _ _ c.args.shared.now.space.now c.abort.ensures.tree keeps.agrees) refl refl))
+    (ended _ _ _ _ aborts c.abort.ensures.acted c.abort.ensures.keeps c.abort.ensures.moves c.abort.ensures.asked refl))
 
 pub returns-clause-lines : goal.returns-clause-lines
 returns-clause-lines g c = recovery_lines c.args.error _ _ _ c.requires.between (returns-clause-did g c)

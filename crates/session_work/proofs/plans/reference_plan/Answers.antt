@@ -1,0 +1,49 @@
+use Rattle.std.proofs.Common.{ap, ◌∙◌}
+use Rattle.forest.specs.Forest.{has}
+use Rattle.session_owners.specs.ResourceState.{has_begun}
+use Rattle.session_work.specs.Performed.{now}
+use Rattle.session_work.proofs.OnPlans.{no_plan, no_room, referred}
+use Rattle.session_work.proofs.Pinning.{owner_there, owner_unbegun, owners_same}
+use Rattle.session_work.proofs.plans.reference_plan.Goals as goal
+
+pub returns-then-not-can_refer : goal.returns-then-not-can_refer
+returns-then-not-can_refer g c = record {
+  performed = λ session.
+      no_plan c.args.plan (now c.args.store.now c.args.shared.now) c.requires.between.keeps c.can_refer.result (c.can_refer.ensures.session c.args.shared.now.space.now)
+      2 _ _ (g.met.E.Emit.emits_none c.args.out.now) c.if-not-can_refer.true;
+}
+
+pub enlarge-requires-clause-not_begun : goal.enlarge-requires-clause-not_begun
+enlarge-requires-clause-not_begun g c = owner_unbegun (now c.args.store.now c.args.shared.now) c.requires.between c.requires.active c.owner_of_level-owner.result.number
+
+pub returns-in-Err : goal.returns-in-Err
+returns-in-Err g c = record {
+  performed = λ session.
+      no_room c.args.plan (now c.args.store.now c.args.shared.now) c.requires.between.keeps c.can_refer.result (c.can_refer.ensures.session c.args.shared.now.space.now)
+      c.if-not-can_refer.false _ _ (g.met.E.Emit.emits_none c.args.out.now) c.in-Err.error c.in-Err.ensures.performed;
+}
+
+pub take_plan-requires-clause-live : goal.take_plan-requires-clause-live
+take_plan-requires-clause-live g c =
+    c.in_default.ensures.alone.stays c.owner_of_level-owner.result (c.owner_of_level-owner.ensures.live c.args.shared.now.space.now c.args.shared.now.shelf.now c.args.shared.now.commons.now c.requires.between.stands)
+    (ap (has c.owner_of_level-owner.result.number) (owners_same c.args.store.now c.enlarge.new.store c.args.shared.now.space.now (c.in_default.ensures.session c.args.shared.now.space.now))
+    ∙ owner_there (now c.args.store.now c.args.shared.now) c.requires.between c.requires.active c.owner_of_level-owner.result.number (c.owner_of_level-owner.ensures.owner c.args.shared.now.space.now))
+
+pub take_plan-requires-clause-not_begun : goal.take_plan-requires-clause-not_begun
+take_plan-requires-clause-not_begun g c =
+    ap (has_begun c.owner_of_level-owner.result.number) (owners_same c.args.store.now c.enlarge.new.store c.args.shared.now.space.now (c.in_default.ensures.session c.args.shared.now.space.now))
+    ∙ owner_unbegun (now c.args.store.now c.args.shared.now) c.requires.between c.requires.active c.owner_of_level-owner.result.number
+
+pub returns-in-Err-take_plan : goal.returns-in-Err-take_plan
+returns-in-Err-take_plan g c = record {
+  performed = λ session.
+      referred c.args.plan (now c.args.store.now c.args.shared.now) c.requires.between.keeps c.can_refer.result (c.can_refer.ensures.session c.args.shared.now.space.now)
+      c.if-not-can_refer.false _ _ _ _ c.in_default.ensures.performed c.in-Err-take_plan.ensures.performed;
+}
+
+pub returns : goal.returns
+returns g c = record {
+  performed = λ session.
+      referred c.args.plan (now c.args.store.now c.args.shared.now) c.requires.between.keeps c.can_refer.result (c.can_refer.ensures.session c.args.shared.now.space.now)
+      c.if-not-can_refer.false _ _ _ _ c.in_default.ensures.performed c.in_default-take_plan.ensures.performed;
+}
