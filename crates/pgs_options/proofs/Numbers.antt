@@ -75,7 +75,8 @@ abbrev name_at : ℕ → Text
 name_at zero = codes "space"
 name_at (suc zero) = codes "sessions"
 name_at (suc (suc zero)) = codes "descriptors"
-name_at (suc (suc (suc k))) = codes "fail"
+name_at (suc (suc (suc zero))) = codes "fail"
+name_at (suc (suc (suc (suc k)))) = codes "generate"
 
 abbrev least_at : ℕ → ℕ
 least_at zero = 131072
@@ -87,71 +88,78 @@ abbrev most_at : ℕ → ℕ
 most_at zero = 1073741824
 most_at (suc zero) = 64
 most_at (suc (suc zero)) = 64
-most_at (suc (suc (suc k))) = 4294967295
+most_at (suc (suc (suc zero))) = 4294967295
+most_at (suc (suc (suc (suc k)))) = 10000
 
--- names are told apart by their lengths
+-- names are told apart by their lengths, and two of them by their first letters
 place_of : Text → ℕ
-place_of t = if length t == 5 then 0 else (if length t == 8 then 1 else (if length t == 11 then 2 else 3))
+place_of t = if length t == 5 then 0 else (if length t == 11 then 2 else (if length t == 4 then 3 else (if slice_index t 0 == 115 then 1 else 4)))
 
-placed : (k : ℕ) → k < 4 → place_of (name_at k) ≡ k
+placed : (k : ℕ) → k < 5 → place_of (name_at k) ≡ k
 unfolding place_of
 placed zero lt = refl
 placed (suc zero) lt = refl
 placed (suc (suc zero)) lt = refl
 placed (suc (suc (suc zero))) lt = refl
-placed (suc (suc (suc (suc k)))) lt = absurd (omega (arith, lt))
+placed (suc (suc (suc (suc zero)))) lt = refl
+placed (suc (suc (suc (suc (suc k))))) lt = absurd (omega (arith, lt))
 
 -- no name is that of an option that the command makes itself, or empty
 not_own : (k : ℕ) (t : Text) → t ≡ name_at k → (t ≡ codes "help") ⊎ (t ≡ codes "version") → ⊥
 not_own zero t e = not_auto t 115 (first_byte t (codes "space") e) (λ z. omega (arith, z)) (λ z. omega (arith, z))
 not_own (suc zero) t e = not_auto t 115 (first_byte t (codes "sessions") e) (λ z. omega (arith, z)) (λ z. omega (arith, z))
 not_own (suc (suc zero)) t e = not_auto t 100 (first_byte t (codes "descriptors") e) (λ z. omega (arith, z)) (λ z. omega (arith, z))
-not_own (suc (suc (suc k))) t e = not_auto t 102 (first_byte t (codes "fail") e) (λ z. omega (arith, z)) (λ z. omega (arith, z))
+not_own (suc (suc (suc zero))) t e = not_auto t 102 (first_byte t (codes "fail") e) (λ z. omega (arith, z)) (λ z. omega (arith, z))
+not_own (suc (suc (suc (suc k)))) t e = not_auto t 103 (first_byte t (codes "generate") e) (λ z. omega (arith, z)) (λ z. omega (arith, z))
 
 is_named : (k : ℕ) → name_at k ≡ [] → ⊥
 is_named zero e = differ (codes "space") [] 115 0 refl refl (λ z. omega (arith, z)) e
 is_named (suc zero) e = differ (codes "sessions") [] 115 0 refl refl (λ z. omega (arith, z)) e
 is_named (suc (suc zero)) e = differ (codes "descriptors") [] 100 0 refl refl (λ z. omega (arith, z)) e
-is_named (suc (suc (suc k))) e = differ (codes "fail") [] 102 0 refl refl (λ z. omega (arith, z)) e
+is_named (suc (suc (suc zero))) e = differ (codes "fail") [] 102 0 refl refl (λ z. omega (arith, z)) e
+is_named (suc (suc (suc (suc k)))) e = differ (codes "generate") [] 103 0 refl refl (λ z. omega (arith, z)) e
 
 module _ (c : Command) (h : HasOptions c) where
   abbrev arg_at : ℕ → Arg
   arg_at zero = h.space
   arg_at (suc zero) = h.sessions
   arg_at (suc (suc zero)) = h.descriptors
-  arg_at (suc (suc (suc k))) = h.fail
+  arg_at (suc (suc (suc zero))) = h.fail
+  arg_at (suc (suc (suc (suc k)))) = h.generate
 
-  four : length (args_of c) ≡ 4
-  four = ap (λ (xs : List Arg). length xs) h.args
+  five : length (args_of c) ≡ 5
+  five = ap (λ (xs : List Arg). length xs) h.args
 
-  is_at : (k : ℕ) (d : Arg) → k < 4 → slice_index_or (args_of c) k d ≡ arg_at k
+  is_at : (k : ℕ) (d : Arg) → k < 5 → slice_index_or (args_of c) k d ≡ arg_at k
   is_at zero d lt = ap (λ (xs : List Arg). slice_index_or xs 0 d) h.args
   is_at (suc zero) d lt = ap (λ (xs : List Arg). slice_index_or xs 1 d) h.args
   is_at (suc (suc zero)) d lt = ap (λ (xs : List Arg). slice_index_or xs 2 d) h.args
   is_at (suc (suc (suc zero))) d lt = ap (λ (xs : List Arg). slice_index_or xs 3 d) h.args
-  is_at (suc (suc (suc (suc k)))) d lt = absurd (omega (arith, lt))
+  is_at (suc (suc (suc (suc zero)))) d lt = ap (λ (xs : List Arg). slice_index_or xs 4 d) h.args
+  is_at (suc (suc (suc (suc (suc k))))) d lt = absurd (omega (arith, lt))
 
   takes_at : (k : ℕ) → IsNumber (name_at k) (Signed (pos (least_at k)) (pos (most_at k))) (arg_at k)
   takes_at zero = h.takes_space
   takes_at (suc zero) = h.takes_sessions
   takes_at (suc (suc zero)) = h.takes_descriptors
-  takes_at (suc (suc (suc k))) = h.takes_fail
+  takes_at (suc (suc (suc zero))) = h.takes_fail
+  takes_at (suc (suc (suc (suc k)))) = h.takes_generate
 
-  id_at : (k : ℕ) (d : Arg) → k < 4 → (slice_index_or (args_of c) k d).id.now ≡ name_at k
+  id_at : (k : ℕ) (d : Arg) → k < 5 → (slice_index_or (args_of c) k d).id.now ≡ name_at k
   id_at k d lt = ap (λ (a : Arg). a.id.now) (is_at k d lt) ∙ (takes_at k).id
 
   -- no two options have one name
-  only_at : (k : ℕ) (d : Arg) → k < 4 → (j : ℕ) (e : Arg) → j < length (args_of c)
+  only_at : (k : ℕ) (d : Arg) → k < 5 → (j : ℕ) (e : Arg) → j < length (args_of c)
       → bytes_eq (slice_index_or (args_of c) j e).id.now (slice_index_or (args_of c) k d).id.now ≡ true → j ≡ k
   only_at k d lt j e less same =
-      let few : j < 4 = omega (arith, less, four) in
+      let few : j < 5 = omega (arith, less, five) in
       sym (placed j few)
       ∙ ap place_of (sym (id_at j e few) ∙ (bytes_eq-Decides (slice_index_or (args_of c) j e).id.now (slice_index_or (args_of c) k d).id.now).0 same ∙ id_at k d lt)
       ∙ placed k lt
 
-  option_at : (k : ℕ) → k < 4 → IsOption c k (arg_at k) (Signed (pos (least_at k)) (pos (most_at k)))
+  option_at : (k : ℕ) → k < 5 → IsOption c k (arg_at k) (Signed (pos (least_at k)) (pos (most_at k)))
   option_at k lt = record {
-    listed = omega (arith, lt, four);
+    listed = omega (arith, lt, five);
     only = only_at k (arg_at k) lt;
     own = not_own k (slice_index_or (args_of c) k (arg_at k)).id.now (id_at k (arg_at k) lt);
     named = λ e. is_named k (sym (id_at k (arg_at k) lt) ∙ e);
@@ -160,7 +168,7 @@ module _ (c : Command) (h : HasOptions c) where
 
   -- what is read of an option is what the rows say
   module _ {E : Type 0} (bits : ℕ) (gives : Text → Result ℕ E → Type 0) (number : GivesNumber bits gives) (m : ArgMatches) (p : IsParsedFrom c m) where
-    told_at : (k : ℕ) → k < 4 → most_at k < 2 ^ bits → (r : Option ℕ) → (one_text (found_of m) (name_at k) ≡ None → r ≡ None)
+    told_at : (k : ℕ) → k < 5 → most_at k < 2 ^ bits → (r : Option ℕ) → (one_text (found_of m) (name_at k) ≡ None → r ≡ None)
         → ((t : Text) → one_text (found_of m) (name_at k) ≡ Some t → ReadsOne gives t r)
         → Told (least_at k) (most_at k) (name_at k) (rows_of (found_of m)) r
     told_at k lt fits r none some =
@@ -186,6 +194,11 @@ module _ (c : Command) (h : HasOptions c) where
         → Told 8 64 (codes "descriptors") (rows_of (found_of m)) r
     descriptors_told r none some = told_at 8 gives number m p 2 (omega arith) (omega arith) r none some
 
+  module _ {E : Type 0} (gives : Text → Result ℕ E → Type 0) (number : GivesNumber 16 gives) (m : ArgMatches) (p : IsParsedFrom c m) where
+    pub generate_told : (r : Option ℕ) → (one_text (found_of m) (codes "generate") ≡ None → r ≡ None) → ((t : Text) → one_text (found_of m) (codes "generate") ≡ Some t → ReadsOne gives t r)
+        → Told 0 10000 (codes "generate") (rows_of (found_of m)) r
+    generate_told r none some = told_at 16 gives number m p 4 (omega arith) (omega arith) r none some
+
 -- the command line is one whose matches and faults are known
 simple : is_simple the_app ≡ true
 unfolding clap_on_literals
@@ -202,12 +215,12 @@ pub no_faults : (a : App) (words : List Text) → a ≡ the_app → fault_of a w
 no_faults a words e none = ap (λ (x : App). fault_of x words) (sym e) ∙ none
 
 -- what the options are where there is no fault
-pub options_told : (words : List Text) (rows : List Row) (a b c d : Option ℕ) → fault_of the_app words ≡ [] → rows ≡ matches_of the_app words
-    → Told 131072 1073741824 (codes "space") rows a → Told 1 64 (codes "sessions") rows b → Told 8 64 (codes "descriptors") rows c → Told 0 4294967295 (codes "fail") rows d
-    → options_of words ≡ where_fitting (record { space = unwrap_or a 16777216; sessions = unwrap_or b 1; descriptors = unwrap_or c 16; fail = unwrap_or d 0 })
-options_told words rows a b c d none is space sessions descriptors fail =
-    let told : options_in rows ≡ record { space = unwrap_or a 16777216; sessions = unwrap_or b 1; descriptors = unwrap_or c 16; fail = unwrap_or d 0 } =
-    rw (space.told, sessions.told, descriptors.told, fail.told) refl in
+pub options_told : (words : List Text) (rows : List Row) (a b c d e : Option ℕ) → fault_of the_app words ≡ [] → rows ≡ matches_of the_app words
+    → Told 131072 1073741824 (codes "space") rows a → Told 1 64 (codes "sessions") rows b → Told 8 64 (codes "descriptors") rows c → Told 0 4294967295 (codes "fail") rows d → Told 0 10000 (codes "generate") rows e
+    → options_of words ≡ where_fitting (record { space = unwrap_or a 16777216; sessions = unwrap_or b 1; descriptors = unwrap_or c 16; fail = unwrap_or d 0; generate = unwrap_or e 0 })
+options_told words rows a b c d e none is space sessions descriptors fail generate =
+    let told : options_in rows ≡ record { space = unwrap_or a 16777216; sessions = unwrap_or b 1; descriptors = unwrap_or c 16; fail = unwrap_or d 0; generate = unwrap_or e 0 } =
+    rw (space.told, sessions.told, descriptors.told, fail.told, generate.told) refl in
     ap (λ (faults : Kinds). where_no_fault faults (matches_of the_app words)) none ∙ ap (λ (r : List Row). where_fitting (options_in r)) (sym is) ∙ ap where_fitting told
 
 -- an option that isn't given has its default, which is in the range

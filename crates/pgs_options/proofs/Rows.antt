@@ -3,19 +3,19 @@ use Rattle.std.proofs.Common.{◌≡◌, refl, [], ◌∷◌, codes, Some, None}
 use Rattle.clap.proofs.OnLiterals.{clap_on_literals}
 use Rattle.pgs_options.specs.Options.{options_of}
 
-nothing_given : options_of [] ≡ Some (record { space = 16777216; sessions = 1; descriptors = 16; fail = 0 })
+nothing_given : options_of [] ≡ Some (record { space = 16777216; sessions = 1; descriptors = 16; fail = 0; generate = 0 })
 unfolding clap_on_literals
 nothing_given = refl
 
-two_words : options_of (codes "--fail" ∷ codes "5" ∷ []) ≡ Some (record { space = 16777216; sessions = 1; descriptors = 16; fail = 5 })
+two_words : options_of (codes "--fail" ∷ codes "5" ∷ []) ≡ Some (record { space = 16777216; sessions = 1; descriptors = 16; fail = 5; generate = 0 })
 unfolding clap_on_literals
 two_words = refl
 
-one_word : options_of (codes "--fail=4294967295" ∷ []) ≡ Some (record { space = 16777216; sessions = 1; descriptors = 16; fail = 4294967295 })
+one_word : options_of (codes "--fail=4294967295" ∷ []) ≡ Some (record { space = 16777216; sessions = 1; descriptors = 16; fail = 4294967295; generate = 0 })
 unfolding clap_on_literals
 one_word = refl
 
-both : options_of (codes "--space" ∷ codes "131072" ∷ codes "--fail" ∷ codes "7" ∷ []) ≡ Some (record { space = 131072; sessions = 1; descriptors = 16; fail = 7 })
+both : options_of (codes "--space" ∷ codes "131072" ∷ codes "--fail" ∷ codes "7" ∷ []) ≡ Some (record { space = 131072; sessions = 1; descriptors = 16; fail = 7; generate = 0 })
 unfolding clap_on_literals
 both = refl
 
@@ -44,7 +44,7 @@ unfolding clap_on_literals
 no_help = refl
 
 -- several sessions, and their descriptors
-sessions_given : options_of (codes "--sessions" ∷ codes "8" ∷ codes "--descriptors" ∷ codes "64" ∷ codes "--space" ∷ codes "268435456" ∷ []) ≡ Some (record { space = 268435456; sessions = 8; descriptors = 64; fail = 0 })
+sessions_given : options_of (codes "--sessions" ∷ codes "8" ∷ codes "--descriptors" ∷ codes "64" ∷ codes "--space" ∷ codes "268435456" ∷ []) ≡ Some (record { space = 268435456; sessions = 8; descriptors = 64; fail = 0; generate = 0 })
 unfolding clap_on_literals
 sessions_given = refl
 
@@ -69,6 +69,14 @@ one_byte_too_many : options_of (codes "--sessions" ∷ codes "8" ∷ codes "--sp
 unfolding clap_on_literals
 one_byte_too_many = refl
 
-not_built : options_of (codes "--generate" ∷ codes "2" ∷ []) ≡ None
+rounds_given : options_of (codes "--generate" ∷ codes "2" ∷ []) ≡ Some (record { space = 16777216; sessions = 1; descriptors = 16; fail = 0; generate = 2 })
+unfolding clap_on_literals
+rounds_given = refl
+
+too_many_rounds : options_of (codes "--generate=10001" ∷ []) ≡ None
+unfolding clap_on_literals
+too_many_rounds = refl
+
+not_built : options_of (codes "--sweep" ∷ []) ≡ None
 unfolding clap_on_literals
 not_built = refl

@@ -26,8 +26,11 @@ with_sessions = with_rule with_space (number_rule (codes "sessions") 1 64)
 abbrev pub with_descriptors : App
 with_descriptors = with_rule with_sessions (number_rule (codes "descriptors") 8 64)
 
+abbrev pub with_fail : App
+with_fail = with_rule with_descriptors (number_rule (codes "fail") 0 4294967295)
+
 abbrev pub the_app : App
-the_app = with_rule with_descriptors (number_rule (codes "fail") 0 4294967295)
+the_app = with_rule with_fail (number_rule (codes "generate") 0 10000)
 
 -- the number that an option is given, if it is
 abbrev pub number_in : Text → List Row → Option ℕ
@@ -40,6 +43,7 @@ options_in rows = record {
   sessions = unwrap_or (number_in (codes "sessions") rows) 1;
   descriptors = unwrap_or (number_in (codes "descriptors") rows) 16;
   fail = unwrap_or (number_in (codes "fail") rows) 0;
+  generate = unwrap_or (number_in (codes "generate") rows) 0;
 }
 
 -- the most bytes that the contexts of all sessions together may hold

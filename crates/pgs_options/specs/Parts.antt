@@ -25,7 +25,7 @@ pub record IsNumber (name : Text) (parser : ValueParser) (arg : Arg) : Type 0 wh
   pub id : arg.id.now ≡ name
   pub by : arg.value_parser ≡ Some parser
 
--- the command has its four options, and no other, and nothing in it excludes anything
+-- the command has its five options, and no other, and nothing in it excludes anything
 pub record HasOptions (c : Command) : Type 0 where
   pub app : app_of c ≡ the_app
   pub space : Arg
@@ -36,6 +36,8 @@ pub record HasOptions (c : Command) : Type 0 where
   pub takes_descriptors : IsNumber (codes "descriptors") (Signed (pos 8) (pos 64)) descriptors
   pub fail : Arg
   pub takes_fail : IsNumber (codes "fail") (Signed (pos 0) (pos 4294967295)) fail
-  pub args : args_of c ≡ space ∷ sessions ∷ descriptors ∷ fail ∷ []
+  pub generate : Arg
+  pub takes_generate : IsNumber (codes "generate") (Signed (pos 0) (pos 10000)) generate
+  pub args : args_of c ≡ space ∷ sessions ∷ descriptors ∷ fail ∷ generate ∷ []
   pub plain : IsPlain c
   pub parsed : (m : ArgMatches) (p : IsParsedFrom c m) → IsParsed p.built (found_of m) (has_subcommand m)

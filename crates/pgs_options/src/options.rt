@@ -32,6 +32,8 @@ pub struct Options {
     pub descriptors: u8,
     /// `--fail`: which fallible call of the run fails, counted from 1; 0 is none.
     pub fail: u32,
+    /// `--generate`: how many rounds the script has that the run makes itself, at most 10,000; 0 is none: it reads one.
+    pub generate: u16,
 }
 
 /// Why words give no options.
@@ -53,6 +55,7 @@ pub fn read_options<'a>(alloc: Global, words: &'a [String]) -> Result<Options, O
     ensures space { IfOk result (λ o. (131072 ≤ o.space) × (o.space ≤ 1073741824)) }
     ensures sessions { IfOk result (λ o. (1 ≤ o.sessions) × (o.sessions ≤ 64)) }
     ensures descriptors { IfOk result (λ o. (8 ≤ o.descriptors) × (o.descriptors ≤ 64)) }
+    ensures generate { IfOk result (λ o. o.generate ≤ 10000) }
     ensures held { IfOk result (λ o. o.sessions * o.space ≤ most_held) }
     ensures refused { IfErr result (λ e. (e ≡ OptionsError.Memory) ⊎ ((e ≡ OptionsError.Refused) × (options_of (map string_text words.entry.now) ≡ None))) }
 {
@@ -69,6 +72,7 @@ pub fn read_options<'a>(alloc: Global, words: &'a [String]) -> Result<Options, O
                 .get_one::<u8>("descriptors")
                 .unwrap_or(DEFAULT_DESCRIPTORS),
             fail: matches.get_one::<u32>("fail").unwrap_or(0),
+            generate: matches.get_one::<u16>("generate").unwrap_or(0),
         }),
         Err(error) if error.kind() == ErrorKind::OutOfMemory => Err(OptionsError::Memory),
         Err(_) => Err(OptionsError::Refused),
@@ -99,6 +103,7 @@ fn command<'a>(alloc: Global) -> Result<Command<'a>, AllocError>
     let sessions = number(alloc, "sessions", value_parser!(u8).range(1..=64));
     let descriptors = number(alloc, "descriptors", value_parser!(u8).range(8..=64));
     let fail = number(alloc, "fail", value_parser!(u32));
+    let generate = number(alloc, "generate", value_parser!(u16).range(0..=10_000));
     Command::new(alloc, "pgscript")
         .no_binary_name(true)
         .disable_help_flag(true)
@@ -106,7 +111,8 @@ fn command<'a>(alloc: Global) -> Result<Command<'a>, AllocError>
         .arg(space)?
         .arg(sessions)?
         .arg(descriptors)?
-        .arg(fail)
+        .arg(fail)?
+        .arg(generate)
 }
 
 /// An option that takes a number.

@@ -20,6 +20,7 @@ fn options_are_read(rt: HostRuntime) -> Result<(), Fail> {
         sessions: 1,
         descriptors: 16,
         fail: 5,
+        generate: 0,
     };
     assert!(rt; read_options(alloc, &given) == Ok(want));
     Ok(())
@@ -34,6 +35,7 @@ fn no_words_are_the_defaults(rt: HostRuntime) -> Result<(), Fail> {
         sessions: 1,
         descriptors: 16,
         fail: 0,
+        generate: 0,
     };
     assert!(rt; read_options(alloc, &given) == Ok(want));
     Ok(())
@@ -56,6 +58,7 @@ fn many_sessions_are_read(rt: HostRuntime) -> Result<(), Fail> {
         sessions: 64,
         descriptors: 8,
         fail: 0,
+        generate: 0,
     };
     assert!(rt; read_options(alloc, &given) == Ok(want));
     Ok(())
@@ -74,5 +77,20 @@ fn too_much_space_together_is_refused(rt: HostRuntime) -> Result<(), Fail> {
     let alloc = rt.alloc();
     let given = words(alloc, &["--sessions", "8", "--space", "1073741824"])?;
     assert!(rt; read_options(alloc, &given) == Err(OptionsError::Refused));
+    Ok(())
+}
+
+#[test]
+fn rounds_are_read(rt: HostRuntime) -> Result<(), Fail> {
+    let alloc = rt.alloc();
+    let given = words(alloc, &["--generate", "10000"])?;
+    let want = Options {
+        space: 16_777_216,
+        sessions: 1,
+        descriptors: 16,
+        fail: 0,
+        generate: 10_000,
+    };
+    assert!(rt; read_options(alloc, &given) == Ok(want));
     Ok(())
 }

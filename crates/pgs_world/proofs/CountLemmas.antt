@@ -1,13 +1,18 @@
 -- The errors of a whole run are those of the source's bytes.
-use Rattle.std.proofs.Common.{◌≡◌, ℕ, List, ◌++◌, Option, Some, None, sym, ap, ◌∙◌, append-nil}
+use Rattle.std.proofs.Common.{◌≡◌, ℕ, false, List, ◌++◌, Option, Some, None, refl, sym, ap, ◌∙◌, subst, append-nil}
 use Rattle.std.specs.Io.KnownBytes.{IsAtEnd, prepend_known}
 use Rattle.pgs_io.specs.Lines.{lines_of}
 use Rattle.pgs_world.specs.declared.program.Outcome.{Outcome}
 use Rattle.owner_kinds.specs.Kind.{Kind}
 use Rattle.reset_callbacks.specs.ShelfState.{ShelfState}
 use Rattle.session_rules.specs.Transcript.{errors_in}
-use Rattle.pgs_world.specs.Transcript.{Setting, transcript}
-use Rattle.pgs_world.specs.Outcome.{IsWhole, CountsErrors}
+use Rattle.pgs_turns.specs.Transcript.{Setting, transcript}
+use Rattle.addr_space.specs.Space.{Space}
+use Rattle.pgs_turns.specs.Courses.{TakesLines}
+use Rattle.pgs_world.specs.declared.performing.End.{End}
+use Rattle.pgs_world.specs.declared.performing.End.TheVariants as end
+use Rattle.pgs_world.specs.Outcome.{IsWhole, CountsErrors, TakesAsked}
+use Rattle.pgs_world.specs.Loop.{EndIs, is_wanted}
 
 -- what a source had, where it has nothing left
 pub all_given : (taken bytes : List ℕ) (after : Option (List ℕ)) → IsAtEnd after → prepend_known taken after ≡ Some bytes → taken ≡ bytes
@@ -20,3 +25,14 @@ all_given taken bytes (Some rest) ended given =
 pub whole_counts : (setting : Setting) (outcome : Outcome) (left left' written written' : Option (List ℕ)) (shelf' : ShelfState) (kinds' : List Kind) → IsWhole setting outcome left left' written written' shelf' kinds' → CountsErrors setting outcome left
 whole_counts setting outcome left left' written written' shelf' kinds' whole bytes is =
     whole.errors ∙ ap (λ b. errors_in (transcript setting None (lines_of b))) (all_given whole.bytes bytes left' whole.at_end (sym whole.given ∙ is))
+
+-- what accounts took, where all lines were performed
+pub taken_all : (setting : Setting) (e : End) (bytes : List ℕ) (lines : List (List ℕ)) (left left' : Option (List ℕ)) (s t : Space) → e ≡ end.Whole → EndIs e bytes lines left left'
+    → (is_wanted e ≡ false → TakesLines setting lines s t) → TakesAsked setting left s t
+taken_all setting end.Whole bytes lines left left' s t w how takes given is =
+    let same : bytes ≡ given = all_given bytes given left' how.1 (sym how.0 ∙ is) in
+    subst (λ (ls : List (List ℕ)). TakesLines setting ls s t) (how.3 ∙ ap lines_of same) (takes refl)
+taken_all setting end.Wanted bytes lines left left' s t w how takes given is = absurd (cc)
+taken_all setting end.SourceFault bytes lines left left' s t w how takes given is = absurd (cc)
+taken_all setting end.TooLong bytes lines left left' s t w how takes given is = absurd (cc)
+taken_all setting end.Unwritten bytes lines left left' s t w how takes given is = absurd (cc)

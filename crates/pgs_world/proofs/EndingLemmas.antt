@@ -1,5 +1,5 @@
 -- The outcome of a script, from how its reading ended and what was printed.
-use Rattle.std.proofs.Common.{◌≡◌, ℕ, ◌+◌, ◌^◌, ◌<◌, ◌≤◌, Bool, true, false, List, [], ◌∷◌, ◌++◌, length, take, Option, Some, None, ◌⊎◌, inl, inr, refl, sym, ◌∙◌, ap, subst, arith, append-nil, length-append}
+use Rattle.std.proofs.Common.{◌≡◌, ◌≢◌, ℕ, ◌+◌, ◌^◌, ◌<◌, ◌≤◌, Bool, true, false, List, [], ◌∷◌, ◌++◌, length, take, Option, Some, None, ◌⊎◌, inl, inr, refl, sym, ◌∙◌, ap, subst, arith, append-nil, length-append}
 use Rattle.std.specs.Prelude.{nat_lt, ◌==◌, if◌then◌else◌, ◌↔◌}
 use Rattle.std.proofs.lemmas.Bool.Decides.{nat_tests}
 use Rattle.std.proofs.Math.Seq.{take-append_seam}
@@ -10,21 +10,19 @@ use Rattle.pgs_io.specs.Lines.{lines_of, ended_lines, onto_first, onto_ended, ne
 use Rattle.pgs_step.specs.declared.events.Event.{Event}
 use Rattle.owner_kinds.specs.Kind.{Kind}
 use Rattle.reset_callbacks.specs.ShelfState.{ShelfState}
-use Rattle.session_rules.specs.Transcript.{Course, ended, errors_in, text_of_transcript, transcript_by}
-use Rattle.session_rules.specs.World.{World, opened}
+use Rattle.session_rules.specs.Transcript.{Course, errors_in, text_of_transcript}
 use Rattle.session_work.specs.Answers.{Fits}
+use Rattle.pgs_turns.specs.Transcript.{Setting, course_of, kinds_after, names_of, shelf_after, text_in, transcript, EndsAt}
+use Rattle.pgs_turns.specs.Hooks.{HooksAreTold}
+use Rattle.pgs_turns.proofs.CourseLemmas.{course_of-stopped}
+use Rattle.pgs_turns.proofs.OverLemmas.{fit_of, kinds-stopped, shelf-stopped, transcript-stopped}
 use Rattle.pgs_world.specs.declared.performing.End.{End}
 use Rattle.pgs_world.specs.declared.performing.End.TheVariants as end
-use Rattle.pgs_world.specs.Transcript.{Setting, course_of, kinds_after, names_of, shelf_after, text_in, transcript, EndsAt}
-use Rattle.pgs_world.specs.World.{HaveDescriptors, Run, all_waiting, sessions_in, world_in}
-use Rattle.pgs_world.specs.Hooks.{HooksAreTold, TellHooks}
-use Rattle.pgs_world.specs.Turns.{AllExit}
 use Rattle.pgs_world.specs.Printing.{Gathering, Shows, Moves, GoesOn, FailsWithin}
 use Rattle.pgs_world.specs.Outcome.{most_bytes, HasGiven, AreWhole, refused_call, IsWhole, IsWanted, IsCutOff, IsTooLong, IsUnwritten}
-use Rattle.pgs_world.specs.Ending.{outcome_of, status_of}
-use Rattle.pgs_world.specs.Loop.{EndIs, AreFront, CourseAt, is_wanted, OnUnwritten}
-use Rattle.pgs_world.proofs.CourseLemmas.{course_of-stopped}
-use Rattle.pgs_world.proofs.ToldHooks.{tells_both, told_in_all}
+use Rattle.pgs_world.specs.Ending.{IsPlayed, outcome_of, status_of}
+use Rattle.pgs_world.specs.Loop.{EndIs, AreFront, is_wanted, OnSourceFault, OnNoSourceFault, OnUnwritten}
+use Rattle.pgs_world.specs.Plays.{Outside, Performed}
 
 -- What a sink and the counts show once these events were printed with these names and handed on.
 pub record Printed (names : List (List ℕ)) (written written' : Option (List ℕ)) (faults faults' errors : ℕ) (failed : Bool) (events : List Event) : Type 0 where
@@ -81,7 +79,7 @@ ended_front (b ∷ bytes) behind = front_at (b == newline) b (ended_lines bytes)
     front_at false b [] lines h = (onto_first b lines, refl)
     front_at false b (line ∷ ended) lines h = (h.0, ap (onto_first b) h.1)
 
-no_other : (m : ℕ) → 1 < m → (m ≡ 0) ⊎ (m ≡ 1) → ⊥
+pub no_other : (m : ℕ) → 1 < m → (m ≡ 0) ⊎ (m ≡ 1) → ⊥
 no_other m h c = elim c [ inl p ↦ omega (arith, h, p) | inr p ↦ omega (arith, h, p) ]
 
 -- the statuses of a script that was performed whole
@@ -93,14 +91,14 @@ ended_whole end.TooLong false errors h = absurd (no_other 6 (omega arith) h)
 ended_whole end.Unwritten false errors h = absurd (no_other 4 (omega arith) h)
 ended_whole e true errors h = absurd (no_other 4 (omega arith) h)
 
-not_by_errors : (errors m : ℕ) → 1 < m → (if nat_lt 0 errors then 1 else 0) ≡ m → ⊥
+pub not_by_errors : (errors m : ℕ) → 1 < m → (if nat_lt 0 errors then 1 else 0) ≡ m → ⊥
 not_by_errors errors m h e = of_test (nat_lt 0 errors) e
   where
     of_test : (b : Bool) → (if b then 1 else 0) ≡ m → ⊥
     of_test true p = omega (arith, h, p)
     of_test false p = omega (arith, h, p)
 
-status_one : (errors m : ℕ) → errors ≡ m → (status_of end.Whole false errors ≡ 1) ↔ (0 < m)
+pub status_one : (errors m : ℕ) → errors ≡ m → (status_of end.Whole false errors ≡ 1) ↔ (0 < m)
 status_one errors m e = (λ h. grind (arith, nat_tests), λ h. grind (arith, nat_tests))
 
 -- All that is known of a script that was played: how the reading ended, and what was printed.
@@ -116,13 +114,6 @@ pub record Facts (setting : Setting) (e : End) (n calls errors : ℕ) (failed : 
   pub stopped : is_wanted e ≡ true → EndsAt setting calls lines n
   pub called : is_wanted e ≡ true → 0 < calls
   pub silent : OnUnwritten e (failed ≡ true)
-
-pub a_fit : (calls : ℕ) (e : End) → (w : Option ℕ) × Fits (is_wanted e) calls w
-a_fit calls end.Wanted = (Some calls, refl)
-a_fit calls end.Whole = (None, tt)
-a_fit calls end.SourceFault = (None, tt)
-a_fit calls end.TooLong = (None, tt)
-a_fit calls end.Unwritten = (None, tt)
 
 -- the lines are the first of those of the bytes that were given
 pub record Front (lines : List (List ℕ)) (left left' : Option (List ℕ)) : Type 0 where
@@ -186,19 +177,6 @@ front_of end.TooLong bytes lines left left' h =
 
 first_lines : (n : ℕ) (lines more all : List (List ℕ)) → n ≡ length lines → all ≡ lines ++ more → take n all ≡ lines
 first_lines n lines more all c e = ap (λ (k : ℕ). take k all) c ∙ ap (take (length lines)) e ∙ take-append_seam lines more
-
--- lines behind the one that met a want of memory change nothing
-transcript-stopped : (setting : Setting) (calls : ℕ) (lines more : List (List ℕ)) → (course_of setting (Some calls) lines).wanted ≡ true → transcript setting (Some calls) (lines ++ more) ≡ transcript setting (Some calls) lines
-unfolding transcript transcript_by course_of
-transcript-stopped setting calls lines more h = ap (λ (c : Course). (ended c).events) (course_of-stopped setting (Some calls) lines more h)
-
-shelf-stopped : (setting : Setting) (calls : ℕ) (lines more : List (List ℕ)) → (course_of setting (Some calls) lines).wanted ≡ true → shelf_after setting (Some calls) (lines ++ more) ≡ shelf_after setting (Some calls) lines
-unfolding shelf_after
-shelf-stopped setting calls lines more h = ap (λ (c : Course). (ended c).world.shelf) (course_of-stopped setting (Some calls) lines more h)
-
-kinds-stopped : (setting : Setting) (calls : ℕ) (lines more : List (List ℕ)) → (course_of setting (Some calls) lines).wanted ≡ true → kinds_after setting (Some calls) (lines ++ more) ≡ kinds_after setting (Some calls) lines
-unfolding kinds_after
-kinds-stopped setting calls lines more h = ap (λ (c : Course). (ended c).world.kinds) (course_of-stopped setting (Some calls) lines more h)
 
 module _ (setting : Setting) (n calls errors : ℕ) (left left' written written' : Option (List ℕ)) (faults faults' : ℕ) (shelf' : ShelfState) (kinds' : List Kind) where
   abbrev At : End → Bool → Type 0
@@ -344,55 +322,70 @@ module _ (setting : Setting) (n calls errors : ℕ) (left left' written written'
   unwritten e false f h = absurd (let t : false ≡ true = failed_of e false f h in cc)
 
   pub sink_fault : (e : End) (failed : Bool) → At e failed → status_of e failed errors ≡ 4 → HasRisen faults faults'
-  sink_fault e failed f h = let fit = a_fit calls e in (f.printed fit.0 fit.1).risen (failed_of e failed f h)
+  sink_fault e failed f h = let fit = fit_of (is_wanted e) calls in (f.printed fit.0 fit.1).risen (failed_of e failed f h)
 
   pub sink_grew : (e : End) (failed : Bool) → At e failed → faults < faults' → status_of e failed errors ≡ 4
   sink_grew e true f h = refl
-  sink_grew e false f h = let fit = a_fit calls e in absurd (omega (arith, h, (f.printed fit.0 fit.1).no_fault refl))
+  sink_grew e false f h = let fit = fit_of (is_wanted e) calls in absurd (omega (arith, h, (f.printed fit.0 fit.1).no_fault refl))
 
--- the transcript, from the events of the lines and those of the ends of all sessions
-pub transcript_events : (descriptors : ℕ) (setting : Setting) (w : Option ℕ) (lines : List (List ℕ)) (a b : Run) (shown emitted : List Event → Type 0) → HaveDescriptors descriptors a → (course_of setting w lines).world ≡ world_in descriptors a
-    → AllExit a b shown → ((ys : List Event) → shown ys → emitted ((course_of setting w lines).events ++ ys)) → emitted (transcript setting w lines)
-unfolding transcript transcript_by course_of
-transcript_events descriptors setting w lines a b shown emitted has there ends joins =
-    let left = ends.leads descriptors has (course_of setting w lines) there in
-    subst emitted (sym left.1) (joins left.0 left.2)
+-- the source's faults show in the status
+faults_shown : (e : End) (failed : Bool) (errors : ℕ) (P : Type 0) → OnSourceFault e P → status_of e failed errors ≡ 3 → P
+faults_shown end.SourceFault false errors P h s = h
+faults_shown end.Whole false errors P h s = absurd (not_by_errors errors 3 (omega arith) s)
+faults_shown end.Wanted false errors P h s = absurd (omega (arith, s))
+faults_shown end.TooLong false errors P h s = absurd (omega (arith, s))
+faults_shown end.Unwritten false errors P h s = absurd (omega (arith, s))
+faults_shown e true errors P h s = absurd (omega (arith, s))
 
--- the hooks behind the ends of all sessions
-pub hooks_of_end : (descriptors : ℕ) (setting : Setting) (w : Option ℕ) (lines : List (List ℕ)) (a b : Run) (shown : List Event → Type 0) → HaveDescriptors descriptors a → (course_of setting w lines).world ≡ world_in descriptors a
-    → AllExit a b shown → b.shelf ≡ shelf_after setting w lines
-unfolding shelf_after
-hooks_of_end descriptors setting w lines a b shown has there ends =
-    let left = ends.leads descriptors has (course_of setting w lines) there in
-    sym (ap (λ (x : World). x.shelf) left.3)
+growth_shown : (e : End) (failed : Bool) (errors before after : ℕ) → OnNoSourceFault e (after ≡ before) → before < after → (status_of e failed errors ≡ 3) ⊎ (status_of e failed errors ≡ 4)
+growth_shown e true errors before after h less = inr refl
+growth_shown end.SourceFault false errors before after h less = inl refl
+growth_shown end.Whole false errors before after h less = absurd (omega (arith, h, less))
+growth_shown end.Wanted false errors before after h less = absurd (omega (arith, h, less))
+growth_shown end.TooLong false errors before after h less = absurd (omega (arith, h, less))
+growth_shown end.Unwritten false errors before after h less = absurd (omega (arith, h, less))
 
--- what the transcript tells of them
-pub told_of_end : (descriptors : ℕ) (setting : Setting) (w : Option ℕ) (lines : List (List ℕ)) (a b : Run) (emitted shown : List Event → Type 0) (performed : ℕ) (wanted : Bool) → HaveDescriptors descriptors a
-    → CourseAt (opened setting.options setting.kinds setting.shelf) (course_of setting w lines) descriptors a emitted performed wanted → AllExit a b shown → HooksAreTold setting.shelf b.shelf (transcript setting w lines)
-unfolding transcript transcript_by course_of
-told_of_end descriptors setting w lines a b emitted shown performed wanted has at ends =
-    let course : Course = course_of setting w lines in
-    let start : World = opened setting.options setting.kinds setting.shelf in
-    let left = ends.leads descriptors has course at.world_is in
-    let all : TellHooks start (ended course).world (ended course).events =
-    subst (TellHooks start (ended course).world) (sym left.1) (tells_both start course.world (ended course).world course.events left.0 at.hooks left.4) in
-    told_in_all setting.options setting.kinds setting.shelf (world_in descriptors b) (ended course).events (subst (λ (x : World). TellHooks start x (ended course).events) left.3 all) ends.waiting
+played_by_errors : (errors : ℕ) → IsPlayed (if nat_lt 0 errors then 1 else 0)
+played_by_errors errors = by_test (nat_lt 0 errors)
+  where
+    by_test : (b : Bool) → IsPlayed (if b then 1 else 0)
+    by_test true = inr (inl refl)
+    by_test false = inl refl
 
--- and the kinds
-pub kinds_of_end : (descriptors : ℕ) (setting : Setting) (w : Option ℕ) (lines : List (List ℕ)) (a b : Run) (shown : List Event → Type 0) → HaveDescriptors descriptors a → (course_of setting w lines).world ≡ world_in descriptors a
-    → AllExit a b shown → b.commons.kinds ≡ kinds_after setting w lines
-unfolding kinds_after
-kinds_of_end descriptors setting w lines a b shown has there ends =
-    let left = ends.leads descriptors has (course_of setting w lines) there in
-    sym (ap (λ (x : World). x.kinds) left.3)
+is_played : (e : End) (failed : Bool) (errors : ℕ) → IsPlayed (status_of e failed errors)
+is_played e true errors = inr (inr (inr (inl refl)))
+is_played end.Whole false errors = played_by_errors errors
+is_played end.Wanted false errors = inr (inr (inr (inr (inl refl))))
+is_played end.SourceFault false errors = inr (inr (inl refl))
+is_played end.TooLong false errors = inr (inr (inr (inr (inr refl))))
+is_played end.Unwritten false errors = inr (inr (inr (inl refl)))
 
-pub ends_at : (descriptors : ℕ) (setting : Setting) (calls n : ℕ) (wanted : Bool) (lines : List (List ℕ)) (there : Run) (emitted : List Event → Type 0) → wanted ≡ true
-    → CourseAt (opened setting.options setting.kinds setting.shelf) (course_of setting (Some calls) lines) descriptors there emitted (length lines) wanted → n ≡ length lines → EndsAt setting calls lines n
-ends_at descriptors setting calls n wanted lines there emitted h c count = record { wanted = c.wanted_is ∙ h; line_is = c.performed_is ∙ sym count }
+no_call : (e : End) (failed : Bool) (n calls errors : ℕ) → status_of e failed errors ≢ 4 → status_of e failed errors ≢ 5 → (outcome_of (record { end = e; lines = n }) calls failed errors).call ≡ 0
+no_call end.Wanted true n calls errors four five = absurd (four refl)
+no_call end.Wanted false n calls errors four five = absurd (five refl)
+no_call end.Whole failed n calls errors four five = refl
+no_call end.SourceFault failed n calls errors four five = refl
+no_call end.TooLong failed n calls errors four five = refl
+no_call end.Unwritten failed n calls errors four five = refl
 
-pub fits_wanted : (wanted : Bool) (calls : ℕ) → wanted ≡ true → Fits wanted calls (Some calls)
-fits_wanted true calls h = refl
-fits_wanted false calls h = absurd (cc)
+-- all of it
+pub performed_by : (setting : Setting) (e : End) (n calls errors : ℕ) (failed : Bool) (before after : Outside)
+    → Facts setting e n calls errors failed before.left after.left before.written after.written before.sink_faults after.sink_faults after.shelf after.kinds
+    → OnSourceFault e (HasRisen before.source_faults after.source_faults) → OnNoSourceFault e (after.source_faults ≡ before.source_faults)
+    → Performed setting (outcome_of (record { end = e; lines = n }) calls failed errors) before after
+performed_by setting e n calls errors failed before after f fault no_fault = record {
+  whole = whole setting n calls errors before.left after.left before.written after.written before.sink_faults after.sink_faults after.shelf after.kinds e failed f;
+  source_fault = faults_shown e failed errors (HasRisen before.source_faults after.source_faults) fault;
+  cut_off = cut_off setting n calls errors before.left after.left before.written after.written before.sink_faults after.sink_faults after.shelf after.kinds e failed f;
+  too_long = too_long setting n calls errors before.left after.left before.written after.written before.sink_faults after.sink_faults after.shelf after.kinds e failed f;
+  sink_fault = sink_fault setting n calls errors before.left after.left before.written after.written before.sink_faults after.sink_faults after.shelf after.kinds e failed f;
+  unwritten = unwritten setting n calls errors before.left after.left before.written after.written before.sink_faults after.sink_faults after.shelf after.kinds e failed f;
+  wanted = λ h k. wanted setting n calls errors before.left after.left before.written after.written before.sink_faults after.sink_faults after.shelf after.kinds e failed f h;
+  source_grew = growth_shown e failed errors before.source_faults after.source_faults no_fault;
+  sink_grew = sink_grew setting n calls errors before.left after.left before.written after.written before.sink_faults after.sink_faults after.shelf after.kinds e failed f;
+  statuses = is_played e failed errors;
+  call = no_call e failed n calls errors;
+}
 
 -- a write that has failed stays failed
 pub stays_failed : (f g : Bool) (old new : Gathering) (text : List ℕ) → f ≡ true → Moves f g old new text → g ≡ true

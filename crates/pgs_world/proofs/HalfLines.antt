@@ -12,8 +12,8 @@ use Rattle.session_rules.specs.State.{SessionState}
 use Rattle.session_rules.specs.World.{opened, session_at}
 use Rattle.session_rules.specs.Transcript.{Course, after_command, after_read, at_start, course_by}
 use Rattle.pgs_world.specs.declared.program.Outcome.{Outcome}
-use Rattle.pgs_world.specs.Script.{reads}
-use Rattle.pgs_world.specs.Transcript.{Setting, course_of}
+use Rattle.pgs_turns.specs.Script.{reads}
+use Rattle.pgs_turns.specs.Transcript.{Setting, course_of}
 use Rattle.pgs_world.specs.Outcome.{most_bytes, AreWhole, IsWanted}
 
 performed_command : (w : Option ℕ) (course : Course) (n : ℕ) (line : Option Command) (session : Option SessionState) → (after_command w course n line session).performed ≡ course.performed + 1

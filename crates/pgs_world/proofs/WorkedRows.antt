@@ -17,8 +17,8 @@ use Rattle.session_rules.specs.Commands.{elements_of}
 use Rattle.session_rules.specs.Does.{does, does_all}
 use Rattle.session_rules.specs.Ends.{recovered, exited}
 use Rattle.session_rules.specs.Transcript.{turn, course_by, transcript_by}
-use Rattle.pgs_world.specs.Script.{reads}
-use Rattle.pgs_world.specs.Transcript.{Setting, transcript, text_in}
+use Rattle.pgs_turns.specs.Script.{reads}
+use Rattle.pgs_turns.specs.Transcript.{Setting, transcript, text_in}
 
 -- a run of so many sessions with 16 MiB for each of them, two hooks and two extension kinds, of which this call fails; 0 is none
 abbrev setting : ℕ → ℕ → Setting
@@ -52,7 +52,7 @@ unfolding text_of what_text kind_name error_text digits read_line table.command_
 no_such_buffer = refl
 
 -- lines that aren't performed yet, and a line with a prefix
-pub bad_lines : told 0 (codes "begin" ∷ codes "plan 5" ∷ codes "planref 5" ∷ codes "pin 1" ∷ codes "@1 rollback" ∷ codes "rollback" ∷ [])
+pub bad_lines : told 0 (codes "begin" ∷ codes "portal p 5 25" ∷ codes "fetch p 5" ∷ codes "pin 1" ∷ codes "@1 rollback" ∷ codes "rollback" ∷ [])
     ≡ codes "1 begin level 1\n1 create c6 TopTransactionContext in c1\n1 owner o1\n1 ok\n1 ERROR 42601 syntax error\n1 abort level 1\n1 ERROR 42601 syntax error\n1 ERROR 25P02 transaction is aborted\n1 cleanup level 1\n1 owner o1 gone\n1 delete c6\n1 ok\n1 warning there is no transaction in progress\n1 ok\n1 delete c5\n1 delete c4\n1 delete c3\n1 delete c2\n1 delete c1\n1 exit\n"
 unfolding text_of what_text kind_name error_text digits read_line table.command_of words_of number_between mode_of name_of kind_of is_reserved row_of reads opening elements_of does does_all recovered exited turn course_by transcript_by transcript set.created set.stats set.take set.take_class set.take_own set.chunk_limit set.limit_class set.class_of set.class_up_to set.cut_off set.reused set.from_new set.block_size set.halved set.halved_by set.renewed set.cut_up set.cut_rest set.with_own up8 grown doubled
 bad_lines = refl
@@ -110,3 +110,9 @@ pub pushed : told 0 (codes "begin" ∷ codes "push 4" ∷ codes "savepoint s" �
     ≡ codes "1 begin level 1\n1 create c6 TopTransactionContext in c1\n1 owner o1\n1 ok\n1 push 4\n1 ok\n1 begin level 2\n1 create c7 CurTransactionContext in c6\n1 owner o2 in o1\n1 ok\n1 push 5\n1 ok\n1 commit level 2\n1 owner o2 gone\n1 delete c7\n1 ok\n1 pop 5\n1 ok\n1 acquire tuple descriptor reference 6 #1 o1\n1 ok\n1 stat pins 0 files 0 descriptors 0 locks 0 snapshots 1 plans 0 refs 1 owners 1 contexts 6\n1 ok\n1 abort level 1\n1 release tuple descriptor reference 6 #1 o1\n1 pop 4\n1 cleanup level 1\n1 owner o1 gone\n1 delete c6\n1 delete c5\n1 delete c4\n1 delete c3\n1 delete c2\n1 delete c1\n1 exit\n"
 unfolding text_of what_text kind_name error_text digits read_line table.command_of words_of number_between mode_of class_of name_of kind_of is_reserved row_of reads opening elements_of does does_all recovered exited turn course_by transcript_by transcript set.created set.stats set.take set.take_class set.take_own set.chunk_limit set.limit_class set.class_of set.class_up_to set.cut_off set.reused set.from_new set.block_size set.halved set.halved_by set.renewed set.cut_up set.cut_rest set.with_own up8 grown doubled
 pushed = refl
+
+-- a plan that is dropped goes with the last reference to it, in the midst of a release
+pub dropped : told 0 (codes "begin" ∷ codes "plan 2" ∷ codes "planref 2" ∷ codes "plandrop 2" ∷ codes "rollback" ∷ [])
+    ≡ codes "1 begin level 1\n1 create c6 TopTransactionContext in c1\n1 owner o1\n1 ok\n1 create c7 CachedPlan in c3\n1 ok\n1 acquire plan reference 2 #1 o1\n1 ok\n1 ok\n1 abort level 1\n1 release plan reference 2 #1 o1\n1 delete c7\n1 cleanup level 1\n1 owner o1 gone\n1 delete c6\n1 ok\n1 delete c5\n1 delete c4\n1 delete c3\n1 delete c2\n1 delete c1\n1 exit\n"
+unfolding text_of what_text kind_name error_text digits read_line table.command_of words_of number_between mode_of name_of kind_of is_reserved row_of reads opening elements_of does does_all recovered exited turn course_by transcript_by transcript set.created set.stats set.take set.take_class set.take_own set.chunk_limit set.limit_class set.class_of set.class_up_to set.cut_off set.reused set.from_new set.block_size set.halved set.halved_by set.renewed set.cut_up set.cut_rest set.with_own up8 grown doubled
+dropped = refl

@@ -3,6 +3,7 @@ use Rattle.std.specs.Prelude.{ℕ, ◌≡◌, ◌⊎◌, Bool, nat_lt, if◌then
 use Rattle.pgs_world.specs.declared.performing.End.{End}
 use Rattle.pgs_world.specs.declared.performing.End.TheVariants as end
 use Rattle.pgs_world.specs.declared.performing.Ended.{Ended}
+use Rattle.pgs_generator.specs.declared.generating.Generated.{Generated}
 use Rattle.pgs_world.specs.declared.program.Outcome.{Outcome}
 use Rattle.pgs_world.specs.Loop.{is_wanted}
 
@@ -28,3 +29,15 @@ outcome_of ended calls failed errors = record {
 -- the statuses of a script that was played
 abbrev pub IsPlayed : ℕ → Type 0
 IsPlayed status = (status ≡ 0) ⊎ (status ≡ 1) ⊎ (status ≡ 3) ⊎ (status ≡ 4) ⊎ (status ≡ 5) ⊎ (status ≡ 6)
+
+-- the status and the outcome of the script that is made
+abbrev pub generated_status : Bool → Bool → ℕ → ℕ
+generated_status failed wanted errors = if failed then 4 else (if wanted then 5 else (if nat_lt 0 errors then 1 else 0))
+
+abbrev pub generated_outcome : Generated → ℕ → Outcome
+generated_outcome made calls = record {
+  status = generated_status made.failed made.wanted made.errors;
+  call = if made.wanted then calls else 0;
+  errors = made.errors;
+  lines = made.lines;
+}

@@ -1,8 +1,3 @@
-pub mod Script
-pub mod Transcript
-pub mod World
-pub mod Hooks
-pub mod Turns
 pub mod Printing
 pub mod PrintingLaws
 pub mod PrinterView
@@ -10,3 +5,5 @@ pub mod PrinterLaws
 pub mod Outcome
 pub mod Loop
 pub mod Ending
+pub mod Generated
+pub mod Plays

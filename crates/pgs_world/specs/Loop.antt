@@ -1,22 +1,14 @@
 -- Where the reading loop stands, and how it ends.
-use Rattle.std.specs.Prelude.{◌≡◌, ℕ, ◌+◌, ◌*◌, ◌<◌, ◌≤◌, ◌⊎◌, Bool, true, false, List, [], ◌∷◌, ◌++◌, length, Option, Some, None}
+use Rattle.std.specs.Prelude.{◌≡◌, ℕ, ◌≤◌, ◌⊎◌, Bool, true, false, List, [], ◌∷◌, ◌++◌, length, Option, Some, None}
 use Rattle.std.specs.Io.KnownBytes.{IsAtEnd}
 use Rattle.pgs_io.specs.Lines.{lines_of, ended_lines}
 use Rattle.pgs_io.specs.Reading.{Reading, HasRead}
 use Rattle.pgs_step.specs.declared.events.Event.{Event}
-use Rattle.session_rules.specs.Transcript.{Course}
-use Rattle.session_rules.specs.World.{World, opened}
-use Rattle.session_work.specs.Answers.{Fits}
-use Rattle.session_rules.specs.Asked.{asked_by}
-use Rattle.addr_space.specs.Space.{risen, taken}
-use Rattle.pgs_world.specs.Script.{reads}
+use Rattle.pgs_turns.specs.Courses.{HasPerformed}
+use Rattle.pgs_turns.specs.World.{Run}
 use Rattle.pgs_world.specs.declared.performing.End.{End}
 use Rattle.pgs_world.specs.declared.performing.End.TheVariants as end
 use Rattle.pgs_world.specs.declared.performing.Ended.{Ended}
-use Rattle.pgs_world.specs.Transcript.{Setting, course_of}
-use Rattle.pgs_world.specs.World.{HaveDescriptors, Run, SameRun, setting_of, world_in}
-use Rattle.pgs_world.specs.Hooks.{TellHooks}
-use Rattle.pgs_world.specs.Turns.{IsWithin}
 use Rattle.pgs_world.specs.Outcome.{HasGiven, most_bytes}
 
 -- whether the end came by a want of memory
@@ -31,31 +23,10 @@ abbrev pub is_wanted_in : Option End → Bool
 is_wanted_in None = false
 is_wanted_in (Some end) = is_wanted end
 
--- A course led from its opening to this run by events that were emitted, which tell what became of the hooks.
-pub record CourseAt (opening : World) (course : Course) (descriptors : ℕ) (run : Run) (emitted : List Event → Type 0) (performed : ℕ) (wanted : Bool) : Type 0 where
-  pub world_is : course.world ≡ world_in descriptors run
-  pub events : emitted course.events
-  pub hooks : TellHooks opening course.world course.events
-  pub performed_is : course.performed ≡ performed
-  pub wanted_is : course.wanted ≡ wanted
-
--- The lines led to this run by events that were emitted, whichever later call is refused for want of memory; or, where they met a want, by the refusal of the last call.
-abbrev pub CoursesAre : ℕ → Setting → Bool → List (List ℕ) → Run → (List Event → Type 0) → Type 0
-CoursesAre descriptors setting wanted lines run emitted = (w : Option ℕ) → Fits wanted run.calls.count w → CourseAt (opened setting.options setting.kinds setting.shelf) (course_of setting w lines) descriptors run emitted (length lines) wanted
-
--- Each account took what the lines ask for the session that counts for it, whichever later call is refused for want of memory.
-abbrev pub TakesLines : Setting → List (List ℕ) → Run → Run → Type 0
-TakesLines setting lines first run =
-    (w : Option ℕ) → Fits false run.calls.count w → (account : ℕ) → taken run.space account ≡ risen (taken first.space account) (asked_by reads w setting.options setting.kinds setting.shelf lines (account + 1))
-
 -- The loop has performed these lines.
 pub record Stands (descriptors : ℕ) (first : Run) (start now : Option (List ℕ)) (reader : Reading) (run : Run) (emitted : List Event → Type 0) (lines : List (List ℕ)) : Type 0 where
   pub read : HasRead most_bytes start now reader lines
-  pub courses : CoursesAre descriptors (setting_of descriptors first) false lines run emitted
-  pub bounded : IsWithin (5 * length lines + 6) run
-  pub same : SameRun first run
-  pub has : HaveDescriptors descriptors run
-  pub taken : TakesLines (setting_of descriptors first) lines first run
+  pub performed : HasPerformed descriptors first run emitted lines false
 
 -- The bytes that were given have these lines, and perhaps more. Each has its newline among them, or the source is at its end.
 pub record AreFront (bytes : List ℕ) (lines : List (List ℕ)) (before after : Option (List ℕ)) : Type 0 where
@@ -77,13 +48,9 @@ EndIs end.Unwritten bytes lines before after = AreFront bytes lines before after
 pub record Performs (descriptors : ℕ) (first : Run) (ended : Ended) (before after : Option (List ℕ)) (run : Run) (emitted : List Event → Type 0) : Type 0 where
   pub bytes : List ℕ
   pub lines : List (List ℕ)
-  pub courses : CoursesAre descriptors (setting_of descriptors first) (is_wanted ended.end) lines run emitted
-  pub called : is_wanted ended.end ≡ true → 0 < run.calls.count
+  pub performed : HasPerformed descriptors first run emitted lines (is_wanted ended.end)
   pub count : ended.lines ≡ length lines
   pub how : EndIs ended.end bytes lines before after
-  pub same : SameRun first run
-  pub has : HaveDescriptors descriptors run
-  pub taken : is_wanted ended.end ≡ false → TakesLines (setting_of descriptors first) lines first run
 
 -- the ends that a line leads to
 abbrev pub IsLineEnd : End → Bool → Type 0

@@ -1,20 +1,25 @@
 -- What a run did, by its status.
-use Rattle.std.specs.Prelude.{◌≡◌, ℕ, ◌+◌, ◌^◌, ◌<◌, ◌≤◌, ◌↔◌, ◌⊎◌, List, [], ◌∷◌, ◌++◌, length, map, take, codes, Option, Some, None, ◌==◌, nat_lt, if◌then◌else◌}
+use Rattle.std.specs.Prelude.{◌≡◌, ℕ, ◌+◌, ◌^◌, ◌<◌, ◌≤◌, ◌↔◌, ◌⊎◌, List, [], ◌∷◌, ◌++◌, length, take, codes, Option, Some, None, ◌==◌, if◌then◌else◌}
 use Rattle.std.specs.Io.KnownBytes.{prepend_known, append_known, IsAtEnd}
 use Rattle.pgs_io.specs.Lines.{lines_of, ended_lines}
 use Rattle.pgs_world.specs.declared.program.Outcome.{Outcome}
 use Rattle.owner_kinds.specs.Kind.{Kind}
-use Rattle.owner_kinds.specs.KindShelf.{table_of, times_held}
-use Rattle.pgs_step.specs.declared.ids.KindId.{KindId}
 use Rattle.reset_callbacks.specs.ShelfState.{ShelfState}
 use Rattle.pgs_options.specs.Options.{options_of}
 use Rattle.pgs_options.specs.declared.options.Options.{Options}
-use Rattle.addr_space.specs.Space.{Space, risen, taken}
-use Rattle.session_rules.specs.Asked.{asked_by, asked_in_all}
+use Rattle.addr_space.specs.Space.{Space, taken}
 use Rattle.session_rules.specs.Transcript.{errors_in}
-use Rattle.pgs_world.specs.Script.{reads}
-use Rattle.pgs_world.specs.Hooks.{HooksAreTold}
-use Rattle.pgs_world.specs.Transcript.{Setting, transcript, kinds_after, shelf_after, text_in, EndsAt}
+use Rattle.pgs_turns.specs.Courses.{TakesInAll, TakesLines}
+use Rattle.pgs_turns.specs.Hooks.{HooksAreTold}
+use Rattle.pgs_turns.specs.Transcript.{Setting, transcript, kinds_after, shelf_after, text_in, EndsAt}
+
+-- what words ask for, the hooks that are on the shelf, and the extension kinds
+abbrev pub setting_for : Options → ShelfState → List Kind → Setting
+setting_for options shelf kinds = record {
+  options = record { sessions = options.sessions; space = options.space; descriptors = options.descriptors; fail = options.fail };
+  shelf = shelf;
+  kinds = kinds;
+}
 
 -- the most bytes that a script has
 abbrev pub most_bytes : ℕ
@@ -57,16 +62,11 @@ CountsErrors setting outcome left = (bytes : List ℕ) → left ≡ Some bytes �
 
 -- Each account took what the lines of the bytes that a source had ask for the session that counts for it.
 abbrev pub TakesAsked : Setting → Option (List ℕ) → Space → Space → Type 0
-TakesAsked setting left before after =
-    (bytes : List ℕ) → left ≡ Some bytes → (account : ℕ) → taken after account ≡ risen (taken before account) (asked_by reads None setting.options setting.kinds setting.shelf (lines_of bytes) (account + 1))
-
--- what a session asks that counts for this account, as it opens and by lines; nothing, where no session does
-abbrev pub asked_of : Setting → List (List ℕ) → ℕ → ℕ
-asked_of setting lines account = if nat_lt account setting.options.sessions then asked_in_all reads None setting.options setting.kinds setting.shelf lines (account + 1) else 0
+TakesAsked setting left before after = (bytes : List ℕ) → left ≡ Some bytes → TakesLines setting (lines_of bytes) before after
 
 -- Each session's account took what the opening of the session and the lines of the bytes that a source had ask for it; no other account took any.
 abbrev pub TakesAll : Setting → Option (List ℕ) → Space → Space → Type 0
-TakesAll setting left before after = (bytes : List ℕ) → left ≡ Some bytes → (account : ℕ) → taken after account ≡ risen (taken before account) (asked_of setting (lines_of bytes) account)
+TakesAll setting left before after = (bytes : List ℕ) → left ≡ Some bytes → TakesInAll setting (lines_of bytes) before after
 
 -- So many lines were given whole: the newline of each is among the bytes, or the source was at its end behind them. A byte past the most of a script is no part of a line.
 abbrev pub AreWhole : ℕ → List ℕ → Option (List ℕ) → Type 0
@@ -144,13 +144,6 @@ pub record IsNotStarted (outcome : Outcome) (left left' written written' : Optio
 pub record IsSharedOut (sessions limit : ℕ) (before after : Space) : Type 0 where
   pub limit_is : after.limit ≡ limit
   pub others : (account : ℕ) → sessions ≤ account → taken after account ≡ taken before account
-
--- Extension kinds of which nothing is left open: each has its name, its limit and its place in a release, and holds each key as often as
--- before.
-pub record AreKept (before after : List Kind) : Type 0 where
-  pub table : table_of after ≡ table_of before
-  pub limits : map (λ k. k.limit) after ≡ map (λ k. k.limit) before
-  pub keys : (kind : KindId) (key : ℕ) → times_held after kind key ≡ times_held before kind key
 
 -- a front of the usage line was written
 pub record IsUsageFront (written written' : Option (List ℕ)) : Type 0 where

@@ -6,7 +6,7 @@ use Rattle.pgs_step.specs.declared.events.What.{What}
 use Rattle.pgs_step.specs.Text.{texts_of}
 use Rattle.pgs_step.specs.declared.events.Event.{Event}
 use Rattle.session_rules.specs.Transcript.{errors_in, text_of_transcript}
-use Rattle.pgs_world.specs.Transcript.{errors_among}
+use Rattle.pgs_turns.specs.Transcript.{errors_among}
 
 -- A printer: what its sink has taken, where it tells that, and how often it failed; what is gathered for the sink and not handed on;
 -- whether a write has failed, how many ERROR events there were, the session whose events it takes, and the names of the extension kinds.

@@ -4,11 +4,10 @@ use Rattle.std.specs.Io.KnownBytes.{append_known}
 use Rattle.pgs_io.specs.Faults.{HasRisen}
 use Rattle.pgs_step.specs.declared.events.What.{What}
 use Rattle.pgs_step.specs.Text.{texts_of, text_of}
-use Rattle.pgs_world.specs.Transcript.{errors_among}
+use Rattle.pgs_turns.specs.EventLaws.{errors_among-append, errors_in-append, errors_of_one_session}
 use Rattle.pgs_step.specs.declared.events.Event.{Event}
-use Rattle.session_rules.specs.Transcript.{errors_in, of_session, text_of_transcript}
+use Rattle.session_rules.specs.Transcript.{of_session, text_of_transcript}
 use Rattle.pgs_world.specs.Printing.{Gathering, HandsOn, Moves, Prints, Shows}
-use Rattle.std.proofs.lemmas.Grind.{common_steps}
 
 pub append_known-nil : (a : Option (List ℕ)) → a ≡ append_known a []
 append_known-nil None = refl
@@ -17,10 +16,6 @@ append_known-nil (Some x) = ap Some (sym (append-nil x))
 pub append_known-append : (a : Option (List ℕ)) (xs ys : List ℕ) → append_known (append_known a xs) ys ≡ append_known a (xs ++ ys)
 append_known-append None xs ys = refl
 append_known-append (Some x) xs ys = ap Some (append_assoc x xs ys)
-
-pub errors_among-append : (xs ys : List What) → errors_among (xs ++ ys) ≡ errors_among xs + errors_among ys
-errors_among-append [] ys = omega arith
-errors_among-append (x ∷ xs) ys = grind (arith, common_steps, errors_among-append xs ys)
 
 pub texts_of-append : (names : List (List ℕ)) (session : ℕ) (xs ys : List What) → texts_of names session (xs ++ ys) ≡ texts_of names session xs ++ texts_of names session ys
 texts_of-append names session [] ys = refl
@@ -81,10 +76,6 @@ Prints-more a b c xs ys both p q e =
     })
 
 -- the same for events of sessions
-pub errors_in-append : (xs ys : List Event) → errors_in (xs ++ ys) ≡ errors_in xs + errors_in ys
-errors_in-append [] ys = omega arith
-errors_in-append (x ∷ xs) ys = grind (arith, common_steps, errors_in-append xs ys)
-
 pub text-append : (names : List (List ℕ)) (xs ys : List Event) → text_of_transcript names (xs ++ ys) ≡ text_of_transcript names xs ++ text_of_transcript names ys
 text-append names [] ys = refl
 text-append names (x ∷ xs) ys =
@@ -94,10 +85,6 @@ text-append names (x ∷ xs) ys =
 pub text_of_one_session : (names : List (List ℕ)) (n : ℕ) (whats : List What) → text_of_transcript names (of_session n whats) ≡ texts_of names n whats
 text_of_one_session names n [] = refl
 text_of_one_session names n (what ∷ whats) = ap (λ (z : List ℕ). text_of names (record { session = n; what = what }) ++ z) (text_of_one_session names n whats)
-
-pub errors_of_one_session : (n : ℕ) (whats : List What) → errors_in (of_session n whats) ≡ errors_among whats
-errors_of_one_session n [] = refl
-errors_of_one_session n (what ∷ whats) = grind (arith, common_steps, errors_of_one_session n whats)
 
 pub Shows-none : (a : Gathering) → Shows a [] a
 Shows-none a = record { bytes = Moves-none a.failed a; never_falls = omega arith; errors = omega arith; names = refl }

@@ -1,12 +1,9 @@
-//! The program: it reads a script of one to 64 sessions and writes its transcript.
+//! The program: it reads a script of one to 64 sessions and writes its transcript, or makes a script and tells of its run.
 #![tactic(auto)]
 
-mod lines;
-mod nowhere;
 mod performing;
 mod printer;
 mod program;
-mod sessions;
 
 pub use program::{Outcome, run};
 

@@ -4,17 +4,16 @@ ghost use Rattle.pgs_io.specs.Faults.{HasRisen};
 ghost use Rattle.pgs_io.specs.Lines.{IsKept};
 ghost use Rattle.pgs_io.specs.Reading.{GivesLine, GivesLast, MeetsEnd, MeetsFault, MeetsLimit};
 ghost use Rattle.pgs_io.specs.Answers.{IfLine, IfLast, OnEnd, OnFault, OnTooMuch, OnNoFault};
-ghost use Rattle.pgs_world.specs.Script.{reads, said_in};
+ghost use Rattle.pgs_turns.specs.Script.{reads, said_in};
 ghost use Rattle.pgs_world.specs.PrinterView.{ShowsEvents, TakesEvents};
-ghost use Rattle.pgs_world.specs.World.{run_of, AreStanding, HaveDescriptors, IsOpening};
-ghost use Rattle.pgs_world.specs.Turns.{HaveRoom, TakesTurn};
+ghost use Rattle.pgs_turns.specs.World.{run_of, AreStanding, HaveDescriptors, IsOpening};
+ghost use Rattle.pgs_turns.specs.Turns.{HaveRoom, TakesTurn};
 ghost use Rattle.pgs_world.specs.Loop.{Performs, is_wanted_in, IsLineEnd, OnSourceFault, OnNoSourceFault, OnUnwritten};
 
-use crate::lines::{is_comment, read_line};
 use crate::printer::Printer;
-use crate::sessions::take_turn;
 use owner_kinds::ExtKind;
 use pgs_io::{Buffered, LineBuf, LineReader, Next, Sink, Source};
+use pgs_turns::{is_comment, read_line, take_turn};
 use reset_callbacks::ResetHook;
 use session_core::{Session, Shared};
 

@@ -8,6 +8,7 @@ ghost use Rattle.session_rules.specs.Transcript.{is_error};
 use arrayvec::ArrayVec;
 use pgs_io::{Sink, put_all};
 use pgs_step::{Emit, Event, Name, What, append_text};
+use pgs_turns::Transcript;
 
 /// How many bytes are gathered before they are handed to the sink.
 const GATHERED: usize = 8192;
@@ -51,13 +52,6 @@ impl<'a, K: Sink> Printer<'a, K> {
             session: 1,
             names,
         }
-    }
-
-    /// Prints the events of this session from now on.
-    pub(crate) fn turn_to(&mut self, session: u8)
-        ensures { self.new ≡ record self.old { session = session } }
-    {
-        self.session = session;
     }
 
     /// Whether a write has failed.
@@ -164,4 +158,19 @@ impl<'a, K: Sink> Emit for Printer<'a, K> {
     ghost emits_none = { TakesEvents-none K.written K.faults };
 
     ghost emits_more = { TakesEvents-more K.written K.faults };
+}
+
+impl<'a, K: Sink> Transcript for Printer<'a, K> {
+    ghost use Rattle.pgs_world.specs.PrinterView.{ShowsEvents};
+    ghost use Rattle.pgs_world.specs.PrinterLaws.{ShowsEvents-none, ShowsEvents-both};
+
+    ghost shows = { ShowsEvents K.written K.faults };
+
+    fn turn_to(&mut self, session: u8) {
+        self.session = session;
+    }
+
+    ghost shows_none = { ShowsEvents-none K.written K.faults };
+
+    ghost shows_both = { ShowsEvents-both K.written K.faults };
 }

@@ -1,8 +1,8 @@
-//! Runs a script from the bytes that are read to the bytes that are written.
+//! Runs a script from the bytes that are read, or the one that is made, to the bytes that are written.
 ghost use Rattle.std.specs.Prelude.{◌≡◌, ◌≢◌, ◌<◌, ◌≤◌, ◌⊎◌, ℕ, List, Some, [], length, vec_capacity};
 ghost use Rattle.std.specs.Io.KnownBytes.{append_known};
 ghost use Rattle.pgs_io.specs.Faults.{HasRisen};
-ghost use Rattle.std.specs.Prelude.{map, replicate, None, ◌++◌, IfOk};
+ghost use Rattle.std.specs.Prelude.{map, replicate, None, ◌++◌, IfOk, Option};
 ghost use Rattle.std.specs.Prelude.{string_bytes as string_text};
 ghost use Rattle.addr_space.specs.Space.{accounts, held, risen, taken};
 ghost use Rattle.reset_callbacks.specs.Hook.{AreDistinct};
@@ -11,20 +11,24 @@ ghost use Rattle.pgs_options.specs.Options.{options_of};
 ghost use Rattle.pgs_options.specs.declared.options.Options.{Options as Asked};
 ghost use Rattle.owner_kinds.specs.KindShelf.{table_of};
 ghost use Rattle.owner_kinds.specs.KindTable.{IsSound};
-ghost use Rattle.pgs_world.specs.Transcript.{names_of, setting_for};
-ghost use Rattle.pgs_world.specs.World.{run_of, setting_at, setting_of, AreStanding, HaveDescriptors, IsOpening};
-ghost use Rattle.pgs_world.specs.Outcome.{most_bytes, usage_line, AskFor, IsWhole, IsWanted, IsCutOff, IsTooLong, IsUnwritten, IsNotStarted, IsSharedOut, IsUsageFront, AreKept, CountsErrors, TakesAll, TakesAsked};
-ghost use Rattle.pgs_world.specs.Ending.{outcome_of, status_of, IsPlayed};
+ghost use Rattle.pgs_turns.specs.Transcript.{names_of};
+ghost use Rattle.pgs_turns.specs.World.{run_of, setting_at, setting_of, AreKept, AreStanding, HaveDescriptors, IsOpening};
+ghost use Rattle.pgs_world.specs.Outcome.{most_bytes, setting_for, usage_line, AskFor, IsWhole, IsWanted, IsCutOff, IsTooLong, IsUnwritten, IsNotStarted, IsSharedOut, IsUsageFront, CountsErrors, TakesAll};
+ghost use Rattle.pgs_world.specs.Ending.{generated_outcome, generated_status, outcome_of, status_of};
+ghost use Rattle.pgs_world.specs.Generated.{IsGenerated, IsMade, IsStopped, IsUntold};
+ghost use Rattle.pgs_world.specs.Plays.{outside, Ends, EndsMade, Plays};
+ghost use Rattle.session_rules.specs.Modes.{made_script};
+ghost use Rattle.pgs_turns.specs.Courses.{TakesInAll};
 
-use crate::nowhere::Nowhere;
 use crate::performing::{End, Ended, perform_lines};
 use crate::printer::Printer;
-use crate::sessions::{exit_all, start_sessions};
 use addr_space::Space;
 use owner_kinds::{ExtKind, KindShelf};
+use pgs_generator::{Generated, generate};
 use pgs_io::{Sink, Source, put_all};
 use pgs_options::{Options, OptionsError, read_options};
 use pgs_step::Name;
+use pgs_turns::{end_unheard, exit_all, start_sessions};
 use reset_callbacks::{ResetHook, Shelf};
 use session_core::{Calls, Session, Shared};
 use session_owners::Commons;
@@ -60,7 +64,8 @@ const NOT_STARTED: Outcome = Outcome {
 };
 
 /// Does all that the program `pgscript` does: it reads a script from the source and writes its transcript
-/// to the sink.
+/// to the sink. Where the words ask for rounds of the script that is made, it reads nothing, performs that
+/// script, and writes one line that tells how many lines, events, ERROR events and fallible calls there were.
 ///
 /// `words` are those of the command line, without the program's name; pgs_options reads them. The contexts of
 /// session n count for account n - 1 of the space, whose limit is set to what the words say. The hooks of all
@@ -80,12 +85,12 @@ pub fn run<S: Source, K: Sink, H: ResetHook, X: ExtKind>(
     requires hooks { AreDistinct (shelf_state.held shelf.old) }
 
     // Status 0 or 1: all of the source was read, and the whole transcript was written.
-    ensures whole { (o : Asked) → AskFor (map string_text words.now) o → (result.status ≡ 0) ⊎ (result.status ≡ 1)
+    ensures whole { (o : Asked) → AskFor (map string_text words.now) o → o.generate ≡ 0 → (result.status ≡ 0) ⊎ (result.status ≡ 1)
         → IsWhole (setting_for o shelf.old kinds.old) result (S.left src.old) (S.left src.new) (K.written out.old) (K.written out.new) shelf.new kinds.new }
-    ensures counts { (o : Asked) → AskFor (map string_text words.now) o → (result.status ≡ 0) ⊎ (result.status ≡ 1) → CountsErrors (setting_for o shelf.old kinds.old) result (S.left src.old) }
+    ensures counts { (o : Asked) → AskFor (map string_text words.now) o → o.generate ≡ 0 → (result.status ≡ 0) ⊎ (result.status ≡ 1) → CountsErrors (setting_for o shelf.old kinds.old) result (S.left src.old) }
 
     // Each session's account took what the session's opening and its lines ask for, and no other account anything.
-    ensures taken { (o : Asked) → AskFor (map string_text words.now) o → (result.status ≡ 0) ⊎ (result.status ≡ 1) → TakesAll (setting_for o shelf.old kinds.old) (S.left src.old) space.old space.new }
+    ensures taken { (o : Asked) → AskFor (map string_text words.now) o → o.generate ≡ 0 → (result.status ≡ 0) ⊎ (result.status ≡ 1) → TakesAll (setting_for o shelf.old kinds.old) (S.left src.old) space.old space.new }
 
     // Unless not all sessions were started, the space has the limit that the words say, and no account but a session's took any bytes.
     ensures shared_out { (o : Asked) → AskFor (map string_text words.now) o → (result.status ≡ 5 → 0 < result.call) → IsSharedOut o.sessions o.space space.old space.new }
@@ -99,21 +104,33 @@ pub fn run<S: Source, K: Sink, H: ResetHook, X: ExtKind>(
 
     // Status 3: the source failed. Status 6: it has a byte too many.
     ensures source_fault { result.status ≡ 3 → HasRisen (S.faults src.old) (S.faults src.new) }
-    ensures cut_off { (o : Asked) → AskFor (map string_text words.now) o → result.status ≡ 3
+    ensures cut_off { (o : Asked) → AskFor (map string_text words.now) o → o.generate ≡ 0 → result.status ≡ 3
         → IsCutOff (setting_for o shelf.old kinds.old) result (S.left src.old) (S.left src.new) (K.written out.old) (K.written out.new) shelf.new kinds.new }
-    ensures too_long { (o : Asked) → AskFor (map string_text words.now) o → result.status ≡ 6
+    ensures too_long { (o : Asked) → AskFor (map string_text words.now) o → o.generate ≡ 0 → result.status ≡ 6
         → IsTooLong (setting_for o shelf.old kinds.old) result (S.left src.old) (S.left src.new) (K.written out.old) (K.written out.new) shelf.new kinds.new }
 
     // Status 4: the sink failed.
     ensures sink_fault { result.status ≡ 4 → HasRisen (K.faults out.old) (K.faults out.new) }
-    ensures unwritten { (o : Asked) → AskFor (map string_text words.now) o → result.status ≡ 4
+    ensures unwritten { (o : Asked) → AskFor (map string_text words.now) o → o.generate ≡ 0 → result.status ≡ 4
         → IsUnwritten (setting_for o shelf.old kinds.old) result (S.left src.old) (S.left src.new) (K.written out.old) (K.written out.new) shelf.new kinds.new }
     ensures usage_unwritten { options_of (map string_text words.now) ≡ None → result.status ≡ 4 → IsUsageFront (K.written out.old) (K.written out.new) }
 
     // Status 5: memory was wanted, at the call that is named, or before all sessions had started.
-    ensures wanted { (o : Asked) → AskFor (map string_text words.now) o → result.status ≡ 5 → 0 < result.call
+    ensures wanted { (o : Asked) → AskFor (map string_text words.now) o → o.generate ≡ 0 → result.status ≡ 5 → 0 < result.call
         → IsWanted (setting_for o shelf.old kinds.old) result (S.left src.old) (S.left src.new) (K.written out.old) (K.written out.new) shelf.new kinds.new }
     ensures not_started { result.status ≡ 5 → result.call ≡ 0 → IsNotStarted result (S.left src.old) (S.left src.new) (K.written out.old) (K.written out.new) shelf.old shelf.new kinds.old kinds.new }
+
+    // With rounds of the script that is made nothing is read, and what is written is one line that tells of the run.
+    ensures generated { (o : Asked) → AskFor (map string_text words.now) o → 0 < o.generate → (result.status ≡ 0) ⊎ (result.status ≡ 1)
+        → IsGenerated o.generate (setting_for o shelf.old kinds.old) result (K.written out.old) (K.written out.new) shelf.new kinds.new }
+    ensures generated_taken { (o : Asked) → AskFor (map string_text words.now) o → 0 < o.generate → (result.status ≡ 0) ⊎ (result.status ≡ 1)
+        → TakesInAll (setting_for o shelf.old kinds.old) (made_script o.generate) space.old space.new }
+    ensures generated_untold { (o : Asked) → AskFor (map string_text words.now) o → 0 < o.generate → result.status ≡ 4
+        → IsUntold o.generate (setting_for o shelf.old kinds.old) result (K.written out.old) (K.written out.new) shelf.new kinds.new }
+    ensures generated_stopped { (o : Asked) → AskFor (map string_text words.now) o → 0 < o.generate → result.status ≡ 5 → 0 < result.call
+        → IsStopped o.generate (setting_for o shelf.old kinds.old) result (K.written out.old) (K.written out.new) shelf.new kinds.new }
+    ensures generated_unread { (o : Asked) → AskFor (map string_text words.now) o → 0 < o.generate → src.new ≡ src.old }
+    ensures generated_statuses { (o : Asked) → AskFor (map string_text words.now) o → 0 < o.generate → IsMade result.status }
 
     // A fault that was met shows in the status, and there are no other statuses.
     ensures source_grew { S.faults src.old < S.faults src.new → (result.status ≡ 3) ⊎ (result.status ≡ 4) }
@@ -151,26 +168,13 @@ fn start<S: Source, K: Sink, H: ResetHook, X: ExtKind>(
     requires accounts { options.now.sessions ≤ accounts space.old }
     requires some { 0 < options.now.sessions }
     requires few { options.now.sessions ≤ 64 }
+    requires rounds { options.now.generate ≤ 10000 }
     requires descriptors { 0 < options.now.descriptors }
     requires empty { (account : ℕ) → held space.old account ≡ 0 }
     requires hooks { AreDistinct (shelf_state.held shelf.old) }
-    ensures taken { (result.status ≡ 0) ⊎ (result.status ≡ 1) → TakesAll (setting_for options.now shelf.old kinds.old) (S.left src.old) space.old space.new }
-    ensures whole { (result.status ≡ 0) ⊎ (result.status ≡ 1) → IsWhole (setting_for options.now shelf.old kinds.old) result (S.left src.old) (S.left src.new) (K.written out.old) (K.written out.new) shelf.new kinds.new }
-    ensures source_fault { result.status ≡ 3 → HasRisen (S.faults src.old) (S.faults src.new) }
-    ensures cut_off { result.status ≡ 3 → IsCutOff (setting_for options.now shelf.old kinds.old) result (S.left src.old) (S.left src.new) (K.written out.old) (K.written out.new) shelf.new kinds.new }
-    ensures too_long { result.status ≡ 6 → IsTooLong (setting_for options.now shelf.old kinds.old) result (S.left src.old) (S.left src.new) (K.written out.old) (K.written out.new) shelf.new kinds.new }
-    ensures sink_fault { result.status ≡ 4 → HasRisen (K.faults out.old) (K.faults out.new) }
-    ensures unwritten { result.status ≡ 4 → IsUnwritten (setting_for options.now shelf.old kinds.old) result (S.left src.old) (S.left src.new) (K.written out.old) (K.written out.new) shelf.new kinds.new }
-    ensures wanted { result.status ≡ 5 → 0 < result.call → IsWanted (setting_for options.now shelf.old kinds.old) result (S.left src.old) (S.left src.new) (K.written out.old) (K.written out.new) shelf.new kinds.new }
-    ensures not_started { result.status ≡ 5 → result.call ≡ 0 → IsNotStarted result (S.left src.old) (S.left src.new) (K.written out.old) (K.written out.new) shelf.old shelf.new kinds.old kinds.new }
-    ensures source_grew { S.faults src.old < S.faults src.new → (result.status ≡ 3) ⊎ (result.status ≡ 4) }
-    ensures sink_grew { K.faults out.old < K.faults out.new → result.status ≡ 4 }
-    ensures statuses { IsPlayed result.status }
-    ensures call { result.status ≢ 4 → result.status ≢ 5 → result.call ≡ 0 }
-    ensures given_back { (account : ℕ) → held space.new account ≡ 0 }
-    ensures accounts { accounts space.new ≡ accounts space.old }
-    ensures kinds_kept { AreKept kinds.old kinds.new }
-    ensures shared_out { (result.status ≡ 5 → 0 < result.call) → IsSharedOut options.now.sessions options.now.space space.old space.new }
+    ensures plays { Plays options.now.generate (setting_for options.now shelf.old kinds.old) result (outside (S.left src.old) (S.faults src.old) (K.written out.old) (K.faults out.old) shelf.old kinds.old)
+        (outside (S.left src.new) (S.faults src.new) (K.written out.new) (K.faults out.new) shelf.new kinds.new) space.old space.new }
+    ensures unread { 0 < options.now.generate → src.new ≡ src.old }
 {
     let Ok(places) = Places::new(alloc) else {
         return NOT_STARTED;
@@ -231,26 +235,13 @@ fn play_lent<S: Source, K: Sink, H: ResetHook, X: ExtKind>(
     requires accounts { options.now.sessions ≤ accounts space.old }
     requires some { 0 < options.now.sessions }
     requires few { options.now.sessions ≤ 64 }
+    requires rounds { options.now.generate ≤ 10000 }
     requires descriptors { 0 < options.now.descriptors }
     requires empty { (account : ℕ) → held space.old account ≡ 0 }
     requires hooks { AreDistinct (shelf_state.held shelf.old) }
-    ensures taken { (result.status ≡ 0) ⊎ (result.status ≡ 1) → TakesAll (setting_for options.now shelf.old kinds.old) (S.left src.old) space.old space.new }
-    ensures whole { (result.status ≡ 0) ⊎ (result.status ≡ 1) → IsWhole (setting_for options.now shelf.old kinds.old) result (S.left src.old) (S.left src.new) (K.written out.old) (K.written out.new) shelf.new kinds.new }
-    ensures source_fault { result.status ≡ 3 → HasRisen (S.faults src.old) (S.faults src.new) }
-    ensures cut_off { result.status ≡ 3 → IsCutOff (setting_for options.now shelf.old kinds.old) result (S.left src.old) (S.left src.new) (K.written out.old) (K.written out.new) shelf.new kinds.new }
-    ensures too_long { result.status ≡ 6 → IsTooLong (setting_for options.now shelf.old kinds.old) result (S.left src.old) (S.left src.new) (K.written out.old) (K.written out.new) shelf.new kinds.new }
-    ensures sink_fault { result.status ≡ 4 → HasRisen (K.faults out.old) (K.faults out.new) }
-    ensures unwritten { result.status ≡ 4 → IsUnwritten (setting_for options.now shelf.old kinds.old) result (S.left src.old) (S.left src.new) (K.written out.old) (K.written out.new) shelf.new kinds.new }
-    ensures wanted { result.status ≡ 5 → 0 < result.call → IsWanted (setting_for options.now shelf.old kinds.old) result (S.left src.old) (S.left src.new) (K.written out.old) (K.written out.new) shelf.new kinds.new }
-    ensures not_started { result.status ≡ 5 → result.call ≡ 0 → IsNotStarted result (S.left src.old) (S.left src.new) (K.written out.old) (K.written out.new) shelf.old shelf.new kinds.old kinds.new }
-    ensures source_grew { S.faults src.old < S.faults src.new → (result.status ≡ 3) ⊎ (result.status ≡ 4) }
-    ensures sink_grew { K.faults out.old < K.faults out.new → result.status ≡ 4 }
-    ensures statuses { IsPlayed result.status }
-    ensures call { result.status ≢ 4 → result.status ≢ 5 → result.call ≡ 0 }
-    ensures given_back { (account : ℕ) → held space.new account ≡ 0 }
-    ensures accounts { accounts space.new ≡ accounts space.old }
-    ensures kinds_kept { AreKept kinds.old kinds.new }
-    ensures shared_out { (result.status ≡ 5 → 0 < result.call) → IsSharedOut options.now.sessions options.now.space space.old space.new }
+    ensures plays { Plays options.now.generate (setting_for options.now shelf.old kinds.old) result (outside (S.left src.old) (S.faults src.old) (K.written out.old) (K.faults out.old) shelf.old kinds.old)
+        (outside (S.left src.new) (S.faults src.new) (K.written out.new) (K.faults out.new) shelf.new kinds.new) space.old space.new }
+    ensures unread { 0 < options.now.generate → src.new ≡ src.old }
 {
     space.set_limit(options.space as u64);
     let Places {
@@ -271,17 +262,7 @@ fn play_lent<S: Source, K: Sink, H: ResetHook, X: ExtKind>(
         commons: &mut commons,
         calls: &mut calls,
     };
-    let (count, descriptors) = (options.sessions, options.descriptors);
-    let outcome = play(
-        alloc,
-        count,
-        descriptors,
-        sessions,
-        names,
-        src,
-        out,
-        &mut shared,
-    );
+    let outcome = play(alloc, options, sessions, names, src, out, &mut shared);
     let Shared {
         space: given_space,
         shelf: given_shelf,
@@ -294,11 +275,10 @@ fn play_lent<S: Source, K: Sink, H: ResetHook, X: ExtKind>(
     outcome
 }
 
-/// Starts so many sessions, each with so many descriptors, and plays the script with them. Where not all of them start, those that did end without a word.
+/// Starts the sessions and plays the script with them. Where not all of them start, those that did end without a word.
 fn play<S: Source, K: Sink, H: ResetHook, X: ExtKind>(
     alloc: Global,
-    count: u8,
-    descriptors: u8,
+    options: &Options,
     mut sessions: Vec<Session<H>>,
     names: &[Name],
     src: &mut S,
@@ -306,11 +286,12 @@ fn play<S: Source, K: Sink, H: ResetHook, X: ExtKind>(
     shared: &mut Shared<'_, H, X>,
 ) -> Outcome
     requires none { sessions.items ≡ [] }
-    requires some { 0 < count }
-    requires descriptors { 0 < descriptors }
-    requires reserved { count ≤ vec_capacity sessions }
-    requires few { count ≤ 64 }
-    requires accounts { count ≤ accounts shared.old.space.now }
+    requires some { 0 < options.now.sessions }
+    requires descriptors { 0 < options.now.descriptors }
+    requires reserved { options.now.sessions ≤ vec_capacity sessions }
+    requires few { options.now.sessions ≤ 64 }
+    requires rounds { options.now.generate ≤ 10000 }
+    requires accounts { options.now.sessions ≤ accounts shared.old.space.now }
     requires empty { (account : ℕ) → held shared.old.space.now account ≡ 0 }
     requires hooks { AreDistinct (shelf_state.held shared.old.shelf.now) }
     requires kinds { IsSound (table_of shared.old.commons.now.kinds) }
@@ -318,29 +299,38 @@ fn play<S: Source, K: Sink, H: ResetHook, X: ExtKind>(
     requires unpinned { shared.old.commons.now.pins ≡ replicate 1024 0 }
     requires names { names.now ≡ names_of shared.old.commons.now.kinds }
     requires calls { shared.old.calls.now.count ≡ 0 }
-    ensures taken { (result.status ≡ 0) ⊎ (result.status ≡ 1) → TakesAll (setting_at count descriptors shared.old) (S.left src.old) shared.old.space.now shared.new.space.now }
-    ensures whole { (result.status ≡ 0) ⊎ (result.status ≡ 1) → IsWhole (setting_at count descriptors shared.old) result (S.left src.old) (S.left src.new) (K.written out.old) (K.written out.new) shared.new.shelf.now shared.new.commons.now.kinds }
-    ensures source_fault { result.status ≡ 3 → HasRisen (S.faults src.old) (S.faults src.new) }
-    ensures cut_off { result.status ≡ 3 → IsCutOff (setting_at count descriptors shared.old) result (S.left src.old) (S.left src.new) (K.written out.old) (K.written out.new) shared.new.shelf.now shared.new.commons.now.kinds }
-    ensures too_long { result.status ≡ 6 → IsTooLong (setting_at count descriptors shared.old) result (S.left src.old) (S.left src.new) (K.written out.old) (K.written out.new) shared.new.shelf.now shared.new.commons.now.kinds }
-    ensures sink_fault { result.status ≡ 4 → HasRisen (K.faults out.old) (K.faults out.new) }
-    ensures unwritten { result.status ≡ 4 → IsUnwritten (setting_at count descriptors shared.old) result (S.left src.old) (S.left src.new) (K.written out.old) (K.written out.new) shared.new.shelf.now shared.new.commons.now.kinds }
-    ensures wanted { result.status ≡ 5 → 0 < result.call → IsWanted (setting_at count descriptors shared.old) result (S.left src.old) (S.left src.new) (K.written out.old) (K.written out.new) shared.new.shelf.now shared.new.commons.now.kinds }
-    ensures not_started { result.status ≡ 5 → result.call ≡ 0 → IsNotStarted result (S.left src.old) (S.left src.new) (K.written out.old) (K.written out.new) shared.old.shelf.now shared.new.shelf.now shared.old.commons.now.kinds shared.new.commons.now.kinds }
-    ensures source_grew { S.faults src.old < S.faults src.new → (result.status ≡ 3) ⊎ (result.status ≡ 4) }
-    ensures sink_grew { K.faults out.old < K.faults out.new → result.status ≡ 4 }
-    ensures statuses { IsPlayed result.status }
-    ensures call { result.status ≢ 4 → result.status ≢ 5 → result.call ≡ 0 }
-    ensures given_back { (account : ℕ) → held shared.new.space.now account ≡ 0 }
-    ensures accounts { accounts shared.new.space.now ≡ accounts shared.old.space.now }
-    ensures kinds_kept { AreKept shared.old.commons.now.kinds shared.new.commons.now.kinds }
-    ensures shared_out { (result.status ≡ 5 → 0 < result.call) → IsSharedOut count shared.old.space.now.limit shared.old.space.now shared.new.space.now }
+    ensures plays { Plays options.now.generate (setting_at options.now.sessions options.now.descriptors shared.old) result (outside (S.left src.old) (S.faults src.old) (K.written out.old) (K.faults out.old) shared.old.shelf.now shared.old.commons.now.kinds)
+        (outside (S.left src.new) (S.faults src.new) (K.written out.new) (K.faults out.new) shared.new.shelf.now shared.new.commons.now.kinds) shared.old.space.now shared.new.space.now }
+    ensures unread { 0 < options.now.generate → src.new ≡ src.old }
 {
+    let (count, descriptors) = (options.sessions, options.descriptors);
     let Ok(()) = start_sessions(alloc, count, descriptors, &mut sessions, shared.space) else {
         end_unheard(&mut sessions, shared);
         return NOT_STARTED;
     };
+    if options.generate > 0 {
+        return play_made(&mut sessions, options.generate, out, shared);
+    }
     play_started(&mut sessions, names, src, out, shared)
+}
+
+/// Plays the script of so many rounds that is made, and ends all sessions.
+fn play_made<K: Sink, H: ResetHook, X: ExtKind>(
+    sessions: &mut [Session<H>],
+    rounds: u16,
+    out: &mut K,
+    shared: &mut Shared<'_, H, X>,
+) -> Outcome
+    requires opening { IsOpening (run_of sessions.old shared.old) }
+    requires standing { AreStanding 0 (run_of sessions.old shared.old) }
+    requires few { length sessions.old ≤ 64 }
+    requires rounds { rounds ≤ 10000 }
+    ensures { (descriptors : ℕ) → HaveDescriptors descriptors (run_of sessions.old shared.old) → (left : Option (List ℕ)) (faults : ℕ)
+        → EndsMade rounds (length sessions.old) (setting_of descriptors (run_of sessions.old shared.old)) result (outside left faults (K.written out.old) (K.faults out.old) shared.old.shelf.now shared.old.commons.now.kinds)
+        (outside left faults (K.written out.new) (K.faults out.new) shared.new.shelf.now shared.new.commons.now.kinds) shared.old.space.now shared.new.space.now }
+{
+    let generated = generate(sessions, rounds, out, shared);
+    generated_outcome(&generated, shared.calls.count)
 }
 
 /// Plays the script to its end, and ends all sessions.
@@ -355,24 +345,9 @@ fn play_started<S: Source, K: Sink, H: ResetHook, X: ExtKind>(
     requires standing { AreStanding 0 (run_of sessions.old shared.old) }
     requires few { length sessions.old ≤ 64 }
     requires names { names.now ≡ names_of shared.old.commons.now.kinds }
-    ensures whole { (d : ℕ) → HaveDescriptors d (run_of sessions.old shared.old) → (result.status ≡ 0) ⊎ (result.status ≡ 1) → IsWhole (setting_of d (run_of sessions.old shared.old)) result (S.left src.old) (S.left src.new) (K.written out.old) (K.written out.new) shared.new.shelf.now shared.new.commons.now.kinds }
-    ensures source_fault { result.status ≡ 3 → HasRisen (S.faults src.old) (S.faults src.new) }
-    ensures cut_off { (d : ℕ) → HaveDescriptors d (run_of sessions.old shared.old) → result.status ≡ 3 → IsCutOff (setting_of d (run_of sessions.old shared.old)) result (S.left src.old) (S.left src.new) (K.written out.old) (K.written out.new) shared.new.shelf.now shared.new.commons.now.kinds }
-    ensures too_long { (d : ℕ) → HaveDescriptors d (run_of sessions.old shared.old) → result.status ≡ 6 → IsTooLong (setting_of d (run_of sessions.old shared.old)) result (S.left src.old) (S.left src.new) (K.written out.old) (K.written out.new) shared.new.shelf.now shared.new.commons.now.kinds }
-    ensures sink_fault { result.status ≡ 4 → HasRisen (K.faults out.old) (K.faults out.new) }
-    ensures unwritten { (d : ℕ) → HaveDescriptors d (run_of sessions.old shared.old) → result.status ≡ 4 → IsUnwritten (setting_of d (run_of sessions.old shared.old)) result (S.left src.old) (S.left src.new) (K.written out.old) (K.written out.new) shared.new.shelf.now shared.new.commons.now.kinds }
-    ensures wanted { (d : ℕ) → HaveDescriptors d (run_of sessions.old shared.old) → result.status ≡ 5 → IsWanted (setting_of d (run_of sessions.old shared.old)) result (S.left src.old) (S.left src.new) (K.written out.old) (K.written out.new) shared.new.shelf.now shared.new.commons.now.kinds }
-    ensures called { result.status ≡ 5 → 0 < result.call }
-    ensures source_grew { S.faults src.old < S.faults src.new → (result.status ≡ 3) ⊎ (result.status ≡ 4) }
-    ensures sink_grew { K.faults out.old < K.faults out.new → result.status ≡ 4 }
-    ensures statuses { IsPlayed result.status }
-    ensures call { result.status ≢ 4 → result.status ≢ 5 → result.call ≡ 0 }
-    ensures taken { (d : ℕ) → HaveDescriptors d (run_of sessions.old shared.old) → (result.status ≡ 0) ⊎ (result.status ≡ 1) → TakesAsked (setting_of d (run_of sessions.old shared.old)) (S.left src.old) shared.old.space.now shared.new.space.now }
-    ensures given_back { (account : ℕ) → account < length sessions.old → held shared.new.space.now account ≡ 0 }
-    ensures others { (account : ℕ) → length sessions.old ≤ account → held shared.new.space.now account ≡ held shared.old.space.now account }
-    ensures accounts { accounts shared.new.space.now ≡ accounts shared.old.space.now }
-    ensures kinds_kept { AreKept shared.old.commons.now.kinds shared.new.commons.now.kinds }
-    ensures shared_out { IsSharedOut (length sessions.old) shared.old.space.now.limit shared.old.space.now shared.new.space.now }
+    ensures { (descriptors : ℕ) → HaveDescriptors descriptors (run_of sessions.old shared.old)
+        → Ends (length sessions.old) (setting_of descriptors (run_of sessions.old shared.old)) result (outside (S.left src.old) (S.faults src.old) (K.written out.old) (K.faults out.old) shared.old.shelf.now shared.old.commons.now.kinds)
+        (outside (S.left src.new) (S.faults src.new) (K.written out.new) (K.faults out.new) shared.new.shelf.now shared.new.commons.now.kinds) shared.old.space.now shared.new.space.now }
 {
     let mut printer = Printer::new(out, names);
     let ended = perform_lines(sessions, src, shared, &mut printer);
@@ -384,22 +359,6 @@ fn play_started<S: Source, K: Sink, H: ResetHook, X: ExtKind>(
         printer.has_failed(),
         printer.errors(),
     )
-}
-
-/// Ends sessions as they opened, without a word.
-fn end_unheard<H: ResetHook, X: ExtKind>(sessions: &mut [Session<H>], shared: &mut Shared<'_, H, X>)
-    requires opening { IsOpening (run_of sessions.old shared.old) }
-    requires standing { AreStanding 0 (run_of sessions.old shared.old) }
-    requires few { length sessions.old ≤ 64 }
-    ensures shelf { shared.new.shelf.now ≡ shared.old.shelf.now }
-    ensures kinds { shared.new.commons.now.kinds ≡ shared.old.commons.now.kinds }
-    ensures given_back { (account : ℕ) → account < length sessions.old → held shared.new.space.now account ≡ 0 }
-    ensures others { (account : ℕ) → length sessions.old ≤ account → held shared.new.space.now account ≡ held shared.old.space.now account }
-    ensures accounts { accounts shared.new.space.now ≡ accounts shared.old.space.now }
-{
-    let mut nowhere = Nowhere;
-    let mut printer = Printer::new(&mut nowhere, &[]);
-    exit_all(sessions, shared, &mut printer);
 }
 
 /// What the end of a script, the count of fallible calls, a failed write and the count of errors make.
@@ -427,6 +386,30 @@ fn status(end: End, failed: bool, errors: u64) -> u8
         End::TooLong => 6,
         End::Unwritten => 4,
     }
+}
+
+/// What a run of the script that is made and the count of fallible calls make.
+fn generated_outcome(generated: &Generated, calls: u64) -> Outcome
+    ensures { result ≡ generated_outcome generated.now calls }
+{
+    Outcome {
+        status: generated_status(generated),
+        call: if generated.wanted { calls } else { 0 },
+        errors: generated.errors,
+        lines: generated.lines,
+    }
+}
+
+fn generated_status(generated: &Generated) -> u8
+    ensures { result ≡ generated_status generated.now.failed generated.now.wanted generated.now.errors }
+{
+    if generated.failed {
+        return 4;
+    }
+    if generated.wanted {
+        return 5;
+    }
+    (generated.errors > 0) as u8
 }
 
 /// Answers refused words with the usage line.

@@ -156,7 +156,7 @@ fn fourteen_scripts(rt: HostRuntime) -> Result<(), Fail> {
         },
         Row {
             words: &[],
-            script: b"begin\nplan 5\nplanref 5\npin 1\n@1 rollback\nrollback\n",
+            script: b"begin\nportal p 5 25\nfetch p 5\npin 1\n@1 rollback\nrollback\n",
             transcript: b"1 begin level 1\n1 create c6 TopTransactionContext in c1\n1 owner o1\n1 ok\n1 ERROR 42601 syntax error\n1 abort level 1\n1 ERROR 42601 syntax error\n1 ERROR 25P02 transaction is aborted\n1 cleanup level 1\n1 owner o1 gone\n1 delete c6\n1 ok\n1 warning there is no transaction in progress\n1 ok\n1 delete c5\n1 delete c4\n1 delete c3\n1 delete c2\n1 delete c1\n1 exit\n",
             status: 1,
             errors: 3,
@@ -491,5 +491,38 @@ fn lines_of_512_and_513_bytes(rt: HostRuntime) -> Result<(), Fail> {
             "{bytes} bytes behind the sign"
         );
     }
+    Ok(())
+}
+
+#[test]
+fn rounds_are_made_in_place_of_a_script(rt: HostRuntime) -> Result<(), Fail> {
+    let played = play(rt.alloc(), &["--generate", "3"], b"begin\n", 4096, 0, 0)?;
+    assert_eq!(rt;
+        played.outcome,
+        Outcome {
+            status: 1,
+            call: 0,
+            errors: 9,
+            lines: 39
+        }
+    );
+    let wanted = b"generated 39 lines, 120 events, 9 errors, 42 calls\n";
+    assert_eq!(rt; played.written.as_slice(), wanted.as_slice());
+    assert_eq!(rt; played.unread, 6);
+    Ok(())
+}
+
+#[test]
+fn numbers_that_cannot_be_written(rt: HostRuntime) -> Result<(), Fail> {
+    let played = play(rt.alloc(), &["--generate=3"], b"", 4096, 0, 1)?;
+    assert_eq!(rt;
+        played.outcome,
+        Outcome {
+            status: 4,
+            call: 0,
+            errors: 9,
+            lines: 39
+        }
+    );
     Ok(())
 }

@@ -6,18 +6,23 @@ use Rattle.pgscript_cli.specs.Program.{Plays}
 pub nothing_played : (words : List (List ℕ)) (left written : Option (List ℕ)) (source_faults sink_faults : ℕ)
     → Plays words (record { status = 5; call = 0; errors = 0; lines = 0 }) left left written written source_faults source_faults sink_faults sink_faults
 nothing_played words left written source_faults sink_faults = record {
-  whole = λ o asked h. absurd (elim h [ inl p ↦ omega (arith, p) | inr p ↦ omega (arith, p) ]);
+  whole = λ o asked _ h. absurd (elim h [ inl p ↦ omega (arith, p) | inr p ↦ omega (arith, p) ]);
   usage = λ h. absurd (omega (arith, h));
   usage_words = λ h. absurd (omega (arith, h));
   refused = λ _. inr (inr refl);
   refused_counts = λ _. (refl, refl, refl);
   source_fault = λ h. absurd (omega (arith, h));
-  cut_off = λ o asked h. absurd (omega (arith, h));
-  too_long = λ o asked h. absurd (omega (arith, h));
+  cut_off = λ o asked _ h. absurd (omega (arith, h));
+  too_long = λ o asked _ h. absurd (omega (arith, h));
   sink_fault = λ h. absurd (omega (arith, h));
-  unwritten = λ o asked h. absurd (omega (arith, h));
+  unwritten = λ o asked _ h. absurd (omega (arith, h));
   usage_unwritten = λ _ h. absurd (omega (arith, h));
-  wanted = λ o asked _ h. absurd (omega (arith, h));
+  wanted = λ o asked _ _ h. absurd (omega (arith, h));
+  generated = λ o asked _ h. absurd (elim h [ inl p ↦ omega (arith, p) | inr p ↦ omega (arith, p) ]);
+  generated_untold = λ o asked _ h. absurd (omega (arith, h));
+  generated_stopped = λ o asked _ _ h. absurd (omega (arith, h));
+  generated_unread = λ o asked _. (refl, refl);
+  generated_statuses = λ o asked _. inr (inr (inr refl));
   not_started = λ _ _. (refl, refl, refl, refl);
   source_grew = λ h. absurd (omega (arith, h));
   sink_grew = λ h. absurd (omega (arith, h));

@@ -7,7 +7,7 @@ use Rattle.pgs_options.specs.Options.{options_of, where_fitting}
 use Rattle.pgs_options.specs.declared.options.Options.{Options}
 use Rattle.pgs_options.specs.declared.options.OptionsError.{OptionsError}
 use Rattle.pgs_options.specs.declared.options.OptionsError.TheVariants as error
-use Rattle.pgs_options.proofs.Numbers.{Told, descriptors_told, fail_told, free, no_faults, nothing_asked, options_told, rows_told, sessions_told, space_told, within}
+use Rattle.pgs_options.proofs.Numbers.{Told, descriptors_told, fail_told, free, generate_told, no_faults, nothing_asked, options_told, rows_told, sessions_told, space_told, within}
 use Rattle.pgs_options.proofs.options.read_options.Goals as goal
 use Rattle.pgs_options.proofs.options.read_options.Goals.{Joined-matches}
 
@@ -48,6 +48,10 @@ module _ (c : Joined-matches) where
   fail = fail_told c.in-Ok.command c.in-Ok.ensures (Reads 32) (λ t r g. g.0) c.in-Ok-try_get_matches_from.matches c.in-Ok-try_get_matches_from.ensures.parsed
       c.get_one-in-Ok-try_get_matches_from-3.result c.get_one-in-Ok-try_get_matches_from-3.ensures.none c.get_one-in-Ok-try_get_matches_from-3.ensures.value
 
+  generate : Told 0 10000 (codes "generate") (rows_of (found_of c.in-Ok-try_get_matches_from.matches)) c.get_one-in-Ok-try_get_matches_from-4.result
+  generate = generate_told c.in-Ok.command c.in-Ok.ensures (Reads 16) (λ t r g. g.0) c.in-Ok-try_get_matches_from.matches c.in-Ok-try_get_matches_from.ensures.parsed
+      c.get_one-in-Ok-try_get_matches_from-4.result c.get_one-in-Ok-try_get_matches_from-4.ensures.none c.get_one-in-Ok-try_get_matches_from-4.ensures.value
+
   -- the options that are given
   abbrev given : Options
   given = record {
@@ -55,14 +59,15 @@ module _ (c : Joined-matches) where
     sessions = c.unwrap_or-in-Ok-try_get_matches_from.result;
     descriptors = c.unwrap_or-in-Ok-try_get_matches_from-2.result;
     fail = c.unwrap_or-in-Ok-try_get_matches_from-3.result;
+    generate = c.unwrap_or-in-Ok-try_get_matches_from-4.result;
   }
 
   told : options_of (map string_text c.args.words.now) ≡ where_fitting given
   told =
-      options_told _ _ c.get_one.result c.get_one-in-Ok-try_get_matches_from.result c.get_one-in-Ok-try_get_matches_from-2.result c.get_one-in-Ok-try_get_matches_from-3.result
+      options_told _ _ c.get_one.result c.get_one-in-Ok-try_get_matches_from.result c.get_one-in-Ok-try_get_matches_from-2.result c.get_one-in-Ok-try_get_matches_from-3.result c.get_one-in-Ok-try_get_matches_from-4.result
       (no_faults _ _ c.in-Ok.ensures.app (c.in-Ok-try_get_matches_from.ensures.kinds (free _ c.in-Ok.ensures.app)))
-      (rows_told _ _ c.in-Ok-try_get_matches_from.matches c.in-Ok.ensures.app c.in-Ok-try_get_matches_from.ensures.matches) space sessions descriptors fail
-      ∙ rw (c.unwrap_or.ensures, c.unwrap_or-in-Ok-try_get_matches_from.ensures, c.unwrap_or-in-Ok-try_get_matches_from-2.ensures, c.unwrap_or-in-Ok-try_get_matches_from-3.ensures) refl
+      (rows_told _ _ c.in-Ok-try_get_matches_from.matches c.in-Ok.ensures.app c.in-Ok-try_get_matches_from.ensures.matches) space sessions descriptors fail generate
+      ∙ rw (c.unwrap_or.ensures, c.unwrap_or-in-Ok-try_get_matches_from.ensures, c.unwrap_or-in-Ok-try_get_matches_from-2.ensures, c.unwrap_or-in-Ok-try_get_matches_from-3.ensures, c.unwrap_or-in-Ok-try_get_matches_from-4.ensures) refl
 
 pub returns-in-Ok-try_get_matches_from-clause-options : goal.returns-in-Ok-try_get_matches_from-clause-options
 returns-in-Ok-try_get_matches_from-clause-options c = asked _ (given c) c.fitting.result (told c) c.fitting.ensures.fitting
@@ -81,6 +86,11 @@ pub returns-in-Ok-try_get_matches_from-clause-descriptors : goal.returns-in-Ok-t
 returns-in-Ok-try_get_matches_from-clause-descriptors c =
     of_given (λ o. (8 ≤ o.descriptors) × (o.descriptors ≤ 64)) (given c) c.fitting.result c.fitting.ensures.fitting
     (rw c.unwrap_or-in-Ok-try_get_matches_from-2.ensures (within 8 64 16 _ _ c.get_one-in-Ok-try_get_matches_from-2.result (omega arith) (omega arith) (descriptors c)))
+
+pub returns-in-Ok-try_get_matches_from-clause-generate : goal.returns-in-Ok-try_get_matches_from-clause-generate
+returns-in-Ok-try_get_matches_from-clause-generate c =
+    of_given (λ o. o.generate ≤ 10000) (given c) c.fitting.result c.fitting.ensures.fitting
+    (rw c.unwrap_or-in-Ok-try_get_matches_from-4.ensures (within 0 10000 0 _ _ c.get_one-in-Ok-try_get_matches_from-4.result (omega arith) (omega arith) (generate c)).1)
 
 pub returns-in-Ok-try_get_matches_from-clause-refused : goal.returns-in-Ok-try_get_matches_from-clause-refused
 returns-in-Ok-try_get_matches_from-clause-refused c = refused _ (given c) c.fitting.result (told c) c.fitting.ensures.refused

@@ -1,9 +1,9 @@
 use Rattle.std.proofs.Common.{◌≡◌, ◌<◌, true, false, length, sym, ◌∙◌, arith}
 use Rattle.std.proofs.lemmas.Bool.Decides.{nat_tests}
 use Rattle.pgs_world.specs.PrinterLaws.{ShowsEvents-none}
-use Rattle.pgs_world.specs.Script.{reads, said_in}
-use Rattle.pgs_world.specs.World.{run_of}
-use Rattle.pgs_world.proofs.IdleLemmas.{comment_is_idle, first_there, idle_turned}
+use Rattle.pgs_turns.specs.Script.{reads, said_in}
+use Rattle.pgs_turns.specs.World.{run_of}
+use Rattle.pgs_turns.proofs.IdleLemmas.{comment_is_idle, first_there, idle_turned}
 use Rattle.pgs_world.proofs.performing.perform_line.Goals as goal
 
 -- a line that asks for nothing

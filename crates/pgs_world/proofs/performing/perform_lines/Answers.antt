@@ -3,7 +3,7 @@ use Rattle.pgs_io.specs.Lines.{IsKept}
 use Rattle.pgs_step.specs.declared.events.Event.{Event}
 use Rattle.pgs_world.specs.PrinterView.{ShowsEvents}
 use Rattle.pgs_world.specs.PrinterLaws.{ShowsEvents-none, ShowsEvents-joined, ShowsEvents-still}
-use Rattle.pgs_world.specs.World.{run_of}
+use Rattle.pgs_turns.specs.World.{run_of}
 use Rattle.pgs_world.proofs.LoopLemmas.{Stands-start, Stands-line, few_lines, has_room, ends-whole, ends-fault, ends-too_long, ends-unwritten, ends-line, ends-last_any}
 use Rattle.pgs_world.proofs.performing.perform_lines.Goals as goal
 

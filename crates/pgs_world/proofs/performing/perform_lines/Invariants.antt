@@ -1,6 +1,6 @@
 use Rattle.std.proofs.Common.{◌≡◌, ◌+◌, ℕ, List, length}
 use Rattle.pgs_world.specs.PrinterView.{ShowsEvents}
-use Rattle.pgs_world.specs.World.{run_of, AreStanding, HaveDescriptors}
+use Rattle.pgs_turns.specs.World.{run_of, AreStanding, HaveDescriptors}
 use Rattle.pgs_world.specs.Loop.{Stands}
 use Rattle.pgs_world.proofs.performing.perform_lines.Given as goal
 

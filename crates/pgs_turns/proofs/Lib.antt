@@ -1,0 +1,16 @@
+pub mod CourseLemmas
+pub mod ErrorLemmas
+pub mod ExitLemmas
+pub mod HookLemmas
+pub mod IdleLemmas
+pub mod KindLemmas
+pub mod LockLemmas
+pub mod OverLemmas
+pub mod PinLemmas
+pub mod PlayLemmas
+pub mod ScriptLemmas
+pub mod SessionLemmas
+pub mod StartLemmas
+pub mod TakenLemmas
+pub mod ToldHooks
+pub mod TurnLemmas

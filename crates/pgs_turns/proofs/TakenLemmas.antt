@@ -1,0 +1,138 @@
+-- What accounts take in a run.
+use Rattle.std.proofs.Common.{◌≡◌, ℕ, zero, suc, ◌+◌, ◌-◌, ◌^◌, ◌<◌, ◌≤◌, inl, inr, min, Bool, true, false, List, [], ◌∷◌, ◌++◌, length, Option, Some, None, Result, Ok, Err, refl, sym, ◌∙◌, ap, subst, arith}
+use Rattle.std.specs.Prelude.{◌==◌, if◌then◌else◌, nat_lt, replicate}
+use Rattle.std.proofs.lemmas.Bool.{cases_eq}
+use Rattle.std.proofs.lemmas.Bool.Decides.{nat_tests}
+use Rattle.std.proofs.lemmas.List.{length-set}
+use Rattle.std.proofs.lemmas.Option.{slice_get_past}
+use Rattle.pgs_command.specs.declared.commands.Command.{Command}
+use Rattle.pgs_command.specs.declared.lines.BadLine.{BadLine}
+use Rattle.pgs_command.specs.declared.lines.Line.{Line}
+use Rattle.pgs_step.specs.declared.events.Event.{Event}
+use Rattle.addr_space.specs.Space.{Space, risen, taken}
+use Rattle.session_rules.specs.Asked.{asked_by, asked_by_command, asked_by_line, asked_by_read, asked_on}
+use Rattle.session_rules.specs.State.{SessionState}
+use Rattle.session_rules.specs.Transcript.{Course, after_command, after_line, after_read, at_start}
+use Rattle.session_rules.specs.World.{opened, session_at}
+use Rattle.session_rules.proofs.Asking.{asked_by_more, other_line, read_line_asks}
+use Rattle.session_work.specs.Answers.{Fits}
+use Rattle.pgs_turns.specs.Script.{reads, said_in}
+use Rattle.pgs_turns.specs.Transcript.{Setting, course_of}
+use Rattle.pgs_turns.specs.World.{HaveDescriptors, Run}
+use Rattle.pgs_turns.specs.Turns.{TakesTurn}
+use Rattle.pgs_turns.specs.Courses.{CoursesAre, TakesBut, TakesInAll, TakesLines, asked_of}
+use Rattle.pgs_turns.proofs.CourseLemmas.{fits_later}
+
+-- no line
+pub takes_none : (setting : Setting) (w : Option ℕ) (s : Space) → TakesBut w setting [] s s
+unfolding asked_by
+takes_none setting w s account = refl
+
+-- a count that rises twice
+risen_by : (x n : ℕ) → 0 < n → risen x n ≡ min (x + n) (2 ^ 64 - 1)
+risen_by x n some = grind (arith, nat_tests)
+
+pub risen_more : (x m n : ℕ) → risen (risen x m) n ≡ risen x (m + n)
+risen_more x zero n = ap (risen x) (omega arith)
+risen_more x (suc m) zero = ap (risen x) (omega arith)
+risen_more x (suc m) (suc n) =
+    let first = risen_by x (suc m) (omega arith) in
+    let second = risen_by (risen x (suc m)) (suc n) (omega arith) in
+    let both = risen_by x (suc m + suc n) (omega arith) in
+    omega (arith, first, second, both)
+
+-- a line asks what its turn does
+of_reading : (w : Option ℕ) (n : ℕ) (course : Course) (r : Result Line BadLine)
+    → asked_by_read w n course r ≡ asked_by_command w n course (said_in r).session (said_in r).command (session_at (said_in r).session course.world)
+of_reading w n course (Ok line) = refl
+of_reading w n course (Err bad) = refl
+
+line_asks : (w : Option ℕ) (n : ℕ) (course : Course) (line : List ℕ) → course.wanted ≡ false
+    → asked_by_line reads w n line course ≡ asked_by_command w n course (said_in (reads line)).session (said_in (reads line)).command (session_at (said_in (reads line)).session course.world)
+line_asks w n course line goes = read_line_asks reads w n line course goes ∙ of_reading w n course (reads line)
+
+-- one line more
+pub takes_line : (descriptors : ℕ) (setting : Setting) (lines : List (List ℕ)) (line : List ℕ) (first : Space) (old new : Run) (before during : List Event → Type 0) (wanted : Bool) → wanted ≡ false
+    → HaveDescriptors descriptors old → CoursesAre descriptors setting false lines old before → ((w : Option ℕ) → Fits false old.calls.count w → TakesBut w setting lines first old.space) → TakesTurn (said_in (reads line)) old new during wanted
+    → (w : Option ℕ) → Fits false new.calls.count w → TakesBut w setting (lines ++ line ∷ []) first new.space
+unfolding course_of
+takes_line descriptors setting lines line first old new before during wanted is has courses takes t w f account =
+    let later = fits_later false old.calls.count new.calls.count w f t.calls (λ e. absurd (cc e)) in
+    let course = courses w later in
+    let asks = line_asks w (account + 1) (course_of setting w lines) line course.wanted_is in
+    t.asks is descriptors has w (course_of setting w lines) f course.world_is account
+    ∙ ap (risen (taken old.space account)) (sym asks)
+    ∙ ap (λ (x : ℕ). risen x (asked_by_line reads w (account + 1) line (course_of setting w lines))) (takes w later account)
+    ∙ risen_more (taken first account) (asked_by reads w setting.options setting.kinds setting.shelf lines (account + 1)) (asked_by_line reads w (account + 1) line (course_of setting w lines))
+    ∙ ap (risen (taken first account)) (sym (asked_by_more reads w setting.options setting.kinds setting.shelf lines line (account + 1)))
+
+-- lines ask nothing for a session that the run doesn't have
+abbrev Lacks : ℕ → Course → Type 0
+Lacks n course = length course.world.sessions < n
+
+still_lacks : (w : Option ℕ) (n number : ℕ) (command : Option Command) (session : Option SessionState) (course : Course) → Lacks n course → Lacks n (after_command w course number command session)
+still_lacks w n number command None course h = h
+still_lacks w n number command (Some session) course h = subst (λ (k : ℕ). k < n) (sym (length-set course.world.sessions (number - 1) _)) h
+
+lacks_read : (w : Option ℕ) (n : ℕ) (r : Result Line BadLine) (course : Course) → Lacks n course → Lacks n (after_read w course r)
+lacks_read w n (Ok line) course h = still_lacks w n line.session (Some line.command) (session_at line.session course.world) course h
+lacks_read w n (Err bad) course h = still_lacks w n bad.session None (session_at bad.session course.world) course h
+
+lacks_line : (w : Option ℕ) (n : ℕ) (line : List ℕ) (course : Course) → Lacks n course → Lacks n (after_line reads w line course)
+lacks_line w n line course h = go course.wanted
+  where
+    go : (b : Bool) → Lacks n (elim b as (λ _. Course) [ true ↦ course | false ↦ after_read w course (reads line) ])
+    go true = h
+    go false = lacks_read w n (reads line) course h
+
+none_there : (n : ℕ) (course : Course) → Lacks n course → session_at n course.world ≡ None
+none_there n course h =
+    let test : (n == 0) ≡ false = grind (arith, nat_tests, h) in
+    rw test (slice_get_past course.world.sessions (n - 1) (omega (arith, h)))
+
+none_asked : (w : Option ℕ) (n number : ℕ) (command : Option Command) (course : Course) → Lacks n course → asked_by_command w n course number command (session_at number course.world) ≡ 0
+none_asked w n number command course h = elim (cases_eq number n) [
+  | inl is ↦ ap (asked_by_command w n course number command) (ap (λ (k : ℕ). session_at k course.world) is ∙ none_there n course h)
+  | inr differs ↦ other_line w n course number command (session_at number course.world) differs
+]
+
+none_read : (w : Option ℕ) (n : ℕ) (r : Result Line BadLine) (course : Course) → Lacks n course → asked_by_read w n course r ≡ 0
+none_read w n (Ok line) course h = none_asked w n line.session (Some line.command) course h
+none_read w n (Err bad) course h = none_asked w n bad.session None course h
+
+none_line : (w : Option ℕ) (n : ℕ) (line : List ℕ) (course : Course) → Lacks n course → asked_by_line reads w n line course ≡ 0
+none_line w n line course h = go course.wanted
+  where
+    go : (b : Bool) → elim b as (λ _. ℕ) [ true ↦ 0 | false ↦ asked_by_read w n course (reads line) ] ≡ 0
+    go true = refl
+    go false = none_read w n (reads line) course h
+
+none_on : (w : Option ℕ) (n : ℕ) (lines : List (List ℕ)) (course : Course) → Lacks n course → asked_on reads w n lines course ≡ 0
+none_on w n [] course h = refl
+none_on w n (line ∷ lines) course h = omega (arith, none_line w n line course h, none_on w n lines (after_line reads w line course) (lacks_line w n line course h))
+
+length_replicate : {A : Type 0} (n : ℕ) (x : A) → length (replicate n x) ≡ n
+length_replicate zero x = refl
+length_replicate (suc n) x = omega (arith, length_replicate n x)
+
+nothing_asked : (setting : Setting) (lines : List (List ℕ)) (n : ℕ) → setting.options.sessions < n → asked_by reads None setting.options setting.kinds setting.shelf lines n ≡ 0
+unfolding asked_by
+nothing_asked setting lines n h =
+    none_on None n lines (at_start (opened setting.options setting.kinds setting.shelf)) (subst (λ (k : ℕ). k < n) (sym (length_replicate setting.options.sessions _)) h)
+
+-- what sessions take as they open, and what their lines ask behind that
+pub opened_taken : (setting : Setting) (lines : List (List ℕ)) (s t u : Space) → ((account : ℕ) → taken t account ≡ risen (taken s account) (if nat_lt account setting.options.sessions then 65536 else 0))
+    → TakesLines setting lines t u → TakesInAll setting lines s u
+opened_taken setting lines s t u opening takes account =
+    takes account
+    ∙ ap (λ (x : ℕ). risen x (asked_by reads None setting.options setting.kinds setting.shelf lines (account + 1))) (opening account)
+    ∙ risen_more (taken s account) (if nat_lt account setting.options.sessions then 65536 else 0) (asked_by reads None setting.options setting.kinds setting.shelf lines (account + 1))
+    ∙ ap (risen (taken s account)) (go (nat_lt account setting.options.sessions) refl)
+  where
+    go : (b : Bool) → nat_lt account setting.options.sessions ≡ b
+        → (if b then 65536 else 0) + asked_by reads None setting.options setting.kinds setting.shelf lines (account + 1)
+        ≡ (if b then 65536 + asked_by reads None setting.options setting.kinds setting.shelf lines (account + 1) else 0)
+    go true e = refl
+    go false e =
+        let past : setting.options.sessions ≤ account = grind (arith, nat_tests, e) in
+        let none = nothing_asked setting lines (account + 1) (omega (arith, past)) in omega (arith, none)

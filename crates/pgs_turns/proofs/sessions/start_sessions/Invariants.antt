@@ -1,0 +1,14 @@
+use Rattle.std.proofs.Common.{◌≡◌, ℕ, length}
+use Rattle.std.specs.Prelude.{nat_lt, if◌then◌else◌, vec_capacity}
+use Rattle.addr_space.specs.Space.{risen, taken}
+use Rattle.pgs_turns.specs.Turns.{AreOpened}
+use Rattle.pgs_turns.proofs.sessions.start_sessions.Given as goal
+
+-- the sessions before this account were started
+abbrev pub invariant-loop-account : goal.invariant-loop-account
+invariant-loop-account g l = record {
+  opened : AreOpened l.initial.descriptors l.initial.space l.sessions.items l.space;
+  so_many : length l.sessions.items ≡ l.account;
+  reserved : vec_capacity l.sessions ≡ vec_capacity l.initial.sessions;
+  asked : (account : ℕ) → taken l.space account ≡ risen (taken l.initial.space account) (if nat_lt account l.account then 65536 else 0);
+}

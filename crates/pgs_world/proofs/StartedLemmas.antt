@@ -1,0 +1,119 @@
+-- A script that was played, from what its sessions did; and a run in which not all of them could be started.
+use Rattle.std.proofs.Common.{◌≡◌, ◌⊎◌, ℕ, zero, suc, ◌+◌, ◌<◌, ◌≤◌, inl, inr, Bool, true, false, Option, Some, refl, sym, ◌∙◌, ap, subst, arith}
+use Rattle.std.specs.Prelude.{nat_lt, if◌then◌else◌}
+use Rattle.std.proofs.lemmas.Bool.Decides.{nat_tests}
+use Rattle.pgs_io.specs.Lines.{lines_of}
+use Rattle.addr_space.specs.Space.{Space, accounts, held, risen, taken}
+use Rattle.pgs_turns.specs.Transcript.{Setting}
+use Rattle.pgs_turns.proofs.TakenLemmas.{opened_taken}
+use Rattle.pgs_world.specs.declared.program.Outcome.{Outcome}
+use Rattle.session_rules.specs.Modes.{made_script}
+use Rattle.pgs_world.specs.Outcome.{IsSharedOut}
+use Rattle.pgs_world.specs.Plays.{Ends, EndsMade, Generates, Leaves, Outside, Performed, Plays}
+use Rattle.pgs_world.proofs.EndingLemmas.{no_other}
+
+-- the outcome of a run that has not started
+abbrev pub unstarted : Outcome
+unstarted = record { status = 5; call = 0; errors = 0; lines = 0 }
+
+not_performed : (setting : Setting) (o : Outside) → Performed setting unstarted o o
+not_performed setting o = record {
+  whole = λ h. absurd (no_other 5 (omega arith) h);
+  source_fault = λ h. absurd (omega (arith, h));
+  cut_off = λ h. absurd (omega (arith, h));
+  too_long = λ h. absurd (omega (arith, h));
+  sink_fault = λ h. absurd (omega (arith, h));
+  unwritten = λ h. absurd (omega (arith, h));
+  wanted = λ h k. absurd (omega (arith, k));
+  source_grew = λ h. absurd (omega (arith, h));
+  sink_grew = λ h. absurd (omega (arith, h));
+  statuses = inr (inr (inr (inr (inl refl))));
+  call = λ h k. refl;
+}
+
+not_generated : (rounds : ℕ) (setting : Setting) (o : Outside) → Generates rounds setting unstarted o o
+not_generated rounds setting o = record {
+  whole = λ h. absurd (no_other 5 (omega arith) h);
+  untold = λ h. absurd (omega (arith, h));
+  stopped = λ h k. absurd (omega (arith, k));
+  sink_fault = λ h. absurd (omega (arith, h));
+  sink_grew = λ h. absurd (omega (arith, h));
+  statuses = inr (inr (inr refl));
+  call = λ h. refl;
+  source_faults_are = refl;
+}
+
+pub not_started : (rounds : ℕ) (setting : Setting) (o : Outside) (s t : Space) → ((account : ℕ) → held t account ≡ 0) → accounts t ≡ accounts s → Plays rounds setting unstarted o o s t
+not_started rounds setting o s t empty same = record {
+  performed = λ none. not_performed setting o;
+  generates = λ some. not_generated rounds setting o;
+  taken = λ none h. absurd (no_other 5 (omega arith) h);
+  made_taken = λ some h. absurd (no_other 5 (omega arith) h);
+  not_started = λ h k. record { hooks = refl; kinds = refl; lines = refl; errors = refl; unread = refl; unwritten = refl };
+  given_back = empty;
+  accounts_are = same;
+  kinds_kept = record { table = refl; limits = refl; keys = λ kind key. refl };
+  shared_out = λ h. absurd (omega (arith, h refl));
+}
+
+-- accounts of no session took nothing as the others started
+past_opening : (x account sessions : ℕ) → sessions ≤ account → risen x (if nat_lt account sessions then 65536 else 0) ≡ x
+past_opening x account sessions past =
+    let test : nat_lt account sessions ≡ false = grind (arith, nat_tests, past) in
+    rw test refl
+
+-- Sessions were started in a space s, which made it t, and a script of them ended.
+module _ (setting : Setting) (sessions : ℕ) (outcome : Outcome) (before after : Outside) (s t u : Space) (many : sessions ≡ setting.options.sessions)
+    (limit : s.limit ≡ setting.options.space) (limits : t.limit ≡ s.limit) (same_accounts : accounts t ≡ accounts s) (empty : (account : ℕ) → held s account ≡ 0) (others : (account : ℕ) → sessions ≤ account → held t account ≡ held s account)
+    (opening : (account : ℕ) → taken t account ≡ risen (taken s account) (if nat_lt account setting.options.sessions then 65536 else 0)) where
+  given : Leaves sessions outcome before.kinds after.kinds t u → (account : ℕ) (b : Bool) → nat_lt account sessions ≡ b → held u account ≡ 0
+  given leaves account true e = leaves.given_back account (grind (arith, nat_tests, e))
+  given leaves account false e = let past : sessions ≤ account = grind (arith, nat_tests, e) in leaves.others account past ∙ others account past ∙ empty account
+
+  out_of : Leaves sessions outcome before.kinds after.kinds t u → IsSharedOut setting.options.sessions setting.options.space s u
+  out_of leaves = record {
+    limit_is = leaves.shared_out.limit_is ∙ limits ∙ limit;
+    others = λ account past. leaves.shared_out.others account (omega (arith, past, many)) ∙ opening account ∙ past_opening (taken s account) account setting.options.sessions past;
+  }
+
+  -- one that was read
+  pub started_plays : (rounds : ℕ) → rounds ≡ 0 → Ends sessions setting outcome before after t u → Plays rounds setting outcome before after s u
+  started_plays rounds none ends = record {
+    performed = λ _. ends.performed;
+    generates = λ some. absurd (omega (arith, some, none));
+    taken = λ _ h bytes left. opened_taken setting (lines_of bytes) s t u opening (ends.taken h bytes left);
+    made_taken = λ some. absurd (omega (arith, some, none));
+    not_started = λ h k. absurd (omega (arith, ends.leaves.called h, k));
+    given_back = λ account. given ends.leaves account (nat_lt account sessions) refl;
+    accounts_are = ends.leaves.accounts_are ∙ same_accounts;
+    kinds_kept = ends.leaves.kinds_kept;
+    shared_out = λ h. out_of ends.leaves;
+  }
+
+  -- the one that is made
+  pub made_plays : (rounds : ℕ) → 0 < rounds → EndsMade rounds sessions setting outcome before after t u → Plays rounds setting outcome before after s u
+  made_plays rounds some ends = record {
+    performed = λ none. absurd (omega (arith, some, none));
+    generates = λ _. ends.generates;
+    taken = λ none. absurd (omega (arith, some, none));
+    made_taken = λ _ h. opened_taken setting (made_script rounds) s t u opening (ends.taken h);
+    not_started = λ h k. absurd (omega (arith, ends.leaves.called h, k));
+    given_back = λ account. given ends.leaves account (nat_lt account sessions) refl;
+    accounts_are = ends.leaves.accounts_are ∙ same_accounts;
+    kinds_kept = ends.leaves.kinds_kept;
+    shared_out = λ h. out_of ends.leaves;
+  }
+
+-- another limit of the space, before sessions were started in it, is all the same
+pub limited_plays : (rounds : ℕ) (setting : Setting) (outcome : Outcome) (before after : Outside) (s u : Space) (limit : ℕ) → Plays rounds setting outcome before after (record s { limit = limit }) u → Plays rounds setting outcome before after s u
+limited_plays rounds setting outcome before after s u limit p = record {
+  performed = p.performed;
+  generates = p.generates;
+  taken = p.taken;
+  made_taken = p.made_taken;
+  not_started = p.not_started;
+  given_back = p.given_back;
+  accounts_are = p.accounts_are;
+  kinds_kept = p.kinds_kept;
+  shared_out = λ h. record { limit_is = (p.shared_out h).limit_is; others = (p.shared_out h).others };
+}
