@@ -48,7 +48,7 @@ own_stay t u h stay m l b =
     record { protected = y.protected; parent = y.parent ∙ x.parent }
 
 -- two forests that have the same at a number
-same_own : (m : ℕ) (t u : Contexts) → at m u ≡ at m t → is_protected m t ≡ true → is_protected m u ≡ true
+pub same_own : (m : ℕ) (t u : Contexts) → at m u ≡ at m t → is_protected m t ≡ true → is_protected m u ≡ true
 same_own m t u e prot = ap (λ (o : Option Context). option_map_or own o false) e ∙ prot
 
 pub protected_has : (m : ℕ) (t : Contexts) → is_protected m t ≡ true → has m t ≡ true
@@ -84,7 +84,7 @@ module _ (t : Contexts) (next : ℕ) (h : AreContexts t next) where
     parent = parent_left m n t h.once w.0 w.1;
   }
 
-  contexts_removed : (n : ℕ) → n ≢ top_context → ((m : ℕ) → 1 < m → m ≤ abort_context → (m ≢ n) × (has m (children n t) ≡ false)) → AreContexts (removed n t) next
+  pub contexts_removed : (n : ℕ) → n ≢ top_context → ((m : ℕ) → 1 < m → m ≤ abort_context → (m ≢ n) × (has m (children n t) ≡ false)) → AreContexts (removed n t) next
   contexts_removed n ne out = record {
     rooted = rooted_removed own top_context n t ne h.rooted;
     guarded = guarded_removed own n t h.guarded;
@@ -219,7 +219,7 @@ module _ (t : Contexts) (next : ℕ) (h : AreContexts t next) where
         parent = parent_put_other m p next (new_context name kind b) Empty t ne refl;
       }
 
-  guarded_created : (p : ℕ) (name : List ℕ) (kind : CtxKind) (b : Bool) → (b ≡ true → is_protected p t ≡ true) → AreGuarded own (created p next name kind b t)
+  pub guarded_created : (p : ℕ) (name : List ℕ) (kind : CtxKind) (b : Bool) → (b ≡ true → is_protected p t ≡ true) → AreGuarded own (created p next name kind b t)
   guarded_created p name kind true needs = guarded_put_own own p next (new_context name kind true) t h.once (needs refl) h.guarded
   guarded_created p name kind false needs = guarded_put own p next (new_context name kind false) Empty t refl tt h.guarded
 
@@ -263,7 +263,7 @@ module _ (t : Contexts) (next : ℕ) (h : AreContexts t next) where
         apart = w.1;
       }
 
-  stay_swapped : (n p : ℕ) → Moves n p t → is_protected n t ≡ false → Stay t (moved n p t)
+  pub stay_swapped : (n p : ℕ) → Moves n p t → is_protected n t ≡ false → Stay t (moved n p t)
   stay_swapped n p w free m prot =
       let out = apart m n free prot in
       let a = at_some n t w.node in
@@ -272,13 +272,13 @@ module _ (t : Contexts) (next : ℕ) (h : AreContexts t next) where
         parent = rw a.1 (parent_put_other m p n a.0 (children n t) (removed n t) out.0 out.1 ∙ parent_left m n t h.once out.0 out.1);
       }
 
-  has_swapped : (m n p : ℕ) → Moves n p t → times m (moved n p t) ≡ times m t
+  pub has_swapped : (m n p : ℕ) → Moves n p t → times m (moved n p t) ≡ times m t
   has_swapped m n p w = let a = at_some n t w.node in rw a.1 (times_moved m n p a.0 t h.once w)
 
-  once_swapped : (n p : ℕ) → Moves n p t → Once (moved n p t)
+  pub once_swapped : (n p : ℕ) → Moves n p t → Once (moved n p t)
   once_swapped n p w = record { once = λ m. omega (arith, has_swapped m n p w, h.once.once m) }
 
-  contexts_swapped : (n p : ℕ) → Moves n p t → is_protected n t ≡ false → AreContexts (moved n p t) next
+  pub contexts_swapped : (n p : ℕ) → Moves n p t → is_protected n t ≡ false → AreContexts (moved n p t) next
   contexts_swapped n p w free = record {
     rooted = rooted_moved own top_context n p t (λ e. both_ways (is_protected n t) free (ap (λ (x : ℕ). is_protected x t) e ∙ top_protected)) h.rooted;
     guarded = guarded_moved own n p t h.guarded free;

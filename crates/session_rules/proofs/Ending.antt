@@ -142,14 +142,14 @@ begun_changed m n f x same =
       | inr ne ↦ ap (λ (o : Option Owner). option_map_or (λ owner. owner.begun) o false) (at_changed_other m n f x ne)
     ]
 
-loose_changed : (level : LevelState) (m n : ℕ) (f : Owner → Owner) (x : OwnerTree) → IsLoose level m x → IsLoose level m (changed n f x)
+pub loose_changed : (level : LevelState) (m n : ℕ) (f : Owner → Owner) (x : OwnerTree) → IsLoose level m x → IsLoose level m (changed n f x)
 loose_changed level m n f x l = record {
   owner = l.owner;
   is = l.is;
   within = elim l.within [ inl e ↦ inl e | inr u ↦ inr (ap (has m) (children_changed l.owner n f x) ∙ has_changed m n f (children l.owner x) ∙ u) ];
 }
 
-ending_changed : (kinds : KindTable) (level : LevelState) (levels : List LevelState) (portals : List OpenPortal) (x : OwnerTree) (a b n : ℕ) (f : Owner → Owner) → ((o : Owner) → (f o).begun ≡ o.begun) → ((o : Owner) → HasItems kinds o → HasItems kinds (f o))
+pub ending_changed : (kinds : KindTable) (level : LevelState) (levels : List LevelState) (portals : List OpenPortal) (x : OwnerTree) (a b n : ℕ) (f : Owner → Owner) → ((o : Owner) → (f o).begun ≡ o.begun) → ((o : Owner) → HasItems kinds o → HasItems kinds (f o))
     → IsSound (changed n f x) a b → AreEnding kinds x a b level levels portals → AreEnding kinds (changed n f x) a b level levels portals
 ending_changed kinds level levels portals x a b n f begun known sound h = record {
   sound = sound;
@@ -228,11 +228,11 @@ module _ (t : Contexts) (next : ℕ) (h : AreContexts t next) (c : ℕ) (expr : 
       go None off r = ap (has m) r
       go (Some e) off r = ap (has m) r.1 ∙ rw (ne_eqb e m (λ z. off e refl (sym z))) refl
 
-  row_here : (e : ℕ) → expr ≡ Some e → IsRowOf e c t
+  pub row_here : (e : ℕ) → expr ≡ Some e → IsRowOf e c t
   row_here e q = row_of e c t current h.once (subst (λ (o : Option ℕ). IsPlace c o t current) q place)
 
   -- a row of another portal isn't its context
-  row_other : (m : ℕ) (o : Option ℕ) → IsPlace m o t current → (e : ℕ) → o ≡ Some e → e ≢ c
+  pub row_other : (m : ℕ) (o : Option ℕ) → IsPlace m o t current → (e : ℕ) → o ≡ Some e → e ≢ c
   row_other m o k e q z =
       let r : IsRowOf e m t = row_of e m t current h.once (subst (λ (x : Option ℕ). IsPlace m x t current) q k) in
       let same : m ≡ portals_context = let w : Some m ≡ Some portals_context = sym r.parent ∙ ap (λ (j : ℕ). parent_of j t) z ∙ place.parent in cc w in
@@ -271,7 +271,7 @@ module _ (t : Contexts) (next : ℕ) (h : AreContexts t next) (c : ℕ) (expr : 
 
 -- A portal goes, with its context; its owner is left to the deepest level.
 module _ (level : LevelState) (levels done : List LevelState) where
-  gone_owners : (kinds : KindTable) (x : OwnerTree) (a b : ℕ) (p : OpenPortal) (front back : List OpenPortal) → ((n : ℕ) → p.owner ≡ Some n → IsLoose level n x) → AreEnding kinds x a b level levels (front ++ (p ∷ back)) → AreEnding kinds x a b level levels (front ++ back)
+  pub gone_owners : (kinds : KindTable) (x : OwnerTree) (a b : ℕ) (p : OpenPortal) (front back : List OpenPortal) → ((n : ℕ) → p.owner ≡ Some n → IsLoose level n x) → AreEnding kinds x a b level levels (front ++ (p ∷ back)) → AreEnding kinds x a b level levels (front ++ back)
   gone_owners kinds x a b p front back loose h = record {
     sound = h.sound;
     each = λ n u. elim (h.each n u) [

@@ -61,7 +61,7 @@ pub record Leaves (levels : List LevelState) (scene : Scene) : Type 0 where
   pub are : scene.session.levels ≡ levels
 
 -- it is of that form
-is_left : (levels : List LevelState) (scene : Scene) → Leaves levels scene → scene ≡ settled levels scene
+pub is_left : (levels : List LevelState) (scene : Scene) → Leaves levels scene → scene ≡ settled levels scene
 is_left levels scene h = is_settled scene h.between.stands ∙ ap (λ (ls : List LevelState). settled ls scene) h.are
 
 -- tables don't matter, as far as what never changes of kinds is the same
@@ -80,16 +80,16 @@ stands_tabled x s same h = record {
 }
 
 -- without the context of a level, and the shelf then
-abbrev without_context : Option ℕ → Contexts → Contexts
+abbrev pub without_context : Option ℕ → Contexts → Contexts
 without_context None t = t
 without_context (Some n) t = removed n t
 
-abbrev handed_back : Option ℕ → Contexts → ShelfState → ShelfState
+abbrev pub handed_back : Option ℕ → Contexts → ShelfState → ShelfState
 handed_back None t x = x
 handed_back (Some n) t x = handed_in (gone n t).hooks x
 
 -- the deepest level is gone with its context and its owner, and these active snapshots are left
-abbrev popped : Option ℕ → Option ℕ → List LevelState → List Active → Scene → Scene
+abbrev pub popped : Option ℕ → Option ℕ → List LevelState → List Active → Scene → Scene
 popped c o levels stack s = settled levels (record {
   session = record s.session {
     contexts = without_context c s.session.contexts;
@@ -100,29 +100,29 @@ popped c o levels stack s = settled levels (record {
   around = record s.around { shelf = handed_back c s.session.contexts s.around.shelf };
 })
 
-abbrev level_of : Option (List ℕ) → Option ℕ → Option ℕ → Bool → Bool → Bool → LevelState
+abbrev pub level_of : Option (List ℕ) → Option ℕ → Option ℕ → Bool → Bool → Bool → LevelState
 level_of name c o implicit aborted starting =
     record { name = name; context = c; owner = o; implicit = implicit; aborted = aborted; starting = starting }
 
 -- what is left of contexts, hooks and owners stands
-contexts_without : (c : Option ℕ) (t : Contexts) (next : ℕ) (x : ShelfState) → AreContexts t next → AreHooks t x → ((n : ℕ) → c ≡ Some n → abort_context < n)
+pub contexts_without : (c : Option ℕ) (t : Contexts) (next : ℕ) (x : ShelfState) → AreContexts t next → AreHooks t x → ((n : ℕ) → c ≡ Some n → abort_context < n)
     → AreContexts (without_context c t) next × AreHooks (without_context c t) (handed_back c t x)
 contexts_without None t next x h k own = (h, k)
 contexts_without (Some n) t next x h k own = (contexts_level_gone t next h n (own n refl), hooks_ended t (gone n t) x (conserves_gone n t h.once) k)
 
-same_without : (c : Option ℕ) (t : Contexts) (next : ℕ) → AreContexts t next → (m : ℕ) → ((n : ℕ) → c ≡ Some n → (m ≢ n) × (has m (children n t) ≡ false)) → is_protected m t ≡ true
+pub same_without : (c : Option ℕ) (t : Contexts) (next : ℕ) → AreContexts t next → (m : ℕ) → ((n : ℕ) → c ≡ Some n → (m ≢ n) × (has m (children n t) ≡ false)) → is_protected m t ≡ true
     → IsSame m t (without_context c t)
 same_without None t next h m out prot = stay_same t m prot
 same_without (Some n) t next h m out prot = same_removed t next h m n (out n refl) prot
 
-still_without : (o : Option ℕ) (x : OwnerTree) → Once x → (m : ℕ) → ((p : ℕ) → o ≡ Some p → (m ≢ p) × (has m (children p x) ≡ false)) → has m x ≡ true → IsStill m x (without_owner o x)
+pub still_without : (o : Option ℕ) (x : OwnerTree) → Once x → (m : ℕ) → ((p : ℕ) → o ≡ Some p → (m ≢ p) × (has m (children p x) ≡ false)) → has m x ≡ true → IsStill m x (without_owner o x)
 still_without None x once m out there = record { there = there; parent = refl }
 still_without (Some p) x once m out there =
     let w = out p refl in
     record { there = has_left m p x once w.0 w.1 ∙ there; parent = parent_left m p x once w.0 w.1 }
 
 -- the levels that are left
-fits_outer : (levels : List LevelState) (t : Contexts) (x : OwnerTree) → AreOuter levels → FitLevels levels t x (unwrap_or (context_of (first_of levels)) top_context)
+pub fits_outer : (levels : List LevelState) (t : Contexts) (x : OwnerTree) → AreOuter levels → FitLevels levels t x (unwrap_or (context_of (first_of levels)) top_context)
 fits_outer [] t x h = refl
 fits_outer (level ∷ levels) t x h = (
   record {
@@ -138,7 +138,7 @@ fits_outer (level ∷ levels) t x h = (
 )
 
 -- the context of the level above, or the topmost one, is there
-current_above : (levels : List LevelState) (t : Contexts) (x : OwnerTree) (next : ℕ) → AreContexts t next → AreLevels levels t x → AreOuter levels
+pub current_above : (levels : List LevelState) (t : Contexts) (x : OwnerTree) (next : ℕ) → AreContexts t next → AreLevels levels t x → AreOuter levels
     → has (unwrap_or (context_of (first_of levels)) top_context) t ≡ true
 current_above [] t x next h l o = protected_has top_context t (top_protected t next h)
 current_above (level ∷ levels) t x next h l o =
@@ -158,15 +158,15 @@ pub record MayEnd (times : ℕ → ℕ) (level : LevelState) (levels done : List
   pub different : AreDifferent s.session.portals
 
 -- how often plans are referred to without the deepest level's owner
-abbrev left_to_refer : LevelState → Scene → ℕ → ℕ
+abbrev pub left_to_refer : LevelState → Scene → ℕ → ℕ
 left_to_refer level s = referred (without_owner level.owner s.session.owners)
 
-same_count : (o : Option ℕ) (x : OwnerTree) → Once x → ((n : ℕ) → o ≡ Some n → AllAt HoldsNothing n x) → (m : ℕ) → referred x m ≡ referred (without_owner o x) m
+pub same_count : (o : Option ℕ) (x : OwnerTree) → Once x → ((n : ℕ) → o ≡ Some n → AllAt HoldsNothing n x) → (m : ℕ) → referred x m ≡ referred (without_owner o x) m
 same_count None x once idle m = refl
 same_count (Some n) x once idle m = sym (held_removed plan_reference m n x once (idle n refl))
 
 -- the way through the portals begins, and has ended
-begins : (level : LevelState) (levels done : List LevelState) (s : Scene) → Stands (settled (level ∷ levels) s) → Ending level levels done [] s.session.portals s
+pub begins : (level : LevelState) (levels done : List LevelState) (s : Scene) → Stands (settled (level ∷ levels) s) → Ending level levels done [] s.session.portals s
 begins level levels done s h = record {
   contexts = h.contexts;
   hooks = h.hooks;
@@ -182,7 +182,7 @@ begins level levels done s h = record {
 }
 
 -- the levels of the scene don't matter
-resettled : (level : LevelState) (levels done : List LevelState) (front back : List OpenPortal) (s : Scene) → Ending level levels done front back s → Ending level levels done front back (settled (level ∷ levels) s)
+pub resettled : (level : LevelState) (levels done : List LevelState) (front back : List OpenPortal) (s : Scene) → Ending level levels done front back s → Ending level levels done front back (settled (level ∷ levels) s)
 resettled level levels done front back s h = record {
   contexts = h.contexts;
   hooks = h.hooks;
@@ -197,7 +197,7 @@ resettled level levels done front back s h = record {
   are = h.are;
 }
 
-unsettled : (level : LevelState) (levels done : List LevelState) (front back : List OpenPortal) (ls : List LevelState) (s : Scene) → Ending level levels done front back (settled ls s) → Ending level levels done front back s
+pub unsettled : (level : LevelState) (levels done : List LevelState) (front back : List OpenPortal) (ls : List LevelState) (s : Scene) → Ending level levels done front back (settled ls s) → Ending level levels done front back s
 unsettled level levels done front back ls s h = record {
   contexts = h.contexts;
   hooks = h.hooks;
@@ -212,7 +212,7 @@ unsettled level levels done front back ls s h = record {
   are = h.are;
 }
 
-may_end : (level : LevelState) (levels done : List LevelState) (ps : List OpenPortal) (s : Scene) → Ending level levels done ps [] s → MayEnd (referred s.session.owners) level levels done s
+pub may_end : (level : LevelState) (levels done : List LevelState) (ps : List OpenPortal) (s : Scene) → Ending level levels done ps [] s → MayEnd (referred s.session.owners) level levels done s
 may_end level levels done ps s h = record {
   contexts = h.contexts;
   hooks = h.hooks;
@@ -226,7 +226,7 @@ may_end level levels done ps s h = record {
   different = subst AreDifferent (sym h.are) h.different;
 }
 
-idle_ends : (level : LevelState) (levels done : List LevelState) (s : Scene) → ((n : ℕ) → level.owner ≡ Some n → AllAt HoldsNothing n s.session.owners) → MayEnd (referred s.session.owners) level levels done s → MayEnd (left_to_refer level s) level levels done s
+pub idle_ends : (level : LevelState) (levels done : List LevelState) (s : Scene) → ((n : ℕ) → level.owner ≡ Some n → AllAt HoldsNothing n s.session.owners) → MayEnd (referred s.session.owners) level levels done s → MayEnd (left_to_refer level s) level levels done s
 idle_ends level levels done s idle h = record {
   contexts = h.contexts;
   hooks = h.hooks;
@@ -240,7 +240,7 @@ idle_ends level levels done s idle h = record {
   different = h.different;
 }
 
-plans_popped : (level : LevelState) (levels done : List LevelState) (s : Scene) (times : ℕ → ℕ) (c : Option ℕ) → ((n : ℕ) → c ≡ Some n → level.context ≡ Some n) → MayEnd times level levels done s
+pub plans_popped : (level : LevelState) (levels done : List LevelState) (s : Scene) (times : ℕ → ℕ) (c : Option ℕ) → ((n : ℕ) → c ≡ Some n → level.context ≡ Some n) → MayEnd times level levels done s
     → ArePlans s.session.plans (without_context c s.session.contexts) s.session.current times
 plans_popped level levels done s times None is h = h.plans
 plans_popped level levels done s times (Some n) is h =
@@ -250,7 +250,7 @@ plans_popped level levels done s times (Some n) is h =
     h.plans
 
 -- a portal's context where the level's goes
-place_popped : (level : LevelState) (levels : List LevelState) (t : Contexts) (x : OwnerTree) (next current : ℕ) (c : Option ℕ) → ((n : ℕ) → c ≡ Some n → level.context ≡ Some n) → AreContexts t next → AreLevels (level ∷ levels) t x
+pub place_popped : (level : LevelState) (levels : List LevelState) (t : Contexts) (x : OwnerTree) (next current : ℕ) (c : Option ℕ) → ((n : ℕ) → c ≡ Some n → level.context ≡ Some n) → AreContexts t next → AreLevels (level ∷ levels) t x
     → (m : ℕ) (expr : Option ℕ) → IsPlace m expr t current → IsPlace m expr (without_context c t) current
 place_popped level levels t x next current None is h l m expr k = k
 place_popped level levels t x next current (Some n) is h l m expr k =
@@ -264,7 +264,7 @@ place_popped level levels t x next current (Some n) is h l m expr k =
     off_rows (level ∷ levels) t x l n (inl (is n refl)) e m k.own k.parent r.parent (sym z))) k
 
 -- the context of the level above, or the topmost one, becomes the current one
-place_above : (levels : List LevelState) (t : Contexts) (x : OwnerTree) (next : ℕ) → AreContexts t next → AreLevels levels t x → AreOuter levels → (m : ℕ) (expr : Option ℕ) (a : ℕ) → IsPlace m expr t a
+pub place_above : (levels : List LevelState) (t : Contexts) (x : OwnerTree) (next : ℕ) → AreContexts t next → AreLevels levels t x → AreOuter levels → (m : ℕ) (expr : Option ℕ) (a : ℕ) → IsPlace m expr t a
     → IsPlace m expr t (unwrap_or (context_of (first_of levels)) top_context)
 place_above [] t x next h l o m expr a k = place_own t next h top_context (omega arith) (omega arith) m expr a k
 place_above (level ∷ levels) t x next h l o m expr a k =
@@ -272,7 +272,7 @@ place_above (level ∷ levels) t x next h l o m expr a k =
     subst (λ (z : Option ℕ). IsPlace m expr t (unwrap_or z top_context)) (sym c.1) (place_level (level ∷ levels) t x h.once l c.0 (inl c.1) m expr a k)
 
 -- the owner of an outer level
-owner_made : (levels : List LevelState) → AreOuter levels → (k : ℕ) → 1 ≤ k → k ≤ length levels → (q : ℕ) × (owner_at k levels ≡ Some q) × IsOwner q levels
+pub owner_made : (levels : List LevelState) → AreOuter levels → (k : ℕ) → 1 ≤ k → k ≤ length levels → (q : ℕ) × (owner_at k levels ≡ Some q) × IsOwner q levels
 owner_made [] outer k low high = absurd (omega (arith, low, high))
 owner_made (level ∷ levels) outer k low high = elim (cases_Bool (length levels + 1 == k)) [
   | inl y ↦ let o = is_there level.owner outer.0.made.owner in (o.0, rw y o.1, inl o.1)
@@ -282,7 +282,7 @@ owner_made (level ∷ levels) outer k low high = elim (cases_Bool (length levels
       (w.0, rw y w.1, inr w.2)
 ]
 
-outer_live : (p : OpenPortal) (levels : List LevelState) → AreOuter levels → IsLive p levels ⊎ IsDead p levels → IsLive p levels
+pub outer_live : (p : OpenPortal) (levels : List LevelState) → AreOuter levels → IsLive p levels ⊎ IsDead p levels → IsLive p levels
 outer_live p levels outer s = elim s [ inl l ↦ l | inr d ↦ absurd (none levels outer d.aborted) ]
   where
     none : (ls : List LevelState) → AreOuter ls → is_aborted ls ≡ true → ⊥
@@ -290,7 +290,7 @@ outer_live p levels outer s = elim s [ inl l ↦ l | inr d ↦ absurd (none leve
     none (l ∷ ls) o e = both_ways l.aborted o.0.unaborted e
 
 -- a portal's owner where the level's goes
-attached_popped : (level : LevelState) (levels : List LevelState) (t : Contexts) (x : OwnerTree) → Once x → AreLevels (level ∷ levels) t x → AreOuter levels → (p : OpenPortal) → IsLive p levels → IsAway level p → (o : Option ℕ) → level.owner ≡ o
+pub attached_popped : (level : LevelState) (levels : List LevelState) (t : Contexts) (x : OwnerTree) → Once x → AreLevels (level ∷ levels) t x → AreOuter levels → (p : OpenPortal) → IsLive p levels → IsAway level p → (o : Option ℕ) → level.owner ≡ o
     → (n : ℕ) → p.owner ≡ Some n → IsAttached n p.created levels x → IsAttached n p.created levels (without_owner o x)
 attached_popped level levels t x once l outer p live away None e n owned a = a
 attached_popped level levels t x once l outer p live away (Some lo) e n owned a =
@@ -357,17 +357,17 @@ outer_open [] h = tt
 outer_open (level ∷ levels) h = (h.1, outer_open levels h.2)
 
 -- what a cleanup does behind the portals
-abbrev behind_sweep : Scene → Scene
+abbrev pub behind_sweep : Scene → Scene
 behind_sweep z = (in_order (level_owner_gone ∷ switched_up ∷ level_context_gone ∷ level_popped ∷ []) z).scene
 
-sweep_is : (name : Option (List ℕ)) (c o : Option ℕ) (i a b : Bool) (levels : List LevelState) (z : Scene) → behind_sweep (settled (level_of name c o i a b ∷ levels) z) ≡ popped c o levels z.session.snapshots z
+pub sweep_is : (name : Option (List ℕ)) (c o : Option ℕ) (i a b : Bool) (levels : List LevelState) (z : Scene) → behind_sweep (settled (level_of name c o i a b ∷ levels) z) ≡ popped c o levels z.session.snapshots z
 sweep_is name None None i a b levels z = refl
 sweep_is name None (Some p) i a b levels z = refl
 sweep_is name (Some n) None i a b levels z = refl
 sweep_is name (Some n) (Some p) i a b levels z = refl
 
 -- a cleanup leaves owners alone until then
-sweep_owners : (level : LevelState) (levels : List LevelState) (gone : level.aborted ≡ true) (ps : List OpenPortal) (s : Scene) → (for_each (swept_away level levels gone) ps s).scene.session.owners ≡ s.session.owners
+pub sweep_owners : (level : LevelState) (levels : List LevelState) (gone : level.aborted ≡ true) (ps : List OpenPortal) (s : Scene) → (for_each (swept_away level levels gone) ps s).scene.session.owners ≡ s.session.owners
 sweep_owners level levels gone [] s = refl
 sweep_owners level levels gone (p ∷ ps) s = sweep_owners level levels gone ps (swept_away level levels gone p s).scene ∙ one (p.created == length (level ∷ levels)) p.context
   where
@@ -377,7 +377,7 @@ sweep_owners level levels gone (p ∷ ps) s = sweep_owners level levels gone ps 
     one false c = refl
 
 -- and leaves portals at rest
-sweep_rests : (level : LevelState) (levels : List LevelState) (gone : level.aborted ≡ true) (ps : List OpenPortal) (s : Scene) → All IsAtRest s.session.portals → All IsAtRest (for_each (swept_away level levels gone) ps s).scene.session.portals
+pub sweep_rests : (level : LevelState) (levels : List LevelState) (gone : level.aborted ≡ true) (ps : List OpenPortal) (s : Scene) → All IsAtRest s.session.portals → All IsAtRest (for_each (swept_away level levels gone) ps s).scene.session.portals
 sweep_rests level levels gone [] s h = h
 sweep_rests level levels gone (p ∷ ps) s h = sweep_rests level levels gone ps (swept_away level levels gone p s).scene (one (p.created == length (level ∷ levels)) p.context)
   where
@@ -386,7 +386,7 @@ sweep_rests level levels gone (p ∷ ps) s h = sweep_rests level levels gone ps 
     one true (Some n) = rests_but p.name s.session.portals h
     one false c = h
 
-clean_from : (level : LevelState) (levels : List LevelState) (s : Scene) → level.aborted ≡ true → Ending level levels levels [] s.session.portals s → ((n : ℕ) → level.owner ≡ Some n → AllAt HoldsNothing n s.session.owners)
+pub clean_from : (level : LevelState) (levels : List LevelState) (s : Scene) → level.aborted ≡ true → Ending level levels levels [] s.session.portals s → ((n : ℕ) → level.owner ≡ Some n → AllAt HoldsNothing n s.session.owners)
     → AreStacked 1 (active_depth levels) s.session.snapshots → Leaves levels (cleaned_up (settled (level ∷ levels) s)).scene
 clean_from level levels s gone h idle stacked =
     let st : Scene = settled (level ∷ levels) s in
@@ -414,7 +414,7 @@ cleaned_up_stands level levels s aborted h =
     (stacked_above levels (active_depth (level ∷ levels)) s.session.snapshots h.fit.1 (omega (arith, depth_still level levels aborted)) h.snapshots)
 
 -- what a release of an owner, where there is one, leaves
-record HasGiven (o : Option ℕ) (s t : Scene) : Type 0 where
+pub record HasGiven (o : Option ℕ) (s t : Scene) : Type 0 where
   besides : Besides
   same : table_of besides.kinds ≡ table_of s.around.kinds
   owners : OwnerTree
@@ -423,7 +423,7 @@ record HasGiven (o : Option ℕ) (s t : Scene) : Type 0 where
   fits : Fits s.session.next_context s.session.current (referred owners) besides
   spares : Spares (besides_of s) besides
 
-gives : (commit top : Bool) (o : Option ℕ) (s : Scene) → IsSound s.session.owners s.session.next_owner s.session.next_serial → Fits s.session.next_context s.session.current (referred s.session.owners) (besides_of s)
+pub gives : (commit top : Bool) (o : Option ℕ) (s : Scene) → IsSound s.session.owners s.session.next_owner s.session.next_serial → Fits s.session.next_context s.session.current (referred s.session.owners) (besides_of s)
     → HasGiven o s (where_there o (owner_released commit top) s).scene
 gives commit top None s sound fits = record {
   besides = besides_of s;
@@ -438,17 +438,17 @@ gives commit top (Some p) s sound fits =
     let r : HasSettled p s (owner_released commit top p s).scene = release_settles commit top p s s.session.next_serial sound fits in
     record { besides = r.besides; same = r.same; owners = r.owners; left = r.swept; is = r.is; fits = r.fits; spares = r.spares }
 
-without_left : (kinds : KindTable) (o : Option ℕ) (owners now : OwnerTree) → HasLeft kinds o owners now → without_owner o now ≡ without_owner o owners
+pub without_left : (kinds : KindTable) (o : Option ℕ) (owners now : OwnerTree) → HasLeft kinds o owners now → without_owner o now ≡ without_owner o owners
 without_left kinds None owners now left = left
 without_left kinds (Some p) owners now left = ap (removed p) left.is ∙ removed_swept (swept_by kinds) p owners
 
 -- what is left holds no reference
-left_idle : (kinds : KindTable) (o : Option ℕ) (owners now : OwnerTree) → IsSoundTable kinds → HasLeft kinds o owners now → AllNodes (HasItems kinds) owners → (n : ℕ) → o ≡ Some n → AllAt HoldsNothing n now
+pub left_idle : (kinds : KindTable) (o : Option ℕ) (owners now : OwnerTree) → IsSoundTable kinds → HasLeft kinds o owners now → AllNodes (HasItems kinds) owners → (n : ℕ) → o ≡ Some n → AllAt HoldsNothing n now
 left_idle kinds None owners now sound left items n e = absurd (cc e)
 left_idle kinds (Some p) owners now sound left items n e =
     subst (λ (k : ℕ). AllAt HoldsNothing k now) (one_value (Some p) p n refl e) (left_nothing kinds p owners now sound left items)
 
-left_once : (kinds : KindTable) (o : Option ℕ) (owners now : OwnerTree) (a b : ℕ) → HasLeft kinds o owners now → IsSound owners a b → Once now
+pub left_once : (kinds : KindTable) (o : Option ℕ) (owners now : OwnerTree) (a b : ℕ) → HasLeft kinds o owners now → IsSound owners a b → Once now
 left_once kinds None owners now a b left h = subst Once (sym left) (once_of owners a b h)
 left_once kinds (Some p) owners now a b left h = once_of now a b (still_sound kinds p owners now a b left h)
 
@@ -459,7 +459,7 @@ left_count kinds o owners now a b table left items sound m =
     ∙ ap (λ (z : OwnerTree). referred z m) (without_left kinds o owners now left)
 
 -- Behind the release of its owner the deepest level may go.
-released_ends : (level : LevelState) (levels done : List LevelState) (s : Scene) (x : Besides) (now : OwnerTree) → MayEnd (referred s.session.owners) level levels done s → table_of x.kinds ≡ table_of s.around.kinds
+pub released_ends : (level : LevelState) (levels done : List LevelState) (s : Scene) (x : Besides) (now : OwnerTree) → MayEnd (referred s.session.owners) level levels done s → table_of x.kinds ≡ table_of s.around.kinds
     → HasLeft (table_of s.around.kinds) level.owner s.session.owners now → Fits s.session.next_context s.session.current (referred now) x → Spares (besides_of s) x → MayEnd (left_to_refer level s) level levels done (with_besides x s)
 released_ends level levels done s x now h same left fits spares =
     let t : Contexts = s.session.contexts in
@@ -490,27 +490,27 @@ released_ends level levels done s x now h same left fits spares =
       different = h.different;
     }
 
-gives_now : (commit top : Bool) (level : LevelState) (levels done : List LevelState) (s : Scene) → MayEnd (referred s.session.owners) level levels done s → HasGiven level.owner (settled (level ∷ levels) s) (where_there level.owner (owner_released commit top) (settled (level ∷ levels) s)).scene
+pub gives_now : (commit top : Bool) (level : LevelState) (levels done : List LevelState) (s : Scene) → MayEnd (referred s.session.owners) level levels done s → HasGiven level.owner (settled (level ∷ levels) s) (where_there level.owner (owner_released commit top) (settled (level ∷ levels) s)).scene
 gives_now commit top level levels done s h = gives commit top level.owner (settled (level ∷ levels) s) h.owners.sound (record { contexts = h.contexts; hooks = h.hooks; plans = h.plans })
 
 -- the deepest level has its owner where something is active there
-owner_when_active : (level : LevelState) (levels : List LevelState) → (level.starting ≡ false → IsMade level) → length levels + 1 ≤ active_depth (level ∷ levels) → (lo : ℕ) × (level.owner ≡ Some lo)
+pub owner_when_active : (level : LevelState) (levels : List LevelState) → (level.starting ≡ false → IsMade level) → length levels + 1 ≤ active_depth (level ∷ levels) → (lo : ℕ) × (level.owner ≡ Some lo)
 owner_when_active level levels made low = elim (cases_Bool level.starting) [
   | inl y ↦ let few : active_depth (level ∷ levels) ≡ length levels = rw y refl in absurd (omega (arith, low, few))
   | inr y ↦ is_there level.owner (made y).owner
 ]
 
 -- what a commit does behind the release
-abbrev behind_commit : Scene → Scene
+abbrev pub behind_commit : Scene → Scene
 behind_commit z = (in_order (stack_popped 1 ∷ level_owner_gone ∷ switched top_context ∷ level_context_gone ∷ level_popped ∷ []) z).scene
 
-behind_is : (name : Option (List ℕ)) (c o : Option ℕ) (i a b : Bool) (z : Scene) → behind_commit (settled (level_of name c o i a b ∷ []) z) ≡ popped c o [] (kept_below 1 z.session.snapshots) z
+pub behind_is : (name : Option (List ℕ)) (c o : Option ℕ) (i a b : Bool) (z : Scene) → behind_commit (settled (level_of name c o i a b ∷ []) z) ≡ popped c o [] (kept_below 1 z.session.snapshots) z
 behind_is name None None i a b z = refl
 behind_is name None (Some p) i a b z = refl
 behind_is name (Some n) None i a b z = refl
 behind_is name (Some n) (Some p) i a b z = refl
 
-commit_from : (level : LevelState) (s : Scene) → MayEnd (referred s.session.owners) level [] [] s → AreStacked 1 0 (kept_below 1 s.session.snapshots)
+pub commit_from : (level : LevelState) (s : Scene) → MayEnd (referred s.session.owners) level [] [] s → AreStacked 1 0 (kept_below 1 s.session.snapshots)
     → Leaves [] (behind_commit (where_there level.owner (owner_released true true) (settled (level ∷ []) s)).scene)
 commit_from level s h stacked =
     let c : Option ℕ = level.context in
@@ -544,15 +544,15 @@ committed_stands level s h =
     (commit_from level z may (stacked_below 1 1 (active_depth (level ∷ [])) s.session.snapshots h.snapshots))
 
 -- a level is merged into the one above it
-abbrev gone_if : Bool → ℕ → Option ℕ
+abbrev pub gone_if : Bool → ℕ → Option ℕ
 gone_if true n = Some n
 gone_if false n = None
 
-abbrev context_to_go : Option ℕ → Contexts → Option ℕ
+abbrev pub context_to_go : Option ℕ → Contexts → Option ℕ
 context_to_go None t = None
 context_to_go (Some n) t = gone_if (is_empty n t) n
 
-abbrev behind_merge : ℕ → Scene → Scene
+abbrev pub behind_merge : ℕ → Scene → Scene
 behind_merge level z =
     (in_order (
     stack_lowered level
@@ -562,7 +562,7 @@ behind_merge level z =
     ∷ level_popped
     ∷ []) z).scene
 
-merge_context : (b : Bool) (name : Option (List ℕ)) (n : ℕ) (o : Option ℕ) (i a st : Bool) (levels : List LevelState) (z : Scene)
+pub merge_context : (b : Bool) (name : Option (List ℕ)) (n : ℕ) (o : Option ℕ) (i a st : Bool) (levels : List LevelState) (z : Scene)
     → (level_popped (where_so b (context_gone n) (switched_up (level_owner_gone (settled (level_of name (Some n) o i a st ∷ levels) z)).scene).scene).scene).scene ≡ popped (gone_if b n) o levels z.session.snapshots z
 merge_context true name n None i a st levels z = refl
 merge_context true name n (Some p) i a st levels z = refl
@@ -570,17 +570,17 @@ merge_context false name n None i a st levels z = refl
 merge_context false name n (Some p) i a st levels z = refl
 
 -- the scene with the active snapshots of this level in the level above
-abbrev lowered_in : ℕ → Scene → Scene
+abbrev pub lowered_in : ℕ → Scene → Scene
 lowered_in level s = record s { session = record s.session { snapshots = map (lowered level) s.session.snapshots } }
 
-merge_is : (level : ℕ) (name : Option (List ℕ)) (c o : Option ℕ) (i a st : Bool) (levels : List LevelState) (z : Scene)
+pub merge_is : (level : ℕ) (name : Option (List ℕ)) (c o : Option ℕ) (i a st : Bool) (levels : List LevelState) (z : Scene)
     → behind_merge level (settled (level_of name c o i a st ∷ levels) z) ≡ popped (context_to_go c z.session.contexts) o levels (map (lowered level) z.session.snapshots) z
 merge_is level name None None i a st levels z = refl
 merge_is level name None (Some p) i a st levels z = refl
 merge_is level name (Some n) None i a st levels z = merge_context (is_empty n z.session.contexts) name n None i a st levels (lowered_in level z)
 merge_is level name (Some n) (Some p) i a st levels z = merge_context (is_empty n z.session.contexts) name n (Some p) i a st levels (lowered_in level z)
 
-context_to_go_is : (c : Option ℕ) (t : Contexts) (n : ℕ) → context_to_go c t ≡ Some n → c ≡ Some n
+pub context_to_go_is : (c : Option ℕ) (t : Contexts) (n : ℕ) → context_to_go c t ≡ Some n → c ≡ Some n
 context_to_go_is None t n e = absurd (cc e)
 context_to_go_is (Some m) t n e = go (is_empty m t) e
   where
@@ -594,7 +594,7 @@ pub record Merges (levels : List LevelState) (s z : Scene) : Type 0 where
   pub are : z.session.levels ≡ levels
   pub at_rest : All IsAtRest s.session.portals → All IsAtRest z.session.portals
 
-merge_from : (level : LevelState) (levels : List LevelState) (s : Scene) → MayEnd (referred s.session.owners) level levels levels s → AreStacked 1 (active_depth levels) (map (lowered (length (level ∷ levels))) s.session.snapshots)
+pub merge_from : (level : LevelState) (levels : List LevelState) (s : Scene) → MayEnd (referred s.session.owners) level levels levels s → AreStacked 1 (active_depth levels) (map (lowered (length (level ∷ levels))) s.session.snapshots)
     → Merges levels s (behind_merge (length (level ∷ levels)) (where_there level.owner (owner_released true false) (settled (level ∷ levels) s)).scene)
 merge_from level levels s h stacked =
     let n : ℕ = length (level ∷ levels) in
@@ -614,7 +614,7 @@ merge_from level levels s h stacked =
     })
 
 -- portals that pass stay at rest
-passes_rest : (n : ℕ) (above : Option ℕ) (ps : List OpenPortal) (s : Scene) → All IsAtRest s.session.portals → All IsAtRest (for_each (portal_passed n above) ps s).scene.session.portals
+pub passes_rest : (n : ℕ) (above : Option ℕ) (ps : List OpenPortal) (s : Scene) → All IsAtRest s.session.portals → All IsAtRest (for_each (portal_passed n above) ps s).scene.session.portals
 passes_rest n above [] s h = h
 passes_rest n above (p ∷ ps) s h = passes_rest n above ps (portal_passed n above p s).scene (one (p.created == n) p.owner above)
   where
@@ -657,25 +657,25 @@ subcommitted_leaves level levels s some at_rest h =
     }
 
 -- the deepest level is aborted, with these owners left
-abbrev shut : LevelState → List LevelState → OwnerTree → Scene → Scene
+abbrev pub shut : LevelState → List LevelState → OwnerTree → Scene → Scene
 shut level levels owners s =
     settled (record level { aborted = true } ∷ levels)
     (record s { session = record s.session { owners = owners; current = abort_context; snapshots = kept_below (length (level ∷ levels)) s.session.snapshots } })
 
-shut_stacked : (level : LevelState) (levels : List LevelState) (most : ℕ) (stack : List Active) → AreStacked 1 most stack → AreStacked 1 (active_depth (record level { aborted = true } ∷ levels)) (kept_below (length (level ∷ levels)) stack)
+pub shut_stacked : (level : LevelState) (levels : List LevelState) (most : ℕ) (stack : List Active) → AreStacked 1 most stack → AreStacked 1 (active_depth (record level { aborted = true } ∷ levels)) (kept_below (length (level ∷ levels)) stack)
 shut_stacked level levels most stack h =
     let n : ℕ = length (level ∷ levels) in
     stacked_within 1 (active_depth (record level { aborted = true } ∷ levels)) 1 (n - 1) (kept_below n stack) (omega arith) (omega (arith, depth_still (record level { aborted = true }) levels refl))
     (stacked_below n 1 most stack h)
 
-abbrev behind_abort : ℕ → Scene → Scene
+abbrev pub behind_abort : ℕ → Scene → Scene
 behind_abort n z = (in_order (stack_popped n ∷ changes (λ session. record session { levels = deepest_changed (λ old. record old { aborted = true }) session.levels }) ∷ []) z).scene
 
 -- the scene with the context for that as the current one
-abbrev switched_off : Scene → Scene
+abbrev pub switched_off : Scene → Scene
 switched_off s = record s { session = record s.session { current = abort_context } }
 
-off_begins : (level : LevelState) (levels done : List LevelState) (s : Scene) → Stands (settled (level ∷ levels) s) → Ending level levels done [] s.session.portals (switched_off s)
+pub off_begins : (level : LevelState) (levels done : List LevelState) (s : Scene) → Stands (settled (level ∷ levels) s) → Ending level levels done [] s.session.portals (switched_off s)
 off_begins level levels done s h =
     let e : Ending level levels done [] s.session.portals s = begins level levels done s h in
     let t : Contexts = s.session.contexts in
@@ -699,12 +699,12 @@ off_begins level levels done s h =
       are = refl;
     }
 
-left_lone : (kinds : KindTable) (o : Option ℕ) (owners now : OwnerTree) → HasLeft kinds o owners now → (n : ℕ) → children n owners ≡ Empty → children n now ≡ Empty
+pub left_lone : (kinds : KindTable) (o : Option ℕ) (owners now : OwnerTree) → HasLeft kinds o owners now → (n : ℕ) → children n owners ≡ Empty → children n now ≡ Empty
 left_lone kinds None owners now left n e = ap (children n) left ∙ e
 left_lone kinds (Some p) owners now left n e = ap (children n) left.is ∙ lone_swept n p (swept_by kinds) owners e
 
 -- what an abort leaves, in parts
-record Shut (level : LevelState) (levels : List LevelState) (s : Scene) : Type 0 where
+pub record Shut (level : LevelState) (levels : List LevelState) (s : Scene) : Type 0 where
   contexts : AreContexts s.session.contexts s.session.next_context
   hooks : AreHooks s.session.contexts s.around.shelf
   all : AreLevels (level ∷ levels) s.session.contexts s.session.owners
@@ -716,12 +716,12 @@ record Shut (level : LevelState) (levels : List LevelState) (s : Scene) : Type 0
   idle : (n : ℕ) → level.owner ≡ Some n → AllAt HoldsNothing n s.session.owners
 
 -- the deepest level aborts: its scene is that with these owners and this besides
-record HasShut (level : LevelState) (levels : List LevelState) (s t : Scene) : Type 0 where
+pub record HasShut (level : LevelState) (levels : List LevelState) (s t : Scene) : Type 0 where
   parts : Parts
   is : t ≡ shut level levels parts.owners (with_parts parts s)
   shut_is : Shut level levels (with_parts parts s)
 
-shut_from : (level : LevelState) (levels : List LevelState) (s : Scene) (x : Besides) (now : OwnerTree) → MayEnd (referred s.session.owners) level levels (gone_levels level levels) (switched_off s) → table_of x.kinds ≡ table_of s.around.kinds
+pub shut_from : (level : LevelState) (levels : List LevelState) (s : Scene) (x : Besides) (now : OwnerTree) → MayEnd (referred s.session.owners) level levels (gone_levels level levels) (switched_off s) → table_of x.kinds ≡ table_of s.around.kinds
     → HasLeft (table_of s.around.kinds) level.owner s.session.owners now → Fits s.session.next_context abort_context (referred now) x → Spares (besides_of s) x → Shut level levels (with_owners now (with_besides x s))
 shut_from level levels s x now h same left fits spares =
     let t : Contexts = s.session.contexts in
@@ -755,7 +755,7 @@ shut_from level levels s x now h same left fits spares =
       idle = left_idle kinds level.owner old now h.kinds left h.owners.items;
     }
 
-aborted_is : (level : LevelState) (levels : List LevelState) (s : Scene) → Stands (settled (level ∷ levels) s) → HasShut level levels s (aborted (settled (level ∷ levels) s)).scene
+pub aborted_is : (level : LevelState) (levels : List LevelState) (s : Scene) → Stands (settled (level ∷ levels) s) → HasShut level levels s (aborted (settled (level ∷ levels) s)).scene
 aborted_is level levels s h =
     let n : ℕ = length (level ∷ levels) in
     let st : Scene = settled (level ∷ levels) (switched_off s) in
@@ -772,7 +772,7 @@ aborted_is level levels s h =
       shut_is = shut_from level levels z g.besides g.owners may g.same g.left g.fits g.spares;
     }
 
-shut_stands : (level : LevelState) (levels : List LevelState) (s z : Scene) → IsOpen level → (a : HasShut level levels s z) → Stands (settled (level ∷ levels) s)
+pub shut_stands : (level : LevelState) (levels : List LevelState) (s z : Scene) → IsOpen level → (a : HasShut level levels s z) → Stands (settled (level ∷ levels) s)
     → Stands (shut level levels a.parts.owners (with_parts a.parts s))
 shut_stands level levels s z open_level a h =
     let c : Shut level levels (with_parts a.parts s) = a.shut_is in
@@ -817,7 +817,7 @@ aborted_stands level levels s active open_level h =
     })
 
 -- what an abort leaves of the stack fits the levels above
-away_stacked : (level : LevelState) (levels : List LevelState) (most : ℕ) (stack : List Active) → AreOuter levels → AreStacked 1 most stack → AreStacked 1 (active_depth levels) (kept_below (length (level ∷ levels)) stack)
+pub away_stacked : (level : LevelState) (levels : List LevelState) (most : ℕ) (stack : List Active) → AreOuter levels → AreStacked 1 most stack → AreStacked 1 (active_depth levels) (kept_below (length (level ∷ levels)) stack)
 away_stacked level levels most stack outer h =
     let n : ℕ = length (level ∷ levels) in
     stacked_above levels (n - 1) (kept_below n stack) outer (omega arith) (stacked_below n 1 most stack h)
@@ -846,7 +846,7 @@ away_stands level levels s h =
     (clean_from old levels z refl e c.idle (away_stacked level levels (active_depth (level ∷ levels)) s.session.snapshots h.fit.1 h.snapshots))
 
 -- a level is rolled back
-rolled_stands : (level : LevelState) (levels : List LevelState) (s : Scene) → Stands (settled (level ∷ levels) s) → Leaves levels (level_rolled_back level (settled (level ∷ levels) s)).scene
+pub rolled_stands : (level : LevelState) (levels : List LevelState) (s : Scene) → Stands (settled (level ∷ levels) s) → Leaves levels (level_rolled_back level (settled (level ∷ levels) s)).scene
 rolled_stands level levels s h = go level.aborted refl
   where
     go : (b : Bool) → level.aborted ≡ b → Leaves levels (cleaned_up (where_so (not b) aborted (settled (level ∷ levels) s)).scene).scene
@@ -854,13 +854,13 @@ rolled_stands level levels s h = go level.aborted refl
     go false e = away_stands level levels s h
 
 -- a level that was being started goes, and the one above it is aborted
-above_aborted : (levels : List LevelState) (s : Scene) → Leaves levels s → AreOuter levels → StandsBetweenLines (where_there (first_of levels) (λ above. aborted) s).scene
+pub above_aborted : (levels : List LevelState) (s : Scene) → Leaves levels s → AreOuter levels → StandsBetweenLines (where_there (first_of levels) (λ above. aborted) s).scene
 above_aborted [] s h o = h.between
 above_aborted (level ∷ levels) s h o =
     let is : s ≡ settled (level ∷ levels) s = is_left (level ∷ levels) s h in
     subst (λ (z : Scene). StandsBetweenLines (aborted z).scene) (sym is) (aborted_stands level levels s o.0.unaborted o.1 (subst Stands is h.between.stands)).between
 
-given_up_stands : (level : LevelState) (levels : List LevelState) (s : Scene) (b i : Bool) → level.starting ≡ b → level.implicit ≡ i → level.aborted ≡ false → Stands (settled (level ∷ levels) s)
+pub given_up_stands : (level : LevelState) (levels : List LevelState) (s : Scene) (b i : Bool) → level.starting ≡ b → level.implicit ≡ i → level.aborted ≡ false → Stands (settled (level ∷ levels) s)
     → StandsBetweenLines (elim b as (λ _. Ended) [
       | true ↦ in_order (level_rolled_back level ∷ where_there (first_of levels) (λ above. aborted) ∷ []) (settled (level ∷ levels) s)
       | false ↦ elim i as (λ _. Ended) [ true ↦ level_rolled_back level (settled (level ∷ levels) s) | false ↦ aborted (settled (level ∷ levels) s) ]
@@ -869,7 +869,7 @@ given_up_stands level levels s true i e q active h = above_aborted levels (level
 given_up_stands level levels s false true e q active h = (rolled_stands level levels s h).between
 given_up_stands level levels s false false e q active h = (aborted_stands level levels s active (record { started = e; block = q }) h).between
 
-recovered_settled : (error : Error) (levels : List LevelState) (s : Scene) → Stands (settled levels s) → StandsBetweenLines (recovered error (settled levels s)).scene
+pub recovered_settled : (error : Error) (levels : List LevelState) (s : Scene) → Stands (settled levels s) → StandsBetweenLines (recovered error (settled levels s)).scene
 unfolding recovered
 recovered_settled error [] s h = record { stands = h; open_levels = tt; at_rest = all_rest_outside s.session.portals s.session.contexts s.session.owners s.session.current h.portals.each }
 recovered_settled error (level ∷ levels) s h = go level.aborted refl
@@ -887,12 +887,12 @@ pub recovered_stands : (error : Error) (scene : Scene) → Stands scene → Stan
 recovered_stands error scene h = at_settled (λ (z : Scene). StandsBetweenLines (recovered error z).scene) (recovered_settled error) scene h
 
 -- All levels are rolled back.
-record HasRolled (levels : List LevelState) (s : Scene) : Type 0 where
+pub record HasRolled (levels : List LevelState) (s : Scene) : Type 0 where
   left : Scene
   stands : Stands (settled [] left)
   is : (for_each level_rolled_back levels (settled levels s)).scene ≡ settled [] left
 
-all_rolled : (levels : List LevelState) (s : Scene) → Stands (settled levels s) → HasRolled levels s
+pub all_rolled : (levels : List LevelState) (s : Scene) → Stands (settled levels s) → HasRolled levels s
 all_rolled [] s h = record { left = s; stands = h; is = refl }
 all_rolled (level ∷ levels) s h =
     let next : Scene = (level_rolled_back level (settled (level ∷ levels) s)).scene in
@@ -905,7 +905,7 @@ all_rolled (level ∷ levels) s h =
       is = ap (λ (z : Scene). (for_each level_rolled_back levels z).scene) is ∙ rest.is;
     }
 
-no_nodes : {A : Type 0} (t : Forest A) → ((n : ℕ) → has n t ≡ true → ⊥) → t ≡ Empty
+pub no_nodes : {A : Type 0} (t : Forest A) → ((n : ℕ) → has n t ≡ true → ⊥) → t ≡ Empty
 no_nodes Empty h = refl
 no_nodes (Node k a below beside) h = absurd (h k (rw (eq-eqb k k refl) refl))
 
@@ -920,10 +920,10 @@ no_owners s h = no_nodes s.session.owners (λ n u. elim (h.owners.each n u) [ in
     none [] all n i = i
     none (p ∷ ps) all n i = unmade p (All-head (λ p. IsPortal p [] s.session.contexts s.session.owners s.session.current) p ps all)
 
-abbrev behind_rollback : Scene → Scene
+abbrev pub behind_rollback : Scene → Scene
 behind_rollback z = (in_order (switched top_context ∷ context_gone top_context ∷ []) z).scene
 
-exited_left : (left : Scene) → Stands (settled [] left) → HasExited (behind_rollback (settled [] left))
+pub exited_left : (left : Scene) → Stands (settled [] left) → HasExited (behind_rollback (settled [] left))
 exited_left left h = record {
   levels = refl;
   contexts = nothing_left left.session.contexts left.session.next_context h.contexts;
@@ -934,7 +934,7 @@ exited_left left h = record {
       (hooks_ended left.session.contexts (gone top_context left.session.contexts) left.around.shelf (conserves_gone top_context left.session.contexts h.contexts.once) h.hooks);
 }
 
-exited_settled : (levels : List LevelState) (s : Scene) → Stands (settled levels s) → HasExited (exited (settled levels s)).scene
+pub exited_settled : (levels : List LevelState) (s : Scene) → Stands (settled levels s) → HasExited (exited (settled levels s)).scene
 unfolding exited
 exited_settled levels s h =
     let r : HasRolled levels s = all_rolled levels s h in

@@ -37,41 +37,41 @@ use Rattle.session_rules.proofs.Moving.{HasMoved, has_moved, loose_moved}
 use Rattle.session_rules.proofs.Passing.{IsBounded, bounded, levels_moved, plans_owner_moved, portal_moved}
 
 module _ (level : LevelState) (levels : List LevelState) where
-  abbrev deep : ℕ
+  abbrev pub deep : ℕ
   deep = length (level ∷ levels)
 
   abbrev pub gone_levels : List LevelState
   gone_levels = record level { aborted = true } ∷ levels
 
   -- the owners of levels are those that they were
-  at_gone : (k : ℕ) → owner_at k gone_levels ≡ owner_at k (level ∷ levels)
+  pub at_gone : (k : ℕ) → owner_at k gone_levels ≡ owner_at k (level ∷ levels)
   at_gone k = refl
 
-  still_owner : (n : ℕ) → IsOwner n gone_levels → IsOwner n (level ∷ levels)
+  pub still_owner : (n : ℕ) → IsOwner n gone_levels → IsOwner n (level ∷ levels)
   still_owner n i = elim i [ inl e ↦ inl e | inr j ↦ inr j ]
 
-  attached_gone : (n k : ℕ) (x : OwnerTree) → IsAttached n k (level ∷ levels) x → IsAttached n k gone_levels x
+  pub attached_gone : (n k : ℕ) (x : OwnerTree) → IsAttached n k (level ∷ levels) x → IsAttached n k gone_levels x
   attached_gone n k x a = attached_by n k (level ∷ levels) gone_levels x x (λ w. w) refl (λ w. w) refl (still_owner n) a
 
-  gone_depth : active_depth gone_levels ≡ length levels
+  pub gone_depth : active_depth gone_levels ≡ length levels
   gone_depth = depth_still (record level { aborted = true }) levels refl
 
   -- the deepest level has an owner where something is active there
   module _ (made : active_depth (level ∷ levels) ≡ deep → (lo : ℕ) × (level.owner ≡ Some lo)) where
-    owned : (p : OpenPortal) → IsLive p (level ∷ levels) → deep ≤ p.active → (lo : ℕ) × (level.owner ≡ Some lo)
+    pub owned : (p : OpenPortal) → IsLive p (level ∷ levels) → deep ≤ p.active → (lo : ℕ) × (level.owner ≡ Some lo)
     owned p l low = made (omega (arith, l.active, low, depth_small (level ∷ levels)))
 
-    abbrev failed : OpenPortal → OpenPortal
+    abbrev pub failed : OpenPortal → OpenPortal
     failed old = record old { state = portal.Failed; owner = None; expr = None }
 
-    changes_failed : (p : OpenPortal) → Changes p (failed p)
+    pub changes_failed : (p : OpenPortal) → Changes p (failed p)
     changes_failed p = record { name = refl; context = λ n e. e; owner = λ n e. absurd (cc e) }
 
-    failed_stage : (p : OpenPortal) → p.created ≡ deep → IsBounded p deep → IsDead (failed p) gone_levels
+    pub failed_stage : (p : OpenPortal) → p.created ≡ deep → IsBounded p deep → IsDead (failed p) gone_levels
     failed_stage p e b = record { aborted = refl; created = e; within = b.within; active = b.active; failed = refl; owner = refl; expr = refl }
 
     -- what owned a portal of the level is left to it
-    failed_owners : (p : OpenPortal) (front back : List OpenPortal) (s : Scene) → Ending level levels gone_levels front (p ∷ back) s → p.created ≡ deep
+    pub failed_owners : (p : OpenPortal) (front back : List OpenPortal) (s : Scene) → Ending level levels gone_levels front (p ∷ back) s → p.created ≡ deep
         → AreEnding (table_of s.around.kinds) s.session.owners s.session.next_owner s.session.next_serial level levels (front ++ (failed p ∷ back))
     failed_owners p front back s h e =
         let i = first_of_rest level levels gone_levels p front back s h in
@@ -97,7 +97,7 @@ module _ (level : LevelState) (levels : List LevelState) where
           items = h.owners.items;
         }
 
-    failed_leads : (p : OpenPortal) (front back : List OpenPortal) (s : Scene) → Ending level levels gone_levels front (p ∷ back) s → p.created ≡ deep → Leads level levels gone_levels back s (portal_failed p s).scene
+    pub failed_leads : (p : OpenPortal) (front back : List OpenPortal) (s : Scene) → Ending level levels gone_levels front (p ∷ back) s → p.created ≡ deep → Leads level levels gone_levels back s (portal_failed p s).scene
     failed_leads p front back s h e = go p.context refl
       where
         portals : List OpenPortal
@@ -180,18 +180,18 @@ module _ (level : LevelState) (levels : List LevelState) where
             }
 
     -- A portal from further out is withdrawn from the level.
-    abbrev drawn : Bool → OpenPortal → OpenPortal
+    abbrev pub drawn : Bool → OpenPortal → OpenPortal
     drawn b old = record old { active = deep - 1; owner = if b then None else old.owner }
 
-    drawn_owner : (b : Bool) (p : OpenPortal) (n : ℕ) → (if b then None else p.owner) ≡ Some n → p.owner ≡ Some n
+    pub drawn_owner : (b : Bool) (p : OpenPortal) (n : ℕ) → (if b then None else p.owner) ≡ Some n → p.owner ≡ Some n
     drawn_owner true p n e = absurd (cc e)
     drawn_owner false p n e = e
 
-    changes_drawn : (b : Bool) (p : OpenPortal) → Changes p (drawn b p)
+    pub changes_drawn : (b : Bool) (p : OpenPortal) → Changes p (drawn b p)
     changes_drawn b p = record { name = refl; context = λ n e. e; owner = λ n e. drawn_owner b p n e }
 
     -- it is at rest then: where it has failed it has no owner, and it isn't new
-    drawn_rests : (b : Bool) (p : OpenPortal) → has_failed p.state ≡ b → IsLive p (level ∷ levels) → p.created ≢ deep → IsAtRest (drawn b p)
+    pub drawn_rests : (b : Bool) (p : OpenPortal) → has_failed p.state ≡ b → IsLive p (level ∷ levels) → p.created ≢ deep → IsAtRest (drawn b p)
     drawn_rests true p e l ne = λ _. refl
     drawn_rests false p e l ne = elim l.line [ inl r ↦ r | inr a ↦ λ unready. absurd (ne (a.1 (is_new p.state e unready))) ]
       where
@@ -200,24 +200,24 @@ module _ (level : LevelState) (levels : List LevelState) where
         is_new portal.Ready e unready = absurd (cc unready)
         is_new portal.Failed e unready = absurd (cc e)
 
-    drawn_live : (b : Bool) (p : OpenPortal) → has_failed p.state ≡ b → IsLive p (level ∷ levels) → p.created ≢ deep → IsLive (drawn b p) gone_levels
+    pub drawn_live : (b : Bool) (p : OpenPortal) → has_failed p.state ≡ b → IsLive p (level ∷ levels) → p.created ≢ deep → IsLive (drawn b p) gone_levels
     drawn_live b p e l ne =
         let few : active_depth (level ∷ levels) ≤ deep = depth_small (level ∷ levels) in
         record { some = l.some; within = omega (arith, l.within, l.active, few, ne); active = omega (arith, gone_depth); line = inl (drawn_rests b p e l ne) }
 
-    live : (p : OpenPortal) (t : Contexts) (x : OwnerTree) (current : ℕ) → IsPortal p (level ∷ levels) t x current → p.created ≢ deep → IsLive p (level ∷ levels)
+    pub live : (p : OpenPortal) (t : Contexts) (x : OwnerTree) (current : ℕ) → IsPortal p (level ∷ levels) t x current → p.created ≢ deep → IsLive p (level ∷ levels)
     live p t x current i ne = elim i.stage [ inl l ↦ l | inr d ↦ absurd (ne d.created) ]
 
-    abbrev withdraws : OpenPortal → OpenPortal
+    abbrev pub withdraws : OpenPortal → OpenPortal
     withdraws old = record old { active = deep - 1; owner = if has_failed old.state then None else old.owner }
 
-    drawn_in : (p : OpenPortal) (b : Bool) → has_failed p.state ≡ b → (front back : List OpenPortal) (s : Scene) → Ending level levels gone_levels front (p ∷ back) s
+    pub drawn_in : (p : OpenPortal) (b : Bool) → has_failed p.state ≡ b → (front back : List OpenPortal) (s : Scene) → Ending level levels gone_levels front (p ∷ back) s
         → portal_changed p.name withdraws s.session.portals ≡ front ++ (drawn b p ∷ back)
     drawn_in p b e front back s h =
         ap (portal_changed p.name withdraws) h.are ∙ changed_one p withdraws front back h.different ∙ ap (λ (c : Bool). front ++ (drawn c p ∷ back)) e
 
     -- it keeps its owner, or has none
-    draws : (p : OpenPortal) (b : Bool) (front back : List OpenPortal) (s : Scene) → Ending level levels gone_levels front (p ∷ back) s → p.created ≢ deep → has_failed p.state ≡ b → (b ≡ true → p.owner ≡ None)
+    pub draws : (p : OpenPortal) (b : Bool) (front back : List OpenPortal) (s : Scene) → Ending level levels gone_levels front (p ∷ back) s → p.created ≢ deep → has_failed p.state ≡ b → (b ≡ true → p.owner ≡ None)
         → Leads level levels gone_levels back s (portal_becomes p.name withdraws s).scene
     draws p b front back s h ne e none =
         let i = first_of_rest level levels gone_levels p front back s h in
@@ -261,7 +261,7 @@ module _ (level : LevelState) (levels : List LevelState) where
         keep false none n f = f
 
     -- its owner moves to the level's
-    moves_down : (p : OpenPortal) (front back : List OpenPortal) (s : Scene) (o lo : ℕ) → Ending level levels gone_levels front (p ∷ back) s → p.created ≢ deep → has_failed p.state ≡ true → p.owner ≡ Some o → level.owner ≡ Some lo → deep ≤ p.active
+    pub moves_down : (p : OpenPortal) (front back : List OpenPortal) (s : Scene) (o lo : ℕ) → Ending level levels gone_levels front (p ∷ back) s → p.created ≢ deep → has_failed p.state ≡ true → p.owner ≡ Some o → level.owner ≡ Some lo → deep ≤ p.active
         → Leads level levels gone_levels back s (in_order (owner_moved o lo ∷ portal_becomes p.name withdraws ∷ []) s).scene
     moves_down p front back s o lo h ne e owned is_lo low =
         let i = first_of_rest level levels gone_levels p front back s h in
@@ -321,7 +321,7 @@ module _ (level : LevelState) (levels : List LevelState) where
           };
         }
 
-    aborted_leads : (p : OpenPortal) (front back : List OpenPortal) (s : Scene) → Ending level levels gone_levels front (p ∷ back) s → Leads level levels gone_levels back s (portal_aborted deep level.owner p s).scene
+    pub aborted_leads : (p : OpenPortal) (front back : List OpenPortal) (s : Scene) → Ending level levels gone_levels front (p ∷ back) s → Leads level levels gone_levels back s (portal_aborted deep level.owner p s).scene
     aborted_leads p front back s h = by_created (p.created == deep) refl
       where
         by_lo : (o : ℕ) → p.created ≢ deep → has_failed p.state ≡ true → p.owner ≡ Some o → deep ≤ p.active → (lo : ℕ) → level.owner ≡ Some lo

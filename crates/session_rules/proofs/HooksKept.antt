@@ -28,17 +28,17 @@ pub times_append : (w : ℕ) (xs ys : List Hook) → word_times w (xs ++ ys) ≡
 times_append w [] ys = omega arith
 times_append w (x ∷ xs) ys = omega (arith, times_append w xs ys)
 
-times_ran : (w : ℕ) (hs : List Hook) → word_times w (map ran hs) ≡ word_times w hs
+pub times_ran : (w : ℕ) (hs : List Hook) → word_times w (map ran hs) ≡ word_times w hs
 times_ran w [] = refl
 times_ran w (h ∷ hs) = omega (arith, times_ran w hs)
 
-lacks_times : (w : ℕ) (hs : List Hook) → Lacks hs w → word_times w hs ≡ 0
+pub lacks_times : (w : ℕ) (hs : List Hook) → Lacks hs w → word_times w hs ≡ 0
 lacks_times w [] h = refl
 lacks_times w (x ∷ xs) h =
     let ne : x.word ≢ w = All-head (λ (other : Hook). other.word ≢ w) x xs h in
     rw (ne_eqb x.word w ne) (omega (arith, lacks_times w xs (All-tail (λ (other : Hook). other.word ≢ w) x xs h)))
 
-times_lacks : (w : ℕ) (hs : List Hook) → word_times w hs ≡ 0 → Lacks hs w
+pub times_lacks : (w : ℕ) (hs : List Hook) → word_times w hs ≡ 0 → Lacks hs w
 times_lacks w [] h = All-nil (λ (other : Hook). other.word ≢ w)
 times_lacks w (x ∷ xs) h =
     elim (cases_eq x.word w) [
@@ -71,7 +71,7 @@ words_of w c = word_times w c.hooks
 abbrev pub many_of : Context → ℕ
 many_of c = length c.hooks
 
-waiting_words : (w : ℕ) (t : Contexts) → word_times w (waiting t) ≡ sum_of (words_of w) t
+pub waiting_words : (w : ℕ) (t : Contexts) → word_times w (waiting t) ≡ sum_of (words_of w) t
 waiting_words w Empty = refl
 waiting_words w (Node n c below beside) =
     omega (
@@ -82,7 +82,7 @@ waiting_words w (Node n c below beside) =
       waiting_words w beside,
     )
 
-waiting_many : (t : Contexts) → length (waiting t) ≡ sum_of many_of t
+pub waiting_many : (t : Contexts) → length (waiting t) ≡ sum_of many_of t
 waiting_many Empty = refl
 waiting_many (Node n c below beside) =
     omega (
@@ -143,7 +143,7 @@ conserves_children n t o = record {
   many = omega (arith, sum_emptied many_of n t o, waiting_many (children n t));
 }
 
-conserves_nothing : (t : Contexts) → Conserves t (ends.unchanged t)
+pub conserves_nothing : (t : Contexts) → Conserves t (ends.unchanged t)
 conserves_nothing t = record { words = λ w. omega arith; many = omega arith }
 
 pub conserves_alone : (n : ℕ) (t : Contexts) → Once t → Conserves t (cleared_alone n t)
@@ -160,7 +160,7 @@ conserves_alone n t o = go (at n t) refl
     go None e = conserves_nothing t
     go (Some c) e = by_use c c.used e refl
 
-conserves_both : (t : Contexts) (a b : Ended) → Conserves t a → Conserves a.contexts b → Conserves t (ends.and_then a b)
+pub conserves_both : (t : Contexts) (a b : Ended) → Conserves t a → Conserves a.contexts b → Conserves t (ends.and_then a b)
 conserves_both t a b x y = record {
   words = λ w. omega (arith, x.words w, y.words w, times_append w a.hooks b.hooks);
   many = omega (arith, x.many, y.many, length-append a.hooks b.hooks);

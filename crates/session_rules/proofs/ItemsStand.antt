@@ -55,7 +55,7 @@ use Rattle.session_rules.proofs.StepsStand.{IsWorking, Works, fallible_keeps, fi
 use Rattle.session_rules.proofs.NamesStand.{at_name}
 
 -- The items of one owner change, and each is of a known kind; plans, their contexts and tables change with them.
-items_step : (s : Scene) (n serial : ℕ) (f : Owner → Owner) (x : Besides) → Stands s → IsWorking s.session.levels → ((o : Owner) → (f o).begun ≡ o.begun) → ((o : Owner) → HasItems (table_of s.around.kinds) o → HasItems (table_of s.around.kinds) (f o))
+pub items_step : (s : Scene) (n serial : ℕ) (f : Owner → Owner) (x : Besides) → Stands s → IsWorking s.session.levels → ((o : Owner) → (f o).begun ≡ o.begun) → ((o : Owner) → HasItems (table_of s.around.kinds) o → HasItems (table_of s.around.kinds) (f o))
     → IsSound (changed n f s.session.owners) s.session.next_owner serial → table_of x.kinds ≡ table_of s.around.kinds
     → Fits s.session.next_context s.session.current (referred (changed n f s.session.owners)) x → Spares (besides_of s) x
     → Stands (with_besides x (record s { session = record s.session { owners = changed n f s.session.owners; next_serial = serial } }))
@@ -94,11 +94,11 @@ items_step s n serial f x h working begun known sound same fits spares =
     }
 
 -- the numbers of an owner that is there
-once_now : (s : Scene) → Stands s → Once s.session.owners
+pub once_now : (s : Scene) → Stands s → Once s.session.owners
 once_now s h = once_of s.session.owners s.session.next_owner s.session.next_serial h.owners.sound
 
 -- An item is remembered by an owner that is there.
-take_step : (s : Scene) (n : ℕ) (kind : KindId) (key : ℕ) (x : Besides) → Stands s → IsWorking s.session.levels → has n s.session.owners ≡ true → ((serial : ℕ) → IsItem (table_of s.around.kinds) (record { kind = kind; key = key; serial = serial }))
+pub take_step : (s : Scene) (n : ℕ) (kind : KindId) (key : ℕ) (x : Besides) → Stands s → IsWorking s.session.levels → has n s.session.owners ≡ true → ((serial : ℕ) → IsItem (table_of s.around.kinds) (record { kind = kind; key = key; serial = serial }))
     → table_of x.kinds ≡ table_of s.around.kinds → Fits s.session.next_context s.session.current (referred (remembered n (record { kind = kind; key = key; serial = s.session.next_serial }) s.session.owners)) x → Spares (besides_of s) x
     → Stands (remembers n kind key (with_besides x s)).scene
 take_step s n kind key x h working there is same fits spares =
@@ -108,13 +108,13 @@ take_step s n kind key x h working there is same fits spares =
     (sound_remembered n a.0 item s.session.owners s.session.next_owner s.session.next_serial h.owners.sound a.1 refl) same fits spares
 
 -- an item that isn't a reference to a plan
-abbrev refers : ℕ → Item → ℕ
+abbrev pub refers : ℕ → Item → ℕ
 refers m item = if is_of plan_reference m item then 1 else 0
 
-not_referred : (item : Item) (m : ℕ) → item.kind.0 ≢ 5 → refers m item ≡ 0
+pub not_referred : (item : Item) (m : ℕ) → item.kind.0 ≢ 5 → refers m item ≡ 0
 not_referred item m ne = rw (ne_eqb item.kind.0 5 ne) refl
 
-other_taken : (s : Scene) (n : ℕ) (kind : KindId) (key : ℕ) → Stands s → has n s.session.owners ≡ true → kind.0 ≢ 5
+pub other_taken : (s : Scene) (n : ℕ) (kind : KindId) (key : ℕ) → Stands s → has n s.session.owners ≡ true → kind.0 ≢ 5
     → ArePlans s.session.plans s.session.contexts s.session.current (referred (remembered n (record { kind = kind; key = key; serial = s.session.next_serial }) s.session.owners))
 other_taken s n kind key h there ne =
     let item : Item = record { kind = kind; key = key; serial = s.session.next_serial } in
@@ -131,7 +131,7 @@ other_step s n kind key x h working there ne is same =
     take_step s n kind key y h working there is same (record { contexts = h.contexts; hooks = h.hooks; plans = other_taken s n kind key h there ne }) (spares_same (besides_of s) y refl refl)
 
 -- It takes a reference to a plan that stands.
-plan_step : (s : Scene) (n key : ℕ) (p : StandingPlan) → Stands s → IsWorking s.session.levels → has n s.session.owners ≡ true → plan_at key s.session.plans ≡ Some p
+pub plan_step : (s : Scene) (n key : ℕ) (p : StandingPlan) → Stands s → IsWorking s.session.levels → has n s.session.owners ≡ true → plan_at key s.session.plans ≡ Some p
     → Stands (item_taken n plan_reference key s).scene
 plan_step s n key p h working there stands =
     let item : Item = record { kind = plan_reference; key = key; serial = s.session.next_serial } in
@@ -211,11 +211,11 @@ class_item kinds TupleDescriptor key serial = record { kind = inl (record { from
 pub snapshot_item : (kinds : KindTable) (snapshot serial : ℕ) → IsItem kinds (record { kind = snapshot_reference; key = snapshot; serial = serial })
 snapshot_item kinds snapshot serial = record { kind = inl (record { from = omega arith; to = omega arith }); buffer = λ e. absurd (omega (arith, e)) }
 
-file_item : (kinds : KindTable) (file serial : ℕ) → IsItem kinds (record { kind = file_kind; key = file; serial = serial })
+pub file_item : (kinds : KindTable) (file serial : ℕ) → IsItem kinds (record { kind = file_kind; key = file; serial = serial })
 file_item kinds file serial = record { kind = inl (record { from = omega arith; to = omega arith }); buffer = λ e. absurd (omega (arith, e)) }
 
 -- the kind of a name is one of the extension kinds
-kind_from_is : (n : ℕ) (name : Text) (kinds : List Kind) (kind : KindId) → kind_from n name kinds ≡ Some kind → (n ≤ kind.0) × (kind.0 < n + length kinds)
+pub kind_from_is : (n : ℕ) (name : Text) (kinds : List Kind) (kind : KindId) → kind_from n name kinds ≡ Some kind → (n ≤ kind.0) × (kind.0 < n + length kinds)
 kind_from_is n name [] kind e = absurd (cc e)
 kind_from_is n name (k ∷ ks) kind e =
     elim (cases_Bool (is_text k.name name)) [
@@ -247,7 +247,7 @@ extension_keeps kind high = grind (arith, nat_tests)
 
 -- Each element on items of the deepest level's owner.
 module _ (w : Option ℕ) (moment : Moment) (h : Stands moment.scene) (working : IsWorking moment.scene.session.levels) where
-  there : (n : ℕ) → level_owner moment.scene.session ≡ Some n → has n moment.scene.session.owners ≡ true
+  pub there : (n : ℕ) → level_owner moment.scene.session ≡ Some n → has n moment.scene.session.owners ≡ true
   there n e = owner_there moment.scene.session.levels moment.scene.session.contexts moment.scene.session.owners n h.levels e
 
   -- an item that nothing but owners keeps count of
@@ -294,7 +294,7 @@ module _ (w : Option ℕ) (moment : Moment) (h : Stands moment.scene) (working :
       (λ n e. give_step moment.scene n kind key h working (there n e) (newest n kind key moment.scene.session) refl)
 
   -- the owner takes an item of an extension kind
-  extension_works : (kind : KindId) (key n : ℕ) → IsExtension (table_of moment.scene.around.kinds) kind → level_owner moment.scene.session ≡ Some n
+  pub extension_works : (kind : KindId) (key n : ℕ) → IsExtension (table_of moment.scene.around.kinds) kind → level_owner moment.scene.session ≡ Some n
       → Works moment.scene (item_taken n kind key moment.scene).scene
   extension_works kind key n extension e =
       let x : Tables = record (tables_of moment.scene) { kinds = changed_at (kind.0 - 16) (opened key) moment.scene.around.kinds } in

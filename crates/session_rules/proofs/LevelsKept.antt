@@ -37,7 +37,7 @@ abbrev pub IsContext : ℕ → List LevelState → Type 0
 IsContext n [] = ⊥
 IsContext n (level ∷ levels) = (level.context ≡ Some n) ⊎ IsContext n levels
 
-first_owner : (levels : List LevelState) (n : ℕ) → owner_of (first_of levels) ≡ Some n → IsOwner n levels
+pub first_owner : (levels : List LevelState) (n : ℕ) → owner_of (first_of levels) ≡ Some n → IsOwner n levels
 first_owner [] n e = absurd (no_value None n refl e)
 first_owner (level ∷ levels) n e = inl e
 
@@ -66,7 +66,7 @@ levels_stay (level ∷ levels) t u x y a b h = (
 )
 
 -- the parent of a context of the levels is one of theirs or the topmost one
-context_above : (levels : List LevelState) → AreOuter levels → (P : Type 0) → (level_parent (first_of levels) ≡ top_context → P) → (IsContext (level_parent (first_of levels)) levels → P) → P
+pub context_above : (levels : List LevelState) → AreOuter levels → (P : Type 0) → (level_parent (first_of levels) ≡ top_context → P) → (IsContext (level_parent (first_of levels)) levels → P) → P
 context_above [] h P top one = top refl
 context_above (level ∷ levels) h P top one =
     let c = is_there level.context h.0.made.context in

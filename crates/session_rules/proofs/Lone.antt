@@ -10,13 +10,13 @@ use Rattle.session_rules.proofs.Forests.{emptied_absent, has_emptied, has_left, 
 use Rattle.session_rules.proofs.Swept.{has_all, has_swept}
 
 module _ {A : Type 0} where
-  outside : (p n : ℕ) (t : Forest A) → has n t ≡ false → has p (children n t) ≡ false
+  pub outside : (p n : ℕ) (t : Forest A) → has n t ≡ false → has p (children n t) ≡ false
   outside p n t h = ap (has p) (children_absent n t h)
 
-  not_in : (p n : ℕ) (t : Forest A) → Once t → has p t ≡ false → has p (children n t) ≡ false
+  pub not_in : (p n : ℕ) (t : Forest A) → Once t → has p t ≡ false → has p (children n t) ≡ false
   not_in p n t o h = false_from_ne_true (has p (children n t)) (λ u. both_ways (has p t) h (has_children p n t o u))
 
-  own_apart : (n : ℕ) (t : Forest A) → Once t → has n (children n t) ≡ false
+  pub own_apart : (n : ℕ) (t : Forest A) → Once t → has n (children n t) ≡ false
   own_apart n t o = elim (cases_Bool (has n t)) [
     | inl h ↦ first_child_other n t o h
     | inr h ↦ outside n n t h
@@ -182,7 +182,7 @@ module _ {A : Type 0} where
       let a = at_some n t w.node in
       rw a.1 (lone_put p q n a.0 (children n t) (removed n t) ne other u (lone_left p n t o other u e))
 
-  lone_all : (p : ℕ) (f : A → A) (t : Forest A) → children p t ≡ Empty → children p (all_changed f t) ≡ Empty
+  pub lone_all : (p : ℕ) (f : A → A) (t : Forest A) → children p t ≡ Empty → children p (all_changed f t) ≡ Empty
   lone_all p f Empty e = refl
   lone_all p f (Node k a below beside) e =
       elim (cases_Bool (k == p)) [

@@ -64,13 +64,13 @@ bounded p levels s = elim s [
   | inr d ↦ record { within = d.within; active = d.active }
 ]
 
-lowered_most : (depth n : ℕ) → n ≤ depth → lowered depth n ≤ depth - 1
+pub lowered_most : (depth n : ℕ) → n ≤ depth → lowered depth n ≤ depth - 1
 lowered_most depth n small = elim (cases_Bool (n == depth)) [
   | inl y ↦ let same : n ≡ depth = eqb-true n depth y in rw y (omega (arith, same))
   | inr y ↦ let ne = eqb-false n depth y in rw y (omega (arith, small, ne))
 ]
 
-lowered_within : (depth c a : ℕ) → c ≤ a → a ≤ depth → lowered depth c ≤ lowered depth a
+pub lowered_within : (depth c a : ℕ) → c ≤ a → a ≤ depth → lowered depth c ≤ lowered depth a
 lowered_within depth c a within small = elim (cases_Bool (a == depth)) [
   | inl y ↦
       let same : a ≡ depth = eqb-true a depth y in
@@ -81,7 +81,7 @@ lowered_within depth c a within small = elim (cases_Bool (a == depth)) [
       rw (y, ne_eqb c depth (λ z. ne (omega (arith, z, within, small)))) within
 ]
 
-lowered_some : (depth n : ℕ) → 2 ≤ depth → 1 ≤ n → 1 ≤ lowered depth n
+pub lowered_some : (depth n : ℕ) → 2 ≤ depth → 1 ≤ n → 1 ≤ lowered depth n
 lowered_some depth n deep some = elim (cases_Bool (n == depth)) [
   | inl y ↦ let same : n ≡ depth = eqb-true n depth y in rw y (omega (arith, same, deep))
   | inr y ↦ rw y some
@@ -89,13 +89,13 @@ lowered_some depth n deep some = elim (cases_Bool (n == depth)) [
 
 -- a portal that passes
 module _ (level : LevelState) (levels : List LevelState) (some : 1 ≤ length levels) where
-  abbrev depth : ℕ
+  abbrev pub depth : ℕ
   depth = length (level ∷ levels)
 
-  abbrev passed : OpenPortal → OpenPortal
+  abbrev pub passed : OpenPortal → OpenPortal
   passed old = record old { created = lowered depth old.created; active = lowered depth old.active }
 
-  passed_line : (p : OpenPortal) → IsAtRest p ⊎ IsAtWork p depth → IsAtRest (passed p) ⊎ IsAtWork (passed p) (length levels)
+  pub passed_line : (p : OpenPortal) → IsAtRest p ⊎ IsAtWork p depth → IsAtRest (passed p) ⊎ IsAtWork (passed p) (length levels)
   passed_line p line = elim line [
     | inl r ↦ inl r
     | inr a ↦ inr (number p.active a.0, λ new. number p.created (a.1 new))
@@ -104,7 +104,7 @@ module _ (level : LevelState) (levels : List LevelState) (some : 1 ≤ length le
       number : (n : ℕ) → n ≡ depth → lowered depth n ≡ length levels
       number n e = rw (eq-eqb n depth e) (omega (arith, e))
 
-  passed_live : (p : OpenPortal) → AreOuter levels → IsLive p (level ∷ levels) ⊎ IsDead p (level ∷ levels) → IsLive (passed p) levels
+  pub passed_live : (p : OpenPortal) → AreOuter levels → IsLive p (level ∷ levels) ⊎ IsDead p (level ∷ levels) → IsLive (passed p) levels
   passed_live p outer s =
       let b : IsBounded p depth = bounded p (level ∷ levels) s in
       let low : 1 ≤ p.created = elim s [ inl l ↦ l.some | inr d ↦ omega (arith, d.created) ] in
@@ -116,32 +116,32 @@ module _ (level : LevelState) (levels : List LevelState) (some : 1 ≤ length le
         line = elim s [ inl l ↦ passed_line p l.line | inr d ↦ inl (λ _. d.owner) ];
       }
 
-  changes_passed : (p : OpenPortal) → Changes p (passed p)
+  pub changes_passed : (p : OpenPortal) → Changes p (passed p)
   changes_passed p = record { name = refl; context = λ n e. e; owner = λ n e. e }
 
   -- the owner of the level above
-  above_is : (q : ℕ) → owner_of (first_of levels) ≡ Some q → owner_at (depth - 1) levels ≡ Some q
+  pub above_is : (q : ℕ) → owner_of (first_of levels) ≡ Some q → owner_at (depth - 1) levels ≡ Some q
   above_is q e = go levels some e
     where
       go : (ls : List LevelState) → 1 ≤ length ls → owner_of (first_of ls) ≡ Some q → owner_at (length (level ∷ ls) - 1) ls ≡ Some q
       go [] n e = absurd (omega (arith, n))
       go (l ∷ ls) n e = rw (eq-eqb (length ls + 1) (length (level ∷ (l ∷ ls)) - 1) (omega arith)) e
 
-  above_owner : (q : ℕ) → owner_of (first_of levels) ≡ Some q → IsOwner q levels
+  pub above_owner : (q : ℕ) → owner_of (first_of levels) ≡ Some q → IsOwner q levels
   above_owner q e = go levels e
     where
       go : (ls : List LevelState) → owner_of (first_of ls) ≡ Some q → IsOwner q ls
       go [] e = absurd (no_value None q refl e)
       go (l ∷ ls) e = inl e
 
-  above_made : AreOuter levels → (q : ℕ) × (owner_of (first_of levels) ≡ Some q)
+  pub above_made : AreOuter levels → (q : ℕ) × (owner_of (first_of levels) ≡ Some q)
   above_made outer = go levels some outer
     where
       go : (ls : List LevelState) → 1 ≤ length ls → AreOuter ls → (q : ℕ) × (owner_of (first_of ls) ≡ Some q)
       go [] n o = absurd (omega (arith, n))
       go (l ∷ ls) n o = is_there l.owner o.0.made.owner
 
-  above_there : (t : Contexts) (x : OwnerTree) (q : ℕ) → AreLevels levels t x → owner_of (first_of levels) ≡ Some q → has q x ≡ true
+  pub above_there : (t : Contexts) (x : OwnerTree) (q : ℕ) → AreLevels levels t x → owner_of (first_of levels) ≡ Some q → has q x ≡ true
   above_there t x q l e = go levels l e
     where
       go : (ls : List LevelState) → AreLevels ls t x → owner_of (first_of ls) ≡ Some q → has q x ≡ true
@@ -149,7 +149,7 @@ module _ (level : LevelState) (levels : List LevelState) (some : 1 ≤ length le
       go (a ∷ ls) l e = (l.0.owner q e).there
 
   -- without a move
-  plain : (p : OpenPortal) (front back : List OpenPortal) (s : Scene) → Ending level levels levels front (p ∷ back) s → (p.created ≡ depth → p.owner ≡ None)
+  pub plain : (p : OpenPortal) (front back : List OpenPortal) (s : Scene) → Ending level levels levels front (p ∷ back) s → (p.created ≡ depth → p.owner ≡ None)
       → Leads level levels levels back s (portal_becomes p.name passed s).scene
   plain p front back s h none =
       let i = first_of_rest level levels levels p front back s h in
@@ -198,7 +198,7 @@ module _ (level : LevelState) (levels : List LevelState) (some : 1 ≤ length le
       }
 
   -- its owner moves to that of the level above
-  moves : (p : OpenPortal) (front back : List OpenPortal) (s : Scene) (o q : ℕ) → Ending level levels levels front (p ∷ back) s → p.created ≡ depth → p.owner ≡ Some o → owner_of (first_of levels) ≡ Some q
+  pub moves : (p : OpenPortal) (front back : List OpenPortal) (s : Scene) (o q : ℕ) → Ending level levels levels front (p ∷ back) s → p.created ≡ depth → p.owner ≡ Some o → owner_of (first_of levels) ≡ Some q
       → Leads level levels levels back s (in_order (owner_moved o q ∷ portal_becomes p.name passed ∷ []) s).scene
   moves p front back s o q h deep owned up =
       let i = first_of_rest level levels levels p front back s h in
@@ -269,7 +269,7 @@ module _ (level : LevelState) (levels : List LevelState) (some : 1 ≤ length le
         | inr y ↦ y
       ]
 
-  passed_leads : (p : OpenPortal) (front back : List OpenPortal) (s : Scene) → Ending level levels levels front (p ∷ back) s → Leads level levels levels back s (portal_passed depth (owner_of (first_of levels)) p s).scene
+  pub passed_leads : (p : OpenPortal) (front back : List OpenPortal) (s : Scene) → Ending level levels levels front (p ∷ back) s → Leads level levels levels back s (portal_passed depth (owner_of (first_of levels)) p s).scene
   passed_leads p front back s h = by_level (p.created == depth) refl
     where
       up : (q : ℕ) × (owner_of (first_of levels) ≡ Some q)

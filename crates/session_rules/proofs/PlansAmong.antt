@@ -51,7 +51,7 @@ pub plans_counted : (plans : List StandingPlan) (t : Contexts) (current : ℕ) (
 plans_counted plans t current c d same h = record { each = h.each; apart = h.apart; counted = λ m. h.counted m ∙ same m }
 
 -- the parent of a level's context isn't the one for caches
-above_other : (levels : List LevelState) (t : Contexts) (x : OwnerTree) → AreLevels levels t x → level_parent (first_of levels) ≢ cache_context
+pub above_other : (levels : List LevelState) (t : Contexts) (x : OwnerTree) → AreLevels levels t x → level_parent (first_of levels) ≢ cache_context
 above_other [] t x l = λ z. absurd (omega (arith, z))
 above_other (level ∷ levels) t x l = go level.context (λ n e. (l.0.context n e).own)
   where
@@ -59,7 +59,7 @@ above_other (level ∷ levels) t x l = go level.context (λ n e. (l.0.context n 
     go None own = λ z. absurd (omega (arith, z))
     go (Some n) own = λ z. absurd (omega (arith, z, own n refl))
 
-some_is : (a b : ℕ) → Some a ≡ Some b → a ≡ b
+pub some_is : (a b : ℕ) → Some a ≡ Some b → a ≡ b
 some_is a b e = cc e
 
 -- a level's context isn't that of a plan

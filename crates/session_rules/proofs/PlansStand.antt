@@ -29,14 +29,14 @@ use Rattle.session_rules.proofs.StepsStand.{IsWorking, Works, besides_step, cont
 use Rattle.session_rules.proofs.PortalsAmong.{IsRowOf, own_rows, row_of, row_put}
 
 -- a plan more
-pushed_apart : (plans : List StandingPlan) (new : StandingPlan) → All (λ plan. Differ plan new) plans → AreApart plans → AreApart (plans ++ (new ∷ []))
+pub pushed_apart : (plans : List StandingPlan) (new : StandingPlan) → All (λ plan. Differ plan new) plans → AreApart plans → AreApart (plans ++ (new ∷ []))
 pushed_apart [] new d h = (All-nil (Differ new), tt)
 pushed_apart (plan ∷ plans) new d h = (
   All-push (Differ plan) plans new h.0 (All-head (λ plan. Differ plan new) plan plans d),
   pushed_apart plans new (All-tail (λ plan. Differ plan new) plan plans d) h.1,
 )
 
-pushed_counted : (plans : List StandingPlan) (new : StandingPlan) (m : ℕ) → new.references ≡ 0 → references_of m (plans ++ (new ∷ [])) ≡ references_of m plans
+pub pushed_counted : (plans : List StandingPlan) (new : StandingPlan) (m : ℕ) → new.references ≡ 0 → references_of m (plans ++ (new ∷ [])) ≡ references_of m plans
 pushed_counted [] new m none = go (new.number == m)
   where
     go : (b : Bool) → option_map_or (λ (plan : StandingPlan). plan.references) (cond b (Some new) None) 0 ≡ 0
@@ -48,7 +48,7 @@ pushed_counted (plan ∷ plans) new m none = elim (cases_Bool (plan.number == m)
 ]
 
 -- no plan has a number that isn't found
-none_found : (n : ℕ) (plans : List StandingPlan) → plan_at n plans ≡ None → All (IsOther n) plans
+pub none_found : (n : ℕ) (plans : List StandingPlan) → plan_at n plans ≡ None → All (IsOther n) plans
 none_found n [] e = All-nil (IsOther n)
 none_found n (plan ∷ plans) e = elim (cases_Bool (plan.number == n)) [
   | inl y ↦ let z : Some plan ≡ None = rw y at e in absurd (cc z)
@@ -56,7 +56,7 @@ none_found n (plan ∷ plans) e = elim (cases_Bool (plan.number == n)) [
 ]
 
 -- A plan of a new number is made.
-made_step : (s : Scene) (n : ℕ) → Stands s → IsWorking s.session.levels → plan_at n s.session.plans ≡ None → Stands (plan_made n s).scene
+pub made_step : (s : Scene) (n : ℕ) → Stands s → IsWorking s.session.levels → plan_at n s.session.plans ≡ None → Stands (plan_made n s).scene
 made_step s n h working free =
     let t : Contexts = s.session.contexts in
     let next : ℕ = s.session.next_context in
@@ -101,7 +101,7 @@ made_step s n h working free =
     own_rows t next h.contexts cache_context (omega arith) (omega arith) e m k.own r.parent (sym z))))
 
 -- A plan is discarded.
-dropped_step : (s : Scene) (n : ℕ) (p : StandingPlan) → Stands s → IsWorking s.session.levels → plan_at n s.session.plans ≡ Some p → Works s (plan_becomes (record p { discarded = true }) s).scene
+pub dropped_step : (s : Scene) (n : ℕ) (p : StandingPlan) → Stands s → IsWorking s.session.levels → plan_at n s.session.plans ≡ Some p → Works s (plan_becomes (record p { discarded = true }) s).scene
 dropped_step s n p h working stands =
     let times : ℕ → ℕ = referred s.session.owners in
     let fits : Fits s.session.next_context s.session.current times (besides_of s) = record { contexts = h.contexts; hooks = h.hooks; plans = h.plans } in

@@ -44,10 +44,10 @@ use Rattle.session_rules.proofs.PortalWorks.{Beside as LeavesPortals, item_besid
 -- the executor of a portal ends
 module _ (name : Text) (p : OpenPortal) where
   -- the owner of the portal is there, as long as portals are as they were
-  owner_in : (s : Scene) → Stands s → IsWorking s.session.levels → portal_named name s.session.portals ≡ Some p → (o : ℕ) → p.owner ≡ Some o → has o s.session.owners ≡ true
+  pub owner_in : (s : Scene) → Stands s → IsWorking s.session.levels → portal_named name s.session.portals ≡ Some p → (o : ℕ) → p.owner ≡ Some o → has o s.session.owners ≡ true
   owner_in s h working e o q = ((this_portal s h working name p (named_in name p s.session.portals e)).owner o q).there
 
-  one_item : (s z : Scene) → IsWorking s.session.levels → portal_named name s.session.portals ≡ Some p → LeavesPortals s z → (o : ℕ) → p.owner ≡ Some o → (kind : KindId) (key : ℕ) → LeavesPortals s (item_released o kind key z).scene
+  pub one_item : (s z : Scene) → IsWorking s.session.levels → portal_named name s.session.portals ≡ Some p → LeavesPortals s z → (o : ℕ) → p.owner ≡ Some o → (kind : KindId) (key : ℕ) → LeavesPortals s (item_released o kind key z).scene
   one_item s z working e b o q kind key =
       let now : IsWorking z.session.levels = subst IsWorking (sym b.works.levels) working in
       then_beside s z (item_released o kind key z).scene b (item_beside z o kind key b.works.stands now (owner_in z b.works.stands now (ap (portal_named name) b.portals ∙ e) o q))
@@ -70,7 +70,7 @@ module _ (name : Text) (p : OpenPortal) where
           one_item s b working e two o q snapshot_reference p.scan.object
 
 -- the levels where a portal's context goes
-levels_all : (t : Contexts) (next : ℕ) (h : AreContexts t next) (c : ℕ) (expr : Option ℕ) (current : ℕ) (place : IsPlace c expr t current) (ls : List LevelState) (u : Contexts) (x : OwnerTree) → Beside c t u current → AreLevels ls t x → AreLevels ls u x
+pub levels_all : (t : Contexts) (next : ℕ) (h : AreContexts t next) (c : ℕ) (expr : Option ℕ) (current : ℕ) (place : IsPlace c expr t current) (ls : List LevelState) (u : Contexts) (x : OwnerTree) → Beside c t u current → AreLevels ls t x → AreLevels ls u x
 levels_all t next h c expr current place [] u x b l = tt
 levels_all t next h c expr current place (level ∷ levels) u x b l = levels_beside t next h c expr current place level levels u x b l
 
@@ -166,10 +166,10 @@ gone_works s name p h working e none = go p.context refl
         }
 
 -- A portal's owner is released into its parent, and goes; the portal has none any more.
-abbrev unowned : OpenPortal → OpenPortal
+abbrev pub unowned : OpenPortal → OpenPortal
 unowned p = record p { owner = None }
 
-record HasEnded (s t : Scene) (name : Text) (p : OpenPortal) : Type 0 where
+pub record HasEnded (s t : Scene) (name : Text) (p : OpenPortal) : Type 0 where
   scene : Scene
   stands : Stands scene
   levels : scene.session.levels ≡ s.session.levels
@@ -177,7 +177,7 @@ record HasEnded (s t : Scene) (name : Text) (p : OpenPortal) : Type 0 where
   is : t ≡ record scene { session = record scene.session { portals = s.session.portals } }
   portals : scene.session.portals ≡ portal_changed name unowned s.session.portals
 
-owner_ends : (s : Scene) (name : Text) (p : OpenPortal) (o : ℕ) → Stands s → IsWorking s.session.levels → portal_named name s.session.portals ≡ Some p → p.owner ≡ Some o
+pub owner_ends : (s : Scene) (name : Text) (p : OpenPortal) (o : ℕ) → Stands s → IsWorking s.session.levels → portal_named name s.session.portals ≡ Some p → p.owner ≡ Some o
     → HasEnded s (in_order (owner_released true false o ∷ owner_gone o ∷ []) s).scene name p
 owner_ends s name p o h working e owns =
     let n : Named name p s.session.portals = named_in name p s.session.portals e in
@@ -266,12 +266,12 @@ owner_ends s name p o h working e owns =
     }
 
 -- what goes then with it
-ended_same : (name : Text) (c : Option ℕ) (w : Scene) (ps : List OpenPortal) → portals_but name ps ≡ portals_but name w.session.portals
+pub ended_same : (name : Text) (c : Option ℕ) (w : Scene) (ps : List OpenPortal) → portals_but name ps ≡ portals_but name w.session.portals
     → (in_order (where_there c context_gone ∷ portal_gone name ∷ []) (record w { session = record w.session { portals = ps } })).scene ≡ (in_order (where_there c context_gone ∷ portal_gone name ∷ []) w).scene
 ended_same name None w ps e = ap (λ (qs : List OpenPortal). record w { session = record w.session { portals = qs } }) e
 ended_same name (Some n) w ps e = ap (λ (qs : List OpenPortal). record (context_gone n w).scene { session = record (context_gone n w).scene.session { portals = qs } }) e
 
-rest_works : (s t : Scene) (name : Text) (p : OpenPortal) → Stands s → IsWorking s.session.levels → portal_named name s.session.portals ≡ Some p → HasEnded s t name p
+pub rest_works : (s t : Scene) (name : Text) (p : OpenPortal) → Stands s → IsWorking s.session.levels → portal_named name s.session.portals ≡ Some p → HasEnded s t name p
     → Works s (in_order (where_there p.context context_gone ∷ portal_gone p.name ∷ []) t).scene
 rest_works s t name p h working e x =
     let n : Named name p s.session.portals = named_in name p s.session.portals e in

@@ -49,7 +49,7 @@ pub nothing_beside : (s : Scene) → Stands s → Beside s s
 nothing_beside s h = record { works = nothing_works s h; portals = refl }
 
 -- what is given back leaves the portals
-given_portals : (keeper : Keeper) (key : ℕ) (s : Scene) → (left_to keeper key s).scene.session.portals ≡ s.session.portals
+pub given_portals : (keeper : Keeper) (key : ℕ) (s : Scene) → (left_to keeper key s).scene.session.portals ≡ s.session.portals
 given_portals NoOne key s = refl
 given_portals ThePlans key s = go (plan_at key s.session.plans)
   where
@@ -83,7 +83,7 @@ pub then_beside : (a b c : Scene) → Beside a b → Beside b c → Beside a c
 then_beside a b c x y = record { works = record { stands = y.works.stands; levels = y.works.levels ∙ x.works.levels; at_rest = λ r. y.works.at_rest (x.works.at_rest r) }; portals = y.portals ∙ x.portals }
 
 -- without a portal of the name nothing changes
-none_changed : (name : Text) (f : OpenPortal → OpenPortal) (ps : List OpenPortal) → portal_named name ps ≡ None → portal_changed name f ps ≡ ps
+pub none_changed : (name : Text) (f : OpenPortal → OpenPortal) (ps : List OpenPortal) → portal_named name ps ≡ None → portal_changed name f ps ≡ ps
 none_changed name f [] e = refl
 none_changed name f (p ∷ ps) e = elim (cases_Bool (is_text p.name name)) [
   | inl y ↦ let z : Some p ≡ None = rw y at e in absurd (cc z)
@@ -91,7 +91,7 @@ none_changed name f (p ∷ ps) e = elim (cases_Bool (is_text p.name name)) [
 ]
 
 -- a portal changes, where one has the name
-becomes_works : (s : Scene) (name : Text) (f : OpenPortal → OpenPortal) → Stands s → ((p : OpenPortal) → IsAtRest p → IsAtRest (f p)) → ((p : OpenPortal) → portal_named name s.session.portals ≡ Some p → Stands (portal_becomes name f s).scene) → Works s (portal_becomes name f s).scene
+pub becomes_works : (s : Scene) (name : Text) (f : OpenPortal → OpenPortal) → Stands s → ((p : OpenPortal) → IsAtRest p → IsAtRest (f p)) → ((p : OpenPortal) → portal_named name s.session.portals ≡ Some p → Stands (portal_becomes name f s).scene) → Works s (portal_becomes name f s).scene
 becomes_works s name f h rests named = go (portal_named name s.session.portals) refl
   where
     go : (o : Option OpenPortal) → portal_named name s.session.portals ≡ o → Works s (portal_becomes name f s).scene
@@ -114,7 +114,7 @@ beside_turns name s z b = record {
   fetched = λ f p e. f p (sym (ap (portal_named name) b.portals) ∙ e) ∙ sym (ap length b.works.levels);
 }
 
-becomes_fetched : (s : Scene) (name : Text) (f : OpenPortal → OpenPortal) → ((p : OpenPortal) → (f p).name ≡ p.name) → ((p : OpenPortal) → portal_named name s.session.portals ≡ Some p → (f p).active ≡ length s.session.levels)
+pub becomes_fetched : (s : Scene) (name : Text) (f : OpenPortal → OpenPortal) → ((p : OpenPortal) → (f p).name ≡ p.name) → ((p : OpenPortal) → portal_named name s.session.portals ≡ Some p → (f p).active ≡ length s.session.levels)
     → IsFetched name (portal_becomes name f s).scene
 becomes_fetched s name f keeps active q e = go (portal_named name s.session.portals) refl
   where
@@ -128,7 +128,7 @@ becomes_fetched s name f keeps active q e = go (portal_named name s.session.port
         ap (λ (r : OpenPortal). r.active) (sym same) ∙ active p n
 
 -- where it fails, its line is at work on it
-failed_stands : (s : Scene) (name : Text) → Stands s → IsWorking s.session.levels → IsFetched name s → Stands (portal_becomes name (λ p. record p { state = portal.Failed }) s).scene
+pub failed_stands : (s : Scene) (name : Text) → Stands s → IsWorking s.session.levels → IsFetched name s → Stands (portal_becomes name (λ p. record p { state = portal.Failed }) s).scene
 failed_stands s name h working fetched = go (portal_named name s.session.portals) refl
   where
     go : (o : Option OpenPortal) → portal_named name s.session.portals ≡ o → Stands (portal_becomes name (λ p. record p { state = portal.Failed }) s).scene
@@ -143,10 +143,10 @@ pub record Turned (name : Text) (s : Scene) (done : Done) : Type 0 where
 
 module _ (w : Option ℕ) (moment : Moment) (h : Stands moment.scene) (working : IsWorking moment.scene.session.levels) (name : Text) where
   -- the owner of the portal of a name is there
-  there : (p : OpenPortal) → portal_named name moment.scene.session.portals ≡ Some p → (o : ℕ) → p.owner ≡ Some o → has o moment.scene.session.owners ≡ true
+  pub there : (p : OpenPortal) → portal_named name moment.scene.session.portals ≡ Some p → (o : ℕ) → p.owner ≡ Some o → has o moment.scene.session.owners ≡ true
   there p e o q = ((this_portal moment.scene h working name p (named_in name p moment.scene.session.portals e)).owner o q).there
 
-  owner_named : (o : ℕ) → option_and_then (λ (p : OpenPortal). p.owner) (portal_named name moment.scene.session.portals) ≡ Some o → has o moment.scene.session.owners ≡ true
+  pub owner_named : (o : ℕ) → option_and_then (λ (p : OpenPortal). p.owner) (portal_named name moment.scene.session.portals) ≡ Some o → has o moment.scene.session.owners ≡ true
   owner_named o e = go (portal_named name moment.scene.session.portals) refl e
     where
       go : (c : Option OpenPortal) → portal_named name moment.scene.session.portals ≡ c → option_and_then (λ (p : OpenPortal). p.owner) c ≡ Some o → has o moment.scene.session.owners ≡ true
@@ -177,7 +177,7 @@ module _ (w : Option ℕ) (moment : Moment) (h : Stands moment.scene) (working :
       (record { works = record { stands = other_step moment.scene n kind key (tables_of moment.scene) h working (owner_named n e) ne is refl; levels = refl; at_rest = λ r. r }; portals = refl })))
 
   -- memory is taken in a context
-  memory : (o : Option ℕ) (title : Option Text) (bytes : ℕ) → Beside moment.scene (where_there o (memory_taken title bytes false) moment.scene).scene
+  pub memory : (o : Option ℕ) (title : Option Text) (bytes : ℕ) → Beside moment.scene (where_there o (memory_taken title bytes false) moment.scene).scene
   memory None title bytes = nothing_beside moment.scene h
   memory (Some n) title bytes = record {
     works = record {
@@ -225,7 +225,7 @@ module _ (w : Option ℕ) (moment : Moment) (h : Stands moment.scene) (working :
       (λ p e. state_portal moment.scene h working name p (named_in name p moment.scene.session.portals e) portal.Ready (inl (λ unready. absurd (cc unready))))
 
   -- what a step of a scan does by itself
-  part_beside : (s : Scene) (st : ScanStep) (p : OpenPortal) → Stands s → IsWorking s.session.levels → ((o : ℕ) → p.owner ≡ Some o → has o s.session.owners ≡ true) → Beside s (scan_part st p s).scene
+  pub part_beside : (s : Scene) (st : ScanStep) (p : OpenPortal) → Stands s → IsWorking s.session.levels → ((o : ℕ) → p.owner ≡ Some o → has o s.session.owners ≡ true) → Beside s (scan_part st p s).scene
   part_beside s step.Reset p k work own = go p.expr
     where
       go : (o : Option ℕ) → Beside s (where_there o context_cleared_alone s).scene

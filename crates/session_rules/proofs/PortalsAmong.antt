@@ -46,7 +46,7 @@ off_above (level ∷ levels) t x l b low high = go level.context (λ n e. (l.0.c
     go None own = λ z. absurd (omega (arith, z))
     go (Some n) own = λ z. absurd (omega (arith, z, own n refl))
 
-some_is : (a b : ℕ) → Some a ≡ Some b → a ≡ b
+pub some_is : (a b : ℕ) → Some a ≡ Some b → a ≡ b
 some_is a b e = cc e
 
 pub off_levels : (levels : List LevelState) (t : Contexts) (x : OwnerTree) → AreLevels levels t x → (n : ℕ) → IsContext n levels → (m b : ℕ) → 1 < b → b ≤ abort_context → parent_of m t ≡ Some b → n ≢ m
@@ -57,7 +57,7 @@ off_levels (level ∷ levels) t x l n i m b low high p = elim i [
 ]
 
 -- the parent of a level's context isn't a portal's
-levels_up : (levels : List LevelState) (t : Contexts) (x : OwnerTree) → AreLevels levels t x → (c : ℕ) → abort_context < c → parent_of c t ≡ Some portals_context → level_parent (first_of levels) ≢ c
+pub levels_up : (levels : List LevelState) (t : Contexts) (x : OwnerTree) → AreLevels levels t x → (c : ℕ) → abort_context < c → parent_of c t ≡ Some portals_context → level_parent (first_of levels) ≢ c
 levels_up [] t x l c own p = λ z. absurd (omega (arith, z, own))
 levels_up (level ∷ levels) t x l c own p = go level.context refl
   where

@@ -203,7 +203,7 @@ module _ (s : Scene) (h : Stands s) (working : IsWorking s.session.levels) (name
       all_portals P so = All-weaker (λ r. IsPortal r s.session.levels s.session.contexts s.session.owners s.session.current) P so (n.front ++ (p ∷ n.back)) split_portals.each
 
 -- a new node is the first below its parent
-put_here : {A : Type 0} (q m : ℕ) (a : A) (t : Forest A) → Once t → has q t ≡ true → has m t ≡ false → children q (put q m a Empty t) ≡ Node m a Empty (children q t)
+pub put_here : {A : Type 0} (q m : ℕ) (a : A) (t : Forest A) → Once t → has q t ≡ true → has m t ≡ false → children q (put q m a Empty t) ≡ Node m a Empty (children q t)
 put_here q m a Empty o h u = absurd (cc h)
 put_here q m a (Node k b below beside) o h u =
     let apart : Apart k below beside = apart_of k b below beside o in
@@ -221,12 +221,12 @@ put_here q m a (Node k b below beside) o h u =
     ]
 
 -- a level's owner is there
-owners_there : (levels : List LevelState) (t : Contexts) (x : OwnerTree) (m : ℕ) → AreLevels levels t x → IsOwner m levels → has m x ≡ true
+pub owners_there : (levels : List LevelState) (t : Contexts) (x : OwnerTree) (m : ℕ) → AreLevels levels t x → IsOwner m levels → has m x ≡ true
 owners_there [] t x m l i = absurd i
 owners_there (level ∷ levels) t x m l i = elim i [ inl e ↦ (l.0.owner m e).there | inr j ↦ owners_there levels t x m l.1 j ]
 
 -- the owner of the deepest level
-owner_deep : (levels : List LevelState) (lo : ℕ) → option_and_then (λ (level : LevelState). level.owner) (first_of levels) ≡ Some lo → (owner_at (length levels) levels ≡ Some lo) × IsOwner lo levels
+pub owner_deep : (levels : List LevelState) (lo : ℕ) → option_and_then (λ (level : LevelState). level.owner) (first_of levels) ≡ Some lo → (owner_at (length levels) levels ≡ Some lo) × IsOwner lo levels
 owner_deep [] lo e = absurd (no_value None lo refl e)
 owner_deep (level ∷ levels) lo e = (rw (eq-eqb (length levels + 1) (length (level ∷ levels)) (omega arith)) e, inl e)
 
@@ -386,7 +386,7 @@ module _ (s : Scene) (h : Stands s) (working : IsWorking s.session.levels) (name
       (record { place = i.place; made = i.made; owner = i.owner; stage = inl (record { some = l.some; within = omega (arith, l.within, l.active, d.0); active = omega (arith, d.0); line = elim l.line [ inl r ↦ inl r | inr a ↦ inr (refl, a.1) ] }) })
 
 -- A portal of a new name is made.
-new_names : (name : Text) (ps : List OpenPortal) → portal_named name ps ≡ None → (p : OpenPortal) → p.name ≡ name → p.context ≡ None → p.owner ≡ None → All (AreOther p) ps
+pub new_names : (name : Text) (ps : List OpenPortal) → portal_named name ps ≡ None → (p : OpenPortal) → p.name ≡ name → p.context ≡ None → p.owner ≡ None → All (AreOther p) ps
 new_names name [] e p named c o = All-nil (AreOther p)
 new_names name (q ∷ qs) e p named c o = elim (cases_Bool (is_text q.name name)) [
   | inl y ↦ let z : Some q ≡ None = rw y at e in absurd (cc z)

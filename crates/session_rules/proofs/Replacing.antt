@@ -28,10 +28,10 @@ pub record IsBeside (p r : OpenPortal) : Type 0 where
   pub context : (n : ℕ) → r.context ≡ Some n → p.context ≡ Some n → ⊥
   pub owner : (n : ℕ) → r.owner ≡ Some n → p.owner ≡ Some n → ⊥
 
-beside_front : (p r : OpenPortal) → AreOther r p → IsBeside p r
+pub beside_front : (p r : OpenPortal) → AreOther r p → IsBeside p r
 beside_front p r o = record { context = λ n a b. o.context n b a; owner = λ n a b. o.owner n b a }
 
-beside_back : (p r : OpenPortal) → AreOther p r → IsBeside p r
+pub beside_back : (p r : OpenPortal) → AreOther p r → IsBeside p r
 beside_back p r o = record { context = λ n a b. o.context n a b; owner = λ n a b. o.owner n a b }
 
 module _ (level : LevelState) (levels done : List LevelState) where
@@ -113,7 +113,7 @@ module _ (level : LevelState) (levels done : List LevelState) where
 
 -- Portals close where level 1 commits.
 module _ (level : LevelState) (made : (p : OpenPortal) → IsLive p (level ∷ []) → (lo : ℕ) × (level.owner ≡ Some lo)) where
-  closed_leads : (p : OpenPortal) (front back : List OpenPortal) (s : Scene) → Ending level [] [] front (p ∷ back) s → Leads level [] [] back s (portal_closed p s).scene
+  pub closed_leads : (p : OpenPortal) (front back : List OpenPortal) (s : Scene) → Ending level [] [] front (p ∷ back) s → Leads level [] [] back s (portal_closed p s).scene
   closed_leads p front back s h =
       let one : Goes level [] [] front (p ∷ back) s (where_so (is_ready p.state) (executor_ended p) s).scene = executor_goes level [] [] p front back s h in
       let a : Scene = with_parts one.parts s in
@@ -142,7 +142,7 @@ module _ (level : LevelState) (levels : List LevelState) (aborted : level.aborte
   abbrev pub swept_away : OpenPortal → Scene → Ended
   swept_away p = where_so (p.created == length (level ∷ levels)) (in_order (where_there p.context context_gone ∷ portal_gone p.name ∷ []))
 
-  swept_leads : (p : OpenPortal) (front back : List OpenPortal) (s : Scene) → Ending level levels levels front (p ∷ back) s → Leads level levels levels back s (swept_away p s).scene
+  pub swept_leads : (p : OpenPortal) (front back : List OpenPortal) (s : Scene) → Ending level levels levels front (p ∷ back) s → Leads level levels levels back s (swept_away p s).scene
   swept_leads p front back s h = go (p.created == length (level ∷ levels)) refl
     where
       depth : active_depth (level ∷ levels) ≡ length levels

@@ -90,7 +90,7 @@ spares_same x y c p = record {
   fewer = λ m a. subst (IsApart m) (sym p) a;
 }
 
-spares_both : (x y z : Besides) → Spares x y → Spares y z → Spares x z
+pub spares_both : (x y z : Besides) → Spares x y → Spares y z → Spares x z
 spares_both x y z a b = record {
   there = λ m p u. b.there m (a.fewer m p) (a.there m p u);
   same = λ m p prot.
@@ -109,7 +109,7 @@ pub record Settles (times : ℕ → ℕ) (s t : Scene) : Type 0 where
   pub fits : Fits s.session.next_context s.session.current times besides
   pub spares : Spares (besides_of s) besides
 
-settles_both : (c d : ℕ → ℕ) (s t z : Scene) → Settles c s t → ((x : Besides) → t ≡ with_besides x s → Fits s.session.next_context s.session.current c x → Settles d (with_besides x s) z) → Settles d s z
+pub settles_both : (c d : ℕ → ℕ) (s t z : Scene) → Settles c s t → ((x : Besides) → t ≡ with_besides x s → Fits s.session.next_context s.session.current c x → Settles d (with_besides x s) z) → Settles d s z
 settles_both c d s t z a next =
     let b : Settles d (with_besides a.besides s) z = next a.besides a.is a.fits in
     record {
@@ -122,7 +122,7 @@ settles_both c d s t z a next =
 
 module _ (s : Scene) (c d : ℕ → ℕ) (h : Fits s.session.next_context s.session.current c (besides_of s)) where
   -- a plan stands, with one reference less
-  stays : (n : ℕ) (p q : StandingPlan) (w : Split n p s.session.plans) → q.number ≡ p.number → q.context ≡ p.context → (q.discarded ≡ true → 1 ≤ q.references) → d n ≡ q.references → ((m : ℕ) → n ≢ m → d m ≡ c m)
+  pub stays : (n : ℕ) (p q : StandingPlan) (w : Split n p s.session.plans) → q.number ≡ p.number → q.context ≡ p.context → (q.discarded ≡ true → 1 ≤ q.references) → d n ≡ q.references → ((m : ℕ) → n ≢ m → d m ≡ c m)
       → Settles d s (plan_stays q s).scene
   stays n p q w number context kept now others =
       let plans : List StandingPlan = plan_changed q.number (λ old. q) s.session.plans in
@@ -151,7 +151,7 @@ module _ (s : Scene) (c d : ℕ → ℕ) (h : Fits s.session.next_context s.sess
       }
 
   -- a plan goes, with its context
-  goes : (n : ℕ) (p q : StandingPlan) (w : Split n p s.session.plans) → q.number ≡ p.number → q.context ≡ p.context → d n ≡ 0 → ((m : ℕ) → n ≢ m → d m ≡ c m) → Settles d s (plan_settled q s).scene
+  pub goes : (n : ℕ) (p q : StandingPlan) (w : Split n p s.session.plans) → q.number ≡ p.number → q.context ≡ p.context → d n ≡ 0 → ((m : ℕ) → n ≢ m → d m ≡ c m) → Settles d s (plan_settled q s).scene
   goes n p q w number context none others =
       let t : Contexts = s.session.contexts in
       let k : ℕ = q.context in
@@ -223,10 +223,10 @@ module _ (s : Scene) (c d : ℕ → ℕ) (h : Fits s.session.next_context s.sess
 
 -- other tables don't matter
 module _ (s : Scene) (d : ℕ → ℕ) (h : Fits s.session.next_context s.session.current d (besides_of s)) where
-  settles_nothing : Settles d s s
+  pub settles_nothing : Settles d s s
   settles_nothing = record { besides = besides_of s; same = refl; is = refl; fits = h; spares = spares_same (besides_of s) (besides_of s) refl refl }
 
-  settles_tables : (ls : List Lock) (recent : List ℕ) (kinds : List Kind) → table_of kinds ≡ table_of s.around.kinds
+  pub settles_tables : (ls : List Lock) (recent : List ℕ) (kinds : List Kind) → table_of kinds ≡ table_of s.around.kinds
       → Settles d s (with_besides (record (besides_of s) { locks = ls; recent = recent; kinds = kinds }) s)
   settles_tables ls recent kinds same = record {
     besides = record (besides_of s) { locks = ls; recent = recent; kinds = kinds };
@@ -236,7 +236,7 @@ module _ (s : Scene) (d : ℕ → ℕ) (h : Fits s.session.next_context s.sessio
     spares = spares_same (besides_of s) (record (besides_of s) { locks = ls; recent = recent; kinds = kinds }) refl refl;
   }
 
-  closes : (key : ℕ) → Settles d s (left_to TheDescriptors key s).scene
+  pub closes : (key : ℕ) → Settles d s (left_to TheDescriptors key s).scene
   closes key = go (is_among key s.session.recent)
     where
       go : (b : Bool) → Settles d s (where_so b (λ scene. record {
@@ -247,12 +247,12 @@ module _ (s : Scene) (d : ℕ → ℕ) (h : Fits s.session.next_context s.sessio
       go false = settles_nothing
 
   -- an item that isn't a reference to a plan
-  other_left : (a b : Bool) (place key : ℕ) → Settles d s (left_to (if a then TheDescriptors else (if b then NoOne else TheKind place)) key s).scene
+  pub other_left : (a b : Bool) (place key : ℕ) → Settles d s (left_to (if a then TheDescriptors else (if b then NoOne else TheKind place)) key s).scene
   other_left true b place key = closes key
   other_left false true place key = settles_nothing
   other_left false false place key = settles_tables s.session.locks s.session.recent (changed_at place (closed key) s.around.kinds) (table-closed s.around.kinds place key)
 
-fewer : (s : Scene) (c d : ℕ → ℕ) → ((m : ℕ) → c m ≡ d m) → Fits s.session.next_context s.session.current c (besides_of s) → Fits s.session.next_context s.session.current d (besides_of s)
+pub fewer : (s : Scene) (c d : ℕ → ℕ) → ((m : ℕ) → c m ≡ d m) → Fits s.session.next_context s.session.current c (besides_of s) → Fits s.session.next_context s.session.current d (besides_of s)
 fewer s c d same h = record {
   contexts = h.contexts;
   hooks = h.hooks;
@@ -269,14 +269,14 @@ item_settles item s c d one h = go (item.kind.0 == 5) one
     go false one = other_left s d (fewer s c d (λ m. let z = one m in omega (arith, z)) h) (item.kind.0 == 8) (nat_lt item.kind.0 16) (item.kind.0 - 16) item.key
 
 -- a step of a release, and steps in order
-step_settles : (step : Step) (s : Scene) (d : ℕ → ℕ) → Fits s.session.next_context s.session.current (λ m. given plan_reference m step + d m) (besides_of s) → Settles d s (step_done step s).scene
+pub step_settles : (step : Step) (s : Scene) (d : ℕ → ℕ) → Fits s.session.next_context s.session.current (λ m. given plan_reference m step + d m) (besides_of s) → Settles d s (step_done step s).scene
 step_settles (Said event) s d h = settles_nothing s d (fewer s (λ m. 0 + d m) d (λ m. omega arith) h)
 step_settles (GivesBack item) s d h = item_settles item s (λ m. (if is_of plan_reference m item then 1 else 0) + d m) d (λ m. refl) h
 step_settles (ReleasesLocks owner) s d h = settles_tables s d (fewer s (λ m. 0 + d m) d (λ m. omega arith) h) (locks.released owner s.session.locks) s.session.recent s.around.kinds refl
 step_settles (PassesLocks from to) s d h = settles_tables s d (fewer s (λ m. 0 + d m) d (λ m. omega arith) h) (locks.passed from to s.session.locks) s.session.recent s.around.kinds refl
 step_settles (ReleasesAllLocks top) s d h = settles_tables s d (fewer s (λ m. 0 + d m) d (λ m. omega arith) h) [] s.session.recent s.around.kinds refl
 
-steps_settle : (steps : List Step) (s : Scene) (d : ℕ → ℕ) → Fits s.session.next_context s.session.current (λ m. gives plan_reference m steps + d m) (besides_of s) → Settles d s (for_each step_done steps s).scene
+pub steps_settle : (steps : List Step) (s : Scene) (d : ℕ → ℕ) → Fits s.session.next_context s.session.current (λ m. gives plan_reference m steps + d m) (besides_of s) → Settles d s (for_each step_done steps s).scene
 steps_settle [] s d h = settles_nothing s d (fewer s (λ m. 0 + d m) d (λ m. omega arith) h)
 steps_settle (step ∷ steps) s d h =
     let rest : ℕ → ℕ = λ m. gives plan_reference m steps + d m in
@@ -286,14 +286,14 @@ steps_settle (step ∷ steps) s d h =
     (λ x is fits. subst (λ (z : Scene). Settles d (with_besides x s) (for_each step_done steps z).scene) (sym is) (steps_settle steps (with_besides x s) d fits))
 
 -- one phase, by the kinds of the scene
-record HasPhase (kinds : KindTable) (owner : ℕ) (phase : Phase) (s t : Scene) : Type 0 where
+pub record HasPhase (kinds : KindTable) (owner : ℕ) (phase : Phase) (s t : Scene) : Type 0 where
   besides : Besides
   same : table_of besides.kinds ≡ table_of s.around.kinds
   is : t ≡ with_owners (released kinds phase owner s.session.owners) (with_besides besides s)
   fits : Fits s.session.next_context s.session.current (referred (released kinds phase owner s.session.owners)) besides
   spares : Spares (besides_of s) besides
 
-phase_settles : (kinds : KindTable) (commit top : Bool) (owner : ℕ) (phase : Phase) (s : Scene) → Once s.session.owners → Fits s.session.next_context s.session.current (referred s.session.owners) (besides_of s) → table_of s.around.kinds ≡ kinds
+pub phase_settles : (kinds : KindTable) (commit top : Bool) (owner : ℕ) (phase : Phase) (s : Scene) → Once s.session.owners → Fits s.session.next_context s.session.current (referred s.session.owners) (besides_of s) → table_of s.around.kinds ≡ kinds
     → HasPhase kinds owner phase s (phase_released commit top owner phase s).scene
 phase_settles kinds commit top owner phase s once h e =
     let x : OwnerTree = s.session.owners in

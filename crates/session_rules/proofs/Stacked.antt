@@ -35,7 +35,7 @@ stacked_below level least most (entry ∷ entries) h =
     ]
 
 -- those of the deepest level belong to the one above
-lowered_from : (level least low : ℕ) (entries : List Active) → low ≤ least → low ≤ level - 1 → 1 ≤ level → AreStacked least level entries → AreStacked low (level - 1) (map (lowered level) entries)
+pub lowered_from : (level least low : ℕ) (entries : List Active) → low ≤ least → low ≤ level - 1 → 1 ≤ level → AreStacked least level entries → AreStacked low (level - 1) (map (lowered level) entries)
 lowered_from level least low [] l u some h = tt
 lowered_from level least low (entry ∷ entries) l u some h =
     elim (cases_Bool (entry.level == level)) [
@@ -56,7 +56,7 @@ none_stacked [] h = refl
 none_stacked (entry ∷ entries) h = absurd (omega (arith, h.0, h.1))
 
 -- the level that snapshots may be active in
-or_true : (b : Bool) → (b || true) ≡ true
+pub or_true : (b : Bool) → (b || true) ≡ true
 or_true true = refl
 or_true false = refl
 

@@ -53,7 +53,7 @@ use Rattle.session_rules.proofs.LevelsKept.{is_there, levels_stay, no_value, one
 use Rattle.session_rules.proofs.EndsStand.{Leaves, aborted_stands, cleaned_up_stands, committed_stands, is_settled, settled, subcommitted_leaves}
 
 -- a refused call changes nothing but the count
-not_refused : (a b : Bool) (x y : Error) (own : Option Error) → (if a then Some x else (if b then Some y else own)) ≡ None → own ≡ None
+pub not_refused : (a b : Bool) (x y : Error) (own : Option Error) → (if a then Some x else (if b then Some y else own)) ≡ None → own ≡ None
 not_refused true b x y own e = absurd (cc e)
 not_refused false true x y own e = absurd (cc e)
 not_refused false false x y own e = e
@@ -98,7 +98,7 @@ pub fit_working : (levels : List LevelState) (t u : Contexts) (x y : OwnerTree) 
 fit_working [] t u x y a b w h = absurd w
 fit_working (level ∷ levels) t u x y a b w h = (deepest_active level u y b w, h.1)
 
-not_released_outer : (levels : List LevelState) (n : ℕ) (x : OwnerTree) → AreOuter levels → WasReleased n levels x → ⊥
+pub not_released_outer : (levels : List LevelState) (n : ℕ) (x : OwnerTree) → AreOuter levels → WasReleased n levels x → ⊥
 not_released_outer [] n x h r = r
 not_released_outer (level ∷ levels) n x h r = both_ways level.aborted h.0.unaborted r.aborted
 
@@ -156,7 +156,7 @@ besides_step s x h working same fits spares = record {
 }
 
 -- The stack of active snapshots changes.
-stack_works : (s : Scene) (stack : List Active) → Stands s → AreStacked 1 (active_depth s.session.levels) stack → Works s (record s { session = record s.session { snapshots = stack } })
+pub stack_works : (s : Scene) (stack : List Active) → Stands s → AreStacked 1 (active_depth s.session.levels) stack → Works s (record s { session = record s.session { snapshots = stack } })
 stack_works s stack h stacked = record {
   stands = record {
     contexts = h.contexts;
@@ -175,7 +175,7 @@ stack_works s stack h stacked = record {
 }
 
 -- a snapshot is pushed in a level
-push_stacked : (levels : List LevelState) (snapshot : ℕ) (stack : List Active) → IsWorking levels → AreStacked 1 (active_depth levels) stack
+pub push_stacked : (levels : List LevelState) (snapshot : ℕ) (stack : List Active) → IsWorking levels → AreStacked 1 (active_depth levels) stack
     → AreStacked 1 (active_depth levels) (stack ++ (record { snapshot = snapshot; level = length levels } ∷ []))
 push_stacked [] snapshot stack working h = absurd working
 push_stacked (level ∷ levels) snapshot stack working h =
@@ -192,10 +192,10 @@ pub record KeepsContexts (t u : Contexts) (next : ℕ) : Type 0 where
   pub rows : (n : ℕ) (expr : Option ℕ) (current : ℕ) → IsPlace n expr t current → IsRow expr (children n u)
   pub hooks : (x : ShelfState) → AreHooks t x → AreHooks u x
 
-keeps_same : (t : Contexts) (next : ℕ) → AreContexts t next → KeepsContexts t t next
+pub keeps_same : (t : Contexts) (next : ℕ) → AreContexts t next → KeepsContexts t t next
 keeps_same t next h = record { contexts = h; stay = stay_same t; there = λ m y. y; lone = λ m e. e; rows = λ n expr current i. i.row; hooks = λ x k. k }
 
-keeps_changed : (t : Contexts) (next n : ℕ) (f : Context → Context) → AreContexts t next → ((c : Context) → (f c).protected ≡ c.protected) → ((c : Context) → (f c).hooks ≡ c.hooks) → ((c : Context) → IsFresh c → IsFresh (f c))
+pub keeps_changed : (t : Contexts) (next n : ℕ) (f : Context → Context) → AreContexts t next → ((c : Context) → (f c).protected ≡ c.protected) → ((c : Context) → (f c).hooks ≡ c.hooks) → ((c : Context) → IsFresh c → IsFresh (f c))
     → KeepsContexts t (changed n f t) next
 keeps_changed t next n f h own hooks fresh = record {
   contexts = contexts_changed t next h n f own fresh;
@@ -220,7 +220,7 @@ keeps_allocated t next n left name bytes known h = go (served n left bytes t)
     go (Ok taken) = keeps_changed t next n (with_chunk name bytes known taken) h (λ c. refl) (λ c. refl) (λ c _ e. absurd (cc e))
     go (Err e) = keeps_same t next h
 
-fresh_chunks : (c : Context) (g : List Chunk → List Chunk) (ledger : Ledger) → g [] ≡ [] → IsFresh c → IsFresh (record c { ledger = ledger; chunks = g c.chunks })
+pub fresh_chunks : (c : Context) (g : List Chunk → List Chunk) (ledger : Ledger) → g [] ≡ [] → IsFresh c → IsFresh (record c { ledger = ledger; chunks = g c.chunks })
 fresh_chunks c g ledger e fresh unused = let w = fresh unused in (ap g w.0 ∙ e, w.1)
 
 pub keeps_freed : (t : Contexts) (next : ℕ) (name : List ℕ) → AreContexts t next → KeepsContexts t (freed name t) next
@@ -263,16 +263,16 @@ keeps_written t next name place bytes h = go (found name t)
         (λ c fresh. fresh_chunks c (λ chunks. with_changed name (λ chunk. record chunk { known = written_over place bytes chunk.known }) chunks) c.ledger refl fresh)
 
 -- where a level is being started, the stack is that of the levels above it
-stacked_above_it : (levels : List LevelState) (stack : List Active) → AreStacked 1 (active_depth levels) stack → AreStacked 1 (length levels) stack
+pub stacked_above_it : (levels : List LevelState) (stack : List Active) → AreStacked 1 (active_depth levels) stack → AreStacked 1 (length levels) stack
 stacked_above_it levels stack h = stacked_within 1 (length levels) 1 (active_depth levels) stack (omega arith) (depth_small levels) h
 
 -- no portal is one of an aborted level where none is
-not_dead : (p : OpenPortal) (levels : List LevelState) → AreOuter levels → IsDead p levels → ⊥
+pub not_dead : (p : OpenPortal) (levels : List LevelState) → AreOuter levels → IsDead p levels → ⊥
 not_dead p [] outer d = let z : false ≡ true = d.aborted in absurd (cc z)
 not_dead p (level ∷ levels) outer d = both_ways level.aborted outer.0.unaborted d.aborted
 
 -- a portal stays where a level is pushed
-pushed_portal : (new : LevelState) (levels : List LevelState) (t : Contexts) (x : OwnerTree) (current : ℕ) (p : OpenPortal) → new.starting ≡ true → new.owner ≡ None → AreOuter levels → IsAtRest p → IsPortal p levels t x current
+pub pushed_portal : (new : LevelState) (levels : List LevelState) (t : Contexts) (x : OwnerTree) (current : ℕ) (p : OpenPortal) → new.starting ≡ true → new.owner ≡ None → AreOuter levels → IsAtRest p → IsPortal p levels t x current
     → IsPortal p (new ∷ levels) t x current
 pushed_portal new levels t x current p starting none outer rests i =
     elim i.stage [
@@ -291,7 +291,7 @@ pushed_portal new levels t x current p starting none outer rests i =
     ]
 
 -- a portal where the deepest level changes and keeps its owner
-same_portal : (old new : LevelState) (levels : List LevelState) (t u : Contexts) (x : OwnerTree) (a b : ℕ) (p : OpenPortal) → new.owner ≡ old.owner → (IsLive p (old ∷ levels) → IsLive p (new ∷ levels)) → new.aborted ≡ old.aborted
+pub same_portal : (old new : LevelState) (levels : List LevelState) (t u : Contexts) (x : OwnerTree) (a b : ℕ) (p : OpenPortal) → new.owner ≡ old.owner → (IsLive p (old ∷ levels) → IsLive p (new ∷ levels)) → new.aborted ≡ old.aborted
     → ((n : ℕ) (expr : Option ℕ) → IsPlace n expr t a → IsPlace n expr u b) → IsPortal p (old ∷ levels) t x a → IsPortal p (new ∷ levels) u x b
 same_portal old new levels t u x a b p same live aborted stay i = record {
   place = λ n e. stay n p.expr (i.place n e);
@@ -349,7 +349,7 @@ level_made_stands name implicit s h at_rest outer alone = let new : LevelState =
 }
 
 -- the parent of a new context of a level is there, and protected
-parent_protected : (levels : List LevelState) (t : Contexts) (x : OwnerTree) (next : ℕ) → AreContexts t next → AreLevels levels t x → AreOuter levels → is_protected (level_parent (first_of levels)) t ≡ true
+pub parent_protected : (levels : List LevelState) (t : Contexts) (x : OwnerTree) (next : ℕ) → AreContexts t next → AreLevels levels t x → AreOuter levels → is_protected (level_parent (first_of levels)) t ≡ true
 parent_protected [] t x next h l o = top_protected t next h
 parent_protected (level ∷ levels) t x next h l o =
     let c = is_there level.context o.0.made.context in
@@ -436,7 +436,7 @@ owner_below x a b n h u =
     ]
 
 -- a new owner
-abbrev new_owner : Owner
+abbrev pub new_owner : Owner
 new_owner = record { begun = false; items = [] }
 
 pub record IsNewOwner (o : Option ℕ) (n : ℕ) (x y : OwnerTree) : Type 0 where
@@ -477,13 +477,13 @@ new_owner_is (Some p) n x once new there =
     }
 
 -- a portal isn't one of a level that is being started
-created_below : (level : LevelState) (levels : List LevelState) → level.starting ≡ true → (level.aborted ≡ true → IsOpen level) → (p : OpenPortal) → IsLive p (level ∷ levels) ⊎ IsDead p (level ∷ levels) → p.created ≤ length levels
+pub created_below : (level : LevelState) (levels : List LevelState) → level.starting ≡ true → (level.aborted ≡ true → IsOpen level) → (p : OpenPortal) → IsLive p (level ∷ levels) ⊎ IsDead p (level ∷ levels) → p.created ≤ length levels
 created_below level levels starting gone p s = elim s [
   | inl l ↦ let deep : active_depth (level ∷ levels) ≡ length levels = rw starting refl in omega (arith, l.within, l.active, deep)
   | inr d ↦ absurd (both_ways level.starting (gone d.aborted).started starting)
 ]
 
-first_is : (levels : List LevelState) (p : ℕ) → owner_of (first_of levels) ≡ Some p → IsOwner p levels
+pub first_is : (levels : List LevelState) (p : ℕ) → owner_of (first_of levels) ≡ Some p → IsOwner p levels
 first_is [] p e = absurd (no_value None p refl e)
 first_is (level ∷ levels) p e = inl e
 
@@ -581,7 +581,7 @@ level_owner_stands level levels s starting none few h =
     above_there (level ∷ levels) t x l p e = (l.0.owner p e).there
 
 -- the level that was started, with the context of the level as the current one
-abbrev started : LevelState → List LevelState → Scene → Option ℕ → Scene
+abbrev pub started : LevelState → List LevelState → Scene → Option ℕ → Scene
 started level levels s o =
     (in_order (where_there o switched ∷ changes (λ session. record session { levels = deepest_changed (λ level. record level { starting = false }) session.levels }) ∷ []) (settled (level ∷ levels) s)).scene
 

@@ -94,7 +94,7 @@ turn_leads w command moment k =
     go (Some error) e = recovered_stands error (does_all w (line_elements command moment.scene.session) moment).moment.scene k.stands
 
 -- a fallible step
-fallible_leads : (Q : Scene → Type 0) (w : Option ℕ) (moment : Moment) (own : Option Error) (act : Scene → Ended) → Stands moment.scene → ((z : Scene) → Q z → Stands z) → (own ≡ None → Q (act moment.scene).scene)
+pub fallible_leads : (Q : Scene → Type 0) (w : Option ℕ) (moment : Moment) (own : Option Error) (act : Scene → Ended) → Stands moment.scene → ((z : Scene) → Q z → Stands z) → (own ≡ None → Q (act moment.scene).scene)
     → Leads Q (fallible w moment own act)
 fallible_leads Q w moment own act before so behind =
     go (refused_call w moment.fail (moment.calls + 1) own) (own_refusal w moment.fail (moment.calls + 1) own)
@@ -109,14 +109,14 @@ pub record At (levels : List LevelState) (scene : Scene) : Type 0 where
   pub are : scene.session.levels ≡ levels
   pub at_rest : All IsAtRest scene.session.portals
 
-working_in : (levels : List LevelState) (scene : Scene) → IsWorking levels → scene.session.levels ≡ levels → IsWorking scene.session.levels
+pub working_in : (levels : List LevelState) (scene : Scene) → IsWorking levels → scene.session.levels ≡ levels → IsWorking scene.session.levels
 working_in levels scene h are = subst IsWorking (sym are) h
 
-working_at : (levels : List LevelState) (scene : Scene) → IsWorking levels → At levels scene → IsWorking scene.session.levels
+pub working_at : (levels : List LevelState) (scene : Scene) → IsWorking levels → At levels scene → IsWorking scene.session.levels
 working_at levels scene h at = working_in levels scene h at.are
 
 -- a check, and what is done behind it
-check_leads : (Q : Scene → Type 0) (w : Option ℕ) (check : Check) (moment : Moment) → Stands moment.scene → (failure check moment.scene ≡ None → Q moment.scene) → Leads Q (does w (element.Checks check) moment)
+pub check_leads : (Q : Scene → Type 0) (w : Option ℕ) (check : Check) (moment : Moment) → Stands moment.scene → (failure check moment.scene ≡ None → Q moment.scene) → Leads Q (does w (element.Checks check) moment)
 unfolding does
 check_leads Q w check moment h so = go (failure check moment.scene) refl
   where
@@ -125,7 +125,7 @@ check_leads Q w check moment h so = go (failure check moment.scene) refl
     go (Some r) e = record { stands = h; passed = λ none. absurd (cc none) }
 
 module _ (w : Option ℕ) (levels : List LevelState) (Q : Scene → Type 0) where
-  behind_check : (check : Check) (xs : List Element) (moment : Moment) → At levels moment.scene → ((m : Moment) → At levels m.scene → failure check m.scene ≡ None → Leads Q (does_all w xs m))
+  pub behind_check : (check : Check) (xs : List Element) (moment : Moment) → At levels moment.scene → ((m : Moment) → At levels m.scene → failure check m.scene ≡ None → Leads Q (does_all w xs m))
       → Leads Q (does_all w (element.Checks check ∷ xs) moment)
   behind_check check xs moment at next =
       leads_on w (λ z. At levels z × (failure check z ≡ None)) Q (element.Checks check) xs moment
@@ -133,7 +133,7 @@ module _ (w : Option ℕ) (levels : List LevelState) (Q : Scene → Type 0) wher
       (λ m p. next m p.0 p.1)
 
   -- what a check said holds where an owner got room
-  behind_room : (check : Check) (xs : List Element) (moment : Moment) → At levels moment.scene → failure check moment.scene ≡ None → ((m : Moment) → At levels m.scene → failure check m.scene ≡ None → Leads Q (does_all w xs m))
+  pub behind_room : (check : Check) (xs : List Element) (moment : Moment) → At levels moment.scene → failure check moment.scene ≡ None → ((m : Moment) → At levels m.scene → failure check m.scene ≡ None → Leads Q (does_all w xs m))
       → Leads Q (does_all w (element.Enlarge OfLevel ∷ xs) moment)
   unfolding does
   behind_room check xs moment at ok next =
@@ -141,36 +141,36 @@ module _ (w : Option ℕ) (levels : List LevelState) (Q : Scene → Type 0) wher
       (fallible_leads (λ z. At levels z × (failure check z ≡ None)) w moment None nothing at.stands (λ z q. q.0.stands) (λ _. (at, ok)))
       (λ m p. next m p.0 p.1)
 
-  behind_work : (x : Element) (xs : List Element) (moment : Moment) → At levels moment.scene → Works moment.scene (does w x moment).moment.scene → ((m : Moment) → At levels m.scene → Leads Q (does_all w xs m))
+  pub behind_work : (x : Element) (xs : List Element) (moment : Moment) → At levels moment.scene → Works moment.scene (does w x moment).moment.scene → ((m : Moment) → At levels m.scene → Leads Q (does_all w xs m))
       → Leads Q (does_all w (x ∷ xs) moment)
   behind_work x xs moment at works next =
       leads_on w (At levels) Q x xs moment (record { stands = works.stands; passed = λ _. record { stands = works.stands; are = works.levels ∙ at.are; at_rest = works.at_rest at.at_rest } }) next
 
-nothing_more : (w : Option ℕ) (levels : List LevelState) (moment : Moment) → At levels moment.scene → Leads (At levels) (does_all w [] moment)
+pub nothing_more : (w : Option ℕ) (levels : List LevelState) (moment : Moment) → At levels moment.scene → Leads (At levels) (does_all w [] moment)
 nothing_more w levels moment at = leads_nowhere w (At levels) moment at.stands at
 
-says_works : (w : Option ℕ) (event : What) (moment : Moment) → Stands moment.scene → Works moment.scene (does w (element.Says event) moment).moment.scene
+pub says_works : (w : Option ℕ) (event : What) (moment : Moment) → Stands moment.scene → Works moment.scene (does w (element.Says event) moment).moment.scene
 unfolding does
 says_works w event moment h = nothing_works moment.scene h
 
-report_works : (w : Option ℕ) (moment : Moment) → Stands moment.scene → Works moment.scene (does w element.Report moment).moment.scene
+pub report_works : (w : Option ℕ) (moment : Moment) → Stands moment.scene → Works moment.scene (does w element.Report moment).moment.scene
 unfolding does
 report_works w moment h = nothing_works moment.scene h
 
-stat_works : (w : Option ℕ) (moment : Moment) → Stands moment.scene → Works moment.scene (does w element.Stat moment).moment.scene
+pub stat_works : (w : Option ℕ) (moment : Moment) → Stands moment.scene → Works moment.scene (does w element.Stat moment).moment.scene
 unfolding does
 stat_works w moment h = nothing_works moment.scene h
 
-show_works : (w : Option ℕ) (name : Text) (from n : ℕ) (moment : Moment) → Stands moment.scene → Works moment.scene (does w (element.Show name from n) moment).moment.scene
+pub show_works : (w : Option ℕ) (name : Text) (from n : ℕ) (moment : Moment) → Stands moment.scene → Works moment.scene (does w (element.Show name from n) moment).moment.scene
 unfolding does
 show_works w name from n moment h = nothing_works moment.scene h
 
-buffer_works : (w : Option ℕ) (buffer : ℕ) (moment : Moment) → Stands moment.scene → Works moment.scene (does w (element.TellBuffer buffer) moment).moment.scene
+pub buffer_works : (w : Option ℕ) (buffer : ℕ) (moment : Moment) → Stands moment.scene → Works moment.scene (does w (element.TellBuffer buffer) moment).moment.scene
 unfolding does
 buffer_works w buffer moment h = nothing_works moment.scene h
 
 -- there is a buffer
-is_buffer : (buffer : ℕ) (b : Bool) (error : Error) → nat_lt buffer 1024 ≡ b → unless b error ≡ None → buffer < 1024
+pub is_buffer : (buffer : ℕ) (b : Bool) (error : Error) → nat_lt buffer 1024 ≡ b → unless b error ≡ None → buffer < 1024
 is_buffer buffer true error e h = ltb-true buffer 1024 e
 is_buffer buffer false error e h = absurd (cc h)
 
@@ -219,31 +219,31 @@ IsWork (command.Unlock object mode) = Unit {0}
 IsWork other = ⊥
 
 -- A portal on its way: it has its context and its owner, or hasn't them yet.
-record IsMaking (context owner : Bool) (depth : ℕ) (p : OpenPortal) : Type 0 where
+pub record IsMaking (context owner : Bool) (depth : ℕ) (p : OpenPortal) : Type 0 where
   has_context : is_some p.context ≡ context
   has_owner : is_some p.owner ≡ owner
   expr : p.expr ≡ None
   created : p.created ≡ depth
 
 -- a session that stands, with these levels, whose portals are at rest but the one of a name
-record Nears (levels : List LevelState) (name : Text) (scene : Scene) : Type 0 where
+pub record Nears (levels : List LevelState) (name : Text) (scene : Scene) : Type 0 where
   stands : Stands scene
   are : scene.session.levels ≡ levels
   beside : All (RestsBeside name) scene.session.portals
 
-record Makes (levels : List LevelState) (name : Text) (context owner : Bool) (scene : Scene) : Type 0 where
+pub record Makes (levels : List LevelState) (name : Text) (context owner : Bool) (scene : Scene) : Type 0 where
   at : Nears levels name scene
   portal : OpenPortal
   named : portal_named name scene.session.portals ≡ Some portal
   is : IsMaking context owner (length levels) portal
 
-no_value_of : (o : Option ℕ) → is_some o ≡ false → o ≡ None
+pub no_value_of : (o : Option ℕ) → is_some o ≡ false → o ≡ None
 no_value_of None e = refl
 no_value_of (Some n) e = absurd (cc e)
 
 module _ (w : Option ℕ) (levels : List LevelState) (active : IsWorking levels) (name : Text) (Q : Scene → Type 0) where
   -- a step that leaves portals as they are
-  behind_beside : (c o : Bool) (x : Element) (xs : List Element) (moment : Moment) → Makes levels name c o moment.scene → Beside moment.scene (does w x moment).moment.scene
+  pub behind_beside : (c o : Bool) (x : Element) (xs : List Element) (moment : Moment) → Makes levels name c o moment.scene → Beside moment.scene (does w x moment).moment.scene
       → ((m : Moment) → Makes levels name c o m.scene → Leads Q (does_all w xs m)) → Leads Q (does_all w (x ∷ xs) moment)
   behind_beside c o x xs moment k b next =
       leads_on w (Makes levels name c o) Q x xs moment
@@ -257,7 +257,7 @@ module _ (w : Option ℕ) (levels : List LevelState) (active : IsWorking levels)
         };
       }) next
 
-  behind_made : (object rows : ℕ) (bad : Option ℕ) (xs : List Element) (moment : Moment) → At levels moment.scene → portal_named name moment.scene.session.portals ≡ None
+  pub behind_made : (object rows : ℕ) (bad : Option ℕ) (xs : List Element) (moment : Moment) → At levels moment.scene → portal_named name moment.scene.session.portals ≡ None
       → ((m : Moment) → Makes levels name false false m.scene → Leads Q (does_all w xs m)) → Leads Q (does_all w (element.MakePortal name object rows bad ∷ xs) moment)
   unfolding does
   behind_made object rows bad xs moment at free next =
@@ -274,7 +274,7 @@ module _ (w : Option ℕ) (levels : List LevelState) (active : IsWorking levels)
         is = record { has_context = refl; has_owner = refl; expr = refl; created = ap length at.are };
       })) next
 
-  behind_context : (xs : List Element) (moment : Moment) → Makes levels name false false moment.scene → ((m : Moment) → Makes levels name true false m.scene → Leads Q (does_all w xs m))
+  pub behind_context : (xs : List Element) (moment : Moment) → Makes levels name false false moment.scene → ((m : Moment) → Makes levels name true false m.scene → Leads Q (does_all w xs m))
       → Leads Q (does_all w (element.MakeContext (PortalContext name) ∷ xs) moment)
   unfolding does
   behind_context xs moment k next =
@@ -291,14 +291,14 @@ module _ (w : Option ℕ) (levels : List LevelState) (active : IsWorking levels)
         is = record { has_context = refl; has_owner = k.is.has_owner; expr = k.is.expr; created = k.is.created };
       })) next
 
-  level_owned : (moment : Moment) → Nears levels name moment.scene → (lo : ℕ) × (level_owner moment.scene.session ≡ Some lo)
+  pub level_owned : (moment : Moment) → Nears levels name moment.scene → (lo : ℕ) × (level_owner moment.scene.session ≡ Some lo)
   level_owned moment at = go moment.scene.session.levels (working_in levels moment.scene active at.are)
     where
       go : (ls : List LevelState) → IsWorking ls → (lo : ℕ) × (owner_of (first_of ls) ≡ Some lo)
       go [] a = absurd a
       go (level ∷ ls) a = is_there level.owner a.made.owner
 
-  behind_owner : (xs : List Element) (moment : Moment) → Makes levels name true false moment.scene → ((m : Moment) → Makes levels name true true m.scene → Leads Q (does_all w xs m))
+  pub behind_owner : (xs : List Element) (moment : Moment) → Makes levels name true false moment.scene → ((m : Moment) → Makes levels name true true m.scene → Leads Q (does_all w xs m))
       → Leads Q (does_all w (element.MakeOwner (OfPortal name) ∷ xs) moment)
   unfolding does
   behind_owner xs moment k next =
@@ -318,7 +318,7 @@ module _ (w : Option ℕ) (levels : List LevelState) (active : IsWorking levels)
       })) next
 
   -- the context of one row, and then the portal is ready
-  behind_row : (xs : List Element) (moment : Moment) → Makes levels name true true moment.scene → ((m : Moment) → Nears levels name m.scene → Leads Q (does_all w xs m))
+  pub behind_row : (xs : List Element) (moment : Moment) → Makes levels name true true moment.scene → ((m : Moment) → Nears levels name m.scene → Leads Q (does_all w xs m))
       → Leads Q (does_all w (element.MakeContext (RowContext name) ∷ xs) moment)
   unfolding does
   behind_row xs moment k next =
@@ -350,7 +350,7 @@ module _ (w : Option ℕ) (levels : List LevelState) (active : IsWorking levels)
           go None = k.at.beside
           go (Some c) = beside_becomes name (λ p. record p { expr = Some moment.scene.session.next_context }) moment.scene.session.portals (λ q. refl) k.at.beside
 
-  ready_leads : (moment : Moment) → Nears levels name moment.scene → Leads (At levels) (does w (element.PortalReady name) moment)
+  pub ready_leads : (moment : Moment) → Nears levels name moment.scene → Leads (At levels) (does w (element.PortalReady name) moment)
   unfolding does
   ready_leads moment k =
       let works : Works moment.scene (does w (element.PortalReady name) moment).moment.scene = ready_works w moment k.stands (working_in levels moment.scene active k.are) name in
@@ -364,7 +364,7 @@ module _ (w : Option ℕ) (levels : List LevelState) (active : IsWorking levels)
       }
 
 -- The portal of a name is fetched from in a session with these levels, whose portals are at rest.
-record Fetches (levels : List LevelState) (name : Text) (scene : Scene) : Type 0 where
+pub record Fetches (levels : List LevelState) (name : Text) (scene : Scene) : Type 0 where
   at : At levels scene
   fetched : IsFetched name scene
 
@@ -373,15 +373,15 @@ abbrev AllFetch : Option ℕ → List LevelState → Text → List Element → T
 AllFetch w levels name [] = Unit {0}
 AllFetch w levels name (x ∷ xs) = ((m : Moment) → Fetches levels name m.scene → Leads (Fetches levels name) (does w x m)) × AllFetch w levels name xs
 
-both_fetch : (w : Option ℕ) (levels : List LevelState) (name : Text) (xs ys : List Element) → AllFetch w levels name xs → AllFetch w levels name ys → AllFetch w levels name (xs ++ ys)
+pub both_fetch : (w : Option ℕ) (levels : List LevelState) (name : Text) (xs ys : List Element) → AllFetch w levels name xs → AllFetch w levels name ys → AllFetch w levels name (xs ++ ys)
 both_fetch w levels name [] ys a b = b
 both_fetch w levels name (x ∷ xs) ys a b = (a.0, both_fetch w levels name xs ys a.1 b)
 
-all_fetch : (w : Option ℕ) (levels : List LevelState) (name : Text) (xs : List Element) (moment : Moment) → Fetches levels name moment.scene → AllFetch w levels name xs → Leads (Fetches levels name) (does_all w xs moment)
+pub all_fetch : (w : Option ℕ) (levels : List LevelState) (name : Text) (xs : List Element) (moment : Moment) → Fetches levels name moment.scene → AllFetch w levels name xs → Leads (Fetches levels name) (does_all w xs moment)
 all_fetch w levels name [] moment k a = leads_nowhere w (Fetches levels name) moment k.at.stands k
 all_fetch w levels name (x ∷ xs) moment k a = leads_on w (Fetches levels name) (Fetches levels name) x xs moment (a.0 moment k) (λ m l. all_fetch w levels name xs m l a.1)
 
-fetches_on : (levels : List LevelState) (name : Text) (s z : Scene) → Fetches levels name s → Turns name s z → Fetches levels name z
+pub fetches_on : (levels : List LevelState) (name : Text) (s z : Scene) → Fetches levels name s → Turns name s z → Fetches levels name z
 fetches_on levels name s z k t = record {
   at = record { stands = t.works.stands; are = t.works.levels ∙ k.at.are; at_rest = t.works.at_rest k.at.at_rest };
   fetched = t.fetched k.fetched;
@@ -397,26 +397,26 @@ module _ (w : Option ℕ) (levels : List LevelState) (active : IsWorking levels)
   AreSteps [] = Unit {0}
   AreSteps (s ∷ ss) = IsStep s × AreSteps ss
 
-  both_steps : (xs ys : List ScanStep) → AreSteps xs → AreSteps ys → AreSteps (xs ++ ys)
+  pub both_steps : (xs ys : List ScanStep) → AreSteps xs → AreSteps ys → AreSteps (xs ++ ys)
   both_steps [] ys a b = b
   both_steps (x ∷ xs) ys a b = (a.0, both_steps xs ys a.1 b)
 
-  unpinned_steps : (page : Option ℕ) → AreSteps (unpinned page)
+  pub unpinned_steps : (page : Option ℕ) → AreSteps (unpinned page)
   unpinned_steps None = tt
   unpinned_steps (Some page) = (tt, tt)
 
-  page_is : (scan : Scan) → page_of scan < 1024
+  pub page_is : (scan : Scan) → page_of scan < 1024
   page_is scan = omega arith
 
-  pages : (b : Bool) (scan : Scan) → AreSteps (if b then unpinned scan.page ++ (step.Pin (page_of scan) ∷ []) else [])
+  pub pages : (b : Bool) (scan : Scan) → AreSteps (if b then unpinned scan.page ++ (step.Pin (page_of scan) ∷ []) else [])
   pages true scan = both_steps (unpinned scan.page) (step.Pin (page_of scan) ∷ []) (unpinned_steps scan.page) (page_is scan, tt)
   pages false scan = tt
 
-  rows_are : (b : Bool) (scan : Scan) → AreSteps (if b then step.Bad scan.at ∷ [] else step.Alloc ∷ (row_step scan ∷ []))
+  pub rows_are : (b : Bool) (scan : Scan) → AreSteps (if b then step.Bad scan.at ∷ [] else step.Alloc ∷ (row_step scan ∷ []))
   rows_are true scan = (tt, tt)
   rows_are false scan = (tt, (tt, tt))
 
-  turn_is : (b : Bool) (scan : Scan) → AreSteps (if b then unpinned scan.page ++ (step.End ∷ []) else step.Reset ∷ (page_steps scan ++ row_steps scan))
+  pub turn_is : (b : Bool) (scan : Scan) → AreSteps (if b then unpinned scan.page ++ (step.End ∷ []) else step.Reset ∷ (page_steps scan ++ row_steps scan))
   turn_is true scan = both_steps (unpinned scan.page) (step.End ∷ []) (unpinned_steps scan.page) (tt, tt)
   turn_is false scan = (tt, both_steps (page_steps scan) (row_steps scan) (pages (is_tenth scan) scan) (rows_are (is_bad scan) scan))
 
@@ -424,20 +424,20 @@ module _ (w : Option ℕ) (levels : List LevelState) (active : IsWorking levels)
   AllTurn xs = AllFetch w levels name xs
 
   -- the elements of a step, each in its turn
-  in_turn : (x : Element) → ((m : Moment) → At levels m.scene → Turns name m.scene (does w x m).moment.scene) → (m : Moment) → Fetches levels name m.scene → Leads (Fetches levels name) (does w (element.InTurn name x) m)
+  pub in_turn : (x : Element) → ((m : Moment) → At levels m.scene → Turns name m.scene (does w x m).moment.scene) → (m : Moment) → Fetches levels name m.scene → Leads (Fetches levels name) (does w (element.InTurn name x) m)
   in_turn x turns m k =
       let t : Turned name m.scene (does w (element.InTurn name x) m) = turned w m k.at.stands (working_at levels m.scene active k.at) name x k.fetched (turns m k.at) in
       record { stands = t.stands; passed = λ none. fetches_on levels name m.scene (does w (element.InTurn name x) m).moment.scene k (t.passed none) }
 
   -- and one that leaves the portals as they are
-  beside_turn : (x : Element) → ((m : Moment) → At levels m.scene → Beside m.scene (does w x m).moment.scene) → (m : Moment) → Fetches levels name m.scene → Leads (Fetches levels name) (does w (element.InTurn name x) m)
+  pub beside_turn : (x : Element) → ((m : Moment) → At levels m.scene → Beside m.scene (does w x m).moment.scene) → (m : Moment) → Fetches levels name m.scene → Leads (Fetches levels name) (does w (element.InTurn name x) m)
   beside_turn x beside = in_turn x (λ m k. beside_turns name m.scene (does w x m).moment.scene (beside m k))
 
-  says_fetched : (event : What) (m : Moment) → Fetches levels name m.scene → Leads (Fetches levels name) (does w (element.Says event) m)
+  pub says_fetched : (event : What) (m : Moment) → Fetches levels name m.scene → Leads (Fetches levels name) (does w (element.Says event) m)
   unfolding does
   says_fetched event m k = record { stands = k.at.stands; passed = λ _. k }
 
-  step_work : (s : ScanStep) → IsStep s → AllTurn (map (element.InTurn name) (element.Scans name s ∷ fallible_part name s))
+  pub step_work : (s : ScanStep) → IsStep s → AllTurn (map (element.InTurn name) (element.Scans name s ∷ fallible_part name s))
   step_work s is = (in_turn (element.Scans name s) (λ m k. scan_turns w m k.stands (working_at levels m.scene active k) name s), parts s is)
     where
       parts : (s : ScanStep) → IsStep s → AllTurn (map (element.InTurn name) (fallible_part name s))
@@ -457,11 +457,11 @@ module _ (w : Option ℕ) (levels : List LevelState) (active : IsWorking levels)
       parts (step.Row row value) is = tt
       parts step.End is = tt
 
-  steps_work : (ss : List ScanStep) → AreSteps ss → AllTurn (flat_map (λ s. map (element.InTurn name) (element.Scans name s ∷ fallible_part name s)) ss)
+  pub steps_work : (ss : List ScanStep) → AreSteps ss → AllTurn (flat_map (λ s. map (element.InTurn name) (element.Scans name s ∷ fallible_part name s)) ss)
   steps_work [] a = tt
   steps_work (s ∷ ss) a = both_fetch w levels name (map (element.InTurn name) (element.Scans name s ∷ fallible_part name s)) _ (step_work s a.0) (steps_work ss a.1)
 
-  fetch_work : (count : ℕ) (scan : Scan) (rows : ℕ) → AllTurn (fetch_steps name count scan rows)
+  pub fetch_work : (count : ℕ) (scan : Scan) (rows : ℕ) → AllTurn (fetch_steps name count scan rows)
   fetch_work zero scan rows = (says_fetched (what.Fetched name rows), tt)
   fetch_work (suc count) scan rows =
       both_fetch w levels name (turn_steps name scan) _ (steps_work (scan_turn scan) (turn_is (scan.at == scan.rows) scan)) (rest (scan.at == scan.rows) (fetch_work count (after_turn scan) (rows + 1)))
@@ -470,11 +470,11 @@ module _ (w : Option ℕ) (levels : List LevelState) (active : IsWorking levels)
       rest true more = (says_fetched (what.Fetched name rows), tt)
       rest false more = more
 
-  fetch_all : (count : ℕ) (o : Option OpenPortal) → AllTurn (option_map_or (λ portal. fetch_steps name count portal.scan 0) o [])
+  pub fetch_all : (count : ℕ) (o : Option OpenPortal) → AllTurn (option_map_or (λ portal. fetch_steps name count portal.scan 0) o [])
   fetch_all count None = tt
   fetch_all count (Some p) = fetch_work count p.scan 0
 
-behind_begin : (w : Option ℕ) (levels : List LevelState) → IsWorking levels → (name : Text) (Q : Scene → Type 0) (xs : List Element) (moment : Moment) → At levels moment.scene → ((m : Moment) → Fetches levels name m.scene → Leads Q (does_all w xs m))
+pub behind_begin : (w : Option ℕ) (levels : List LevelState) → IsWorking levels → (name : Text) (Q : Scene → Type 0) (xs : List Element) (moment : Moment) → At levels moment.scene → ((m : Moment) → Fetches levels name m.scene → Leads Q (does_all w xs m))
     → Leads Q (does_all w (element.FetchBegins name ∷ xs) moment)
 behind_begin w levels active name Q xs moment k next =
     let working = working_at levels moment.scene active k in
@@ -488,12 +488,12 @@ behind_begin w levels active name Q xs moment k next =
       };
     }) next
 
-is_unnamed : (o : Option OpenPortal) (error : Error) → unless (is_none o) error ≡ None → o ≡ None
+pub is_unnamed : (o : Option OpenPortal) (error : Error) → unless (is_none o) error ≡ None → o ≡ None
 is_unnamed None error e = refl
 is_unnamed (Some p) error e = absurd (cc e)
 
 module _ (w : Option ℕ) (levels : List LevelState) (active : IsWorking levels) where
-  portal_leads : (name : Text) (object rows : ℕ) (bad : Option ℕ) (moment : Moment) → At levels moment.scene → portal_named name moment.scene.session.portals ≡ None → Leads (At levels) (does_all w (portal_steps name object rows bad) moment)
+  pub portal_leads : (name : Text) (object rows : ℕ) (bad : Option ℕ) (moment : Moment) → At levels moment.scene → portal_named name moment.scene.session.portals ≡ None → Leads (At levels) (does_all w (portal_steps name object rows bad) moment)
   portal_leads name object rows bad moment at free =
       behind_made w levels active name (At levels) object rows bad _ moment at free
       (λ m k. behind_context w levels active name (At levels) _ m k
@@ -649,17 +649,17 @@ module _ (w : Option ℕ) (levels : List LevelState) (active : IsWorking levels)
   work_leads other session is moment at = absurd is
 
 -- a level as it is being begun
-abbrev begun : Option Text → Bool → Option ℕ → Option ℕ → Bool → LevelState
+abbrev pub begun : Option Text → Bool → Option ℕ → Option ℕ → Bool → LevelState
 begun name implicit c o starting =
     record { name = name; context = c; owner = o; implicit = implicit; aborted = false; starting = starting }
 
-record HasContext (name : Option Text) (implicit : Bool) (outer : List LevelState) (scene : Scene) : Type 0 where
+pub record HasContext (name : Option Text) (implicit : Bool) (outer : List LevelState) (scene : Scene) : Type 0 where
   stands : Stands scene
   at_rest : All IsAtRest scene.session.portals
   context : ℕ
   levels : scene.session.levels ≡ begun name implicit (Some context) None true ∷ outer
 
-record HasOwner (name : Option Text) (implicit : Bool) (outer : List LevelState) (scene : Scene) : Type 0 where
+pub record HasOwner (name : Option Text) (implicit : Bool) (outer : List LevelState) (scene : Scene) : Type 0 where
   stands : Stands scene
   at_rest : All IsAtRest scene.session.portals
   context : ℕ
@@ -674,7 +674,7 @@ pub record HasBegun (name : Option Text) (implicit : Bool) (outer : List LevelSt
   pub levels : scene.session.levels ≡ begun name implicit (Some context) (Some owner) false ∷ outer
 
 module _ (w : Option ℕ) (name : Option Text) (implicit : Bool) (levels : List LevelState) where
-  level_leads : (moment : Moment) → At levels moment.scene → AreOuter levels → (implicit ≡ true → levels ≡ []) → Leads (At (begun name implicit None None true ∷ levels)) (does w (element.MakeLevel name implicit) moment)
+  pub level_leads : (moment : Moment) → At levels moment.scene → AreOuter levels → (implicit ≡ true → levels ≡ []) → Leads (At (begun name implicit None None true ∷ levels)) (does w (element.MakeLevel name implicit) moment)
   unfolding does
   level_leads moment at outer alone =
       fallible_leads (At (begun name implicit None None true ∷ levels)) w moment _ (level_made name implicit) at.stands (λ z q. q.stands)
@@ -684,7 +684,7 @@ module _ (w : Option ℕ) (name : Option Text) (implicit : Bool) (levels : List 
         at_rest = at.at_rest;
       })
 
-  context_leads : (moment : Moment) → At (begun name implicit None None true ∷ levels) moment.scene → Leads (HasContext name implicit levels) (does w (element.MakeContext LevelContext) moment)
+  pub context_leads : (moment : Moment) → At (begun name implicit None None true ∷ levels) moment.scene → Leads (HasContext name implicit levels) (does w (element.MakeContext LevelContext) moment)
   unfolding does
   context_leads moment at =
       fallible_leads (HasContext name implicit levels) w moment _ (new_context_made LevelContext) at.stands (λ z q. q.stands)
@@ -696,7 +696,7 @@ module _ (w : Option ℕ) (name : Option Text) (implicit : Bool) (levels : List 
         levels = refl;
       }))
 
-  owner_leads : (moment : Moment) → HasContext name implicit levels moment.scene → Leads (HasOwner name implicit levels) (does w (element.MakeOwner OfLevel) moment)
+  pub owner_leads : (moment : Moment) → HasContext name implicit levels moment.scene → Leads (HasOwner name implicit levels) (does w (element.MakeOwner OfLevel) moment)
   unfolding does
   owner_leads moment at =
       fallible_leads (HasOwner name implicit levels) w moment _ (new_owner_made OfLevel) at.stands (λ z q. q.stands)
@@ -709,7 +709,7 @@ module _ (w : Option ℕ) (name : Option Text) (implicit : Bool) (levels : List 
         levels = refl;
       }))
 
-  stands_leads : (moment : Moment) → HasOwner name implicit levels moment.scene → Leads (HasBegun name implicit levels) (does w element.LevelStands moment)
+  pub stands_leads : (moment : Moment) → HasOwner name implicit levels moment.scene → Leads (HasBegun name implicit levels) (does w element.LevelStands moment)
   unfolding does
   stands_leads moment at =
       let x : HasBegun name implicit levels (level_stands moment.scene).scene =
@@ -732,11 +732,11 @@ module _ (w : Option ℕ) (name : Option Text) (implicit : Bool) (levels : List 
       (λ m k. leads_on w (HasBegun name implicit levels) (HasBegun name implicit levels) _ _ m (stands_leads m k)
       (λ m k. leads_nowhere w (HasBegun name implicit levels) m k.stands k))))
 
-begun_active : (name : Option Text) (implicit : Bool) (c o : ℕ) → IsActive (begun name implicit (Some c) (Some o) false)
+pub begun_active : (name : Option Text) (implicit : Bool) (c o : ℕ) → IsActive (begun name implicit (Some c) (Some o) false)
 begun_active name implicit c o = record { made = record { context = refl; owner = refl }; started = refl; unaborted = refl }
 
 -- a block was begun
-begun_between : (name : Option Text) (levels : List LevelState) (scene : Scene) → AreOuter levels → HasBegun name false levels scene → StandsBetweenLines scene
+pub begun_between : (name : Option Text) (levels : List LevelState) (scene : Scene) → AreOuter levels → HasBegun name false levels scene → StandsBetweenLines scene
 begun_between name levels scene outer h = record {
   stands = h.stands;
   open_levels = subst AreOpen (sym h.levels) (record { started = refl; block = refl }, outer_open levels outer);
@@ -744,17 +744,17 @@ begun_between name levels scene outer h = record {
 }
 
 -- what is known between two lines, and of the levels
-at_left : (levels : List LevelState) (scene : Scene) → Leaves levels scene → At levels scene
+pub at_left : (levels : List LevelState) (scene : Scene) → Leaves levels scene → At levels scene
 at_left levels scene h = record { stands = h.between.stands; are = h.are; at_rest = h.between.at_rest }
 
-outer_of : (scene : Scene) (level : LevelState) (levels : List LevelState) → Stands scene → scene.session.levels ≡ level ∷ levels → AreOuter levels
+pub outer_of : (scene : Scene) (level : LevelState) (levels : List LevelState) → Stands scene → scene.session.levels ≡ level ∷ levels → AreOuter levels
 outer_of scene level levels h is =
     (subst (λ (ls : List LevelState). FitLevels ls scene.session.contexts scene.session.owners scene.session.current) is h.fit).1
 
-open_of : (scene : Scene) (level : LevelState) (levels : List LevelState) → StandsBetweenLines scene → scene.session.levels ≡ level ∷ levels → IsOpen level
+pub open_of : (scene : Scene) (level : LevelState) (levels : List LevelState) → StandsBetweenLines scene → scene.session.levels ≡ level ∷ levels → IsOpen level
 open_of scene level levels h is = (subst AreOpen is h.open_levels).0
 
-active_of : (scene : Scene) (level : LevelState) (levels : List LevelState) → StandsBetweenLines scene → scene.session.levels ≡ level ∷ levels → level.aborted ≡ false → IsActive level
+pub active_of : (scene : Scene) (level : LevelState) (levels : List LevelState) → StandsBetweenLines scene → scene.session.levels ≡ level ∷ levels → level.aborted ≡ false → IsActive level
 active_of scene level levels h is unaborted =
     let open_level : IsOpen level = open_of scene level levels h is in
     record {
@@ -763,11 +763,11 @@ active_of scene level levels h is unaborted =
       unaborted = unaborted;
     }
 
-only_left : (b : Bool) → (b && true) ≡ false → b ≡ false
+pub only_left : (b : Bool) → (b && true) ≡ false → b ≡ false
 only_left true e = e
 only_left false e = refl
 
-says_leads : (w : Option ℕ) (event : What) (moment : Moment) → StandsBetweenLines moment.scene → Leads StandsBetweenLines (does w (element.Says event) moment)
+pub says_leads : (w : Option ℕ) (event : What) (moment : Moment) → StandsBetweenLines moment.scene → Leads StandsBetweenLines (does w (element.Says event) moment)
 unfolding does
 says_leads w event moment h = record { stands = h.stands; passed = λ _. h }
 
@@ -775,29 +775,29 @@ module _ (w : Option ℕ) where
   abbrev Between : Done → Type 0
   Between done = Leads StandsBetweenLines done
 
-  between_says : (event : What) (xs : List Element) (moment : Moment) → StandsBetweenLines moment.scene → ((m : Moment) → StandsBetweenLines m.scene → Between (does_all w xs m)) → Between (does_all w (element.Says event ∷ xs) moment)
+  pub between_says : (event : What) (xs : List Element) (moment : Moment) → StandsBetweenLines moment.scene → ((m : Moment) → StandsBetweenLines m.scene → Between (does_all w xs m)) → Between (does_all w (element.Says event ∷ xs) moment)
   between_says event xs moment h next = leads_on w StandsBetweenLines StandsBetweenLines (element.Says event) xs moment (says_leads w event moment h) next
 
-  between_nothing : (moment : Moment) → StandsBetweenLines moment.scene → Between (does_all w [] moment)
+  pub between_nothing : (moment : Moment) → StandsBetweenLines moment.scene → Between (does_all w [] moment)
   between_nothing moment h = leads_nowhere w StandsBetweenLines moment h.stands h
 
-  then_ok_leads : (xs : List Element) (moment : Moment) → Between (does_all w xs moment) → Between (does_all w (then_ok xs) moment)
+  pub then_ok_leads : (xs : List Element) (moment : Moment) → Between (does_all w xs moment) → Between (does_all w (then_ok xs) moment)
   then_ok_leads xs moment first =
       leads_both w StandsBetweenLines StandsBetweenLines xs _ moment first (λ m k. between_says what.Ok [] m k (λ m k. between_nothing m k))
 
-  refused_leads : (Q : Scene → Type 0) (error : Error) (moment : Moment) → Stands moment.scene → Leads Q (does_all w (refused error) moment)
+  pub refused_leads : (Q : Scene → Type 0) (error : Error) (moment : Moment) → Stands moment.scene → Leads Q (does_all w (refused error) moment)
   refused_leads Q error moment h =
       leads_on w (λ z. ⊥) Q (element.Checks (element.Refuse error)) [] moment (check_leads (λ z. ⊥) w (element.Refuse error) moment h (λ e. cc e)) (λ m no. absurd no)
 
   -- what an end leads to
-  end_leads : (levels : List LevelState) (done : Done) → Leaves levels done.moment.scene → Leads (Leaves levels) done
+  pub end_leads : (levels : List LevelState) (done : Done) → Leaves levels done.moment.scene → Leads (Leaves levels) done
   end_leads levels done h = record { stands = h.between.stands; passed = λ _. h }
 
-  end_nothing : (levels : List LevelState) (moment : Moment) → Leaves levels moment.scene → Leads (Leaves levels) (does_all w [] moment)
+  pub end_nothing : (levels : List LevelState) (moment : Moment) → Leaves levels moment.scene → Leads (Leaves levels) (does_all w [] moment)
   end_nothing levels moment h = leads_nowhere w (Leaves levels) moment h.between.stands h
 
   -- a level is rolled back
-  level_rolled : (level : LevelState) (levels : List LevelState) (moment : Moment) → Leaves (level ∷ levels) moment.scene
+  pub level_rolled : (level : LevelState) (levels : List LevelState) (moment : Moment) → Leaves (level ∷ levels) moment.scene
       → Leads (Leaves levels) (does_all w (if level.aborted then element.Cleanup ∷ [] else element.Abort ∷ element.Cleanup ∷ []) moment)
   level_rolled level levels moment h = go level.aborted refl
     where
@@ -818,7 +818,7 @@ module _ (w : Option ℕ) where
   abbrev IsOuter : Scene → Type 0
   IsOuter scene = StandsBetweenLines scene × AreOuter scene.session.levels
 
-  outer_rolled : (n : ℕ) (levels : List LevelState) (moment : Moment) → Leaves levels moment.scene → AreOuter levels → Leads IsOuter (does_all w (rolled_back_to n levels) moment)
+  pub outer_rolled : (n : ℕ) (levels : List LevelState) (moment : Moment) → Leaves levels moment.scene → AreOuter levels → Leads IsOuter (does_all w (rolled_back_to n levels) moment)
   outer_rolled n [] moment h o = leads_nowhere w IsOuter moment h.between.stands (h.between, subst AreOuter (sym h.are) o)
   outer_rolled n (level ∷ levels) moment h o = go (nat_lt (length levels + 1) n) (λ m k. outer_rolled n levels m k o.2)
     where
@@ -827,7 +827,7 @@ module _ (w : Option ℕ) where
       go true rest = leads_nowhere w IsOuter moment h.between.stands (h.between, subst AreOuter (sym h.are) o)
       go false rest = leads_both w (Leaves levels) IsOuter _ (rolled_back_to n levels) moment (level_rolled level levels moment h) rest
 
-  rolled_leads : (n : ℕ) (level : LevelState) (levels : List LevelState) (moment : Moment) → Leaves (level ∷ levels) moment.scene → n ≤ length levels + 1 → Leads IsOuter (does_all w (rolled_back_to n (level ∷ levels)) moment)
+  pub rolled_leads : (n : ℕ) (level : LevelState) (levels : List LevelState) (moment : Moment) → Leaves (level ∷ levels) moment.scene → n ≤ length levels + 1 → Leads IsOuter (does_all w (rolled_back_to n (level ∷ levels)) moment)
   rolled_leads n level levels moment h small = go (nat_lt (length levels + 1) n) (le-ltb (length levels + 1) n small)
     where
       go : (b : Bool) → b ≡ false → Leads IsOuter (does_all w (if b then [] else (if level.aborted then element.Cleanup ∷ [] else element.Abort ∷ element.Cleanup ∷ []) ++ rolled_back_to n levels) moment)
@@ -836,18 +836,18 @@ module _ (w : Option ℕ) where
           leads_both w (Leaves levels) IsOuter _ (rolled_back_to n levels) moment (level_rolled level levels moment h)
           (λ m k. outer_rolled n levels m k (outer_of moment.scene level levels h.between.stands h.are))
 
-  all_rolled_leads : (n : ℕ) (level : LevelState) (levels : List LevelState) (moment : Moment) → Leaves (level ∷ levels) moment.scene → n ≤ length levels + 1 → Between (does_all w (rolled_back_to n (level ∷ levels)) moment)
+  pub all_rolled_leads : (n : ℕ) (level : LevelState) (levels : List LevelState) (moment : Moment) → Leaves (level ∷ levels) moment.scene → n ≤ length levels + 1 → Between (does_all w (rolled_back_to n (level ∷ levels)) moment)
   all_rolled_leads n level levels moment h small =
       let k : Leads IsOuter (does_all w (rolled_back_to n (level ∷ levels)) moment) = rolled_leads n level levels moment h small in
       record { stands = k.stands; passed = λ e. (k.passed e).0 }
 
   -- levels are merged into those above them
-  record HasMerged (n : ℕ) (scene : Scene) : Type 0 where
+  pub record HasMerged (n : ℕ) (scene : Scene) : Type 0 where
     levels : List LevelState
     leaves : Leaves levels scene
     many : length levels ≡ n
 
-  merges_leads : (k n : ℕ) (levels : List LevelState) (moment : Moment) → Leaves levels moment.scene → 1 ≤ n → length levels ≡ n + k → Leads (HasMerged n) (does_all w (replicate k element.Subcommit) moment)
+  pub merges_leads : (k n : ℕ) (levels : List LevelState) (moment : Moment) → Leaves levels moment.scene → 1 ≤ n → length levels ≡ n + k → Leads (HasMerged n) (does_all w (replicate k element.Subcommit) moment)
   merges_leads zero n levels moment h some e = leads_nowhere w (HasMerged n) moment h.between.stands (record { levels = levels; leaves = h; many = omega (arith, e) })
   merges_leads (suc k) n [] moment h some e = absurd (omega (arith, e))
   merges_leads (suc k) n (level ∷ levels) moment h some e =
@@ -856,7 +856,7 @@ module _ (w : Option ℕ) where
       (λ m l. merges_leads k n levels m l some (omega (arith, e)))
 
   -- level 1 commits
-  top_leads : (moment : Moment) → HasMerged 1 moment.scene → Between (does_all w (element.CommitTop ∷ []) moment)
+  pub top_leads : (moment : Moment) → HasMerged 1 moment.scene → Between (does_all w (element.CommitTop ∷ []) moment)
   top_leads moment h = go h.levels h.leaves h.many
     where
       go : (levels : List LevelState) → Leaves levels moment.scene → length levels ≡ 1 → Between (does_all w (element.CommitTop ∷ []) moment)
@@ -866,7 +866,7 @@ module _ (w : Option ℕ) where
           (λ m k. between_nothing m k.between)
       go (level ∷ (other ∷ levels)) l e = absurd (omega (arith, e))
 
-  commit_leads : (levels : List LevelState) (moment : Moment) → Leaves levels moment.scene → Between (does_all w (commit levels) moment)
+  pub commit_leads : (levels : List LevelState) (moment : Moment) → Leaves levels moment.scene → Between (does_all w (commit levels) moment)
   commit_leads [] moment h = between_says what.NotInTransaction [] moment h.between (λ m k. between_nothing m k)
   commit_leads (level ∷ levels) moment h = go level.aborted
     where
@@ -876,12 +876,12 @@ module _ (w : Option ℕ) where
           leads_both w (HasMerged 1) StandsBetweenLines (committed_to 2 (level ∷ levels)) (element.CommitTop ∷ []) moment
           (merges_leads (length (level ∷ levels) + 1 - 2) 1 (level ∷ levels) moment h (omega arith) (omega arith)) top_leads
 
-  rollback_leads : (levels : List LevelState) (moment : Moment) → Leaves levels moment.scene → Between (does_all w (rollback levels) moment)
+  pub rollback_leads : (levels : List LevelState) (moment : Moment) → Leaves levels moment.scene → Between (does_all w (rollback levels) moment)
   rollback_leads [] moment h = between_says what.NotInTransaction [] moment h.between (λ m k. between_nothing m k)
   rollback_leads (level ∷ levels) moment h = all_rolled_leads 1 level levels moment h (omega arith)
 
   -- a savepoint is that of a level that there is
-  savepoint_bound : (name : Text) (levels : List LevelState) (n : ℕ) → savepoint name levels ≡ Some n → (2 ≤ n) × (n ≤ length levels)
+  pub savepoint_bound : (name : Text) (levels : List LevelState) (n : ℕ) → savepoint name levels ≡ Some n → (2 ≤ n) × (n ≤ length levels)
   savepoint_bound name [] n e = absurd (cc e)
   savepoint_bound name (level ∷ levels) n e = go (nat_lt 0 (length levels) && is_named name level) refl e (λ q. savepoint_bound name levels n q)
     where
@@ -897,7 +897,7 @@ module _ (w : Option ℕ) where
           (omega (arith, same, above), omega (arith, same))
       go false is e rest = let b = rest e in (b.0, omega (arith, b.1))
 
-  at_savepoint_leads : (name : Text) (levels : List LevelState) (go_on : ℕ → List Element) (moment : Moment) → Leaves levels moment.scene
+  pub at_savepoint_leads : (name : Text) (levels : List LevelState) (go_on : ℕ → List Element) (moment : Moment) → Leaves levels moment.scene
       → ((n : ℕ) → 2 ≤ n → n ≤ length levels → Between (does_all w (go_on n) moment)) → Between (does_all w (at_savepoint name levels go_on) moment)
   at_savepoint_leads name [] go_on moment h next = refused_leads StandsBetweenLines error.NoTransactionBlock moment h.between.stands
   at_savepoint_leads name (level ∷ levels) go_on moment h next = go (savepoint name (level ∷ levels)) refl
@@ -906,35 +906,35 @@ module _ (w : Option ℕ) where
       go None e = refused_leads StandsBetweenLines error.NoSuchSavepoint moment h.between.stands
       go (Some n) e = let b = savepoint_bound name (level ∷ levels) n e in next n b.0 b.1
 
-  release_leads : (n : ℕ) (levels : List LevelState) (moment : Moment) → Leaves levels moment.scene → 2 ≤ n → n ≤ length levels → Between (does_all w (committed_to n levels) moment)
+  pub release_leads : (n : ℕ) (levels : List LevelState) (moment : Moment) → Leaves levels moment.scene → 2 ≤ n → n ≤ length levels → Between (does_all w (committed_to n levels) moment)
   release_leads n levels moment h low high =
       let k : Leads (HasMerged (n - 1)) (does_all w (committed_to n levels) moment) = merges_leads (length levels + 1 - n) (n - 1) levels moment h (omega (arith, low)) (omega (arith, low, high)) in
       record { stands = k.stands; passed = λ e. (k.passed e).leaves.between }
 
   -- a block or a savepoint is begun
-  block_leads : (name : Option Text) (levels : List LevelState) (moment : Moment) → Leaves levels moment.scene → AreOuter levels → Between (does_all w (start name false) moment)
+  pub block_leads : (name : Option Text) (levels : List LevelState) (moment : Moment) → Leaves levels moment.scene → AreOuter levels → Between (does_all w (start name false) moment)
   block_leads name levels moment h outer =
       let k : Leads (HasBegun name false levels) (does_all w (start name false) moment) = start_leads w name false levels moment (at_left levels moment.scene h) outer (λ e. absurd (cc e)) in
       record { stands = k.stands; passed = λ e. begun_between name levels _ outer (k.passed e) }
 
-  back_leads : (name : Text) (n : ℕ) (levels : List LevelState) (moment : Moment) → Leaves levels moment.scene → 2 ≤ n → n ≤ length levels → Between (does_all w (rolled_back_to n levels ++ start (Some name) false) moment)
+  pub back_leads : (name : Text) (n : ℕ) (levels : List LevelState) (moment : Moment) → Leaves levels moment.scene → 2 ≤ n → n ≤ length levels → Between (does_all w (rolled_back_to n levels ++ start (Some name) false) moment)
   back_leads name n [] moment h low high = absurd (omega (arith, low, high))
   back_leads name n (level ∷ levels) moment h low high =
       leads_both w IsOuter StandsBetweenLines (rolled_back_to n (level ∷ levels)) (start (Some name) false) moment (rolled_leads n level levels moment h (omega (arith, high)))
       (λ m k. block_leads (Some name) m.scene.session.levels m (record { between = k.0; are = refl }) k.1)
 
-  begin_leads : (levels : List LevelState) (moment : Moment) → Leaves levels moment.scene → Between (does_all w (begin levels) moment)
+  pub begin_leads : (levels : List LevelState) (moment : Moment) → Leaves levels moment.scene → Between (does_all w (begin levels) moment)
   begin_leads [] moment h = block_leads None [] moment h tt
   begin_leads (level ∷ levels) moment h = between_says what.AlreadyInTransaction [] moment h.between (λ m k. between_nothing m k)
 
-  save_leads : (name : Text) (levels : List LevelState) (moment : Moment) → Leaves levels moment.scene → is_aborted levels ≡ false → Between (does_all w (save name levels) moment)
+  pub save_leads : (name : Text) (levels : List LevelState) (moment : Moment) → Leaves levels moment.scene → is_aborted levels ≡ false → Between (does_all w (save name levels) moment)
   save_leads name [] moment h active = refused_leads StandsBetweenLines error.NoTransactionBlock moment h.between.stands
   save_leads name (level ∷ levels) moment h active =
       block_leads (Some name) (level ∷ levels) moment h
       (active_of moment.scene level levels h.between h.are active, open_of moment.scene level levels h.between h.are, outer_of moment.scene level levels h.between.stands h.are)
 
   -- what a command does in a level, and the level that is begun for it alone
-  work_between : (levels : List LevelState) (work : List Element) (moment : Moment) → Leaves levels moment.scene → is_aborted levels ≡ false
+  pub work_between : (levels : List LevelState) (work : List Element) (moment : Moment) → Leaves levels moment.scene → is_aborted levels ≡ false
       → ((ls : List LevelState) → IsWorking ls → (m : Moment) → At ls m.scene → Leads (At ls) (does_all w work m)) → Between (does_all w (in_transaction levels work) moment)
   work_between [] work moment h active does_work =
       leads_both w (HasBegun None true []) StandsBetweenLines (start None true) _ moment
@@ -954,7 +954,7 @@ module _ (w : Option ℕ) where
       (λ m k. between_nothing m k))
 
   -- each command in a transaction that isn't aborted, and each end in one that is
-  unaborted_leads : (c : Command) (moment : Moment) → StandsBetweenLines moment.scene → (is_aborted moment.scene.session.levels && not (is_end c)) ≡ false
+  pub unaborted_leads : (c : Command) (moment : Moment) → StandsBetweenLines moment.scene → (is_aborted moment.scene.session.levels && not (is_end c)) ≡ false
       → Between (does_all w (unaborted c moment.scene.session) moment)
   unaborted_leads command.Nothing moment h active = between_nothing moment h
   unaborted_leads command.Begin moment h active = then_ok_leads _ moment (begin_leads moment.scene.session.levels moment (record { between = h; are = refl }))
@@ -974,7 +974,7 @@ module _ (w : Option ℕ) where
       work_between moment.scene.session.levels (work_of other moment.scene.session) moment (record { between = h; are = refl }) (only_left (is_aborted moment.scene.session.levels) active)
       (λ ls working m k. work_leads w ls working other moment.scene.session tt m k)
 
-  command_leads : (c : Command) (moment : Moment) → StandsBetweenLines moment.scene → Between (does_all w (elements_of c moment.scene.session) moment)
+  pub command_leads : (c : Command) (moment : Moment) → StandsBetweenLines moment.scene → Between (does_all w (elements_of c moment.scene.session) moment)
   unfolding elements_of
   command_leads c moment h = go (is_aborted moment.scene.session.levels && not (is_end c)) refl
     where
