@@ -1,4 +1,4 @@
-ghost use Rattle.std.specs.Prelude.{◌≡◌, ◌↔◌, ◌+◌, ◌<◌, ◌≤◌, ◌∷◌, ◌++◌, [], length, reverse, find, true, false, All, IsNone, IsSome, OnOk, OnErr, IfNone, IfSome, MatchOption};
+ghost use Rattle.std.specs.Prelude.{◌≡◌, ◌↔◌, ◌+◌, ◌<◌, ◌≤◌, ◌∷◌, ◌++◌, [], length, reverse, find, vec_capacity, true, false, None, All, IsNone, IsSome, OnOk, OnErr, IfNone, IfSome, MatchOption};
 ghost use Rattle.std.specs.Option.{option_to_list};
 ghost use Rattle.owner_kinds.specs.KindShelf.{table_of};
 ghost use Rattle.owner_kinds.specs.KindTable.{IsKind};
@@ -33,6 +33,9 @@ pub(crate) struct Held {
 
 // No memory holds more.
 const MOST_ITEMS: usize = 1 << 40;
+
+// How many items the array holds.
+const ARRAY_ITEMS: usize = 32;
 
 impl Held {
     pub fn new(alloc: Global) -> Held
@@ -87,11 +90,29 @@ impl Held {
         if self.spare() > 0 {
             return Ok(());
         }
+        if self.order.is_none() && self.table.entries.capacity() == 0 {
+            return self.begin();
+        }
         if self.order.is_some() || !self.table.has_room() {
             self.rebuild()?;
         }
         self.table.push_all(self.recent.as_slice());
         self.recent.clear();
+        Ok(())
+    }
+
+    // Makes room for the first items: those of the array, and in the table for a release that gathers them. An index isn't needed yet.
+    fn begin(&mut self) -> Result<(), AllocError>
+        requires held { IsHeld self.old }
+        requires parted { self.old.order ≡ None }
+        requires bare { vec_capacity self.old.table.entries ≡ 0 }
+        ensures held { IsHeld self.new }
+        ensures ok { OnOk result (1 ≤ spare_of self.new) }
+        ensures spare { spare_of self.old ≤ spare_of self.new }
+        ensures items { items_of self.new ≡ items_of self.old }
+        ensures err { OnErr result (self.new ≡ self.old) }
+    {
+        self.table.entries = Vec::with_capacity(self.alloc, ARRAY_ITEMS)?;
         Ok(())
     }
 
