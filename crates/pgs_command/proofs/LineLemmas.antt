@@ -1,5 +1,5 @@
 -- What the first 512 bytes of a line tell of it.
-use Rattle.std.proofs.Common.{◌≡◌, ℕ, ◌<◌, ◌≤◌, Bool, true, false, List, [], ◌∷◌, length, take, Option, None, IsTrue, refl, sym, ◌∙◌, ap, arith}
+use Rattle.std.proofs.Common.{◌≡◌, ℕ, ◌<◌, ◌≤◌, Bool, true, false, List, [], ◌∷◌, length, take, Option, None, IsTrue, refl, ◌∙◌, ap, arith}
 use Rattle.std.specs.Prelude.{nat_lt}
 use native.Mathlib.Decide.{dec_lt}
 use Rattle.std.proofs.lemmas.List.{take_all}
@@ -25,18 +25,18 @@ prefix_of-take (at ∷ []) = refl
 prefix_of-take (at ∷ digit ∷ []) = refl
 prefix_of-take (at ∷ digit ∷ space ∷ text) = refl
 
-session_of-kept : (line kept : List ℕ) (long : Bool) → IsKept line kept long → session_of kept ≡ session_of line
+pub session_of-kept : (line kept : List ℕ) (long : Bool) → IsKept line kept long → session_of kept ≡ session_of line
 session_of-kept line kept long k = ap session_of k.front ∙ rw (prefix_of-take line) refl
 
-pub read_line-long : (line kept : List ℕ) (long : Bool) (session : ℕ) → IsKept line kept long → long ≡ true → session ≡ session_of kept → said session None ≡ read_line line
+pub read_line-long : (line kept : List ℕ) (long : Bool) → IsKept line kept long → long ≡ true → said (session_of line) None ≡ read_line line
 unfolding read_line
-read_line-long line kept long session k is_long e =
+read_line-long line kept long k is_long =
     let over : 512 < length line = k.cut.0 is_long in
     let test : nat_lt 512 (length line) ≡ true = grind (arith, nat_tests) in
-    rw test (ap (λ s. said s None) (e ∙ session_of-kept line kept long k))
+    rw test refl
 
-pub read_line-short : (line kept : List ℕ) (long : Bool) (session : ℕ) (command : Option Command) → IsKept line kept long → long ≡ false → session ≡ session_of kept → command ≡ short_command kept → said session command ≡ read_line line
+pub read_line-short : (line kept : List ℕ) (long : Bool) (command : Option Command) → IsKept line kept long → long ≡ false → command ≡ short_command kept → said (session_of line) command ≡ read_line line
 unfolding read_line
-read_line-short line kept long session command k short e h =
+read_line-short line kept long command k short h =
     let w = kept_whole line kept long k short in
-    rw w.1 (rw (e, h) (rw (sym w.0) refl))
+    rw w.1 (rw h (ap (λ (text : List ℕ). said (session_of line) (short_command text)) w.0))

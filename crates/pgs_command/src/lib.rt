@@ -11,7 +11,7 @@ mod words;
 
 pub use commands::Command;
 pub use kinds::{ContextKind, ReferenceClass};
-pub use lines::{BadLine, Line, parse_line};
+pub use lines::{BadLine, Line, parse_command, parse_line, parse_session};
 
 #[cfg(test)]
 mod tests;

@@ -1,7 +1,7 @@
 //! Whole lines.
-ghost use Rattle.std.specs.Prelude.{◌≡◌, ℕ, List, IfOk, IfErr, IfSome};
+ghost use Rattle.std.specs.Prelude.{◌≡◌, ℕ, Bool, List, IfOk, IfErr, IfSome};
 ghost use Rattle.pgs_io.specs.Lines.{IsKept};
-ghost use Rattle.pgs_command.specs.Lines.{prefix_of, session_of, is_comment, short_command, read_line};
+ghost use Rattle.pgs_command.specs.Lines.{prefix_of, session_of, is_comment, short_command, said, read_line};
 ghost use Rattle.pgs_command.specs.Ranges.{IsSession, IsInRange};
 
 use crate::commands::Command;
@@ -32,13 +32,31 @@ pub fn parse_line(kept: &[u8], long: bool) -> Result<Line, BadLine>
     ensures bad_session { IfErr result (λ bad. IsSession bad.session) }
 {
     let session = session_of(kept);
-    if long {
-        return Err(BadLine { session });
-    }
-    match read_short(kept) {
+    match parse_command(kept, long) {
         Some(command) => Ok(Line { session, command }),
         None => Err(BadLine { session }),
     }
+}
+
+/// The command of a line, or `None` where the line isn't in the grammar. It is what `parse_line` tells besides the session.
+///
+/// `kept` are the first 512 bytes of the line, and `long` says whether it has more.
+pub fn parse_command(kept: &[u8], long: bool) -> Option<Command>
+    ensures read { (line : List ℕ) → IsKept line kept.now long → said (session_of line) result ≡ read_line line }
+    ensures in_range { IfSome result IsInRange }
+{
+    if long {
+        return None;
+    }
+    read_short(kept)
+}
+
+/// The session that a line names, of which these are the first 512 bytes: 1 where it has no prefix.
+pub fn parse_session(kept: &[u8]) -> u8
+    ensures read { (line : List ℕ) (long : Bool) → IsKept line kept.now long → result ≡ session_of line }
+    ensures session { IsSession result }
+{
+    session_of(kept)
 }
 
 /// The session that a line names: 1 where it has no prefix.

@@ -475,15 +475,7 @@ fn a_list_of_events_keeps_its_room(rt: HostRuntime) -> Result<(), Fail> {
 #[test]
 fn a_line_goes_behind_what_stands_there(rt: HostRuntime) {
     let mut out: ArrayVec<u8, 2048> = ArrayVec::new();
-    let done = Event {
-        session: 2,
-        what: What::Ok,
-    };
-    let end = Event {
-        session: 3,
-        what: What::Exit,
-    };
-    append_text(&done, &[], &mut out);
-    append_text(&end, &[], &mut out);
+    append_text(2, &What::Ok, &[], &mut out);
+    append_text(3, &What::Exit, &[], &mut out);
     assert_eq!(rt; out.as_slice(), b"2 ok\n3 exit\n".as_slice());
 }

@@ -35,22 +35,27 @@ pub fn text_with(event: &Event, names: &[Name], out: &mut ArrayVec<u8, 512>)
     ensures { out.new.items ≡ text_of names.now event.now }
 {
     out.clear();
-    append_text(event, names, out);
+    append_text(event.session, &event.what, names, out);
 }
 
-/// Writes the event's line, with its newline, at the end of `out`.
+/// Writes the line of what a session says, with its newline, at the end of `out`.
 ///
 /// `names` are those of the extension kinds: kind 16 + i has the name `names[i]`. Nothing is written of an
 /// event whose kind has no name.
-pub fn append_text<const N: usize>(event: &Event, names: &[Name], out: &mut ArrayVec<u8, N>)
+pub fn append_text<const N: usize>(
+    session: u8,
+    what: &What,
+    names: &[Name],
+    out: &mut ArrayVec<u8, N>,
+)
     requires { array_vec_len out.old + 512 ≤ N }
-    ensures text { out.new.items ≡ out.old.items ++ text_of names.now event.now }
+    ensures text { out.new.items ≡ out.old.items ++ text_of names.now (record { session = session; what = what.now }) }
     ensures short { array_vec_len out.new ≤ array_vec_len out.old + 512 }
 {
-    if has_text(&event.what, names) {
-        put_number(out, event.session as u64);
+    if has_text(what, names) {
+        put_number(out, session as u64);
         out.push(b' ');
-        put_what(out, &event.what, names);
+        put_what(out, what, names);
         out.push(b'\n');
     }
 }

@@ -1,12 +1,10 @@
-use Rattle.std.proofs.Common.{Some, None}
-use Rattle.pgs_command.proofs.LineLemmas.{read_line-long, read_line-short}
+use Rattle.std.proofs.Common.{Some, None, ap, ◌∙◌}
+use Rattle.pgs_command.specs.Lines.{said}
+use Rattle.pgs_command.proofs.LineLemmas.{session_of-kept}
 use Rattle.pgs_command.proofs.lines.parse_line.Goals as goal
 
-pub returns-then-long-clause-read : goal.returns-then-long-clause-read
-returns-then-long-clause-read c line k = read_line-long line c.args.kept.now c.args.long _ k c.if-long.true c.session_of-session.ensures.value
-
 pub returns-in-Some-clause-read : goal.returns-in-Some-clause-read
-returns-in-Some-clause-read c line k = read_line-short line c.args.kept.now c.args.long _ (Some c.in-Some.command) k c.if-long.false c.session_of-session.ensures.value c.in-Some.ensures.value
+returns-in-Some-clause-read c line k = ap (λ s. said s (Some c.in-Some.command)) (c.session_of-session.ensures.value ∙ session_of-kept line c.args.kept.now c.args.long k) ∙ c.in-Some.ensures.read line k
 
 pub returns-in-None-clause-read : goal.returns-in-None-clause-read
-returns-in-None-clause-read c line k = read_line-short line c.args.kept.now c.args.long _ None k c.if-long.false c.session_of-session.ensures.value c.in-None.ensures.value
+returns-in-None-clause-read c line k = ap (λ s. said s None) (c.session_of-session.ensures.value ∙ session_of-kept line c.args.kept.now c.args.long k) ∙ c.in-None.ensures.read line k

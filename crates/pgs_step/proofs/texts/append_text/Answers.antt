@@ -6,10 +6,10 @@ use Rattle.pgs_step.proofs.texts.append_text.Goals as goal
 pub returns-then-has_text-clause-text : goal.returns-then-has_text-clause-text
 unfolding text_of
 returns-then-has_text-clause-text g c =
-    line_told c.args.event.now.session (what_text c.args.names.now c.args.event.now.what) c.args.out.now.items _ _ _ _ (sym c.has_text.ensures ∙ c.if-has_text.true)
+    line_told c.args.session (what_text c.args.names.now c.args.what.now) c.args.out.now.items _ _ _ _ (sym c.has_text.ensures ∙ c.if-has_text.true)
     c.put_number.ensures.text c.push.ensures.items c.put_what.ensures.text c.push-then-has_text.ensures.items
 
 pub returns-else-has_text-clause-text : goal.returns-else-has_text-clause-text
 unfolding text_of
 returns-else-has_text-clause-text g c =
-    line_untold c.args.event.now.session (what_text c.args.names.now c.args.event.now.what) c.args.out.now.items (sym c.has_text.ensures ∙ c.if-has_text.false)
+    line_untold c.args.session (what_text c.args.names.now c.args.what.now) c.args.out.now.items (sym c.has_text.ensures ∙ c.if-has_text.false)
