@@ -8,7 +8,7 @@ use Rattle.pgs_step.specs.declared.ids.Item.{Item}
 use Rattle.pgs_step.specs.declared.ids.KindId.{KindId}
 use Rattle.pgs_step.specs.declared.ids.Phase.{Phase}
 use Rattle.pgs_step.specs.declared.ids.Phase.TheVariants.{BeforeLocks, Locks, AfterLocks}
-use Rattle.forest.specs.Forest.{removed}
+use Rattle.forest.specs.Forest.{moved, removed}
 use Rattle.owner_kinds.specs.Kind.{Kind, changed_at, opened}
 use Rattle.owner_kinds.specs.KindShelf.{table_of}
 use Rattle.owner_items.specs.ItemList.{is_of}
@@ -34,7 +34,7 @@ use Rattle.session_rules.specs.Acts.{Ended, and_then, changes, for_each, in_orde
 use Rattle.session_rules.specs.Making.{owner_made}
 use Rattle.session_rules.proofs.ItemsStand.{extension_keeps}
 use Rattle.session_rules.specs.Taking.{descriptor_given, item_taken, pushed_at, remembers, taken_by}
-use Rattle.session_rules.specs.Releases.{Keeper, NoOne, TheKind, given_back, item_released, keeper_of, owner_gone, owner_released, phase_released}
+use Rattle.session_rules.specs.Releases.{Keeper, NoOne, TheKind, given_back, item_released, keeper_of, owner_gone, owner_moved, owner_released, phase_released}
 use Rattle.file_table.specs.Files.{Files, touch_events, touched_file}
 use Rattle.session_owners.specs.ResourceState.{OwnerTree, ResourceState, created, files_of, forgotten, items_of, locks_of, owners_of, plan_state, plans_of, remembered}
 use Rattle.session_owners.specs.Commons.{CommonState, LocksBalance, pinned_beside, pinned_once}
@@ -235,6 +235,15 @@ unfolding bare with_parts parts_in
 acted_gone n a b c Says e f g files same pins says =
     acted_bare (owner_gone n) a b c c Says
     (λ scene. owners_same (bare a c scene) (removed n (owners_of a)) (owners_of b) a.next_owner b.next_owner a.next_serial b.next_serial a.recent b.recent a.descriptors b.descriptors c.kinds c.kinds a.locks b.locks (beside a.session c.locks) (beside b.session c.locks) (pinned_beside (owners_of a) c.pins) (pinned_beside (owners_of b) c.pins) a.stack b.stack (plans_of a) (plans_of b)
+    (sym e) (sym f) (sym g) (sym files.recent) (sym files.descriptors) refl (sym same.locks) (seen_same a b c c same refl) (beside_same (owners_of a) (owners_of b) c.pins c.pins pins) (sym same.stack) (plans_same a b same.plans))
+    (λ scene. says)
+
+pub acted_moved : (n p : ℕ) (a b : ResourceState) (c : CommonState) (Says : List What → Type 0) → owners_of b ≡ moved n p (owners_of a)
+    → b.next_owner ≡ a.next_owner → b.next_serial ≡ a.next_serial → SameFiles a b → SameLocks a b → ((q : ℕ) → slice_index c.pins q + pinned_once q (owners_of a) ≡ slice_index c.pins q + pinned_once q (owners_of b)) → Says (what.MoveOwner n p ∷ []) → Acted (owner_moved n p) a b c c Says
+unfolding bare with_parts parts_in
+acted_moved n p a b c Says e f g files same pins says =
+    acted_bare (owner_moved n p) a b c c Says
+    (λ scene. owners_same (bare a c scene) (moved n p (owners_of a)) (owners_of b) a.next_owner b.next_owner a.next_serial b.next_serial a.recent b.recent a.descriptors b.descriptors c.kinds c.kinds a.locks b.locks (beside a.session c.locks) (beside b.session c.locks) (pinned_beside (owners_of a) c.pins) (pinned_beside (owners_of b) c.pins) a.stack b.stack (plans_of a) (plans_of b)
     (sym e) (sym f) (sym g) (sym files.recent) (sym files.descriptors) refl (sym same.locks) (seen_same a b c c same refl) (beside_same (owners_of a) (owners_of b) c.pins c.pins pins) (sym same.stack) (plans_same a b same.plans))
     (λ scene. says)
 

@@ -13,7 +13,7 @@ use Rattle.pgs_step.specs.declared.lock_modes.Mode.{Mode}
 use Rattle.lock_shared.specs.declared.shared_locks.Holding.{Holding}
 use Rattle.lock_shared.specs.Holdings.{holds}
 use Rattle.lock_local.specs.Locks.{Agrees, Lock, SessionLocks, AreLocks, OthersStay, has_owner, is_held}
-use Rattle.forest.specs.Forest.{AllNodes, Empty, Once, removed}
+use Rattle.forest.specs.Forest.{AllNodes, Empty, Once, moved, removed}
 use Rattle.owner_kinds.specs.Kind.{Kind, changed_at, opened}
 use Rattle.owner_kinds.specs.KindShelf.{one_at, table_of, times_held}
 use Rattle.owner_kinds.specs.KindTable.{IsExtension, IsSound, KindTable}
@@ -30,7 +30,9 @@ use Rattle.session_rules.specs.Standing.{HasItems, IsItem}
 use Rattle.session_rules.specs.World.{Around, Scene}
 use Rattle.session_rules.specs.Parts.{pinning}
 use Rattle.session_rules.proofs.Pinned.{at_buffer}
-use Rattle.session_rules.proofs.Guarded.{all_changed, all_put, all_removed}
+use Rattle.session_rules.proofs.Guarded.{all_changed, all_moved, all_put, all_removed}
+use Rattle.session_rules.proofs.HeldItems.{held_moved}
+use Rattle.forest.proofs.Trees.{Moves}
 use Rattle.session_rules.proofs.Releasing.{phase_items}
 use Rattle.session_owners.specs.ResourceState.{ResourceState, locks_of, owners_of}
 use Rattle.session_owners.specs.Tables.{ArePinsShared, Held, Lending, PinsBalance, once_in, times_lent}
@@ -256,6 +258,15 @@ balances_gone old counts a b c n s was empty gone locks =
     let nothing : AllAt HoldsNothing n t = subst (AllAt HoldsNothing n) was empty in
     balances_alone a b c (λ kinds h. rw gone (all_removed (HasItems kinds) n t (rw was at h))) (λ kind key extension. rw (gone, was) (held_removed kind key n t o nothing))
     (λ buffer. rw (gone, was) (held_removed buffer_pin buffer n t o nothing)) locks
+
+-- an owner moves
+pub balances_moved : (old : OwnerTable) (counts : Held) (a b : ResourceState) (c : CommonState) (n p : ℕ) → IsCounted old counts → owners_of a ≡ owners.owners_of old → Moves n p (owners.owners_of old)
+    → owners_of b ≡ moved n p (owners.owners_of old) → LocksBalance (locks_of a) (locks_of b) c.locks c.locks → Balances a b c c
+balances_moved old counts a b c n p s was w now locks =
+    let t : OwnerTree = owners.owners_of old in
+    let o : Once t = once_of t old.next_owner old.next_serial s.sound in
+    balances_alone a b c (λ kinds h. rw now (all_moved (HasItems kinds) n p t (rw was at h))) (λ kind key extension. rw (now, was) (held_moved kind key n p t o w))
+    (λ buffer. rw (now, was) (held_moved buffer_pin buffer n p t o w)) locks
 
 -- a key of an extension kind is taken
 one_flipped : (a b p q : ℕ) → ◌≡◌ {A = ℕ} (if (b == a) && (q == p) then 1 else 0) (if (a == b) && (p == q) then 1 else 0)

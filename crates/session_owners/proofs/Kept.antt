@@ -10,7 +10,7 @@ use Rattle.pgs_step.specs.declared.ids.KindId.{KindId}
 use Rattle.pgs_step.specs.declared.ids.OwnerId.{OwnerId}
 use Rattle.pgs_step.specs.declared.ids.Phase.{Phase}
 use Rattle.counts.specs.Counts.{total}
-use Rattle.forest.specs.Forest.{Empty, Node, Once, at, put, removed, size, AllNodes}
+use Rattle.forest.specs.Forest.{Empty, Node, Once, at, moved, put, removed, size, AllNodes}
 use Rattle.forest.proofs.Mapped.{mapped-at}
 use Rattle.owner_items.specs.ItemList.{is_of, uses}
 use Rattle.owner_items.proofs.Order.{All-without}
@@ -20,9 +20,11 @@ use Rattle.owner_core.specs.Owners.{Owner, OwnerTable, OwnerTree, Roomy, AllAt, 
 use Rattle.owner_core.specs.Released.{own_released, released}
 use Rattle.owner_core.specs.Sound.{IsSound}
 use Rattle.owner_core.proofs.ItemLemmas.{uses_own}
-use Rattle.owner_core.proofs.Sounds.{once_of, sound_created, sound_forgotten, sound_released, sound_remembered, sound_removed}
+use Rattle.owner_core.proofs.Sounds.{once_of, sound_created, sound_forgotten, sound_moved, sound_released, sound_remembered, sound_removed}
 use Rattle.owner_core.proofs.Swept.{all_swept}
-use Rattle.session_rules.proofs.Guarded.{all_changed}
+use Rattle.session_rules.proofs.Guarded.{all_changed, all_moved}
+use Rattle.session_rules.proofs.HeldItems.{held_moved}
+use Rattle.forest.proofs.Trees.{Moves}
 use Rattle.file_table.specs.Files.{Files, OpensOneMore, opened_file}
 use Rattle.owner_kinds.specs.KindTable.{KindTable}
 use Rattle.plan_store.specs.Plans as plans
@@ -290,6 +292,18 @@ counted_released kinds old new lending lending' n phase s e f g buffers referenc
     (omega (arith, referred, s.plan_references))
 
 -- an owner without items was discarded
+-- an owner moves
+pub counted_moved : (old new : OwnerTable) (counts : Held) (n p : ℕ) → IsCounted old counts → Moves n p (owners_of old)
+    → owners_of new ≡ moved n p (owners_of old) → new.next_owner ≡ old.next_owner → new.next_serial ≡ old.next_serial → IsCounted new counts
+counted_moved old new counts n p s w e f g =
+    let o : Once (owners_of old) = once_of (owners_of old) old.next_owner old.next_serial s.sound in
+    counted new counts (moved n p (owners_of old)) old.next_owner old.next_serial e f g
+    (sound_moved n p (owners_of old) old.next_owner old.next_serial s.sound)
+    (all_moved HoldsCounted n p (owners_of old) s.items) s.buffers
+    (λ kind key low. s.counted kind key low ∙ sym (held_moved kind key n p (owners_of old) o w))
+    (λ kind key. omega (arith, held_moved kind key n p (owners_of old) o w, s.few kind key))
+    s.references s.plan_references
+
 pub counted_gone : (old new : OwnerTable) (counts : Held) (n : ℕ) → IsCounted old counts → AllAt HoldsNothing n (owners_of old)
     → owners_of new ≡ removed n (owners_of old) → new.next_owner ≡ old.next_owner → new.next_serial ≡ old.next_serial → IsCounted new counts
 counted_gone old new counts n s empty e f g =

@@ -1,7 +1,7 @@
 //! The owners of a session together with the tables of what they hold, and its plans.
 ghost use Rattle.std.specs.Prelude.{◌≡◌, ◌↔◌, ◌≢◌, ◌⊎◌, ℕ, ◌+◌, ◌-◌, ◌<◌, ◌≤◌, ◌^◌, ◌==◌, true, false, not, [], ◌∷◌, ◌++◌, find, is_some, length, slice_get, IfErr, IfOk, IfSome, IsErr, IsErrOf, IsOkUnless, OnOk, OnErr, Some, None};
 ghost use Rattle.std.specs.Option.{option_map, option_map_or, ok_or};
-ghost use Rattle.forest.specs.Forest.{Empty, has, at, size, parent_of, removed, AllNodes};
+ghost use Rattle.forest.specs.Forest.{Empty, has, at, size, is_above, moved, parent_of, removed, AllNodes};
 ghost use Rattle.owner_items.specs.ItemList.{is_of};
 ghost use Rattle.owner_core.specs.Sound.{IsSound};
 ghost use Rattle.owner_core.specs.Released.{released};
@@ -20,7 +20,7 @@ ghost use Rattle.lock_shared.specs.Ranked.{beside, least_conflict};
 ghost use Rattle.lock_local.specs.declared.errors.LockError.TheVariants.{Conflict, NotHeld};
 ghost use Rattle.lock_local.specs.Locks.{count_of};
 ghost use Rattle.pgs_step.specs.declared.lock_modes.Mode.{Mode as LockMode};
-ghost use Rattle.session_rules.specs.Releases.{phase_released, owner_released, owner_gone, item_released};
+ghost use Rattle.session_rules.specs.Releases.{phase_released, owner_released, owner_gone, owner_moved, item_released};
 ghost use Rattle.owner_kinds.specs.Kind.{IsFull};
 ghost use Rattle.owner_kinds.specs.KindShelf.{table_of};
 ghost use Rattle.owner_kinds.specs.KindTable.{IsExtension};
@@ -115,6 +115,27 @@ impl Resources {
         ensures causes { OnErr result ((result ≢ Err OwnerError.Releasing) × (result ≢ Err OwnerError.NotOwned)) }
     {
         self.owners.create(parent, out)
+    }
+
+    /// The owner, with all below it, becomes the first child of another one, which must not be below it:
+    /// `ResourceOwnerNewParent`.
+    pub fn move_owner<E: Emit>(&mut self, owner: OwnerId, parent: OwnerId, out: &mut E)
+        requires live { IsLive self.old owner }
+        requires parent { IsLive self.old parent }
+        requires other { parent.number ≢ owner.number }
+        requires there { (has owner.number (owners_of self.old) ≡ true) × (has parent.number (owners_of self.old) ≡ true) }
+        requires apart { is_above owner.number parent.number (owners_of self.old) ≡ false }
+        ensures owners { owners_of self.new ≡ moved owner.number parent.number (owners_of self.old) }
+        ensures places { self.new.places ≡ moved owner.number parent.number self.old.places }
+        ensures stays { (other : OwnerId) → IsLive self.old other → IsLive self.new other }
+        ensures stack { self.new.stack ≡ self.old.stack }
+        ensures plans { self.new.plans ≡ self.old.plans }
+        ensures next_owner { self.new.next_owner ≡ self.old.next_owner }
+        ensures next_serial { self.new.next_serial ≡ self.old.next_serial }
+        ensures acted { (commons : CommonState) → Acted (owner_moved owner.number parent.number) self.old self.new commons commons (λ events. E.emits out.old events out.new) }
+        ensures balances { (commons : CommonState) → Balances self.old self.new commons commons }
+    {
+        self.owners.new_parent(owner, parent, out);
     }
 
     /// Makes room for one more item of the owner, which `pin`, `add_reference` and `open_file` then need:
