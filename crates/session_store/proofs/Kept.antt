@@ -2,11 +2,12 @@
 use Rattle.std.proofs.Common.{◌≡◌, ◌≢◌, ℕ, ◌-◌, Bool, true, false, Option, Some, None, List, [], ◌∷◌, map, All, IfSome, refl, sym, ap, ◌∙◌, subst}
 use Rattle.std.specs.Prelude.{◌==◌, if◌then◌else◌, reverse, slice_get}
 use Rattle.std.specs.Option.{option_map}
-use Rattle.std.proofs.lemmas.Bool.{both_ways}
+use Rattle.std.proofs.lemmas.Bool.{both_ways, eq-eqb}
 use Rattle.std.proofs.lemmas.List.Elements.{All-nil, All-cons, All-head, All-tail}
 use Rattle.addr_space.specs.Space.{Space}
-use Rattle.forest.specs.Forest.{Forest, at, has}
+use Rattle.forest.specs.Forest.{Empty, Forest, Node, Once, at, children, has}
 use Rattle.forest.proofs.Mapped.{mapped-has}
+use Rattle.forest.proofs.Trees.{has_children}
 use Rattle.pgs_step.specs.declared.ids.CtxId.{CtxId}
 use Rattle.reset_callbacks.specs.ShelfState.{ShelfState}
 use Rattle.context_node.specs.State.{context_of}
@@ -19,11 +20,14 @@ use Rattle.session_owners.specs.Placing.{contexts_of}
 use Rattle.subxact_stack.specs.Levels.{level_at}
 use Rattle.subxact_stack.specs.declared.levels.Level.{Level}
 use Rattle.session_rules.specs.World.{Around}
-use Rattle.session_rules.specs.Standing.{AreLevels, IsPlan, Stands}
+use Rattle.context_rules.specs.Contexts.{Context, Contexts}
+use Rattle.portal_store.specs.declared.portal.Portal.{Portal}
+use Rattle.session_rules.specs.State.{LevelState}
+use Rattle.session_rules.specs.Standing.{AreLevels, IsPlan, IsPortal, IsRow, Stands}
 use Rattle.session_rules.proofs.ContextsKept.{protected_has}
 use Rattle.session_owners.specs.Commons.{CommonState}
-use Rattle.session_store.specs.State.{StoreState, level_state, scene_of, session_of}
-use Rattle.session_store.specs.Placed.{IsPlaced, IsThere, LevelLies, Lies}
+use Rattle.session_store.specs.State.{StoreState, level_state, levels_of, portal_state, portals_of, scene_of, session_of}
+use Rattle.session_store.specs.Placed.{IsPlaced, IsThere, LevelLies, Lies, PortalLies}
 use Rattle.session_store.specs.Calls.{ContextsAlone, Keeps, StandsIn}
 use Rattle.session_store.proofs.Answered.{some_both}
 use Rattle.session_store.proofs.Lists.{all_at, all_reverse}
@@ -38,11 +42,17 @@ has_kept n tree s = mapped-has (context_of s) n tree.kept
 abbrev pub HasContext : TreeState → CtxId → Type 0
 HasContext tree id = has id.number tree.kept ≡ true
 
+-- the contexts of a portal, once they are made, are there
+pub record PortalThere (tree : TreeState) (portal : Portal) : Type 0 where
+  pub context : IfSome portal.context (HasContext tree)
+  pub expr : IfSome portal.expr (HasContext tree)
+
 -- the contexts that a store names are there
-pub record AreThere (tree : TreeState) (table : ResourceState) (list : List Level) : Type 0 where
+pub record AreThere (tree : TreeState) (table : ResourceState) (list : List Level) (queries : List Portal) : Type 0 where
   pub current : has tree.current.number tree.kept ≡ true
   pub levels : All (IsThere tree) list
   pub plans : All (HasContext tree) (contexts_of table.plans.standing)
+  pub portals : All (PortalThere tree) queries
 
 level_there : (tree : TreeState) (s : Space) (o : Option CtxId) → ((n : ℕ) → option_map (λ (id : CtxId). id.number) o ≡ Some n → has n (stands_for tree s) ≡ true) → IfSome o (λ id. has id.number tree.kept ≡ true)
 level_there tree s None there = tt
@@ -63,12 +73,39 @@ plans_there tree s current (plan ∷ plans) h =
     (sym (has_kept plan.1.context.number tree s) ∙ protected_has plan.1.context.number (stands_for tree s) first.protected)
     (plans_there tree s current plans (All-tail (λ p. IsPlan p (stands_for tree s) current) (plan_state plan) (map plan_state plans) h))
 
+-- the context of one row is there, where that of its portal is
+row_there : (n : ℕ) (o : Option ℕ) (t : Contexts) → Once t → IsRow o (children n t) → (e : ℕ) → o ≡ Some e → has e t ≡ true
+row_there n None t once row e is = absurd (cc is)
+row_there n (Some f) t once row e is =
+    has_children e n t once (ap (has e) row.1 ∙ own row.0)
+  where
+    own : (c : Context) → has e (Node f c Empty Empty) ≡ true
+    own c = let here : (f == e) ≡ true = eq-eqb f e (let same : f ≡ e = cc is in same) in rw here refl
+
+portal_there : (tree : TreeState) (s : Space) (levels : List LevelState) (owners : OwnerTree) (current : ℕ) (portal : Portal) → Once (stands_for tree s) → IsPortal (portal_state portal) levels (stands_for tree s) owners current → PortalThere tree portal
+portal_there tree s levels owners current portal once h = record {
+  context = level_there tree s portal.context (λ n e. protected_has n (stands_for tree s) (h.place n e).protected);
+  expr = level_there tree s portal.expr (λ e f. go (option_map (λ (id : CtxId). id.number) portal.context) refl e f);
+}
+  where
+    go : (o : Option ℕ) → option_map (λ (id : CtxId). id.number) portal.context ≡ o → (e : ℕ) → option_map (λ (id : CtxId). id.number) portal.expr ≡ Some e → has e (stands_for tree s) ≡ true
+    go None none e f = let z : None ≡ Some e = sym (h.made none) ∙ f in absurd (cc z)
+    go (Some n) some e f = row_there n (option_map (λ (id : CtxId). id.number) portal.expr) (stands_for tree s) once (h.place n some).row e f
+
+pub portals_there : (tree : TreeState) (s : Space) (levels : List LevelState) (owners : OwnerTree) (current : ℕ) (portals : List Portal) → Once (stands_for tree s) → All (λ p. IsPortal p levels (stands_for tree s) owners current) (portals_of portals)
+    → All (PortalThere tree) portals
+portals_there tree s levels owners current [] once h = All-nil (PortalThere tree)
+portals_there tree s levels owners current (portal ∷ portals) once h =
+    All-cons (PortalThere tree) portal portals
+    (portal_there tree s levels owners current portal once (All-head (λ p. IsPortal p levels (stands_for tree s) owners current) (portal_state portal) (portals_of portals) h))
+    (portals_there tree s levels owners current portals once (All-tail (λ p. IsPortal p levels (stands_for tree s) owners current) (portal_state portal) (portals_of portals) h))
+
 -- no surroundings at all
 abbrev pub nowhere : Around
 nowhere = record { kinds = []; shelf = record { fresh = []; spent = []; out = 0 }; pinned = []; locked = []; space = 0; descriptors = 0 }
 
 -- where the session stands, they are
-pub are_there : (a : StoreState) (s : Space) (x : ShelfState) (commons : CommonState) → StandsIn a s x commons → AreThere a.tree a.owners a.levels
+pub are_there : (a : StoreState) (s : Space) (x : ShelfState) (commons : CommonState) → StandsIn a s x commons → AreThere a.tree a.owners a.levels a.portals
 unfolding session_of
 are_there a s x commons stands =
     let h : Stands (scene_of a s x commons nowhere) = stands nowhere in
@@ -76,6 +113,7 @@ are_there a s x commons stands =
       current = sym (has_kept a.tree.current.number a.tree s) ∙ h.current;
       levels = all_reverse (IsThere a.tree) a.levels (levels_there a.tree s (owners_of a.owners) (reverse a.levels) h.levels);
       plans = plans_there a.tree s a.tree.current.number a.owners.plans.standing h.plans.each;
+      portals = portals_there a.tree s (levels_of a.levels) (owners_of a.owners) a.tree.current.number a.portals h.contexts.once h.portals.each;
     }
 
 -- A tree and its space went on: the space has what it has, and what was there and is there lies where it lay.
@@ -145,16 +183,33 @@ plans_on a b (id ∷ ids) stays lies there =
     All-cons (Lies b) id ids (lies_on a b id stays (All-head (Lies a) id ids lies) (All-head (HasContext a) id ids there))
     (plans_on a b ids stays (All-tail (Lies a) id ids lies) (All-tail (HasContext a) id ids there))
 
-pub placed_on : (a b : TreeState) (table : ResourceState) (levels : List Level) → IsPlaced a table levels → AreThere a table levels → ((n : ℕ) → has n a.kept ≡ true → has n b.kept ≡ true → place_of b n ≡ place_of a n) → b.current ≡ a.current
-    → IsPlaced b table levels
-placed_on a b table levels placed there stays current = record {
+-- a portal's contexts lie on
+pub portal_on : (a b : TreeState) (table : ResourceState) (portal : Portal) → ((n : ℕ) → has n a.kept ≡ true → has n b.kept ≡ true → place_of b n ≡ place_of a n) → PortalLies a table portal → PortalThere a portal → PortalLies b table portal
+portal_on a b table portal stays lies there = record {
+  context = some_both portal.context (λ id. lies_on a b id stays) lies.context there.context;
+  expr = some_both portal.expr (λ id. lies_on a b id stays) lies.expr there.expr;
+  owner = lies.owner;
+  scan = lies.scan;
+}
+
+pub portals_on : (a b : TreeState) (table : ResourceState) (portals : List Portal) → ((n : ℕ) → has n a.kept ≡ true → has n b.kept ≡ true → place_of b n ≡ place_of a n) → All (PortalLies a table) portals → All (PortalThere a) portals → All (PortalLies b table) portals
+portals_on a b table [] stays lies there = All-nil (PortalLies b table)
+portals_on a b table (portal ∷ portals) stays lies there =
+    All-cons (PortalLies b table) portal portals
+    (portal_on a b table portal stays (All-head (PortalLies a table) portal portals lies) (All-head (PortalThere a) portal portals there))
+    (portals_on a b table portals stays (All-tail (PortalLies a table) portal portals lies) (All-tail (PortalThere a) portal portals there))
+
+pub placed_on : (a b : TreeState) (table : ResourceState) (levels : List Level) (portals : List Portal) → IsPlaced a table levels portals → AreThere a table levels portals → ((n : ℕ) → has n a.kept ≡ true → has n b.kept ≡ true → place_of b n ≡ place_of a n) → b.current ≡ a.current
+    → IsPlaced b table levels portals
+placed_on a b table levels portals placed there stays current = record {
   current = subst (λ (id : CtxId). Lies b id) (sym current) (lies_on a b a.current stays placed.current there.current);
   levels = levels_on a b table levels stays placed.levels there.levels;
   plans = plans_on a b (contexts_of table.plans.standing) stays placed.plans there.plans;
+  portals = portals_on a b table portals stays placed.portals there.portals;
 }
 
-pub placed_put : (a b : TreeState) (table : ResourceState) (levels : List Level) → IsPlaced a table levels → AreThere a table levels → StaysPut a b → IsPlaced b table levels
-placed_put a b table levels placed there put = placed_on a b table levels placed there (λ n was now. ap (λ (places : Forest ℕ). at n places) put.places) put.current
+pub placed_put : (a b : TreeState) (table : ResourceState) (levels : List Level) (portals : List Portal) → IsPlaced a table levels portals → AreThere a table levels portals → StaysPut a b → IsPlaced b table levels portals
+placed_put a b table levels portals placed there put = placed_on a b table levels portals placed there (λ n was now. ap (λ (places : Forest ℕ). at n places) put.places) put.current
 
 -- the context of the level of a number lies where its id says
 pub at_level : (P : Level → Type 0) (levels : List Level) (n : ℕ) (level : Level) → All P levels → level_at levels n ≡ Some level → P level
@@ -164,8 +219,8 @@ at_level P levels n level h e = go (n == 0) e
     go true e = absurd (cc e)
     go false e = all_at P levels (n - 1) level h e
 
-pub level_live : (tree : TreeState) (table : ResourceState) (levels : List Level) (n : ℕ) (level : Level) → IsPlaced tree table levels → AreThere tree table levels → level_at levels n ≡ Some level → IfSome level.context (IsLive tree)
-level_live tree table levels n level placed there e =
+pub level_live : (tree : TreeState) (table : ResourceState) (levels : List Level) (portals : List Portal) (n : ℕ) (level : Level) → IsPlaced tree table levels portals → AreThere tree table levels portals → level_at levels n ≡ Some level → IfSome level.context (IsLive tree)
+level_live tree table levels portals n level placed there e =
     let lies : LevelLies tree table level = at_level (LevelLies tree table) levels n level placed.levels e in
     some_both level.context (λ id lies here. lies here) lies.context (at_level (IsThere tree) levels n level there.levels e)
 
@@ -178,6 +233,7 @@ alone_on a b s t commons k goes = record {
   owners = refl;
   commons = refl;
   levels = refl;
+  portals = refl;
   stays = λ id live was now. goes.stays id.number (sym (has_kept id.number a.tree s) ∙ was) (sym (has_kept id.number b t) ∙ now) ∙ live;
 }
 
@@ -201,5 +257,6 @@ switch_alone a id s commons k = record {
   owners = refl;
   commons = refl;
   levels = refl;
+  portals = refl;
   stays = λ other live was now. live;
 }

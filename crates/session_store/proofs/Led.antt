@@ -24,7 +24,7 @@ use Rattle.session_rules.specs.Making.{context_made}
 use Rattle.session_rules.specs.Parts.{context_moved, contexts_become}
 use Rattle.session_rules.specs.Taking.{chunk_resized, hook_waits, memory_taken}
 use Rattle.session_owners.proofs.Balances.{balances_none}
-use Rattle.session_store.specs.State.{StoreState, left_in, levels_of, scene_of, session_of}
+use Rattle.session_store.specs.State.{StoreState, left_in, levels_of, portals_of, scene_of, session_of}
 use Rattle.session_store.specs.Calls.{Acted, IsSilent, Keeps, Refused}
 use Rattle.session_store.proofs.Sums.{left_is}
 
@@ -40,7 +40,7 @@ scene_by a around contexts current next x commons limit = record {
     next_serial = a.owners.next_serial;
     locks = a.owners.locks;
     levels = levels_of a.levels;
-    portals = [];
+    portals = portals_of a.portals;
     snapshots = a.owners.stack;
     plans = plans_of a.owners;
     recent = a.owners.recent;

@@ -2,7 +2,7 @@
 use Rattle.std.proofs.Common.{◌≡◌, ℕ, ◌+◌, ◌≤◌, arith, Bool, true, false, Option, Some, None, List, [], ◌∷◌, ◌++◌, append-nil, length, map, All, IfSome, refl, sym, ap, ◌∙◌, subst}
 use Rattle.std.specs.Prelude.{◌-◌, reverse, unwrap_or}
 use Rattle.std.specs.Option.{option_and_then, option_map, option_map_or}
-use Rattle.std.proofs.lemmas.List.Elements.{All-cons, All-head, All-nil, All-push, All-tail}
+use Rattle.std.proofs.lemmas.List.Elements.{All-cons, All-head, All-nil, All-push, All-tail, All-weaker}
 use Rattle.addr_space.specs.Space.{Space}
 use Rattle.forest.specs.Forest.{has}
 use Rattle.forest.proofs.Mapped.{mapped-has}
@@ -18,6 +18,7 @@ use Rattle.session_owners.specs.ResourceState as owners
 use Rattle.session_owners.specs.ResourceState.{ResourceState, OwnerTree, Roomy, owners_of, plans_of}
 use Rattle.session_owners.specs.Placing.{contexts_of}
 use Rattle.subxact_stack.specs.declared.levels.Level.{Level}
+use Rattle.portal_store.specs.declared.portal.Portal.{Portal}
 use Rattle.subxact_stack.specs.Levels.{level_at, new_level}
 use Rattle.session_rules.specs.State.{LevelState, context_of, deepest_changed, first_of, owner_of}
 use Rattle.session_rules.specs.World.{Around, Scene}
@@ -32,10 +33,10 @@ use Rattle.session_owners.specs.Fitting as fitting
 use Rattle.session_owners.specs.Fitting.{OwnersFit, with_owners}
 use Rattle.session_owners.specs.Commons.{Balances, CommonState, seen_by}
 use Rattle.session_owners.proofs.Balances.{balances_none}
-use Rattle.session_store.specs.State.{StoreState, level_state, levels_of, scene_of, session_of}
-use Rattle.session_store.specs.Placed.{IsPlaced, IsThere, LevelLies, Lies}
+use Rattle.session_store.specs.State.{StoreState, level_state, levels_of, portals_of, scene_of, session_of}
+use Rattle.session_store.specs.Placed.{IsPlaced, IsThere, LevelLies, Lies, PortalLies}
 use Rattle.session_store.specs.Calls.{Acted, IsSilent, Keeps, StandsIn}
-use Rattle.session_store.proofs.Answered.{if_some, some_both}
+use Rattle.session_store.proofs.Answered.{if_some, some_both, some_more}
 use Rattle.session_store.proofs.Depths.{above_is, all_deepest, all_level, levels_are, levels_long}
 use Rattle.session_store.proofs.Kept.{nowhere}
 use Rattle.session_store.proofs.Lists.{all_reverse}
@@ -45,7 +46,7 @@ pub keeps_parts : (a : StoreState) (o : ResourceState) (ls : List Level) (s : Sp
 unfolding session_of
 keeps_parts a o ls s k = record { agrees = k.agrees; held = k.held }
 
-pub keeps_current : (a : StoreState) (id : CtxId) (o : ResourceState) (ls : List Level) (s : Space) → Keeps a s → Keeps (record { tree = record a.tree { current = id }; owners = o; levels = ls }) s
+pub keeps_current : (a : StoreState) (id : CtxId) (o : ResourceState) (ls : List Level) (s : Space) → Keeps a s → Keeps (record { tree = record a.tree { current = id }; owners = o; levels = ls; portals = a.portals }) s
 unfolding session_of stands_for
 keeps_current a id o ls s k = record {
   agrees = let g = k.agrees in record { account = g.account; each = g.each; owned = g.owned; apart = g.apart; known = g.known };
@@ -73,11 +74,12 @@ begun_acted a name implicit s x commons Said says = record {
   balances = balances_none a.owners commons;
 }
 
-pub begun_placed : (tree : TreeState) (table : ResourceState) (levels : List Level) (name : Option (List ℕ)) (implicit : Bool) → IsPlaced tree table levels → IsPlaced tree table (levels ++ new_level name implicit ∷ [])
-begun_placed tree table levels name implicit placed = record {
+pub begun_placed : (tree : TreeState) (table : ResourceState) (levels : List Level) (portals : List Portal) (name : Option (List ℕ)) (implicit : Bool) → IsPlaced tree table levels portals → IsPlaced tree table (levels ++ new_level name implicit ∷ []) portals
+begun_placed tree table levels portals name implicit placed = record {
   current = placed.current;
   levels = All-push (LevelLies tree table) levels (new_level name implicit) placed.levels (record { context = tt; owner = tt });
   plans = placed.plans;
+  portals = placed.portals;
 }
 
 -- a level stands
@@ -171,16 +173,17 @@ unfolding session_of
 abort_there a s x commons stands = own_there (scene_of a s x commons nowhere) (stands nowhere) 5 (let e : 1 ≤ 5 = omega arith in e) (let e : 5 ≤ 5 = omega arith in e)
 
 -- the levels lie once the deepest is another one
-pub deepest_placed : (tree tree' : TreeState) (table table' : ResourceState) (levels outer : List Level) (level new : Level) → IsPlaced tree table levels → levels ≡ outer ++ level ∷ []
+pub deepest_placed : (tree tree' : TreeState) (table table' : ResourceState) (levels outer : List Level) (portals : List Portal) (level new : Level) → IsPlaced tree table levels portals → levels ≡ outer ++ level ∷ []
     → ((l : Level) → LevelLies tree table l → HasOwner table l → LevelLies tree' table' l) → All (HasOwner table) levels → (LevelLies tree table level → LevelLies tree' table' new)
-    → Lies tree' tree'.current → All (Lies tree') (contexts_of table'.plans.standing) → IsPlaced tree' table' (outer ++ new ∷ [])
-deepest_placed tree tree' table table' levels outer level new placed e on owned then current plans =
+    → Lies tree' tree'.current → All (Lies tree') (contexts_of table'.plans.standing) → All (PortalLies tree' table') portals → IsPlaced tree' table' (outer ++ new ∷ []) portals
+deepest_placed tree tree' table table' levels outer portals level new placed e on owned then current plans queries =
     let both = all_deepest (LevelLies tree table) levels outer level e placed.levels in
     let has = all_deepest (HasOwner table) levels outer level e owned in
     record {
       current = current;
       levels = All-push (LevelLies tree' table') outer new (all_more outer both.0 has.0) (then both.1);
       plans = plans;
+      portals = queries;
     }
   where
     all_more : (ls : List Level) → All (LevelLies tree table) ls → All (HasOwner table) ls → All (LevelLies tree' table') ls
@@ -196,6 +199,16 @@ lies_at tree table id level lies = record {
   context = some_both level.context (λ c l h. l) lies.context lies.context;
   owner = lies.owner;
 }
+
+pub portals_at : (tree : TreeState) (table : ResourceState) (id : CtxId) (portals : List Portal) → All (PortalLies tree table) portals → All (PortalLies (record tree { current = id }) table) portals
+portals_at tree table id portals lies =
+    All-weaker (PortalLies tree table) (PortalLies (record tree { current = id }) table)
+    (λ p l. record {
+      context = some_more p.context (λ c here. here) l.context;
+      expr = some_more p.expr (λ c here. here) l.expr;
+      owner = l.owner;
+      scan = l.scan;
+    }) portals lies
 
 -- what lies in the owners still does where all that lay does
 pub owner_on : (tree : TreeState) (table table' : ResourceState) (level : Level) → ((id : OwnerId) → owners.IsLive table id → owners.IsLive table' id) → LevelLies tree table level → HasOwner table level → LevelLies tree table' level
@@ -219,7 +232,7 @@ parent_number (Some level) = go level.context
     go (Some n) = refl
 
 -- the owner of the level above
-pub above_live : (a : StoreState) (s : Space) (x : ShelfState) (commons : CommonState) (n : ℕ) (above : Option Level) → IsPlaced a.tree a.owners a.levels → StandsIn a s x commons → above ≡ level_at a.levels n → IfSome (option_and_then (λ level. level.owner) above) (owners.IsLive a.owners)
+pub above_live : (a : StoreState) (s : Space) (x : ShelfState) (commons : CommonState) (n : ℕ) (above : Option Level) → IsPlaced a.tree a.owners a.levels a.portals → StandsIn a s x commons → above ≡ level_at a.levels n → IfSome (option_and_then (λ level. level.owner) above) (owners.IsLive a.owners)
 above_live a s x commons n None placed stands e = tt
 above_live a s x commons n (Some level) placed stands e =
     owner_live a.tree a.owners level
@@ -249,7 +262,7 @@ scene_made a x commons around contexts current next levels limit = record {
     next_serial = a.owners.next_serial;
     locks = a.owners.locks;
     levels = levels;
-    portals = [];
+    portals = portals_of a.portals;
     snapshots = a.owners.stack;
     plans = plans_of a.owners;
     recent = a.owners.recent;

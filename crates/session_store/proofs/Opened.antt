@@ -9,6 +9,7 @@ use Rattle.owner_kinds.specs.KindShelf.{table_of}
 use Rattle.owner_kinds.specs.KindTable.{IsSound}
 use Rattle.session_owners.specs.ResourceState.{ResourceState, owners_of, plans_of}
 use Rattle.subxact_stack.specs.declared.levels.Level.{Level}
+use Rattle.portal_store.specs.declared.portal.Portal.{Portal}
 use Rattle.reset_callbacks.specs.Hook.{AreDistinct}
 use Rattle.reset_callbacks.specs.ShelfState as shelf
 use Rattle.reset_callbacks.specs.ShelfState.{ShelfState}
@@ -17,13 +18,13 @@ use Rattle.session_rules.specs.World.{Around}
 use Rattle.session_rules.specs.Standing.{Stands}
 use Rattle.session_rules.proofs.OpeningStands.{opening_stands}
 use Rattle.session_owners.specs.Commons.{CommonState, seen_by}
-use Rattle.session_store.specs.State.{StoreState, levels_of, session_of}
+use Rattle.session_store.specs.State.{StoreState, levels_of, portals_of, session_of}
 use Rattle.session_store.specs.Calls.{Keeps, StandsIn}
 use Rattle.session_store.proofs.Sums.{held_is}
 
 -- a session by its parts
-abbrev session_by : Contexts → ℕ → ℕ → ResourceState → List Level → SessionState
-session_by contexts current next owners levels = record {
+abbrev session_by : Contexts → ℕ → ℕ → ResourceState → List Level → List Portal → SessionState
+session_by contexts current next owners levels portals = record {
   contexts = contexts;
   current = current;
   next_context = next;
@@ -32,21 +33,22 @@ session_by contexts current next owners levels = record {
   next_serial = owners.next_serial;
   locks = owners.locks;
   levels = levels_of levels;
-  portals = [];
+  portals = portals_of portals;
   snapshots = owners.stack;
   plans = plans_of owners;
   recent = owners.recent;
 }
 
-pub opens : (tree : TreeState) (owners : ResourceState) (levels : List Level) (s : Space) (session descriptors : ℕ) → stands_for tree s ≡ contexts.opening → tree.current.number ≡ 1 → tree.next ≡ 6
-    → owners ≡ record { rooms = Empty; places = Empty; next_owner = 1; next_serial = 1; recent = []; descriptors = descriptors; session = session; locks = []; stack = []; plans = record { standing = []; reserved = None } } → levels ≡ [] → session_of (record { tree = tree; owners = owners; levels = levels }) s ≡ opening
+pub opens : (tree : TreeState) (owners : ResourceState) (levels : List Level) (portals : List Portal) (s : Space) (session descriptors : ℕ) → stands_for tree s ≡ contexts.opening → tree.current.number ≡ 1 → tree.next ≡ 6
+    → owners ≡ record { rooms = Empty; places = Empty; next_owner = 1; next_serial = 1; recent = []; descriptors = descriptors; session = session; locks = []; stack = []; plans = record { standing = []; reserved = None } } → levels ≡ [] → portals ≡ [] → session_of (record { tree = tree; owners = owners; levels = levels; portals = portals }) s ≡ opening
 unfolding session_of opening
-opens tree owners levels s session descriptors p q r u v =
-    ap (λ (z : Contexts). session_by z tree.current.number tree.next owners levels) p
-    ∙ ap (λ (z : ℕ). session_by contexts.opening z tree.next owners levels) q
-    ∙ ap (λ (z : ℕ). session_by contexts.opening 1 z owners levels) r
-    ∙ ap (λ (z : ResourceState). session_by contexts.opening 1 6 z levels) u
-    ∙ ap (λ (z : List Level). session_by contexts.opening 1 6 (record { rooms = Empty; places = Empty; next_owner = 1; next_serial = 1; recent = []; descriptors = descriptors; session = session; locks = []; stack = []; plans = record { standing = []; reserved = None } }) z) v
+opens tree owners levels portals s session descriptors p q r u v w =
+    ap (λ (z : Contexts). session_by z tree.current.number tree.next owners levels portals) p
+    ∙ ap (λ (z : ℕ). session_by contexts.opening z tree.next owners levels portals) q
+    ∙ ap (λ (z : ℕ). session_by contexts.opening 1 z owners levels portals) r
+    ∙ ap (λ (z : ResourceState). session_by contexts.opening 1 6 z levels portals) u
+    ∙ ap (λ (z : List Level). session_by contexts.opening 1 6 (record { rooms = Empty; places = Empty; next_owner = 1; next_serial = 1; recent = []; descriptors = descriptors; session = session; locks = []; stack = []; plans = record { standing = []; reserved = None } }) z portals) v
+    ∙ ap (λ (z : List Portal). session_by contexts.opening 1 6 (record { rooms = Empty; places = Empty; next_owner = 1; next_serial = 1; recent = []; descriptors = descriptors; session = session; locks = []; stack = []; plans = record { standing = []; reserved = None } }) [] z) w
 
 -- what the account holds are the blocks of its contexts, where it held nothing before
 pub keeps_opened : (a : StoreState) (account : ℕ) (s t : Space) → Moves (no_contexts account) a.tree s t → a.tree.account ≡ account → held s account ≡ 0 → Keeps a t

@@ -2,7 +2,7 @@
 use Rattle.std.proofs.Common.{◌≡◌, ◌↔◌, ℕ, true, false, Option, Some, None, List, [], ◌∷◌, length, map, All, IfSome, refl, sym, ap, ◌∙◌, subst, Result, Ok, Err, OnOk, OnErr}
 use Rattle.std.specs.Prelude.{◌==◌, IsErr, reverse}
 use Rattle.std.specs.Option.{option_and_then, option_map, option_map_or}
-use Rattle.std.proofs.lemmas.List.Elements.{All-nil, All-cons, All-head, All-tail}
+use Rattle.std.proofs.lemmas.List.Elements.{All-nil, All-cons, All-head, All-tail, All-weaker}
 use Rattle.addr_space.specs.Space.{Space}
 use Rattle.forest.specs.Forest.{Forest, at, changed, has, removed}
 use Rattle.forest.specs.Walk.{swept}
@@ -22,23 +22,24 @@ use Rattle.owner_core.specs.Released.{own_released}
 use Rattle.owner_kinds.specs.KindTable.{KindTable}
 use Rattle.subxact_stack.specs.Levels.{level_at}
 use Rattle.subxact_stack.specs.declared.levels.Level.{Level}
+use Rattle.portal_store.specs.declared.portal.Portal.{Portal}
 use Rattle.lock_shared.specs.Ranked.{beside}
 use Rattle.lock_local.specs.Locks.{Lock}
 use Rattle.snap_table.specs.declared.active.Active.{Active}
-use Rattle.session_rules.specs.State.{SessionState, file_kind, first_of, last_of, owner_of}
+use Rattle.session_rules.specs.State.{LevelState, SessionState, file_kind, first_of, last_of, owner_of}
 use Rattle.session_rules.specs.Checks.{holds_snapshot}
 use Rattle.session_rules.specs.Taking.{pushed_at, snapshot_pushed}
 use Rattle.session_rules.specs.Counts.{holds}
 use Rattle.session_rules.specs.World.{Around, Scene}
 use Rattle.session_rules.specs.Acts.{Ended, nothing}
-use Rattle.session_rules.specs.Standing.{AreLevels, Stands}
+use Rattle.session_rules.specs.Standing.{AreLevels, IsPortal, Stands}
 use Rattle.session_rules.proofs.Swept.{has_swept}
 use Rattle.session_owners.specs.Counted.{all_released, holds_file}
 use Rattle.session_owners.specs.Fitting as own
 use Rattle.session_owners.specs.Fitting.{OwnersFit}
 use Rattle.session_owners.specs.Commons.{Balances, CommonState, pinned_beside, seen_by}
-use Rattle.session_store.specs.State.{StoreState, level_state, levels_of, scene_of, session_of}
-use Rattle.session_store.specs.Placed.{IsPlaced, LevelLies, Lies, OwnerLies}
+use Rattle.session_store.specs.State.{StoreState, level_state, levels_of, portal_state, portals_of, scene_of, session_of}
+use Rattle.session_store.specs.Placed.{IsPlaced, LevelLies, Lies, OwnerLies, PortalLies}
 use Rattle.session_store.specs.Calls.{Acted, IsSilent, Keeps, Refused, StandsIn}
 use Rattle.session_store.specs.Owned.{OwnersAlone}
 use Rattle.session_store.proofs.Answered.{some_both, some_more}
@@ -69,11 +70,18 @@ owners_levels tree a b (level ∷ levels) go lies =
     All-cons (LevelLies tree b) level levels (record { context = first.context; owner = some_more level.owner (λ id. owner_on a b id go) first.owner })
     (owners_levels tree a b levels go (All-tail (LevelLies tree a) level levels lies))
 
-pub placed_owners : (tree : TreeState) (a b : ResourceState) (levels : List Level) → IsPlaced tree a levels → OwnersGo a b → IsPlaced tree b levels
-placed_owners tree a b levels placed go = record {
+pub portal_owners : (tree : TreeState) (a b : ResourceState) (portal : Portal) → OwnersGo a b → PortalLies tree a portal → PortalLies tree b portal
+portal_owners tree a b portal go lies = record { context = lies.context; expr = lies.expr; owner = some_more portal.owner (λ id. owner_on a b id go) lies.owner; scan = lies.scan }
+
+pub portals_owners : (tree : TreeState) (a b : ResourceState) (portals : List Portal) → OwnersGo a b → All (PortalLies tree a) portals → All (PortalLies tree b) portals
+portals_owners tree a b portals go lies = All-weaker (PortalLies tree a) (PortalLies tree b) (λ portal. portal_owners tree a b portal go) portals lies
+
+pub placed_owners : (tree : TreeState) (a b : ResourceState) (levels : List Level) (portals : List Portal) → IsPlaced tree a levels portals → OwnersGo a b → IsPlaced tree b levels portals
+placed_owners tree a b levels portals placed go = record {
   current = placed.current;
   levels = owners_levels tree a b levels go placed.levels;
   plans = all_left (Lies tree) (contexts_of a.plans.standing) (contexts_of b.plans.standing) go.left placed.plans;
+  portals = portals_owners tree a b portals go placed.portals;
 }
 
 -- nothing of the tree changes
@@ -84,6 +92,7 @@ pub owners_alone : (a : StoreState) (b : ResourceState) (c d : CommonState) → 
 owners_alone a b c d go balances = record {
   tree = refl;
   levels = refl;
+  portals = refl;
   keeps = keeps_owners a b;
   balances = balances;
   stays = λ id live now. go.stays id.number now ∙ live;
@@ -163,8 +172,39 @@ have_owners a s x commons stands =
     let h : Stands (scene_of a s x commons nowhere) = stands nowhere in
     all_reverse (HasOwner a.owners) a.levels (owners_there (stands_for a.tree s) a.owners (reverse a.levels) h.levels)
 
-pub level_owner_live : (tree : TreeState) (table : ResourceState) (levels : List Level) (n : ℕ) (level : Level) → IsPlaced tree table levels → All (HasOwner table) levels → level_at levels n ≡ Some level → IfSome level.owner (ids.IsLive table)
-level_owner_live tree table levels n level placed there e =
+-- the owner of a portal is there where the session stands
+abbrev pub HasPortalOwner : ResourceState → Portal → Type 0
+HasPortalOwner table portal = IfSome portal.owner (λ id. has id.number (owners_of table) ≡ true)
+
+pub portal_owners_there : (levels : List LevelState) (contexts : Contexts) (table : ResourceState) (current : ℕ) (portals : List Portal) → All (λ p. IsPortal p levels contexts (owners_of table) current) (portals_of portals) → All (HasPortalOwner table) portals
+portal_owners_there levels contexts table current [] h = All-nil (HasPortalOwner table)
+portal_owners_there levels contexts table current (portal ∷ portals) h =
+    let first : IsPortal (portal_state portal) levels contexts (owners_of table) current = All-head (λ p. IsPortal p levels contexts (owners_of table) current) (portal_state portal) (portals_of portals) h in
+    All-cons (HasPortalOwner table) portal portals (owner_there table portal.owner (λ n e. (first.owner n e).there))
+    (portal_owners_there levels contexts table current portals (All-tail (λ p. IsPortal p levels contexts (owners_of table) current) (portal_state portal) (portals_of portals) h))
+
+pub have_portal_owners : (a : StoreState) (s : Space) (x : ShelfState) (commons : CommonState) → StandsIn a s x commons → All (HasPortalOwner a.owners) a.portals
+unfolding session_of
+have_portal_owners a s x commons stands =
+    let h : Stands (scene_of a s x commons nowhere) = stands nowhere in
+    portal_owners_there (levels_of a.levels) (stands_for a.tree s) a.owners a.tree.current.number a.portals h.portals.each
+
+-- the owners of portals lie on where all that lay do
+pub portals_kept : (tree : TreeState) (a b : ResourceState) (portals : List Portal) → ((id : OwnerId) → ids.IsLive a id → ids.IsLive b id) → All (PortalLies tree a) portals → All (HasPortalOwner a) portals → All (PortalLies tree b) portals
+portals_kept tree a b [] on lies there = All-nil (PortalLies tree b)
+portals_kept tree a b (portal ∷ portals) on lies there =
+    let first = All-head (PortalLies tree a) portal portals lies in
+    All-cons (PortalLies tree b) portal portals
+    (record {
+      context = first.context;
+      expr = first.expr;
+      owner = some_both portal.owner (λ id l here _. on id (l (sym (has_rooms id.number a) ∙ here))) first.owner (All-head (HasPortalOwner a) portal portals there);
+      scan = first.scan;
+    })
+    (portals_kept tree a b portals on (All-tail (PortalLies tree a) portal portals lies) (All-tail (HasPortalOwner a) portal portals there))
+
+pub level_owner_live : (tree : TreeState) (table : ResourceState) (levels : List Level) (portals : List Portal) (n : ℕ) (level : Level) → IsPlaced tree table levels portals → All (HasOwner table) levels → level_at levels n ≡ Some level → IfSome level.owner (ids.IsLive table)
+level_owner_live tree table levels portals n level placed there e =
     let lies : LevelLies tree table level = at_level (LevelLies tree table) levels n level placed.levels e in
     some_both level.owner (λ id lies here. lies (sym (has_rooms id.number table) ∙ here)) lies.owner (at_level (HasOwner table) levels n level there e)
 
@@ -238,22 +278,22 @@ room_acted a b s x commons session descriptors balances = record {
   balances = balances;
 }
 
-module _ (tree : TreeState) (owners : ResourceState) (levels : List Level) (v : StoreState) (is : record { tree = tree; owners = owners; levels = levels } ≡ v) where
+module _ (tree : TreeState) (owners : ResourceState) (levels : List Level) (portals : List Portal) (v : StoreState) (is : record { tree = tree; owners = owners; levels = levels; portals = portals } ≡ v) where
   -- what is known of the value, of the field
   pub owner_in : (id : OwnerId) → ids.IsLive v.owners id → ids.IsLive owners id
   owner_in id live = subst (λ (a : StoreState). ids.IsLive a.owners id) (sym is) live
 
-  pub owners_after : (act : Scene → Ended) (b : ResourceState) (s : Space) (x : ShelfState) (c d : CommonState) (Said : List What → Type 0) → own.Acted act owners b c d Said → Balances owners b c d → Acted act v (record { tree = tree; owners = b; levels = levels }) s s x x c d Said
+  pub owners_after : (act : Scene → Ended) (b : ResourceState) (s : Space) (x : ShelfState) (c d : CommonState) (Said : List What → Type 0) → own.Acted act owners b c d Said → Balances owners b c d → Acted act v (record { tree = tree; owners = b; levels = levels; portals = portals }) s s x x c d Said
   owners_after act b s x c d Said h balances =
-      subst (λ (a : StoreState). Acted act a (record { tree = tree; owners = b; levels = levels }) s s x x c d Said) is (owners_acted act (record { tree = tree; owners = owners; levels = levels }) b s x c d Said h balances)
+      subst (λ (a : StoreState). Acted act a (record { tree = tree; owners = b; levels = levels; portals = portals }) s s x x c d Said) is (owners_acted act (record { tree = tree; owners = owners; levels = levels; portals = portals }) b s x c d Said h balances)
 
   -- a snapshot is pushed at the deepest level
   pub pushed_after : (b : ResourceState) (level snapshot : ℕ) (s : Space) (x : ShelfState) (commons : CommonState) (Said : List What → Type 0) → level ≡ length levels → own.Acted (pushed_at level snapshot) owners b commons commons Said → Balances owners b commons commons
-      → Acted (snapshot_pushed snapshot) v (record { tree = tree; owners = b; levels = levels }) s s x x commons commons Said
+      → Acted (snapshot_pushed snapshot) v (record { tree = tree; owners = b; levels = levels; portals = portals }) s s x x commons commons Said
   unfolding session_of
   pushed_after b level snapshot s x commons Said deepest h balances =
-      let a : StoreState = record { tree = tree; owners = owners; levels = levels } in
-      subst (λ (z : StoreState). Acted (snapshot_pushed snapshot) z (record { tree = tree; owners = b; levels = levels }) s s x x commons commons Said) is
+      let a : StoreState = record { tree = tree; owners = owners; levels = levels; portals = portals } in
+      subst (λ (z : StoreState). Acted (snapshot_pushed snapshot) z (record { tree = tree; owners = b; levels = levels; portals = portals }) s s x x commons commons Said) is
       (acted_as (pushed_at level snapshot) (snapshot_pushed snapshot) a (record a { owners = b }) s s x x commons commons Said
       (λ around. ap (λ (n : ℕ). pushed_at n snapshot (scene_of a s x commons around)) (deepest ∙ sym (levels_long levels)))
       (owners_acted (pushed_at level snapshot) a b s x commons commons Said h balances))
@@ -265,13 +305,13 @@ module _ (tree : TreeState) (owners : ResourceState) (levels : List Level) (v : 
       subst (λ (z : StoreState). IsErr r ↔ (holds_snapshot (session_of z s) ≡ false)) is
       (subst (λ (n : ℕ). IsErr r ↔ (option_map_or (λ entry. entry.level == n) (last_of owners.stack) false ≡ false)) (deepest ∙ sym (levels_long levels)) h)
 
-  pub refused_after : (b : ResourceState) (s : Space) (x : ShelfState) (commons : CommonState) → b ≡ owners → Refused v (record { tree = tree; owners = b; levels = levels }) s s x x commons commons
+  pub refused_after : (b : ResourceState) (s : Space) (x : ShelfState) (commons : CommonState) → b ≡ owners → Refused v (record { tree = tree; owners = b; levels = levels; portals = portals }) s s x x commons commons
   refused_after b s x commons same =
-      subst (λ (a : StoreState). Refused a (record { tree = tree; owners = b; levels = levels }) s s x x commons commons) is (refused_owners (record { tree = tree; owners = owners; levels = levels }) b s x commons same)
+      subst (λ (a : StoreState). Refused a (record { tree = tree; owners = b; levels = levels; portals = portals }) s s x x commons commons) is (refused_owners (record { tree = tree; owners = owners; levels = levels; portals = portals }) b s x commons same)
 
-  pub owners_alone_after : (b : ResourceState) (c d : CommonState) → OwnersGo owners b → Balances owners b c d → OwnersAlone v (record { tree = tree; owners = b; levels = levels }) c d
+  pub owners_alone_after : (b : ResourceState) (c d : CommonState) → OwnersGo owners b → Balances owners b c d → OwnersAlone v (record { tree = tree; owners = b; levels = levels; portals = portals }) c d
   owners_alone_after b c d go balances =
-      subst (λ (a : StoreState). OwnersAlone a (record { tree = tree; owners = b; levels = levels }) c d) is (owners_alone (record { tree = tree; owners = owners; levels = levels }) b c d go balances)
+      subst (λ (a : StoreState). OwnersAlone a (record { tree = tree; owners = b; levels = levels; portals = portals }) c d) is (owners_alone (record { tree = tree; owners = owners; levels = levels; portals = portals }) b c d go balances)
 
 -- a session holds a file where its owners do
 pub file_held : (a : StoreState) (file : ℕ) (s : Space) → holds_file file (owners_of a.owners) ≡ holds file_kind file (session_of a s)

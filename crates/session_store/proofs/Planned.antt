@@ -29,8 +29,9 @@ use Rattle.session_rules.specs.State.{StandingPlan, cache_context}
 use Rattle.session_rules.specs.World.{Around, Scene}
 use Rattle.session_rules.specs.Making.{plan_made}
 use Rattle.subxact_stack.specs.declared.levels.Level.{Level}
-use Rattle.session_store.specs.State.{StoreState, levels_of, session_of}
-use Rattle.session_store.specs.Placed.{IsPlaced, LevelLies, Lies}
+use Rattle.portal_store.specs.declared.portal.Portal.{Portal}
+use Rattle.session_store.specs.State.{StoreState, levels_of, portals_of, session_of}
+use Rattle.session_store.specs.Placed.{IsPlaced, LevelLies, Lies, PortalLies}
 use Rattle.session_store.specs.Calls.{Acted, BothAlone, Keeps, Unmade}
 use Rattle.session_store.proofs.Kept.{Goes, has_kept}
 use Rattle.session_store.proofs.Owned.{keeps_owners}
@@ -45,6 +46,7 @@ both_alone a b q s t c d keeps goes stay balances = record {
   moves = goes.moves;
   balances = balances;
   levels = refl;
+  portals = refl;
   stays = λ id live was now. goes.stays id.number (sym (has_kept id.number a.tree s) ∙ was) (sym (has_kept id.number b t) ∙ now) ∙ live;
   owner_stays = λ id live now. stay id.number now ∙ live;
 }
@@ -71,7 +73,7 @@ scene_planned a x commons around contexts current next plans limit = record {
     next_serial = a.owners.next_serial;
     locks = a.owners.locks;
     levels = levels_of a.levels;
-    portals = [];
+    portals = portals_of a.portals;
     snapshots = a.owners.stack;
     plans = plans;
     recent = a.owners.recent;
@@ -110,26 +112,28 @@ planned_acted a b q s t plan id cache Said x commons limit third number is curre
     })
 
 -- the new plan's context lies where its id says
-pub planned_placed : (b : TreeState) (owners q : ResourceState) (levels : List Level) (plan : ℕ) (id : CtxId) → q ≡ with_plan plan id owners → IsPlaced b owners levels → IsLive b id → IsPlaced b q levels
-planned_placed b owners q levels plan id made placed live =
+pub planned_placed : (b : TreeState) (owners q : ResourceState) (levels : List Level) (portals : List Portal) (plan : ℕ) (id : CtxId) → q ≡ with_plan plan id owners → IsPlaced b owners levels portals → IsLive b id → IsPlaced b q levels portals
+planned_placed b owners q levels portals plan id made placed live =
     let now : ResourceState = with_plan plan id owners in
-    subst (λ (r : ResourceState). IsPlaced b r levels) (sym made)
+    subst (λ (r : ResourceState). IsPlaced b r levels portals) (sym made)
     (record {
       current = placed.current;
       levels = All-weaker (LevelLies b owners) (LevelLies b now) (λ l lies. record { context = lies.context; owner = lies.owner }) levels placed.levels;
       plans =
           subst (All (Lies b)) (sym (map-append (λ (p : ℕ × Plan). p.1.context) owners.plans.standing (new_plan plan id ∷ [])))
           (All-push (Lies b) (contexts_of owners.plans.standing) id placed.plans (λ there. live));
+      portals = All-weaker (PortalLies b owners) (PortalLies b now) (λ p lies. record { context = lies.context; expr = lies.expr; owner = lies.owner; scan = lies.scan }) portals placed.portals;
     })
 
 -- room is reserved, and no more
-pub room_placed : (b : TreeState) (owners q : ResourceState) (levels : List Level) (plan : Option ℕ) → q ≡ with_room plan owners → IsPlaced b owners levels → IsPlaced b q levels
-room_placed b owners q levels plan made placed =
-    subst (λ (r : ResourceState). IsPlaced b r levels) (sym made)
+pub room_placed : (b : TreeState) (owners q : ResourceState) (levels : List Level) (portals : List Portal) (plan : Option ℕ) → q ≡ with_room plan owners → IsPlaced b owners levels portals → IsPlaced b q levels portals
+room_placed b owners q levels portals plan made placed =
+    subst (λ (r : ResourceState). IsPlaced b r levels portals) (sym made)
     (record {
       current = placed.current;
       levels = All-weaker (LevelLies b owners) (LevelLies b (with_room plan owners)) (λ l lies. record { context = lies.context; owner = lies.owner }) levels placed.levels;
       plans = placed.plans;
+      portals = All-weaker (PortalLies b owners) (PortalLies b (with_room plan owners)) (λ p lies. record { context = lies.context; expr = lies.expr; owner = lies.owner; scan = lies.scan }) portals placed.portals;
     })
 
 -- the call was refused

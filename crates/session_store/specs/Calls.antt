@@ -49,6 +49,7 @@ pub record ContextsAlone (a b : StoreState) (s t : Space) (c d : CommonState) : 
   pub owners : b.owners ≡ a.owners
   pub commons : d ≡ c
   pub levels : b.levels ≡ a.levels
+  pub portals : b.portals ≡ a.portals
   pub stays : (id : CtxId) → IsLive a.tree id → has id.number (contexts_in a s) ≡ true → has id.number (contexts_in b t) ≡ true → IsLive b.tree id
 
 -- Contexts and owners changed and nothing else of a store: the space has what the contexts have, it keeps what isn't theirs, the commons are
@@ -58,8 +59,15 @@ pub record BothAlone (a b : StoreState) (s t : Space) (c d : CommonState) : Type
   pub moves : Moves a.tree b.tree s t
   pub balances : Balances a.owners b.owners c d
   pub levels : b.levels ≡ a.levels
+  pub portals : b.portals ≡ a.portals
   pub stays : (id : CtxId) → IsLive a.tree id → has id.number (contexts_in a s) ≡ true → has id.number (contexts_in b t) ≡ true → IsLive b.tree id
   pub owner_stays : (id : OwnerId) → owners.IsLive a.owners id → has id.number (owners_of b.owners) ≡ true → owners.IsLive b.owners id
+
+-- Of a store the portals changed and nothing else.
+pub record PortalsAlone (a b : StoreState) : Type 0 where
+  pub tree : b.tree ≡ a.tree
+  pub owners : b.owners ≡ a.owners
+  pub levels : b.levels ≡ a.levels
 
 -- The call was refused: the store, the shelf and the commons are as they were, and the session is.
 pub record Refused (a b : StoreState) (s t : Space) (x y : ShelfState) (c d : CommonState) : Type 0 where

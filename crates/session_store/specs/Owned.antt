@@ -13,6 +13,7 @@ use Rattle.session_store.specs.Calls.{Keeps}
 pub record OwnersAlone (a b : StoreState) (c d : CommonState) : Type 0 where
   pub tree : b.tree ≡ a.tree
   pub levels : b.levels ≡ a.levels
+  pub portals : b.portals ≡ a.portals
   pub keeps : (s : Space) → Keeps a s → Keeps b s
   pub balances : Balances a.owners b.owners c d
   pub stays : (id : OwnerId) → owners.IsLive a.owners id → has id.number (owners_of b.owners) ≡ true → owners.IsLive b.owners id

@@ -8,6 +8,8 @@ use Rattle.session_owners.specs.ResourceState as owners
 use Rattle.session_owners.specs.ResourceState.{ResourceState}
 use Rattle.session_owners.specs.Placing.{contexts_of}
 use Rattle.subxact_stack.specs.declared.levels.Level.{Level}
+use Rattle.exec_core.specs.Turn.{IsScan}
+use Rattle.portal_store.specs.declared.portal.Portal.{Portal}
 use Rattle.session_rules.specs.State.{top_context}
 
 -- a context, and an owner, lies where its id says, if it is there
@@ -22,11 +24,19 @@ pub record LevelLies (tree : TreeState) (table : ResourceState) (level : Level) 
   pub context : IfSome level.context (Lies tree)
   pub owner : IfSome level.owner (OwnerLies table)
 
--- What the store names lies where its id says: the current context, what the levels have, and the contexts of plans.
-pub record IsPlaced (tree : TreeState) (table : ResourceState) (list : List Level) : Type 0 where
+-- a portal's do, once they are made, and its scan is as its calls leave it
+pub record PortalLies (tree : TreeState) (table : ResourceState) (portal : Portal) : Type 0 where
+  pub context : IfSome portal.context (Lies tree)
+  pub expr : IfSome portal.expr (Lies tree)
+  pub owner : IfSome portal.owner (OwnerLies table)
+  pub scan : IsScan portal.scan
+
+-- What the store names lies where its id says: the current context, what the levels and the portals have, and the contexts of plans.
+pub record IsPlaced (tree : TreeState) (table : ResourceState) (list : List Level) (queries : List Portal) : Type 0 where
   pub current : Lies tree tree.current
   pub levels : All (LevelLies tree table) list
   pub plans : All (Lies tree) (contexts_of table.plans.standing)
+  pub portals : All (PortalLies tree table) queries
 
 -- the context of a level, once it is made, is there
 abbrev pub IsThere : TreeState → Level → Type 0

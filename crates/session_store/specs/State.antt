@@ -1,5 +1,5 @@
 -- What a session's store is seen as, and the session that it stands for.
-use Rattle.std.specs.Prelude.{ℕ, ◌-◌, if◌then◌else◌, List, [], Option, Some, None, map, reverse}
+use Rattle.std.specs.Prelude.{ℕ, ◌-◌, if◌then◌else◌, List, Option, Some, None, map, reverse}
 use Rattle.std.specs.Option.{option_map}
 use Rattle.addr_space.specs.Space.{Space}
 use Rattle.reset_callbacks.specs.ShelfState.{ShelfState}
@@ -9,15 +9,17 @@ use Rattle.context_tree.specs.State.{TreeState, stands_for}
 use Rattle.session_owners.specs.ResourceState.{ResourceState, owners_of, plans_of}
 use Rattle.session_owners.specs.Commons.{CommonState, seen_by}
 use Rattle.subxact_stack.specs.declared.levels.Level.{Level}
-use Rattle.session_rules.specs.State.{LevelState, SessionState}
+use Rattle.portal_store.specs.declared.portal.Portal.{Portal}
+use Rattle.session_rules.specs.State.{LevelState, OpenPortal, SessionState}
 use Rattle.session_rules.specs.World.{Around, Scene}
 use Rattle.session_rules.specs.Making as rules
 
--- the contexts, the owners with the files, and the levels of the transaction, level 1 first
+-- the contexts, the owners with the files, the levels of the transaction, level 1 first, and the portals, the newest first
 pub record StoreState : Type 0 where
   pub tree : TreeState
   pub owners : ResourceState
   pub levels : List Level
+  pub portals : List Portal
 
 -- a level by the numbers of its context and its owner
 abbrev pub level_state : Level → LevelState
@@ -34,7 +36,24 @@ level_state level = record {
 abbrev pub levels_of : List Level → List LevelState
 levels_of levels = map level_state (reverse levels)
 
--- The session that a store and its space stand for. No step yet makes a portal.
+-- a portal by the numbers of its contexts and its owner
+abbrev pub portal_state : Portal → OpenPortal
+portal_state portal = record {
+  name = portal.name;
+  context = option_map (λ id. id.number) portal.context;
+  expr = option_map (λ id. id.number) portal.expr;
+  owner = option_map (λ id. id.number) portal.owner;
+  scan = portal.scan;
+  created = portal.created;
+  active = portal.active;
+  state = portal.state;
+}
+
+-- the portals, the newest first
+abbrev pub portals_of : List Portal → List OpenPortal
+portals_of portals = map portal_state portals
+
+-- the session that a store and its space stand for
 unfoldable pub session_of : StoreState → Space → SessionState
 session_of store s = record {
   contexts = stands_for store.tree s;
@@ -45,7 +64,7 @@ session_of store s = record {
   next_serial = store.owners.next_serial;
   locks = store.owners.locks;
   levels = levels_of store.levels;
-  portals = [];
+  portals = portals_of store.portals;
   snapshots = store.owners.stack;
   plans = plans_of store.owners;
   recent = store.owners.recent;

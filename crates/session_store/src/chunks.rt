@@ -6,7 +6,7 @@ ghost use Rattle.context_rules.specs.Contexts.{found};
 ghost use Rattle.context_rules.specs.Chunks.{asked, freed, resized_asked, shown, written};
 ghost use Rattle.context_rules.specs.Refusals as refusals;
 ghost use Rattle.context_rules.specs.Refusals.{alloc_refusal, bytes_refusal, free_refusal, put_refusal, realloc_refusal};
-ghost use Rattle.context_tree.specs.State.{error_of};
+ghost use Rattle.context_tree.specs.State.{IsLive, error_of};
 ghost use Rattle.session_rules.specs.Taking.{chunk_resized, memory_taken};
 ghost use Rattle.session_rules.specs.Parts.{contexts_become};
 ghost use Rattle.session_owners.specs.Commons.{CommonState};
@@ -16,7 +16,7 @@ ghost use Rattle.session_store.specs.Calls.{Acted, ContextsAlone, IsSilent, Keep
 use crate::store::Store;
 use addr_space::{Addr, Space};
 use context_rules::TreeError;
-use pgs_step::Name;
+use pgs_step::{CtxId, Name};
 use reset_callbacks::ResetHook;
 
 impl<H: ResetHook> Store<H> {
@@ -40,7 +40,29 @@ impl<H: ResetHook> Store<H> {
         ensures refused { OnErr result ((x : ShelfState) (c : CommonState) → Refused self.old self.new space.old space.new x x c c) }
         ensures err_space { OnErr result (space.new ≡ space.old) }
     {
-        let at = self.tree.current();
+        let at = self.current();
+        self.alloc_at(space, at, chunk, size)
+    }
+
+    /// Takes a chunk in a context, whose bytes aren't known: `MemoryContextAlloc`. The answers are those of `alloc`.
+    pub fn alloc_at(
+        &mut self,
+        space: &mut Space,
+        at: CtxId,
+        chunk: Option<Name>,
+        size: u64,
+    ) -> Result<(), TreeError>
+        requires keeps { Keeps self.old space.old }
+        requires stands { (x : ShelfState) × ((c : CommonState) × StandsIn self.old space.old x c) }
+        requires live { IsLive self.old.tree at }
+        ensures acted { OnOk result ((x : ShelfState) (c : CommonState) → Acted (memory_taken chunk size false at.number) self.old self.new space.old space.new x x c c IsSilent) }
+        ensures alone { (c : CommonState) → ContextsAlone self.old self.new space.old space.new c c }
+        ensures asked { OnOk result (Asks self.old.tree.account (asked at.number (left_in self.old space.old) size (contexts_in self.old space.old)) space.old space.new) }
+        ensures served { OnOk result (alloc_refusal at.number (left_in self.old space.old) chunk size (contexts_in self.old space.old) ≡ None) }
+        ensures cause { IfErr result (λ e. (e ≡ TreeError.Memory) ⊎ (alloc_refusal at.number (left_in self.old space.old) chunk size (contexts_in self.old space.old) ≡ Some e)) }
+        ensures refused { OnErr result ((x : ShelfState) (c : CommonState) → Refused self.old self.new space.old space.new x x c c) }
+        ensures err_space { OnErr result (space.new ≡ space.old) }
+    {
         self.tree.alloc(space, at, chunk, size)
     }
 

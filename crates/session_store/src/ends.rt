@@ -62,6 +62,24 @@ impl<H: ResetHook> Store<H> {
         self.tree.reset_only(space, shelf, at, out)
     }
 
+    /// Resets a context and nothing below it, be it one of the session's own: `MemoryContextResetOnly`. It takes no memory.
+    pub fn clear_only<E: Emit>(
+        &mut self,
+        space: &mut Space,
+        shelf: &mut Shelf<H>,
+        at: CtxId,
+        out: &mut E,
+    )
+        requires keeps { Keeps self.old space.old }
+        requires stands { (c : CommonState) × StandsIn self.old space.old shelf.old c }
+        requires live { IsLive self.old.tree at }
+        ensures acted { (c : CommonState) → Acted (context_cleared_alone at.number) self.old self.new space.old space.new shelf.old shelf.new c c (λ events. E.emits out.old events out.new) }
+        ensures alone { (c : CommonState) → ContextsAlone self.old self.new space.old space.new c c }
+        ensures asked { Asks self.old.tree.account 0 space.old space.new }
+    {
+        self.tree.clear_only(space, shelf, at, out);
+    }
+
     /// Deletes a context with all below it: `MemoryContextDelete`.
     ///
     /// `Protected` comes for one of the session's own, and then `InUse` where the current context would go. It takes no

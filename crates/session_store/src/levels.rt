@@ -139,6 +139,7 @@ impl<H: ResetHook> Store<H> {
         ensures tree { self.new.tree ≡ record self.old.tree { current = self.new.tree.current } }
         ensures owners { self.new.owners ≡ self.old.owners }
         ensures levels { self.new.levels ≡ with_deepest (λ level. record level { starting = false }) self.old.levels }
+        ensures portals { self.new.portals ≡ self.old.portals }
     {
         switch_to(&mut self.tree, deepest(&self.levels).context);
         self.levels.started();
@@ -177,6 +178,7 @@ impl<H: ResetHook> Store<H> {
         ensures keeps { Keeps self.new space.new }
         ensures moves { Moves self.old.tree self.new.tree space.old space.new }
         ensures owners { self.new.owners ≡ self.old.owners }
+        ensures portals { self.new.portals ≡ self.old.portals }
         ensures asked { OnOk result (Asks self.old.tree.account (first_size kind.Default) space.old space.new) }
         ensures served { OnOk result (create_refusal (left_in self.old space.old) (codes "CurTransactionContext") kind.Default true (contexts_in self.old space.old) ≡ None) }
         ensures cause { IfErr result (λ e. (e ≡ TreeError.Memory) ⊎ (create_refusal (left_in self.old space.old) (codes "CurTransactionContext") kind.Default true (contexts_in self.old space.old) ≡ Some e)) }
@@ -208,6 +210,7 @@ impl<H: ResetHook> Store<H> {
         ensures acted { OnOk result ((s : Space) (x : ShelfState) (c : CommonState) → Acted (new_owner_made OfLevel) self.old self.new s s x x c c (λ events. E.emits out.old events out.new)) }
         ensures keeps { (s : Space) → Keeps self.old s → Keeps self.new s }
         ensures tree { self.new.tree ≡ self.old.tree }
+        ensures portals { self.new.portals ≡ self.old.portals }
         ensures too_many { (result ≡ Err OwnerError.TooMany) ↔ (65536 ≤ size (owners_of self.old.owners)) }
         ensures causes { OnErr result ((result ≢ Err OwnerError.Releasing) × (result ≢ Err OwnerError.NotOwned)) }
         ensures err { OnErr result (self.new ≡ self.old) }

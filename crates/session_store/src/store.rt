@@ -23,14 +23,15 @@ use chunk_header::CtxError;
 use context_rules::TreeError;
 use context_tree::ContextTree;
 use pgs_step::{CtxId, Name};
+use portal_store::Portals;
 use reset_callbacks::ResetHook;
 use session_owners::Resources;
 use std::alloc::Global;
 use std::marker::Model;
 use subxact_stack::Levels;
 
-/// What one session of a backend holds: its memory contexts, its resource owners with what they hold, its plans, and the levels of
-/// its transaction. Each method does what one part of the session's rules says.
+/// What one session of a backend holds: its memory contexts, its resource owners with what they hold, its plans, the levels of its
+/// transaction, and its portals. Each method does what one part of the session's rules says.
 ///
 /// Contracts speak of the session that the store and its space stand for.
 #[derive(Drop)]
@@ -41,6 +42,8 @@ pub struct Store<H: ResetHook> {
     pub owners: Resources,
     /// The levels of the transaction, level 1 first.
     pub levels: Levels,
+    /// The portals, the newest first.
+    pub portals: Portals,
 }
 
 impl<H: ResetHook> Model for Store<H> {
@@ -52,11 +55,11 @@ impl<H: ResetHook> Model for Store<H> {
 
     ghost coded = { store_code };
 
-    ghost view = { λ s. record { tree = s.tree; owners = s.owners; levels = s.levels } };
+    ghost view = { λ s. record { tree = s.tree; owners = s.owners; levels = s.levels; portals = s.portals } };
 
     ghost use Rattle.session_store.specs.Placed.{IsPlaced};
 
-    ghost invariant = { λ s. IsPlaced s.tree s.owners s.levels };
+    ghost invariant = { λ s. IsPlaced s.tree s.owners s.levels s.portals };
 }
 
 impl<H: ResetHook> Store<H> {
@@ -95,6 +98,7 @@ impl<H: ResetHook> Store<H> {
                 tree,
                 owners,
                 levels: Levels::new(alloc),
+                portals: Portals::new(alloc),
             }),
             Err(error) => Err(error),
         }

@@ -1,49 +1,13 @@
--- What the tree did is what the session's rules say.
-use Rattle.std.proofs.Common.{◌≡◌, ◌⊎◌, ℕ, false, None, Some, IfErr, OnOk, sym, subst}
-use Rattle.addr_space.specs.Space.{Asks}
-use Rattle.context_rules.specs.Chunks.{asked}
-use Rattle.context_rules.specs.Contexts.{Contexts}
-use Rattle.context_rules.specs.Refusals.{alloc_refusal}
-use Rattle.context_rules.specs.declared.errors.TreeError.TheVariants.{Memory}
+-- The chunk is taken in the current context.
+use Rattle.std.proofs.Common.{false, OnOk, subst}
 use Rattle.pgs_step.specs.declared.ids.CtxId.{CtxId}
-use Rattle.context_tree.specs.State.{IsLive}
-use Rattle.session_store.proofs.Kept.{goes_put}
-use Rattle.session_store.proofs.Through.{agrees_in, alone_after, left_through, placed_after, same_after, taken_after, there_in}
+use Rattle.reset_callbacks.specs.ShelfState.{ShelfState}
+use Rattle.session_owners.specs.Commons.{CommonState}
+use Rattle.session_rules.specs.Taking.{memory_taken}
+use Rattle.session_store.specs.Calls.{Acted, IsSilent}
 use Rattle.session_store.proofs.store.Store.alloc.Goals as goal
-
-pub alloc-requires-clause-agrees : goal.alloc-requires-clause-agrees
-alloc-requires-clause-agrees g c = agrees_in _ _ _ _ c.self.view_is c.args.space.now c.requires.keeps
-
-pub alloc-requires-clause-live : goal.alloc-requires-clause-live
-alloc-requires-clause-live g c =
-    let there = there_in _ _ _ _ c.self.view_is c.args.space.now c.requires.stands.0 c.requires.stands.1.0 c.requires.stands.1.1 in
-    subst (λ (id : CtxId). IsLive c.self.inside.tree id) (sym c.current-at.ensures) (c.self.invariant.current there.current)
-
-pub invariant_of-self : goal.invariant_of-self
-invariant_of-self g c =
-    placed_after _ _ _ _ c.self.view_is _ _ _ c.requires.stands.0 c.requires.stands.1.0 c.requires.stands.1.1 c.self.invariant (goes_put _ _ _ _ c.alloc.ensures.moves c.alloc.ensures.stays)
 
 pub returns-clause-acted : goal.returns-clause-acted
 returns-clause-acted g c =
-    taken_after _ _ _ _ c.self.view_is _ _ _ c.alloc.result c.args.chunk c.args.size false c.current-at.result c.current-at.ensures c.requires.keeps c.alloc.ensures.contexts c.alloc.ensures.stays c.alloc.ensures.moves.limit
-
-pub returns-clause-alone : goal.returns-clause-alone
-returns-clause-alone g c commons = alone_after _ _ _ _ c.self.view_is _ _ _ commons c.requires.keeps (goes_put _ _ _ _ c.alloc.ensures.moves c.alloc.ensures.stays)
-
-pub returns-clause-asked : goal.returns-clause-asked
-returns-clause-asked g c =
-    left_through _ _ _ _ c.self.view_is (λ (account n left : ℕ) (contexts : Contexts). OnOk c.alloc.result (Asks account (asked n left c.args.size contexts) c.args.space.now c.alloc.new.space)) c.args.space.now c.current-at.result c.current-at.ensures c.requires.keeps
-    c.alloc.ensures.asked
-
-pub returns-clause-served : goal.returns-clause-served
-returns-clause-served g c =
-    left_through _ _ _ _ c.self.view_is (λ (account n left : ℕ) (contexts : Contexts). OnOk c.alloc.result (alloc_refusal n left c.args.chunk c.args.size contexts ≡ None)) c.args.space.now c.current-at.result c.current-at.ensures c.requires.keeps
-    c.alloc.ensures.served
-
-pub returns-clause-cause : goal.returns-clause-cause
-returns-clause-cause g c =
-    left_through _ _ _ _ c.self.view_is (λ (account n left : ℕ) (contexts : Contexts). IfErr c.alloc.result (λ e. (e ≡ Memory) ⊎ (alloc_refusal n left c.args.chunk c.args.size contexts ≡ Some e))) c.args.space.now c.current-at.result c.current-at.ensures c.requires.keeps
-    c.alloc.ensures.refused
-
-pub returns-clause-refused : goal.returns-clause-refused
-returns-clause-refused g c = same_after _ _ _ _ c.self.view_is _ _ _ c.alloc.result c.alloc.ensures.err c.alloc.ensures.err_space
+    subst (λ (id : CtxId). OnOk c.alloc_at.result ((x : ShelfState) (commons : CommonState) → Acted (memory_taken c.args.chunk c.args.size false id.number) c.args.self.now c.alloc_at.new.self c.args.space.now c.alloc_at.new.space x x commons commons IsSilent))
+    c.current-at.ensures.current c.alloc_at.ensures.acted

@@ -17,16 +17,16 @@ use Rattle.session_store.proofs.store.Store.context_above.Goals as goal
 pub returns-in-None-clause-live : goal.returns-in-None-clause-live
 returns-in-None-clause-live g c =
     subst (λ (a : StoreState). IsLive a.tree c.top.result) c.self.view_is
-    (c.top.ensures.stands c.requires.there.0 (has_kept 1 c.self.inside.tree c.requires.there.0 ∙ (had_levels _ _ _ _ c.self.view_is c.requires.there.1).top))
+    (c.top.ensures.stands c.requires.there.0 (has_kept 1 c.self.inside.tree c.requires.there.0 ∙ (had_levels _ _ _ _ _ c.self.view_is c.requires.there.1).top))
 
 pub returns-in-None-context-clause-live : goal.returns-in-None-context-clause-live
 returns-in-None-context-clause-live g c =
     subst (λ (a : StoreState). IsLive a.tree c.top-in-None-context.result) c.self.view_is
-    (c.top-in-None-context.ensures.stands c.requires.there.0 (has_kept 1 c.self.inside.tree c.requires.there.0 ∙ (had_levels _ _ _ _ c.self.view_is c.requires.there.1).top))
+    (c.top-in-None-context.ensures.stands c.requires.there.0 (has_kept 1 c.self.inside.tree c.requires.there.0 ∙ (had_levels _ _ _ _ _ c.self.view_is c.requires.there.1).top))
 
 pub returns-in-Some-context-clause-live : goal.returns-in-Some-context-clause-live
 returns-in-Some-context-clause-live g c =
-    let there = had_levels _ _ _ _ c.self.view_is c.requires.there.1 in
+    let there = had_levels _ _ _ _ _ c.self.view_is c.requires.there.1 in
     let at = sym c.above.ensures ∙ c.in-Some.is in
     let live = context_live c.self.inside.tree c.self.inside.owners c.in-Some.level
     (all_level (LevelLies c.self.inside.tree c.self.inside.owners) c.self.inside.levels _ c.in-Some.level c.self.invariant.levels at)

@@ -8,6 +8,6 @@ use Rattle.session_store.proofs.store.Store.current.Goals as goal
 
 pub returns-clause-live : goal.returns-clause-live
 returns-clause-live g c s x commons stands =
-    let there = there_in _ _ _ _ c.self.view_is s x commons stands in
+    let there = there_in _ _ _ _ _ c.self.view_is s x commons stands in
     subst (λ (a : StoreState). IsLive a.tree c.current.result) c.self.view_is
     (subst (λ (id : CtxId). IsLive c.self.inside.tree id) (sym c.current.ensures) (c.self.invariant.current there.current))

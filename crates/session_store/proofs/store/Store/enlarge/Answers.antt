@@ -9,10 +9,10 @@ use Rattle.session_store.proofs.Owned.{go_same, owner_in, owners_alone_after, pl
 use Rattle.session_store.proofs.store.Store.enlarge.Goals as goal
 
 pub enlarge-requires : goal.enlarge-requires
-enlarge-requires g c = record { live = owner_in _ _ _ _ c.self.view_is c.args.owner c.requires.live }
+enlarge-requires g c = record { live = owner_in _ _ _ _ _ c.self.view_is c.args.owner c.requires.live }
 
 pub invariant_of-self : goal.invariant_of-self
-invariant_of-self g c = placed_owners _ _ _ _ c.self.invariant (go_same _ _ c.enlarge.ensures.owners c.enlarge.ensures.places c.enlarge.ensures.plans)
+invariant_of-self g c = placed_owners _ _ _ _ _ c.self.invariant (go_same _ _ c.enlarge.ensures.owners c.enlarge.ensures.places c.enlarge.ensures.plans)
 
 pub returns-clause-others : goal.returns-clause-others
 returns-clause-others g c =
@@ -20,11 +20,11 @@ returns-clause-others g c =
 
 pub returns-clause-session : goal.returns-clause-session
 returns-clause-session g c s =
-    same_session (record { tree = c.self.inside.tree; owners = c.self.inside.owners; levels = c.self.inside.levels }) c.enlarge.new.self s c.enlarge.ensures.owners c.enlarge.ensures.next_owner c.enlarge.ensures.next_serial c.enlarge.ensures.recent c.enlarge.ensures.locks c.enlarge.ensures.stack c.enlarge.ensures.plans
+    same_session (record { tree = c.self.inside.tree; owners = c.self.inside.owners; levels = c.self.inside.levels; portals = c.self.inside.portals }) c.enlarge.new.self s c.enlarge.ensures.owners c.enlarge.ensures.next_owner c.enlarge.ensures.next_serial c.enlarge.ensures.recent c.enlarge.ensures.locks c.enlarge.ensures.stack c.enlarge.ensures.plans
     ∙ ap (λ (a : StoreState). session_of a s) c.self.view_is
 
 pub returns-clause-alone : goal.returns-clause-alone
-returns-clause-alone g c commons = owners_alone_after _ _ _ _ c.self.view_is _ commons commons (go_same _ _ c.enlarge.ensures.owners c.enlarge.ensures.places c.enlarge.ensures.plans) (c.enlarge.ensures.balances commons)
+returns-clause-alone g c commons = owners_alone_after _ _ _ _ _ c.self.view_is _ commons commons (go_same _ _ c.enlarge.ensures.owners c.enlarge.ensures.places c.enlarge.ensures.plans) (c.enlarge.ensures.balances commons)
 
 pub returns-clause-releasing : goal.returns-clause-releasing
 returns-clause-releasing g c =
@@ -32,7 +32,7 @@ returns-clause-releasing g c =
 
 pub returns-clause-acted : goal.returns-clause-acted
 returns-clause-acted g c s x commons =
-    let a : StoreState = record { tree = c.self.inside.tree; owners = c.self.inside.owners; levels = c.self.inside.levels } in
+    let a : StoreState = record { tree = c.self.inside.tree; owners = c.self.inside.owners; levels = c.self.inside.levels; portals = c.self.inside.portals } in
     subst (λ (v : StoreState). Acted nothing v (record a { owners = c.enlarge.new.self }) s s x x commons commons IsSilent) c.self.view_is
     (room_acted a c.enlarge.new.self s x commons (same_session a c.enlarge.new.self s c.enlarge.ensures.owners c.enlarge.ensures.next_owner c.enlarge.ensures.next_serial c.enlarge.ensures.recent c.enlarge.ensures.locks c.enlarge.ensures.stack c.enlarge.ensures.plans)
     c.enlarge.ensures.descriptors (c.enlarge.ensures.balances commons))

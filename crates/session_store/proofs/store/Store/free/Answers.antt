@@ -9,11 +9,11 @@ use Rattle.session_store.proofs.Through.{agrees_in, alone_after, change_after, p
 use Rattle.session_store.proofs.store.Store.free.Goals as goal
 
 pub free-requires : goal.free-requires
-free-requires g c = record { agrees = agrees_in _ _ _ _ c.self.view_is c.args.space.now c.requires.keeps }
+free-requires g c = record { agrees = agrees_in _ _ _ _ _ c.self.view_is c.args.space.now c.requires.keeps }
 
 pub invariant_of-self : goal.invariant_of-self
 invariant_of-self g c =
-    placed_after _ _ _ _ c.self.view_is _ _ _ c.requires.stands.0 c.requires.stands.1.0 c.requires.stands.1.1 c.self.invariant (goes_put _ _ _ _ c.free.ensures.moves c.free.ensures.stays)
+    placed_after _ _ _ _ _ c.self.view_is _ _ _ c.requires.stands.0 c.requires.stands.1.0 c.requires.stands.1.1 c.self.invariant (goes_put _ _ _ _ c.free.ensures.moves c.free.ensures.stays)
 
 pub returns-clause-answer : goal.returns-clause-answer
 unfolding session_of
@@ -21,10 +21,10 @@ returns-clause-answer g c = subst (Î» (a : StoreState). error_of c.free.result â
 
 pub returns-clause-acted : goal.returns-clause-acted
 returns-clause-acted g c =
-    change_after _ _ _ _ c.self.view_is _ _ _ c.free.result (freed c.args.chunk.now) c.free.ensures.contexts c.free.ensures.stays c.free.ensures.moves.limit
+    change_after _ _ _ _ _ c.self.view_is _ _ _ c.free.result (freed c.args.chunk.now) c.free.ensures.contexts c.free.ensures.stays c.free.ensures.moves.limit
 
 pub returns-clause-alone : goal.returns-clause-alone
-returns-clause-alone g c commons = alone_after _ _ _ _ c.self.view_is _ _ _ commons c.requires.keeps (goes_put _ _ _ _ c.free.ensures.moves c.free.ensures.stays)
+returns-clause-alone g c commons = alone_after _ _ _ _ _ c.self.view_is _ _ _ commons c.requires.keeps (goes_put _ _ _ _ c.free.ensures.moves c.free.ensures.stays)
 
 pub returns-clause-refused : goal.returns-clause-refused
-returns-clause-refused g c = same_after _ _ _ _ c.self.view_is _ _ _ c.free.result c.free.ensures.err c.free.ensures.err_space
+returns-clause-refused g c = same_after _ _ _ _ _ c.self.view_is _ _ _ c.free.result c.free.ensures.err c.free.ensures.err_space

@@ -10,4 +10,4 @@ use Rattle.session_store.proofs.store.Store.level_context.Goals as goal
 pub returns-in-Some-clause-live : goal.returns-in-Some-clause-live
 returns-in-Some-clause-live g c s x commons stands =
     subst (λ (a : StoreState). IfSome c.in-Some.found.now.context (IsLive a.tree)) c.self.view_is
-    (level_live _ _ _ c.args.level c.in-Some.found.now c.self.invariant (there_in _ _ _ _ c.self.view_is s x commons stands) (sym c.at.ensures ∙ ap option_copied c.in-Some.is))
+    (level_live _ _ _ _ c.args.level c.in-Some.found.now c.self.invariant (there_in _ _ _ _ _ c.self.view_is s x commons stands) (sym c.at.ensures ∙ ap option_copied c.in-Some.is))

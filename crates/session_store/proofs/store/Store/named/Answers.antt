@@ -12,11 +12,11 @@ use Rattle.session_store.proofs.store.Store.named.Goals as goal
 
 pub returns-then-is_word-clause-live : goal.returns-then-is_word-clause-live
 returns-then-is_word-clause-live g c s x commons stands =
-    subst (λ (a : StoreState). IsLive a.tree c.top.result) c.self.view_is (c.top.ensures.stands s (own_in _ _ _ _ c.self.view_is s x commons stands 1 (omega arith) (omega arith)))
+    subst (λ (a : StoreState). IsLive a.tree c.top.result) c.self.view_is (c.top.ensures.stands s (own_in _ _ _ _ _ c.self.view_is s x commons stands 1 (omega arith) (omega arith)))
 
 pub returns-then-is_word-2-clause-live : goal.returns-then-is_word-2-clause-live
 returns-then-is_word-2-clause-live g c s x commons stands =
-    subst (λ (a : StoreState). IsLive a.tree c.cache.result) c.self.view_is (c.cache.ensures.stands s (own_in _ _ _ _ c.self.view_is s x commons stands 3 (omega arith) (omega arith)))
+    subst (λ (a : StoreState). IsLive a.tree c.cache.result) c.self.view_is (c.cache.ensures.stands s (own_in _ _ _ _ _ c.self.view_is s x commons stands 3 (omega arith) (omega arith)))
 
 pub returns-then-is_word-3-clause-named : goal.returns-then-is_word-3-clause-named
 returns-then-is_word-3-clause-named g c s =

@@ -11,6 +11,6 @@ pinned-requires-clause-serves g c = subst (λ (v : StoreState). Serves v.owners 
 
 pub returns : goal.returns
 returns g c s x around =
-    let a : StoreState = record { tree = c.self.inside.tree; owners = c.self.inside.owners; levels = c.self.inside.levels } in
+    let a : StoreState = record { tree = c.self.inside.tree; owners = c.self.inside.owners; levels = c.self.inside.levels; portals = c.self.inside.portals } in
     subst (λ (v : StoreState). c.pinned.result ≡ pinning c.args.buffer (scene_of v s x c.args.commons.now around)) c.self.view_is
     (c.pinned.ensures (scene_of a s x c.args.commons.now around) (owners_fit a s x c.args.commons.now around))

@@ -19,21 +19,21 @@ pub returns-clause-known : goal.returns-clause-known
 unfolding session_of
 returns-clause-known g c s keeps =
     subst (λ (a : StoreState). IfSome (found c.args.chunk.now (session_of a s).contexts) (λ f. HasBytes s c.place.result f.chunk.known)) c.self.view_is
-    (c.place.ensures.known s (agrees_in _ _ _ _ c.self.view_is s keeps))
+    (c.place.ensures.known s (agrees_in _ _ _ _ _ c.self.view_is s keeps))
 
 pub returns-clause-alone : goal.returns-clause-alone
 unfolding session_of
 returns-clause-alone g c s t offset bytes keeps within changes commons =
-    let is = c.place.ensures.written s t offset bytes (agrees_in _ _ _ _ c.self.view_is s keeps)
+    let is = c.place.ensures.written s t offset bytes (agrees_in _ _ _ _ _ c.self.view_is s keeps)
     (subst (λ (a : StoreState). IfSome (found c.args.chunk.now (session_of a s).contexts) (λ f. offset + length bytes ≤ length f.chunk.known)) (sym c.self.view_is) within) changes in
     subst (λ (a : StoreState). ContextsAlone a a s t commons commons) c.self.view_is
-    (alone_on (record { tree = c.self.inside.tree; owners = c.self.inside.owners; levels = c.self.inside.levels }) c.self.inside.tree s t commons (keeps_in _ _ _ _ c.self.view_is s keeps)
+    (alone_on (record { tree = c.self.inside.tree; owners = c.self.inside.owners; levels = c.self.inside.levels; portals = c.self.inside.portals }) c.self.inside.tree s t commons (keeps_in _ _ _ _ _ c.self.view_is s keeps)
     (record { moves = is.1; stays = λ n was now. refl; current = refl }))
 
 pub returns-clause-written : goal.returns-clause-written
 unfolding session_of
 returns-clause-written g c s t offset bytes keeps within changes x commons =
-    let is = c.place.ensures.written s t offset bytes (agrees_in _ _ _ _ c.self.view_is s keeps)
+    let is = c.place.ensures.written s t offset bytes (agrees_in _ _ _ _ _ c.self.view_is s keeps)
     (subst (λ (a : StoreState). IfSome (found c.args.chunk.now (session_of a s).contexts) (λ f. offset + length bytes ≤ length f.chunk.known)) (sym c.self.view_is) within) changes in
     subst (λ (a : StoreState). Acted (contexts_become (written c.args.chunk.now offset bytes)) a a s t x x commons commons IsSilent) c.self.view_is
-    (change_acted (record { tree = c.self.inside.tree; owners = c.self.inside.owners; levels = c.self.inside.levels }) c.self.inside.tree s t is.1.limit (written c.args.chunk.now offset bytes) is.0 (record { places = refl; current = refl; next = refl }) x commons)
+    (change_acted (record { tree = c.self.inside.tree; owners = c.self.inside.owners; levels = c.self.inside.levels; portals = c.self.inside.portals }) c.self.inside.tree s t is.1.limit (written c.args.chunk.now offset bytes) is.0 (record { places = refl; current = refl; next = refl }) x commons)

@@ -8,19 +8,19 @@ use Rattle.session_store.proofs.Through.{acted_after, agrees_in, alone_after, as
 use Rattle.session_store.proofs.store.Store.reset.Goals as goal
 
 pub reset-requires-clause-agrees : goal.reset-requires-clause-agrees
-reset-requires-clause-agrees g c = agrees_in _ _ _ _ c.self.view_is c.args.space.now c.requires.keeps
+reset-requires-clause-agrees g c = agrees_in _ _ _ _ _ c.self.view_is c.args.space.now c.requires.keeps
 
 pub reset-requires-clause-live : goal.reset-requires-clause-live
-reset-requires-clause-live g c = live_in _ _ _ _ c.self.view_is c.args.at c.requires.live
+reset-requires-clause-live g c = live_in _ _ _ _ _ c.self.view_is c.args.at c.requires.live
 
 pub reset-requires-clause-hooks : goal.reset-requires-clause-hooks
-reset-requires-clause-hooks g c = hooks_in _ _ _ _ c.self.view_is c.args.space.now c.args.shelf.now c.requires.stands.0 c.requires.stands.1
+reset-requires-clause-hooks g c = hooks_in _ _ _ _ _ c.self.view_is c.args.space.now c.args.shelf.now c.requires.stands.0 c.requires.stands.1
 
 pub invariant_of-self : goal.invariant_of-self
 invariant_of-self g c =
     let n = c.args.at.number in
-    placed_after _ _ _ _ c.self.view_is _ _ _ c.args.shelf.now c.requires.stands.0 c.requires.stands.1 c.self.invariant
-    (goes_after _ _ _ _ c.self.view_is _ _ _ _ _ c.reset.result (cleared n (stands_for c.self.inside.tree c.args.space.now)) c.requires.keeps c.reset.ensures.did c.reset.ensures.err)
+    placed_after _ _ _ _ _ c.self.view_is _ _ _ c.args.shelf.now c.requires.stands.0 c.requires.stands.1 c.self.invariant
+    (goes_after _ _ _ _ _ c.self.view_is _ _ _ _ _ c.reset.result (cleared n (stands_for c.self.inside.tree c.args.space.now)) c.requires.keeps c.reset.ensures.did c.reset.ensures.err)
 
 pub returns-clause-answer : goal.returns-clause-answer
 unfolding session_of
@@ -28,16 +28,16 @@ returns-clause-answer g c = subst (λ (a : StoreState). error_of c.reset.result 
 
 pub returns-clause-acted : goal.returns-clause-acted
 returns-clause-acted g c =
-    acted_after _ _ _ _ c.self.view_is _ _ _ _ _ c.reset.result (cleared c.args.at.number) (λ events. g.E.Emit.emits c.args.out.now events c.reset.new.out) c.reset.ensures.did c.reset.ensures.emits
+    acted_after _ _ _ _ _ c.self.view_is _ _ _ _ _ c.reset.result (cleared c.args.at.number) (λ events. g.E.Emit.emits c.args.out.now events c.reset.new.out) c.reset.ensures.did c.reset.ensures.emits
 
 pub returns-clause-alone : goal.returns-clause-alone
 returns-clause-alone g c commons =
-    alone_after _ _ _ _ c.self.view_is _ _ _ commons c.requires.keeps
-    (goes_after _ _ _ _ c.self.view_is _ _ _ _ _ c.reset.result (cleared c.args.at.number (stands_for c.self.inside.tree c.args.space.now)) c.requires.keeps c.reset.ensures.did c.reset.ensures.err)
+    alone_after _ _ _ _ _ c.self.view_is _ _ _ commons c.requires.keeps
+    (goes_after _ _ _ _ _ c.self.view_is _ _ _ _ _ c.reset.result (cleared c.args.at.number (stands_for c.self.inside.tree c.args.space.now)) c.requires.keeps c.reset.ensures.did c.reset.ensures.err)
 
 pub returns-clause-asked : goal.returns-clause-asked
 returns-clause-asked g c =
-    asked_after _ _ _ _ c.self.view_is _ _ _ _ _ c.reset.result (cleared c.args.at.number (stands_for c.self.inside.tree c.args.space.now)) c.reset.ensures.did c.reset.ensures.err
+    asked_after _ _ _ _ _ c.self.view_is _ _ _ _ _ c.reset.result (cleared c.args.at.number (stands_for c.self.inside.tree c.args.space.now)) c.reset.ensures.did c.reset.ensures.err
 
 pub returns-clause-refused : goal.returns-clause-refused
-returns-clause-refused g c = refused_after _ _ _ _ c.self.view_is _ _ _ _ _ c.reset.result c.reset.ensures.err
+returns-clause-refused g c = refused_after _ _ _ _ _ c.self.view_is _ _ _ _ _ c.reset.result c.reset.ensures.err

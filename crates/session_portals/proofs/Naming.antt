@@ -1,0 +1,115 @@
+-- The portal of a name, in the list that a store keeps and in that of the session.
+use Rattle.std.proofs.Common.{◌≡◌, ◌≢◌, ℕ, zero, suc, false, List, [], ◌∷◌, Some, AllPairs, All, refl, sym, ap, subst, ◌∙◌, inl, inr, arith}
+use Rattle.std.specs.Prelude.{IsSome}
+use Rattle.std.specs.Option.{option_map}
+use Rattle.std.proofs.lemmas.Bool.{cases_Bool, false_from_ne_true}
+use Rattle.std.proofs.lemmas.List.Elements.{All-cons, All-head, All-tail}
+use Rattle.pgs_command.specs.Words.{is_text}
+use Rattle.pgs_command.proofs.ValueLemmas.{is_text-means}
+use Rattle.portal_store.specs.declared.portal.Portal.{Portal}
+use Rattle.portal_store.specs.Portals.{HasDistinctNames, changed, has_name, names, portal_named, without}
+use Rattle.session_rules.specs.State.{OpenPortal}
+use Rattle.session_rules.specs.Lookup as rules
+use Rattle.session_rules.specs.Lookup.{portal_changed, portals_but}
+use Rattle.session_store.specs.State.{portal_state, portals_of}
+
+-- the portal of a name is that of the session
+pub named_is : (name : List ℕ) (ps : List Portal) → option_map portal_state (portal_named name ps) ≡ rules.portal_named name (portals_of ps)
+named_is name [] = refl
+named_is name (p ∷ ps) = elim (cases_Bool (has_name name p)) [
+  | inl y ↦ rw y refl
+  | inr y ↦ rw y (named_is name ps)
+]
+
+-- it has the name
+pub named_title : (name : List ℕ) (ps : List Portal) (p : Portal) → portal_named name ps ≡ Some p → p.name ≡ name
+named_title name [] p e = absurd (cc e)
+named_title name (q ∷ ps) p e = elim (cases_Bool (has_name name q)) [
+  | inl y ↦ let same : Some q ≡ Some p = rw y at e in let is : q ≡ p = cc same in ap (λ (r : Portal). r.name) (sym is) ∙ is_text-means q.name name y
+  | inr y ↦ named_title name ps p (rw y at e)
+]
+
+pub named_there : (name : List ℕ) (ps : List Portal) (p : Portal) → portal_named name ps ≡ Some p → IsSome (portal_named p.name ps)
+named_there name ps p e = subst (λ (n : List ℕ). IsSome (portal_named n ps)) (sym (named_title name ps p e)) (rw e refl)
+
+-- what is known of all is known of it
+pub named_all : (P : Portal → Type 0) (name : List ℕ) (ps : List Portal) (p : Portal) → All P ps → portal_named name ps ≡ Some p → P p
+named_all P name [] p all e = absurd (cc e)
+named_all P name (q ∷ ps) p all e = elim (cases_Bool (has_name name q)) [
+  | inl y ↦ let same : Some q ≡ Some p = rw y at e in let is : q ≡ p = cc same in subst P is (All-head P q ps all)
+  | inr y ↦ named_all P name ps p (All-tail P q ps all) (rw y at e)
+]
+
+-- only what a change makes of that portal matters
+pub changed_same : (name : List ℕ) (f g : Portal → Portal) (ps : List Portal) (p : Portal) → portal_named name ps ≡ Some p → f p ≡ g p → changed name f ps ≡ changed name g ps
+changed_same name f g [] p e same = refl
+changed_same name f g (q ∷ ps) p e same = elim (cases_Bool (has_name name q)) [
+  | inl y ↦ let here : Some q ≡ Some p = rw y at e in let is : p ≡ q = cc here in rw y (ap (λ (r : Portal). r ∷ ps) (subst (λ (r : Portal). f r ≡ g r) is same))
+  | inr y ↦ rw y (ap (λ (rs : List Portal). q ∷ rs) (changed_same name f g ps p (rw y at e) same))
+]
+
+-- a portal that is put in its place
+pub put_changed : (name : List ℕ) (f : Portal → Portal) (ps qs : List Portal) (p q : Portal) → portal_named name ps ≡ Some p → q ≡ f p → q.name ≡ p.name → qs ≡ changed q.name (λ old. q) ps → qs ≡ changed name f ps
+put_changed name f ps qs p q e is named put =
+    put
+    ∙ ap (λ (n : List ℕ). changed n (λ old. q) ps) (named ∙ named_title name ps p e)
+    ∙ changed_same name (λ old. q) f ps p e is
+
+-- what is known of all is known of all behind a change that keeps it
+pub changed_all : (P : Portal → Type 0) (name : List ℕ) (f : Portal → Portal) (ps : List Portal) → ((p : Portal) → portal_named name ps ≡ Some p → P p → P (f p)) → All P ps → All P (changed name f ps)
+changed_all P name f [] on all = all
+changed_all P name f (q ∷ ps) on all = elim (cases_Bool (has_name name q)) [
+  | inl y ↦
+      let here : portal_named name (q ∷ ps) ≡ Some q = rw y refl in
+      rw y (All-cons P (f q) ps (on q here (All-head P q ps all)) (All-tail P q ps all))
+  | inr y ↦
+      let behind : portal_named name (q ∷ ps) ≡ portal_named name ps = rw y refl in
+      rw y (All-cons P q (changed name f ps) (All-head P q ps all) (changed_all P name f ps (λ p e. on p (behind ∙ e)) (All-tail P q ps all)))
+]
+
+-- names that differ
+module _ (R : List ℕ → List ℕ → Type 0) (x : List ℕ) (xs : List (List ℕ)) (h : AllPairs R (x ∷ xs)) where
+  pairs_tail : AllPairs R xs
+  pairs_tail = λ i j d l m. h (suc i) (suc j) d (omega (arith, l)) (omega (arith, m))
+
+  pairs_head : All (R x) xs
+  pairs_head = λ i d l. h zero (suc i) d (omega arith) (omega (arith, l))
+
+abbrev Differs : List ℕ → List ℕ → Type 0
+Differs a b = a ≢ b
+
+other_text : (name : List ℕ) (q : Portal) → Differs name q.name → is_text q.name name ≡ false
+other_text name q differs = false_from_ne_true (is_text q.name name) (λ u. differs (sym (is_text-means q.name name u)))
+
+none_changed : (name : List ℕ) (f : OpenPortal → OpenPortal) (ps : List Portal) → All (Differs name) (names ps) → portal_changed name f (portals_of ps) ≡ portals_of ps
+none_changed name f [] all = refl
+none_changed name f (q ∷ ps) all =
+    rw (other_text name q (All-head (Differs name) q.name (names ps) all))
+    (ap (λ (rs : List OpenPortal). portal_state q ∷ rs) (none_changed name f ps (All-tail (Differs name) q.name (names ps) all)))
+
+none_but : (name : List ℕ) (ps : List Portal) → All (Differs name) (names ps) → portals_but name (portals_of ps) ≡ portals_of ps
+none_but name [] all = refl
+none_but name (q ∷ ps) all =
+    rw (other_text name q (All-head (Differs name) q.name (names ps) all))
+    (ap (λ (rs : List OpenPortal). portal_state q ∷ rs) (none_but name ps (All-tail (Differs name) q.name (names ps) all)))
+
+first_others : (p : Portal) (ps : List Portal) (name : List ℕ) → HasDistinctNames (p ∷ ps) → p.name ≡ name → All (Differs name) (names ps)
+first_others p ps name distinct is = subst (λ (n : List ℕ). All (λ b. n ≢ b) (names ps)) is (pairs_head (λ (a b : List ℕ). a ≢ b) p.name (names ps) distinct)
+
+-- a portal changes
+pub changed_is : (name : List ℕ) (f : Portal → Portal) (g : OpenPortal → OpenPortal) (ps : List Portal) → HasDistinctNames ps → ((p : Portal) → portal_state (f p) ≡ g (portal_state p)) → portals_of (changed name f ps) ≡ portal_changed name g (portals_of ps)
+changed_is name f g [] distinct same = refl
+changed_is name f g (p ∷ ps) distinct same = elim (cases_Bool (has_name name p)) [
+  | inl y ↦
+      let others = first_others p ps name distinct (is_text-means p.name name y) in
+      rw y (ap (λ (q : OpenPortal). q ∷ portals_of ps) (same p) ∙ ap (λ (rs : List OpenPortal). g (portal_state p) ∷ rs) (sym (none_changed name g ps others)))
+  | inr y ↦ rw y (ap (λ (rs : List OpenPortal). portal_state p ∷ rs) (changed_is name f g ps (pairs_tail (λ (a b : List ℕ). a ≢ b) p.name (names ps) distinct) same))
+]
+
+-- a portal goes
+pub without_is : (name : List ℕ) (ps : List Portal) → HasDistinctNames ps → portals_of (without name ps) ≡ portals_but name (portals_of ps)
+without_is name [] distinct = refl
+without_is name (p ∷ ps) distinct = elim (cases_Bool (has_name name p)) [
+  | inl y ↦ rw y (sym (none_but name ps (first_others p ps name distinct (is_text-means p.name name y))))
+  | inr y ↦ rw y (ap (λ (rs : List OpenPortal). portal_state p ∷ rs) (without_is name ps (pairs_tail (λ (a b : List ℕ). a ≢ b) p.name (names ps) distinct)))
+]
