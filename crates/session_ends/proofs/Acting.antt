@@ -13,7 +13,7 @@ use Rattle.session_owners.specs.Fitting as fitting
 use Rattle.session_owners.specs.Commons.{Balances, CommonState, seen_by}
 use Rattle.session_owners.proofs.Acts.{acted_nothing}
 use Rattle.session_owners.proofs.Balances.{balances_more, balances_none}
-use Rattle.session_store.specs.State.{StoreState, levels_of, scene_of, session_of}
+use Rattle.session_store.specs.State.{StoreState, levels_of, portals_of, scene_of, session_of}
 use Rattle.session_store.specs.Calls.{Acted, IsSilent}
 use Rattle.session_store.proofs.Owned.{owners_fit}
 use Rattle.session_ends.specs.Place.{HaveGone, hosting}
@@ -30,7 +30,7 @@ scene_on a q around contexts current next x commons limit = record {
     next_serial = q.next_serial;
     locks = q.locks;
     levels = levels_of a.levels;
-    portals = [];
+    portals = portals_of a.portals;
     snapshots = q.stack;
     plans = plans_of q;
     recent = q.recent;

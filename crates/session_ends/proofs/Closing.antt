@@ -1,7 +1,7 @@
 -- The topmost context goes with all below it: nothing is left.
 use Rattle.std.proofs.Common.{◌≡◌, ◌⊎◌, ℕ, true, false, List, [], ◌∷◌, ◌++◌, All, sym, ap, ◌∙◌, subst, inr, append-nil}
 use Rattle.std.proofs.lemmas.Bool.{both_ways}
-use Rattle.std.proofs.lemmas.List.Elements.{All-cons, All-nil}
+use Rattle.std.proofs.lemmas.List.Elements.{All-cons, All-nil, All-weaker}
 use Rattle.addr_space.specs.Space.{Space, held}
 use Rattle.forest.specs.Forest.{Empty, has, removed}
 use Rattle.pgs_step.specs.declared.ids.CtxId.{CtxId}
@@ -19,12 +19,13 @@ use Rattle.session_owners.specs.Placing.{contexts_of}
 use Rattle.session_owners.specs.Commons.{CommonState}
 use Rattle.session_owners.proofs.Balances.{balances_more}
 use Rattle.session_store.specs.State.{StoreState, scene_of, session_of}
-use Rattle.session_store.specs.Placed.{IsPlaced, LevelLies, Lies}
+use Rattle.session_store.specs.Placed.{IsPlaced, LevelLies, Lies, PortalLies}
 use Rattle.session_store.specs.Calls.{Acted, IsSilent, Keeps, StandsIn}
 use Rattle.session_store.proofs.Kept.{has_kept, nowhere}
 use Rattle.session_store.proofs.Led.{did_acted, switch_acted}
 use Rattle.session_store.proofs.Sums.{held_is}
 use Rattle.session_ends.proofs.Ending.{keeps_left}
+use Rattle.session_ends.proofs.Out.{some_on}
 
 -- no context lies
 none_lies : (b : TreeState) → ((n : ℕ) → has n b.kept ≡ true → ⊥) → (ids : List CtxId) → All (Lies b) ids
@@ -65,21 +66,28 @@ module _ (a : StoreState) (s : Space) (x : ShelfState) (commons : CommonState) (
     nowhere_kept : (n : ℕ) → has n b.kept ≡ true → ⊥
     nowhere_kept n there = both_ways (has n b.kept) (sym (has_kept n b t) ∙ ap (has n) left_empty) there
 
-    pub placed_nowhere : a.levels ≡ [] → IsPlaced b a.owners a.levels
-    placed_nowhere none = record {
+    pub placed_nowhere : a.levels ≡ [] → IsPlaced a.tree a.owners a.levels a.portals → IsPlaced b a.owners a.levels a.portals
+    placed_nowhere none placed = record {
       current = λ there. absurd (nowhere_kept b.current.number there);
       levels = subst (All (LevelLies b a.owners)) (sym none) (All-nil (LevelLies b a.owners));
       plans = none_lies b nowhere_kept (contexts_of a.owners.plans.standing);
+      portals = All-weaker (PortalLies a.tree a.owners) (PortalLies b a.owners)
+          (λ p lies. record {
+            context = some_on p.context (λ id _ there. absurd (nowhere_kept id.number there)) lies.context;
+            expr = some_on p.expr (λ id _ there. absurd (nowhere_kept id.number there)) lies.expr;
+            owner = lies.owner;
+            scan = lies.scan;
+          }) a.portals placed.portals;
     }
 
     pub holds_nothing : Keeps a s → held t a.tree.account ≡ 0
     holds_nothing keeps =
-        let k = keeps_left a top b a.owners a.levels s t keeps did.moves in
-        ap (held t) (sym did.moves.account) ∙ k.held ∙ held_is (record { tree = b; owners = a.owners; levels = a.levels }) t ∙ ap total_of left_empty
+        let k = keeps_left a top b a.owners a.levels a.portals s t keeps did.moves in
+        ap (held t) (sym did.moves.account) ∙ k.held ∙ held_is (record { tree = b; owners = a.owners; levels = a.levels; portals = a.portals }) t ∙ ap total_of left_empty
 
     pub closed : (m : CommonState) (Said : List What → Type 0) → Said (gone top.number (stands_for (record a.tree { current = top }) s)).events
-        → Acted (in_order (switched 1 ∷ context_gone 1 ∷ [])) a (record { tree = b; owners = a.owners; levels = a.levels }) s t x y m m Said
+        → Acted (in_order (switched 1 ∷ context_gone 1 ∷ [])) a (record { tree = b; owners = a.owners; levels = a.levels; portals = a.portals }) s t x y m m Said
     closed m Said says =
-        subst (λ (n : ℕ). Acted (in_order (switched n ∷ context_gone n ∷ [])) a (record { tree = b; owners = a.owners; levels = a.levels }) s t x y m m Said) number
-        (acted_two (switched top.number) (context_gone top.number) a (record a { tree = record a.tree { current = top } }) (record { tree = b; owners = a.owners; levels = a.levels }) s s t x x y m Said
+        subst (λ (n : ℕ). Acted (in_order (switched n ∷ context_gone n ∷ [])) a (record { tree = b; owners = a.owners; levels = a.levels; portals = a.portals }) s t x y m m Said) number
+        (acted_two (switched top.number) (context_gone top.number) a (record a { tree = record a.tree { current = top } }) (record { tree = b; owners = a.owners; levels = a.levels; portals = a.portals }) s s t x x y m Said
         (switch_acted a top s x m) (did_acted (gone top.number) (record a { tree = record a.tree { current = top } }) b s t x y m Said did says))

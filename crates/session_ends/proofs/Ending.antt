@@ -1,12 +1,11 @@
 -- What the ends of levels ask for, where the deepest level may go, and what still lies behind them.
-use Rattle.std.proofs.Common.{◌≡◌, ◌↔◌, ℕ, ◌+◌, ◌<◌, Bool, true, false, Option, Some, None, List, [], ◌∷◌, ◌++◌, length, All, IfSome, IsSome, refl, sym, ap, ◌∙◌, subst, arith}
-use Rattle.std.specs.Prelude.{◌==◌, drop, if◌then◌else◌, reverse, unwrap_or}
+use Rattle.std.proofs.Common.{◌≡◌, ◌↔◌, ℕ, ◌<◌, Bool, true, false, Option, Some, None, List, [], ◌∷◌, ◌++◌, length, All, IfSome, IsSome, refl, sym, ap, ◌∙◌, subst, arith}
+use Rattle.std.specs.Prelude.{drop, if◌then◌else◌, reverse, unwrap_or}
 use Rattle.std.specs.Option.{option_map, option_to_list}
-use Rattle.std.proofs.lemmas.Bool.{eq-eqb, eqb-true}
 use Rattle.std.proofs.lemmas.List.{length-append}
-use Rattle.std.proofs.lemmas.List.Elements.{All-cons, All-head, All-nil, All-tail}
+use Rattle.std.proofs.lemmas.List.Elements.{All-weaker}
 use Rattle.addr_space.specs.Space.{Asks, Space}
-use Rattle.forest.specs.Forest.{has, at, parent_of}
+use Rattle.forest.specs.Forest.{has, at}
 use Rattle.forest.proofs.Mapped.{mapped-has}
 use Rattle.pgs_step.specs.declared.ids.CtxId.{CtxId}
 use Rattle.pgs_step.specs.declared.ids.OwnerId.{OwnerId}
@@ -16,6 +15,7 @@ use Rattle.context_rules.specs.Refusals.{is_within}
 use Rattle.context_tree.specs.State.{TreeState, Agrees, HooksFit, IsLive, Moves, place_of, stands_for}
 use Rattle.context_tree.proofs.Composed.{tree_more}
 use Rattle.plan_store.specs.Plans.{Plans}
+use Rattle.portal_store.specs.declared.portal.Portal.{Portal}
 use Rattle.session_owners.specs.ResourceState.{AllAt, HoldsNothing, ResourceState, Roomy, owners_of}
 use Rattle.session_owners.specs.Placing.{contexts_of}
 use Rattle.subxact_stack.specs.declared.levels.Level.{Level}
@@ -24,19 +24,18 @@ use Rattle.session_rules.specs.World.{Scene}
 use Rattle.session_rules.specs.Acts.{context_gone, where_so, where_there}
 use Rattle.session_rules.specs.Standing.{AreLevels, AreOuter}
 use Rattle.session_rules.proofs.ContextsKept.{protected_has, top_protected}
-use Rattle.session_rules.proofs.Standings.{top_owner}
-use Rattle.session_owners.specs.Commons.{CommonState}
-use Rattle.session_store.specs.State.{StoreState, level_state, levels_of, only_empty, scene_of, session_of}
-use Rattle.session_store.specs.Placed.{HasLevels, IsPlaced, IsThere, LevelLies, Lies}
-use Rattle.session_store.specs.Calls.{Keeps, StandsIn}
-use Rattle.session_store.proofs.Answered.{if_some, some_both}
-use Rattle.session_store.proofs.Depths.{all_deepest, levels_are, levels_long}
-use Rattle.session_store.proofs.Kept.{HasContext, has_kept, levels_there, nowhere, plans_on}
-use Rattle.session_store.proofs.Levelled.{HasOwner, keeps_current, keeps_parts, owners_there, stands_deep}
+use Rattle.session_store.specs.State.{StoreState, level_state, levels_of, only_empty, session_of}
+use Rattle.session_store.specs.Placed.{HasLevels, IsPlaced, IsThere, LevelLies, Lies, OwnerLies, PortalLies}
+use Rattle.session_store.specs.Calls.{Keeps}
+use Rattle.session_store.proofs.Answered.{if_some}
+use Rattle.session_store.proofs.Depths.{all_deepest, levels_are}
+use Rattle.session_store.proofs.Kept.{has_kept, levels_there}
+use Rattle.session_store.proofs.Levelled.{HasOwner, keeps_current, owners_there}
 use Rattle.session_store.proofs.Lists.{all_reverse}
 use Rattle.session_store.proofs.Sums.{keeps_on}
-use Rattle.session_ends.specs.Parts.{IsFreed, going}
+use Rattle.session_ends.specs.Parts.{MayLeave, going}
 use Rattle.session_ends.proofs.Freed.{outside}
+use Rattle.session_ends.proofs.Out.{keeps_with, some_on}
 
 -- the levels without the deepest
 before_last : List Level → List Level
@@ -68,20 +67,8 @@ pub alone : (levels outer : List Level) (level : Level) → levels ≡ outer ++ 
 alone levels [] level e one = refl
 alone levels (x ∷ xs) level e one = absurd (omega (arith, one, ap length e, length-append (x ∷ xs) (level ∷ [])))
 
--- the owner of the deepest level is a topmost one exactly where that is level 1
-pub owner_top : (a : StoreState) (s : Space) (x : ShelfState) (commons : CommonState) (outer : List Level) (level : Level) → a.levels ≡ outer ++ level ∷ [] → StandsIn a s x commons → (b : Bool) → b ≡ (length a.levels == 1)
-    → IfSome level.owner (λ o. (b ≡ true) ↔ (parent_of o.number (owners_of a.owners) ≡ None))
-unfolding session_of
-owner_top a s x commons outer level e stands b is =
-    if_some level.owner (λ id f.
-    let t = top_owner (level_state level) (levels_of outer) (scene_of a s x commons nowhere) id.number (stands_deep a s x commons outer level e stands) (ap (option_map (λ (o : OwnerId). o.number)) f) in
-    let long : length a.levels ≡ length outer + 1 = ap length e ∙ length-append outer (level ∷ []) in (
-      λ y. t.0 (no_levels outer (let one : length a.levels ≡ 1 = eqb-true (length a.levels) 1 (sym is ∙ y) in omega (arith, one, long))),
-      λ top. is ∙ eq-eqb (length a.levels) 1 (omega (arith, long, levels_long outer, ap length (t.1 top))),
-    ))
-
 -- where the deepest level may go
-module _ (a : StoreState) (s : Space) (x : ShelfState) (freed : IsFreed a s x) where
+module _ (a : StoreState) (s : Space) (x : ShelfState) (freed : MayLeave a s x) where
   pub there_freed : All (IsThere a.tree) a.levels
   unfolding session_of
   there_freed = all_reverse (IsThere a.tree) a.levels (levels_there a.tree s (owners_of a.owners) (reverse a.levels) freed.levels)
@@ -151,38 +138,28 @@ pub going_gone : (merged : Bool) (context : Option CtxId) (z : Scene)
 going_gone true context z = only_gone context z
 going_gone false context z = refl
 
--- the levels above still lie
-module _ (tree b : TreeState) (table now : ResourceState) (contexts : (n : ℕ) → has n b.kept ≡ true → place_of b n ≡ place_of tree n)
-    (others : (n : ℕ) → has n (owners_of now) ≡ true → at n now.places ≡ at n table.places) where
-  level_left : (level : Level) → LevelLies tree table level → IsThere tree level → HasOwner table level → LevelLies b now level
-  level_left level lies there has = record {
-    context = some_both level.context (λ id l h still. contexts id.number still ∙ l h) lies.context there;
-    owner =
-        some_both level.owner (λ id l h still.
-        others id.number (mapped-has (λ (r : Roomy). r.owner) id.number now.rooms ∙ still) ∙ l (sym (mapped-has (λ (r : Roomy). r.owner) id.number table.rooms) ∙ h)) lies.owner has;
-  }
+-- the levels above still lie, and so do the portals
+module _ (tree b : TreeState) (table now : ResourceState) (had : (n : ℕ) → has n b.kept ≡ true → has n tree.kept ≡ true) (contexts : (n : ℕ) → has n b.kept ≡ true → place_of b n ≡ place_of tree n)
+    (owner_had : (n : ℕ) → has n (owners_of now) ≡ true → has n (owners_of table) ≡ true) (others : (n : ℕ) → has n (owners_of now) ≡ true → at n now.places ≡ at n table.places) where
+  lies_left : (id : CtxId) → Lies tree id → Lies b id
+  lies_left id lies still = contexts id.number still ∙ lies (had id.number still)
 
-  pub all_left : (levels : List Level) → All (LevelLies tree table) levels → All (IsThere tree) levels → All (HasOwner table) levels → All (LevelLies b now) levels
-  all_left [] lies there has = All-nil (LevelLies b now)
-  all_left (l ∷ ls) lies there has =
-      All-cons (LevelLies b now) l ls
-      (level_left l (All-head (LevelLies tree table) l ls lies) (All-head (IsThere tree) l ls there) (All-head (HasOwner table) l ls has))
-      (all_left ls (All-tail (LevelLies tree table) l ls lies) (All-tail (IsThere tree) l ls there) (All-tail (HasOwner table) l ls has))
+  owner_left : (id : OwnerId) → OwnerLies table id → OwnerLies now id
+  owner_left id lies still =
+      let here : has id.number (owners_of now) ≡ true = mapped-has (λ (r : Roomy). r.owner) id.number now.rooms ∙ still in
+      others id.number here ∙ lies (sym (mapped-has (λ (r : Roomy). r.owner) id.number table.rooms) ∙ owner_had id.number here)
 
-  pub left_placed : (levels outer new : List Level) (level : Level) (up : CtxId) → levels ≡ outer ++ level ∷ [] → new ≡ outer → All (LevelLies tree table) levels → All (IsThere tree) levels → All (HasOwner table) levels
-      → IsLive tree up → b.current ≡ up → now.plans ≡ table.plans → All (Lies tree) (contexts_of table.plans.standing) → All (HasContext tree) (contexts_of table.plans.standing) → IsPlaced b now new
-  left_placed levels outer new level up e f lies there has live current same lie had =
-      subst (IsPlaced b now) (sym f)
+  pub left_placed : (levels outer new : List Level) (portals : List Portal) (level : Level) (up : CtxId) → levels ≡ outer ++ level ∷ [] → new ≡ outer → IsPlaced tree table levels portals → IsLive tree up → b.current ≡ up → now.plans ≡ table.plans → IsPlaced b now new portals
+  left_placed levels outer new portals level up e f placed live current same =
+      subst (λ (ls : List Level). IsPlaced b now ls portals) (sym f)
       (record {
         current = subst (λ (id : CtxId). Lies b id) (sym current) (λ still. contexts up.number still ∙ live);
         levels =
-            let l = all_deepest (LevelLies tree table) levels outer level e lies in
-            let t = all_deepest (IsThere tree) levels outer level e there in
-            let h = all_deepest (HasOwner table) levels outer level e has in
-            all_left outer l.0 t.0 h.0;
-        plans =
-            subst (λ (p : Plans). All (Lies b) (contexts_of p.standing)) (sym same)
-            (plans_on tree b (contexts_of table.plans.standing) (λ n was still. contexts n still) lie had);
+            let l = all_deepest (LevelLies tree table) levels outer level e placed.levels in
+            All-weaker (LevelLies tree table) (LevelLies b now) (λ k lies. record { context = some_on k.context lies_left lies.context; owner = some_on k.owner owner_left lies.owner }) outer l.0;
+        plans = subst (λ (p : Plans). All (Lies b) (contexts_of p.standing)) (sym same) (All-weaker (Lies tree) (Lies b) lies_left (contexts_of table.plans.standing) placed.plans);
+        portals = All-weaker (PortalLies tree table) (PortalLies b now)
+            (λ p lies. record { context = some_on p.context lies_left lies.context; expr = some_on p.expr lies_left lies.expr; owner = some_on p.owner owner_left lies.owner; scan = lies.scan }) portals placed.portals;
       })
 
 -- the tree changed, whichever context was the current one before
@@ -199,10 +176,10 @@ moves_back tree b id s t m = record {
 }
 
 -- the store keeps up with the space behind the end of a level
-pub keeps_left : (a : StoreState) (id : CtxId) (b : TreeState) (now : ResourceState) (new : List Level) (s t : Space) → Keeps a s → Moves (record a.tree { current = id }) b s t → Keeps (record { tree = b; owners = now; levels = new }) t
-keeps_left a id b now new s t keeps moves =
-    keeps_parts (record { tree = b; owners = a.owners; levels = a.levels }) now new t
-    (keeps_on (record { tree = record a.tree { current = id }; owners = a.owners; levels = a.levels }) b s t (keeps_current a id a.owners a.levels s keeps) moves)
+pub keeps_left : (a : StoreState) (id : CtxId) (b : TreeState) (now : ResourceState) (new : List Level) (portals : List Portal) (s t : Space) → Keeps a s → Moves (record a.tree { current = id }) b s t → Keeps (record { tree = b; owners = now; levels = new; portals = portals }) t
+keeps_left a id b now new portals s t keeps moves =
+    keeps_with (record { tree = b; owners = a.owners; levels = a.levels; portals = a.portals }) now new portals t
+    (keeps_on (record { tree = record a.tree { current = id }; owners = a.owners; levels = a.levels; portals = a.portals }) b s t (keeps_current a id a.owners a.levels s keeps) moves)
 
 pub agrees_current : (a : StoreState) (id : CtxId) (s : Space) → Keeps a s → Agrees (record a.tree { current = id }) s
 agrees_current a id s keeps = let k = keeps_current a id a.owners a.levels s keeps in k.agrees

@@ -11,23 +11,22 @@ use Rattle.context_rules.specs.Contexts.{Contexts}
 use Rattle.context_rules.specs.Ends.{gone}
 use Rattle.context_rules.specs.Refusals.{is_within}
 use Rattle.context_tree.specs.Calls.{Did}
-use Rattle.context_tree.specs.State.{TreeState, HooksFit, stands_for}
+use Rattle.context_tree.specs.State.{TreeState, Agrees, HooksFit, stands_for}
 use Rattle.plan_store.specs.declared.plan.Plan.{Plan}
-use Rattle.session_owners.specs.ResourceState.{ResourceState, owners_of, plan_state}
+use Rattle.session_owners.specs.ResourceState.{ResourceState, owners_of, plan_state, plans_of}
 use Rattle.session_owners.specs.Placing.{AreLeft, PlansFit, contexts_of}
 use Rattle.session_owners.specs.Commons.{CommonState}
-use Rattle.session_rules.specs.Standing.{IsPlan, Stands}
+use Rattle.session_rules.specs.Standing.{AreApart, IsPlan, Stands}
 use Rattle.session_rules.proofs.ContextsKept.{protected_has}
 use Rattle.session_rules.proofs.Forests.{has_left, once_left}
 use Rattle.session_rules.proofs.Lone.{lone_left}
-use Rattle.subxact_stack.specs.declared.levels.Level.{Level}
-use Rattle.session_store.specs.State.{StoreState, scene_of, session_of}
-use Rattle.session_store.specs.Placed.{IsPlaced, LevelLies, Lies}
+use Rattle.session_store.specs.State.{StoreState, contexts_in, scene_of, session_of}
+use Rattle.session_store.specs.Placed.{IsPlaced, Lies}
 use Rattle.session_store.specs.Calls.{Keeps, Refused, StandsIn}
-use Rattle.session_store.proofs.Answered.{some_more}
 use Rattle.session_store.proofs.Kept.{Goes, has_kept, nowhere}
 use Rattle.session_store.proofs.Owned.{OwnersGo}
 use Rattle.session_ends.specs.Place.{CanGo, HaveGone}
+use Rattle.session_ends.specs.Portals.{IsSpare, PlansMayGo}
 
 -- the context that goes is neither the current one nor above it
 pub can_apart : (tree : TreeState) (s : Space) (x : ShelfState) (id : CtxId) → CanGo tree s x id → is_within id.number tree.current.number (stands_for tree s) ≡ false
@@ -65,48 +64,59 @@ module _ (a b : TreeState) (s t : Space) (x y : ShelfState) (gone_id : CtxId) (d
         next = did.next;
       }
 
--- the contexts of plans can go where the session stands
-each_can : (a : StoreState) (s : Space) (x : ShelfState) → Keeps a s → HooksFit (stands_for a.tree s) x → Once (stands_for a.tree s) → (standing : List (ℕ × Plan)) → All (λ plan. IsPlan plan (stands_for a.tree s) a.tree.current.number) (map plan_state standing) → All (Lies a.tree) (contexts_of standing)
-    → All (CanGo a.tree s x) (contexts_of standing)
-each_can a s x keeps hooks once [] are lie = All-nil (CanGo a.tree s x)
-each_can a s x keeps hooks once (plan ∷ plans) are lie =
-    let is = All-head (λ p. IsPlan p (stands_for a.tree s) a.tree.current.number) (plan_state plan) (map plan_state plans) are in
-    let there : has plan.1.context.number (stands_for a.tree s) ≡ true = protected_has plan.1.context.number (stands_for a.tree s) is.protected in
-    All-cons (CanGo a.tree s x) plan.1.context (contexts_of plans)
+-- contexts of plans can go where the session's contexts, hooks and plans are in order
+each_spare : (t : Contexts) (current : ℕ) (x : ShelfState) → HooksFit t x → Once t → (standing : List (ℕ × Plan)) → All (λ plan. IsPlan plan t current) (map plan_state standing) → All (IsSpare t current x) (contexts_of standing)
+each_spare t current x hooks once [] are = All-nil (IsSpare t current x)
+each_spare t current x hooks once (plan ∷ plans) are =
+    let is = All-head (λ p. IsPlan p t current) (plan_state plan) (map plan_state plans) are in
+    All-cons (IsSpare t current x) plan.1.context (contexts_of plans)
+    (record { hooks = hooks; once = once; there = protected_has plan.1.context.number t is.protected; lone = is.lone; other = is.other })
+    (each_spare t current x hooks once plans (All-tail (λ p. IsPlan p t current) (plan_state plan) (map plan_state plans) are))
+
+pub may_go : (a : StoreState) (s : Space) (x : ShelfState) → HooksFit (contexts_in a s) x → Once (contexts_in a s) → All (λ plan. IsPlan plan (contexts_in a s) a.tree.current.number) (plans_of a.owners) → AreApart (plans_of a.owners) → PlansMayGo a s x
+may_go a s x hooks once are apart = record { each = each_spare (contexts_in a s) a.tree.current.number x hooks once a.owners.plans.standing are; apart = apart }
+
+pub may_stand : (a : StoreState) (s : Space) (x : ShelfState) (commons : CommonState) → StandsIn a s x commons → PlansMayGo a s x
+unfolding session_of
+may_stand a s x commons stands =
+    let h : Stands (scene_of a s x commons nowhere) = stands nowhere in
+    may_go a s x (record { out = h.hooks.out; words = h.hooks.words }) h.contexts.once h.plans.each h.plans.apart
+
+-- they lie where their ids say
+each_can : (a : TreeState) (s : Space) (x : ShelfState) → Agrees a s → (ids : List CtxId) → All (IsSpare (stands_for a s) a.current.number x) ids → All (Lies a) ids → All (CanGo a s x) ids
+each_can a s x agrees [] are lie = All-nil (CanGo a s x)
+each_can a s x agrees (id ∷ ids) are lie =
+    let is = All-head (IsSpare (stands_for a s) a.current.number x) id ids are in
+    All-cons (CanGo a s x) id ids
     (record {
-      agrees = keeps.agrees;
-      hooks = hooks;
-      once = once;
-      live = All-head (Lies a.tree) plan.1.context (contexts_of plans) lie (sym (has_kept plan.1.context.number a.tree s) ∙ there);
-      there = there;
+      agrees = agrees;
+      hooks = is.hooks;
+      once = is.once;
+      live = All-head (Lies a) id ids lie (sym (has_kept id.number a s) ∙ is.there);
+      there = is.there;
       lone = is.lone;
       other = is.other;
     })
-    (each_can a s x keeps hooks once plans
-    (All-tail (λ p. IsPlan p (stands_for a.tree s) a.tree.current.number) (plan_state plan) (map plan_state plans) are) (All-tail (Lies a.tree) plan.1.context (contexts_of plans) lie))
+    (each_can a s x agrees ids (All-tail (IsSpare (stands_for a s) a.current.number x) id ids are) (All-tail (Lies a) id ids lie))
 
-pub plans_fit : (a : StoreState) (s : Space) (x : ShelfState) (commons : CommonState) → Keeps a s → StandsIn a s x commons → IsPlaced a.tree a.owners a.levels → PlansFit (CanGo a.tree s x) a.owners.plans.standing
+pub plans_can : (a : StoreState) (s : Space) (x : ShelfState) → Keeps a s → PlansMayGo a s x → IsPlaced a.tree a.owners a.levels a.portals → PlansFit (CanGo a.tree s x) a.owners.plans.standing
 unfolding session_of
-plans_fit a s x commons keeps stands placed =
-    let h : Stands (scene_of a s x commons nowhere) = stands nowhere in
-    record {
-      each = each_can a s x keeps (record { out = h.hooks.out; words = h.hooks.words }) h.contexts.once a.owners.plans.standing h.plans.each placed.plans;
-      apart = h.plans.apart;
-    }
+plans_can a s x keeps may placed = record { each = each_can a.tree s x keeps.agrees (contexts_of a.owners.plans.standing) may.each placed.plans; apart = may.apart }
+
+pub plans_fit : (a : StoreState) (s : Space) (x : ShelfState) (commons : CommonState) → Keeps a s → StandsIn a s x commons → IsPlaced a.tree a.owners a.levels a.portals → PlansFit (CanGo a.tree s x) a.owners.plans.standing
+plans_fit a s x commons keeps stands placed = plans_can a s x keeps (may_stand a s x commons stands) placed
+
+-- and can go still
+pub plans_spare : (a : StoreState) (s : Space) (x : ShelfState) → PlansFit (CanGo a.tree s x) a.owners.plans.standing → PlansMayGo a s x
+unfolding session_of
+plans_spare a s x fit = record {
+  each = All-weaker (CanGo a.tree s x) (IsSpare (stands_for a.tree s) a.tree.current.number x) (λ id can. record { hooks = can.hooks; once = can.once; there = can.there; lone = can.lone; other = can.other }) (contexts_of a.owners.plans.standing) fit.each;
+  apart = fit.apart;
+}
 
 -- what the store names lies where it lay
 pub goes_of : (a b : TreeState) (s t : Space) → HaveGone a b s t → Goes a b s t
 goes_of a b s t g = record { moves = g.moves; stays = λ n was now. g.stays n now; current = g.current }
-
-lies_gone : (a b : TreeState) (s t : Space) → HaveGone a b s t → (id : CtxId) → Lies a id → Lies b id
-lies_gone a b s t g id lies there = g.stays id.number there ∙ lies (g.had id.number there)
-
-pub placed_gone : (a b : TreeState) (s t : Space) (table : ResourceState) (levels : List Level) → HaveGone a b s t → IsPlaced a table levels → IsPlaced b table levels
-placed_gone a b s t table levels g placed = record {
-  current = subst (Lies b) (sym g.current) (lies_gone a b s t g a.current placed.current);
-  levels = All-weaker (LevelLies a table) (LevelLies b table) (λ l lies. record { context = some_more l.context (lies_gone a b s t g) lies.context; owner = lies.owner }) levels placed.levels;
-  plans = All-weaker (Lies a) (Lies b) (lies_gone a b s t g) (contexts_of table.plans.standing) placed.plans;
-}
 
 -- an owner was released
 pub go_by : (a b : ResourceState) → ((n : ℕ) → has n (owners_of b) ≡ has n (owners_of a)) → b.places ≡ a.places → AreLeft a.plans.standing b.plans.standing → OwnersGo a b

@@ -1,3 +1,14 @@
+pub mod Out
+pub mod Giving
+pub mod Memory
+pub mod Lasts
+pub mod Dealing
+pub mod Walking
+pub mod Sweeping
+pub mod Owning
+pub mod PortalEnding
+pub mod Passed
+pub mod Aborting
 pub mod Acting
 pub mod Going
 pub mod Freed

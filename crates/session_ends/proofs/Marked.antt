@@ -1,31 +1,34 @@
 -- The deepest level is marked as aborted, another context is the current one, and active snapshots are popped: what that leaves as it was.
-use Rattle.std.proofs.Common.{◌≡◌, ℕ, ◌<◌, true, Some, List, [], ◌∷◌, ◌++◌, length, All, refl, sym, ap, ◌∙◌, subst, arith}
-use Rattle.std.specs.Prelude.{drop}
+use Rattle.std.proofs.Common.{◌≡◌, ℕ, ◌<◌, true, false, List, [], ◌∷◌, ◌++◌, length, All, refl, sym, ap, ◌∙◌, subst, arith}
 use Rattle.std.proofs.lemmas.List.Elements.{All-push, All-weaker}
 use Rattle.addr_space.specs.Space.{Space}
 use Rattle.pgs_step.specs.declared.ids.CtxId.{CtxId}
 use Rattle.reset_callbacks.specs.ShelfState.{ShelfState}
 use Rattle.context_rules.specs.Contexts.{Contexts}
 use Rattle.context_tree.specs.State.{TreeState, stands_for}
-use Rattle.session_owners.specs.ResourceState.{ResourceState, owners_of}
+use Rattle.session_owners.specs.ResourceState.{AllAt, HoldsNothing, ResourceState, owners_of}
 use Rattle.session_owners.specs.Commons.{CommonState}
 use Rattle.session_owners.proofs.Balances.{balances_none}
+use Rattle.portal_store.specs.declared.portal.Portal.{Portal}
 use Rattle.subxact_stack.specs.declared.levels.Level.{Level}
 use Rattle.subxact_stack.specs.Levels.{with_deepest}
-use Rattle.session_rules.specs.State.{LevelState, abort_context, deepest_changed, first_of, owner_of}
+use Rattle.session_rules.specs.State.{LevelState, OpenPortal, abort_context, deepest_changed, first_of, is_aborted, owner_of}
 use Rattle.session_rules.specs.World.{Scene}
 use Rattle.session_rules.specs.Acts.{changes}
-use Rattle.session_rules.specs.Standing.{AreLevels, AreOuter, IsPortal, Stands, referred}
+use Rattle.session_rules.specs.Standing.{IsMade, IsPortal, Stands, referred}
 use Rattle.session_rules.proofs.ContextsKept.{protected_has}
+use Rattle.session_rules.proofs.Ending.{Ending}
 use Rattle.session_rules.proofs.EndsStand.{settled}
 use Rattle.session_rules.proofs.PlansAmong.{own_other, plans_current}
 use Rattle.session_rules.proofs.PortalsAmong.{place_own}
-use Rattle.session_store.specs.State.{StoreState, level_state, levels_of, scene_of, session_of}
+use Rattle.session_store.specs.State.{StoreState, level_state, levels_of, portals_of, scene_of, session_of}
 use Rattle.session_store.specs.Placed.{IsPlaced, LevelLies}
 use Rattle.session_store.specs.Calls.{Acted, IsSilent, StandsIn}
 use Rattle.session_store.proofs.Depths.{all_deepest, deepest_new, levels_are, levels_long}
+use Rattle.session_store.proofs.Kept.{nowhere}
 use Rattle.session_store.proofs.Levelled.{leveled}
-use Rattle.session_ends.specs.Parts.{IsFreed}
+use Rattle.session_ends.specs.Parts.{IsFreed, MayLeave}
+use Rattle.session_ends.proofs.Freed.{IsShut}
 
 -- the context for aborts is the current one, where there is a level
 off_stands : (levels : List LevelState) (s : Scene) → 0 < length levels → Stands (settled levels s) → Stands (settled levels (record s { session = record s.session { current = abort_context } }))
@@ -74,11 +77,31 @@ stands_off a s x commons id number some stands around =
     subst (λ (n : ℕ). Stands (record z { session = record z.session { current = n } })) (sym number) (off_stands (levels_of a.levels) z some' (stands around))
 
 -- only active snapshots are others
-pub stacked_freed : (b : StoreState) (q : ResourceState) (s : Space) (x : ShelfState) → q ≡ record b.owners { stack = q.stack } → IsFreed b s x → IsFreed (record b { owners = q }) s x
+pub stacked_leaves : (b : StoreState) (q : ResourceState) (s : Space) (x : ShelfState) → q ≡ record b.owners { stack = q.stack } → MayLeave b s x → MayLeave (record b { owners = q }) s x
 unfolding session_of
-stacked_freed b q s x is f =
-    subst (λ (r : ResourceState). IsFreed (record b { owners = r }) s x) (sym {b = record b.owners { stack = q.stack }} is)
-    (record { contexts = f.contexts; current = f.current; hooks = f.hooks; levels = f.levels; outer = f.outer; plans = f.plans; idle = f.idle })
+stacked_leaves b q s x is f =
+    subst (λ (r : ResourceState). MayLeave (record b { owners = r }) s x) (sym {b = record b.owners { stack = q.stack }} is)
+    (record { contexts = f.contexts; hooks = f.hooks; levels = f.levels; outer = f.outer; plans = f.plans; idle = f.idle })
+
+-- neither they nor the levels matter to portals
+stacked_ends : (b : StoreState) (q : ResourceState) (new : List Level) (s : Space) (x : ShelfState) (c : CommonState) (level : LevelState) (levels done : List LevelState) (front back : List OpenPortal) → q ≡ record b.owners { stack = q.stack } → Ending level levels done front back (scene_of b s x c nowhere)
+    → Ending level levels done front back (scene_of (record { tree = b.tree; owners = q; levels = new; portals = b.portals }) s x c nowhere)
+unfolding session_of
+stacked_ends b q new s x c level levels done front back is h =
+    subst (λ (r : ResourceState). Ending level levels done front back (scene_of (record { tree = b.tree; owners = r; levels = new; portals = b.portals }) s x c nowhere)) (sym {b = record b.owners { stack = q.stack }} is)
+    (record {
+      contexts = h.contexts;
+      hooks = h.hooks;
+      all = h.all;
+      outer = h.outer;
+      kinds = h.kinds;
+      owners = h.owners;
+      plans = h.plans;
+      ended = h.ended;
+      rest = h.rest;
+      different = h.different;
+      are = h.are;
+    })
 
 -- the deepest level is marked
 abbrev pub marked : Level → Level
@@ -103,30 +126,37 @@ module _ (a : StoreState) (outer : List Level) (level : Level) (new : List Level
     balances = balances_none a.owners commons;
   }
 
-  pub marked_placed : (tree : TreeState) (table : ResourceState) → IsPlaced tree table a.levels → IsPlaced tree table new
-  marked_placed tree table placed =
+  pub marked_placed : (tree : TreeState) (table : ResourceState) (portals : List Portal) → IsPlaced tree table a.levels portals → IsPlaced tree table new portals
+  marked_placed tree table portals placed =
       let both = all_deepest (LevelLies tree table) a.levels outer level e placed.levels in
       record {
         current = placed.current;
         levels = subst (All (LevelLies tree table)) (sym new_levels) (All-push (LevelLies tree table) outer (marked level) both.0 (record { context = both.1.context; owner = both.1.owner }));
         plans = placed.plans;
+        portals = placed.portals;
       }
 
-  pub marked_freed : (s : Space) (x : ShelfState) → IsFreed a s x → IsFreed (record a { levels = new }) s x
+  -- what an abort leaves may be cleaned up
+  pub marked_freed : (q : ResourceState) (s : Space) (x : ShelfState) (c : CommonState) (l : LevelState) (above : List LevelState) → levels_of a.levels ≡ l ∷ above → (l.starting ≡ false → IsMade l) → q ≡ record a.owners { stack = q.stack } → IsShut l above (scene_of a s x c nowhere)
+      → IsFreed (record { tree = a.tree; owners = q; levels = new; portals = a.portals }) s x
   unfolding session_of
-  marked_freed s x f =
-      let l : AreLevels (level_state level ∷ levels_of outer) (stands_for a.tree s) (owners_of a.owners) = subst (λ (ls : List LevelState). AreLevels ls (stands_for a.tree s) (owners_of a.owners)) levels_then f.levels in
+  marked_freed q s x c l above are made stacked shut =
+      let both : level_state level ∷ levels_of outer ≡ l ∷ above = sym levels_then ∙ are in
+      let same : level_state level ≡ l = cc both in
+      let rest : levels_of outer ≡ above = cc both in
+      let now : levels_of new ≡ record l { aborted = true } ∷ above = levels_now ∙ ap (λ (k : LevelState). record k { aborted = true } ∷ levels_of outer) same ∙ ap (λ (ls : List LevelState). record l { aborted = true } ∷ ls) rest in
       record {
-        contexts = f.contexts;
-        current = f.current;
-        hooks = f.hooks;
-        levels =
-            subst (λ (ls : List LevelState). AreLevels ls (stands_for a.tree s) (owners_of a.owners)) (sym levels_now)
-            (record { context = l.0.context; owner = l.0.owner; implicit = l.0.implicit }, l.1);
-        outer = subst (λ (ls : List LevelState). AreOuter (drop 1 ls)) (sym levels_now) (subst (λ (ls : List LevelState). AreOuter (drop 1 ls)) levels_then f.outer);
-        plans = f.plans;
+        commons = c;
+        ending = record {
+          level = record l { aborted = true };
+          above = above;
+          are = now;
+          made = λ s. let m = made s in record { context = m.context; owner = m.owner };
+          front = [];
+          ending = stacked_ends a q new s x c (record l { aborted = true }) above above [] (portals_of a.portals) stacked shut.ending;
+        };
+        aborted = ap is_aborted now;
         idle = λ n o.
-            f.idle n
-            (ap (λ (ls : List LevelState). owner_of (first_of ls)) levels_then
-            ∙ (let now : owner_of (first_of (levels_of new)) ≡ owner_of (Some (level_state level)) = ap (λ (ls : List LevelState). owner_of (first_of ls)) levels_now in sym now ∙ o));
+            subst (λ (r : ResourceState). AllAt HoldsNothing n (owners_of r)) (sym {b = record a.owners { stack = q.stack }} stacked)
+            (shut.idle n (let z : owner_of (first_of (levels_of new)) ≡ l.owner = ap (λ (ls : List LevelState). owner_of (first_of ls)) now in sym z ∙ o));
       }

@@ -22,8 +22,8 @@ use Rattle.session_store.specs.State.{StoreState, level_state, levels_of, sessio
 use Rattle.session_store.specs.Calls.{Acted}
 use Rattle.session_store.proofs.Levelled.{leveled, made_same, scene_leveled, scene_made}
 use Rattle.session_ends.specs.Parts.{context_left, going, level_left}
+use Rattle.session_ends.specs.Portals.{number_in}
 use Rattle.session_ends.proofs.Ending.{going_gone}
-use Rattle.session_ends.proofs.Freed.{number_in}
 
 -- an act went from scene to scene, and what was said is what it says
 pub record Went (O : Type 0) (emits : O → List What → O → Type 0) (act : Scene → Ended) (a b : Scene) (o p : O) : Type 0 where

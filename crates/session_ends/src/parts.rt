@@ -1,9 +1,10 @@
 //! What the ends of levels are made of: an owner that is released and discarded, and a context that goes, where there is one.
-ghost use Rattle.std.specs.Prelude.{◌≡◌, ◌↔◌, ℕ, true, false, None, IfSome, MatchOption};
+ghost use Rattle.std.specs.Prelude.{◌≡◌, ◌≢◌, ◌↔◌, ℕ, true, false, None, IfSome, MatchOption};
 ghost use Rattle.std.specs.Option.{option_map};
 ghost use Rattle.addr_space.specs.Space.{Space, Asks};
-ghost use Rattle.forest.specs.Forest.{has, at, parent_of};
-ghost use Rattle.context_rules.specs.Ends.{gone};
+ghost use Rattle.forest.specs.Forest.{Empty, Once, has, at, children, is_above, parent_of};
+ghost use Rattle.pgs_step.specs.declared.ids.OwnerId.{OwnerId as AnOwner};
+ghost use Rattle.context_rules.specs.Ends.{children_gone, gone};
 ghost use Rattle.context_rules.specs.Refusals.{is_within};
 ghost use Rattle.context_tree.specs.Calls.{Did, DidNothing};
 ghost use Rattle.context_tree.specs.State.{Agrees, HooksFit, IsLive, Moves, place_of, stands_for};
@@ -13,7 +14,7 @@ ghost use Rattle.session_owners.specs.Placing.{AreLeft, PlansFit};
 ghost use Rattle.session_owners.specs.Fitting.{Acted, ActedOn};
 ghost use Rattle.session_owners.specs.Commons.{Balances, CommonState, Serves};
 ghost use Rattle.session_rules.specs.Acts.{where_there};
-ghost use Rattle.session_rules.specs.Releases.{owner_gone, owner_released};
+ghost use Rattle.session_rules.specs.Releases.{owner_gone, owner_moved, owner_released};
 ghost use Rattle.session_store.specs.State.{only_empty};
 ghost use Rattle.session_ends.specs.Place.{CanGo, GoesOn, hosting};
 ghost use Rattle.session_ends.specs.Parts.{going};
@@ -50,6 +51,10 @@ pub(crate) fn release_owner<H: ResetHook, K: ExtKind, E: Emit>(
     ensures shelf { place.new.shelf.ghost_name ≡ place.old.shelf.ghost_name }
     ensures went { GoesOn place.old.tree.now place.new.tree.now place.old.space.now place.new.space.now }
     ensures left { AreLeft resources.old.plans.standing resources.new.plans.standing }
+    ensures next_owner { resources.new.next_owner ≡ resources.old.next_owner }
+    ensures next_serial { resources.new.next_serial ≡ resources.old.next_serial }
+    ensures serves { Serves resources.new commons.new }
+    ensures still_fit { PlansFit (CanGo place.new.tree.now place.new.space.now place.new.shelf.now) resources.new.plans.standing }
 {
     match owner {
         None => {}
@@ -64,7 +69,10 @@ pub(crate) fn discard_owner<E: Emit>(resources: &mut Resources, owner: Option<Ow
     ensures acted { (c : CommonState) → Acted (λ scene. where_there (option_map (λ o. o.number) owner) owner_gone scene) resources.old resources.new c c (λ events. E.emits out.old events out.new) }
     ensures balances { (c : CommonState) → Balances resources.old resources.new c c }
     ensures stays { (n : ℕ) → has n (owners_of resources.new) ≡ true → at n resources.new.places ≡ at n resources.old.places }
+    ensures had { (n : ℕ) → has n (owners_of resources.new) ≡ true → has n (owners_of resources.old) ≡ true }
     ensures plans { resources.new.plans ≡ resources.old.plans }
+    ensures next_owner { resources.new.next_owner ≡ resources.old.next_owner }
+    ensures next_serial { resources.new.next_serial ≡ resources.old.next_serial }
 {
     match owner {
         None => {}
@@ -89,11 +97,72 @@ pub(crate) fn drop_context<H: ResetHook, E: Emit>(
     ensures moves { Moves tree.old tree.new space.old space.new }
     ensures asked { Asks tree.old.account 0 space.old space.new }
     ensures stays { (n : ℕ) → has n tree.new.kept ≡ true → place_of tree.new n ≡ place_of tree.old n }
+    ensures had { (n : ℕ) → has n tree.new.kept ≡ true → has n tree.old.kept ≡ true }
     ensures current { tree.new.current ≡ tree.old.current }
+    ensures next { tree.new.next ≡ tree.old.next }
 {
     match context {
         None => {}
         Some(context) => tree.gone(space, shelf, context, out),
+    }
+}
+
+/// Deletes all below a context, if there is one.
+pub(crate) fn clear_below<H: ResetHook, E: Emit>(
+    tree: &mut ContextTree<H>,
+    space: &mut Space,
+    shelf: &mut Shelf<H>,
+    context: Option<CtxId>,
+    out: &mut E,
+)
+    requires agrees { Agrees tree.old space.old }
+    requires hooks { HooksFit (stands_for tree.old space.old) shelf.old }
+    requires live { IfSome context (IsLive tree.old) }
+    requires apart { IfSome context (λ id. is_above id.number tree.old.current.number (stands_for tree.old space.old) ≡ false) }
+    requires once { Once (stands_for tree.old space.old) }
+    ensures did { MatchOption context (DidNothing tree.old tree.new space.old space.new shelf.old shelf.new) (λ id. Did (children_gone id.number (stands_for tree.old space.old)) tree.old tree.new space.old space.new shelf.old shelf.new) }
+    ensures emits { MatchOption context (out.new ≡ out.old) (λ id. E.emits out.old (children_gone id.number (stands_for tree.old space.old)).events out.new) }
+    ensures moves { Moves tree.old tree.new space.old space.new }
+    ensures asked { Asks tree.old.account 0 space.old space.new }
+    ensures stays { (n : ℕ) → has n tree.new.kept ≡ true → place_of tree.new n ≡ place_of tree.old n }
+    ensures had { (n : ℕ) → has n tree.new.kept ≡ true → has n tree.old.kept ≡ true }
+    ensures current { tree.new.current ≡ tree.old.current }
+    ensures next { tree.new.next ≡ tree.old.next }
+{
+    match context {
+        None => {}
+        Some(context) => tree.clear_children(space, shelf, context, out),
+    }
+}
+
+/// Moves an owner below another one, if both are there.
+pub(crate) fn move_owner<E: Emit>(
+    resources: &mut Resources,
+    owner: Option<OwnerId>,
+    to: Option<OwnerId>,
+    out: &mut E,
+)
+    requires live { IfSome owner (owners.IsLive resources.old) }
+    requires to { IfSome to (owners.IsLive resources.old) }
+    requires there { IfSome owner (λ o. has o.number (owners_of resources.old) ≡ true) }
+    requires to_there { IfSome to (λ t. has t.number (owners_of resources.old) ≡ true) }
+    requires other { IfSome owner (λ o. IfSome to (λ t. t.number ≢ o.number)) }
+    requires lone { IfSome owner (λ o. children o.number (owners_of resources.old) ≡ Empty) }
+    requires once { Once (owners_of resources.old) }
+    ensures acted { (c : CommonState) → Acted (λ scene. where_there (option_map (λ o. o.number) owner) (λ o. where_there (option_map (λ t. t.number) to) (owner_moved o)) scene) resources.old resources.new c c (λ events. E.emits out.old events out.new) }
+    ensures balances { (c : CommonState) → Balances resources.old resources.new c c }
+    ensures had { (n : ℕ) → has n (owners_of resources.new) ≡ true → has n (owners_of resources.old) ≡ true }
+    ensures stays { (id : AnOwner) → owners.IsLive resources.old id → owners.IsLive resources.new id }
+    ensures plans { resources.new.plans ≡ resources.old.plans }
+    ensures next_owner { resources.new.next_owner ≡ resources.old.next_owner }
+    ensures next_serial { resources.new.next_serial ≡ resources.old.next_serial }
+{
+    match owner {
+        None => {}
+        Some(owner) => match to {
+            None => {}
+            Some(to) => resources.move_owner(owner, to, out),
+        },
     }
 }
 

@@ -1,9 +1,7 @@
 -- The level is aborted, so that it may go.
-use Rattle.session_store.proofs.Depths.{ends}
 use Rattle.session_ends.proofs.Freed.{freed_aborted}
 use Rattle.session_ends.proofs.ends.clean_up.Goals as goal
 
 pub sweep-requires-clause-freed : goal.sweep-requires-clause-freed
 sweep-requires-clause-freed g c =
-    let last = ends c.args.store.now.levels c.requires.level in
-    freed_aborted c.args.store.now c.args.space.now c.args.shelf.now c.requires.stands.0 last.0 last.1.0 last.1.1 c.requires.stands.1 c.requires.aborted
+    freed_aborted c.args.store.now c.args.space.now c.args.shelf.now c.requires.stands.0 c.requires.stands.1 c.requires.level c.requires.aborted

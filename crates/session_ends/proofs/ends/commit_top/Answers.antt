@@ -5,35 +5,50 @@ use Rattle.session_owners.specs.Commons.{CommonState}
 use Rattle.session_rules.specs.Ends.{stack_popped}
 use Rattle.subxact_stack.specs.declared.levels.Level.{Level}
 use Rattle.session_store.specs.State.{StoreState, level_state, levels_of}
+use Rattle.session_ends.specs.Portals.{none_left}
+use Rattle.session_ends.proofs.Freed.{begins_in}
 use Rattle.session_store.specs.Calls.{Keeps}
 use Rattle.session_store.proofs.Depths.{ends, levels_are}
 use Rattle.session_store.proofs.Owned.{go_stack, keeps_owners, owners_after, placed_owners}
-use Rattle.session_ends.specs.Parts.{IsFreed}
+use Rattle.session_ends.specs.Parts.{MayLeave}
 use Rattle.session_ends.proofs.Ended.{commit_parts, left_top, released_as}
 use Rattle.session_ends.proofs.Ending.{alone, asked_then, moves_then}
-use Rattle.session_ends.proofs.Marked.{stacked_freed}
+use Rattle.session_ends.proofs.Marked.{stacked_leaves}
 use Rattle.session_ends.proofs.ends.commit_top.Goals as goal
 
+pub close_portals-requires-clause-ending : goal.close_portals-requires-clause-ending
+close_portals-requires-clause-ending g c =
+    let one = c.requires.level in
+    begins_in none_left c.args.store.now c.args.space.now c.args.shelf.now c.args.commons.now c.requires.stands (omega (arith, one))
+
+pub release_level-requires-clause-keeps : goal.release_level-requires-clause-keeps
+release_level-requires-clause-keeps g c = c.close_portals.ensures.out.keeps
+
+pub release_level-requires-clause-ending : goal.release_level-requires-clause-ending
+release_level-requires-clause-ending g c = (none_left, c.close_portals.ensures.ending)
+
 pub release_level-requires-clause-level : goal.release_level-requires-clause-level
-release_level-requires-clause-level g c = let one = c.requires.level in omega (arith, one)
+release_level-requires-clause-level g c =
+    let one : length c.close_portals.new.store.levels ≡ 1 = ap length c.close_portals.ensures.out.levels ∙ c.requires.level in
+    omega (arith, one)
 
 pub invariant_of-store : goal.invariant_of-store
-invariant_of-store g c = placed_owners _ _ _ _ c.store.invariant (go_stack _ _ c.pop_from.ensures.stack_alone)
+invariant_of-store g c = placed_owners _ _ _ _ _ c.store.invariant (go_stack _ _ c.pop_from.ensures.stack_alone)
 
 pub leave_level-requires-clause-keeps : goal.leave_level-requires-clause-keeps
 leave_level-requires-clause-keeps g c =
-    let b : StoreState = record { tree = c.store.inside.tree; owners = c.store.inside.owners; levels = c.store.inside.levels } in
+    let b : StoreState = record { tree = c.store.inside.tree; owners = c.store.inside.owners; levels = c.store.inside.levels; portals = c.store.inside.portals } in
     keeps_owners b c.pop_from.new.self c.release_level.new.space (subst (λ (v : StoreState). Keeps v c.release_level.new.space) (sym c.store.view_is) c.release_level.ensures.alone.keeps)
 
-pub leave_level-requires-clause-freed : goal.leave_level-requires-clause-freed
-leave_level-requires-clause-freed g c =
-    let b : StoreState = record { tree = c.store.inside.tree; owners = c.store.inside.owners; levels = c.store.inside.levels } in
-    stacked_freed b c.pop_from.new.self c.release_level.new.space c.release_level.new.shelf c.pop_from.ensures.stack_alone
-    (subst (λ (v : StoreState). IsFreed v c.release_level.new.space c.release_level.new.shelf) (sym c.store.view_is) c.release_level.ensures.freed)
+pub leave_level-requires-clause-free : goal.leave_level-requires-clause-free
+leave_level-requires-clause-free g c =
+    let b : StoreState = record { tree = c.store.inside.tree; owners = c.store.inside.owners; levels = c.store.inside.levels; portals = c.store.inside.portals } in
+    stacked_leaves b c.pop_from.new.self c.release_level.new.space c.release_level.new.shelf c.pop_from.ensures.stack_alone
+    (subst (λ (v : StoreState). MayLeave v c.release_level.new.space c.release_level.new.shelf) (sym c.store.view_is) c.release_level.ensures.free)
 
 pub leave_level-requires-clause-level : goal.leave_level-requires-clause-level
 leave_level-requires-clause-level g c =
-    let same : c.store.inside.levels ≡ c.args.store.now.levels = ap (λ (v : StoreState). v.levels) c.store.view_is ∙ c.release_level.ensures.alone.levels in
+    let same : c.store.inside.levels ≡ c.args.store.now.levels = ap (λ (v : StoreState). v.levels) c.store.view_is ∙ c.release_level.ensures.alone.levels ∙ c.close_portals.ensures.out.levels in
     let one : length c.store.inside.levels ≡ 1 = ap length same ∙ c.requires.level in
     omega (arith, one)
 
@@ -41,7 +56,7 @@ pub returns-clause-acted : goal.returns-clause-acted
 returns-clause-acted g c =
     let a : StoreState = c.args.store.now in
     let b : StoreState = c.release_level.new.store in
-    let d : StoreState = record { tree = c.store.inside.tree; owners = c.pop_from.new.self; levels = c.store.inside.levels } in
+    let d : StoreState = record { tree = c.store.inside.tree; owners = c.pop_from.new.self; levels = c.store.inside.levels; portals = c.store.inside.portals } in
     let e : StoreState = c.leave_level.new.store in
     let s = c.args.space.now in
     let t = c.release_level.new.space in
@@ -51,26 +66,30 @@ returns-clause-acted g c =
     let z = c.leave_level.new.shelf in
     let m : CommonState = c.args.commons.now in
     let k : CommonState = c.release_level.new.commons in
-    let same : d.levels ≡ a.levels = ap (λ (v : StoreState). v.levels) c.store.view_is ∙ c.release_level.ensures.alone.levels in
+    let same : d.levels ≡ a.levels = ap (λ (v : StoreState). v.levels) c.store.view_is ∙ c.release_level.ensures.alone.levels ∙ c.close_portals.ensures.out.levels in
     let one : length d.levels ≡ 1 = ap length same ∙ c.requires.level in
     let last = ends d.levels (omega (arith, one)) in
     let lone : levels_of d.levels ≡ level_state last.1.0 ∷ [] = ap levels_of (last.1.1 ∙ ap (λ (o : List Level). o ++ last.1.0 ∷ []) (alone d.levels last.0 last.1.0 last.1.1 one)) ∙ levels_are [] last.1.0 in
+    let a1 : StoreState = c.close_portals.new.store in
+    let h : CommonState = c.close_portals.new.commons in
     commit_parts _ (λ o events p. g.E.Emit.emits o events p) g.met.E.Emit.emits_none (λ o p q xs ys h k. g.met.E.Emit.emits_more _ _ _ _ _ _ h k refl)
-    a b d e s t u x y z m k c.args.out.now c.emit.new.self c.release_level.new.out c.pop_from.new.out c.leave_level.new.out
-    c.emit.ensures.emitted
-    (released_as a b s t x y m k (λ events. g.E.Emit.emits c.emit.new.self events c.release_level.new.out) true (length a.levels == 1) true (ap (λ (n : ℕ). n == 1) c.requires.level) c.release_level.ensures.acted)
-    (owners_after c.store.inside.tree c.store.inside.owners c.store.inside.levels b c.store.view_is (stack_popped 1) c.pop_from.new.self t y k k (λ events. g.E.Emit.emits c.release_level.new.out events c.pop_from.new.out) (c.pop_from.ensures.acted k) (c.pop_from.ensures.balances k))
+    a a1 b d e s c.close_portals.new.space t u x c.close_portals.new.shelf y z m h k c.args.out.now c.emit.new.self c.close_portals.new.out c.release_level.new.out c.pop_from.new.out c.leave_level.new.out
+    c.emit.ensures.emitted c.close_portals.ensures.acted
+    (released_as a1 b c.close_portals.new.space t c.close_portals.new.shelf y h k (λ events. g.E.Emit.emits c.close_portals.new.out events c.release_level.new.out) true (length a1.levels == 1) true (ap (λ (n : ℕ). n == 1) (ap length c.close_portals.ensures.out.levels ∙ c.requires.level)) c.release_level.ensures.acted)
+    (owners_after c.store.inside.tree c.store.inside.owners c.store.inside.levels c.store.inside.portals b c.store.view_is (stack_popped 1) c.pop_from.new.self t y k k (λ events. g.E.Emit.emits c.release_level.new.out events c.pop_from.new.out) (c.pop_from.ensures.acted k) (c.pop_from.ensures.balances k))
     (left_top d e (level_state last.1.0) t u y z k k (λ events. g.E.Emit.emits c.pop_from.new.out events c.leave_level.new.out) lone (c.leave_level.ensures.acted k))
 
 pub returns-clause-moves : goal.returns-clause-moves
 returns-clause-moves g c =
-    moves_then c.args.store.now.tree c.release_level.new.store.tree c.store.inside.tree c.leave_level.new.store.tree c.args.space.now c.release_level.new.space c.leave_level.new.space c.release_level.ensures.alone.moves (ap (λ (v : StoreState). v.tree) c.store.view_is) c.leave_level.ensures.moves
+    moves_then c.args.store.now.tree c.close_portals.new.store.tree c.close_portals.new.store.tree c.leave_level.new.store.tree c.args.space.now c.close_portals.new.space c.leave_level.new.space c.close_portals.ensures.out.moves refl
+    (moves_then c.close_portals.new.store.tree c.release_level.new.store.tree c.store.inside.tree c.leave_level.new.store.tree c.close_portals.new.space c.release_level.new.space c.leave_level.new.space c.release_level.ensures.alone.moves (ap (λ (v : StoreState). v.tree) c.store.view_is) c.leave_level.ensures.moves)
 
 pub returns-clause-asked : goal.returns-clause-asked
 returns-clause-asked g c =
-    asked_then c.args.store.now.tree c.release_level.new.store.tree c.store.inside.tree c.args.space.now c.release_level.new.space c.leave_level.new.space c.release_level.ensures.asked c.release_level.ensures.alone.moves.account (ap (λ (v : StoreState). v.tree) c.store.view_is) c.leave_level.ensures.asked
+    asked_then c.args.store.now.tree c.close_portals.new.store.tree c.close_portals.new.store.tree c.args.space.now c.close_portals.new.space c.leave_level.new.space c.close_portals.ensures.out.asked c.close_portals.ensures.out.moves.account refl
+    (asked_then c.close_portals.new.store.tree c.release_level.new.store.tree c.store.inside.tree c.close_portals.new.space c.release_level.new.space c.leave_level.new.space c.release_level.ensures.asked c.release_level.ensures.alone.moves.account (ap (λ (v : StoreState). v.tree) c.store.view_is) c.leave_level.ensures.asked)
 
 pub returns-clause-levels : goal.returns-clause-levels
 returns-clause-levels g c =
-    let same : c.store.inside.levels ≡ c.args.store.now.levels = ap (λ (v : StoreState). v.levels) c.store.view_is ∙ c.release_level.ensures.alone.levels in
+    let same : c.store.inside.levels ≡ c.args.store.now.levels = ap (λ (v : StoreState). v.levels) c.store.view_is ∙ c.release_level.ensures.alone.levels ∙ c.close_portals.ensures.out.levels in
     alone c.store.inside.levels c.leave_level.new.store.levels c.leave_level.ensures.levels.0 c.leave_level.ensures.levels.1 (ap length same ∙ c.requires.level)

@@ -1,5 +1,5 @@
 -- The level's owner is released as the rules say, what lies elsewhere still does, and the level may go.
-use Rattle.std.proofs.Common.{◌≡◌, ℕ, Bool, List, Option, length, sym, ap, ◌∙◌, subst}
+use Rattle.std.proofs.Common.{◌≡◌, ℕ, Bool, List, [], Option, length, sym, ap, ◌∙◌, subst}
 use Rattle.std.specs.Prelude.{◌==◌}
 use Rattle.addr_space.specs.Space.{Asks, Space}
 use Rattle.reset_callbacks.specs.ShelfState.{ShelfState}
@@ -14,29 +14,31 @@ use Rattle.session_store.specs.State.{StoreState, levels_of, scene_of, session_o
 use Rattle.session_store.specs.Placed.{LevelLies}
 use Rattle.session_store.specs.Calls.{Acted, BothAlone}
 use Rattle.session_store.proofs.Depths.{all_deepest, levels_are}
-use Rattle.session_store.proofs.Levelled.{HasOwner, have_owners, owner_live}
-use Rattle.session_store.proofs.Owned.{acted_as, placed_owners}
+use Rattle.session_store.proofs.Levelled.{owner_live}
+use Rattle.session_store.proofs.Owned.{acted_as}
 use Rattle.session_store.proofs.Planned.{both_alone}
-use Rattle.session_store.proofs.Through.{keeps_in, stands_in}
-use Rattle.session_ends.specs.Parts.{IsFreed}
+use Rattle.session_store.proofs.Through.{keeps_in}
+use Rattle.session_ends.specs.Parts.{MayLeave}
+use Rattle.session_ends.specs.Portals.{IsEnding, number_in}
 use Rattle.session_ends.proofs.Acting.{acted_on}
-use Rattle.session_ends.proofs.Ending.{owner_top}
-use Rattle.session_ends.proofs.Freed.{is_freed, number_in}
-use Rattle.session_ends.proofs.Going.{go_by, goes_of, placed_gone, plans_fit}
+use Rattle.session_ends.proofs.Freed.{leaves, level_owner_has, level_owner_top, may_ended}
+use Rattle.session_ends.proofs.Going.{go_by, goes_of, plans_can}
+use Rattle.session_ends.proofs.Out.{out_owners, placed_out}
 use Rattle.session_ends.proofs.ends.release_level.Goals as goal
 
 pub release_owner-requires-clause-live : goal.release_owner-requires-clause-live
 release_owner-requires-clause-live g c =
-    let a : StoreState = record { tree = c.store.inside.tree; owners = c.store.inside.owners; levels = c.store.inside.levels } in
+    let a : StoreState = record { tree = c.store.inside.tree; owners = c.store.inside.owners; levels = c.store.inside.levels; portals = c.store.inside.portals } in
     let outer : List Level = c.deepest-owner.ensures.0 in
+    let e = subst (λ (v : StoreState). IsEnding c.requires.ending.0 v c.args.space.now c.args.shelf.now c.args.commons.now []) (sym c.store.view_is) c.requires.ending.1 in
     let lies = all_deepest (LevelLies a.tree a.owners) a.levels outer c.deepest-owner.result c.deepest-owner.ensures.1 c.store.invariant.levels in
-    let has = all_deepest (HasOwner a.owners) a.levels outer c.deepest-owner.result c.deepest-owner.ensures.1 (have_owners a _ _ c.args.commons.now (stands_in _ _ _ _ c.store.view_is _ _ c.args.commons.now c.requires.stands)) in
-    owner_live a.tree a.owners c.deepest-owner.result lies.1 has.1
+    owner_live a.tree a.owners c.deepest-owner.result lies.1 (level_owner_has c.requires.ending.0 a c.args.space.now c.args.shelf.now c.args.commons.now e outer c.deepest-owner.result c.deepest-owner.ensures.1)
 
 pub release_owner-requires-clause-top : goal.release_owner-requires-clause-top
 release_owner-requires-clause-top g c =
-    let a : StoreState = record { tree = c.store.inside.tree; owners = c.store.inside.owners; levels = c.store.inside.levels } in
-    owner_top a c.args.space.now c.args.shelf.now c.args.commons.now c.deepest-owner.ensures.0 c.deepest-owner.result c.deepest-owner.ensures.1 (stands_in _ _ _ _ c.store.view_is _ _ c.args.commons.now c.requires.stands)
+    let a : StoreState = record { tree = c.store.inside.tree; owners = c.store.inside.owners; levels = c.store.inside.levels; portals = c.store.inside.portals } in
+    let e = subst (λ (v : StoreState). IsEnding c.requires.ending.0 v c.args.space.now c.args.shelf.now c.args.commons.now []) (sym c.store.view_is) c.requires.ending.1 in
+    level_owner_top c.requires.ending.0 a c.args.space.now c.args.shelf.now c.args.commons.now e c.deepest-owner.ensures.0 c.deepest-owner.result c.deepest-owner.ensures.1
     (c.depth-top.result == 1) (ap (λ (n : ℕ). n == 1) c.depth-top.ensures.depth)
 
 pub release_owner-requires-clause-serves : goal.release_owner-requires-clause-serves
@@ -44,29 +46,32 @@ release_owner-requires-clause-serves g c = subst (λ (v : StoreState). Serves v.
 
 pub release_owner-requires-clause-fit : goal.release_owner-requires-clause-fit
 release_owner-requires-clause-fit g c =
-    let a : StoreState = record { tree = c.store.inside.tree; owners = c.store.inside.owners; levels = c.store.inside.levels } in
-    plans_fit a c.args.space.now c.args.shelf.now c.args.commons.now (keeps_in _ _ _ _ c.store.view_is _ c.requires.keeps) (stands_in _ _ _ _ c.store.view_is _ _ c.args.commons.now c.requires.stands) c.store.invariant
+    let a : StoreState = record { tree = c.store.inside.tree; owners = c.store.inside.owners; levels = c.store.inside.levels; portals = c.store.inside.portals } in
+    let e = subst (λ (v : StoreState). IsEnding c.requires.ending.0 v c.args.space.now c.args.shelf.now c.args.commons.now []) (sym c.store.view_is) c.requires.ending.1 in
+    plans_can a c.args.space.now c.args.shelf.now (keeps_in _ _ _ _ _ c.store.view_is _ c.requires.keeps) (may_ended c.requires.ending.0 a c.args.space.now c.args.shelf.now c.args.commons.now e) c.store.invariant
 
 pub invariant_of-store : goal.invariant_of-store
 invariant_of-store g c =
-    let a : StoreState = record { tree = c.store.inside.tree; owners = c.store.inside.owners; levels = c.store.inside.levels } in
+    let a : StoreState = record { tree = c.store.inside.tree; owners = c.store.inside.owners; levels = c.store.inside.levels; portals = c.store.inside.portals } in
+    let b : StoreState = record { tree = c.release_owner.new.place.tree.now; owners = c.release_owner.new.resources; levels = a.levels; portals = a.portals } in
     let r = c.release_owner.ensures in
-    let keeps = keeps_in _ _ _ _ c.store.view_is c.args.space.now c.requires.keeps in
-    placed_gone a.tree c.release_owner.new.place.tree.now c.args.space.now c.release_owner.new.place.space.now c.release_owner.new.resources a.levels (r.went keeps.agrees)
-    (placed_owners a.tree a.owners c.release_owner.new.resources a.levels c.store.invariant (go_by a.owners c.release_owner.new.resources r.stays r.places r.left))
+    let keeps = keeps_in _ _ _ _ _ c.store.view_is c.args.space.now c.requires.keeps in
+    placed_out a b c.args.space.now c.release_owner.new.place.space.now
+    (out_owners a b.tree b.owners c.args.space.now c.release_owner.new.place.space.now keeps (r.went keeps.agrees) (go_by a.owners c.release_owner.new.resources r.stays r.places r.left) r.next_owner r.next_serial)
+    a.portals r.left c.store.invariant
 
 pub returns-clause-acted : goal.returns-clause-acted
 unfolding session_of
 returns-clause-acted g c =
-    let a : StoreState = record { tree = c.store.inside.tree; owners = c.store.inside.owners; levels = c.store.inside.levels } in
+    let a : StoreState = record { tree = c.store.inside.tree; owners = c.store.inside.owners; levels = c.store.inside.levels; portals = c.store.inside.portals } in
     let r = c.release_owner.ensures in
-    let keeps = keeps_in _ _ _ _ c.store.view_is c.args.space.now c.requires.keeps in
+    let keeps = keeps_in _ _ _ _ _ c.store.view_is c.args.space.now c.requires.keeps in
     let level : Level = c.deepest-owner.result in
-    let b : StoreState = record { tree = c.release_owner.new.place.tree.now; owners = c.release_owner.new.resources; levels = a.levels } in
+    let b : StoreState = record { tree = c.release_owner.new.place.tree.now; owners = c.release_owner.new.resources; levels = a.levels; portals = a.portals } in
     let is : owner_of (first_of (levels_of a.levels)) ≡ number_in level.owner = ap (λ (ls : List LevelState). owner_of (first_of ls)) (ap levels_of c.deepest-owner.ensures.1 ∙ levels_are c.deepest-owner.ensures.0 level) in
     let top : (c.depth-top.result == 1) ≡ (length a.levels == 1) = ap (λ (n : ℕ). n == 1) c.depth-top.ensures.depth in
-    subst (λ (t : Space). Acted (level_released c.args.commit (length c.args.store.now.levels == 1)) c.args.store.now (record { tree = c.release_owner.new.place.tree.now; owners = c.release_owner.new.resources; levels = c.store.inside.levels }) c.args.space.now t c.args.shelf.now c.shelf-1.given.0 c.args.commons.now c.release_owner.new.commons (λ events. g.E.Emit.emits c.args.out.now events c.release_owner.new.out)) (sym (c.space-1.given.1 (sym c.release_owner.ensures.space)))
-    (subst (λ (y : ShelfState). Acted (level_released c.args.commit (length c.args.store.now.levels == 1)) c.args.store.now (record { tree = c.release_owner.new.place.tree.now; owners = c.release_owner.new.resources; levels = c.store.inside.levels }) c.args.space.now c.release_owner.new.place.space.now c.args.shelf.now y c.args.commons.now c.release_owner.new.commons (λ events. g.E.Emit.emits c.args.out.now events c.release_owner.new.out)) (sym (c.shelf-1.given.1 (sym c.release_owner.ensures.shelf)))
+    subst (λ (t : Space). Acted (level_released c.args.commit (length c.args.store.now.levels == 1)) c.args.store.now (record { tree = c.release_owner.new.place.tree.now; owners = c.release_owner.new.resources; levels = c.store.inside.levels; portals = c.store.inside.portals }) c.args.space.now t c.args.shelf.now c.shelf-1.given.0 c.args.commons.now c.release_owner.new.commons (λ events. g.E.Emit.emits c.args.out.now events c.release_owner.new.out)) (sym (c.space-1.given.1 (sym c.release_owner.ensures.space)))
+    (subst (λ (y : ShelfState). Acted (level_released c.args.commit (length c.args.store.now.levels == 1)) c.args.store.now (record { tree = c.release_owner.new.place.tree.now; owners = c.release_owner.new.resources; levels = c.store.inside.levels; portals = c.store.inside.portals }) c.args.space.now c.release_owner.new.place.space.now c.args.shelf.now y c.args.commons.now c.release_owner.new.commons (λ events. g.E.Emit.emits c.args.out.now events c.release_owner.new.out)) (sym (c.shelf-1.given.1 (sym c.release_owner.ensures.shelf)))
     (subst (λ (v : StoreState). Acted (level_released c.args.commit (length v.levels == 1)) v b c.args.space.now c.release_owner.new.place.space.now c.args.shelf.now c.release_owner.new.place.shelf.now c.args.commons.now c.release_owner.new.commons (λ events. g.E.Emit.emits c.args.out.now events c.release_owner.new.out)) c.store.view_is
     (acted_as (λ scene. where_there (number_in level.owner) (owner_released c.args.commit (c.depth-top.result == 1)) scene) (level_released c.args.commit (length a.levels == 1)) a b c.args.space.now c.release_owner.new.place.space.now c.args.shelf.now c.release_owner.new.place.shelf.now c.args.commons.now c.release_owner.new.commons (λ events. g.E.Emit.emits c.args.out.now events c.release_owner.new.out)
     (λ around.
@@ -77,33 +82,34 @@ returns-clause-acted g c =
 
 pub returns-clause-alone : goal.returns-clause-alone
 returns-clause-alone g c =
-    let a : StoreState = record { tree = c.store.inside.tree; owners = c.store.inside.owners; levels = c.store.inside.levels } in
+    let a : StoreState = record { tree = c.store.inside.tree; owners = c.store.inside.owners; levels = c.store.inside.levels; portals = c.store.inside.portals } in
     let r = c.release_owner.ensures in
-    let keeps = keeps_in _ _ _ _ c.store.view_is c.args.space.now c.requires.keeps in
-    subst (λ (t : Space). BothAlone c.args.store.now (record { tree = c.release_owner.new.place.tree.now; owners = c.release_owner.new.resources; levels = c.store.inside.levels }) c.args.space.now t c.args.commons.now c.release_owner.new.commons) (sym (c.space-1.given.1 (sym c.release_owner.ensures.space)))
-    (subst (λ (v : StoreState). BothAlone v (record { tree = c.release_owner.new.place.tree.now; owners = c.release_owner.new.resources; levels = a.levels }) c.args.space.now c.release_owner.new.place.space.now c.args.commons.now c.release_owner.new.commons) c.store.view_is
+    let keeps = keeps_in _ _ _ _ _ c.store.view_is c.args.space.now c.requires.keeps in
+    subst (λ (t : Space). BothAlone c.args.store.now (record { tree = c.release_owner.new.place.tree.now; owners = c.release_owner.new.resources; levels = c.store.inside.levels; portals = c.store.inside.portals }) c.args.space.now t c.args.commons.now c.release_owner.new.commons) (sym (c.space-1.given.1 (sym c.release_owner.ensures.space)))
+    (subst (λ (v : StoreState). BothAlone v (record { tree = c.release_owner.new.place.tree.now; owners = c.release_owner.new.resources; levels = a.levels; portals = a.portals }) c.args.space.now c.release_owner.new.place.space.now c.args.commons.now c.release_owner.new.commons) c.store.view_is
     (both_alone a c.release_owner.new.place.tree.now c.release_owner.new.resources c.args.space.now c.release_owner.new.place.space.now c.args.commons.now c.release_owner.new.commons keeps
     (goes_of a.tree c.release_owner.new.place.tree.now c.args.space.now c.release_owner.new.place.space.now (r.went keeps.agrees))
     (λ n there. ap (λ (f : Forest ℕ). at n f) r.places) r.balances))
 
 pub returns-clause-asked : goal.returns-clause-asked
 returns-clause-asked g c =
-    let keeps = keeps_in _ _ _ _ c.store.view_is c.args.space.now c.requires.keeps in
+    let keeps = keeps_in _ _ _ _ _ c.store.view_is c.args.space.now c.requires.keeps in
     subst (λ (t : Space). Asks c.args.store.now.tree.account 0 c.args.space.now t) (sym (c.space-1.given.1 (sym c.release_owner.ensures.space)))
     (subst (λ (v : StoreState). Asks v.tree.account 0 c.args.space.now c.release_owner.new.place.space.now) c.store.view_is (c.release_owner.ensures.went keeps.agrees).asked)
 
 pub returns-clause-current : goal.returns-clause-current
 returns-clause-current g c =
-    let keeps = keeps_in _ _ _ _ c.store.view_is c.args.space.now c.requires.keeps in
+    let keeps = keeps_in _ _ _ _ _ c.store.view_is c.args.space.now c.requires.keeps in
     (c.release_owner.ensures.went keeps.agrees).current ∙ ap (λ (v : StoreState). v.tree.current) c.store.view_is
 
-pub returns-clause-freed : goal.returns-clause-freed
-returns-clause-freed g c =
-    let a : StoreState = record { tree = c.store.inside.tree; owners = c.store.inside.owners; levels = c.store.inside.levels } in
+pub returns-clause-free : goal.returns-clause-free
+returns-clause-free g c =
+    let a : StoreState = record { tree = c.store.inside.tree; owners = c.store.inside.owners; levels = c.store.inside.levels; portals = c.store.inside.portals } in
     let r = c.release_owner.ensures in
-    let keeps = keeps_in _ _ _ _ c.store.view_is c.args.space.now c.requires.keeps in
-    subst (λ (t : Space). IsFreed (record { tree = c.release_owner.new.place.tree.now; owners = c.release_owner.new.resources; levels = c.store.inside.levels }) t c.shelf-1.given.0) (sym (c.space-1.given.1 (sym c.release_owner.ensures.space)))
-    (subst (λ (y : ShelfState). IsFreed (record { tree = c.release_owner.new.place.tree.now; owners = c.release_owner.new.resources; levels = c.store.inside.levels }) c.release_owner.new.place.space.now y) (sym (c.shelf-1.given.1 (sym c.release_owner.ensures.shelf)))
-    (is_freed a c.args.space.now c.args.shelf.now c.args.commons.now c.deepest-owner.ensures.0 c.deepest-owner.result c.deepest-owner.ensures.1 (stands_in _ _ _ _ c.store.view_is _ _ c.args.commons.now c.requires.stands)
+    let keeps = keeps_in _ _ _ _ _ c.store.view_is c.args.space.now c.requires.keeps in
+    let e = subst (λ (v : StoreState). IsEnding c.requires.ending.0 v c.args.space.now c.args.shelf.now c.args.commons.now []) (sym c.store.view_is) c.requires.ending.1 in
+    subst (λ (t : Space). MayLeave (record { tree = c.release_owner.new.place.tree.now; owners = c.release_owner.new.resources; levels = c.store.inside.levels; portals = c.store.inside.portals }) t c.shelf-1.given.0) (sym (c.space-1.given.1 (sym c.release_owner.ensures.space)))
+    (subst (λ (y : ShelfState). MayLeave (record { tree = c.release_owner.new.place.tree.now; owners = c.release_owner.new.resources; levels = c.store.inside.levels; portals = c.store.inside.portals }) c.release_owner.new.place.space.now y) (sym (c.shelf-1.given.1 (sym c.release_owner.ensures.shelf)))
+    (leaves c.requires.ending.0 a c.args.space.now c.args.shelf.now c.args.commons.now e c.deepest-owner.ensures.0 c.deepest-owner.result c.deepest-owner.ensures.1
     c.args.commit (c.depth-top.result == 1) c.release_owner.new.place.tree.now c.release_owner.new.resources c.release_owner.new.place.space.now c.release_owner.new.place.shelf.now c.release_owner.new.commons (λ events. g.E.Emit.emits c.args.out.now events c.release_owner.new.out)
     r.acted (r.went keeps.agrees) r.nothing_left))

@@ -4,39 +4,75 @@ use Rattle.std.specs.Prelude.{◌==◌}
 use Rattle.std.proofs.lemmas.Bool.{ne_eqb}
 use Rattle.session_owners.specs.Commons.{CommonState}
 use Rattle.session_rules.specs.Ends.{stack_lowered}
-use Rattle.session_store.specs.State.{StoreState}
+use Rattle.session_store.specs.State.{StoreState, levels_of}
+use Rattle.session_owners.proofs.Balances.{serves_still}
+use Rattle.session_store.proofs.Depths.{levels_long}
+use Rattle.session_ends.specs.Portals.{left_by}
+use Rattle.session_ends.specs.declared.portals.LevelEnd.TheVariants.{Merges}
+use Rattle.session_ends.proofs.Freed.{begins_in}
+use Rattle.session_ends.proofs.Sweeping.{merges_so}
 use Rattle.session_store.specs.Calls.{Keeps}
 use Rattle.session_store.proofs.Owned.{go_stack, keeps_owners, owners_after, placed_owners}
-use Rattle.session_ends.specs.Parts.{IsFreed}
+use Rattle.session_ends.specs.Parts.{MayLeave}
 use Rattle.session_ends.proofs.Acting.{acted_quiet}
 use Rattle.session_ends.proofs.Ended.{merge_parts, released_as}
 use Rattle.session_ends.proofs.Ending.{asked_then, moves_then}
-use Rattle.session_ends.proofs.Marked.{stacked_freed}
+use Rattle.session_ends.proofs.Marked.{stacked_leaves}
 use Rattle.session_ends.proofs.ends.subcommit.Goals as goal
 
+pub owner_above-above-requires-clause-stands : goal.owner_above-above-requires-clause-stands
+owner_above-above-requires-clause-stands g c = (c.args.space.now, (c.args.shelf.now, (c.args.commons.now, c.requires.stands)))
+
+pub settle_portals-requires-clause-level : goal.settle_portals-requires-clause-level
+settle_portals-requires-clause-level g c = sym c.depth-number.ensures.depth
+
+pub settle_portals-requires-clause-so : goal.settle_portals-requires-clause-so
+settle_portals-requires-clause-so g c =
+    let e = begins_in (left_by (Merges c.owner_above-above.result)) c.args.store.now c.args.space.now c.args.shelf.now c.args.commons.now c.requires.stands (let more = c.requires.level in omega (arith, more)) in
+    let more = c.requires.level in
+    merges_so c.owner_above-above.result (levels_of c.args.store.now.levels) e.level e.above e.are (omega (arith, more, levels_long c.args.store.now.levels)) c.owner_above-above.ensures.number
+
+pub settle_portals-requires-clause-to : goal.settle_portals-requires-clause-to
+settle_portals-requires-clause-to g c = c.owner_above-above.ensures.live
+
+pub settle_portals-requires-clause-ending : goal.settle_portals-requires-clause-ending
+settle_portals-requires-clause-ending g c = (c.args.commons.now, begins_in (left_by (Merges c.owner_above-above.result)) c.args.store.now c.args.space.now c.args.shelf.now c.args.commons.now c.requires.stands (let more = c.requires.level in omega (arith, more)))
+
+pub release_level-requires-clause-keeps : goal.release_level-requires-clause-keeps
+release_level-requires-clause-keeps g c = c.settle_portals.ensures.out.keeps
+
+pub release_level-requires-clause-ending : goal.release_level-requires-clause-ending
+release_level-requires-clause-ending g c = (left_by (Merges c.owner_above-above.result), c.settle_portals.ensures.ending c.args.commons.now (begins_in (left_by (Merges c.owner_above-above.result)) c.args.store.now c.args.space.now c.args.shelf.now c.args.commons.now c.requires.stands (let more = c.requires.level in omega (arith, more))))
+
+pub release_level-requires-clause-serves : goal.release_level-requires-clause-serves
+release_level-requires-clause-serves g c =
+    serves_still c.args.store.now.owners c.settle_portals.new.store.owners c.args.commons.now c.args.commons.now c.requires.serves (c.settle_portals.ensures.acted c.args.commons.now).balances
+
 pub release_level-requires-clause-level : goal.release_level-requires-clause-level
-release_level-requires-clause-level g c = let more = c.requires.level in omega (arith, more)
+release_level-requires-clause-level g c =
+    let more = c.requires.level in
+    omega (arith, more, ap length c.settle_portals.ensures.out.levels)
 
 pub invariant_of-store : goal.invariant_of-store
-invariant_of-store g c = placed_owners _ _ _ _ c.store.invariant (go_stack _ _ c.lower_stack.ensures.stack_alone)
+invariant_of-store g c = placed_owners _ _ _ _ _ c.store.invariant (go_stack _ _ c.lower_stack.ensures.stack_alone)
 
 pub lower_stack-requires : goal.lower_stack-requires
 lower_stack-requires g c = let more = c.requires.level in let n = c.depth-number.ensures.depth in omega (arith, more, n)
 
 pub leave_level-requires-clause-keeps : goal.leave_level-requires-clause-keeps
 leave_level-requires-clause-keeps g c =
-    let b : StoreState = record { tree = c.store.inside.tree; owners = c.store.inside.owners; levels = c.store.inside.levels } in
+    let b : StoreState = record { tree = c.store.inside.tree; owners = c.store.inside.owners; levels = c.store.inside.levels; portals = c.store.inside.portals } in
     keeps_owners b c.lower_stack.new.self c.release_level.new.space (subst (λ (v : StoreState). Keeps v c.release_level.new.space) (sym c.store.view_is) c.release_level.ensures.alone.keeps)
 
-pub leave_level-requires-clause-freed : goal.leave_level-requires-clause-freed
-leave_level-requires-clause-freed g c =
-    let b : StoreState = record { tree = c.store.inside.tree; owners = c.store.inside.owners; levels = c.store.inside.levels } in
-    stacked_freed b c.lower_stack.new.self c.release_level.new.space c.release_level.new.shelf c.lower_stack.ensures.stack_alone
-    (subst (λ (v : StoreState). IsFreed v c.release_level.new.space c.release_level.new.shelf) (sym c.store.view_is) c.release_level.ensures.freed)
+pub leave_level-requires-clause-free : goal.leave_level-requires-clause-free
+leave_level-requires-clause-free g c =
+    let b : StoreState = record { tree = c.store.inside.tree; owners = c.store.inside.owners; levels = c.store.inside.levels; portals = c.store.inside.portals } in
+    stacked_leaves b c.lower_stack.new.self c.release_level.new.space c.release_level.new.shelf c.lower_stack.ensures.stack_alone
+    (subst (λ (v : StoreState). MayLeave v c.release_level.new.space c.release_level.new.shelf) (sym c.store.view_is) c.release_level.ensures.free)
 
 pub leave_level-requires-clause-level : goal.leave_level-requires-clause-level
 leave_level-requires-clause-level g c =
-    let same : length c.store.inside.levels ≡ length c.args.store.now.levels = ap length (ap (λ (v : StoreState). v.levels) c.store.view_is ∙ c.release_level.ensures.alone.levels) in
+    let same : length c.store.inside.levels ≡ length c.args.store.now.levels = ap length (ap (λ (v : StoreState). v.levels) c.store.view_is ∙ c.release_level.ensures.alone.levels ∙ c.settle_portals.ensures.out.levels) in
     let more = c.requires.level in
     omega (arith, same, more)
 
@@ -44,7 +80,7 @@ pub returns-clause-acted : goal.returns-clause-acted
 returns-clause-acted g c =
     let a : StoreState = c.args.store.now in
     let b : StoreState = c.release_level.new.store in
-    let d : StoreState = record { tree = c.store.inside.tree; owners = c.lower_stack.new.self; levels = c.store.inside.levels } in
+    let d : StoreState = record { tree = c.store.inside.tree; owners = c.lower_stack.new.self; levels = c.store.inside.levels; portals = c.store.inside.portals } in
     let e : StoreState = c.leave_level.new.store in
     let s = c.args.space.now in
     let t = c.release_level.new.space in
@@ -55,23 +91,29 @@ returns-clause-acted g c =
     let m : CommonState = c.args.commons.now in
     let k : CommonState = c.release_level.new.commons in
     let more : 1 < length a.levels = c.requires.level in
+    let a1 : StoreState = c.settle_portals.new.store in
+    let r = c.settle_portals.new.space in
+    let w = c.settle_portals.new.shelf in
+    let off = ap length c.settle_portals.ensures.out.levels in
     merge_parts _ (λ o events p. g.E.Emit.emits o events p) g.met.E.Emit.emits_none (λ o p q xs ys h k. g.met.E.Emit.emits_more _ _ _ _ _ _ h k refl)
-    a b d e s t u x y z m k c.depth-number.result c.args.out.now c.emit.new.self c.release_level.new.out c.leave_level.new.out c.depth-number.ensures.depth
-    c.emit.ensures.emitted
-    (released_as a b s t x y m k (λ events. g.E.Emit.emits c.emit.new.self events c.release_level.new.out) true (length a.levels == 1) false (ne_eqb (length a.levels) 1 (λ e. omega (arith, e, more))) c.release_level.ensures.acted)
+    a a1 b d e s r t u x w y z m k c.owner_above-above.result c.depth-number.result c.args.out.now c.emit.new.self c.settle_portals.new.out c.release_level.new.out c.leave_level.new.out c.depth-number.ensures.depth
+    c.owner_above-above.ensures.number c.emit.ensures.emitted (c.settle_portals.ensures.acted m)
+    (released_as a1 b r t w y m k (λ events. g.E.Emit.emits c.settle_portals.new.out events c.release_level.new.out) true (length a1.levels == 1) false (ne_eqb (length a1.levels) 1 (λ e. omega (arith, e, more, off))) c.release_level.ensures.acted)
     (acted_quiet _ (λ o events p. g.E.Emit.emits o events p) g.met.E.Emit.emits_none (λ o p q xs ys h k. g.met.E.Emit.emits_more _ _ _ _ _ _ h k refl) (stack_lowered c.depth-number.result) b d t t y y k k c.release_level.new.out
-    (owners_after c.store.inside.tree c.store.inside.owners c.store.inside.levels b c.store.view_is (stack_lowered c.depth-number.result) c.lower_stack.new.self t y k k (λ events. events ≡ []) (c.lower_stack.ensures.acted k) (c.lower_stack.ensures.balances k)))
+    (owners_after c.store.inside.tree c.store.inside.owners c.store.inside.levels c.store.inside.portals b c.store.view_is (stack_lowered c.depth-number.result) c.lower_stack.new.self t y k k (λ events. events ≡ []) (c.lower_stack.ensures.acted k) (c.lower_stack.ensures.balances k)))
     (c.leave_level.ensures.acted k)
 
 pub returns-clause-moves : goal.returns-clause-moves
 returns-clause-moves g c =
-    moves_then c.args.store.now.tree c.release_level.new.store.tree c.store.inside.tree c.leave_level.new.store.tree c.args.space.now c.release_level.new.space c.leave_level.new.space c.release_level.ensures.alone.moves (ap (λ (v : StoreState). v.tree) c.store.view_is) c.leave_level.ensures.moves
+    moves_then c.args.store.now.tree c.settle_portals.new.store.tree c.settle_portals.new.store.tree c.leave_level.new.store.tree c.args.space.now c.settle_portals.new.space c.leave_level.new.space c.settle_portals.ensures.out.moves refl
+    (moves_then c.settle_portals.new.store.tree c.release_level.new.store.tree c.store.inside.tree c.leave_level.new.store.tree c.settle_portals.new.space c.release_level.new.space c.leave_level.new.space c.release_level.ensures.alone.moves (ap (λ (v : StoreState). v.tree) c.store.view_is) c.leave_level.ensures.moves)
 
 pub returns-clause-asked : goal.returns-clause-asked
 returns-clause-asked g c =
-    asked_then c.args.store.now.tree c.release_level.new.store.tree c.store.inside.tree c.args.space.now c.release_level.new.space c.leave_level.new.space c.release_level.ensures.asked c.release_level.ensures.alone.moves.account (ap (λ (v : StoreState). v.tree) c.store.view_is) c.leave_level.ensures.asked
+    asked_then c.args.store.now.tree c.settle_portals.new.store.tree c.settle_portals.new.store.tree c.args.space.now c.settle_portals.new.space c.leave_level.new.space c.settle_portals.ensures.out.asked c.settle_portals.ensures.out.moves.account refl
+    (asked_then c.settle_portals.new.store.tree c.release_level.new.store.tree c.store.inside.tree c.settle_portals.new.space c.release_level.new.space c.leave_level.new.space c.release_level.ensures.asked c.release_level.ensures.alone.moves.account (ap (λ (v : StoreState). v.tree) c.store.view_is) c.leave_level.ensures.asked)
 
 pub returns-clause-levels : goal.returns-clause-levels
 returns-clause-levels g c =
-    let same : c.store.inside.levels ≡ c.args.store.now.levels = ap (λ (v : StoreState). v.levels) c.store.view_is ∙ c.release_level.ensures.alone.levels in
+    let same : c.store.inside.levels ≡ c.args.store.now.levels = ap (λ (v : StoreState). v.levels) c.store.view_is ∙ c.release_level.ensures.alone.levels ∙ c.settle_portals.ensures.out.levels in
     (c.leave_level.ensures.levels.0, sym same ∙ c.leave_level.ensures.levels.1)

@@ -1,9 +1,12 @@
 -- The owner goes, whatever the commons are.
-use Rattle.std.proofs.Common.{Option, sym, subst}
+use Rattle.std.proofs.Common.{Option, sym, ap, ◌∙◌, subst}
 use Rattle.std.specs.Option.{option_map}
+use Rattle.forest.specs.Forest.{has}
+use Rattle.forest.proofs.Trees.{has_of_removed}
 use Rattle.pgs_step.specs.declared.ids.OwnerId.{OwnerId}
 use Rattle.session_rules.specs.Acts.{where_there}
 use Rattle.session_rules.specs.Releases.{owner_gone}
+use Rattle.session_owners.specs.ResourceState.{owners_of}
 use Rattle.session_owners.specs.Fitting as fitting
 use Rattle.session_owners.proofs.Acts.{acted_nothing}
 use Rattle.session_ends.proofs.parts.discard_owner.Goals as goal
@@ -17,3 +20,6 @@ pub returns-in-None-clause-acted : goal.returns-in-None-clause-acted
 returns-in-None-clause-acted g c commons =
     subst (λ (o : Option OwnerId). fitting.Acted (λ scene. where_there (option_map (λ (id : OwnerId). id.number) o) owner_gone scene) c.args.resources.now c.args.resources.now commons commons (λ events. g.E.Emit.emits c.args.out.now events c.args.out.now))
     (sym c.in-None.is) (acted_nothing c.args.resources.now commons (λ events. g.E.Emit.emits c.args.out.now events c.args.out.now) (g.met.E.Emit.emits_none c.args.out.now))
+
+pub returns-in-Some-clause-had : goal.returns-in-Some-clause-had
+returns-in-Some-clause-had g c n there = has_of_removed n c.in-Some.owner.number (owners_of c.args.resources.now) (ap (has n) (sym c.discard.ensures.owners) ∙ there)

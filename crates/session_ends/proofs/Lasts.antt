@@ -1,0 +1,162 @@
+-- The portals of a store in their order: those that are done stand in front of those that are left.
+use Rattle.std.proofs.Common.{◌≡◌, ◌≢◌, ℕ, ◌+◌, ◌-◌, ◌<◌, Bool, true, false, Option, Some, None, List, [], ◌∷◌, ◌++◌, length, All, IfSome, refl, sym, ap, ◌∙◌, subst, arith, inl, inr, suc, zero}
+use Rattle.std.specs.Prelude.{find, ◌==◌, if◌then◌else◌, slice_get, slice_set}
+use Rattle.std.proofs.lemmas.Bool.{cases_Bool}
+use Rattle.std.proofs.lemmas.List.Elements.{All-head, All-tail, All-nil, All-cons}
+use lib.Pointwise.{bytes_decides, pointwise}
+use Rattle.portal_store.specs.declared.portal.Portal.{Portal}
+use Rattle.portal_store.specs.Portals.{changed, has_name, portal_named, without}
+use Rattle.session_rules.specs.State.{OpenPortal}
+use Rattle.session_rules.specs.Standing.{AreDifferent, AreOther}
+use Rattle.session_store.specs.State.{portal_state, portals_of}
+use Rattle.session_store.specs.Placed.{OwnerLies, PortalLies}
+use Rattle.session_store.proofs.Lists.{all_at}
+use Rattle.portal_store.specs.declared.portal.PortalState.{PortalState}
+use Rattle.portal_store.specs.declared.portal.PortalState.TheVariants.{New, Ready, Failed}
+use Rattle.portal_store.specs.Portal.{is_outer, kept_owner, sub_aborted}
+use Rattle.context_tree.specs.State.{TreeState}
+use Rattle.session_owners.specs.ResourceState.{ResourceState}
+
+-- what holds of all holds of the one that is found
+pub found_all : {A : Type 0} (P : A → Type 0) (test : A → Bool) (xs : List A) → All P xs → IfSome (find test xs) P
+found_all P test [] h = tt
+found_all P test (x ∷ xs) h = go (test x) (found_all P test xs (All-tail P x xs h))
+  where
+    go : (b : Bool) → IfSome (find test xs) P → IfSome (if b then Some x else find test xs) P
+    go true rest = All-head P x xs h
+    go false rest = rest
+
+-- The portals of a store, of which the first of those that are left is this one.
+pub record IsSplit (ps : List Portal) (front : List OpenPortal) (p : OpenPortal) (back : List OpenPortal) : Type 0 where
+  pub before : List Portal
+  pub this : Portal
+  pub behind : List Portal
+  pub is : ps ≡ before ++ (this ∷ behind)
+  pub before_is : portals_of before ≡ front
+  pub this_is : portal_state this ≡ p
+  pub behind_is : portals_of behind ≡ back
+
+split_head : {A : Type 0} (x y : A) (xs ys : List A) → x ∷ xs ≡ y ∷ ys → (x ≡ y) × (xs ≡ ys)
+split_head x y xs ys e = (cc e, cc e)
+
+pub splits : (ps : List Portal) (front : List OpenPortal) (p : OpenPortal) (back : List OpenPortal) → portals_of ps ≡ front ++ (p ∷ back) → IsSplit ps front p back
+splits [] [] p back e = absurd (cc e)
+splits [] (f ∷ fs) p back e = absurd (cc e)
+splits (q ∷ qs) [] p back e =
+    let h = split_head (portal_state q) p (portals_of qs) back e in
+    record { before = []; this = q; behind = qs; is = refl; before_is = refl; this_is = h.0; behind_is = h.1 }
+splits (q ∷ qs) (f ∷ fs) p back e =
+    let h = split_head (portal_state q) f (portals_of qs) (fs ++ (p ∷ back)) e in
+    let r : IsSplit qs fs p back = splits qs fs p back h.1 in
+    record {
+      before = q ∷ r.before;
+      this = r.this;
+      behind = r.behind;
+      is = ap (λ (xs : List Portal). q ∷ xs) r.is;
+      before_is = ap (λ (xs : List OpenPortal). portal_state q ∷ xs) r.before_is ∙ ap (λ (x : OpenPortal). x ∷ fs) h.0;
+      this_is = r.this_is;
+      behind_is = r.behind_is;
+    }
+
+-- by its place
+pub get_split : {A : Type 0} (before behind : List A) (x : A) → slice_get (before ++ (x ∷ behind)) (length before) ≡ Some x
+get_split [] behind x = refl
+get_split (y ∷ ys) behind x = get_split ys behind x
+
+pub set_split : {A : Type 0} (before behind : List A) (x y : A) → slice_set (before ++ (x ∷ behind)) (length before) y ≡ before ++ (y ∷ behind)
+set_split [] behind x y = refl
+set_split (z ∷ zs) behind x y = ap (λ (xs : List _). z ∷ xs) (set_split zs behind x y)
+
+pub length_split : {A : Type 0} (before behind : List A) (x : A) → length (before ++ (x ∷ behind)) ≡ length before + (length behind + 1)
+length_split [] behind x = omega arith
+length_split (y ∷ ys) behind x = omega (arith, length_split ys behind x)
+
+-- by its name
+is_named : (a b : List ℕ) → a ≡ b → pointwise ◌==◌ a b ≡ true
+is_named a b e = (bytes_decides a b).1 e
+
+names_differ : (q p : Portal) → p.name ≢ q.name → has_name p.name q ≡ false
+names_differ q p ne = elim (cases_Bool (has_name p.name q)) [ inl y ↦ absurd (ne (sym ((bytes_decides q.name p.name).0 y))) | inr y ↦ y ]
+
+-- the portals in front have other names
+abbrev pub HaveOthers : Portal → List Portal → Type 0
+HaveOthers p qs = All (λ (q : Portal). p.name ≢ q.name) qs
+
+pub others_in : (p : Portal) (before behind : List Portal) → AreDifferent (portals_of before ++ (portal_state p ∷ portals_of behind)) → HaveOthers p before
+others_in p [] behind d = All-nil (λ (q : Portal). p.name ≢ q.name)
+others_in p (q ∷ qs) behind d =
+    All-cons (λ (r : Portal). p.name ≢ r.name) q qs (first (portals_of qs) d.0) (others_in p qs behind d.1)
+  where
+    first : (xs : List OpenPortal) → All (AreOther (portal_state q)) (xs ++ (portal_state p ∷ portals_of behind)) → p.name ≢ q.name
+    first [] a = let o = All-head (AreOther (portal_state q)) (portal_state p) (portals_of behind) a in o.name
+    first (x ∷ xs) a = first xs (All-tail (AreOther (portal_state q)) x (xs ++ (portal_state p ∷ portals_of behind)) a)
+
+pub named_split : (p : Portal) (before behind : List Portal) → HaveOthers p before → portal_named p.name (before ++ (p ∷ behind)) ≡ Some p
+named_split p [] behind o = rw (is_named p.name p.name refl) refl
+named_split p (q ∷ qs) behind o =
+    rw (names_differ q p (All-head (λ (r : Portal). p.name ≢ r.name) q qs o)) (named_split p qs behind (All-tail (λ (r : Portal). p.name ≢ r.name) q qs o))
+
+pub changed_split : (p : Portal) (f : Portal → Portal) (before behind : List Portal) → HaveOthers p before → changed p.name f (before ++ (p ∷ behind)) ≡ before ++ (f p ∷ behind)
+changed_split p f [] behind o = rw (is_named p.name p.name refl) refl
+changed_split p f (q ∷ qs) behind o =
+    rw (names_differ q p (All-head (λ (r : Portal). p.name ≢ r.name) q qs o))
+    (ap (λ (xs : List Portal). q ∷ xs) (changed_split p f qs behind (All-tail (λ (r : Portal). p.name ≢ r.name) q qs o)))
+
+pub without_split : (p : Portal) (before behind : List Portal) → HaveOthers p before → without p.name (before ++ (p ∷ behind)) ≡ before ++ behind
+without_split p [] behind o = rw (is_named p.name p.name refl) refl
+without_split p (q ∷ qs) behind o =
+    rw (names_differ q p (All-head (λ (r : Portal). p.name ≢ r.name) q qs o))
+    (ap (λ (xs : List Portal). q ∷ xs) (without_split p qs behind (All-tail (λ (r : Portal). p.name ≢ r.name) q qs o)))
+
+-- what holds of all holds where one changes, or goes
+pub all_changed : (P : Portal → Type 0) (name : List ℕ) (f : Portal → Portal) (ps : List Portal) → ((p : Portal) → P p → P (f p)) → All P ps → All P (changed name f ps)
+all_changed P name f [] so h = All-nil P
+all_changed P name f (p ∷ ps) so h = go (has_name name p) (all_changed P name f ps so (All-tail P p ps h))
+  where
+    go : (b : Bool) → All P (changed name f ps) → All P (if b then f p ∷ ps else p ∷ changed name f ps)
+    go true rest = All-cons P (f p) ps (so p (All-head P p ps h)) (All-tail P p ps h)
+    go false rest = All-cons P p (changed name f ps) (All-head P p ps h) rest
+
+pub all_without : (P : Portal → Type 0) (name : List ℕ) (ps : List Portal) → All P ps → All P (without name ps)
+all_without P name [] h = All-nil P
+all_without P name (p ∷ ps) h = go (has_name name p) (all_without P name ps (All-tail P p ps h))
+  where
+    go : (b : Bool) → All P (without name ps) → All P (if b then ps else p ∷ without name ps)
+    go true rest = All-tail P p ps h
+    go false rest = All-cons P p (without name ps) (All-head P p ps h) rest
+
+all_set : (P : Portal → Type 0) (ps : List Portal) (i : ℕ) (q : Portal) → P q → All P ps → All P (slice_set ps i q)
+all_set P [] i q holds h = h
+all_set P (p ∷ ps) zero q holds h = All-cons P q ps holds (All-tail P p ps h)
+all_set P (p ∷ ps) (suc i) q holds h = All-cons P p (slice_set ps i q) (All-head P p ps h) (all_set P ps i q holds (All-tail P p ps h))
+
+-- a portal lies still where its level is aborted
+aborted_lies : (tree : TreeState) (table : ResourceState) (level : ℕ) (p : Portal) → PortalLies tree table p → PortalLies tree table (sub_aborted level p)
+aborted_lies tree table level p lies = by_created (p.created == level)
+  where
+    kept : (state : PortalState) → IfSome (kept_owner state p.owner) (OwnerLies table)
+    kept New = lies.owner
+    kept Ready = lies.owner
+    kept Failed = tt
+
+    by_active : (b : Bool) → PortalLies tree table (if b then record p { active = level - 1; owner = kept_owner p.state p.owner } else p)
+    by_active true = record { context = lies.context; expr = lies.expr; owner = kept p.state; scan = lies.scan }
+    by_active false = lies
+
+    by_created : (b : Bool) → PortalLies tree table (if b then record p { state = Failed; owner = None; expr = None } else (if is_outer level p then record p { active = level - 1; owner = kept_owner p.state p.owner } else p))
+    by_created true = record { context = lies.context; expr = tt; owner = tt; scan = lies.scan }
+    by_created false = by_active (is_outer level p)
+
+pub all_aborted : (tree : TreeState) (table : ResourceState) (level : ℕ) (ps new : List Portal) (i : ℕ) → IfSome (slice_get ps i) (λ portal. new ≡ slice_set ps i (sub_aborted level portal)) → i < length ps → All (PortalLies tree table) ps → All (PortalLies tree table) new
+all_aborted tree table level ps new i is within h = go (slice_get ps i) refl is
+  where
+    none : (xs : List Portal) (n : ℕ) → n < length xs → slice_get xs n ≡ None → ⊥
+    none [] n w e = omega (arith, w)
+    none (x ∷ xs) zero w e = cc e
+    none (x ∷ xs) (suc n) w e = none xs n (omega (arith, w)) e
+
+    go : (o : Option Portal) → slice_get ps i ≡ o → IfSome o (λ portal. new ≡ slice_set ps i (sub_aborted level portal)) → All (PortalLies tree table) new
+    go None e is = absurd (none ps i within e)
+    go (Some p) e is =
+        subst (All (PortalLies tree table)) (sym is)
+        (all_set (PortalLies tree table) ps i (sub_aborted level p) (aborted_lies tree table level p (all_at (PortalLies tree table) ps i p h e)) h)

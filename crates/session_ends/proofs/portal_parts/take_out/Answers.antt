@@ -1,0 +1,12 @@
+use Rattle.std.proofs.Common.{List, All, sym, subst}
+use Rattle.portal_store.specs.declared.portal.Portal.{Portal}
+use Rattle.session_store.specs.Placed.{PortalLies}
+use Rattle.session_ends.proofs.Lasts.{all_without}
+use Rattle.session_ends.proofs.Out.{placed_portals}
+use Rattle.session_ends.proofs.portal_parts.take_out.Goals as goal
+
+pub invariant_of-store : goal.invariant_of-store
+invariant_of-store g c =
+    placed_portals c.store.inside.tree c.store.inside.owners c.store.inside.levels c.store.inside.portals c.take_out.new.self c.store.invariant
+    (subst (λ (ps : List Portal). All (PortalLies c.store.inside.tree c.store.inside.owners) ps) (sym c.take_out.ensures.others)
+    (all_without (PortalLies c.store.inside.tree c.store.inside.owners) c.args.name.now c.store.inside.portals c.store.invariant.portals))

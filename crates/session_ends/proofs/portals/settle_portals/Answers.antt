@@ -1,0 +1,107 @@
+-- Each turn settles the first of the portals that are left.
+use Rattle.std.proofs.Common.{List, [], ◌∷◌, length, refl, sym, ap, ◌∙◌, subst, arith}
+use Rattle.std.proofs.lemmas.List.{length-map}
+use Rattle.session_owners.specs.Commons.{CommonState}
+use Rattle.session_rules.specs.State.{OpenPortal}
+use Rattle.session_rules.specs.Acts.{for_each}
+use Rattle.session_store.specs.State.{StoreState, levels_of, portal_state, portals_of}
+use Rattle.session_store.specs.Calls.{Acted}
+use Rattle.session_ends.specs.Portals.{EndsSo, IsEnding, left_by, owner_to, portal_after}
+use Rattle.session_ends.proofs.Dealing.{ending_step}
+use Rattle.session_ends.proofs.Out.{out_more, out_nothing, some_on}
+use Rattle.session_ends.proofs.Walking.{acted_more, acted_none, all_done, left_within, next_is, next_none, one_more, settling_leads}
+use Rattle.session_ends.proofs.portals.settle_portals.Goals as goal
+
+pub loop-portal-init : goal.loop-portal-init
+loop-portal-init g c = record {
+  on = record {
+    done = [];
+    back = portals_of c.args.store.now.portals;
+    all = refl;
+    long = length-map c.args.store.now.portals portal_state ∙ sym (c.len-left.ensures.length ∙ ap (λ (v : StoreState). length v.portals) c.store.view_is);
+  };
+  ending = λ m e. e;
+  acted = λ m. acted_none _ (λ o events p. g.E.Emit.emits o events p) g.met.E.Emit.emits_none (λ o p q xs ys h k. g.met.E.Emit.emits_more _ _ _ _ _ _ h k refl) (portal_after c.args.end c.args.level) c.args.store.now c.args.space.now c.args.shelf.now m c.args.out.now;
+  out = out_nothing c.args.store.now c.args.space.now c.requires.keeps;
+  to = c.requires.to;
+}
+
+pub portal_at-requires : goal.portal_at-requires
+portal_at-requires g c =
+    let inv = c.loop-portal.invariant in
+    left_within (left_by c.args.end) c.loop-portal.store c.loop-portal.space c.loop-portal.shelf c.requires.ending.0 inv.on.back c.loop-portal.left (inv.ending c.requires.ending.0 c.requires.ending.1) inv.on.long
+
+pub settle_portal-requires-clause-keeps : goal.settle_portal-requires-clause-keeps
+settle_portal-requires-clause-keeps g c = c.loop-portal.invariant.out.keeps
+
+pub settle_portal-requires-clause-level : goal.settle_portal-requires-clause-level
+settle_portal-requires-clause-level g c = ap length c.loop-portal.invariant.out.levels ∙ c.requires.level
+
+pub settle_portal-requires-clause-so : goal.settle_portal-requires-clause-so
+settle_portal-requires-clause-so g c = subst (EndsSo c.args.end) (sym (ap levels_of c.loop-portal.invariant.out.levels)) c.requires.so
+
+pub settle_portal-requires-clause-to : goal.settle_portal-requires-clause-to
+settle_portal-requires-clause-to g c = c.loop-portal.invariant.to
+
+pub settle_portal-requires-clause-at : goal.settle_portal-requires-clause-at
+settle_portal-requires-clause-at g c = sym c.portal_at.ensures.portal ∙ c.in-Some.is
+
+pub settle_portal-requires-clause-ending : goal.settle_portal-requires-clause-ending
+settle_portal-requires-clause-ending g c =
+    let inv = c.loop-portal.invariant in
+    let m : CommonState = c.requires.ending.0 in
+    let now = inv.ending m c.requires.ending.1 in
+    let next = next_is (left_by c.args.end) c.loop-portal.store c.loop-portal.space c.loop-portal.shelf m inv.on.back c.loop-portal.left c.in-Some.portal now inv.on.long (sym c.portal_at.ensures.portal ∙ c.in-Some.is) in
+    (m, (next.0, (omega (arith, inv.on.long, ap length next.1), subst (λ (back : List OpenPortal). IsEnding (left_by c.args.end) c.loop-portal.store c.loop-portal.space c.loop-portal.shelf m back) next.1 now)))
+
+pub overflow_sub-left : goal.overflow_sub-left
+overflow_sub-left g c =
+    let inv = c.loop-portal.invariant in
+    let next = next_is (left_by c.args.end) c.loop-portal.store c.loop-portal.space c.loop-portal.shelf c.requires.ending.0 inv.on.back c.loop-portal.left c.in-Some.portal (inv.ending c.requires.ending.0 c.requires.ending.1) inv.on.long (sym c.portal_at.ensures.portal ∙ c.in-Some.is) in
+    omega (arith, inv.on.long, ap length next.1)
+
+pub loop-portal-smaller : goal.loop-portal-smaller
+loop-portal-smaller g c =
+    let inv = c.loop-portal.invariant in
+    let next = next_is (left_by c.args.end) c.loop-portal.store c.loop-portal.space c.loop-portal.shelf c.requires.ending.0 inv.on.back c.loop-portal.left c.in-Some.portal (inv.ending c.requires.ending.0 c.requires.ending.1) inv.on.long (sym c.portal_at.ensures.portal ∙ c.in-Some.is) in
+    omega (arith, inv.on.long, ap length next.1)
+
+pub loop-portal-preserved : goal.loop-portal-preserved
+loop-portal-preserved g c =
+    let inv = c.loop-portal.invariant in
+    let a : StoreState = c.args.store.now in
+    let b : StoreState = c.loop-portal.store in
+    let d : StoreState = c.settle_portal.new.store in
+    let p : OpenPortal = portal_state c.in-Some.portal in
+    let next = next_is (left_by c.args.end) b c.loop-portal.space c.loop-portal.shelf c.requires.ending.0 inv.on.back c.loop-portal.left c.in-Some.portal (inv.ending c.requires.ending.0 c.requires.ending.1) inv.on.long (sym c.portal_at.ensures.portal ∙ c.in-Some.is) in
+    record {
+      on = one_more (portals_of a.portals) c.loop-portal.left p next.0 inv.on next.1;
+      ending = λ m e0.
+          let e : IsEnding (left_by c.args.end) b c.loop-portal.space c.loop-portal.shelf m (p ∷ next.0) = subst (λ (back : List OpenPortal). IsEnding (left_by c.args.end) b c.loop-portal.space c.loop-portal.shelf m back) next.1 (inv.ending m e0) in
+          ending_step (left_by c.args.end) (portal_after c.args.end c.args.level) b d c.loop-portal.space c.settle_portal.new.space c.loop-portal.shelf c.settle_portal.new.shelf m m p next.0 (λ events. g.E.Emit.emits c.loop-portal.out events c.settle_portal.new.out) e
+          (settling_leads c.args.end c.args.level b c.loop-portal.space c.loop-portal.shelf m p next.0 e (subst (EndsSo c.args.end) (sym (ap levels_of inv.out.levels)) c.requires.so) (ap length inv.out.levels ∙ c.requires.level))
+          (c.settle_portal.ensures.acted m) c.settle_portal.ensures.out.levels;
+      acted = λ m.
+          acted_more _ (λ o events p. g.E.Emit.emits o events p) g.met.E.Emit.emits_none (λ o p q xs ys h k. g.met.E.Emit.emits_more _ _ _ _ _ _ h k refl) (portal_after c.args.end c.args.level) inv.on.done p a b d c.args.space.now c.loop-portal.space c.settle_portal.new.space c.args.shelf.now c.loop-portal.shelf c.settle_portal.new.shelf
+          m m m c.args.out.now c.loop-portal.out c.settle_portal.new.out (inv.acted m) (c.settle_portal.ensures.acted m);
+      out = out_more a b d c.args.space.now c.loop-portal.space c.settle_portal.new.space inv.out c.settle_portal.ensures.out;
+      to = some_on (owner_to c.args.end) (λ id. c.settle_portal.ensures.stays id) inv.to;
+    }
+
+pub returns-clause-acted : goal.returns-clause-acted
+returns-clause-acted g c m =
+    let inv = c.loop-portal.invariant in
+    all_done (λ (ps : List OpenPortal). Acted (λ scene. for_each (portal_after c.args.end c.args.level) ps scene) c.args.store.now c.loop-portal.store c.args.space.now c.loop-portal.space c.args.shelf.now c.loop-portal.shelf m m (λ events. g.E.Emit.emits c.args.out.now events c.loop-portal.out))
+    (portals_of c.args.store.now.portals) inv.on.done inv.on.back inv.on.all
+    (next_none (left_by c.args.end) c.loop-portal.store c.loop-portal.space c.loop-portal.shelf c.requires.ending.0 inv.on.back c.loop-portal.left (inv.ending c.requires.ending.0 c.requires.ending.1) inv.on.long (sym c.portal_at.ensures.portal ∙ c.in_default.is))
+    (inv.acted m)
+
+pub returns-clause-out : goal.returns-clause-out
+returns-clause-out g c = c.loop-portal.invariant.out
+
+pub returns-clause-ending : goal.returns-clause-ending
+returns-clause-ending g c m e =
+    let inv = c.loop-portal.invariant in
+    subst (λ (back : List OpenPortal). IsEnding (left_by c.args.end) c.loop-portal.store c.loop-portal.space c.loop-portal.shelf m back)
+    (next_none (left_by c.args.end) c.loop-portal.store c.loop-portal.space c.loop-portal.shelf c.requires.ending.0 inv.on.back c.loop-portal.left (inv.ending c.requires.ending.0 c.requires.ending.1) inv.on.long (sym c.portal_at.ensures.portal ∙ c.in_default.is))
+    (inv.ending m e)
