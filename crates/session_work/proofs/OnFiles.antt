@@ -151,11 +151,11 @@ module _ (file : ℕ) (a : Now) (keeps : Keeps a.store a.space) (b : Bool) (open
 
   pub no_room : b ≡ false → (c : Now) (Q : List What → Type 0) → Q [] → (e : Error) → Performed 1 (element.Enlarge OfLevel ∷ []) a c (λ events. events ≡ []) (Some e)
       → Performed 2 (element.Checks (element.FileIsNew file) ∷ element.Enlarge OfLevel ∷ element.Take OfLevel file_kind file ∷ []) a c Q (Some e)
-  no_room missing c Q silent e x = passes 2 (element.FileIsNew file) _ a c Q (Some e) keeps (new_passes missing) (no_room_for file_kind file a c Q silent e x)
+  no_room missing c Q silent e x = passes 2 (element.FileIsNew file) _ a c Q (Some e) keeps (new_passes missing) (no_room_for OfLevel file_kind file a c Q silent e x)
 
   pub opened : b ≡ false → (c d : Now) (P : List What → Type 0) (r : Option Error) → Performed 1 (element.Enlarge OfLevel ∷ []) a c (λ events. events ≡ []) None
       → Performed 1 (element.Take OfLevel file_kind file ∷ []) c d P r → Performed 2 (element.Checks (element.FileIsNew file) ∷ element.Enlarge OfLevel ∷ element.Take OfLevel file_kind file ∷ []) a d P r
-  opened missing c d P r x y = passes 2 (element.FileIsNew file) _ a d P r keeps (new_passes missing) (taken_in_room file_kind file a c d P r x y)
+  opened missing c d P r x y = passes 2 (element.FileIsNew file) _ a d P r keeps (new_passes missing) (taken_in_room OfLevel file_kind file a c d P r x y)
 
   pub is_missing : (P : List What → Type 0) → P [] → b ≡ false → Performed 1 (element.Checks (element.IsFile file) ∷ element.Touch file ∷ []) a a P (Some NoSuchName)
   is_missing P silent missing =

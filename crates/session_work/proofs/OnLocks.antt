@@ -15,10 +15,10 @@ use Rattle.lock_local.specs.declared.errors.LockError.{LockError}
 use Rattle.lock_local.specs.declared.errors.LockError.TheVariants.{Conflict, Memory, NotHeld}
 use Rattle.lock_local.specs.Locks.{Lock, count_of}
 use Rattle.session_owners.specs.ResourceState.{ResourceState}
-use Rattle.session_rules.specs.State.{level_owner}
 use Rattle.session_rules.specs.World.{Around, Moment, Scene}
 use Rattle.session_rules.specs.Acts.{Ended, where_there}
-use Rattle.session_rules.specs.Elements.{OfLevel}
+use Rattle.session_rules.specs.Elements.{OfLevel, OwnerRole}
+use Rattle.session_rules.specs.Lookup.{owner_in}
 use Rattle.session_rules.specs.Elements as element
 use Rattle.session_rules.specs.Calls.{fallible, unfailing}
 use Rattle.session_rules.specs.Checks.{lock_count, unless}
@@ -27,21 +27,21 @@ use Rattle.session_rules.specs.Parts.{at_owner, lock_given_back}
 use Rattle.session_rules.specs.Taking.{lock_refused, lock_taken}
 use Rattle.session_store.specs.State.{StoreState, session_of}
 use Rattle.session_store.specs.Calls.{Acted, Keeps}
-use Rattle.session_work.specs.Deepest.{IsLevelOwner}
+use Rattle.session_work.specs.Deepest.{IsLevelOwner, IsOwnerOf}
 use Rattle.session_work.specs.Performed.{Now, Performed, scene_in}
 use Rattle.session_work.proofs.Commands.{fails, passes, unchanged}
 use Rattle.session_work.proofs.Performing.{performed_end, performed_made, performed_own}
 use Rattle.session_work.proofs.Stepping.{Rises, count_behind, grown, lent, moves_same, step_injected, step_wants, still_asks, still_keeps, still_moves, still_refused, still_some}
 
-abbrev takes_lock : ℕ → Mode → Scene → Ended
-takes_lock object mode = at_owner OfLevel (lock_taken object mode)
+abbrev takes_lock : OwnerRole → ℕ → Mode → Scene → Ended
+takes_lock role object mode = at_owner role (lock_taken object mode)
 
-does_take_lock : (object : ℕ) (mode : Mode) (w : Option ℕ) (m : Moment) → does w (element.TakeLock OfLevel object mode) m ≡ fallible w m (lock_refused object mode m.scene) (takes_lock object mode)
+does_take_lock : (role : OwnerRole) (object : ℕ) (mode : Mode) (w : Option ℕ) (m : Moment) → does w (element.TakeLock role object mode) m ≡ fallible w m (lock_refused object mode m.scene) (takes_lock role object mode)
 unfolding does
-does_take_lock object mode w m = refl
+does_take_lock role object mode w m = refl
 
-lock_rises : (object : ℕ) (mode : Mode) (s : Scene) → Rises 1 s (takes_lock object mode s).scene
-lock_rises object mode s = go (level_owner s.session)
+lock_rises : (role : OwnerRole) (object : ℕ) (mode : Mode) (s : Scene) → Rises 1 s (takes_lock role object mode s).scene
+lock_rises role object mode s = go (owner_in role s.session)
   where
     go : (o : Option ℕ) → Rises 1 s (where_there o (lock_taken object mode) s).scene
     go None = record { contexts = omega arith; owners = omega arith; serials = omega arith; descriptors = refl }
@@ -60,38 +60,38 @@ none_held None never = refl
 none_held (Some c) never = absurd (never c.0 c.1 refl)
 
 -- the owner takes a lock
-module _ (object : ℕ) (mode : Mode) (a b : Now) (P : List What → Type 0) (counted : b.calls ≡ record a.calls { count = a.calls.count + 1 }) (space : b.space ≡ a.space) (keeps : Keeps a.store a.space) where
+module _ (role : OwnerRole) (object : ℕ) (mode : Mode) (a b : Now) (P : List What → Type 0) (counted : b.calls ≡ record a.calls { count = a.calls.count + 1 }) (space : b.space ≡ a.space) (keeps : Keeps a.store a.space) where
   module _ (shelf : lent b ≡ lent a) (silent : P []) (store : b.store ≡ a.store) where
-    pub take_lock_injected : (e : Error) → (e ≡ Injected (a.calls.count + 1)) × ((a.calls.count + 1 == a.calls.fail) ≡ true) → Performed 1 (element.TakeLock OfLevel object mode ∷ []) a b P (Some e)
+    pub take_lock_injected : (e : Error) → (e ≡ Injected (a.calls.count + 1)) × ((a.calls.count + 1 == a.calls.fail) ≡ true) → Performed 1 (element.TakeLock role object mode ∷ []) a b P (Some e)
     take_lock_injected e told =
-        step_injected (element.TakeLock OfLevel object mode) (lock_refused object mode) (takes_lock object mode) (does_take_lock object mode) a b P counted (still_refused a b store space shelf)
+        step_injected (element.TakeLock role object mode) (lock_refused object mode) (takes_lock role object mode) (does_take_lock role object mode) a b P counted (still_refused a b store space shelf)
         (still_keeps a b store space shelf keeps) (still_moves a b store space shelf keeps) silent e told (still_asks a b store space shelf)
 
     -- the error by which it was refused
     pub lock_not_taken : (a.calls.count + 1 == a.calls.fail) ≡ false → (r : Result (Unit {0}) LockError) (e : LockError) (t : Error) → r ≡ Err e
         → ((s : ℕ) (m : Mode) → IsErrOf r (Conflict s m) ↔ (conflict_in a object mode ≡ Some (s, m))) → (IsErrOf r NotHeld → ⊥)
-        → ((s : ℕ) (m : Mode) → e ≡ Conflict s m → t ≡ LockHeld s m) → (e ≡ Memory → t ≡ NoMemory b.calls.count) → Performed 1 (element.TakeLock OfLevel object mode ∷ []) a b P (Some t)
+        → ((s : ℕ) (m : Mode) → e ≡ Conflict s m → t ≡ LockHeld s m) → (e ≡ Memory → t ≡ NoMemory b.calls.count) → Performed 1 (element.TakeLock role object mode ∷ []) a b P (Some t)
     lock_not_taken goes r (Conflict s m) t is conflict held told memory =
-        subst (λ (x : Error). Performed 1 (element.TakeLock OfLevel object mode ∷ []) a b P (Some x)) (sym (told s m refl))
-        (performed_own (element.TakeLock OfLevel object mode) (lock_refused object mode) (takes_lock object mode) (does_take_lock object mode) a b P counted (still_refused a b store space shelf)
+        subst (λ (x : Error). Performed 1 (element.TakeLock role object mode ∷ []) a b P (Some x)) (sym (told s m refl))
+        (performed_own (element.TakeLock role object mode) (lock_refused object mode) (takes_lock role object mode) (does_take_lock role object mode) a b P counted (still_refused a b store space shelf)
         (still_keeps a b store space shelf keeps) (still_moves a b store space shelf keeps) (LockHeld s m) goes refl silent (held_by a object mode (Some (s, m)) ((conflict s m).0 is)) (still_asks a b store space shelf))
     lock_not_taken goes r NotHeld t is conflict held told memory = absurd (held is)
     lock_not_taken goes r Memory t is conflict held told memory =
-        subst (λ (x : Error). Performed 1 (element.TakeLock OfLevel object mode ∷ []) a b P (Some x)) (sym (memory refl))
-        (step_wants (element.TakeLock OfLevel object mode) (lock_refused object mode) (takes_lock object mode) (does_take_lock object mode) a b P counted (still_refused a b store space shelf)
+        subst (λ (x : Error). Performed 1 (element.TakeLock role object mode ∷ []) a b P (Some x)) (sym (memory refl))
+        (step_wants (element.TakeLock role object mode) (lock_refused object mode) (takes_lock role object mode) (does_take_lock role object mode) a b P counted (still_refused a b store space shelf)
         (still_keeps a b store space shelf keeps) (still_moves a b store space shelf keeps) silent goes (still_some a b store space shelf))
 
   pub take_lock_done : (a.calls.count + 1 == a.calls.fail) ≡ false → (r : Result (Unit {0}) LockError) (u : Unit {0}) → r ≡ Ok u
-      → ((s : ℕ) (m : Mode) → IsErrOf r (Conflict s m) ↔ (conflict_in a object mode ≡ Some (s, m))) → (owner : OwnerId) → IsLevelOwner a.store owner
+      → ((s : ℕ) (m : Mode) → IsErrOf r (Conflict s m) ↔ (conflict_in a object mode ≡ Some (s, m))) → (owner : OwnerId) → IsOwnerOf role a.store owner
       → b.store.tree ≡ a.store.tree → Keeps b.store b.space
-      → Acted (lock_taken object mode owner.number) a.store b.store a.space b.space a.shelf b.shelf a.commons b.commons P → Performed 1 (element.TakeLock OfLevel object mode ∷ []) a b P None
+      → Acted (lock_taken object mode owner.number) a.store b.store a.space b.space a.shelf b.shelf a.commons b.commons P → Performed 1 (element.TakeLock role object mode ∷ []) a b P None
   take_lock_done goes r u ok conflict owner is tree after taken =
-      performed_made (element.TakeLock OfLevel object mode) (lock_refused object mode) (takes_lock object mode) (does_take_lock object mode) a b P counted 1 goes
+      performed_made (element.TakeLock role object mode) (lock_refused object mode) (takes_lock role object mode) (does_take_lock role object mode) a b P counted 1 goes
       (held_by a object mode None (none_held (conflict_in a object mode) (λ s m found. let z : Ok u ≡ Err (Conflict s m) = sym ok ∙ (conflict s m).1 found in cc z))) acted after
       (moves_same a.store.tree b.store.tree a.space b.space tree space keeps.agrees)
-      (grown 1 (takes_lock object mode) a b P (lock_rises object mode) acted (omega (arith, count_behind a b counted))) (λ around. ap (λ (s : Space). s.taken) space)
+      (grown 1 (takes_lock role object mode) a b P (lock_rises role object mode) acted (omega (arith, count_behind a b counted))) (λ around. ap (λ (s : Space). s.taken) space)
     where
-      acted : Acted (takes_lock object mode) a.store b.store a.space b.space a.shelf b.shelf a.commons b.commons P
+      acted : Acted (takes_lock role object mode) a.store b.store a.space b.space a.shelf b.shelf a.commons b.commons P
       acted = record {
         leads = λ around. ap (λ (o : Option ℕ). (where_there o (lock_taken object mode) (scene_in a around)).scene) (is a.space) ∙ taken.leads around;
         says = λ around. subst (λ (o : Option ℕ). P (where_there o (lock_taken object mode) (scene_in a around)).events) (sym (is a.space)) (taken.says around);

@@ -159,7 +159,7 @@ plan_rises plan s = go (level_owner s.session)
 pub take_plan_done : (plan : ℕ) (a b : Now) (P : List What → Type 0) → b.calls ≡ record a.calls { count = a.calls.count + 1 } → b.space ≡ a.space → Keeps a.store a.space → (a.calls.count + 1 == a.calls.fail) ≡ false
     → (owner : OwnerId) → IsLevelOwner a.store owner → b.store.tree ≡ a.store.tree → Keeps b.store b.space → Acted (item_taken owner.number plan_reference plan) a.store b.store a.space b.space a.shelf b.shelf a.commons b.commons P
     → Performed 1 (element.Take OfLevel plan_reference plan ∷ []) a b P None
-take_plan_done plan a b P counted space keeps = take_kept_done plan_reference plan a b P counted space keeps (λ around. refl) (plan_rises plan)
+take_plan_done plan a b P counted space keeps = take_kept_done OfLevel plan_reference plan a b P counted space keeps (λ around. refl) (plan_rises plan)
 
 -- A plan that is discarded goes at once, or stays.
 abbrev drops : ℕ → Scene → Ended
@@ -187,11 +187,11 @@ module _ (plan : ℕ) (a : Now) (keeps : Keeps a.store a.space) (usable : Bool) 
 
     pub no_room : (b : Now) (P : List What → Type 0) → P [] → (e : Error) → Performed 1 (element.Enlarge OfLevel ∷ []) a b (λ events. events ≡ []) (Some e)
         → Performed 2 (element.Checks (element.IsPlan plan) ∷ element.Enlarge OfLevel ∷ element.Take OfLevel plan_reference plan ∷ []) a b P (Some e)
-    no_room b P silent e x = passed 2 _ b P (Some e) (no_room_for plan_reference plan a b P silent e x)
+    no_room b P silent e x = passed 2 _ b P (Some e) (no_room_for OfLevel plan_reference plan a b P silent e x)
 
     pub referred : (b c : Now) (P : List What → Type 0) (r : Option Error) → Performed 1 (element.Enlarge OfLevel ∷ []) a b (λ events. events ≡ []) None → Performed 1 (element.Take OfLevel plan_reference plan ∷ []) b c P r
         → Performed 2 (element.Checks (element.IsPlan plan) ∷ element.Enlarge OfLevel ∷ element.Take OfLevel plan_reference plan ∷ []) a c P r
-    referred b c P r x y = passed 2 _ c P r (taken_in_room plan_reference plan a b c P r x y)
+    referred b c P r x y = passed 2 _ c P r (taken_in_room OfLevel plan_reference plan a b c P r x y)
 
     pub discarded : (b : Now) (P : List What → Type 0) → b.calls ≡ a.calls → Acted (drops plan) a.store b.store a.space b.space a.shelf b.shelf a.commons b.commons P
         → BothAlone a.store b.store a.space b.space a.commons b.commons → Asks a.store.tree.account 0 a.space b.space → Performed 0 (element.Checks (element.IsPlan plan) ∷ element.DropPlan plan ∷ []) a b P None

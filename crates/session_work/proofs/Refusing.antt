@@ -39,7 +39,7 @@ refused_still (Err e) a b s x c same = nothing_changed a b s x c same
 
 -- contexts that didn't change
 pub alone_same : (a : StoreState) (s : Space) (c : CommonState) → Keeps a s → ContextsAlone a a s s c c
-alone_same a s c keeps = record { keeps = keeps; moves = moves_nothing a.tree s keeps.agrees; owners = refl; commons = refl; levels = refl; stays = λ id live had has. live }
+alone_same a s c keeps = record { keeps = keeps; moves = moves_nothing a.tree s keeps.agrees; owners = refl; commons = refl; levels = refl; portals = refl; stays = λ id live had has. live }
 
 -- an error by another name
 pub told_as : (k : ℕ) (es : List Element) (a b : Now) (P : List What → Type 0) (e t : Error) → t ≡ e → Performed k es a b P (Some e) → Performed k es a b P (Some t)

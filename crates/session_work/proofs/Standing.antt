@@ -1,6 +1,6 @@
 -- A session stands behind what it performed.
 use Rattle.std.proofs.Common.{◌≡◌, ℕ, Bool, true, false, List, [], ◌∷◌, Option, Some, None, refl, ◌∙◌, subst}
-use Rattle.std.proofs.lemmas.List.Elements.{All-nil}
+use Rattle.std.specs.Prelude.{All}
 use Rattle.pgs_step.specs.declared.errors.Error.{Error}
 use Rattle.pgs_step.specs.declared.events.What.{What}
 use Rattle.pgs_command.specs.declared.commands.Command.{Command}
@@ -14,7 +14,7 @@ use Rattle.session_rules.proofs.StepsStand.{IsWorking}
 use Rattle.session_rules.proofs.TurnStands.{At, IsWork, Leads, work_leads}
 use Rattle.session_owners.specs.Commons.{Serves}
 use Rattle.session_owners.proofs.Balances.{serves_still}
-use Rattle.session_store.specs.State.{levels_of, session_of}
+use Rattle.session_store.specs.State.{levels_of, portals_of, session_of}
 use Rattle.session_work.specs.Answers.{Fits, at_calls, wants}
 use Rattle.session_work.specs.Deepest.{InActiveLevel}
 use Rattle.session_work.specs.Performed.{Now, IsBetweenSteps, Performed, scene_in}
@@ -52,14 +52,18 @@ module _ (k : ℕ) (es : List Element) (a b : Now) (P : List What → Type 0) (r
       subst (λ (m : Moment). Q m.scene) (done.answers.moment around (fitting (wants r) b.calls.count) (fitting_fits (wants r) b.calls.count))
       ((leads around (fitting (wants r) b.calls.count)).passed (done.answers.answer around (fitting (wants r) b.calls.count) (fitting_fits (wants r) b.calls.count) ∙ none))
 
--- a session between two steps, with its levels
-pub at_levels : (a : Now) (around : Around) → IsBetweenSteps a → At (levels_of a.store.levels) (scene_in a around)
+-- a session between two steps whose portals are at rest, with its levels
+pub at_levels : (a : Now) (around : Around) → IsBetweenSteps a → All IsAtRest (portals_of a.store.portals) → At (levels_of a.store.levels) (scene_in a around)
 unfolding session_of
-at_levels a around h = record { stands = h.stands around; are = refl; at_rest = All-nil IsAtRest }
+at_levels a around h rest = record { stands = h.stands around; are = refl; at_rest = rest }
 
 pub levels_at : (a : Now) (levels : List LevelState) (around : Around) → At levels (scene_in a around) → levels_of a.store.levels ≡ levels
 unfolding session_of
 levels_at a levels around h = h.are
+
+pub rest_at : (a : Now) (levels : List LevelState) (around : Around) → At levels (scene_in a around) → All IsAtRest (portals_of a.store.portals)
+unfolding session_of
+rest_at a levels around h = h.at_rest
 
 -- steps can be taken in the deepest level, as the rules tell it
 pub is_working : (levels : List LevelState) → InActiveLevel levels → IsWorking levels
@@ -68,9 +72,9 @@ is_working (level ∷ levels) h = h
 
 -- the same of the work of a command in an active level, which leaves the levels as they were
 module _ (k : ℕ) (c : Command) (session : SessionState) (is : IsWork c) (a b : Now) (P : List What → Type 0) (r : Option Error) (h : IsBetweenSteps a) (active : InActiveLevel (levels_of a.store.levels))
-    (done : Performed k (work_of c session) a b P r) where
+    (rest : All IsAtRest (portals_of a.store.portals)) (done : Performed k (work_of c session) a b P r) where
   leads : (around : Around) (w : Option ℕ) → Leads (At (levels_of a.store.levels)) (does_all w (work_of c session) (at_calls (scene_in a) a.calls.count a.calls.fail around))
-  leads around w = work_leads w (levels_of a.store.levels) (is_working (levels_of a.store.levels) active) c session is (at_calls (scene_in a) a.calls.count a.calls.fail around) (at_levels a around h)
+  leads around w = work_leads w (levels_of a.store.levels) (is_working (levels_of a.store.levels) active) c session is (at_calls (scene_in a) a.calls.count a.calls.fail around) (at_levels a around h rest)
 
   pub work_stands : IsBetweenSteps b
   work_stands = stands_behind k (work_of c session) a b P r (At (levels_of a.store.levels)) done leads h.serves

@@ -42,6 +42,14 @@ pub record IsBetweenSteps (n : Now) : Type 0 where
 abbrev pub most_count : ℕ
 most_count = 2 ^ 62
 
+-- the work of a command raises no counter by more than this, and no line by more than that: a fetch counts three calls for each of at most
+-- 1,000,000 rows, and any other command a few
+abbrev pub most_work : ℕ
+most_work = 2 ^ 22
+
+abbrev pub most_steps : ℕ
+most_steps = 2 ^ 23
+
 -- each counter may rise by so much
 pub record HasRoom (k : ℕ) (n : Now) : Type 0 where
   pub contexts : n.store.tree.next + k < most_count

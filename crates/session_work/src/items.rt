@@ -1,11 +1,12 @@
 //! The commands by which the owner of the deepest level takes an item or gives one back.
-ghost use Rattle.std.specs.Prelude.{◌≡◌, ◌<◌, ◌≤◌, ◌^◌, [], ◌∷◌, false, OnOk};
+ghost use Rattle.std.specs.Prelude.{◌≡◌, ◌<◌, ◌≤◌, ◌^◌, [], ◌∷◌, true, false, OnOk};
 ghost use Rattle.pgs_command.specs.declared.commands.Command.TheVariants as command;
 ghost use Rattle.addr_space.specs.Space.{Space};
+ghost use Rattle.forest.specs.Forest.{has};
 ghost use Rattle.reset_callbacks.specs.ShelfState.{ShelfState};
 ghost use Rattle.session_owners.specs.ResourceState.{IsLive, has_begun, owners_of, spare_of};
 ghost use Rattle.session_rules.specs.Elements as e;
-ghost use Rattle.session_rules.specs.Elements.{OfLevel};
+ghost use Rattle.session_rules.specs.Elements.{OfLevel, OwnerRole};
 ghost use Rattle.session_rules.specs.State as rules;
 ghost use Rattle.session_rules.specs.State.{SessionState, buffer_pin, file_kind};
 ghost use Rattle.session_rules.specs.Works.{takes, work_of};
@@ -15,7 +16,7 @@ ghost use Rattle.session_store.specs.State.{levels_of, session_of};
 ghost use Rattle.session_store.specs.Calls.{Keeps, StandsIn};
 ghost use Rattle.session_store.specs.Owned.{OwnersAlone};
 ghost use Rattle.session_work.specs.Answers.{refusal_of};
-ghost use Rattle.session_work.specs.Deepest.{InActiveLevel, IsLevelOwner};
+ghost use Rattle.session_work.specs.Deepest.{InActiveLevel, IsLevelOwner, IsOwnerOf};
 ghost use Rattle.session_work.specs.Performed.{now, HasRoom, IsBetweenSteps, Performed};
 
 use crate::errors::open_error;
@@ -46,13 +47,7 @@ pub(crate) fn pin<H: ResetHook, K: ExtKind, E: Emit>(
         return Err(Error::NoSuchBuffer);
     }
     let owner = owner_of_level(store);
-    if let Err(error) = enlarge(store, owner, shared) {
-        return Err(error);
-    }
-    if let Err(error) = take_pin(store, owner, buffer, shared, out) {
-        return Err(error);
-    }
-    Ok(())
+    hold_pin(store, owner, buffer, shared, out)
 }
 
 /// `unpin`: the owner of the deepest level gives back its newest pin of a buffer.
@@ -203,7 +198,7 @@ pub(crate) fn owner_of_level<H: ResetHook>(store: &Store<H>) -> OwnerId
     }
 }
 
-/// Makes room for one more item of the deepest level's owner, whose release has not begun.
+/// Makes room for one more item of an owner, whose release has not begun.
 pub(crate) fn enlarge<H: ResetHook, K: ExtKind>(
     store: &mut Store<H>,
     owner: OwnerId,
@@ -213,7 +208,7 @@ pub(crate) fn enlarge<H: ResetHook, K: ExtKind>(
     requires room { HasRoom 1 (now store.old shared.old) }
     requires live { IsLive store.old.owners owner }
     requires not_begun { has_begun owner.number (owners_of store.old.owners) ≡ false }
-    ensures performed { Performed 1 (e.Enlarge OfLevel ∷ []) (now store.old shared.old) (now store.new shared.new) (λ events. events ≡ []) (refusal_of result) }
+    ensures performed { (role : OwnerRole) → Performed 1 (e.Enlarge role ∷ []) (now store.old shared.old) (now store.new shared.new) (λ events. events ≡ []) (refusal_of result) }
     ensures spare { OnOk result (1 ≤ spare_of owner.number store.new.owners) }
     ensures session { OnOk result ((s : Space) → session_of store.new s ≡ session_of store.old s) }
     ensures commons { shared.new.commons.now ≡ shared.old.commons.now }
@@ -229,6 +224,31 @@ pub(crate) fn enlarge<H: ResetHook, K: ExtKind>(
     Ok(())
 }
 
+/// An owner, whose release has not begun, gets room for one more item, and pins a buffer.
+pub fn hold_pin<H: ResetHook, K: ExtKind, E: Emit>(
+    store: &mut Store<H>,
+    owner: OwnerId,
+    buffer: u32,
+    shared: &mut Shared<'_, H, K>,
+    out: &mut E,
+) -> Result<(), Error>
+    requires between { IsBetweenSteps (now store.old shared.old) }
+    requires room { HasRoom 2 (now store.old shared.old) }
+    requires live { IsLive store.old.owners owner }
+    requires there { has owner.number (owners_of store.old.owners) ≡ true }
+    requires not_begun { has_begun owner.number (owners_of store.old.owners) ≡ false }
+    requires buffer { buffer < 1024 }
+    ensures performed { (role : OwnerRole) → IsOwnerOf role store.old owner → Performed 2 (takes role buffer_pin buffer) (now store.old shared.old) (now store.new shared.new) (λ events. E.emits out.old events out.new) (refusal_of result) }
+{
+    if let Err(error) = enlarge(store, owner, shared) {
+        return Err(error);
+    }
+    if let Err(error) = take_pin(store, owner, buffer, shared, out) {
+        return Err(error);
+    }
+    Ok(())
+}
+
 /// Pins a buffer in room that was made before.
 fn take_pin<H: ResetHook, K: ExtKind, E: Emit>(
     store: &mut Store<H>,
@@ -240,12 +260,11 @@ fn take_pin<H: ResetHook, K: ExtKind, E: Emit>(
     requires keeps { Keeps store.old shared.old.space.now }
     requires serves { Serves store.old.owners shared.old.commons.now }
     requires room { HasRoom 1 (now store.old shared.old) }
-    requires owner { IsLevelOwner store.old owner }
     requires live { IsLive store.old.owners owner }
     requires spare { 1 ≤ spare_of owner.number store.old.owners }
     requires not_begun { has_begun owner.number (owners_of store.old.owners) ≡ false }
     requires buffer { buffer < 1024 }
-    ensures performed { Performed 1 (e.Take OfLevel buffer_pin buffer ∷ []) (now store.old shared.old) (now store.new shared.new) (λ events. E.emits out.old events out.new) (refusal_of result) }
+    ensures performed { (role : OwnerRole) → IsOwnerOf role store.old owner → Performed 1 (e.Take role buffer_pin buffer ∷ []) (now store.old shared.old) (now store.new shared.new) (λ events. E.emits out.old events out.new) (refusal_of result) }
 {
     if let Err(error) = shared.calls.next() {
         return Err(error);
@@ -269,6 +288,26 @@ fn refer<H: ResetHook, K: ExtKind, E: Emit>(
     ensures performed { Performed 2 (takes OfLevel kind key) (now store.old shared.old) (now store.new shared.new) (λ events. E.emits out.old events out.new) (refusal_of result) }
 {
     let owner = owner_of_level(store);
+    hold_reference(store, owner, kind, key, shared, out)
+}
+
+/// An owner, whose release has not begun, gets room for one more item, and takes a reference that nothing but owners keeps count of.
+pub fn hold_reference<H: ResetHook, K: ExtKind, E: Emit>(
+    store: &mut Store<H>,
+    owner: OwnerId,
+    kind: KindId,
+    key: u32,
+    shared: &mut Shared<'_, H, K>,
+    out: &mut E,
+) -> Result<(), Error>
+    requires between { IsBetweenSteps (now store.old shared.old) }
+    requires room { HasRoom 2 (now store.old shared.old) }
+    requires live { IsLive store.old.owners owner }
+    requires there { has owner.number (owners_of store.old.owners) ≡ true }
+    requires not_begun { has_begun owner.number (owners_of store.old.owners) ≡ false }
+    requires kind { IsReference kind }
+    ensures performed { (role : OwnerRole) → IsOwnerOf role store.old owner → Performed 2 (takes role kind key) (now store.old shared.old) (now store.new shared.new) (λ events. E.emits out.old events out.new) (refusal_of result) }
+{
     if let Err(error) = enlarge(store, owner, shared) {
         return Err(error);
     }
@@ -289,12 +328,11 @@ fn take_reference<H: ResetHook, K: ExtKind, E: Emit>(
 ) -> Result<(), Error>
     requires keeps { Keeps store.old shared.old.space.now }
     requires room { HasRoom 1 (now store.old shared.old) }
-    requires owner { IsLevelOwner store.old owner }
     requires live { IsLive store.old.owners owner }
     requires spare { 1 ≤ spare_of owner.number store.old.owners }
     requires not_begun { has_begun owner.number (owners_of store.old.owners) ≡ false }
     requires kind { IsReference kind }
-    ensures performed { Performed 1 (e.Take OfLevel kind key ∷ []) (now store.old shared.old) (now store.new shared.new) (λ events. E.emits out.old events out.new) (refusal_of result) }
+    ensures performed { (role : OwnerRole) → IsOwnerOf role store.old owner → Performed 1 (e.Take role kind key ∷ []) (now store.old shared.old) (now store.new shared.new) (λ events. E.emits out.old events out.new) (refusal_of result) }
 {
     if let Err(error) = shared.calls.next() {
         return Err(error);

@@ -16,5 +16,7 @@ mod works;
 
 pub use calls::Calls;
 pub use errors::call_error;
+pub use items::{hold_pin, hold_reference};
+pub use locks::hold_lock;
 pub use shared::Shared;
 pub use works::work;

@@ -1,6 +1,7 @@
 //! What commands do in a transaction.
-ghost use Rattle.std.specs.Prelude.{◌≡◌, OnOk};
-ghost use Rattle.session_store.specs.State.{levels_of};
+ghost use Rattle.std.specs.Prelude.{◌≡◌, All, OnOk};
+ghost use Rattle.session_rules.specs.Standing.{IsAtRest};
+ghost use Rattle.session_store.specs.State.{levels_of, portals_of};
 ghost use Rattle.session_rules.proofs.StepsStand.{IsWorking};
 ghost use Rattle.pgs_command.specs.Ranges.{IsInRange};
 ghost use Rattle.session_rules.specs.Works.{work_of};
@@ -40,6 +41,7 @@ pub fn work<H: ResetHook, K: ExtKind, E: Emit>(
 ) -> Result<(), Error>
     requires between { IsBetweenSteps (now store.old shared.old) }
     requires active { IsWorking (levels_of store.old.levels) }
+    requires rest { All IsAtRest (portals_of store.old.portals) }
     requires work { IsWork command.now }
     requires range { IsInRange command.now }
     requires room { HasRoom 2 (now store.old shared.old) }

@@ -6,10 +6,11 @@ use Rattle.owner_kinds.specs.KindTable.{IsExtension}
 use Rattle.session_owners.specs.Commons.{CommonState}
 use Rattle.session_owners.specs.ResourceState.{has_begun}
 use Rattle.session_owners.proofs.Balances.{serves_still}
+use Rattle.session_rules.specs.Elements.{OfLevel}
 use Rattle.session_rules.specs.Lookup.{kind_named}
 use Rattle.session_work.specs.Performed.{now}
 use Rattle.session_work.proofs.OnKinds.{acquired, no_kind, no_room_named}
-use Rattle.session_work.proofs.Pinning.{owner_there, owner_unbegun, owners_same}
+use Rattle.session_work.proofs.Pinning.{owner_there, owner_unbegun, owners_same, room_left}
 use Rattle.session_work.proofs.extensions.acquire.Goals as goal
 
 pub returns-in_default : goal.returns-in_default
@@ -20,14 +21,14 @@ returns-in_default g c = record {
 pub returns-in-Err : goal.returns-in-Err
 returns-in-Err g c = record {
   performed = λ session.
-      no_room_named c.args.name.now c.in-Some.kind c.args.key _ (sym c.in-Some.ensures.kind) c.requires.between.keeps _ _ (g.met.E.Emit.emits_none c.args.out.now) c.in-Err.error c.in-Err.ensures.performed;
+      no_room_named c.args.name.now c.in-Some.kind c.args.key _ (sym c.in-Some.ensures.kind) c.requires.between.keeps _ _ (g.met.E.Emit.emits_none c.args.out.now) c.in-Err.error (c.in-Err.ensures.performed OfLevel);
 }
 
 pub returns-in-Err-take_extension : goal.returns-in-Err-take_extension
 returns-in-Err-take_extension g c = record {
   performed = λ session.
       let found : kind_named c.args.name.now c.enlarge.new.shared.commons.now.kinds ≡ Some c.in-Some.kind = ap (λ (m : CommonState). kind_named c.args.name.now m.kinds) c.enlarge.ensures.commons ∙ sym c.in-Some.ensures.kind in
-      acquired c.args.name.now c.in-Some.kind c.args.key _ (sym c.in-Some.ensures.kind) c.requires.between.keeps _ _ _ _ c.in_default-enlarge.ensures.performed
+      acquired c.args.name.now c.in-Some.kind c.args.key _ (sym c.in-Some.ensures.kind) c.requires.between.keeps _ _ _ _ (c.in_default-enlarge.ensures.performed OfLevel)
       (c.in-Err-take_extension.ensures.performed c.args.name.now found);
 }
 
@@ -35,7 +36,7 @@ pub returns : goal.returns
 returns g c = record {
   performed = λ session.
       let found : kind_named c.args.name.now c.enlarge.new.shared.commons.now.kinds ≡ Some c.in-Some.kind = ap (λ (m : CommonState). kind_named c.args.name.now m.kinds) c.enlarge.ensures.commons ∙ sym c.in-Some.ensures.kind in
-      acquired c.args.name.now c.in-Some.kind c.args.key _ (sym c.in-Some.ensures.kind) c.requires.between.keeps _ _ _ _ c.in_default-enlarge.ensures.performed
+      acquired c.args.name.now c.in-Some.kind c.args.key _ (sym c.in-Some.ensures.kind) c.requires.between.keeps _ _ _ _ (c.in_default-enlarge.ensures.performed OfLevel)
       (c.in_default-take_extension.ensures.performed c.args.name.now found);
 }
 
@@ -58,3 +59,9 @@ take_extension-requires-clause-serves g c = serves_still _ _ _ _ c.requires.betw
 
 pub take_extension-requires-clause-kind : goal.take_extension-requires-clause-kind
 take_extension-requires-clause-kind g c = subst (λ (m : CommonState). IsExtension (table_of m.kinds) c.in-Some.kind) (sym c.enlarge.ensures.commons) c.in-Some.ensures.extension
+
+pub take_extension-requires-clause-keeps : goal.take_extension-requires-clause-keeps
+take_extension-requires-clause-keeps g c = (c.in_default-enlarge.ensures.performed OfLevel).keeps
+
+pub take_extension-requires-clause-room : goal.take_extension-requires-clause-room
+take_extension-requires-clause-room g c = room_left 1 1 (now c.args.store.now c.args.shared.now) _ c.requires.room (c.in_default-enlarge.ensures.performed OfLevel).grows

@@ -2,9 +2,10 @@ use Rattle.std.proofs.Common.{ap, sym, ◌∙◌}
 use Rattle.forest.specs.Forest.{has}
 use Rattle.session_owners.specs.Counted.{holds_file}
 use Rattle.session_owners.specs.ResourceState.{has_begun}
+use Rattle.session_rules.specs.Elements.{OfLevel}
 use Rattle.session_work.specs.Performed.{now}
 use Rattle.session_work.proofs.OnFiles.{is_taken, no_room, opened}
-use Rattle.session_work.proofs.Pinning.{owner_there, owner_unbegun, owners_same}
+use Rattle.session_work.proofs.Pinning.{owner_there, owner_unbegun, owners_same, room_left}
 use Rattle.session_work.proofs.items.open_file.Goals as goal
 
 pub returns-then-is_open : goal.returns-then-is_open
@@ -23,7 +24,7 @@ returns-in-Err g c = record {
   performed = λ session.
       no_room c.args.file (now c.args.store.now c.args.shared.now) c.requires.between.keeps c.is_open.result
       (c.is_open.ensures.session c.args.shared.now.space.now)
-      c.if-is_open.false _ _ (g.met.E.Emit.emits_none c.args.out.now) c.in-Err.error c.in-Err.ensures.performed;
+      c.if-is_open.false _ _ (g.met.E.Emit.emits_none c.args.out.now) c.in-Err.error (c.in-Err.ensures.performed OfLevel);
 }
 
 pub take_file-requires-clause-live : goal.take_file-requires-clause-live
@@ -48,7 +49,7 @@ returns-in-Err-take_file g c = record {
   performed = λ session.
       opened c.args.file (now c.args.store.now c.args.shared.now) c.requires.between.keeps c.is_open.result
       (c.is_open.ensures.session c.args.shared.now.space.now)
-      c.if-is_open.false _ _ _ _ c.in_default.ensures.performed c.in-Err-take_file.ensures.performed;
+      c.if-is_open.false _ _ _ _ (c.in_default.ensures.performed OfLevel) c.in-Err-take_file.ensures.performed;
 }
 
 pub returns : goal.returns
@@ -56,5 +57,11 @@ returns g c = record {
   performed = λ session.
       opened c.args.file (now c.args.store.now c.args.shared.now) c.requires.between.keeps c.is_open.result
       (c.is_open.ensures.session c.args.shared.now.space.now)
-      c.if-is_open.false _ _ _ _ c.in_default.ensures.performed c.in_default-take_file.ensures.performed;
+      c.if-is_open.false _ _ _ _ (c.in_default.ensures.performed OfLevel) c.in_default-take_file.ensures.performed;
 }
+
+pub take_file-requires-clause-keeps : goal.take_file-requires-clause-keeps
+take_file-requires-clause-keeps g c = (c.in_default.ensures.performed OfLevel).keeps
+
+pub take_file-requires-clause-room : goal.take_file-requires-clause-room
+take_file-requires-clause-room g c = room_left 1 1 (now c.args.store.now c.args.shared.now) _ c.requires.room (c.in_default.ensures.performed OfLevel).grows

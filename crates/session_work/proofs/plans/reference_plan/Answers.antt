@@ -1,9 +1,10 @@
 use Rattle.std.proofs.Common.{ap, ◌∙◌}
 use Rattle.forest.specs.Forest.{has}
 use Rattle.session_owners.specs.ResourceState.{has_begun}
+use Rattle.session_rules.specs.Elements.{OfLevel}
 use Rattle.session_work.specs.Performed.{now}
 use Rattle.session_work.proofs.OnPlans.{no_plan, no_room, referred}
-use Rattle.session_work.proofs.Pinning.{owner_there, owner_unbegun, owners_same}
+use Rattle.session_work.proofs.Pinning.{owner_there, owner_unbegun, owners_same, room_left}
 use Rattle.session_work.proofs.plans.reference_plan.Goals as goal
 
 pub returns-then-not-can_refer : goal.returns-then-not-can_refer
@@ -20,7 +21,7 @@ pub returns-in-Err : goal.returns-in-Err
 returns-in-Err g c = record {
   performed = λ session.
       no_room c.args.plan (now c.args.store.now c.args.shared.now) c.requires.between.keeps c.can_refer.result (c.can_refer.ensures.session c.args.shared.now.space.now)
-      c.if-not-can_refer.false _ _ (g.met.E.Emit.emits_none c.args.out.now) c.in-Err.error c.in-Err.ensures.performed;
+      c.if-not-can_refer.false _ _ (g.met.E.Emit.emits_none c.args.out.now) c.in-Err.error (c.in-Err.ensures.performed OfLevel);
 }
 
 pub take_plan-requires-clause-live : goal.take_plan-requires-clause-live
@@ -38,12 +39,18 @@ pub returns-in-Err-take_plan : goal.returns-in-Err-take_plan
 returns-in-Err-take_plan g c = record {
   performed = λ session.
       referred c.args.plan (now c.args.store.now c.args.shared.now) c.requires.between.keeps c.can_refer.result (c.can_refer.ensures.session c.args.shared.now.space.now)
-      c.if-not-can_refer.false _ _ _ _ c.in_default.ensures.performed c.in-Err-take_plan.ensures.performed;
+      c.if-not-can_refer.false _ _ _ _ (c.in_default.ensures.performed OfLevel) c.in-Err-take_plan.ensures.performed;
 }
 
 pub returns : goal.returns
 returns g c = record {
   performed = λ session.
       referred c.args.plan (now c.args.store.now c.args.shared.now) c.requires.between.keeps c.can_refer.result (c.can_refer.ensures.session c.args.shared.now.space.now)
-      c.if-not-can_refer.false _ _ _ _ c.in_default.ensures.performed c.in_default-take_plan.ensures.performed;
+      c.if-not-can_refer.false _ _ _ _ (c.in_default.ensures.performed OfLevel) c.in_default-take_plan.ensures.performed;
 }
+
+pub take_plan-requires-clause-keeps : goal.take_plan-requires-clause-keeps
+take_plan-requires-clause-keeps g c = (c.in_default.ensures.performed OfLevel).keeps
+
+pub take_plan-requires-clause-room : goal.take_plan-requires-clause-room
+take_plan-requires-clause-room g c = room_left 1 1 (now c.args.store.now c.args.shared.now) _ c.requires.room (c.in_default.ensures.performed OfLevel).grows

@@ -1,0 +1,11 @@
+pub mod Listed
+pub mod OnItsWay
+pub mod MakingSteps
+pub mod MemorySteps
+pub mod Chains
+pub mod TurnElements
+pub mod TurnLists
+pub mod FetchSteps
+pub mod Turning
+pub mod OnCommands
+pub mod PinSteps

@@ -1,0 +1,42 @@
+-- The portal of a name, as the store has it and as the rules see it.
+use Rattle.std.proofs.Common.{◌≡◌, Option, Some, None, List, [], ◌∷◌, IsSome, refl, sym, ap, ◌∙◌, subst, inl, inr}
+use Rattle.std.specs.Option.{option_map}
+use Rattle.std.proofs.lemmas.Bool.{cases_Bool}
+use Rattle.portal_store.specs.declared.portal.Portal.{Portal}
+use Rattle.portal_store.specs.Portals as list
+use Rattle.portal_store.specs.Portals.{has_name}
+use Rattle.session_rules.specs.State.{OpenPortal}
+use Rattle.session_rules.specs.Elements.{Text}
+use Rattle.session_rules.specs.Lookup.{portal_named}
+use Rattle.addr_space.specs.Space.{Space, held}
+use Rattle.context_report.specs.Lines.{no_total}
+use Rattle.context_rules.specs.Reports.{summed}
+use Rattle.context_tree.specs.State.{Agrees, TreeState, stands_for}
+use Rattle.session_store.specs.Calls.{Keeps, PortalsAlone}
+use Rattle.session_store.specs.State.{StoreState, portal_state, portals_of, session_of}
+
+pub named_as : (name : Text) (ps : List Portal) → option_map portal_state (list.portal_named name ps) ≡ portal_named name (portals_of ps)
+named_as name [] = refl
+named_as name (p ∷ ps) = elim (cases_Bool (has_name name p)) [
+  | inl y ↦ rw y refl
+  | inr n ↦ rw n (named_as name ps)
+]
+
+-- there is one
+pub there_named : (name : Text) (ps : List Portal) (p : OpenPortal) → portal_named name (portals_of ps) ≡ Some p → IsSome (list.portal_named name ps)
+there_named name ps p e = go (list.portal_named name ps) (named_as name ps ∙ e)
+  where
+    go : (o : Option Portal) → option_map portal_state o ≡ Some p → IsSome o
+    go None z = absurd (cc z)
+    go (Some q) z = refl
+
+pub none_named : (name : Text) (ps : List Portal) → list.portal_named name ps ≡ None → portal_named name (portals_of ps) ≡ None
+none_named name ps e = sym (named_as name ps) ∙ ap (option_map portal_state) e
+
+-- where the portals change alone, the space has what the contexts have
+pub keeps_alone : (a b : StoreState) (s : Space) → PortalsAlone a b → Keeps a s → Keeps b s
+unfolding session_of
+keeps_alone a b s alone keeps = record {
+  agrees = subst (λ (t : TreeState). Agrees t s) (sym alone.tree) keeps.agrees;
+  held = subst (λ (t : TreeState). held s t.account ≡ (summed no_total (stands_for t s)).total) (sym alone.tree) keeps.held;
+}

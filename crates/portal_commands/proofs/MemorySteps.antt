@@ -1,0 +1,114 @@
+-- The steps by which memory without a name is taken in a context of a portal.
+use Rattle.std.proofs.Common.{◌≡◌, ◌≢◌, ◌⊎◌, ℕ, ◌+◌, ◌≤◌, ◌==◌, true, false, List, [], ◌∷◌, Option, Some, None, refl, sym, ◌∙◌, ap, subst, inl, inr, arith}
+use Rattle.std.specs.Option.{option_map, option_map_or}
+use Rattle.addr_space.specs.Space.{Asks, Space}
+use Rattle.context_rules.specs.Chunks as chunks
+use Rattle.context_rules.specs.declared.errors.TreeError.{TreeError}
+use Rattle.context_rules.specs.declared.errors.TreeError.TheVariants as tree
+use Rattle.context_rules.specs.Refusals.{alloc_refusal}
+use Rattle.pgs_step.specs.declared.errors.Error.{Error}
+use Rattle.pgs_step.specs.declared.errors.Error.TheVariants.{Injected, NoMemory}
+use Rattle.pgs_step.specs.declared.events.What.{What}
+use Rattle.session_rules.specs.World.{Around, Moment, Scene}
+use Rattle.session_rules.specs.Acts.{Ended, where_there}
+use Rattle.session_rules.specs.Elements.{MemoryRole}
+use Rattle.session_rules.specs.Elements as element
+use Rattle.session_rules.specs.Calls.{fallible}
+use Rattle.session_rules.specs.Checks.{tree_error}
+use Rattle.session_rules.specs.Does.{does}
+use Rattle.session_rules.specs.Lookup.{memory_in}
+use Rattle.session_rules.specs.Taking.{alloc_refused, memory_taken}
+use Rattle.session_store.specs.State.{contexts_in, left_in, session_of}
+use Rattle.session_store.specs.Calls.{Acted, ContextsAlone, IsSilent, Keeps, Refused}
+use Rattle.session_owners.specs.Commons.{CommonState}
+use Rattle.reset_callbacks.specs.ShelfState.{ShelfState}
+use Rattle.session_owners.proofs.Balances.{balances_none}
+use Rattle.session_work.specs.Performed.{Now, Performed, scene_in}
+use Rattle.session_work.proofs.Commands.{tree_error_plain}
+use Rattle.session_work.proofs.Performing.{performed_made, performed_own, performed_step, same_scene_in}
+use Rattle.session_work.proofs.Stepping.{Rises, count_behind, grown, lent, memory_or_not, step_injected, step_wants, still_asks, still_keeps, still_moves, still_refused}
+
+module _ (role : MemoryRole) (bytes : ℕ) where
+  abbrev own : Scene → Option Error
+  own scene = alloc_refused (memory_in role scene.session) None bytes scene
+
+  abbrev takes : Scene → Ended
+  takes scene = where_there (memory_in role scene.session) (memory_taken None bytes false) scene
+
+  does_alloc : (w : Option ℕ) (m : Moment) → does w (element.Alloc role None bytes false) m ≡ fallible w m (own m.scene) takes
+  unfolding does
+  does_alloc w m = refl
+
+  raises : (s : Scene) → (takes s).scene.session.next_context ≤ s.session.next_context + 1
+  raises s = go (memory_in role s.session)
+    where
+      go : (o : Option ℕ) → (where_there o (memory_taken None bytes false) s).scene.session.next_context ≤ s.session.next_context + 1
+      go None = omega arith
+      go (Some n) = omega arith
+
+  rises : (s : Scene) → Rises 1 s (takes s).scene
+  rises s = go (memory_in role s.session)
+    where
+      go : (o : Option ℕ) → Rises 1 s (where_there o (memory_taken None bytes false) s).scene
+      go None = record { contexts = omega arith; owners = omega arith; serials = omega arith; descriptors = refl }
+      go (Some n) = record { contexts = omega arith; owners = omega arith; serials = omega arith; descriptors = refl }
+
+  module _ (a b : Now) (P : List What → Type 0) (counted : b.calls ≡ record a.calls { count = a.calls.count + 1 }) where
+    pub memory_injected : b.space ≡ a.space → lent b ≡ lent a → Keeps a.store a.space → b.store ≡ a.store → P [] → (e : Error) → (e ≡ Injected (a.calls.count + 1)) × ((a.calls.count + 1 == a.calls.fail) ≡ true)
+        → Performed 1 (element.Alloc role None bytes false ∷ []) a b P (Some e)
+    memory_injected space shelf keeps store silent e told =
+        step_injected (element.Alloc role None bytes false) own takes does_alloc a b P counted (still_refused a b store space shelf) (still_keeps a b store space shelf keeps)
+        (still_moves a b store space shelf keeps) silent e told (still_asks a b store space shelf)
+
+    -- in a context that is there
+    module _ (goes : (a.calls.count + 1 == a.calls.fail) ≡ false) (n : ℕ) (is : memory_in role (session_of a.store a.space) ≡ Some n) where
+      told_in : (around : Around) → own (scene_in a around) ≡ option_map tree_error (alloc_refusal n (left_in a.store a.space) None bytes (contexts_in a.store a.space))
+      told_in around = ap (λ (o : Option ℕ). alloc_refused o None bytes (scene_in a around)) is
+
+      pub memory_done : alloc_refusal n (left_in a.store a.space) None bytes (contexts_in a.store a.space) ≡ None → Acted (memory_taken None bytes false n) a.store b.store a.space b.space a.shelf b.shelf a.commons b.commons IsSilent → P []
+          → ContextsAlone a.store b.store a.space b.space a.commons b.commons → Asks a.store.tree.account (chunks.asked n (left_in a.store a.space) bytes (contexts_in a.store a.space)) a.space b.space
+          → Performed 1 (element.Alloc role None bytes false ∷ []) a b P None
+      memory_done free taken silent alone asks =
+          performed_step (element.Alloc role None bytes false) own takes does_alloc a b P counted raises goes (λ around. told_in around ∙ ap (option_map tree_error) free) acted alone
+          (λ around. subst (λ (o : Option ℕ). Asks a.store.tree.account (option_map_or (λ c. chunks.asked c (left_in a.store a.space) bytes (contexts_in a.store a.space)) o 0) a.space b.space) (sym is) asks)
+        where
+          acted : Acted takes a.store b.store a.space b.space a.shelf b.shelf a.commons b.commons P
+          acted = record {
+            leads = λ around. ap (λ (o : Option ℕ). (where_there o (memory_taken None bytes false) (scene_in a around)).scene) is ∙ taken.leads around;
+            says = λ around. subst (λ (o : Option ℕ). P (where_there o (memory_taken None bytes false) (scene_in a around)).events) (sym is) silent;
+            balances = taken.balances;
+          }
+
+      pub memory_refused : Refused a.store b.store a.space b.space a.shelf b.shelf a.commons b.commons → P [] → ContextsAlone a.store b.store a.space b.space a.commons b.commons → b.space ≡ a.space → (e : TreeError) (t : Error)
+          → (e ≡ tree.Memory) ⊎ (alloc_refusal n (left_in a.store a.space) None bytes (contexts_in a.store a.space) ≡ Some e)
+          → (e ≡ tree.Memory → t ≡ NoMemory b.calls.count) → (e ≢ tree.Memory → t ≡ tree_error e) → Performed 1 (element.Alloc role None bytes false ∷ []) a b P (Some t)
+      memory_refused same silent alone space e t cause memory other =
+          elim (memory_or_not e) [
+            | inl m ↦
+                subst (λ (z : Error). Performed 1 (element.Alloc role None bytes false ∷ []) a b P (Some z)) (sym (memory m))
+                (step_wants (element.Alloc role None bytes false) own takes does_alloc a b P counted same alone.keeps alone.moves silent goes (0, ap (λ (s : Space). s.taken) space))
+            | inr k ↦
+                subst (λ (z : Error). Performed 1 (element.Alloc role None bytes false ∷ []) a b P (Some z)) (sym (other k))
+                (performed_own (element.Alloc role None bytes false) own takes does_alloc a b P counted same alone.keeps alone.moves (tree_error e) goes (tree_error_plain e) silent
+                (λ around. told_in around ∙ ap (option_map tree_error) (own_cause k cause)) (ap (λ (s : Space). s.taken) space))
+          ]
+        where
+          own_cause : e ≢ tree.Memory → (e ≡ tree.Memory) ⊎ (alloc_refusal n (left_in a.store a.space) None bytes (contexts_in a.store a.space) ≡ Some e)
+              → alloc_refusal n (left_in a.store a.space) None bytes (contexts_in a.store a.space) ≡ Some e
+          own_cause k (inl m) = absurd (k m)
+          own_cause k (inr c) = c
+
+    -- where there is no such context the call counts, and nothing is taken
+    pub memory_nowhere : (a.calls.count + 1 == a.calls.fail) ≡ false → memory_in role (session_of a.store a.space) ≡ None → b.space ≡ a.space → lent b ≡ lent a → Keeps a.store a.space → b.store ≡ a.store → P []
+        → Performed 1 (element.Alloc role None bytes false ∷ []) a b P None
+    memory_nowhere goes none space shelf keeps store silent =
+        performed_made (element.Alloc role None bytes false) own takes does_alloc a b P counted 1 goes (λ around. ap (λ (o : Option ℕ). alloc_refused o None bytes (scene_in a around)) none) acted
+        (still_keeps a b store space shelf keeps) (still_moves a b store space shelf keeps) (grown 1 takes a b P rises acted (omega (arith, count_behind a b counted)))
+        (λ around. subst (λ (o : Option ℕ). Asks a.store.tree.account (option_map_or (λ c. chunks.asked c (left_in a.store a.space) bytes (contexts_in a.store a.space)) o 0) a.space b.space) (sym none) (ap (λ (s : Space). s.taken) space))
+      where
+        acted : Acted takes a.store b.store a.space b.space a.shelf b.shelf a.commons b.commons P
+        acted = record {
+          leads = λ around. ap (λ (o : Option ℕ). (where_there o (memory_taken None bytes false) (scene_in a around)).scene) none ∙ same_scene_in a b (still_refused a b store space shelf) around;
+          says = λ around. subst (λ (o : Option ℕ). P (where_there o (memory_taken None bytes false) (scene_in a around)).events) (sym none) silent;
+          balances = rw (store, ap (λ (p : ShelfState × CommonState). p.1) shelf) (balances_none a.store.owners a.commons);
+        }

@@ -1,0 +1,75 @@
+-- The two calls of a pin that no owner takes.
+use Rattle.std.proofs.Common.{◌≡◌, ℕ, ◌+◌, ◌==◌, true, false, [], ◌∷◌, Option, Some, None, Result, Ok, Err, OnOk, IfErr, refl, ap, arith}
+use Rattle.pgs_step.specs.declared.errors.Error.{Error}
+use Rattle.pgs_step.specs.declared.errors.Error.TheVariants.{Injected}
+use Rattle.session_rules.specs.State.{buffer_pin}
+use Rattle.session_rules.specs.World.{Moment, Scene}
+use Rattle.session_rules.specs.Acts.{Ended, where_there}
+use Rattle.session_rules.specs.Calls.{fallible}
+use Rattle.session_rules.specs.Does.{does}
+use Rattle.session_rules.specs.Elements as element
+use Rattle.session_rules.specs.Elements.{OwnerRole}
+use Rattle.session_rules.specs.Lookup.{owner_in}
+use Rattle.session_rules.specs.Parts.{at_owner}
+use Rattle.session_rules.specs.Releases.{keeper_of}
+use Rattle.session_rules.specs.Taking.{item_taken, take_refused}
+use Rattle.session_rules.specs.Works.{takes}
+use Rattle.session_owners.proofs.Balances.{balances_none}
+use Rattle.session_store.specs.Calls.{Keeps}
+use Rattle.session_store.specs.State.{session_of}
+use Rattle.session_work.specs.Answers.{refusal_of}
+use Rattle.session_work.specs.Performed.{Now, Performed, scene_in}
+use Rattle.session_work.specs.declared.calls.Calls.{Calls}
+use Rattle.session_work.proofs.HeldItems.{no_room_for, take_item_injected, taken_in_room}
+use Rattle.session_work.proofs.Performing.{moves_nothing, performed_made}
+use Rattle.session_work.proofs.Pinning.{enlarge_done, enlarge_injected}
+use Rattle.session_work.proofs.Stepping.{Rises, count_behind, grown}
+
+abbrev pins : OwnerRole → ℕ → Scene → Ended
+pins role page = at_owner role (λ owner. item_taken owner buffer_pin page)
+
+does_take : (role : OwnerRole) (page : ℕ) (w : Option ℕ) (m : Moment) → does w (element.Take role buffer_pin page) m ≡ fallible w m (take_refused (keeper_of buffer_pin) m.scene) (pins role page)
+unfolding does
+does_take role page w m = refl
+
+pin_rises : (role : OwnerRole) (page : ℕ) (s : Scene) → Rises 1 s (pins role page s).scene
+pin_rises role page s = go (owner_in role s.session)
+  where
+    go : (o : Option ℕ) → Rises 1 s (where_there o (λ owner. item_taken owner buffer_pin page) s).scene
+    go None = record { contexts = omega arith; owners = omega arith; serials = omega arith; descriptors = refl }
+    go (Some n) = record { contexts = omega arith; owners = omega arith; serials = omega arith; descriptors = refl }
+
+-- what a call of the run says
+abbrev pub Told : Result (Unit {0}) Error → Calls → Type 0
+Told r calls = OnOk r ((calls.count + 1 == calls.fail) ≡ false) × IfErr r (λ e. (e ≡ Injected (calls.count + 1)) × ((calls.count + 1 == calls.fail) ≡ true))
+
+module _ (role : OwnerRole) (page : ℕ) (a : Now) (keeps : Keeps a.store a.space) (none : owner_in role (session_of a.store a.space) ≡ None) where
+  no_item : (k : Calls) → k ≡ record a.calls { count = a.calls.count + 1 } → (r : Result (Unit {0}) Error) → Told r a.calls → Performed 1 (element.Take role buffer_pin page ∷ []) a (record a { calls = k }) (λ events. events ≡ []) (refusal_of r)
+  no_item k counted (Err e) told = take_item_injected role buffer_pin page a (record a { calls = k }) (λ events. events ≡ []) counted refl keeps refl refl refl e told.1
+  no_item k counted (Ok u) told =
+      performed_made (element.Take role buffer_pin page) (take_refused (keeper_of buffer_pin)) (pins role page) (does_take role page) a (record a { calls = k }) (λ events. events ≡ []) counted 1 told.0 (λ around. refl)
+      (record {
+        leads = λ around. ap (λ (o : Option ℕ). (where_there o (λ n. item_taken n buffer_pin page) (scene_in a around)).scene) none;
+        says = λ around. ap (λ (o : Option ℕ). (where_there o (λ n. item_taken n buffer_pin page) (scene_in a around)).events) none;
+        balances = balances_none a.store.owners a.commons;
+      }) keeps (moves_nothing a.store.tree a.space keeps.agrees)
+      (grown 1 (pins role page) a (record a { calls = k }) (λ events. events ≡ []) (pin_rises role page)
+      (record {
+        leads = λ around. ap (λ (o : Option ℕ). (where_there o (λ n. item_taken n buffer_pin page) (scene_in a around)).scene) none;
+        says = λ around. ap (λ (o : Option ℕ). (where_there o (λ n. item_taken n buffer_pin page) (scene_in a around)).events) none;
+        balances = balances_none a.store.owners a.commons;
+      }) (omega (arith, count_behind a (record a { calls = k }) counted))) (λ around. refl)
+
+pub no_room : (role : OwnerRole) (page : ℕ) (a : Now) → Keeps a.store a.space → (k : Calls) → k ≡ record a.calls { count = a.calls.count + 1 } → (e : Error) → (e ≡ Injected (a.calls.count + 1)) × ((a.calls.count + 1 == a.calls.fail) ≡ true)
+    → Performed 2 (takes role buffer_pin page) a (record a { calls = k }) (λ events. events ≡ []) (Some e)
+no_room role page a keeps k counted e told =
+    no_room_for role buffer_pin page a (record a { calls = k }) (λ events. events ≡ []) refl e
+    (enlarge_injected role a (record a { calls = k }) (λ events. events ≡ []) counted refl refl keeps refl refl e told)
+
+pub no_pin : (role : OwnerRole) (page : ℕ) (a : Now) → Keeps a.store a.space → owner_in role (session_of a.store a.space) ≡ None → (k l : Calls) → k ≡ record a.calls { count = a.calls.count + 1 } → (a.calls.count + 1 == a.calls.fail) ≡ false
+    → l ≡ record k { count = k.count + 1 } → (r : Result (Unit {0}) Error) → Told r k → Performed 2 (takes role buffer_pin page) a (record a { calls = l }) (λ events. events ≡ []) (refusal_of r)
+no_pin role page a keeps none k l counted goes again r told =
+    taken_in_room role buffer_pin page a (record a { calls = k }) (record a { calls = l }) (λ events. events ≡ []) (refusal_of r)
+    (enlarge_done role a (record a { calls = k }) (λ events. events ≡ []) counted refl refl keeps refl goes refl
+    (record { leads = λ around. refl; says = λ around. refl; balances = balances_none a.store.owners a.commons }) keeps)
+    (no_item role page (record a { calls = k }) keeps none l again r told)

@@ -1,0 +1,173 @@
+-- The steps of a turn as a list: which pages they pin, how many calls they make, which step is the last.
+use Rattle.std.proofs.Common.{◌≡◌, ◌≢◌, ℕ, ◌+◌, ◌<◌, ◌≤◌, ◌==◌, Bool, true, false, List, [], ◌∷◌, ◌++◌, Option, Some, None, refl, sym, ◌∙◌, ap, subst, arith}
+use Rattle.std.specs.Prelude.{fold, if◌then◌else◌}
+use Rattle.std.specs.List.{flat_map}
+use Rattle.std.proofs.lemmas.List.{append_assoc}
+use Rattle.exec_core.specs.declared.scan.Scan.{Scan}
+use Rattle.exec_core.specs.declared.steps.ScanStep.{ScanStep}
+use Rattle.exec_core.specs.declared.steps.ScanStep.TheVariants as step
+use Rattle.exec_core.specs.Turn.{is_bad, is_tenth, left, page_of, page_steps, rest, row_step, row_steps, taken, turn, unpinned}
+use Rattle.session_rules.specs.Elements.{Element, Text}
+use Rattle.portal_commands.specs.Fetching.{IsPage, coming, cost_of, step_elements}
+
+-- each pins one of the buffers
+abbrev pub ArePages : List ScanStep → Type 0
+ArePages [] = Unit {0}
+ArePages (s ∷ ss) = IsPage s × ArePages ss
+
+both_pages : (xs ys : List ScanStep) → ArePages xs → ArePages ys → ArePages (xs ++ ys)
+both_pages [] ys a b = b
+both_pages (x ∷ xs) ys a b = (a.0, both_pages xs ys a.1 b)
+
+unpinned_pages : (page : Option ℕ) → ArePages (unpinned page)
+unpinned_pages None = tt
+unpinned_pages (Some page) = (tt, tt)
+
+page_is : (scan : Scan) → page_of scan < 1024
+page_is scan = omega arith
+
+page_pages : (b : Bool) (scan : Scan) → ArePages (if b then unpinned scan.page ++ (step.Pin (page_of scan) ∷ []) else [])
+page_pages true scan = both_pages (unpinned scan.page) (step.Pin (page_of scan) ∷ []) (unpinned_pages scan.page) (page_is scan, tt)
+page_pages false scan = tt
+
+row_pages : (b : Bool) (scan : Scan) → ArePages (if b then step.Bad scan.at ∷ [] else step.Alloc ∷ (row_step scan ∷ []))
+row_pages true scan = (tt, tt)
+row_pages false scan = (tt, (tt, tt))
+
+turn_pages : (b : Bool) (scan : Scan) → ArePages (if b then unpinned scan.page ++ (step.End ∷ []) else step.Reset ∷ (page_steps scan ++ row_steps scan))
+turn_pages true scan = both_pages (unpinned scan.page) (step.End ∷ []) (unpinned_pages scan.page) (tt, tt)
+turn_pages false scan = (tt, both_pages (page_steps scan) (row_steps scan) (page_pages (is_tenth scan) scan) (row_pages (is_bad scan) scan))
+
+left_pages : (a b c : Bool) (scan : Scan) → ArePages (if a then turn scan else if b then page_steps scan ++ row_steps scan else if c then row_steps scan else row_step scan ∷ [])
+left_pages true b c scan = turn_pages (scan.at == scan.rows) scan
+left_pages false true c scan = both_pages (page_steps scan) (row_steps scan) (page_pages (is_tenth scan) scan) (row_pages (is_bad scan) scan)
+left_pages false false true scan = row_pages (is_bad scan) scan
+left_pages false false false scan = (tt, tt)
+
+coming_pages : (begins : Bool) (scan : Scan) → ArePages (coming begins scan)
+coming_pages true scan = turn_pages (scan.at == scan.rows) scan
+coming_pages false scan = left_pages (scan.stage == 0) (scan.stage == 1) (scan.stage == 2) scan
+
+pub next_page : (begins : Bool) (scan : Scan) (s : ScanStep) (ss : List ScanStep) → coming begins scan ≡ s ∷ ss → IsPage s
+next_page begins scan s ss e = let p : ArePages (s ∷ ss) = subst ArePages e (coming_pages begins scan) in p.0
+
+-- how many calls they make
+abbrev pub costs : List ScanStep → ℕ
+costs [] = 0
+costs (s ∷ ss) = cost_of s + costs ss
+
+pub costs_both : (xs ys : List ScanStep) → costs (xs ++ ys) ≡ costs xs + costs ys
+costs_both [] ys = omega arith
+costs_both (x ∷ xs) ys = omega (arith, costs_both xs ys)
+
+unpinned_costs : (page : Option ℕ) → costs (unpinned page) ≡ 0
+unpinned_costs None = refl
+unpinned_costs (Some page) = refl
+
+page_costs : (b : Bool) (scan : Scan) → costs (if b then unpinned scan.page ++ (step.Pin (page_of scan) ∷ []) else []) ≤ 2
+page_costs true scan = omega (arith, costs_both (unpinned scan.page) (step.Pin (page_of scan) ∷ []), unpinned_costs scan.page)
+page_costs false scan = omega arith
+
+row_costs : (b : Bool) (scan : Scan) → costs (if b then step.Bad scan.at ∷ [] else step.Alloc ∷ (row_step scan ∷ [])) ≤ 1
+row_costs true scan = omega arith
+row_costs false scan = omega arith
+
+turn_costs_by : (b : Bool) (scan : Scan) → costs (if b then unpinned scan.page ++ (step.End ∷ []) else step.Reset ∷ (page_steps scan ++ row_steps scan)) ≤ 3
+turn_costs_by true scan = omega (arith, costs_both (unpinned scan.page) (step.End ∷ []), unpinned_costs scan.page)
+turn_costs_by false scan = omega (arith, costs_both (page_steps scan) (row_steps scan), page_costs (is_tenth scan) scan, row_costs (is_bad scan) scan)
+
+pub turn_costs : (scan : Scan) → costs (turn scan) ≤ 3
+turn_costs scan = turn_costs_by (scan.at == scan.rows) scan
+
+-- the scan behind steps
+abbrev pub after : List ScanStep → Scan → Scan
+after ss scan = fold (λ c s. taken s c) scan ss
+
+pub after_more : (xs : List ScanStep) (s : ScanStep) (scan : Scan) → after (xs ++ (s ∷ [])) scan ≡ taken s (after xs scan)
+after_more [] s scan = refl
+after_more (x ∷ xs) s scan = after_more xs s (taken x scan)
+
+-- the elements of steps
+pub elements_more : (name : Text) (xs : List ScanStep) (s : ScanStep) → flat_map (step_elements name) (xs ++ (s ∷ [])) ≡ flat_map (step_elements name) xs ++ step_elements name s
+elements_more name [] s = nil_behind (step_elements name s)
+  where
+    nil_behind : (es : List Element) → es ++ [] ≡ es
+    nil_behind [] = refl
+    nil_behind (x ∷ es) = ap (λ (zs : List Element). x ∷ zs) (nil_behind es)
+elements_more name (x ∷ xs) s =
+    ap (λ (zs : List Element). step_elements name x ++ zs) (elements_more name xs s)
+    ∙ sym (append_assoc (step_elements name x) (flat_map (step_elements name) xs) (step_elements name s))
+
+pub elements_both : (name : Text) (xs ys : List ScanStep) → flat_map (step_elements name) (xs ++ ys) ≡ flat_map (step_elements name) xs ++ flat_map (step_elements name) ys
+elements_both name [] ys = refl
+elements_both name (x ∷ xs) ys =
+    ap (λ (zs : List Element). step_elements name x ++ zs) (elements_both name xs ys)
+    ∙ sym (append_assoc (step_elements name x) (flat_map (step_elements name) xs) (flat_map (step_elements name) ys))
+
+-- whether a step gives a row, ends the scan, or is another one
+abbrev pub closing : ScanStep → ℕ
+closing (step.Row row value) = 1
+closing step.End = 2
+closing other = 0
+
+abbrev last_closing : List ScanStep → ℕ → ℕ
+last_closing [] n = n
+last_closing (s ∷ ss) n = last_closing ss (closing s)
+
+last_is : (xs : List ScanStep) (s : ScanStep) (n : ℕ) → last_closing (xs ++ (s ∷ [])) n ≡ closing s
+last_is [] s n = refl
+last_is (x ∷ xs) s n = last_is xs s (closing x)
+
+last_both : (xs ys : List ScanStep) (n : ℕ) → last_closing (xs ++ ys) n ≡ last_closing ys (last_closing xs n)
+last_both [] ys n = refl
+last_both (x ∷ xs) ys n = last_both xs ys (closing x)
+
+row_last : (b : Bool) (scan : Scan) (n : ℕ) → last_closing (if b then step.Bad scan.at ∷ [] else step.Alloc ∷ (row_step scan ∷ [])) n ≢ 2
+row_last true scan n = λ e. omega (arith, e)
+row_last false scan n = λ e. omega (arith, e)
+
+turn_last : (b : Bool) (scan : Scan) (s : ScanStep) (n : ℕ) → last_closing (if b then unpinned scan.page ++ (step.End ∷ []) else step.Reset ∷ (page_steps scan ++ row_steps scan)) n ≡ closing s
+    → (closing s ≡ 1 → b ≡ false) × (closing s ≡ 2 → b ≡ true)
+turn_last true scan s n e = (λ o. absurd (omega (arith, o, e, last_is (unpinned scan.page) step.End n)), λ _. refl)
+turn_last false scan s n e = (λ _. refl, λ t. absurd (row_last (is_bad scan) scan (last_closing (page_steps scan) 0) (sym (last_both (page_steps scan) (row_steps scan) 0) ∙ e ∙ t)))
+
+-- a turn whose last step gives a row isn't behind the last row, and one whose last step ends the scan is
+pub gives_row : (scan : Scan) (xs : List ScanStep) (s : ScanStep) → turn scan ≡ xs ++ (s ∷ []) → closing s ≡ 1 → (scan.at == scan.rows) ≡ false
+gives_row scan xs s e = (turn_last (scan.at == scan.rows) scan s 0 (ap (λ (ss : List ScanStep). last_closing ss 0) e ∙ last_is xs s 0)).0
+
+pub gives_end : (scan : Scan) (xs : List ScanStep) (s : ScanStep) → turn scan ≡ xs ++ (s ∷ []) → closing s ≡ 2 → (scan.at == scan.rows) ≡ true
+gives_end scan xs s e = (turn_last (scan.at == scan.rows) scan s 0 (ap (λ (ss : List ScanStep). last_closing ss 0) e ∙ last_is xs s 0)).1
+
+-- what comes behind a step: nothing where it is the turn's last one
+pub rest_last : (s : ScanStep) (scan : Scan) → closing s ≢ 0 → rest s scan ≡ []
+rest_last (step.Row row value) scan h = refl
+rest_last step.End scan h = refl
+rest_last (step.Bad row) scan h = refl
+rest_last step.Reset scan h = absurd (h refl)
+rest_last (step.Unpin page) scan h = absurd (h refl)
+rest_last (step.Pin page) scan h = absurd (h refl)
+rest_last step.Alloc scan h = absurd (h refl)
+
+-- whether a step can't be served
+abbrev pub is_bad_step : ScanStep → Bool
+is_bad_step (step.Bad row) = true
+is_bad_step other = false
+
+pub rest_left : (s : ScanStep) (scan : Scan) → closing s ≡ 0 → is_bad_step s ≡ false → rest s scan ≡ left scan
+rest_left (step.Row row value) scan h n = absurd (omega (arith, h))
+rest_left step.End scan h n = absurd (omega (arith, h))
+rest_left (step.Bad row) scan h n = absurd (cc n)
+rest_left step.Reset scan h n = refl
+rest_left (step.Unpin page) scan h n = refl
+rest_left (step.Pin page) scan h n = refl
+rest_left step.Alloc scan h n = refl
+
+-- the steps after which a turn goes on
+pub unclosed : (s : ScanStep) → ((row value : ℕ) → s ≡ step.Row row value → ⊥) → (s ≡ step.End → ⊥) → closing s ≡ 0
+unclosed (step.Row row value) r e = absurd (r row value refl)
+unclosed step.End r e = absurd (e refl)
+unclosed (step.Bad row) r e = refl
+unclosed step.Reset r e = refl
+unclosed (step.Unpin page) r e = refl
+unclosed (step.Pin page) r e = refl
+unclosed step.Alloc r e = refl

@@ -1,0 +1,15 @@
+use Rattle.std.proofs.Common.{◌-◌}
+use Rattle.exec_core.specs.declared.scan.Scan.{Scan}
+use Rattle.session_work.specs.Performed.{now}
+use Rattle.portal_commands.specs.Fetching.{IsFetching}
+use Rattle.portal_commands.proofs.Turning.{IsRunning}
+use Rattle.portal_commands.proofs.fetching.fetch_rows.Given as goal
+
+-- the rows so far and those that remain are all
+abbrev pub invariant-loop-rows : goal.invariant-loop-rows
+invariant-loop-rows g l =
+    (first : Scan) → IsFetching l.name first (now l.initial.store l.initial.shared)
+    → IsRunning l.name l.count l.rows first (now l.initial.store l.initial.shared) (now l.store l.shared) (λ events. g.E.Emit.emits l.initial.out events l.out)
+
+abbrev pub decreases-loop-rows : goal.decreases-loop-rows
+decreases-loop-rows g l = l.count - l.rows

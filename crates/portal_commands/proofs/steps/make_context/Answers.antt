@@ -1,0 +1,32 @@
+use Rattle.std.proofs.Common.{None, codes, false, refl}
+use Rattle.session_rules.specs.Elements.{PortalContext}
+use Rattle.session_work.proofs.Stepping.{said_nothing}
+use Rattle.session_work.specs.Performed.{now}
+use Rattle.portal_commands.proofs.MakingSteps.{context_done, context_injected, context_not_made, portal_is_new}
+use Rattle.portal_commands.proofs.OnItsWay.{context_on, has_name}
+use Rattle.portal_commands.proofs.steps.make_context.Goals as goal
+
+pub returns-in-Err-clause-performed : goal.returns-in-Err-clause-performed
+returns-in-Err-clause-performed g c =
+    context_injected (PortalContext c.args.name.now) _ _ _ c.next.ensures.counted refl refl c.requires.making.between.keeps refl (g.met.E.Emit.emits_none c.args.out.now) c.in-Err.error c.in-Err.ensures.injected
+
+pub returns-clause-performed : goal.returns-clause-performed
+returns-clause-performed g c =
+    context_done (PortalContext c.args.name.now) (codes "PortalContext") (now c.args.store.now c.args.shared.now) _ (portal_is_new c.args.name.now (now c.args.store.now c.args.shared.now)) _ c.next.ensures.counted c.in_default.ensures.goes c.make_portal_context.ensures.keeps c.make_portal_context.ensures.moves
+    c.in_default-make_portal_context.ensures.served (c.in_default-make_portal_context.ensures.acted c.args.shared.now.shelf.now c.args.shared.now.commons.now) c.in_default-make_portal_context.ensures.asked
+
+pub returns-clause-making : goal.returns-clause-making
+returns-clause-making g c = context_on c.args.name.now (now c.args.store.now c.args.shared.now) _ _ None (returns-clause-performed g c) c.requires.making refl
+
+pub returns-in-Err-make_portal_context-clause-performed : goal.returns-in-Err-make_portal_context-clause-performed
+returns-in-Err-make_portal_context-clause-performed g c =
+    context_not_made (PortalContext c.args.name.now) (codes "PortalContext") (now c.args.store.now c.args.shared.now) _ (portal_is_new c.args.name.now (now c.args.store.now c.args.shared.now)) _ c.next.ensures.counted c.in_default.ensures.goes c.make_portal_context.ensures.keeps c.make_portal_context.ensures.moves
+    (c.in-Err-make_portal_context.ensures.refused c.args.shared.now.shelf.now c.args.shared.now.commons.now)
+    (said_nothing g.E.Emit.emits c.args.out.now c.make_portal_context.new.out (g.met.E.Emit.emits_none c.args.out.now) c.in-Err-make_portal_context.ensures.silent)
+    _ _ c.in-Err-make_portal_context.ensures.cause c.call_error.ensures.memory c.call_error.ensures.own c.in-Err-make_portal_context.ensures.err_asked
+
+pub make_portal_context-requires-clause-stands : goal.make_portal_context-requires-clause-stands
+make_portal_context-requires-clause-stands g c = (c.args.shared.now.shelf.now, (c.args.shared.now.commons.now, c.requires.making.between.stands))
+
+pub make_portal_context-requires-clause-there : goal.make_portal_context-requires-clause-there
+make_portal_context-requires-clause-there g c = has_name _ c.args.shared.now.space.now c.args.name.now false false false c.requires.making.way

@@ -1,0 +1,30 @@
+use Rattle.std.proofs.Common.{refl}
+use Rattle.session_work.specs.Performed.{now}
+use Rattle.session_work.proofs.HeldItems.{missing_item}
+use Rattle.session_work.proofs.Pinning.{owner_unbegun}
+use Rattle.session_work.proofs.Stepping.{said_nothing}
+use Rattle.session_work.proofs.Working.{in_active}
+use Rattle.portal_commands.proofs.FetchSteps.{follows_nothing, no_owner, page_not_held, page_unpinned}
+use Rattle.portal_commands.proofs.turns.unpin_page.Goals as goal
+
+pub returns-in_default : goal.returns-in_default
+returns-in_default g c = record {
+  follows =
+      follows_nothing _ (now c.args.store.now c.args.shared.now) _ (no_owner c.args.name.now c.args.page (now c.args.store.now c.args.shared.now) (c.in_default.ensures.owner c.args.shared.now.space.now))
+      c.requires.fetching.1.between.keeps (g.met.E.Emit.emits_none c.args.out.now);
+}
+
+pub returns-in-Err : goal.returns-in-Err
+returns-in-Err g c = record {
+  follows =
+      page_not_held c.args.name.now (now c.args.store.now c.args.shared.now) _ _ refl c.release_item.ensures.asked c.args.page c.in-Some.owner c.in-Some.ensures.owner
+      (missing_item _ c.release_item.result _ c.in-Err.is (c.release_item.ensures.item (owner_unbegun (now c.args.store.now c.args.shared.now) c.requires.fetching.1.between (in_active _ c.requires.fetching.1.working) c.in-Some.owner.number)))
+      c.in-Err.ensures.refused c.release_item.ensures.alone (said_nothing g.E.Emit.emits _ _ (g.met.E.Emit.emits_none c.args.out.now) c.in-Err.ensures.silent);
+}
+
+pub returns : goal.returns
+returns g c = record {
+  follows =
+      page_unpinned c.args.name.now (now c.args.store.now c.args.shared.now) _ _ refl c.release_item.ensures.asked c.args.page c.in-Some.owner c.in-Some.ensures.owner
+      c.in_default-release_item.ensures.acted c.release_item.ensures.alone;
+}

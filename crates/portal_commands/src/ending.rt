@@ -1,0 +1,47 @@
+//! `endportal`: a query is closed.
+ghost use Rattle.std.specs.Prelude.{All};
+ghost use Rattle.pgs_command.specs.declared.commands.Command.TheVariants as command;
+ghost use Rattle.session_rules.proofs.StepsStand.{IsWorking};
+ghost use Rattle.session_rules.specs.Standing.{IsAtRest};
+ghost use Rattle.session_rules.specs.State.{SessionState};
+ghost use Rattle.session_rules.specs.Works.{work_of};
+ghost use Rattle.session_store.specs.State.{levels_of, portals_of};
+ghost use Rattle.session_work.specs.Answers.{refusal_of};
+ghost use Rattle.session_work.specs.Performed.{now, IsBetweenSteps, Performed};
+
+use owner_kinds::ExtKind;
+use pgs_step::{Emit, Error, Name};
+use reset_callbacks::ResetHook;
+use session_portals::portal_named;
+use session_store::Store;
+use session_work::Shared;
+
+/// `endportal`: a query is closed: `PortalDrop`. Its owner gives back what it holds, and its contexts go.
+///
+/// `NoSuchPortal` comes where no portal has the name.
+pub fn end_portal<H: ResetHook, K: ExtKind, E: Emit>(
+    store: &mut Store<H>,
+    name: Name,
+    shared: &mut Shared<'_, H, K>,
+    out: &mut E,
+) -> Result<(), Error>
+    requires between { IsBetweenSteps (now store.old shared.old) }
+    requires active { IsWorking (levels_of store.old.levels) }
+    requires rest { All IsAtRest (portals_of store.old.portals) }
+    ensures performed { (session : SessionState) → Performed 0 (work_of (command.EndPortal name) session) (now store.old shared.old) (now store.new shared.new) (λ events. E.emits out.old events out.new) (refusal_of result) }
+{
+    match portal_named(store, &name) {
+        None => Err(Error::NoSuchPortal),
+        Some(_) => {
+            session_ends::end_portal(
+                store,
+                &name,
+                shared.space,
+                shared.shelf,
+                shared.commons,
+                out,
+            );
+            Ok(())
+        }
+    }
+}

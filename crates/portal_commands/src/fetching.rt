@@ -1,0 +1,79 @@
+//! `fetch`: rows are fetched from a portal.
+ghost use Rattle.std.specs.Prelude.{◌≡◌, ◌*◌, [], ◌∷◌, ◌++◌, List, Some, None, IfOk, IfErr};
+ghost use Rattle.exec_core.specs.declared.scan.Scan.{Scan as AScan};
+ghost use Rattle.pgs_command.specs.declared.commands.Command.TheVariants as command;
+ghost use Rattle.pgs_command.specs.Ranges.{IsInRange};
+ghost use Rattle.pgs_step.specs.declared.events.What.TheVariants as what;
+ghost use Rattle.session_rules.proofs.StepsStand.{IsWorking};
+ghost use Rattle.session_rules.specs.Elements as e;
+ghost use Rattle.session_rules.specs.Elements.{Element};
+ghost use Rattle.session_rules.specs.Works.{fetch_steps, work_of};
+ghost use Rattle.session_store.specs.State.{levels_of, session_of};
+ghost use Rattle.portal_commands.specs.Fetching.{IsFetching};
+ghost use Rattle.session_work.specs.Answers.{refusal_of};
+ghost use Rattle.session_work.specs.Performed.{now, HasRoom, IsBetweenSteps, Performed, most_work};
+
+use crate::turns::take_turn;
+use owner_kinds::ExtKind;
+use pgs_step::{Emit, Error, Name, What};
+use portal_store::PortalState;
+use reset_callbacks::ResetHook;
+use session_portals::{begin_fetch, portal_named};
+use session_store::Store;
+use session_work::Shared;
+
+/// `fetch`: at most so many rows are fetched from a portal: `PortalRunFetch`. The scan takes a turn for each row, and one more where it ends.
+///
+/// `NoSuchPortal` comes where no portal has the name, `PortalFailed` where it has failed, and then what a turn is refused by, which
+/// fails the portal: `BadRow` at a row that can't be made, `OutOfSpace` where a block for its memory doesn't fit.
+pub fn fetch<H: ResetHook, K: ExtKind, E: Emit>(
+    store: &mut Store<H>,
+    name: Name,
+    count: u32,
+    shared: &mut Shared<'_, H, K>,
+    out: &mut E,
+) -> Result<(), Error>
+    requires between { IsBetweenSteps (now store.old shared.old) }
+    requires active { IsWorking (levels_of store.old.levels) }
+    requires range { IsInRange (command.Fetch name count) }
+    requires room { HasRoom most_work (now store.old shared.old) }
+    ensures performed { Performed most_work (work_of (command.Fetch name count) (session_of store.old shared.old.space.now)) (now store.old shared.old) (now store.new shared.new) (λ events. E.emits out.old events out.new) (refusal_of result) }
+{
+    let Some(portal) = portal_named(store, &name) else {
+        return Err(Error::NoSuchPortal);
+    };
+    if let PortalState::Failed = portal.state {
+        return Err(Error::PortalFailed);
+    }
+    begin_fetch(store, &name);
+    let rows = match fetch_rows(store, &name, count, shared, out) {
+        Ok(rows) => rows,
+        Err(error) => return Err(error),
+    };
+    out.emit(What::Fetched { portal: name, rows });
+    Ok(())
+}
+
+/// Fetches at most so many rows, and tells how many these were.
+fn fetch_rows<H: ResetHook, K: ExtKind, E: Emit>(
+    store: &mut Store<H>,
+    name: &Name,
+    count: u32,
+    shared: &mut Shared<'_, H, K>,
+    out: &mut E,
+) -> Result<u32, Error>
+    requires fetching { (scan : AScan) × IsFetching name.now scan (now store.old shared.old) }
+    requires room { HasRoom (3 * count) (now store.old shared.old) }
+    ensures fetched { IfOk result (λ rows. (scan : AScan) → IsFetching name.now scan (now store.old shared.old) → (done : List Element) × (fetch_steps name.now count scan 0 ≡ done ++ (e.Says (what.Fetched name.now rows) ∷ [])) × Performed (3 * count) done (now store.old shared.old) (now store.new shared.new) (λ events. E.emits out.old events out.new) None) }
+    ensures refused { IfErr result (λ error. (scan : AScan) → IsFetching name.now scan (now store.old shared.old) → Performed (3 * count) (fetch_steps name.now count scan 0) (now store.old shared.old) (now store.new shared.new) (λ events. E.emits out.old events out.new) (Some error)) }
+{
+    let mut rows = 0;
+    while rows < count {
+        match take_turn(store, name, shared, out) {
+            Ok(true) => rows += 1,
+            Ok(false) => return Ok(rows),
+            Err(error) => return Err(error),
+        }
+    }
+    Ok(rows)
+}
