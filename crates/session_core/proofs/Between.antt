@@ -1,5 +1,6 @@
 -- Behind the end of a level the session stands.
 use Rattle.std.proofs.Common.{◌≡◌, ℕ, ◌<◌, true, false, Option, Some, None, List, [], ◌∷◌, length, IfSome, refl, sym, ◌∙◌, ap, subst, arith}
+use Rattle.std.specs.Prelude.{All}
 use Rattle.addr_space.specs.Space.{Space}
 use Rattle.pgs_step.specs.declared.errors.Error.{Error}
 use Rattle.pgs_step.specs.declared.events.What.{What}
@@ -8,17 +9,18 @@ use Rattle.session_rules.specs.State.{LevelState, first_of, is_aborted}
 use Rattle.session_rules.specs.World.{Around, Scene}
 use Rattle.session_rules.specs.Acts.{Ended, in_order}
 use Rattle.session_rules.specs.Ends.{aborted, cleaned_up, committed, recovered, subcommitted}
-use Rattle.session_rules.specs.Standing.{AreOuter, IsOpen, Stands, StandsBetweenLines}
+use Rattle.session_rules.specs.Standing.{AreOuter, IsAtRest, IsOpen, Stands, StandsBetweenLines}
 use Rattle.session_rules.proofs.EndsStand.{aborted_stands, away_stands, cleaned_up_stands, committed_stands, recovered_stands, settled, subcommitted_stands}
 use Rattle.session_rules.proofs.StepsStand.{settled_as}
 use Rattle.session_owners.specs.Commons.{CommonState}
 use Rattle.session_owners.proofs.Balances.{serves_still}
-use Rattle.session_store.specs.State.{StoreState, levels_of, scene_of, session_of}
+use Rattle.session_store.specs.State.{StoreState, levels_of, portals_of, scene_of, session_of}
 use Rattle.session_store.specs.Calls.{Acted, Keeps, StandsIn}
 use Rattle.session_store.proofs.Depths.{levels_long}
 use Rattle.session_core.specs.Lines.{IsBetweenLines}
 use Rattle.session_core.specs.Ended.{Ends}
 use Rattle.session_work.specs.Performed.{IsBetweenSteps, Now}
+use Rattle.session_work.proofs.Standing.{empty_around}
 
 -- the deepest level and those above it
 record HasDeepest (ls : List LevelState) : Type 0 where
@@ -66,9 +68,24 @@ module _ (a b : Now) (P : List What → Type 0) (between : IsBetweenSteps a) (ke
             (λ k. stands d.deepest d.above (scene_of a.store a.space a.shelf a.commons around) d.are k));
       }
 
+  -- and portals are at rest behind it
+  ended_rest : (act : Scene → Ended)
+      → ((level : LevelState) (levels : List LevelState) (s : Scene) → levels_of a.store.levels ≡ level ∷ levels → Stands (settled (level ∷ levels) s) → All IsAtRest (act (settled (level ∷ levels) s)).scene.session.portals)
+      → 0 < length a.store.levels → Acted act a.store b.store a.space b.space a.shelf b.shelf a.commons b.commons P → All IsAtRest (portals_of b.store.portals)
+  unfolding session_of
+  ended_rest act rests some acted =
+      let d = deepest_of (levels_of a.store.levels) (subst (λ (n : ℕ). 0 < n) (sym (levels_long a.store.levels)) some) in
+      let s : Scene = scene_of a.store a.space a.shelf a.commons empty_around in
+      subst (λ (z : Scene). All IsAtRest z.session.portals) (acted.leads empty_around)
+      (settled_as (λ (w : Scene). All IsAtRest (act w).scene.session.portals) s (d.deepest ∷ d.above) (between.stands empty_around) d.are (λ k. rests d.deepest d.above s d.are k))
+
   pub clean_between : is_aborted (levels_of a.store.levels) ≡ true → 0 < length a.store.levels → Acted cleaned_up a.store b.store a.space b.space a.shelf b.shelf a.commons b.commons P → IsBetweenSteps b
   clean_between aborted some acted =
       ended_between cleaned_up (λ level levels s are h. let left = cleaned_up_stands level levels s (ap is_aborted (sym are) ∙ aborted) h in left.between.stands) some acted
+
+  pub clean_rest : is_aborted (levels_of a.store.levels) ≡ true → 0 < length a.store.levels → Acted cleaned_up a.store b.store a.space b.space a.shelf b.shelf a.commons b.commons P → All IsAtRest (portals_of b.store.portals)
+  clean_rest aborted some acted =
+      ended_rest cleaned_up (λ level levels s are h. let left = cleaned_up_stands level levels s (ap is_aborted (sym are) ∙ aborted) h in left.between.at_rest) some acted
 
   pub subcommit_between : 1 < length a.store.levels → Acted subcommitted a.store b.store a.space b.space a.shelf b.shelf a.commons b.commons P → IsBetweenSteps b
   subcommit_between more acted =
@@ -77,6 +94,9 @@ module _ (a b : Now) (P : List What → Type 0) (between : IsBetweenSteps a) (ke
 
   pub roll_between : 0 < length a.store.levels → Acted (in_order (aborted ∷ cleaned_up ∷ [])) a.store b.store a.space b.space a.shelf b.shelf a.commons b.commons P → IsBetweenSteps b
   roll_between some acted = ended_between (in_order (aborted ∷ cleaned_up ∷ [])) (λ level levels s are h. let left = away_stands level levels s h in left.between.stands) some acted
+
+  pub roll_rest : 0 < length a.store.levels → Acted (in_order (aborted ∷ cleaned_up ∷ [])) a.store b.store a.space b.space a.shelf b.shelf a.commons b.commons P → All IsAtRest (portals_of b.store.portals)
+  roll_rest some acted = ended_rest (in_order (aborted ∷ cleaned_up ∷ [])) (λ level levels s are h. let left = away_stands level levels s h in left.between.at_rest) some acted
 
   abort_of : (l : LevelState) (ls : List LevelState) → levels_of a.store.levels ≡ l ∷ ls → l.aborted ≡ false → IsOpen l → Acted aborted a.store b.store a.space b.space a.shelf b.shelf a.commons b.commons P → IsBetweenSteps b
   unfolding session_of

@@ -1,5 +1,6 @@
 -- A session between two lines.
 use Rattle.std.proofs.Common.{◌≡◌, ◌∙◌, ℕ, ◌<◌, ◌≤◌, true, false, List, [], ◌∷◌, length, Option, Some, None, Result, Ok, Err, OnOk, refl, sym, ap, subst, arith}
+use Rattle.std.specs.Prelude.{All}
 use Rattle.std.specs.Option.{option_map, option_map_or}
 use Rattle.pgs_command.specs.declared.commands.Command.{Command}
 use Rattle.pgs_step.specs.declared.errors.Error.{Error}
@@ -10,21 +11,25 @@ use Rattle.addr_space.specs.Space.{Space}
 use Rattle.context_rules.specs.Contexts.{Contexts}
 use Rattle.owner_core.specs.Owners.{OwnerTree}
 use Rattle.session_rules.specs.World.{Moment}
-use Rattle.session_rules.specs.Standing.{AreOpen, AreOuter, FitLevels, StandsBetweenLines}
+use Rattle.session_rules.specs.Standing.{AreOpen, AreOuter, FitLevels, IsAtRest, StandsBetweenLines}
 use Rattle.session_rules.specs.Commands.{elements_of}
 use Rattle.session_rules.specs.Does.{does_all}
 use Rattle.session_rules.specs.Transcript.{turn, turn_of}
 use Rattle.session_rules.proofs.TurnStands.{turn_stands}
 use Rattle.session_owners.proofs.Balances.{serves_still}
-use Rattle.session_store.specs.State.{StoreState, levels_of, level_state, session_of}
+use Rattle.session_store.specs.State.{StoreState, levels_of, level_state, portals_of, session_of}
 use Rattle.session_store.proofs.Depths.{levels_long}
 use Rattle.session_work.specs.Answers.{at_calls, refusal_of}
 use Rattle.session_work.proofs.Standing.{empty_around}
 use Rattle.session_core.specs.Lines.{IsAbortedBlock, IsBetweenLines, IsInBlock}
-use Rattle.session_work.specs.Performed.{Now, IsBetweenSteps, Performed, scene_in}
+use Rattle.session_work.specs.Performed.{Now, IsBetweenSteps, Performed, most_steps, scene_in}
 
 pub steps_of_lines : (a : Now) → IsBetweenLines a → IsBetweenSteps a
 steps_of_lines a h = record { keeps = h.keeps; serves = h.serves; stands = λ around. let z : StandsBetweenLines (scene_in a around) = h.stands around in z.stands }
+
+pub rest_of_lines : (a : Now) → IsBetweenLines a → All IsAtRest (portals_of a.store.portals)
+unfolding session_of
+rest_of_lines a h = let z : StandsBetweenLines (scene_in a empty_around) = h.stands empty_around in z.at_rest
 
 -- no level
 pub none_of : (levels : List Level) (o : Option Level) → o ≡ None → option_map level_state o ≡ first_of (levels_of levels) → levels ≡ []
@@ -77,7 +82,7 @@ turn_done : (c : Command) (m : Moment) → (does_all None (elements_of c m.scene
 unfolding turn
 turn_done c m e = ap (λ (o : Option Error). (turn_of (does_all None (elements_of c m.scene.session) m) o).moment) e
 
-pub lines_behind : (c : Command) (a b : Now) (P : List What → Type 0) (r : Result (Unit {0}) Error) → IsBetweenLines a → Performed 5 (elements_of c (session_of a.store a.space)) a b P (refusal_of r)
+pub lines_behind : (c : Command) (a b : Now) (P : List What → Type 0) (r : Result (Unit {0}) Error) → IsBetweenLines a → Performed most_steps (elements_of c (session_of a.store a.space)) a b P (refusal_of r)
     → OnOk r (IsBetweenLines b)
 lines_behind c a b P (Err e) lines done = tt
 lines_behind c a b P (Ok u) lines done = record {

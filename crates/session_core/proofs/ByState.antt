@@ -5,7 +5,7 @@ use Rattle.pgs_command.specs.declared.commands.Command.TheVariants as command
 use Rattle.pgs_step.specs.declared.errors.Error.{Error}
 use Rattle.pgs_step.specs.declared.events.What.{What}
 use Rattle.pgs_step.specs.declared.events.What.TheVariants as what
-use Rattle.session_rules.specs.State.{LevelState, SessionState, is_aborted}
+use Rattle.session_rules.specs.State.{LevelState, OpenPortal, SessionState, is_aborted}
 use Rattle.session_rules.specs.World.{Moment}
 use Rattle.session_rules.specs.Acts.{say}
 use Rattle.session_rules.specs.Elements.{Element, Text}
@@ -17,17 +17,18 @@ use Rattle.session_rules.specs.Calls.{unfailing}
 use Rattle.session_rules.specs.Does.{does}
 use Rattle.subxact_stack.specs.declared.levels.Level.{Level}
 use Rattle.session_owners.proofs.Balances.{balances_none}
-use Rattle.session_store.specs.State.{StoreState, levels_of, session_of}
+use Rattle.session_store.specs.State.{StoreState, levels_of, portals_of, session_of}
 use Rattle.session_store.proofs.Depths.{levels_long}
 use Rattle.session_store.specs.Calls.{Acted, Keeps}
 use Rattle.addr_space.specs.Space.{Space}
 use Rattle.session_rules.proofs.StepsStand.{IsWorking}
+use Rattle.session_rules.proofs.TurnStands.{IsWork}
 use Rattle.session_work.specs.Answers.{refusal_of}
-use Rattle.session_work.specs.Works.{IsWork}
+use Rattle.session_work.specs.Works.{IsWork as IsSessionWork}
 use Rattle.session_rules.specs.Standing.{AreOuter}
-use Rattle.session_core.specs.Lines.{IsAbortedBlock, IsInBlock, IsPerformed}
+use Rattle.session_core.specs.Lines.{IsAbortedBlock, IsInBlock}
 use Rattle.session_work.proofs.Commands.{fails}
-use Rattle.session_work.specs.Performed.{Now, Performed}
+use Rattle.session_work.specs.Performed.{Now, Performed, most_steps, most_work}
 use Rattle.session_work.proofs.Performing.{grows_nothing, moves_nothing, performed_both, performed_end, performed_more, performed_stop}
 
 -- the elements of a command where these are the levels
@@ -36,44 +37,22 @@ with_levels c session levels e = ap (λ (ls : List LevelState). elements_of c (r
 
 -- where the transaction isn't aborted
 worked : (c : Command) (session : SessionState) → IsWork c → unaborted c session ≡ in_transaction session.levels (work_of c session)
-worked command.Raise session h = refl
-worked (command.Pin buffer) session h = refl
-worked (command.Unpin buffer) session h = refl
-worked (command.Reference class key) session h = refl
-worked (command.Unreference class key) session h = refl
-worked (command.Acquire kind key) session h = refl
-worked (command.Drop kind key) session h = refl
-worked (command.Snapshot snapshot) session h = refl
-worked (command.Unsnapshot snapshot) session h = refl
-worked (command.Lock object mode) session h = refl
-worked (command.Unlock object mode) session h = refl
-worked (command.Open file) session h = refl
-worked (command.Touch file) session h = refl
-worked (command.Close file) session h = refl
-worked command.Report session h = refl
-worked command.Stat session h = refl
-worked (command.Buffer buffer) session h = refl
-worked (command.Push snapshot) session h = refl
-worked command.Pop session h = refl
-worked (command.Plan plan) session h = refl
-worked (command.PlanReference plan) session h = refl
-worked (command.PlanUnreference plan) session h = refl
-worked (command.PlanDrop plan) session h = refl
-worked (command.Context name parent kind) session h = refl
-worked (command.Switch name) session h = refl
-worked (command.OnReset name) session h = refl
-worked (command.Reset name) session h = refl
-worked (command.ResetOnly name) session h = refl
-worked (command.Delete name) session h = refl
-worked (command.DeleteChildren name) session h = refl
-worked (command.Reparent name parent) session h = refl
-worked (command.Alloc chunk size) session h = refl
-worked (command.AllocZeroed chunk size) session h = refl
-worked (command.Realloc chunk size) session h = refl
-worked (command.Free chunk) session h = refl
-worked (command.Put chunk at bytes) session h = refl
-worked (command.Show chunk at length) session h = refl
-worked other session h = absurd h
+worked command.Nothing session h = absurd h
+worked command.Begin session h = absurd h
+worked command.Commit session h = absurd h
+worked command.Rollback session h = absurd h
+worked (command.Savepoint name) session h = absurd h
+worked (command.Release name) session h = absurd h
+worked (command.RollbackTo name) session h = absurd h
+worked other session h = refl
+
+-- what a command does is told by the portals there are
+work_told : (c : Command) (s t : SessionState) → work_of c s ≡ work_of c (record t { portals = s.portals })
+work_told (command.Fetch name count) s t = refl
+work_told other s t = refl
+
+pub work_same : (c : Command) (s t : SessionState) → s.portals ≡ t.portals → work_of c s ≡ work_of c t
+work_same c s t e = work_told c s t ∙ ap (λ (ps : List OpenPortal). work_of c (record t { portals = ps })) e
 
 -- a command that works in a transaction block
 pub work_elements : (c : Command) (session : SessionState) (level : LevelState) (levels : List LevelState) → IsWork c → level.aborted ≡ false
@@ -99,29 +78,30 @@ performed_say event a P keeps h =
     performed_end 0 (element.Says event) (say event) a a P (does_say event) (says event a P h) keeps (moves_nothing a.store.tree a.space keeps.agrees) (grows_nothing 0 a) refl (λ around. refl)
 
 -- the elements of a command that works in an active level
-pub block_elements : (c : Command) (store : StoreState) (s : Space) → IsWork c → IsWorking (levels_of store.levels) → (session : SessionState) × (elements_of c (session_of store s) ≡ work_of c session ++ (element.Says what.Ok ∷ []))
+block_elements : (c : Command) (store : StoreState) (s : Space) → IsWork c → IsWorking (levels_of store.levels) → elements_of c (session_of store s) ≡ work_of c (session_of store s) ++ (element.Says what.Ok ∷ [])
 unfolding session_of
 block_elements c store s h active = go (levels_of store.levels) refl active
   where
-    go : (levels : List LevelState) → levels_of store.levels ≡ levels → IsWorking levels → (session : SessionState) × (elements_of c (session_of store s) ≡ work_of c session ++ (element.Says what.Ok ∷ []))
+    go : (levels : List LevelState) → levels_of store.levels ≡ levels → IsWorking levels → elements_of c (session_of store s) ≡ work_of c (session_of store s) ++ (element.Says what.Ok ∷ [])
     go [] e no_level = absurd no_level
     go (level ∷ levels) e is =
-        (record (session_of store s) { levels = level ∷ levels }, with_levels c (session_of store s) (level ∷ levels) e ∙ work_elements c (session_of store s) level levels h is.unaborted)
+        with_levels c (session_of store s) (level ∷ levels) e
+        ∙ work_elements c (session_of store s) level levels h is.unaborted
+        ∙ ap (λ (es : List Element). es ++ (element.Says what.Ok ∷ [])) (work_same c (record (session_of store s) { levels = level ∷ levels }) (session_of store s) refl)
 
 module _ (c : Command) (a b : Now) (h : IsWork c) (active : IsWorking (levels_of a.store.levels)) where
   -- the work was done, and that is said
-  pub work_then_ok : (P Q R : List What → Type 0) → ((session : SessionState) → Performed 2 (work_of c session) a b P None) → Keeps b.store b.space → Q (what.Ok ∷ []) → ((us vs : List What) → P us → Q vs → R (us ++ vs))
-      → Performed 2 (elements_of c (session_of a.store a.space)) a b R None
+  pub work_then_ok : (P Q R : List What → Type 0) → Performed most_work (work_of c (session_of a.store a.space)) a b P None → Keeps b.store b.space → Q (what.Ok ∷ []) → ((us vs : List What) → P us → Q vs → R (us ++ vs))
+      → Performed most_work (elements_of c (session_of a.store a.space)) a b R None
   work_then_ok P Q R work keeps said joins =
-      let is = block_elements c a.store a.space h active in
-      subst (λ (es : List Element). Performed 2 es a b R None) (sym is.1)
-      (performed_both 2 0 (work_of c is.0) (element.Says what.Ok ∷ []) a b b P Q R None (work is.0) (performed_say what.Ok b Q keeps said) joins)
+      subst (λ (es : List Element). Performed most_work es a b R None) (sym (block_elements c a.store a.space h active))
+      (performed_both most_work 0 (work_of c (session_of a.store a.space)) (element.Says what.Ok ∷ []) a b b P Q R None work (performed_say what.Ok b Q keeps said) joins)
 
   -- it was refused
-  pub work_stopped : (P : List What → Type 0) (e : Error) → ((session : SessionState) → Performed 2 (work_of c session) a b P (Some e)) → Performed 2 (elements_of c (session_of a.store a.space)) a b P (Some e)
+  pub work_stopped : (P : List What → Type 0) (e : Error) → Performed most_work (work_of c (session_of a.store a.space)) a b P (Some e) → Performed most_work (elements_of c (session_of a.store a.space)) a b P (Some e)
   work_stopped P e work =
-      let is = block_elements c a.store a.space h active in
-      subst (λ (es : List Element). Performed 2 es a b P (Some e)) (sym is.1) (performed_stop 2 (work_of c is.0) (element.Says what.Ok ∷ []) a b P e (work is.0))
+      subst (λ (es : List Element). Performed most_work es a b P (Some e)) (sym (block_elements c a.store a.space h active))
+      (performed_stop most_work (work_of c (session_of a.store a.space)) (element.Says what.Ok ∷ []) a b P e work)
 
 -- the answer of a call as the answer of the command
 pub none_told : {A : Type 0} (k : ℕ) (es : List Element) (a b : Now) (P : List What → Type 0) (r : Result A Error) (u : A) → r ≡ Ok u → Performed k es a b P (refusal_of r) → Performed k es a b P None
@@ -256,46 +236,16 @@ module _ (name : Text) (level : LevelState) (levels : List LevelState) (session 
   unfolding elements_of
   release_aborted = refl
 
-pub work_aborted : (c : Command) → IsWork c → (level : LevelState) (levels : List LevelState) (session : SessionState) → elements_of c (record session { levels = record level { aborted = true } ∷ levels }) ≡ refused error.TransactionAborted
+work_aborted : (c : Command) → IsWork c → (level : LevelState) (levels : List LevelState) (session : SessionState) → elements_of c (record session { levels = record level { aborted = true } ∷ levels }) ≡ refused error.TransactionAborted
 unfolding elements_of
-work_aborted command.Raise h level levels session = refl
-work_aborted (command.Pin buffer) h level levels session = refl
-work_aborted (command.Unpin buffer) h level levels session = refl
-work_aborted (command.Reference class key) h level levels session = refl
-work_aborted (command.Unreference class key) h level levels session = refl
-work_aborted (command.Acquire kind key) h level levels session = refl
-work_aborted (command.Drop kind key) h level levels session = refl
-work_aborted (command.Snapshot snapshot) h level levels session = refl
-work_aborted (command.Unsnapshot snapshot) h level levels session = refl
-work_aborted (command.Lock object mode) h level levels session = refl
-work_aborted (command.Unlock object mode) h level levels session = refl
-work_aborted (command.Open file) h level levels session = refl
-work_aborted (command.Touch file) h level levels session = refl
-work_aborted (command.Close file) h level levels session = refl
-work_aborted command.Report h level levels session = refl
-work_aborted command.Stat h level levels session = refl
-work_aborted (command.Buffer buffer) h level levels session = refl
-work_aborted (command.Push snapshot) h level levels session = refl
-work_aborted command.Pop h level levels session = refl
-work_aborted (command.Plan plan) h level levels session = refl
-work_aborted (command.PlanReference plan) h level levels session = refl
-work_aborted (command.PlanUnreference plan) h level levels session = refl
-work_aborted (command.PlanDrop plan) h level levels session = refl
-work_aborted (command.Context name parent kind) h level levels session = refl
-work_aborted (command.Switch name) h level levels session = refl
-work_aborted (command.OnReset name) h level levels session = refl
-work_aborted (command.Reset name) h level levels session = refl
-work_aborted (command.ResetOnly name) h level levels session = refl
-work_aborted (command.Delete name) h level levels session = refl
-work_aborted (command.DeleteChildren name) h level levels session = refl
-work_aborted (command.Reparent name parent) h level levels session = refl
-work_aborted (command.Alloc chunk size) h level levels session = refl
-work_aborted (command.AllocZeroed chunk size) h level levels session = refl
-work_aborted (command.Realloc chunk size) h level levels session = refl
-work_aborted (command.Free chunk) h level levels session = refl
-work_aborted (command.Put chunk at bytes) h level levels session = refl
-work_aborted (command.Show chunk at length) h level levels session = refl
-work_aborted other h level levels session = absurd h
+work_aborted command.Nothing h level levels session = absurd h
+work_aborted command.Begin h level levels session = absurd h
+work_aborted command.Commit h level levels session = absurd h
+work_aborted command.Rollback h level levels session = absurd h
+work_aborted (command.Savepoint name) h level levels session = absurd h
+work_aborted (command.Release name) h level levels session = absurd h
+work_aborted (command.RollbackTo name) h level levels session = absurd h
+work_aborted other h level levels session = refl
 
 pub nothing_idle : (session : SessionState) → elements_of command.Nothing (record session { levels = [] }) ≡ []
 unfolding elements_of
@@ -341,53 +291,16 @@ pub performed_ok : (k : ℕ) (es : List Element) (a b : Now) (P Q R : List What 
 performed_ok k es a b P Q R h said joins = performed_both k 0 es (element.Says what.Ok ∷ []) a b b P Q R None h (performed_say what.Ok b Q h.keeps said) joins
 
 -- any other command in an aborted transaction
-pub others_aborted : (c : Command) → IsPerformed c → (c ≡ command.Nothing → ⊥) → (c ≡ command.Commit → ⊥) → (c ≡ command.Rollback → ⊥) → ((name : Text) → c ≡ command.RollbackTo name → ⊥) → (level : LevelState) (levels : List LevelState) (session : SessionState)
+pub others_aborted : (c : Command) → (c ≡ command.Nothing → ⊥) → (c ≡ command.Commit → ⊥) → (c ≡ command.Rollback → ⊥) → ((name : Text) → c ≡ command.RollbackTo name → ⊥) → (level : LevelState) (levels : List LevelState) (session : SessionState)
     → elements_of c (record session { levels = record level { aborted = true } ∷ levels }) ≡ refused error.TransactionAborted
-others_aborted command.Nothing h nothing commit rollback back level levels session = absurd (nothing refl)
-others_aborted command.Commit h nothing commit rollback back level levels session = absurd (commit refl)
-others_aborted command.Rollback h nothing commit rollback back level levels session = absurd (rollback refl)
-others_aborted command.Begin h nothing commit rollback back level levels session = begin_aborted level levels session
-others_aborted (command.Savepoint name) h nothing commit rollback back level levels session = savepoint_aborted name level levels session
-others_aborted (command.Release name) h nothing commit rollback back level levels session = release_aborted name level levels session
-others_aborted (command.RollbackTo name) h nothing commit rollback back level levels session = absurd (back name refl)
-others_aborted command.Raise h nothing commit rollback back level levels session = work_aborted command.Raise h level levels session
-others_aborted (command.Pin buffer) h nothing commit rollback back level levels session = work_aborted (command.Pin buffer) h level levels session
-others_aborted (command.Unpin buffer) h nothing commit rollback back level levels session = work_aborted (command.Unpin buffer) h level levels session
-others_aborted (command.Reference class key) h nothing commit rollback back level levels session = work_aborted (command.Reference class key) h level levels session
-others_aborted (command.Unreference class key) h nothing commit rollback back level levels session = work_aborted (command.Unreference class key) h level levels session
-others_aborted (command.Acquire kind key) h nothing commit rollback back level levels session = work_aborted (command.Acquire kind key) h level levels session
-others_aborted (command.Drop kind key) h nothing commit rollback back level levels session = work_aborted (command.Drop kind key) h level levels session
-others_aborted (command.Snapshot snapshot) h nothing commit rollback back level levels session = work_aborted (command.Snapshot snapshot) h level levels session
-others_aborted (command.Unsnapshot snapshot) h nothing commit rollback back level levels session = work_aborted (command.Unsnapshot snapshot) h level levels session
-others_aborted (command.Lock object mode) h nothing commit rollback back level levels session = work_aborted (command.Lock object mode) h level levels session
-others_aborted (command.Unlock object mode) h nothing commit rollback back level levels session = work_aborted (command.Unlock object mode) h level levels session
-others_aborted (command.Open file) h nothing commit rollback back level levels session = work_aborted (command.Open file) h level levels session
-others_aborted (command.Touch file) h nothing commit rollback back level levels session = work_aborted (command.Touch file) h level levels session
-others_aborted (command.Close file) h nothing commit rollback back level levels session = work_aborted (command.Close file) h level levels session
-others_aborted command.Report h nothing commit rollback back level levels session = work_aborted command.Report h level levels session
-others_aborted command.Stat h nothing commit rollback back level levels session = work_aborted command.Stat h level levels session
-others_aborted (command.Buffer buffer) h nothing commit rollback back level levels session = work_aborted (command.Buffer buffer) h level levels session
-others_aborted (command.Push snapshot) h nothing commit rollback back level levels session = work_aborted (command.Push snapshot) h level levels session
-others_aborted command.Pop h nothing commit rollback back level levels session = work_aborted command.Pop h level levels session
-others_aborted (command.Plan plan) h nothing commit rollback back level levels session = work_aborted (command.Plan plan) h level levels session
-others_aborted (command.PlanReference plan) h nothing commit rollback back level levels session = work_aborted (command.PlanReference plan) h level levels session
-others_aborted (command.PlanUnreference plan) h nothing commit rollback back level levels session = work_aborted (command.PlanUnreference plan) h level levels session
-others_aborted (command.PlanDrop plan) h nothing commit rollback back level levels session = work_aborted (command.PlanDrop plan) h level levels session
-others_aborted (command.Context name parent kind) h nothing commit rollback back level levels session = work_aborted (command.Context name parent kind) h level levels session
-others_aborted (command.Switch name) h nothing commit rollback back level levels session = work_aborted (command.Switch name) h level levels session
-others_aborted (command.OnReset name) h nothing commit rollback back level levels session = work_aborted (command.OnReset name) h level levels session
-others_aborted (command.Reset name) h nothing commit rollback back level levels session = work_aborted (command.Reset name) h level levels session
-others_aborted (command.ResetOnly name) h nothing commit rollback back level levels session = work_aborted (command.ResetOnly name) h level levels session
-others_aborted (command.Delete name) h nothing commit rollback back level levels session = work_aborted (command.Delete name) h level levels session
-others_aborted (command.DeleteChildren name) h nothing commit rollback back level levels session = work_aborted (command.DeleteChildren name) h level levels session
-others_aborted (command.Reparent name parent) h nothing commit rollback back level levels session = work_aborted (command.Reparent name parent) h level levels session
-others_aborted (command.Alloc chunk size) h nothing commit rollback back level levels session = work_aborted (command.Alloc chunk size) h level levels session
-others_aborted (command.AllocZeroed chunk size) h nothing commit rollback back level levels session = work_aborted (command.AllocZeroed chunk size) h level levels session
-others_aborted (command.Realloc chunk size) h nothing commit rollback back level levels session = work_aborted (command.Realloc chunk size) h level levels session
-others_aborted (command.Free chunk) h nothing commit rollback back level levels session = work_aborted (command.Free chunk) h level levels session
-others_aborted (command.Put chunk at bytes) h nothing commit rollback back level levels session = work_aborted (command.Put chunk at bytes) h level levels session
-others_aborted (command.Show chunk at length) h nothing commit rollback back level levels session = work_aborted (command.Show chunk at length) h level levels session
-others_aborted other h nothing commit rollback back level levels session = absurd h
+others_aborted command.Nothing nothing commit rollback back level levels session = absurd (nothing refl)
+others_aborted command.Commit nothing commit rollback back level levels session = absurd (commit refl)
+others_aborted command.Rollback nothing commit rollback back level levels session = absurd (rollback refl)
+others_aborted command.Begin nothing commit rollback back level levels session = begin_aborted level levels session
+others_aborted (command.Savepoint name) nothing commit rollback back level levels session = savepoint_aborted name level levels session
+others_aborted (command.Release name) nothing commit rollback back level levels session = release_aborted name level levels session
+others_aborted (command.RollbackTo name) nothing commit rollback back level levels session = absurd (back name refl)
+others_aborted other nothing commit rollback back level levels session = work_aborted other tt level levels session
 
 -- the refusal of a command without a transaction, of one whose savepoint there isn't, and of one in an aborted transaction
 pub refused_idle : (a : Now) (P : List What → Type 0) → Keeps a.store a.space → P [] → Performed 0 (then_ok (refused error.NoTransactionBlock)) a a P (Some error.NoTransactionBlock)
@@ -416,76 +329,55 @@ savepoints_idle c store s (inr (inr p)) none =
 -- a command that works where no transaction is open
 idle_work : (c : Command) → IsWork c → (session : SessionState) → elements_of c (record session { levels = [] }) ≡ start None true ++ (work_of c (record session { levels = [] }) ++ (element.CommitTop ∷ element.Says what.Ok ∷ []))
 unfolding elements_of
-idle_work command.Raise h session = refl
-idle_work (command.Pin buffer) h session = refl
-idle_work (command.Unpin buffer) h session = refl
-idle_work (command.Reference class key) h session = refl
-idle_work (command.Unreference class key) h session = refl
-idle_work (command.Acquire kind key) h session = refl
-idle_work (command.Drop kind key) h session = refl
-idle_work (command.Snapshot snapshot) h session = refl
-idle_work (command.Unsnapshot snapshot) h session = refl
-idle_work (command.Lock object mode) h session = refl
-idle_work (command.Unlock object mode) h session = refl
-idle_work (command.Open file) h session = refl
-idle_work (command.Touch file) h session = refl
-idle_work (command.Close file) h session = refl
-idle_work command.Report h session = refl
-idle_work command.Stat h session = refl
-idle_work (command.Buffer buffer) h session = refl
-idle_work (command.Push snapshot) h session = refl
-idle_work command.Pop h session = refl
-idle_work (command.Plan plan) h session = refl
-idle_work (command.PlanReference plan) h session = refl
-idle_work (command.PlanUnreference plan) h session = refl
-idle_work (command.PlanDrop plan) h session = refl
-idle_work (command.Context name parent kind) h session = refl
-idle_work (command.Switch name) h session = refl
-idle_work (command.OnReset name) h session = refl
-idle_work (command.Reset name) h session = refl
-idle_work (command.ResetOnly name) h session = refl
-idle_work (command.Delete name) h session = refl
-idle_work (command.DeleteChildren name) h session = refl
-idle_work (command.Reparent name parent) h session = refl
-idle_work (command.Alloc chunk size) h session = refl
-idle_work (command.AllocZeroed chunk size) h session = refl
-idle_work (command.Realloc chunk size) h session = refl
-idle_work (command.Free chunk) h session = refl
-idle_work (command.Put chunk at bytes) h session = refl
-idle_work (command.Show chunk at length) h session = refl
-idle_work other h session = absurd h
+idle_work command.Nothing h session = absurd h
+idle_work command.Begin h session = absurd h
+idle_work command.Commit h session = absurd h
+idle_work command.Rollback h session = absurd h
+idle_work (command.Savepoint name) h session = absurd h
+idle_work (command.Release name) h session = absurd h
+idle_work (command.RollbackTo name) h session = absurd h
+idle_work other h session = refl
 
-module _ (c : Command) (a : Now) (h : IsWork c) (none : levels_of a.store.levels ≡ []) where
-  alone_session : SessionState
+-- the start of a level and the work in it, within what a line may raise a counter by
+pub level_and_work : 3 + most_work ≤ most_steps
+level_and_work = omega arith
+
+module _ (c : Command) (a m : Now) (h : IsWork c) (none : levels_of a.store.levels ≡ []) (same : portals_of m.store.portals ≡ portals_of a.store.portals) where
+  abbrev work_now : List Element
+  work_now = work_of c (session_of m.store m.space)
+
+  alone_elements : elements_of c (session_of a.store a.space) ≡ start None true ++ (work_now ++ (element.CommitTop ∷ element.Says what.Ok ∷ []))
   unfolding session_of
-  alone_session = record (session_of a.store a.space) { levels = [] }
-
-  alone_elements : elements_of c (session_of a.store a.space) ≡ start None true ++ (work_of c alone_session ++ (element.CommitTop ∷ element.Says what.Ok ∷ []))
-  unfolding session_of alone_session
-  alone_elements = with_levels c (session_of a.store a.space) [] none ∙ idle_work c h (session_of a.store a.space)
+  alone_elements =
+      with_levels c (session_of a.store a.space) [] none
+      ∙ idle_work c h (session_of a.store a.space)
+      ∙ ap (λ (es : List Element). start None true ++ (es ++ (element.CommitTop ∷ element.Says what.Ok ∷ []))) (work_same c (record (session_of a.store a.space) { levels = [] }) (session_of m.store m.space) (sym same))
 
   -- it was done, level and all
-  pub alone_done : (m n b : Now) (P Q R S T : List What → Type 0) → Performed 3 (start None true) a m P None → ((session : SessionState) → Performed 2 (work_of c session) m n Q None)
+  pub alone_done : (n b : Now) (P Q R S T : List What → Type 0) → Performed 3 (start None true) a m P None → Performed most_work work_now m n Q None
       → Performed 0 (element.CommitTop ∷ element.Says what.Ok ∷ []) n b R None → ((us vs : List What) → Q us → R vs → S (us ++ vs)) → ((us vs : List What) → P us → S vs → T (us ++ vs))
-      → Performed 5 (elements_of c (session_of a.store a.space)) a b T None
-  alone_done m n b P Q R S T begun worked ended joins all =
-      as_elements 5 _ _ a b T None alone_elements
-      (performed_both 3 2 (start None true) _ a m b P S T None begun
-      (performed_both 2 0 (work_of c alone_session) (element.CommitTop ∷ element.Says what.Ok ∷ []) m n b Q R S None (worked alone_session) ended joins) all)
-
-  -- its level wasn't started
-  pub alone_unstarted : (b : Now) (P : List What → Type 0) (e : Error) → Performed 3 (start None true) a b P (Some e) → Performed 5 (elements_of c (session_of a.store a.space)) a b P (Some e)
-  alone_unstarted b P e begun =
-      as_elements 5 _ _ a b P (Some e) alone_elements
-      (performed_more 3 5 _ a b P (Some e) (omega arith) (performed_stop 3 (start None true) _ a b P e begun))
+      → Performed most_steps (elements_of c (session_of a.store a.space)) a b T None
+  alone_done n b P Q R S T begun worked ended joins all =
+      as_elements most_steps _ _ a b T None alone_elements
+      (performed_more (3 + most_work) most_steps _ a b T None level_and_work
+      (performed_both 3 most_work (start None true) _ a m b P S T None begun
+      (performed_both most_work 0 work_now (element.CommitTop ∷ element.Says what.Ok ∷ []) m n b Q R S None worked ended joins) all))
 
   -- it was refused in its level
-  pub alone_refused : (m b : Now) (P Q T : List What → Type 0) (e : Error) → Performed 3 (start None true) a m P None → ((session : SessionState) → Performed 2 (work_of c session) m b Q (Some e))
-      → ((us vs : List What) → P us → Q vs → T (us ++ vs)) → Performed 5 (elements_of c (session_of a.store a.space)) a b T (Some e)
-  alone_refused m b P Q T e begun worked all =
-      as_elements 5 _ _ a b T (Some e) alone_elements
-      (performed_both 3 2 (start None true) _ a m b P Q T (Some e) begun
-      (performed_stop 2 (work_of c alone_session) (element.CommitTop ∷ element.Says what.Ok ∷ []) m b Q e (worked alone_session)) all)
+  pub alone_refused : (b : Now) (P Q T : List What → Type 0) (e : Error) → Performed 3 (start None true) a m P None → Performed most_work work_now m b Q (Some e)
+      → ((us vs : List What) → P us → Q vs → T (us ++ vs)) → Performed most_steps (elements_of c (session_of a.store a.space)) a b T (Some e)
+  alone_refused b P Q T e begun worked all =
+      as_elements most_steps _ _ a b T (Some e) alone_elements
+      (performed_more (3 + most_work) most_steps _ a b T (Some e) level_and_work
+      (performed_both 3 most_work (start None true) _ a m b P Q T (Some e) begun
+      (performed_stop most_work work_now (element.CommitTop ∷ element.Says what.Ok ∷ []) m b Q e worked) all))
+
+-- its level wasn't started
+pub alone_unstarted : (c : Command) (a b : Now) → IsWork c → levels_of a.store.levels ≡ [] → (P : List What → Type 0) (e : Error) → Performed 3 (start None true) a b P (Some e)
+    → Performed most_steps (elements_of c (session_of a.store a.space)) a b P (Some e)
+alone_unstarted c a b h none P e begun =
+    as_elements most_steps _ _ a b P (Some e) (alone_elements c a a h none refl)
+    (performed_more 3 most_steps _ a b P (Some e) (omega arith) (performed_stop 3 (start None true) _ a b P e begun))
 
 -- what is known where a call was answered
 pub on_of : {A E P : Type 0} (r : Result A E) (u : A) → r ≡ Ok u → OnOk r P → P
@@ -498,17 +390,25 @@ on_of (Err e) u is p = absurd (other is)
 pub no_levels : (levels : List Level) → levels ≡ [] → levels_of levels ≡ []
 no_levels levels e = ap levels_of e
 
--- a command that is performed, but none on transactions
-pub works_else : (c : Command) → IsPerformed c → (c ≡ command.Nothing → ⊥) → (c ≡ command.Begin → ⊥) → (c ≡ command.Commit → ⊥) → (c ≡ command.Rollback → ⊥) → ((name : Text) → c ≡ command.Savepoint name → ⊥)
+-- a command that is none on transactions
+pub works_else : (c : Command) → (c ≡ command.Nothing → ⊥) → (c ≡ command.Begin → ⊥) → (c ≡ command.Commit → ⊥) → (c ≡ command.Rollback → ⊥) → ((name : Text) → c ≡ command.Savepoint name → ⊥)
     → ((name : Text) → c ≡ command.Release name → ⊥) → ((name : Text) → c ≡ command.RollbackTo name → ⊥) → IsWork c
-works_else command.Nothing h nothing begin commit rollback save release back = absurd (nothing refl)
-works_else command.Begin h nothing begin commit rollback save release back = absurd (begin refl)
-works_else command.Commit h nothing begin commit rollback save release back = absurd (commit refl)
-works_else command.Rollback h nothing begin commit rollback save release back = absurd (rollback refl)
-works_else (command.Savepoint name) h nothing begin commit rollback save release back = absurd (save name refl)
-works_else (command.Release name) h nothing begin commit rollback save release back = absurd (release name refl)
-works_else (command.RollbackTo name) h nothing begin commit rollback save release back = absurd (back name refl)
-works_else other h nothing begin commit rollback save release back = h
+works_else command.Nothing nothing begin commit rollback save release back = absurd (nothing refl)
+works_else command.Begin nothing begin commit rollback save release back = absurd (begin refl)
+works_else command.Commit nothing begin commit rollback save release back = absurd (commit refl)
+works_else command.Rollback nothing begin commit rollback save release back = absurd (rollback refl)
+works_else (command.Savepoint name) nothing begin commit rollback save release back = absurd (save name refl)
+works_else (command.Release name) nothing begin commit rollback save release back = absurd (release name refl)
+works_else (command.RollbackTo name) nothing begin commit rollback save release back = absurd (back name refl)
+works_else other nothing begin commit rollback save release back = tt
+
+-- one that works, but isn't on portals
+pub works_beside : (c : Command) → IsWork c → ((name : Text) (object rows : ℕ) (bad : Option ℕ) → c ≡ command.Portal name object rows bad → ⊥) → ((name : Text) (count : ℕ) → c ≡ command.Fetch name count → ⊥)
+    → ((name : Text) → c ≡ command.EndPortal name → ⊥) → IsSessionWork c
+works_beside (command.Portal name object rows bad) h made fetched ended = absurd (made name object rows bad refl)
+works_beside (command.Fetch name count) h made fetched ended = absurd (fetched name count refl)
+works_beside (command.EndPortal name) h made fetched ended = absurd (ended name refl)
+works_beside other h made fetched ended = h
 
 -- the levels of a block
 pub working_block : (levels : List Level) → IsInBlock levels → IsWorking (levels_of levels)

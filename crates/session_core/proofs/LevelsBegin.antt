@@ -1,98 +1,97 @@
 -- A session stands behind each step by which a level begins.
 use Rattle.std.proofs.Common.{◌≡◌, ℕ, ◌+◌, ◌<◌, ◌≤◌, Bool, true, false, List, [], ◌∷◌, ◌++◌, length, Option, Some, None, refl, sym, ◌∙◌, ap, subst, arith, append-nil}
+use Rattle.std.specs.Prelude.{All}
 use Rattle.pgs_step.specs.declared.errors.Error.{Error}
 use Rattle.pgs_step.specs.declared.events.What.{What}
 use Rattle.forest.specs.Forest.{size}
-use Rattle.session_rules.specs.State.{LevelState}
+use Rattle.session_rules.specs.State.{LevelState, OpenPortal}
 use Rattle.session_rules.specs.World.{Around, Moment, Scene}
-use Rattle.session_rules.specs.Acts.{Ended}
 use Rattle.session_rules.specs.Elements.{Element, LevelContext, OfLevel, Text}
 use Rattle.session_rules.specs.Elements as element
-use Rattle.session_rules.specs.Calls.{fallible, refused_call, unless_refused}
 use Rattle.session_rules.specs.Commands.{start}
 use Rattle.session_rules.specs.Does.{does, does_all}
 use Rattle.session_rules.specs.Making.{level_made, new_context_made, new_owner_made}
 use Rattle.session_rules.specs.Parts.{level_stands}
-use Rattle.session_rules.specs.Standing.{AreOuter, Stands}
-use Rattle.session_rules.proofs.StepsStand.{below_limit, level_context_stands, level_made_stands, level_owner_stands, level_stands_stands, own_refusal, settled_as}
-use Rattle.session_rules.proofs.TurnStands.{At, Leads, leads_nowhere, leads_on}
-use Rattle.session_store.specs.State.{levels_of}
+use Rattle.session_rules.specs.Standing.{AreOuter, IsAtRest, Stands}
+use Rattle.session_rules.proofs.StepsStand.{below_limit, level_context_stands, level_made_stands, level_owner_stands, level_stands_stands, settled_as}
+use Rattle.session_rules.proofs.TurnStands.{Leads, fallible_leads, leads_nowhere, leads_on}
+use Rattle.session_store.specs.State.{levels_of, portals_of, session_of}
 use Rattle.session_store.proofs.Depths.{levels_long}
 use Rattle.session_work.specs.Answers.{at_calls}
 use Rattle.session_core.specs.Begun.{HasBegun}
 use Rattle.session_store.specs.Calls.{IsSilent}
 use Rattle.session_work.specs.Performed.{Now, Grows, HasRoom, IsBetweenSteps, Performed, scene_in}
 use Rattle.session_work.proofs.Performing.{performed_both, performed_more, performed_stop}
-use Rattle.session_work.proofs.Standing.{at_levels, empty_around, known_behind, levels_at, stands_behind}
+use Rattle.session_work.proofs.Standing.{empty_around, known_behind, stands_behind}
 
 -- a level as it is being begun
 abbrev pub begun : Option Text → Bool → Option ℕ → Option ℕ → Bool → LevelState
 begun name implicit c o starting = record { name = name; context = c; owner = o; implicit = implicit; aborted = false; starting = starting }
 
--- a fallible step
-fallible_leads : (Q : Scene → Type 0) (w : Option ℕ) (moment : Moment) (own : Option Error) (act : Scene → Ended) → Stands moment.scene → ((z : Scene) → Q z → Stands z) → (own ≡ None → Q (act moment.scene).scene)
-    → Leads Q (fallible w moment own act)
-fallible_leads Q w moment own act before so behind =
-    go (refused_call w moment.fail (moment.calls + 1) own) (own_refusal w moment.fail (moment.calls + 1) own)
-  where
-    go : (r : Option Error) → (r ≡ None → own ≡ None) → Leads Q (unless_refused r (record moment { calls = moment.calls + 1 }) act)
-    go None h = let q : Q (act moment.scene).scene = behind (h refl) in record { stands = so (act moment.scene).scene q; passed = λ _. q }
-    go (Some r) h = record { stands = before; passed = λ e. absurd (cc e) }
-
 -- one element
 one_leads : (w : Option ℕ) (Q : Scene → Type 0) (x : Element) (moment : Moment) → ((z : Scene) → Q z → Stands z) → Leads Q (does w x moment) → Leads Q (does_all w (x ∷ []) moment)
 one_leads w Q x moment so h = leads_on w Q Q x [] moment h (λ m q. leads_nowhere w Q m (so m.scene q) q)
 
+-- a session that stands, with these levels and these portals
+record Has (levels : List LevelState) (portals : List OpenPortal) (scene : Scene) : Type 0 where
+  stands : Stands scene
+  are : scene.session.levels ≡ levels
+  portals_are : scene.session.portals ≡ portals
+
 -- the deepest level has a context; it has its owner too
-record HasContext (name : Option Text) (implicit : Bool) (outer : List LevelState) (scene : Scene) : Type 0 where
+record HasContext (name : Option Text) (implicit : Bool) (outer : List LevelState) (portals : List OpenPortal) (scene : Scene) : Type 0 where
   context : ℕ
-  at : At (begun name implicit (Some context) None true ∷ outer) scene
+  has : Has (begun name implicit (Some context) None true ∷ outer) portals scene
 
-record HasOwner (name : Option Text) (implicit : Bool) (context : ℕ) (outer : List LevelState) (scene : Scene) : Type 0 where
+record HasOwner (name : Option Text) (implicit : Bool) (context : ℕ) (outer : List LevelState) (portals : List OpenPortal) (scene : Scene) : Type 0 where
   owner : ℕ
-  at : At (begun name implicit (Some context) (Some owner) true ∷ outer) scene
+  has : Has (begun name implicit (Some context) (Some owner) true ∷ outer) portals scene
 
-module _ (name : Option Text) (implicit : Bool) (outer : List LevelState) (w : Option ℕ) (moment : Moment) where
-  level_leads : At outer moment.scene → AreOuter outer → (implicit ≡ true → outer ≡ []) → Leads (At (begun name implicit None None true ∷ outer)) (does w (element.MakeLevel name implicit) moment)
+module _ (name : Option Text) (implicit : Bool) (outer : List LevelState) (portals : List OpenPortal) (w : Option ℕ) (moment : Moment) where
+  level_leads : All IsAtRest portals → Has outer portals moment.scene → AreOuter outer → (implicit ≡ true → outer ≡ []) → Leads (Has (begun name implicit None None true ∷ outer) portals) (does w (element.MakeLevel name implicit) moment)
   unfolding does
-  level_leads at are alone =
-      fallible_leads (At (begun name implicit None None true ∷ outer)) w moment _ (level_made name implicit) at.stands (λ z q. q.stands)
+  level_leads rest has are alone =
+      fallible_leads (Has (begun name implicit None None true ∷ outer) portals) w moment _ (level_made name implicit) has.stands (λ z q. q.stands)
       (λ _. record {
-        stands = level_made_stands name implicit moment.scene at.stands at.at_rest (subst AreOuter (sym at.are) are) (λ e. at.are ∙ alone e);
-        are = ap (λ (ls : List LevelState). begun name implicit None None true ∷ ls) at.are;
-        at_rest = at.at_rest;
+        stands = level_made_stands name implicit moment.scene has.stands (subst (All IsAtRest) (sym has.portals_are) rest) (subst AreOuter (sym has.are) are) (λ e. has.are ∙ alone e);
+        are = ap (λ (ls : List LevelState). begun name implicit None None true ∷ ls) has.are;
+        portals_are = has.portals_are;
       })
 
-  context_leads : At (begun name implicit None None true ∷ outer) moment.scene → Leads (HasContext name implicit outer) (does w (element.MakeContext LevelContext) moment)
+  context_leads : Has (begun name implicit None None true ∷ outer) portals moment.scene → Leads (HasContext name implicit outer portals) (does w (element.MakeContext LevelContext) moment)
   unfolding does
-  context_leads at =
-      fallible_leads (HasContext name implicit outer) w moment _ (new_context_made LevelContext) at.stands (λ z q. q.at.stands)
-      (λ _. settled_as (λ (z : Scene). HasContext name implicit outer (new_context_made LevelContext z).scene) moment.scene (begun name implicit None None true ∷ outer) at.stands at.are
+  context_leads has =
+      fallible_leads (HasContext name implicit outer portals) w moment _ (new_context_made LevelContext) has.stands (λ z q. q.has.stands)
+      (λ _. settled_as (λ (z : Scene). HasContext name implicit outer portals (new_context_made LevelContext z).scene) moment.scene (begun name implicit None None true ∷ outer) has.stands has.are
       (λ k. record {
         context = moment.scene.session.next_context;
-        at = record { stands = level_context_stands (begun name implicit None None true) outer moment.scene refl refl k; are = refl; at_rest = at.at_rest };
+        has = record { stands = level_context_stands (begun name implicit None None true) outer moment.scene refl refl k; are = refl; portals_are = has.portals_are };
       }))
 
-  owner_leads : (context : ℕ) → At (begun name implicit (Some context) None true ∷ outer) moment.scene → Leads (HasOwner name implicit context outer) (does w (element.MakeOwner OfLevel) moment)
+  owner_leads : (context : ℕ) → Has (begun name implicit (Some context) None true ∷ outer) portals moment.scene → Leads (HasOwner name implicit context outer portals) (does w (element.MakeOwner OfLevel) moment)
   unfolding does
-  owner_leads context at =
-      fallible_leads (HasOwner name implicit context outer) w moment _ (new_owner_made OfLevel) at.stands (λ z q. q.at.stands)
-      (λ free. settled_as (λ (z : Scene). HasOwner name implicit context outer (new_owner_made OfLevel z).scene) moment.scene (begun name implicit (Some context) None true ∷ outer) at.stands at.are
+  owner_leads context has =
+      fallible_leads (HasOwner name implicit context outer portals) w moment _ (new_owner_made OfLevel) has.stands (λ z q. q.has.stands)
+      (λ free. settled_as (λ (z : Scene). HasOwner name implicit context outer portals (new_owner_made OfLevel z).scene) moment.scene (begun name implicit (Some context) None true ∷ outer) has.stands has.are
       (λ k. record {
         owner = moment.scene.session.next_owner;
-        at = record { stands = level_owner_stands (begun name implicit (Some context) None true) outer moment.scene refl refl (below_limit 65536 (size moment.scene.session.owners) free) k; are = refl; at_rest = at.at_rest };
+        has = record {
+          stands = level_owner_stands (begun name implicit (Some context) None true) outer moment.scene refl refl (below_limit 65536 (size moment.scene.session.owners) free) k;
+          are = refl;
+          portals_are = has.portals_are;
+        };
       }))
 
-  stands_leads : (context owner : ℕ) → At (begun name implicit (Some context) (Some owner) true ∷ outer) moment.scene
-      → Leads (At (begun name implicit (Some context) (Some owner) false ∷ outer)) (does w element.LevelStands moment)
+  stands_leads : (context owner : ℕ) → Has (begun name implicit (Some context) (Some owner) true ∷ outer) portals moment.scene
+      → Leads (Has (begun name implicit (Some context) (Some owner) false ∷ outer) portals) (does w element.LevelStands moment)
   unfolding does
-  stands_leads context owner at =
-      let x : At (begun name implicit (Some context) (Some owner) false ∷ outer) (level_stands moment.scene).scene =
-      settled_as (λ (z : Scene). At (begun name implicit (Some context) (Some owner) false ∷ outer) (level_stands z).scene) moment.scene (begun name implicit (Some context) (Some owner) true ∷ outer) at.stands at.are
+  stands_leads context owner has =
+      let x : Has (begun name implicit (Some context) (Some owner) false ∷ outer) portals (level_stands moment.scene).scene =
+      settled_as (λ (z : Scene). Has (begun name implicit (Some context) (Some owner) false ∷ outer) portals (level_stands z).scene) moment.scene (begun name implicit (Some context) (Some owner) true ∷ outer) has.stands has.are
       (λ k. record {
         stands = level_stands_stands (begun name implicit (Some context) (Some owner) true) outer moment.scene refl (record { context = refl; owner = refl }) k;
         are = refl;
-        at_rest = at.at_rest;
+        portals_are = has.portals_are;
       }) in
       record { stands = x.stands; passed = λ _. x }
 
@@ -102,49 +101,66 @@ some_level a level outer is =
     let n : length (levels_of a.store.levels) ≡ length (level ∷ outer) = ap length is in
     omega (arith, levels_long a.store.levels, n)
 
--- the step was done by the session: it stands, and its levels are so
-module _ (name : Option Text) (implicit : Bool) (outer : List LevelState) (k : ℕ) (a b : Now) (P : List What → Type 0) (r : Option Error) (h : IsBetweenSteps a) where
-  behind : (es : List Element) (levels : List LevelState) (Q : Scene → Type 0) → levels_of a.store.levels ≡ levels → Performed k es a b P r → ((w : Option ℕ) (m : Moment) → At levels m.scene → Leads Q (does_all w es m))
+-- a session has these levels and these portals
+pub record Shows (levels : List LevelState) (portals : List OpenPortal) (b : Now) : Type 0 where
+  pub levels_are : levels_of b.store.levels ≡ levels
+  pub portals_are : portals_of b.store.portals ≡ portals
+
+shows : (b : Now) (levels : List LevelState) (portals : List OpenPortal) → Has levels portals (scene_in b empty_around) → Shows levels portals b
+unfolding session_of
+shows b levels portals has = record { levels_are = has.are; portals_are = has.portals_are }
+
+shown : (a : Now) (levels : List LevelState) (portals : List OpenPortal) (around : Around) → IsBetweenSteps a → Shows levels portals a → Has levels portals (scene_in a around)
+unfolding session_of
+shown a levels portals around h is = record { stands = h.stands around; are = is.levels_are; portals_are = is.portals_are }
+
+-- the step was done by the session: it stands, its levels are so, and its portals are the same
+module _ (name : Option Text) (implicit : Bool) (outer : List LevelState) (portals : List OpenPortal) (k : ℕ) (a b : Now) (P : List What → Type 0) (r : Option Error) (h : IsBetweenSteps a) where
+  behind : (es : List Element) (levels : List LevelState) (Q : Scene → Type 0) → Shows levels portals a → Performed k es a b P r → ((w : Option ℕ) (m : Moment) → Has levels portals m.scene → Leads Q (does_all w es m))
       → IsBetweenSteps b × (r ≡ None → Q (scene_in b empty_around))
   behind es levels Q is done leads =
       let all : (around : Around) (w : Option ℕ) → Leads Q (does_all w es (at_calls (scene_in a) a.calls.count a.calls.fail around)) =
-      λ around w. leads w (at_calls (scene_in a) a.calls.count a.calls.fail around) (subst (λ (ls : List LevelState). At ls (scene_in a around)) is (at_levels a around h)) in
+      λ around w. leads w (at_calls (scene_in a) a.calls.count a.calls.fail around) (shown a levels portals around h is) in
       (stands_behind k es a b P r Q done all h.serves, λ none. known_behind k es a b P r Q done all none empty_around)
 
-  pub level_behind : levels_of a.store.levels ≡ outer → AreOuter outer → (implicit ≡ true → outer ≡ []) → Performed k (element.MakeLevel name implicit ∷ []) a b P r
-      → IsBetweenSteps b × (r ≡ None → levels_of b.store.levels ≡ begun name implicit None None true ∷ outer)
-  level_behind is are alone done =
-      let p = behind (element.MakeLevel name implicit ∷ []) outer (At (begun name implicit None None true ∷ outer)) is done
-      (λ w m at. one_leads w _ (element.MakeLevel name implicit) m (λ z q. q.stands) (level_leads name implicit outer w m at are alone)) in
-      (p.0, λ none. levels_at b (begun name implicit None None true ∷ outer) empty_around (p.1 none))
+  pub level_behind : All IsAtRest portals → Shows outer portals a → AreOuter outer → (implicit ≡ true → outer ≡ []) → Performed k (element.MakeLevel name implicit ∷ []) a b P r
+      → IsBetweenSteps b × (r ≡ None → Shows (begun name implicit None None true ∷ outer) portals b)
+  level_behind rest is are alone done =
+      let p = behind (element.MakeLevel name implicit ∷ []) outer (Has (begun name implicit None None true ∷ outer) portals) is done
+      (λ w m has. one_leads w _ (element.MakeLevel name implicit) m (λ z q. q.stands) (level_leads name implicit outer portals w m rest has are alone)) in
+      (p.0, λ none. shows b (begun name implicit None None true ∷ outer) portals (p.1 none))
 
-  pub context_behind : levels_of a.store.levels ≡ begun name implicit None None true ∷ outer → Performed k (element.MakeContext LevelContext ∷ []) a b P r
-      → IsBetweenSteps b × (r ≡ None → (n : ℕ) × (levels_of b.store.levels ≡ begun name implicit (Some n) None true ∷ outer))
+  pub context_behind : Shows (begun name implicit None None true ∷ outer) portals a → Performed k (element.MakeContext LevelContext ∷ []) a b P r
+      → IsBetweenSteps b × (r ≡ None → (n : ℕ) × Shows (begun name implicit (Some n) None true ∷ outer) portals b)
   context_behind is done =
-      let p = behind (element.MakeContext LevelContext ∷ []) (begun name implicit None None true ∷ outer) (HasContext name implicit outer) is done
-      (λ w m at. one_leads w _ (element.MakeContext LevelContext) m (λ z q. q.at.stands) (context_leads name implicit outer w m at)) in
-      (p.0, λ none. ((p.1 none).context, levels_at b (begun name implicit (Some (p.1 none).context) None true ∷ outer) empty_around (p.1 none).at))
+      let p = behind (element.MakeContext LevelContext ∷ []) (begun name implicit None None true ∷ outer) (HasContext name implicit outer portals) is done
+      (λ w m has. one_leads w _ (element.MakeContext LevelContext) m (λ z q. q.has.stands) (context_leads name implicit outer portals w m has)) in
+      (p.0, λ none. ((p.1 none).context, shows b (begun name implicit (Some (p.1 none).context) None true ∷ outer) portals (p.1 none).has))
 
-  pub owner_behind : (n : ℕ) → levels_of a.store.levels ≡ begun name implicit (Some n) None true ∷ outer → Performed k (element.MakeOwner OfLevel ∷ []) a b P r
-      → IsBetweenSteps b × (r ≡ None → (o : ℕ) × (levels_of b.store.levels ≡ begun name implicit (Some n) (Some o) true ∷ outer))
+  pub owner_behind : (n : ℕ) → Shows (begun name implicit (Some n) None true ∷ outer) portals a → Performed k (element.MakeOwner OfLevel ∷ []) a b P r
+      → IsBetweenSteps b × (r ≡ None → (o : ℕ) × Shows (begun name implicit (Some n) (Some o) true ∷ outer) portals b)
   owner_behind n is done =
-      let p = behind (element.MakeOwner OfLevel ∷ []) (begun name implicit (Some n) None true ∷ outer) (HasOwner name implicit n outer) is done
-      (λ w m at. one_leads w _ (element.MakeOwner OfLevel) m (λ z q. q.at.stands) (owner_leads name implicit outer w m n at)) in
-      (p.0, λ none. ((p.1 none).owner, levels_at b (begun name implicit (Some n) (Some (p.1 none).owner) true ∷ outer) empty_around (p.1 none).at))
+      let p = behind (element.MakeOwner OfLevel ∷ []) (begun name implicit (Some n) None true ∷ outer) (HasOwner name implicit n outer portals) is done
+      (λ w m has. one_leads w _ (element.MakeOwner OfLevel) m (λ z q. q.has.stands) (owner_leads name implicit outer portals w m n has)) in
+      (p.0, λ none. ((p.1 none).owner, shows b (begun name implicit (Some n) (Some (p.1 none).owner) true ∷ outer) portals (p.1 none).has))
 
-  pub stands_now : (n o : ℕ) → levels_of a.store.levels ≡ begun name implicit (Some n) (Some o) true ∷ outer → Performed k (element.LevelStands ∷ []) a b P r
-      → IsBetweenSteps b × (r ≡ None → HasBegun name implicit outer (levels_of b.store.levels))
+  pub stands_now : (n o : ℕ) → Shows (begun name implicit (Some n) (Some o) true ∷ outer) portals a → Performed k (element.LevelStands ∷ []) a b P r
+      → IsBetweenSteps b × (r ≡ None → HasBegun name implicit outer (levels_of b.store.levels) × (portals_of b.store.portals ≡ portals))
   stands_now n o is done =
-      let p = behind (element.LevelStands ∷ []) (begun name implicit (Some n) (Some o) true ∷ outer) (At (begun name implicit (Some n) (Some o) false ∷ outer)) is done
-      (λ w m at. one_leads w _ element.LevelStands m (λ z q. q.stands) (stands_leads name implicit outer w m n o at)) in (
+      let p = behind (element.LevelStands ∷ []) (begun name implicit (Some n) (Some o) true ∷ outer) (Has (begun name implicit (Some n) (Some o) false ∷ outer) portals) is done
+      (λ w m has. one_leads w _ element.LevelStands m (λ z q. q.stands) (stands_leads name implicit outer portals w m n o has)) in (
         p.0,
-        λ none. record {
-          level = begun name implicit (Some n) (Some o) false;
-          are = levels_at b (begun name implicit (Some n) (Some o) false ∷ outer) empty_around (p.1 none);
-          active = record { made = record { context = refl; owner = refl }; started = refl; unaborted = refl };
-          is_named = refl;
-          is_implicit = refl;
-        },
+        λ none.
+            let is = shows b (begun name implicit (Some n) (Some o) false ∷ outer) portals (p.1 none) in (
+              record {
+                level = begun name implicit (Some n) (Some o) false;
+                are = is.levels_are;
+                active = record { made = record { context = refl; owner = refl }; started = refl; unaborted = refl };
+                is_named = refl;
+                is_implicit = refl;
+              },
+              is.portals_are,
+            ),
       )
 
 -- what is left of the room behind a step

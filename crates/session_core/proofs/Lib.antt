@@ -12,3 +12,4 @@ pub mod Rolling
 pub mod Turning
 pub mod Opened
 pub mod Charged
+pub mod Placing

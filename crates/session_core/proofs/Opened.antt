@@ -1,6 +1,6 @@
 -- What a caller needs that performs one line after another: where a session starts, and the room that a line leaves.
 use Rattle.std.proofs.Common.{◌≡◌, false, ℕ, ◌+◌, ◌*◌, ◌<◌, ◌≤◌, List, [], refl, sym, ap, ◌∙◌, subst, arith}
-use Rattle.std.specs.Prelude.{◌^◌, get_or, replicate, slice_index}
+use Rattle.std.specs.Prelude.{◌^◌, get_or, replicate, slice_index, All}
 use Rattle.std.proofs.lemmas.Grind.{common_steps}
 use Rattle.std.proofs.lemmas.List.Elements.{All-nil}
 use Rattle.addr_space.specs.Space.{Space, held}
@@ -15,11 +15,11 @@ use Rattle.session_owners.proofs.Balances.{serves_nothing}
 use Rattle.session_store.specs.State.{session_of}
 use Rattle.session_store.specs.Calls.{Keeps, StandsIn}
 use Rattle.session_core.specs.Lines.{IsBetweenLines}
-use Rattle.session_work.specs.Performed.{Grows, HasRoom, Now, most_count}
+use Rattle.session_work.specs.Performed.{Grows, HasRoom, Now, most_count, most_steps}
 use Rattle.session_core.proofs.BetweenLines.{opened_levels}
 
--- Lines in turn, each of which raises the counters by 5 at most.
-pub room_before : (i n : ℕ) (a b : Now) → i < n → HasRoom (5 * n) a → Grows (5 * i) a b → HasRoom 5 b
+-- Lines in turn, each of which raises no counter by more than a line may.
+pub room_before : (i n : ℕ) (a b : Now) → i < n → HasRoom (most_steps * n) a → Grows (most_steps * i) a b → HasRoom most_steps b
 room_before i n a b l h g = record {
   contexts = omega (arith, l, h.contexts, g.contexts);
   owners = omega (arith, l, h.owners, g.owners);
@@ -27,7 +27,7 @@ room_before i n a b l h g = record {
   calls = omega (arith, l, h.calls, g.calls);
 }
 
-pub grows_once_more : (i : ℕ) (a b c : Now) → Grows (5 * i) a b → Grows 5 b c → Grows (5 * (i + 1)) a c
+pub grows_once_more : (i : ℕ) (a b c : Now) → Grows (most_steps * i) a b → Grows most_steps b c → Grows (most_steps * (i + 1)) a c
 grows_once_more i a b c g h = record {
   contexts = omega (arith, g.contexts, h.contexts);
   owners = omega (arith, g.owners, h.owners);
@@ -38,13 +38,13 @@ grows_once_more i a b c g h = record {
 
 -- A session as it opens is between two lines, and has room.
 pub opened_lines : (a : Now) → session_of a.store a.space ≡ opening → Keeps a.store a.space → Serves a.store.owners a.commons → StandsIn a.store a.space a.shelf a.commons → IsBetweenLines a
-unfolding session_of
+unfolding session_of opening
 opened_lines a e keeps serves stands =
     let none : a.store.levels ≡ [] = opened_levels a.store a.space e in
     record {
       keeps = keeps;
       serves = serves;
-      stands = λ around. record { stands = stands around; open_levels = rw (none) tt; at_rest = All-nil IsAtRest };
+      stands = λ around. record { stands = stands around; open_levels = rw (none) tt; at_rest = subst (All IsAtRest) (sym (ap (λ (session : SessionState). session.portals) e)) (All-nil IsAtRest) };
     }
 
 -- It holds nothing of the commons, where nothing is held for it and not too many sessions pin a buffer.

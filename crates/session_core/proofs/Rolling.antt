@@ -1,6 +1,6 @@
 -- Levels end one behind the other, from the deepest up.
 use Rattle.std.proofs.Common.{◌≡◌, ◌∙◌, ℕ, suc, ◌+◌, ◌-◌, ◌<◌, ◌≤◌, Bool, true, false, Option, Some, None, List, [], ◌∷◌, ◌++◌, length, refl, sym, ap, subst, arith, append-nil, length-append}
-use Rattle.std.specs.Prelude.{if◌then◌else◌, replicate}
+use Rattle.std.specs.Prelude.{All, if◌then◌else◌, replicate}
 use Rattle.std.specs.Option.{option_map, option_map_or}
 use Rattle.std.proofs.lemmas.Bool.{le-ltb, lt-ltb}
 use Rattle.std.proofs.lemmas.List.{append_assoc}
@@ -13,8 +13,8 @@ use Rattle.session_rules.specs.State.{LevelState, is_aborted}
 use Rattle.session_rules.specs.Commands.{at_savepoint, committed_to, refused, rolled_back_to, savepoint}
 use Rattle.session_rules.specs.Elements.{Element, Text}
 use Rattle.session_rules.specs.Elements as element
-use Rattle.session_rules.specs.Standing.{AreOuter, FitLevels, Stands}
-use Rattle.session_store.specs.State.{level_state, levels_of, session_of}
+use Rattle.session_rules.specs.Standing.{AreOuter, FitLevels, IsAtRest, Stands}
+use Rattle.session_store.specs.State.{level_state, levels_of, portals_of, session_of}
 use Rattle.session_store.proofs.Depths.{levels_are, levels_long}
 use Rattle.session_work.specs.Performed.{IsBetweenSteps, Now, Performed, scene_in}
 use Rattle.session_work.proofs.Performing.{performed_both, performed_none}
@@ -65,6 +65,7 @@ pub record IsRolling (level : ℕ) (a b : Now) (Said : List What → Type 0) : T
   pub all : done ++ rolled_back_to level (levels_of b.store.levels) ≡ rolled_back_to level (levels_of a.store.levels)
   pub between : IsBetweenSteps b
   pub outer : length b.store.levels < length a.store.levels → AreOuter (levels_of b.store.levels)
+  pub rest : length b.store.levels < length a.store.levels → All IsAtRest (portals_of b.store.portals)
   pub fewer : length b.store.levels ≤ length a.store.levels
 
 pub rolling_start : (level : ℕ) (a : Now) (P : List What → Type 0) → IsBetweenSteps a → P [] → IsRolling level a a P
@@ -74,12 +75,13 @@ rolling_start level a P between silent = record {
   all = refl;
   between = between;
   outer = λ less. absurd (omega (arith, less));
+  rest = λ less. absurd (omega (arith, less));
   fewer = omega arith;
 }
 
 pub rolling_on : (level : ℕ) (a b c : Now) (P Q R : List What → Type 0) → IsRolling level a b P → level ≤ length b.store.levels → Performed 0 (rolled_back_to (length b.store.levels) (levels_of b.store.levels)) b c Q None
-    → (last : Level) → b.store.levels ≡ c.store.levels ++ last ∷ [] → IsBetweenSteps c → ((us vs : List What) → P us → Q vs → R (us ++ vs)) → IsRolling level a c R
-rolling_on level a b c P Q R rolling deep done last popped between joins =
+    → (last : Level) → b.store.levels ≡ c.store.levels ++ last ∷ [] → IsBetweenSteps c → All IsAtRest (portals_of c.store.portals) → ((us vs : List What) → P us → Q vs → R (us ++ vs)) → IsRolling level a c R
+rolling_on level a b c P Q R rolling deep done last popped between rest joins =
     let are : levels_of b.store.levels ≡ level_state last ∷ levels_of c.store.levels = ap levels_of popped ∙ levels_are c.store.levels last in
     let less = one_less b.store.levels c.store.levels last popped in
     let long : length (levels_of c.store.levels) + 1 ≡ length b.store.levels = omega (arith, less, levels_long c.store.levels) in
@@ -94,6 +96,7 @@ rolling_on level a b c P Q R rolling deep done last popped between joins =
           ∙ ap (λ (es : List Element). rolling.done ++ es) step ∙ rolling.all;
       between = between;
       outer = λ _. above_deepest b (level_state last) (levels_of c.store.levels) rolling.between are;
+      rest = λ _. rest;
       fewer = omega (arith, rolling.fewer, less);
     }
 
@@ -104,6 +107,9 @@ rolling_done level a b P rolling below =
 
 pub rolling_outer : (level : ℕ) (a b : Now) (P : List What → Type 0) → IsRolling level a b P → length b.store.levels < level → level ≤ length a.store.levels → AreOuter (levels_of b.store.levels)
 rolling_outer level a b P rolling below within = rolling.outer (omega (arith, below, within))
+
+pub rolling_rest : (level : ℕ) (a b : Now) (P : List What → Type 0) → IsRolling level a b P → length b.store.levels < level → level ≤ length a.store.levels → All IsAtRest (portals_of b.store.portals)
+rolling_rest level a b P rolling below within = rolling.rest (omega (arith, below, within))
 
 -- Levels are committing, in the same way.
 pub record IsCommitting (level : ℕ) (a b : Now) (Said : List What → Type 0) : Type 0 where

@@ -16,6 +16,10 @@ module _ (store v : StoreState) (is : store ≡ v) where
   pub seen : {Z W : Type 0} (k : ℕ) (es : List Element) (shared : Shared Z W) (b : Now) (P : List What → Type 0) (r : Option Error) → Performed k es (now store shared) b P r → Performed k es (now v shared) b P r
   seen k es shared b P r h = subst (λ (a : StoreState). Performed k es (now a shared) b P r) is h
 
+  -- the same where the elements are told by the store
+  pub seen_from : {Z W : Type 0} (k : ℕ) (es : StoreState → List Element) (shared : Shared Z W) (b : Now) (P : List What → Type 0) (r : Option Error) → Performed k (es store) (now store shared) b P r → Performed k (es v) (now v shared) b P r
+  seen_from k es shared b P r h = subst (λ (a : StoreState). Performed k (es a) (now a shared) b P r) is h
+
   pub keeps_of : (s : Space) → Keeps v s → Keeps store s
   keeps_of s h = subst (λ (a : StoreState). Keeps a s) (sym is) h
 

@@ -19,7 +19,7 @@ use Rattle.session_store.specs.State.{session_of}
 use Rattle.session_work.specs.declared.calls.Calls.{Calls}
 use Rattle.session_work.specs.Answers.{Fits}
 use Rattle.session_core.specs.Ended.{Ends}
-use Rattle.session_work.specs.Performed.{Now, Performed, Takes, scene_in}
+use Rattle.session_work.specs.Performed.{Now, Performed, Takes, most_steps, scene_in}
 use Rattle.session_core.specs.Turns.{Turned, moment_in}
 use Rattle.session_work.proofs.Commands.{fails}
 use Rattle.session_work.proofs.Performing.{performed_more}
@@ -39,7 +39,7 @@ module _ (line : Option Command) (a : Now) where
   same_fail : (b : Now) (around : Around) → b.calls.fail ≡ a.calls.fail → record { scene = scene_in b around; calls = b.calls.count; fail = a.calls.fail } ≡ moment_in b around
   same_fail b around e = ap (λ (n : ℕ). record { scene = scene_in b around; calls = b.calls.count; fail = n }) (sym e)
 
-  ok_is : (b : Now) (P : List What → Type 0) → Performed 5 (line_elements line (session_of a.store a.space)) a b P None → (around : Around) (w : Option ℕ) → Fits false b.calls.count w
+  ok_is : (b : Now) (P : List What → Type 0) → Performed most_steps (line_elements line (session_of a.store a.space)) a b P None → (around : Around) (w : Option ℕ) → Fits false b.calls.count w
       → TurnIs (turn w line (moment_in a around)) (moment_in b around) P false
   unfolding turn done_in
   ok_is b P h around w f =
@@ -49,13 +49,13 @@ module _ (line : Option Command) (a : Now) where
         wanted_is = refl;
       })
 
-  ok_taken : (b : Now) (P : List What → Type 0) → Performed 5 (line_elements line (session_of a.store a.space)) a b P None → (around : Around) (w : Option ℕ) → Fits false b.calls.count w
+  ok_taken : (b : Now) (P : List What → Type 0) → Performed most_steps (line_elements line (session_of a.store a.space)) a b P None → (around : Around) (w : Option ℕ) → Fits false b.calls.count w
       → Takes false a.store.tree.account (asked_by_turn w line (moment_in a around)) a.space b.space
   unfolding asked_by_turn
   ok_taken b P h around w f = h.taken around w f
 
   -- a line whose elements were all done
-  pub turned_ok : (b : Now) (P : List What → Type 0) → Performed 5 (line_elements line (session_of a.store a.space)) a b P None → Turned line a b P false
+  pub turned_ok : (b : Now) (P : List What → Type 0) → Performed most_steps (line_elements line (session_of a.store a.space)) a b P None → Turned line a b P false
   turned_ok b P h = record {
     moment = λ around w f. let t = ok_is b P h around w f in t.moment;
     says = λ around w f. let t = ok_is b P h around w f in t.says;
@@ -69,7 +69,7 @@ module _ (line : Option Command) (a : Now) where
     counted = λ e. absurd (cc e);
   }
 
-  module _ (m b : Now) (P Q R : List What → Type 0) (e : Error) (h : Performed 5 (line_elements line (session_of a.store a.space)) a m P (Some e)) (ended : Ends (recovered e) m b Q)
+  module _ (m b : Now) (P Q R : List What → Type 0) (e : Error) (h : Performed most_steps (line_elements line (session_of a.store a.space)) a m P (Some e)) (ended : Ends (recovered e) m b Q)
       (joins : (us vs : List What) → P us → Q vs → R (us ++ vs)) where
     err_is : (around : Around) (w : Option ℕ) → Fits (is_want e) b.calls.count w → TurnIs (turn w line (moment_in a around)) (moment_in b around) R (is_want e)
     unfolding turn done_in
@@ -115,7 +115,7 @@ module _ (line : Option Command) (a : Now) where
 pub turned_bad : (a b : Now) (Q : List What → Type 0) → Keeps a.store a.space → Ends (recovered error.SyntaxError) a b Q → Turned None a b Q false
 turned_bad a b Q keeps ended =
     turned_err None a a b (λ events. events ≡ []) Q Q error.SyntaxError
-    (performed_more 0 5 (refused error.SyntaxError) a a (λ events. events ≡ []) (Some error.SyntaxError) (omega arith)
+    (performed_more 0 most_steps (refused error.SyntaxError) a a (λ events. events ≡ []) (Some error.SyntaxError) (omega arith)
     (fails (element.Refuse error.SyntaxError) [] a (λ events. events ≡ []) error.SyntaxError keeps refl refl (λ around. refl)))
     ended (λ us vs e q. subst Q (sym (ap (λ (xs : List What). xs ++ vs) e)) q)
 

@@ -1,11 +1,11 @@
 //! Levels end, and the session recovers from errors.
-ghost use Rattle.std.specs.Prelude.{◌≡◌, ◌<◌, length, [], ◌∷◌, ◌++◌, true, false, None, IfSome};
+ghost use Rattle.std.specs.Prelude.{◌≡◌, ◌<◌, length, [], ◌∷◌, ◌++◌, true, false, All, None, IfSome};
 ghost use Rattle.addr_space.specs.Space.{held};
 ghost use Rattle.session_rules.specs.State.{first_of, is_aborted};
-ghost use Rattle.session_rules.specs.Standing.{IsOpen};
+ghost use Rattle.session_rules.specs.Standing.{IsAtRest, IsOpen};
 ghost use Rattle.session_rules.specs.Ends.{exited, given_up, recovered};
 ghost use Rattle.session_rules.specs.Elements as element;
-ghost use Rattle.session_store.specs.State.{levels_of};
+ghost use Rattle.session_store.specs.State.{levels_of, portals_of};
 ghost use Rattle.subxact_stack.specs.declared.levels.Level.{Level as ALevel};
 ghost use Rattle.subxact_stack.specs.Levels.{with_deepest};
 ghost use Rattle.session_core.specs.Begun.{IsStarting};
@@ -91,6 +91,7 @@ impl<H: ResetHook> Session<H> {
         requires aborted { is_aborted (levels_of self.old.levels) ≡ true }
         ensures performed { Performed 0 (element.Cleanup ∷ []) (now self.old shared.old) (now self.new shared.new) (λ events. E.emits out.old events out.new) None }
         ensures levels { (level : ALevel) × (self.old.levels ≡ self.new.levels ++ level ∷ []) }
+        ensures rest { All IsAtRest (portals_of self.new.portals) }
         ensures between { IsBetweenSteps (now self.new shared.new) }
     {
         clean_up(&mut self.store, shared.space, shared.shelf, out);
@@ -106,6 +107,7 @@ impl<H: ResetHook> Session<H> {
         requires level { 0 < length self.old.levels }
         ensures performed { Performed 0 (element.Abort ∷ element.Cleanup ∷ []) (now self.old shared.old) (now self.new shared.new) (λ events. E.emits out.old events out.new) None }
         ensures levels { (level : ALevel) × (self.old.levels ≡ self.new.levels ++ level ∷ []) }
+        ensures rest { All IsAtRest (portals_of self.new.portals) }
         ensures between { IsBetweenSteps (now self.new shared.new) }
     {
         roll_back(

@@ -1,22 +1,23 @@
 //! Commands are performed.
-ghost use Rattle.std.specs.Prelude.{◌≡◌, ◌∷◌, [], None, length, OnOk, OnErr};
+ghost use Rattle.std.specs.Prelude.{◌≡◌, ◌∷◌, [], None, length, All, OnOk, OnErr};
 ghost use Rattle.pgs_command.specs.Ranges.{IsInRange};
 ghost use Rattle.pgs_step.specs.declared.events.What.TheVariants as what;
 ghost use Rattle.session_rules.specs.Elements as element;
-ghost use Rattle.session_rules.specs.State.{SessionState};
+ghost use Rattle.session_rules.specs.Standing.{IsAtRest};
 ghost use Rattle.session_rules.specs.Works.{work_of};
 ghost use Rattle.session_rules.specs.Commands.{elements_of};
 ghost use Rattle.session_rules.proofs.StepsStand.{IsWorking};
-ghost use Rattle.session_store.specs.State.{levels_of, session_of};
+ghost use Rattle.session_rules.proofs.TurnStands.{IsWork};
+ghost use Rattle.session_store.specs.State.{levels_of, portals_of, session_of};
 ghost use Rattle.session_work.specs.Answers.{refusal_of};
-ghost use Rattle.session_core.specs.Lines.{IsAbortedBlock, IsBetweenLines, IsInBlock, IsPerformed};
-ghost use Rattle.session_work.specs.Performed.{now, HasRoom, IsBetweenSteps, Performed};
-ghost use Rattle.session_work.specs.Works.{IsWork};
+ghost use Rattle.session_core.specs.Lines.{IsAbortedBlock, IsBetweenLines, IsInBlock};
+ghost use Rattle.session_work.specs.Performed.{now, most_steps, most_work, HasRoom, IsBetweenSteps, Performed};
 
 use crate::session::Session;
 use owner_kinds::ExtKind;
 use pgs_command::Command;
 use pgs_step::{Emit, Error, What};
+use portal_commands::work_on_portals;
 use reset_callbacks::ResetHook;
 use session_work::{Shared, work};
 
@@ -32,10 +33,9 @@ impl<H: ResetHook> Session<H> {
         out: &mut E,
     ) -> Result<(), Error>
         requires lines { IsBetweenLines (now self.old shared.old) }
-        requires known { IsPerformed command.now }
         requires range { IsInRange command.now }
-        requires room { HasRoom 5 (now self.old shared.old) }
-        ensures performed { Performed 5 (elements_of command.now (session_of self.old shared.old.space.now)) (now self.old shared.old) (now self.new shared.new) (λ events. E.emits out.old events out.new) (refusal_of result) }
+        requires room { HasRoom most_steps (now self.old shared.old) }
+        ensures performed { Performed most_steps (elements_of command.now (session_of self.old shared.old.space.now)) (now self.old shared.old) (now self.new shared.new) (λ events. E.emits out.old events out.new) (refusal_of result) }
         ensures lines { OnOk result (IsBetweenLines (now self.new shared.new)) }
         ensures between { OnErr result (IsBetweenSteps (now self.new shared.new)) }
     {
@@ -49,10 +49,9 @@ impl<H: ResetHook> Session<H> {
         out: &mut E,
     ) -> Result<(), Error>
         requires lines { IsBetweenLines (now self.old shared.old) }
-        requires known { IsPerformed command.now }
         requires range { IsInRange command.now }
-        requires room { HasRoom 5 (now self.old shared.old) }
-        ensures performed { Performed 5 (elements_of command.now (session_of self.old shared.old.space.now)) (now self.old shared.old) (now self.new shared.new) (λ events. E.emits out.old events out.new) (refusal_of result) }
+        requires room { HasRoom most_steps (now self.old shared.old) }
+        ensures performed { Performed most_steps (elements_of command.now (session_of self.old shared.old.space.now)) (now self.old shared.old) (now self.new shared.new) (λ events. E.emits out.old events out.new) (refusal_of result) }
         ensures between { OnErr result (IsBetweenSteps (now self.new shared.new)) }
     {
         match self.store.deepest_level() {
@@ -70,11 +69,11 @@ impl<H: ResetHook> Session<H> {
         out: &mut E,
     ) -> Result<(), Error>
         requires between { IsBetweenSteps (now self.old shared.old) }
+        requires rest { All IsAtRest (portals_of self.old.portals) }
         requires block { IsInBlock self.old.levels }
-        requires known { IsPerformed command.now }
         requires range { IsInRange command.now }
-        requires room { HasRoom 3 (now self.old shared.old) }
-        ensures performed { Performed 3 (elements_of command.now (session_of self.old shared.old.space.now)) (now self.old shared.old) (now self.new shared.new) (λ events. E.emits out.old events out.new) (refusal_of result) }
+        requires room { HasRoom most_steps (now self.old shared.old) }
+        ensures performed { Performed most_steps (elements_of command.now (session_of self.old shared.old.space.now)) (now self.old shared.old) (now self.new shared.new) (λ events. E.emits out.old events out.new) (refusal_of result) }
         ensures between { OnErr result (IsBetweenSteps (now self.new shared.new)) }
     {
         match command {
@@ -106,11 +105,11 @@ impl<H: ResetHook> Session<H> {
         out: &mut E,
     ) -> Result<(), Error>
         requires between { IsBetweenSteps (now self.old shared.old) }
+        requires rest { All IsAtRest (portals_of self.old.portals) }
         requires none { self.old.levels ≡ [] }
-        requires known { IsPerformed command.now }
         requires range { IsInRange command.now }
-        requires room { HasRoom 5 (now self.old shared.old) }
-        ensures performed { Performed 5 (elements_of command.now (session_of self.old shared.old.space.now)) (now self.old shared.old) (now self.new shared.new) (λ events. E.emits out.old events out.new) (refusal_of result) }
+        requires room { HasRoom most_steps (now self.old shared.old) }
+        ensures performed { Performed most_steps (elements_of command.now (session_of self.old shared.old.space.now)) (now self.old shared.old) (now self.new shared.new) (λ events. E.emits out.old events out.new) (refusal_of result) }
         ensures between { OnErr result (IsBetweenSteps (now self.new shared.new)) }
     {
         match command {
@@ -139,11 +138,12 @@ impl<H: ResetHook> Session<H> {
         out: &mut E,
     ) -> Result<(), Error>
         requires between { IsBetweenSteps (now self.old shared.old) }
+        requires rest { All IsAtRest (portals_of self.old.portals) }
         requires none { self.old.levels ≡ [] }
         requires work { IsWork command.now }
         requires range { IsInRange command.now }
-        requires room { HasRoom 5 (now self.old shared.old) }
-        ensures performed { Performed 5 (elements_of command.now (session_of self.old shared.old.space.now)) (now self.old shared.old) (now self.new shared.new) (λ events. E.emits out.old events out.new) (refusal_of result) }
+        requires room { HasRoom most_steps (now self.old shared.old) }
+        ensures performed { Performed most_steps (elements_of command.now (session_of self.old shared.old.space.now)) (now self.old shared.old) (now self.new shared.new) (λ events. E.emits out.old events out.new) (refusal_of result) }
         ensures between { OnErr result (IsBetweenSteps (now self.new shared.new)) }
     {
         if let Err(error) = self.start_level(None, true, shared, out) {
@@ -174,11 +174,12 @@ impl<H: ResetHook> Session<H> {
         out: &mut E,
     ) -> Result<(), Error>
         requires between { IsBetweenSteps (now self.old shared.old) }
+        requires rest { All IsAtRest (portals_of self.old.portals) }
         requires active { IsWorking (levels_of self.old.levels) }
         requires work { IsWork command.now }
         requires range { IsInRange command.now }
-        requires room { HasRoom 2 (now self.old shared.old) }
-        ensures performed { Performed 2 (elements_of command.now (session_of self.old shared.old.space.now)) (now self.old shared.old) (now self.new shared.new) (λ events. E.emits out.old events out.new) (refusal_of result) }
+        requires room { HasRoom most_work (now self.old shared.old) }
+        ensures performed { Performed most_work (elements_of command.now (session_of self.old shared.old.space.now)) (now self.old shared.old) (now self.new shared.new) (λ events. E.emits out.old events out.new) (refusal_of result) }
         ensures between { IsBetweenSteps (now self.new shared.new) }
     {
         if let Err(error) = self.work(command, shared, out) {
@@ -196,15 +197,21 @@ impl<H: ResetHook> Session<H> {
         out: &mut E,
     ) -> Result<(), Error>
         requires between { IsBetweenSteps (now self.old shared.old) }
+        requires rest { All IsAtRest (portals_of self.old.portals) }
         requires active { IsWorking (levels_of self.old.levels) }
         requires work { IsWork command.now }
         requires range { IsInRange command.now }
-        requires room { HasRoom 2 (now self.old shared.old) }
-        ensures performed { (session : SessionState) → Performed 2 (work_of command.now session) (now self.old shared.old) (now self.new shared.new) (λ events. E.emits out.old events out.new) (refusal_of result) }
+        requires room { HasRoom most_work (now self.old shared.old) }
+        ensures performed { Performed most_work (work_of command.now (session_of self.old shared.old.space.now)) (now self.old shared.old) (now self.new shared.new) (λ events. E.emits out.old events out.new) (refusal_of result) }
         ensures between { IsBetweenSteps (now self.new shared.new) }
         ensures levels { OnOk result (levels_of self.new.levels ≡ levels_of self.old.levels) }
     {
-        work(&mut self.store, command, shared, out)
+        match command {
+            Command::Portal { .. } | Command::Fetch { .. } | Command::EndPortal(_) => {
+                work_on_portals(&mut self.store, command, shared, out)
+            }
+            _ => work(&mut self.store, command, shared, out),
+        }
     }
 
     /// Performs a command in an aborted transaction: only its end is taken, and the way back to a savepoint.
@@ -216,7 +223,6 @@ impl<H: ResetHook> Session<H> {
     ) -> Result<(), Error>
         requires between { IsBetweenSteps (now self.old shared.old) }
         requires block { IsAbortedBlock self.old.levels }
-        requires known { IsPerformed command.now }
         requires room { HasRoom 3 (now self.old shared.old) }
         ensures performed { Performed 3 (elements_of command.now (session_of self.old shared.old.space.now)) (now self.old shared.old) (now self.new shared.new) (λ events. E.emits out.old events out.new) (refusal_of result) }
         ensures between { OnErr result (IsBetweenSteps (now self.new shared.new)) }

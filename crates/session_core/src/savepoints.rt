@@ -1,10 +1,10 @@
 //! Savepoints, and the levels from the deepest up to one.
-ghost use Rattle.std.specs.Prelude.{◌≡◌, ◌+◌, ◌<◌, ◌≤◌, length, [], ◌∷◌, ◌++◌, Some, None, false, OnErr};
+ghost use Rattle.std.specs.Prelude.{◌≡◌, ◌+◌, ◌<◌, ◌≤◌, length, [], ◌∷◌, ◌++◌, All, Some, None, false, OnErr};
 ghost use Rattle.pgs_step.specs.declared.events.What.TheVariants as what;
 ghost use Rattle.session_rules.specs.Elements as element;
 ghost use Rattle.session_rules.specs.Commands.{at_savepoint, committed_to, rolled_back_to, start, then_ok};
-ghost use Rattle.session_rules.specs.Standing.{AreOuter};
-ghost use Rattle.session_store.specs.State.{levels_of};
+ghost use Rattle.session_rules.specs.Standing.{AreOuter, IsAtRest};
+ghost use Rattle.session_store.specs.State.{levels_of, portals_of};
 ghost use Rattle.subxact_stack.specs.declared.levels.Level.{Level as ALevel};
 ghost use Rattle.session_work.specs.Answers.{refusal_of};
 ghost use Rattle.session_work.specs.Performed.{now, HasRoom, IsBetweenSteps, Performed};
@@ -22,6 +22,7 @@ impl<H: ResetHook> Session<H> {
         requires level { 0 < length self.old.levels }
         ensures performed { Performed 0 (rolled_back_to (length self.old.levels) (levels_of self.old.levels)) (now self.old shared.old) (now self.new shared.new) (λ events. E.emits out.old events out.new) None }
         ensures levels { (level : ALevel) × (self.old.levels ≡ self.new.levels ++ level ∷ []) }
+        ensures rest { All IsAtRest (portals_of self.new.portals) }
         ensures between { IsBetweenSteps (now self.new shared.new) }
     {
         if self.store.is_aborted() {
@@ -43,6 +44,7 @@ impl<H: ResetHook> Session<H> {
         ensures performed { Performed 0 (rolled_back_to level (levels_of self.old.levels)) (now self.old shared.old) (now self.new shared.new) (λ events. E.emits out.old events out.new) None }
         ensures between { IsBetweenSteps (now self.new shared.new) }
         ensures below { length self.new.levels < level }
+        ensures rest { level ≤ length self.old.levels → All IsAtRest (portals_of self.new.portals) }
         ensures outer { level ≤ length self.old.levels → AreOuter (levels_of self.new.levels) }
         ensures at_most { length self.new.levels ≤ 1000 }
     {
@@ -114,6 +116,7 @@ impl<H: ResetHook> Session<H> {
         out: &mut E,
     ) -> Result<(), Error>
         requires between { IsBetweenSteps (now self.old shared.old) }
+        requires rest { All IsAtRest (portals_of self.old.portals) }
         requires room { HasRoom 3 (now self.old shared.old) }
         requires at_most { length self.old.levels ≤ 1000 }
         requires outer { AreOuter (levels_of self.old.levels) }

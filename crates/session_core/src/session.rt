@@ -5,8 +5,9 @@ ghost use Rattle.reset_callbacks.specs.Hook.{AreDistinct};
 ghost use Rattle.reset_callbacks.specs.ShelfState as shelf;
 ghost use Rattle.reset_callbacks.specs.ShelfState.{ShelfState};
 ghost use Rattle.context_rules.specs.Contexts.{found};
-ghost use Rattle.context_rules.specs.Chunks.{written};
-ghost use Rattle.context_tree.specs.State.{Moves, SameRegions, no_contexts};
+ghost use Rattle.context_rules.specs.Chunks.{shown, written};
+ghost use Rattle.context_rules.specs.Refusals.{bytes_refusal};
+ghost use Rattle.context_tree.specs.State.{Moves, SameRegions, error_of, no_contexts};
 ghost use Rattle.session_rules.specs.State.{opening};
 ghost use Rattle.session_rules.specs.Parts.{contexts_become};
 ghost use Rattle.owner_kinds.specs.KindShelf.{table_of};
@@ -14,7 +15,9 @@ ghost use Rattle.owner_kinds.specs.KindTable.{IsSound};
 ghost use Rattle.session_owners.specs.Commons.{CommonState};
 ghost use Rattle.session_store.specs.State.{contexts_in, session_of};
 ghost use Rattle.session_store.specs.Calls.{Acted, ContextsAlone, IsSilent, Keeps, StandsIn, StaysBeside};
+ghost use Rattle.session_core.specs.Lines.{IsBetweenLines};
 ghost use Rattle.session_core.specs.declared.session.StartError.TheVariants as start_error;
+ghost use Rattle.session_work.specs.declared.calls.Calls.{Calls};
 
 use addr_space::{Addr, Space};
 use context_rules::TreeError;
@@ -111,7 +114,26 @@ impl<H: ResetHook> Session<H> {
         ensures known { (s : Space) → Keeps self.now s → IfSome (found chunk.now (contexts_in self.now s)) (λ f. HasBytes s result f.chunk.known) }
         ensures alone { (s t : Space) (offset : ℕ) (bytes : List ℕ) → Keeps self.now s → IfSome (found chunk.now (contexts_in self.now s)) (λ f. offset + length bytes ≤ length f.chunk.known) → Changes s t result.region (overwritten (region_at s result.region) (result.offset + offset) (map Some bytes)) → (c : CommonState) → ContextsAlone self.now self.now s t c c }
         ensures written { (s t : Space) (offset : ℕ) (bytes : List ℕ) → Keeps self.now s → IfSome (found chunk.now (contexts_in self.now s)) (λ f. offset + length bytes ≤ length f.chunk.known) → Changes s t result.region (overwritten (region_at s result.region) (result.offset + offset) (map Some bytes)) → (x : ShelfState) (c : CommonState) → Acted (contexts_become (written chunk.now offset bytes)) self.now self.now s t x x c c IsSilent }
+        ensures between { (s t : Space) (offset : ℕ) (bytes : List ℕ) → IfSome (found chunk.now (contexts_in self.now s)) (λ f. offset + length bytes ≤ length f.chunk.known) → Changes s t result.region (overwritten (region_at s result.region) (result.offset + offset) (map Some bytes)) → (x : ShelfState) (c : CommonState) (calls : Calls) → IsBetweenLines (record { store = self.now; space = s; shelf = x; commons = c; calls = calls }) → IsBetweenLines (record { store = self.now; space = t; shelf = x; commons = c; calls = calls }) }
     {
         self.store.place(chunk)
+    }
+
+    /// Reads known bytes of a live chunk, from a place on: as many as `out` has.
+    ///
+    /// `NoName` comes where no chunk has the name, and `Range` where they would end behind the known bytes.
+    pub fn bytes(
+        &self,
+        space: &Space,
+        chunk: &Name,
+        at: u64,
+        out: &mut [u8],
+    ) -> Result<(), TreeError>
+        requires { Keeps self.now space.now }
+        ensures answer { error_of result ≡ bytes_refusal chunk.now at (length out.old) (contexts_in self.now space.now) }
+        ensures bytes { OnOk result (out.new ≡ shown chunk.now at (length out.old) (contexts_in self.now space.now)) }
+        ensures err { OnErr result (out.new ≡ out.old) }
+    {
+        self.store.show(space, chunk, at, out)
     }
 }

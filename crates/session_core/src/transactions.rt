@@ -1,10 +1,10 @@
 //! Levels of a transaction begin.
-ghost use Rattle.std.specs.Prelude.{◌≡◌, ◌<◌, ◌≤◌, [], ◌∷◌, length, true, OnOk};
+ghost use Rattle.std.specs.Prelude.{◌≡◌, ◌<◌, ◌≤◌, [], ◌∷◌, length, true, All, OnOk};
 ghost use Rattle.session_rules.specs.Elements as e;
 ghost use Rattle.session_rules.specs.Elements.{LevelContext, OfLevel};
 ghost use Rattle.session_rules.specs.Commands.{start};
-ghost use Rattle.session_rules.specs.Standing.{AreOuter};
-ghost use Rattle.session_store.specs.State.{levels_of};
+ghost use Rattle.session_rules.specs.Standing.{AreOuter, IsAtRest};
+ghost use Rattle.session_store.specs.State.{levels_of, portals_of};
 ghost use Rattle.session_work.specs.Answers.{refusal_of};
 ghost use Rattle.session_core.specs.Begun.{HasBegun};
 ghost use Rattle.session_work.specs.Performed.{now, HasRoom, IsBetweenSteps, Performed};
@@ -93,12 +93,14 @@ impl<H: ResetHook> Session<H> {
         out: &mut E,
     ) -> Result<(), Error>
         requires between { IsBetweenSteps (now self.old shared.old) }
+        requires rest { All IsAtRest (portals_of self.old.portals) }
         requires room { HasRoom 3 (now self.old shared.old) }
         requires most { length self.old.levels ≤ 1000 }
         requires outer { AreOuter (levels_of self.old.levels) }
         requires alone { implicit ≡ true → self.old.levels ≡ [] }
         ensures performed { Performed 3 (start name implicit) (now self.old shared.old) (now self.new shared.new) (λ events. E.emits out.old events out.new) (refusal_of result) }
         ensures between { IsBetweenSteps (now self.new shared.new) }
+        ensures portals { OnOk result (portals_of self.new.portals ≡ portals_of self.old.portals) }
         ensures begun { OnOk result (HasBegun name implicit (levels_of self.old.levels) (levels_of self.new.levels)) }
     {
         if let Err(error) = self.make_level(name, implicit, shared, out) {

@@ -3,8 +3,8 @@ ghost use Rattle.std.specs.Prelude.{◌≡◌, IfSome, option_copied};
 ghost use Rattle.pgs_command.specs.Ranges.{IsInRange};
 ghost use Rattle.session_rules.specs.Transcript.{is_want};
 ghost use Rattle.session_core.specs.Lines.{IsBetweenLines};
-ghost use Rattle.session_work.specs.Performed.{now, HasRoom};
-ghost use Rattle.session_core.specs.Turns.{IsRead, Turned};
+ghost use Rattle.session_work.specs.Performed.{now, most_steps, HasRoom};
+ghost use Rattle.session_core.specs.Turns.{Turned};
 
 use crate::session::Session;
 use owner_kinds::ExtKind;
@@ -24,9 +24,8 @@ impl<H: ResetHook> Session<H> {
         out: &mut E,
     ) -> bool
         requires lines { IsBetweenLines (now self.old shared.old) }
-        requires known { IsRead (option_copied command) }
         requires range { IfSome (option_copied command) IsInRange }
-        requires room { HasRoom 5 (now self.old shared.old) }
+        requires room { HasRoom most_steps (now self.old shared.old) }
         ensures turn { Turned (option_copied command.entry) (now self.old shared.old) (now self.new shared.new) (λ events. E.emits out.old events out.new) result }
         ensures lines { IsBetweenLines (now self.new shared.new) }
     {

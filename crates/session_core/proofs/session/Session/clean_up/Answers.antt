@@ -1,8 +1,8 @@
 use Rattle.std.proofs.Common.{◌≡◌, ◌<◌, true, length, refl, subst, sym}
 use Rattle.session_rules.specs.State.{is_aborted}
 use Rattle.session_store.specs.State.{StoreState, levels_of}
-use Rattle.session_work.specs.Performed.{now}
-use Rattle.session_core.proofs.Between.{between_of, clean_between}
+use Rattle.session_work.specs.Performed.{Now, now}
+use Rattle.session_core.proofs.Between.{between_of, clean_between, clean_rest}
 use Rattle.session_core.proofs.OnLevels.{cleanup_performed}
 use Rattle.session_core.proofs.Seen.{seen, stands_of}
 use Rattle.session_core.proofs.session.Session.clean_up.Goals as goal
@@ -18,4 +18,10 @@ returns-clause-performed g c =
 pub returns-clause-between : goal.returns-clause-between
 returns-clause-between g c =
     clean_between (now c.self.inside.store c.args.shared.now) _ _ (between_of c.self.inside.store c.args.self.now c.self.view_is (λ store. now store c.args.shared.now) c.requires.between)
+    c.clean_up.ensures.keeps (subst (λ (v : StoreState). is_aborted (levels_of v.levels) ≡ true) (sym c.self.view_is) c.requires.aborted) (subst (λ (v : StoreState). 0 < length v.levels) (sym c.self.view_is) c.requires.level) (c.clean_up.ensures.acted c.args.shared.now.commons.now)
+
+pub returns-clause-rest : goal.returns-clause-rest
+returns-clause-rest g c =
+    let left : Now = record { store = c.clean_up.new.store; space = c.clean_up.new.space; shelf = c.clean_up.new.shelf; commons = c.args.shared.now.commons.now; calls = c.args.shared.now.calls.now } in
+    clean_rest (now c.self.inside.store c.args.shared.now) left _ (between_of c.self.inside.store c.args.self.now c.self.view_is (λ store. now store c.args.shared.now) c.requires.between)
     c.clean_up.ensures.keeps (subst (λ (v : StoreState). is_aborted (levels_of v.levels) ≡ true) (sym c.self.view_is) c.requires.aborted) (subst (λ (v : StoreState). 0 < length v.levels) (sym c.self.view_is) c.requires.level) (c.clean_up.ensures.acted c.args.shared.now.commons.now)

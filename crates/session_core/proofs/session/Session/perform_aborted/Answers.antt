@@ -36,7 +36,7 @@ pub returns-in_default : goal.returns-in_default
 returns-in_default g c = record {
   performed =
       as_elements 3 _ _ _ _ _ _
-      (in_aborted c.args.command.now transaction_refused (others_aborted c.args.command.now c.requires.known c.in_default.not-Nothing c.in_default.not-Commit c.in_default.not-Rollback c.in_default.not-RollbackTo)
+      (in_aborted c.args.command.now transaction_refused (others_aborted c.args.command.now c.in_default.not-Nothing c.in_default.not-Commit c.in_default.not-Rollback c.in_default.not-RollbackTo)
       c.args.self.now c.args.shared.now.space.now c.requires.block)
       (performed_more 0 3 _ _ _ _ _ (omega arith) (refused_aborted _ _ c.requires.between.keeps (g.met.E.Emit.emits_none c.args.out.now)));
   between = c.requires.between;

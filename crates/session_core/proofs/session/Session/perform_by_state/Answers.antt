@@ -1,7 +1,7 @@
 use Rattle.std.proofs.Common.{◌≤◌, length, ap, ◌∙◌, subst}
 use Rattle.session_rules.specs.State.{first_of}
 use Rattle.session_store.specs.State.{StoreState, levels_of}
-use Rattle.session_core.proofs.BetweenLines.{aborted_block, block_of, steps_of_lines}
+use Rattle.session_core.proofs.BetweenLines.{aborted_block, block_of, rest_of_lines, steps_of_lines}
 use Rattle.session_core.proofs.session.Session.perform_by_state.Goals as goal
 
 pub perform_idle-requires-clause-between : goal.perform_idle-requires-clause-between
@@ -20,3 +20,9 @@ perform_in_block-requires-clause-between g c = steps_of_lines _ c.requires.lines
 pub perform_in_block-requires-clause-block : goal.perform_in_block-requires-clause-block
 perform_in_block-requires-clause-block g c =
     block_of _ c.in-Some.level c.requires.lines (subst (λ (v : StoreState). length v.levels ≤ 1000) c.self.view_is c.in-Some.ensures.at_most) (c.in-Some.ensures.level ∙ ap (λ (a : StoreState). first_of (levels_of a.levels)) c.self.view_is) c.if-level.false
+
+pub perform_idle-requires-clause-rest : goal.perform_idle-requires-clause-rest
+perform_idle-requires-clause-rest g c = rest_of_lines _ c.requires.lines
+
+pub perform_in_block-requires-clause-rest : goal.perform_in_block-requires-clause-rest
+perform_in_block-requires-clause-rest g c = rest_of_lines _ c.requires.lines

@@ -1,7 +1,7 @@
 use Rattle.std.proofs.Common.{◌<◌, length, refl, subst, sym}
 use Rattle.session_store.specs.State.{StoreState}
-use Rattle.session_work.specs.Performed.{now}
-use Rattle.session_core.proofs.Between.{between_of, roll_between}
+use Rattle.session_work.specs.Performed.{Now, now}
+use Rattle.session_core.proofs.Between.{between_of, roll_between, roll_rest}
 use Rattle.session_core.proofs.OnLevels.{roll_performed}
 use Rattle.session_core.proofs.Seen.{seen, serves_of, stands_of}
 use Rattle.session_core.proofs.session.Session.roll_back.Goals as goal
@@ -21,3 +21,9 @@ returns-clause-between g c =
 
 pub roll_back-requires-clause-serves : goal.roll_back-requires-clause-serves
 roll_back-requires-clause-serves g c = serves_of c.self.inside.store c.args.self.now c.self.view_is c.args.shared.now.commons.now c.requires.between.serves
+
+pub returns-clause-rest : goal.returns-clause-rest
+returns-clause-rest g c =
+    let left : Now = record { store = c.roll_back.new.store; space = c.roll_back.new.space; shelf = c.roll_back.new.shelf; commons = c.roll_back.new.commons; calls = c.args.shared.now.calls.now } in
+    roll_rest (now c.self.inside.store c.args.shared.now) left _ (between_of c.self.inside.store c.args.self.now c.self.view_is (λ store. now store c.args.shared.now) c.requires.between)
+    c.roll_back.ensures.keeps (subst (λ (v : StoreState). 0 < length v.levels) (sym c.self.view_is) c.requires.level) c.roll_back.ensures.acted

@@ -1,5 +1,5 @@
 use Rattle.std.proofs.Common.{◌≤◌, ◌<◌, length, refl, arith}
-use Rattle.session_core.proofs.Rolling.{rolling_done, rolling_on, rolling_outer, rolling_start}
+use Rattle.session_core.proofs.Rolling.{rolling_done, rolling_on, rolling_outer, rolling_rest, rolling_start}
 use Rattle.session_core.proofs.session.Session.roll_back_to.Goals as goal
 
 pub loop-self-init : goal.loop-self-init
@@ -9,7 +9,7 @@ pub loop-self-preserved : goal.loop-self-preserved
 loop-self-preserved g c =
     let deep : c.args.level ≤ length c.loop-self.self.levels = omega (arith, c.loop-self-test.true, c.depth.ensures.depth) in
     rolling_on _ _ _ _ _ _ _ c.loop-self.invariant deep c.end_level.ensures.performed c.end_level.ensures.levels.0 c.end_level.ensures.levels.1 c.end_level.ensures.between
-    (λ us vs first second. g.met.E.Emit.emits_more _ _ _ _ _ _ first second refl)
+    c.end_level.ensures.rest (λ us vs first second. g.met.E.Emit.emits_more _ _ _ _ _ _ first second refl)
 
 pub returns-clause-performed : goal.returns-clause-performed
 returns-clause-performed g c =
@@ -20,3 +20,8 @@ pub returns-clause-outer : goal.returns-clause-outer
 returns-clause-outer g c within =
     let below : length c.loop-self.self.levels < c.args.level = omega (arith, c.loop-self-test.false, c.depth.ensures.depth) in
     rolling_outer _ _ _ _ c.loop-self.invariant below within
+
+pub returns-clause-rest : goal.returns-clause-rest
+returns-clause-rest g c within =
+    let below : length c.loop-self.self.levels < c.args.level = omega (arith, c.loop-self-test.false, c.depth.ensures.depth) in
+    rolling_rest _ _ _ _ c.loop-self.invariant below within

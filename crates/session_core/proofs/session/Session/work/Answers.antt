@@ -1,16 +1,22 @@
-use Rattle.std.proofs.Common.{sym, subst}
-use Rattle.session_rules.proofs.StepsStand.{IsWorking}
-use Rattle.session_store.specs.State.{StoreState, levels_of}
-use Rattle.session_work.specs.Performed.{HasRoom, now}
-use Rattle.session_core.proofs.Between.{between_of}
-use Rattle.session_core.proofs.Seen.{seen}
+use Rattle.std.proofs.Common.{arith}
+use Rattle.session_rules.specs.Works.{work_of}
+use Rattle.session_store.specs.State.{StoreState, session_of}
+use Rattle.session_work.specs.Performed.{most_work}
+use Rattle.session_work.proofs.Performing.{performed_more}
+use Rattle.session_core.proofs.ByState.{works_beside}
+use Rattle.session_core.proofs.Seen.{seen, seen_from}
 use Rattle.session_core.proofs.session.Session.work.Goals as goal
 
-pub returns-clause-performed : goal.returns-clause-performed
-returns-clause-performed g c session = seen c.self.inside.store c.args.self.now c.self.view_is 2 _ c.args.shared.now _ _ _ (c.work.ensures.performed session)
+pub returns-in_default-clause-performed : goal.returns-in_default-clause-performed
+returns-in_default-clause-performed g c =
+    performed_more 2 most_work _ _ _ _ _ (omega arith)
+    (seen c.self.inside.store c.args.self.now c.self.view_is 2 _ c.args.shared.now _ _ _ (c.work.ensures.performed (session_of c.args.self.now c.args.shared.now.space.now)))
 
-pub work-requires-clause-between : goal.work-requires-clause-between
-work-requires-clause-between g c = between_of c.self.inside.store c.args.self.now c.self.view_is (λ a. now a c.args.shared.now) c.requires.between
+pub returns-in-Portal-clause-performed : goal.returns-in-Portal-clause-performed
+returns-in-Portal-clause-performed g c =
+    seen_from c.self.inside.store c.args.self.now c.self.view_is most_work (λ (store : StoreState). work_of c.args.command.now (session_of store c.args.shared.now.space.now)) c.args.shared.now _ _ _
+    c.work_on_portals.ensures.performed
 
-pub work-requires-clause-active : goal.work-requires-clause-active
-work-requires-clause-active g c = subst (λ (v : StoreState). IsWorking (levels_of v.levels)) (sym c.self.view_is) c.requires.active
+pub work-requires-clause-work : goal.work-requires-clause-work
+work-requires-clause-work g c =
+    works_beside c.args.command.now c.requires.work c.in_default.not-Portal c.in_default.not-Fetch c.in_default.not-EndPortal
