@@ -3,10 +3,12 @@
 
 mod playing;
 
-pub use playing::{Played, outcome};
+pub use playing::{Played, outcome, outcome_over};
 
 #[cfg(test)]
 mod plan_tests;
+#[cfg(test)]
+mod portal_tests;
 #[cfg(test)]
 mod telling_tests;
 #[cfg(test)]

@@ -1,7 +1,7 @@
 //! What whole sessions say, from their start to their exit.
 ghost use Rattle.std.specs.Prelude.{◌≡◌, IfOk};
 
-use crate::outcome;
+use crate::{outcome, outcome_over};
 use pgs_command::{Command, ContextKind, ReferenceClass};
 use pgs_step::{ChunkBytes, Error, Item, KindId, Mode, Name, What};
 use std::test::Fail;
@@ -127,6 +127,62 @@ fn a_context_goes_with_its_block(rt: HostRuntime) -> Result<(), Fail> {
             context: 7,
         },
         What::Delete(7),
+        What::Delete(6),
+        What::Ok,
+        What::Delete(5),
+        What::Delete(4),
+        What::Delete(3),
+        What::Delete(2),
+        What::Delete(1),
+        What::Exit,
+    ];
+    assert_eq!(rt; played.out.events(), events.as_slice());
+    assert_eq!(rt; (played.depth, played.held), (0, 0));
+    Ok(())
+}
+
+#[test]
+fn bytes_written_in_place_are_shown(rt: HostRuntime) -> Result<(), Fail> {
+    let chunk = name(b"a")?;
+    let before = [Command::Begin, Command::AllocZeroed { chunk, size: 16 }];
+    let behind = [
+        Command::Show {
+            chunk,
+            at: 0,
+            length: 4,
+        },
+        Command::Commit,
+    ];
+    let place = 1;
+    let over = [170, 85];
+    let alloc = rt.alloc();
+    let played = outcome_over(
+        alloc,
+        before.as_slice(),
+        &chunk,
+        place,
+        over.as_slice(),
+        behind.as_slice(),
+    )?
+    .ok_or("no known bytes")?;
+    let events = [
+        What::BeginLevel(1),
+        What::Create {
+            context: 6,
+            name: name(b"TopTransactionContext")?,
+            parent: 1,
+        },
+        What::Owner(1),
+        What::Ok,
+        What::Ok,
+        What::Bytes {
+            chunk,
+            at: 0,
+            bytes: bytes(&[0, 170, 85, 0])?,
+        },
+        What::Ok,
+        What::CommitLevel(1),
+        What::OwnerGone(1),
         What::Delete(6),
         What::Ok,
         What::Delete(5),

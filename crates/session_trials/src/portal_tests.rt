@@ -1,0 +1,355 @@
+//! What whole sessions say of portals.
+
+use crate::outcome;
+use pgs_command::Command;
+use pgs_step::{Error, Item, KindId, Mode, Name, What};
+use std::test::Fail;
+
+fn name(word: &[u8]) -> Result<Name, Fail> {
+    Ok(Name::new(word).ok_or("no name")?)
+}
+
+fn create(context: u64, name: Name, parent: u64) -> What {
+    What::Create {
+        context,
+        name,
+        parent,
+    }
+}
+
+fn owner_in(owner: u64, parent: u64) -> What {
+    What::OwnerIn { owner, parent }
+}
+
+fn item(kind: KindId, key: u32, serial: u64) -> Item {
+    Item { kind, key, serial }
+}
+
+fn acquire(item: Item, owner: u64) -> What {
+    What::Acquire { item, owner }
+}
+
+fn release(item: Item, owner: u64) -> What {
+    What::Release { item, owner }
+}
+
+fn row(portal: Name, row: u32, value: u32) -> What {
+    What::Row { portal, row, value }
+}
+
+#[test]
+fn a_portal_of_the_level_above_fails_in_a_savepoint(rt: HostRuntime) -> Result<(), Fail> {
+    let portal = name(b"p")?;
+    let savepoint = name(b"s")?;
+    let mode = Mode::AccessShareLock;
+    let top = name(b"TopTransactionContext")?;
+    let level_context = name(b"CurTransactionContext")?;
+    let portal_context = name(b"PortalContext")?;
+    let expr_context = name(b"ExprContext")?;
+    let commands = [
+        Command::Begin,
+        Command::Lock { object: 9, mode },
+        Command::Portal {
+            name: portal,
+            object: 40,
+            rows: 30,
+            bad: Some(3),
+        },
+        Command::Savepoint(savepoint),
+        Command::Fetch {
+            name: portal,
+            count: 5,
+        },
+        Command::RollbackTo(savepoint),
+        Command::Rollback,
+    ];
+    let played = outcome(rt.alloc(), 0, commands.as_slice())?;
+    let relation = item(KindId::RELCACHE_REFERENCE, 40, 1);
+    let snapshot = item(KindId::SNAPSHOT_REFERENCE, 40, 2);
+    let page = item(KindId::BUFFER_PIN, 40, 3);
+    let events = [
+        What::BeginLevel(1),
+        create(6, top, 1),
+        What::Owner(1),
+        What::Ok,
+        What::AcquireLock {
+            object: 9,
+            mode,
+            owner: 1,
+        },
+        What::Ok,
+        create(7, portal_context, 4),
+        owner_in(2, 1),
+        What::AcquireLock {
+            object: 40,
+            mode,
+            owner: 2,
+        },
+        acquire(relation, 2),
+        acquire(snapshot, 2),
+        create(8, expr_context, 7),
+        What::Ok,
+        What::BeginLevel(2),
+        create(9, level_context, 6),
+        owner_in(3, 1),
+        What::Ok,
+        acquire(page, 2),
+        row(portal, 0, 240),
+        What::Reset(8),
+        row(portal, 1, 247),
+        What::Reset(8),
+        row(portal, 2, 254),
+        What::Reset(8),
+        What::Error(Error::BadRow(3)),
+        What::AbortLevel(2),
+        What::MoveOwner {
+            owner: 2,
+            parent: 3,
+        },
+        release(page, 2),
+        release(relation, 2),
+        What::ReleaseLock {
+            object: 40,
+            mode,
+            count: 1,
+            owner: 2,
+        },
+        release(snapshot, 2),
+        What::CleanupLevel(2),
+        What::OwnerGone(2),
+        What::OwnerGone(3),
+        What::Delete(9),
+        What::BeginLevel(2),
+        create(10, level_context, 6),
+        owner_in(4, 1),
+        What::Ok,
+        What::AbortLevel(2),
+        What::CleanupLevel(2),
+        What::OwnerGone(4),
+        What::Delete(10),
+        What::AbortLevel(1),
+        What::Delete(8),
+        What::ReleaseLock {
+            object: 9,
+            mode,
+            count: 1,
+            owner: 1,
+        },
+        What::CleanupLevel(1),
+        What::Delete(7),
+        What::OwnerGone(1),
+        What::Delete(6),
+        What::Ok,
+        What::Delete(5),
+        What::Delete(4),
+        What::Delete(3),
+        What::Delete(2),
+        What::Delete(1),
+        What::Exit,
+    ];
+    assert_eq!(rt; played.out.events(), events.as_slice());
+    assert_eq!(rt; (played.depth, played.held), (0, 0));
+    Ok(())
+}
+
+#[test]
+fn a_portal_is_fetched_from_page_by_page_and_ends(rt: HostRuntime) -> Result<(), Fail> {
+    let portal = name(b"q")?;
+    let mode = Mode::AccessShareLock;
+    let top = name(b"TopTransactionContext")?;
+    let portal_context = name(b"PortalContext")?;
+    let expr_context = name(b"ExprContext")?;
+    let commands = [
+        Command::Begin,
+        Command::Portal {
+            name: portal,
+            object: 3,
+            rows: 12,
+            bad: None,
+        },
+        Command::Fetch {
+            name: portal,
+            count: 20,
+        },
+        Command::EndPortal(portal),
+        Command::Commit,
+    ];
+    let played = outcome(rt.alloc(), 0, commands.as_slice())?;
+    let relation = item(KindId::RELCACHE_REFERENCE, 3, 1);
+    let snapshot = item(KindId::SNAPSHOT_REFERENCE, 3, 2);
+    let page = item(KindId::BUFFER_PIN, 3, 3);
+    let next_page = item(KindId::BUFFER_PIN, 4, 4);
+    let events = [
+        What::BeginLevel(1),
+        create(6, top, 1),
+        What::Owner(1),
+        What::Ok,
+        create(7, portal_context, 4),
+        owner_in(2, 1),
+        What::AcquireLock {
+            object: 3,
+            mode,
+            owner: 2,
+        },
+        acquire(relation, 2),
+        acquire(snapshot, 2),
+        create(8, expr_context, 7),
+        What::Ok,
+        acquire(page, 2),
+        row(portal, 0, 93),
+        What::Reset(8),
+        row(portal, 1, 100),
+        What::Reset(8),
+        row(portal, 2, 107),
+        What::Reset(8),
+        row(portal, 3, 114),
+        What::Reset(8),
+        row(portal, 4, 121),
+        What::Reset(8),
+        row(portal, 5, 128),
+        What::Reset(8),
+        row(portal, 6, 135),
+        What::Reset(8),
+        row(portal, 7, 142),
+        What::Reset(8),
+        row(portal, 8, 149),
+        What::Reset(8),
+        row(portal, 9, 156),
+        What::Reset(8),
+        release(page, 2),
+        acquire(next_page, 2),
+        row(portal, 10, 163),
+        What::Reset(8),
+        row(portal, 11, 170),
+        release(next_page, 2),
+        What::Fetched { portal, rows: 12 },
+        What::Ok,
+        release(relation, 2),
+        release(snapshot, 2),
+        What::PassLock {
+            object: 3,
+            mode,
+            count: 1,
+            from: 2,
+            to: 1,
+        },
+        What::OwnerGone(2),
+        What::Delete(8),
+        What::Delete(7),
+        What::Ok,
+        What::CommitLevel(1),
+        What::ReleaseLock {
+            object: 3,
+            mode,
+            count: 1,
+            owner: 1,
+        },
+        What::OwnerGone(1),
+        What::Delete(6),
+        What::Ok,
+        What::Delete(5),
+        What::Delete(4),
+        What::Delete(3),
+        What::Delete(2),
+        What::Delete(1),
+        What::Exit,
+    ];
+    assert_eq!(rt; played.out.events(), events.as_slice());
+    assert_eq!(rt; (played.depth, played.held), (0, 0));
+    Ok(())
+}
+
+#[test]
+fn a_portal_passes_to_the_level_above(rt: HostRuntime) -> Result<(), Fail> {
+    let portal = name(b"p")?;
+    let savepoint = name(b"s")?;
+    let mode = Mode::AccessShareLock;
+    let top = name(b"TopTransactionContext")?;
+    let level_context = name(b"CurTransactionContext")?;
+    let portal_context = name(b"PortalContext")?;
+    let expr_context = name(b"ExprContext")?;
+    let commands = [
+        Command::Begin,
+        Command::Savepoint(savepoint),
+        Command::Portal {
+            name: portal,
+            object: 8,
+            rows: 1,
+            bad: None,
+        },
+        Command::Release(savepoint),
+        Command::Fetch {
+            name: portal,
+            count: 2,
+        },
+        Command::Portal {
+            name: portal,
+            object: 8,
+            rows: 1,
+            bad: None,
+        },
+    ];
+    let played = outcome(rt.alloc(), 0, commands.as_slice())?;
+    let relation = item(KindId::RELCACHE_REFERENCE, 8, 1);
+    let snapshot = item(KindId::SNAPSHOT_REFERENCE, 8, 2);
+    let page = item(KindId::BUFFER_PIN, 8, 3);
+    let events = [
+        What::BeginLevel(1),
+        create(6, top, 1),
+        What::Owner(1),
+        What::Ok,
+        What::BeginLevel(2),
+        create(7, level_context, 6),
+        owner_in(2, 1),
+        What::Ok,
+        create(8, portal_context, 4),
+        owner_in(3, 2),
+        What::AcquireLock {
+            object: 8,
+            mode,
+            owner: 3,
+        },
+        acquire(relation, 3),
+        acquire(snapshot, 3),
+        create(9, expr_context, 8),
+        What::Ok,
+        What::CommitLevel(2),
+        What::MoveOwner {
+            owner: 3,
+            parent: 1,
+        },
+        What::OwnerGone(2),
+        What::Delete(7),
+        What::Ok,
+        acquire(page, 3),
+        row(portal, 0, 248),
+        release(page, 3),
+        What::Fetched { portal, rows: 1 },
+        What::Ok,
+        What::Error(Error::PortalTaken),
+        What::AbortLevel(1),
+        What::Delete(9),
+        release(relation, 3),
+        What::ReleaseLock {
+            object: 8,
+            mode,
+            count: 1,
+            owner: 1,
+        },
+        release(snapshot, 3),
+        What::CleanupLevel(1),
+        What::Delete(8),
+        What::OwnerGone(3),
+        What::OwnerGone(1),
+        What::Delete(6),
+        What::Delete(5),
+        What::Delete(4),
+        What::Delete(3),
+        What::Delete(2),
+        What::Delete(1),
+        What::Exit,
+    ];
+    assert_eq!(rt; played.out.events(), events.as_slice());
+    assert_eq!(rt; (played.depth, played.held), (1, 0));
+    Ok(())
+}
