@@ -6,7 +6,8 @@ use Rattle.pgs_io.specs.Lines.{IsKept}
 use Rattle.pgs_step.specs.declared.events.Event.{Event}
 use Rattle.session_rules.specs.Modes.{made_lines, made_script}
 use Rattle.pgs_turns.specs.declared.lines.Said.{Said}
-use Rattle.pgs_turns.specs.Script.{reads, said_in}
+use Rattle.pgs_command.specs.Lines.{read_line}
+use Rattle.pgs_turns.specs.Script.{said_in}
 use Rattle.pgs_turns.specs.Courses.{HasPerformed, IsOver}
 use Rattle.pgs_turns.specs.Turns.{AllExit, HaveRoom, TakesTurn}
 use Rattle.pgs_turns.specs.World.{IsOpening, Run}
@@ -26,7 +27,7 @@ kept_whole line kept is short = record {
 
 pub made_turn : (descriptors : ℕ) (first old new : Run) (a b c : Counter) (rounds place : ℕ) (line : List ℕ) (said : Said) (wanted : Bool)
     → HasPerformed descriptors first old (λ events. TakesEvents a events b) (take place (made_script rounds)) false → place < 13 * rounds → slice_get (made_lines (place / 13 + 1)) (place % 13) ≡ Some line
-    → said ≡ said_in (reads line) → TakesTurn said old new (λ events. TakesEvents b events c) wanted
+    → said ≡ said_in (read_line line) → TakesTurn said old new (λ events. TakesEvents b events c) wanted
     → HasPerformed descriptors first new (λ events. TakesEvents a events c) (take (place + 1) (made_script rounds)) wanted
 made_turn descriptors first old new a b c rounds place line said wanted s less there is t =
     let next_place : suc place ≡ place + 1 = omega arith in

@@ -8,7 +8,8 @@ use Rattle.session_rules.specs.State.{SessionState}
 use Rattle.session_rules.specs.Transcript.{Course, after_line, after_read, course_by, goes_on}
 use Rattle.session_rules.specs.World.{World, opened}
 use Rattle.session_work.specs.Answers.{Fits}
-use Rattle.pgs_turns.specs.Script.{reads, said_in}
+use Rattle.pgs_command.specs.Lines.{read_line}
+use Rattle.pgs_turns.specs.Script.{said_in}
 use Rattle.pgs_turns.specs.Transcript.{Setting, course_of}
 use Rattle.pgs_turns.specs.World.{HaveDescriptors, IsOpening, Run, options_in, setting_of, sessions_in}
 use Rattle.pgs_turns.specs.Turns.{GoesOn, TakesTurn, behind}
@@ -25,19 +26,19 @@ pub fits_later : (wanted : Bool) (a b : ℕ) (w : Option ℕ) → Fits wanted b 
 fits_later true a b w f h s = subst (IsLater a) (sym f) (s refl)
 fits_later false a b w f h s = later_le w a b f h
 
-goes_on-append : (w : Option ℕ) (lines more : List (List ℕ)) (course : Course) → goes_on reads w (lines ++ more) course ≡ goes_on reads w more (goes_on reads w lines course)
+goes_on-append : (w : Option ℕ) (lines more : List (List ℕ)) (course : Course) → goes_on read_line w (lines ++ more) course ≡ goes_on read_line w more (goes_on read_line w lines course)
 goes_on-append w [] more course = refl
-goes_on-append w (line ∷ lines) more course = goes_on-append w lines more (after_line reads w line course)
+goes_on-append w (line ∷ lines) more course = goes_on-append w lines more (after_line read_line w line course)
 
-pub course_of-snoc : (setting : Setting) (w : Option ℕ) (lines : List (List ℕ)) (line : List ℕ) → course_of setting w (lines ++ line ∷ []) ≡ after_line reads w line (course_of setting w lines)
+pub course_of-snoc : (setting : Setting) (w : Option ℕ) (lines : List (List ℕ)) (line : List ℕ) → course_of setting w (lines ++ line ∷ []) ≡ after_line read_line w line (course_of setting w lines)
 unfolding course_of course_by
 course_of-snoc setting w lines line = goes_on-append w lines (line ∷ []) _
 
-stays : (w : Option ℕ) (course : Course) (lines : List (List ℕ)) → course.wanted ≡ true → goes_on reads w lines course ≡ course
+stays : (w : Option ℕ) (course : Course) (lines : List (List ℕ)) → course.wanted ≡ true → goes_on read_line w lines course ≡ course
 stays w course [] h = refl
 stays w course (line ∷ lines) h =
-    let same : after_line reads w line course ≡ course = rw h refl in
-    ap (λ (c : Course). goes_on reads w lines c) same ∙ stays w course lines h
+    let same : after_line read_line w line course ≡ course = rw h refl in
+    ap (λ (c : Course). goes_on read_line w lines c) same ∙ stays w course lines h
 
 -- lines behind the one that met a want of memory change nothing
 pub course_of-stopped : (setting : Setting) (w : Option ℕ) (lines more : List (List ℕ)) → (course_of setting w lines).wanted ≡ true → course_of setting w (lines ++ more) ≡ course_of setting w lines
@@ -49,24 +50,24 @@ pub read_behind : (w : Option ℕ) (course : Course) (r : Result Line BadLine) �
 read_behind w course (Ok line) = refl
 read_behind w course (Err bad) = refl
 
-pub line_behind : (w : Option ℕ) (course : Course) (line : List ℕ) → course.wanted ≡ false → after_line reads w line course ≡ behind w (said_in (reads line)) course
+pub line_behind : (w : Option ℕ) (course : Course) (line : List ℕ) → course.wanted ≡ false → after_line read_line w line course ≡ behind w (said_in (read_line line)) course
 line_behind w course line goes =
-    let read : after_line reads w line course ≡ after_read w course (reads line) = rw goes refl in
-    read ∙ read_behind w course (reads line)
+    let read : after_line read_line w line course ≡ after_read w course (read_line line) = rw goes refl in
+    read ∙ read_behind w course (read_line line)
 
 -- one line more
 CourseAt-line : (opening : World) (descriptors : ℕ) (w : Option ℕ) (course : Course) (line : List ℕ) (old new : Run) (before during after : List Event → Type 0) (n : ℕ) (wanted : Bool)
-    → HaveDescriptors descriptors old → CourseAt opening course descriptors old before n false → TakesTurn (said_in (reads line)) old new during wanted → Fits wanted new.calls.count w
+    → HaveDescriptors descriptors old → CourseAt opening course descriptors old before n false → TakesTurn (said_in (read_line line)) old new during wanted → Fits wanted new.calls.count w
     → ((xs ys : List Event) → before xs → during ys → after (xs ++ ys))
-    → CourseAt opening (after_line reads w line course) descriptors new after (n + 1) wanted
+    → CourseAt opening (after_line read_line w line course) descriptors new after (n + 1) wanted
 CourseAt-line opening descriptors w course line old new before during after n wanted has c t f joins =
-    let goes : GoesOn course (behind w (said_in (reads line)) course) descriptors new during wanted = t.leads descriptors has w course f c.world_is in
+    let goes : GoesOn course (behind w (said_in (read_line line)) course) descriptors new during wanted = t.leads descriptors has w course f c.world_is in
     subst (λ (z : Course). CourseAt opening z descriptors new after (n + 1) wanted) (sym (line_behind w course line c.wanted_is))
     (record {
       world_is = goes.world_is;
       events = subst after (sym goes.events) (joins course.events goes.more c.events goes.shows);
-      hooks = subst (TellHooks opening (behind w (said_in (reads line)) course).world) (sym goes.events)
-          (tells_both opening course.world (behind w (said_in (reads line)) course).world course.events goes.more c.hooks goes.hooks);
+      hooks = subst (TellHooks opening (behind w (said_in (read_line line)) course).world) (sym goes.events)
+          (tells_both opening course.world (behind w (said_in (read_line line)) course).world course.events goes.more c.hooks goes.hooks);
       performed_is = goes.performed_is ∙ ap (λ (k : ℕ). k + 1) c.performed_is;
       wanted_is = goes.wanted_is;
     })
@@ -84,7 +85,7 @@ CoursesAre-start descriptors first emitted opens h w f = record {
 }
 
 pub CoursesAre-line : (descriptors : ℕ) (setting : Setting) (lines : List (List ℕ)) (line : List ℕ) (old new : Run) (before during after : List Event → Type 0) (wanted : Bool)
-    → HaveDescriptors descriptors old → CoursesAre descriptors setting false lines old before → TakesTurn (said_in (reads line)) old new during wanted
+    → HaveDescriptors descriptors old → CoursesAre descriptors setting false lines old before → TakesTurn (said_in (read_line line)) old new during wanted
     → ((xs ys : List Event) → before xs → during ys → after (xs ++ ys))
     → CoursesAre descriptors setting wanted (lines ++ line ∷ []) new after
 CoursesAre-line descriptors setting lines line old new before during after wanted has courses t joins w f =
@@ -92,7 +93,7 @@ CoursesAre-line descriptors setting lines line old new before during after wante
     let count : length lines + 1 ≡ length (lines ++ line ∷ []) = omega (arith, length-append lines (line ∷ [])) in
     let start : World = opened setting.options setting.kinds setting.shelf in
     subst (λ (z : Course). CourseAt start z descriptors new after (length (lines ++ line ∷ [])) wanted) (sym (course_of-snoc setting w lines line))
-    (subst (λ (k : ℕ). CourseAt start (after_line reads w line (course_of setting w lines)) descriptors new after k wanted) count
+    (subst (λ (k : ℕ). CourseAt start (after_line read_line w line (course_of setting w lines)) descriptors new after k wanted) count
     (CourseAt-line start descriptors w (course_of setting w lines) line old new before during after (length lines) wanted has (courses w later) t f joins))
 
 CourseAt-weaker : (opening : World) (descriptors : ℕ) (course : Course) (run : Run) (before after : List Event → Type 0) (k : ℕ) (wanted : Bool) → ((xs : List Event) → before xs → after xs) → CourseAt opening course descriptors run before k wanted

@@ -11,7 +11,7 @@ use Rattle.pgs_step.specs.declared.events.What.TheVariants as what
 use Rattle.session_rules.specs.World.{Scene, around, moment, opened, session_at}
 use Rattle.session_rules.proofs.Calm.{exited_errors, turn_errors}
 use Rattle.pgs_turns.specs.EventLaws.{errors_in-append, errors_of_one_session}
-use Rattle.pgs_turns.specs.Script.{reads}
+use Rattle.pgs_command.specs.Lines.{read_line}
 use Rattle.pgs_turns.specs.Transcript.{Setting, transcript}
 
 command_errors : (w : Option ℕ) (course : Course) (n : ℕ) (line : Option Command) (session : Option SessionState)
@@ -28,15 +28,15 @@ read_errors : (w : Option ℕ) (course : Course) (line : Result Line BadLine) �
 read_errors w course (Ok line) = command_errors w course line.session (Some line.command) (session_at line.session course.world)
 read_errors w course (Err bad) = command_errors w course bad.session None (session_at bad.session course.world)
 
-line_errors : (w : Option ℕ) (line : List ℕ) (course : Course) (stopped : Bool) → course.wanted ≡ stopped → errors_in (after_line reads w line course).events ≤ errors_in course.events + 1
+line_errors : (w : Option ℕ) (line : List ℕ) (course : Course) (stopped : Bool) → course.wanted ≡ stopped → errors_in (after_line read_line w line course).events ≤ errors_in course.events + 1
 line_errors w line course true h = rw h (omega arith)
-line_errors w line course false h = rw h (read_errors w course (reads line))
+line_errors w line course false h = rw h (read_errors w course (read_line line))
 
-lines_errors : (w : Option ℕ) (lines : List (List ℕ)) (course : Course) → errors_in (goes_on reads w lines course).events ≤ errors_in course.events + length lines
+lines_errors : (w : Option ℕ) (lines : List (List ℕ)) (course : Course) → errors_in (goes_on read_line w lines course).events ≤ errors_in course.events + length lines
 lines_errors w [] course = omega arith
 lines_errors w (line ∷ lines) course =
     let first = line_errors w line course course.wanted refl in
-    let rest = lines_errors w lines (after_line reads w line course) in omega (arith, first, rest)
+    let rest = lines_errors w lines (after_line read_line w line course) in omega (arith, first, rest)
 
 exits_errors : (n : ℕ) (sessions : List SessionState) (course : Course) → errors_in (exits n sessions course).events ≡ errors_in course.events
 exits_errors n [] course = refl
@@ -51,6 +51,6 @@ pub few_errors : (setting : Setting) (w : Option ℕ) (lines : List (List ℕ)) 
 unfolding transcript transcript_by course_by
 few_errors setting w lines =
     let begun : Course = at_start (opened setting.options setting.kinds setting.shelf) in
-    let course : Course = goes_on reads w lines begun in
+    let course : Course = goes_on read_line w lines begun in
     let behind = exits_errors 1 course.world.sessions course in
     let all = lines_errors w lines begun in omega (arith, behind, all)

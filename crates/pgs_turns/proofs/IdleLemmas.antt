@@ -1,13 +1,11 @@
 -- A line that asks for nothing: how it is read, and that it leaves the run as it is.
-use Rattle.std.proofs.Common.{◌≡◌, ℕ, zero, suc, ◌+◌, ◌-◌, ◌<◌, ◌≤◌, Bool, true, false, List, [], ◌∷◌, ◌++◌, length, take, Option, Some, None, Result, Ok, refl, sym, ap, ◌∙◌, subst, arith}
+use Rattle.std.proofs.Common.{◌≡◌, ℕ, zero, suc, ◌+◌, ◌-◌, ◌<◌, ◌≤◌, Bool, true, false, List, [], ◌∷◌, ◌++◌, length, Option, Some, None, Ok, refl, sym, ap, ◌∙◌, subst, arith}
 use Rattle.std.specs.Prelude.{◌==◌, if◌then◌else◌, nat_lt, slice_get, slice_set, unwrap_or}
 use Rattle.std.proofs.lemmas.Bool.Decides.{nat_tests}
 use Rattle.std.proofs.lemmas.List.{take_all}
 use Rattle.pgs_io.specs.Lines.{IsKept}
 use Rattle.pgs_step.specs.declared.events.Event.{Event}
 use Rattle.pgs_command.specs.declared.commands.Command.TheVariants as command
-use Rattle.pgs_command.specs.declared.lines.BadLine.{BadLine}
-use Rattle.pgs_command.specs.declared.lines.Line.{Line}
 use Rattle.pgs_command.specs.Lines.{is_comment, prefix_of, read_line, said}
 use Rattle.addr_space.specs.Space.{risen, taken}
 use Rattle.session_rules.specs.State.{SessionState, is_aborted}
@@ -20,7 +18,7 @@ use Rattle.session_rules.specs.Asked.{asked_all, asked_by_command, asked_by_turn
 use Rattle.session_store.specs.State.{StoreState, session_of}
 use Rattle.session_work.specs.Answers.{Fits}
 use Rattle.pgs_turns.specs.declared.lines.Said.{Said}
-use Rattle.pgs_turns.specs.Script.{built, reads, said_in}
+use Rattle.pgs_turns.specs.Script.{said_in}
 use Rattle.pgs_turns.specs.World.{HaveDescriptors, Run, world_in}
 use Rattle.pgs_turns.specs.Turns.{GoesOn, TakesTurn}
 use Rattle.pgs_turns.proofs.SessionLemmas.{same_run, session_there}
@@ -126,6 +124,5 @@ kept_comment line kept long k is short =
     let few : length line ≤ 512 = grind (arith, nat_tests, k.cut.1, short) in
     comment_says line (ap is_comment (sym (take_all 512 line few) ∙ sym k.front) ∙ is) few
 
-pub comment_is_idle : (line kept : List ℕ) (long : Bool) → IsKept line kept long → is_comment kept ≡ true → long ≡ false → said_in (reads line) ≡ idle
-unfolding reads
-comment_is_idle line kept long k is short = ap (λ (r : Result Line BadLine). said_in (built r)) (kept_comment line kept long k is short)
+pub comment_is_idle : (line kept : List ℕ) (long : Bool) → IsKept line kept long → is_comment kept ≡ true → long ≡ false → said_in (read_line line) ≡ idle
+comment_is_idle line kept long k is short = ap said_in (kept_comment line kept long k is short)

@@ -8,7 +8,6 @@ pub mod LockLemmas
 pub mod OverLemmas
 pub mod PinLemmas
 pub mod PlayLemmas
-pub mod ScriptLemmas
 pub mod SessionLemmas
 pub mod StartLemmas
 pub mod TakenLemmas

@@ -4,7 +4,9 @@ use Rattle.std.specs.Prelude.{slice_get}
 use Rattle.pgs_step.specs.declared.events.Event.{Event}
 use Rattle.session_rules.specs.State.{SessionState, opening}
 use Rattle.session_store.specs.State.{StoreState, session_of}
-use Rattle.pgs_turns.specs.Script.{reads, said_in}
+use Rattle.pgs_command.specs.Lines.{read_line}
+use Rattle.pgs_turns.specs.Script.{said_in}
+use Rattle.session_work.specs.Performed.{most_steps}
 use Rattle.pgs_turns.specs.World.{HaveDescriptors, IsOpening, Run, setting_of}
 use Rattle.pgs_turns.specs.Turns.{HaveRoom, IsWithin, TakesTurn}
 use Rattle.pgs_turns.specs.Courses.{HasPerformed}
@@ -46,11 +48,11 @@ performed_none descriptors first emitted opens has h = record {
 
 -- one line more, which perhaps meets a want of memory
 pub performed_line : (descriptors : ℕ) (first old new : Run) (before during after : List Event → Type 0) (lines : List (List ℕ)) (line : List ℕ) (wanted : Bool)
-    → HasPerformed descriptors first old before lines false → TakesTurn (said_in (reads line)) old new during wanted → ((xs ys : List Event) → before xs → during ys → after (xs ++ ys))
+    → HasPerformed descriptors first old before lines false → TakesTurn (said_in (read_line line)) old new during wanted → ((xs ys : List Event) → before xs → during ys → after (xs ++ ys))
     → HasPerformed descriptors first new after (lines ++ line ∷ []) wanted
 performed_line descriptors first old new before during after lines line wanted s t joins = record {
   courses = CoursesAre-line descriptors (setting_of descriptors first) lines line old new before during after wanted s.has s.courses t joins;
-  bounded = within_as (5 * length lines + 6 + 5) (5 * length (lines ++ line ∷ []) + 6) new (omega (arith, length-append lines (line ∷ []))) (t.grows (5 * length lines + 6) s.bounded);
+  bounded = within_as (most_steps * length lines + 6 + most_steps) (most_steps * length (lines ++ line ∷ []) + 6) new (omega (arith, length-append lines (line ∷ []))) (t.grows (most_steps * length lines + 6) s.bounded);
   called = λ h. omega (arith, t.counted h);
   same = same_on first old new s.same t.same;
   has = t.has descriptors s.has;

@@ -16,7 +16,8 @@ use Rattle.session_rules.specs.Transcript.{Course, after_command, after_line, af
 use Rattle.session_rules.specs.World.{opened, session_at}
 use Rattle.session_rules.proofs.Asking.{asked_by_more, other_line, read_line_asks}
 use Rattle.session_work.specs.Answers.{Fits}
-use Rattle.pgs_turns.specs.Script.{reads, said_in}
+use Rattle.pgs_command.specs.Lines.{read_line}
+use Rattle.pgs_turns.specs.Script.{said_in}
 use Rattle.pgs_turns.specs.Transcript.{Setting, course_of}
 use Rattle.pgs_turns.specs.World.{HaveDescriptors, Run}
 use Rattle.pgs_turns.specs.Turns.{TakesTurn}
@@ -48,12 +49,12 @@ of_reading w n course (Ok line) = refl
 of_reading w n course (Err bad) = refl
 
 line_asks : (w : Option ℕ) (n : ℕ) (course : Course) (line : List ℕ) → course.wanted ≡ false
-    → asked_by_line reads w n line course ≡ asked_by_command w n course (said_in (reads line)).session (said_in (reads line)).command (session_at (said_in (reads line)).session course.world)
-line_asks w n course line goes = read_line_asks reads w n line course goes ∙ of_reading w n course (reads line)
+    → asked_by_line read_line w n line course ≡ asked_by_command w n course (said_in (read_line line)).session (said_in (read_line line)).command (session_at (said_in (read_line line)).session course.world)
+line_asks w n course line goes = read_line_asks read_line w n line course goes ∙ of_reading w n course (read_line line)
 
 -- one line more
 pub takes_line : (descriptors : ℕ) (setting : Setting) (lines : List (List ℕ)) (line : List ℕ) (first : Space) (old new : Run) (before during : List Event → Type 0) (wanted : Bool) → wanted ≡ false
-    → HaveDescriptors descriptors old → CoursesAre descriptors setting false lines old before → ((w : Option ℕ) → Fits false old.calls.count w → TakesBut w setting lines first old.space) → TakesTurn (said_in (reads line)) old new during wanted
+    → HaveDescriptors descriptors old → CoursesAre descriptors setting false lines old before → ((w : Option ℕ) → Fits false old.calls.count w → TakesBut w setting lines first old.space) → TakesTurn (said_in (read_line line)) old new during wanted
     → (w : Option ℕ) → Fits false new.calls.count w → TakesBut w setting (lines ++ line ∷ []) first new.space
 unfolding course_of
 takes_line descriptors setting lines line first old new before during wanted is has courses takes t w f account =
@@ -62,9 +63,9 @@ takes_line descriptors setting lines line first old new before during wanted is 
     let asks = line_asks w (account + 1) (course_of setting w lines) line course.wanted_is in
     t.asks is descriptors has w (course_of setting w lines) f course.world_is account
     ∙ ap (risen (taken old.space account)) (sym asks)
-    ∙ ap (λ (x : ℕ). risen x (asked_by_line reads w (account + 1) line (course_of setting w lines))) (takes w later account)
-    ∙ risen_more (taken first account) (asked_by reads w setting.options setting.kinds setting.shelf lines (account + 1)) (asked_by_line reads w (account + 1) line (course_of setting w lines))
-    ∙ ap (risen (taken first account)) (sym (asked_by_more reads w setting.options setting.kinds setting.shelf lines line (account + 1)))
+    ∙ ap (λ (x : ℕ). risen x (asked_by_line read_line w (account + 1) line (course_of setting w lines))) (takes w later account)
+    ∙ risen_more (taken first account) (asked_by read_line w setting.options setting.kinds setting.shelf lines (account + 1)) (asked_by_line read_line w (account + 1) line (course_of setting w lines))
+    ∙ ap (risen (taken first account)) (sym (asked_by_more read_line w setting.options setting.kinds setting.shelf lines line (account + 1)))
 
 -- lines ask nothing for a session that the run doesn't have
 abbrev Lacks : ℕ → Course → Type 0
@@ -78,12 +79,12 @@ lacks_read : (w : Option ℕ) (n : ℕ) (r : Result Line BadLine) (course : Cour
 lacks_read w n (Ok line) course h = still_lacks w n line.session (Some line.command) (session_at line.session course.world) course h
 lacks_read w n (Err bad) course h = still_lacks w n bad.session None (session_at bad.session course.world) course h
 
-lacks_line : (w : Option ℕ) (n : ℕ) (line : List ℕ) (course : Course) → Lacks n course → Lacks n (after_line reads w line course)
+lacks_line : (w : Option ℕ) (n : ℕ) (line : List ℕ) (course : Course) → Lacks n course → Lacks n (after_line read_line w line course)
 lacks_line w n line course h = go course.wanted
   where
-    go : (b : Bool) → Lacks n (elim b as (λ _. Course) [ true ↦ course | false ↦ after_read w course (reads line) ])
+    go : (b : Bool) → Lacks n (elim b as (λ _. Course) [ true ↦ course | false ↦ after_read w course (read_line line) ])
     go true = h
-    go false = lacks_read w n (reads line) course h
+    go false = lacks_read w n (read_line line) course h
 
 none_there : (n : ℕ) (course : Course) → Lacks n course → session_at n course.world ≡ None
 none_there n course h =
@@ -100,22 +101,22 @@ none_read : (w : Option ℕ) (n : ℕ) (r : Result Line BadLine) (course : Cours
 none_read w n (Ok line) course h = none_asked w n line.session (Some line.command) course h
 none_read w n (Err bad) course h = none_asked w n bad.session None course h
 
-none_line : (w : Option ℕ) (n : ℕ) (line : List ℕ) (course : Course) → Lacks n course → asked_by_line reads w n line course ≡ 0
+none_line : (w : Option ℕ) (n : ℕ) (line : List ℕ) (course : Course) → Lacks n course → asked_by_line read_line w n line course ≡ 0
 none_line w n line course h = go course.wanted
   where
-    go : (b : Bool) → elim b as (λ _. ℕ) [ true ↦ 0 | false ↦ asked_by_read w n course (reads line) ] ≡ 0
+    go : (b : Bool) → elim b as (λ _. ℕ) [ true ↦ 0 | false ↦ asked_by_read w n course (read_line line) ] ≡ 0
     go true = refl
-    go false = none_read w n (reads line) course h
+    go false = none_read w n (read_line line) course h
 
-none_on : (w : Option ℕ) (n : ℕ) (lines : List (List ℕ)) (course : Course) → Lacks n course → asked_on reads w n lines course ≡ 0
+none_on : (w : Option ℕ) (n : ℕ) (lines : List (List ℕ)) (course : Course) → Lacks n course → asked_on read_line w n lines course ≡ 0
 none_on w n [] course h = refl
-none_on w n (line ∷ lines) course h = omega (arith, none_line w n line course h, none_on w n lines (after_line reads w line course) (lacks_line w n line course h))
+none_on w n (line ∷ lines) course h = omega (arith, none_line w n line course h, none_on w n lines (after_line read_line w line course) (lacks_line w n line course h))
 
 length_replicate : {A : Type 0} (n : ℕ) (x : A) → length (replicate n x) ≡ n
 length_replicate zero x = refl
 length_replicate (suc n) x = omega (arith, length_replicate n x)
 
-nothing_asked : (setting : Setting) (lines : List (List ℕ)) (n : ℕ) → setting.options.sessions < n → asked_by reads None setting.options setting.kinds setting.shelf lines n ≡ 0
+nothing_asked : (setting : Setting) (lines : List (List ℕ)) (n : ℕ) → setting.options.sessions < n → asked_by read_line None setting.options setting.kinds setting.shelf lines n ≡ 0
 unfolding asked_by
 nothing_asked setting lines n h =
     none_on None n lines (at_start (opened setting.options setting.kinds setting.shelf)) (subst (λ (k : ℕ). k < n) (sym (length_replicate setting.options.sessions _)) h)
@@ -125,13 +126,13 @@ pub opened_taken : (setting : Setting) (lines : List (List ℕ)) (s t u : Space)
     → TakesLines setting lines t u → TakesInAll setting lines s u
 opened_taken setting lines s t u opening takes account =
     takes account
-    ∙ ap (λ (x : ℕ). risen x (asked_by reads None setting.options setting.kinds setting.shelf lines (account + 1))) (opening account)
-    ∙ risen_more (taken s account) (if nat_lt account setting.options.sessions then 65536 else 0) (asked_by reads None setting.options setting.kinds setting.shelf lines (account + 1))
+    ∙ ap (λ (x : ℕ). risen x (asked_by read_line None setting.options setting.kinds setting.shelf lines (account + 1))) (opening account)
+    ∙ risen_more (taken s account) (if nat_lt account setting.options.sessions then 65536 else 0) (asked_by read_line None setting.options setting.kinds setting.shelf lines (account + 1))
     ∙ ap (risen (taken s account)) (go (nat_lt account setting.options.sessions) refl)
   where
     go : (b : Bool) → nat_lt account setting.options.sessions ≡ b
-        → (if b then 65536 else 0) + asked_by reads None setting.options setting.kinds setting.shelf lines (account + 1)
-        ≡ (if b then 65536 + asked_by reads None setting.options setting.kinds setting.shelf lines (account + 1) else 0)
+        → (if b then 65536 else 0) + asked_by read_line None setting.options setting.kinds setting.shelf lines (account + 1)
+        ≡ (if b then 65536 + asked_by read_line None setting.options setting.kinds setting.shelf lines (account + 1) else 0)
     go true e = refl
     go false e =
         let past : setting.options.sessions ≤ account = grind (arith, nat_tests, e) in

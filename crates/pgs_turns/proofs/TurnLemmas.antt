@@ -25,7 +25,7 @@ use Rattle.session_store.specs.State.{StoreState, session_of}
 use Rattle.session_store.specs.Calls.{StaysBeside}
 use Rattle.session_work.specs.Answers.{Fits}
 use Rattle.session_core.specs.Lines.{IsBetweenLines}
-use Rattle.session_work.specs.Performed.{Takes, scene_in}
+use Rattle.session_work.specs.Performed.{Takes, most_steps, scene_in}
 use Rattle.session_core.specs.Turns.{Turned, moment_in}
 use Rattle.session_work.proofs.Standing.{empty_around, fitting, fitting_fits}
 use Rattle.pgs_turns.specs.declared.lines.Said.{Said}
@@ -213,13 +213,13 @@ module _ (a b : Run) (place : ℕ) (store left : StoreState) (said : Said) (duri
       ]
 
   -- a count of one session, and those of the others
-  raised_place : (f : StoreState → ℕ) (bound : ℕ) → f left ≤ f store + 5 → ((j : ℕ) (st : StoreState) → slice_get a.stores j ≡ Some st → f st ≤ bound) → (j : ℕ) (st : StoreState) → slice_get b.stores j ≡ Some st → f st ≤ bound + 5
+  raised_place : (f : StoreState → ℕ) (bound : ℕ) → f left ≤ f store + most_steps → ((j : ℕ) (st : StoreState) → slice_get a.stores j ≡ Some st → f st ≤ bound) → (j : ℕ) (st : StoreState) → slice_get b.stores j ≡ Some st → f st ≤ bound + most_steps
   raised_place f bound grows h j st now = elim (place_set a.stores place left j st (ap (λ (all : List StoreState). slice_get all j) (sym stores) ∙ now)) [
     | inl own ↦ omega (arith, ap f own.1, grows, h place store there)
     | inr other ↦ omega (arith, h j st other.1)
   ]
 
-  within : (bound : ℕ) → IsWithin bound a → IsWithin (bound + 5) b
+  within : (bound : ℕ) → IsWithin bound a → IsWithin (bound + most_steps) b
   within bound h = record {
     calls = omega (arith, h.calls, turned.grows.calls);
     contexts = raised_place (λ s. s.tree.next) bound turned.grows.contexts h.contexts;

@@ -6,7 +6,8 @@ use Rattle.session_rules.specs.Asked.{asked_by, asked_in_all}
 use Rattle.session_rules.specs.Transcript.{Course, ended}
 use Rattle.session_rules.specs.World.{World, opened}
 use Rattle.session_work.specs.Answers.{Fits}
-use Rattle.pgs_turns.specs.Script.{reads}
+use Rattle.session_work.specs.Performed.{most_steps}
+use Rattle.pgs_command.specs.Lines.{read_line}
 use Rattle.pgs_turns.specs.Transcript.{Setting, course_of, kinds_after, shelf_after, transcript, EndsAt}
 use Rattle.pgs_turns.specs.World.{HaveDescriptors, Run, SameRun, setting_of, world_in, AreKept}
 use Rattle.pgs_turns.specs.Hooks.{HooksAreTold, TellHooks}
@@ -27,7 +28,7 @@ CoursesAre descriptors setting wanted lines run emitted = (w : Option ℕ) → F
 -- Each account took what the lines ask for the session that counts for it, where call w is refused for want of memory.
 abbrev pub TakesBut : Option ℕ → Setting → List (List ℕ) → Space → Space → Type 0
 TakesBut w setting lines before after =
-    (account : ℕ) → taken after account ≡ risen (taken before account) (asked_by reads w setting.options setting.kinds setting.shelf lines (account + 1))
+    (account : ℕ) → taken after account ≡ risen (taken before account) (asked_by read_line w setting.options setting.kinds setting.shelf lines (account + 1))
 
 -- the same where none is refused
 abbrev pub TakesLines : Setting → List (List ℕ) → Space → Space → Type 0
@@ -35,7 +36,7 @@ TakesLines setting lines before after = TakesBut None setting lines before after
 
 -- what a session asks that counts for this account, as it opens and by lines; nothing, where no session does
 abbrev pub asked_of : Setting → List (List ℕ) → ℕ → ℕ
-asked_of setting lines account = if nat_lt account setting.options.sessions then asked_in_all reads None setting.options setting.kinds setting.shelf lines (account + 1) else 0
+asked_of setting lines account = if nat_lt account setting.options.sessions then asked_in_all read_line None setting.options setting.kinds setting.shelf lines (account + 1) else 0
 
 -- Each session's account took what the opening of the session and its lines ask for it; no other account took any.
 abbrev pub TakesInAll : Setting → List (List ℕ) → Space → Space → Type 0
@@ -45,7 +46,7 @@ TakesInAll setting lines before after = (account : ℕ) → taken after account 
 -- took what they ask, whichever later call is refused for want of memory.
 pub record HasPerformed (descriptors : ℕ) (first run : Run) (emitted : List Event → Type 0) (lines : List (List ℕ)) (wanted : Bool) : Type 0 where
   pub courses : CoursesAre descriptors (setting_of descriptors first) wanted lines run emitted
-  pub bounded : IsWithin (5 * length lines + 6) run
+  pub bounded : IsWithin (most_steps * length lines + 6) run
   pub called : wanted ≡ true → 0 < run.calls.count
   pub same : SameRun first run
   pub has : HaveDescriptors descriptors run

@@ -7,7 +7,7 @@ use Rattle.owner_kinds.specs.KindShelf.{table_of}
 use Rattle.reset_callbacks.specs.ShelfState.{ShelfState}
 use Rattle.session_rules.specs.World.{Options}
 use Rattle.session_rules.specs.Transcript.{Course, course_by, ended, is_error, text_of_transcript, transcript_by}
-use Rattle.pgs_turns.specs.Script.{reads}
+use Rattle.pgs_command.specs.Lines.{read_line}
 
 -- how a run is set up: with these options, these hooks on the shelf, and these extension kinds
 pub record Setting : Type 0 where
@@ -17,11 +17,11 @@ pub record Setting : Type 0 where
 
 -- the course of a script; w is the number of the fallible call that is refused for want of memory, if any
 unfoldable pub course_of : Setting → Option ℕ → List (List ℕ) → Course
-course_of setting w lines = course_by reads w setting.options setting.kinds setting.shelf lines
+course_of setting w lines = course_by read_line w setting.options setting.kinds setting.shelf lines
 
 -- the transcript of lines: their events, and then those of the ends of all sessions
 unfoldable pub transcript : Setting → Option ℕ → List (List ℕ) → List Event
-transcript setting w lines = transcript_by reads w setting.options setting.kinds setting.shelf lines
+transcript setting w lines = transcript_by read_line w setting.options setting.kinds setting.shelf lines
 
 -- the hooks behind the ends of all sessions
 unfoldable pub shelf_after : Setting → Option ℕ → List (List ℕ) → ShelfState

@@ -10,7 +10,7 @@ use Rattle.session_rules.specs.Asked.{asked_by_command}
 use Rattle.session_store.specs.State.{StoreState, session_of}
 use Rattle.session_store.specs.Calls.{Keeps, StaysBeside}
 use Rattle.session_work.specs.Answers.{Fits}
-use Rattle.session_work.specs.Performed.{HasRoom}
+use Rattle.session_work.specs.Performed.{HasRoom, most_steps}
 use Rattle.pgs_turns.specs.declared.lines.Said.{Said}
 use Rattle.pgs_turns.specs.World.{HaveDescriptors, Run, SameRun, all_waiting, held_by_all, one_of, sessions_in, world_in}
 use Rattle.pgs_turns.specs.Hooks.{TellHooks}
@@ -24,7 +24,7 @@ pub record IsWithin (bound : ℕ) (run : Run) : Type 0 where
 
 -- each session has room for a line
 abbrev pub HaveRoom : Run → Type 0
-HaveRoom run = (place : ℕ) (store : StoreState) → slice_get run.stores place ≡ Some store → HasRoom 5 (one_of run store)
+HaveRoom run = (place : ℕ) (store : StoreState) → slice_get run.stores place ≡ Some store → HasRoom most_steps (one_of run store)
 
 -- A course went on to another one: events that were shown came behind its own, which tell what became of the hooks, one line more was
 -- performed, and it leads to this run.
@@ -48,7 +48,7 @@ pub record TakesTurn (said : Said) (a b : Run) (shown : List Event → Type 0) (
       → GoesOn course (behind w said course) descriptors b shown wanted
   pub asks : wanted ≡ false → (descriptors : ℕ) → HaveDescriptors descriptors a → (w : Option ℕ) (course : Course) → Fits false b.calls.count w → course.world ≡ world_in descriptors a
       → (account : ℕ) → taken b.space account ≡ risen (taken a.space account) (asked_by_command w (account + 1) course said.session said.command (session_at said.session course.world))
-  pub grows : (bound : ℕ) → IsWithin bound a → IsWithin (bound + 5) b
+  pub grows : (bound : ℕ) → IsWithin bound a → IsWithin (bound + most_steps) b
   pub has : (descriptors : ℕ) → HaveDescriptors descriptors a → HaveDescriptors descriptors b
   pub calls : a.calls.count ≤ b.calls.count
   pub counted : wanted ≡ true → a.calls.count < b.calls.count

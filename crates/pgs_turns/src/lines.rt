@@ -1,12 +1,11 @@
 //! What the lines of a script ask for.
 ghost use Rattle.std.specs.Prelude.{◌≡◌, ℕ, List, IfSome};
 ghost use Rattle.pgs_io.specs.Lines.{IsKept};
-ghost use Rattle.pgs_command.specs.Lines.{is_comment};
+ghost use Rattle.pgs_command.specs.Lines.{is_comment, read_line};
 ghost use Rattle.pgs_command.specs.Ranges.{IsInRange, IsSession};
-ghost use Rattle.session_core.specs.Turns.{IsRead};
-ghost use Rattle.pgs_turns.specs.Script.{is_built, reads, said_in};
+ghost use Rattle.pgs_turns.specs.Script.{said_in};
 
-use pgs_command::{Command, parse_line};
+use pgs_command::{Command, parse_command, parse_session};
 
 /// What a line asks for.
 #[derive(Clone, Copy)]
@@ -21,29 +20,13 @@ pub struct Said {
 ///
 /// `kept` are the first 512 bytes of the line, and `long` says whether it has more.
 pub fn read_line(kept: &[u8], long: bool) -> Said
-    ensures read { (line : List ℕ) → IsKept line kept.now long → result ≡ said_in (reads line) }
+    ensures read { (line : List ℕ) → IsKept line kept.now long → result ≡ said_in (read_line line) }
     ensures session { IsSession result.session }
-    ensures performed { IsRead result.command }
     ensures in_range { IfSome result.command IsInRange }
 {
-    match parse_line(kept, long) {
-        Ok(line) => {
-            if is_built(&line.command) {
-                Said {
-                    session: line.session,
-                    command: Some(line.command),
-                }
-            } else {
-                Said {
-                    session: line.session,
-                    command: None,
-                }
-            }
-        }
-        Err(bad) => Said {
-            session: bad.session,
-            command: None,
-        },
+    Said {
+        session: parse_session(kept),
+        command: parse_command(kept, long),
     }
 }
 
@@ -55,57 +38,4 @@ pub fn is_comment(kept: &[u8]) -> bool
         [] => true,
         [first, ..] => *first == b'#',
     }
-}
-
-/// Whether the program performs the command.
-fn is_built(command: &Command) -> bool
-    ensures { result ≡ is_built command.now }
-{
-    matches!(
-        command,
-        Command::Nothing
-            | Command::Begin
-            | Command::Commit
-            | Command::Rollback
-            | Command::Savepoint(_)
-            | Command::Release(_)
-            | Command::RollbackTo(_)
-            | Command::Raise
-            | Command::Report
-            | Command::Stat
-            | Command::Pin(_)
-            | Command::Unpin(_)
-            | Command::Buffer(_)
-            | Command::Reference { .. }
-            | Command::Unreference { .. }
-            | Command::Open(_)
-            | Command::Touch(_)
-            | Command::Close(_)
-            | Command::Acquire { .. }
-            | Command::Drop { .. }
-            | Command::Snapshot(_)
-            | Command::Unsnapshot(_)
-            | Command::Push(_)
-            | Command::Pop
-            | Command::Plan(_)
-            | Command::PlanReference(_)
-            | Command::PlanUnreference(_)
-            | Command::PlanDrop(_)
-            | Command::Lock { .. }
-            | Command::Unlock { .. }
-            | Command::Context { .. }
-            | Command::Switch(_)
-            | Command::OnReset(_)
-            | Command::Reset(_)
-            | Command::ResetOnly(_)
-            | Command::Delete(_)
-            | Command::DeleteChildren(_)
-            | Command::Reparent { .. }
-            | Command::Alloc { .. }
-            | Command::AllocZeroed { .. }
-            | Command::Realloc { .. }
-            | Command::Free(_)
-            | Command::Put { .. }
-            | Command::Show { .. }
-    )
 }

@@ -2,7 +2,6 @@
 ghost use Rattle.std.specs.Prelude.{◌≡◌, ◌<◌, ◌≤◌, ℕ, List, [], length, vec_capacity, OnOk, IfSome, if◌then◌else◌, nat_lt};
 ghost use Rattle.addr_space.specs.Space.{accounts, held, risen, taken};
 ghost use Rattle.pgs_command.specs.Ranges.{IsInRange, IsSession};
-ghost use Rattle.session_core.specs.Turns.{IsRead};
 ghost use Rattle.pgs_turns.specs.World.{run_of, AreStanding, IsOpening};
 ghost use Rattle.session_rules.specs.Transcript.{missing};
 ghost use Rattle.pgs_turns.specs.Turns.{AllExit, AreOpened, HaveRoom, TakesTurn};
@@ -59,7 +58,6 @@ pub fn take_turn<H: ResetHook, X: ExtKind, T: Transcript>(
 ) -> bool
     requires standing { AreStanding 0 (run_of sessions.old shared.old) }
     requires session { IsSession said.now.session }
-    requires known { IsRead said.now.command }
     requires range { IfSome said.now.command IsInRange }
     requires room { HaveRoom (run_of sessions.old shared.old) }
     ensures turn { TakesTurn said.now (run_of sessions.old shared.old) (run_of sessions.new shared.new) (λ events. T.shows out.old events out.new) result }

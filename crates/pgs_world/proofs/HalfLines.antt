@@ -12,7 +12,7 @@ use Rattle.session_rules.specs.State.{SessionState}
 use Rattle.session_rules.specs.World.{opened, session_at}
 use Rattle.session_rules.specs.Transcript.{Course, after_command, after_read, at_start, course_by}
 use Rattle.pgs_world.specs.declared.program.Outcome.{Outcome}
-use Rattle.pgs_turns.specs.Script.{reads}
+use Rattle.pgs_command.specs.Lines.{read_line}
 use Rattle.pgs_turns.specs.Transcript.{Setting, course_of}
 use Rattle.pgs_world.specs.Outcome.{most_bytes, AreWhole, IsWanted}
 
@@ -26,7 +26,7 @@ performed_read w course (Err bad) = performed_command w course bad.session None 
 
 performed_one : (setting : Setting) (call : ℕ) → (course_of setting (Some call) (codes "begin" ∷ [])).performed ≡ 1
 unfolding course_of course_by
-performed_one setting call = performed_read (Some call) (at_start (opened setting.options setting.kinds setting.shelf)) (reads (codes "begin"))
+performed_one setting call = performed_read (Some call) (at_start (opened setting.options setting.kinds setting.shelf)) (read_line (codes "begin"))
 
 no_newline : ended_lines (take most_bytes (codes "begin")) ≡ []
 no_newline = ap ended_lines (take_all most_bytes (codes "begin") (omega arith))

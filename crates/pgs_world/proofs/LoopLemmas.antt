@@ -8,7 +8,8 @@ use Rattle.pgs_io.proofs.LineLemmas.{lines_of-text, ended_lines-text}
 use Rattle.pgs_step.specs.declared.events.Event.{Event}
 use Rattle.pgs_world.specs.declared.performing.End.{End}
 use Rattle.pgs_world.specs.declared.performing.End.TheVariants as end
-use Rattle.pgs_turns.specs.Script.{reads, said_in}
+use Rattle.pgs_command.specs.Lines.{read_line}
+use Rattle.pgs_turns.specs.Script.{said_in}
 use Rattle.pgs_turns.specs.World.{HaveDescriptors, IsOpening, Run}
 use Rattle.pgs_turns.specs.Turns.{HaveRoom, TakesTurn}
 use Rattle.pgs_turns.proofs.PlayLemmas.{performed_line, performed_none, performed_weaker, room_behind}
@@ -25,7 +26,7 @@ Stands-start descriptors first start reader emitted none full opens has h = reco
 -- one line more, and the script goes on
 pub Stands-line : (descriptors : ℕ) (first : Run) (start before after : Option (List ℕ)) (reader reader' : Reading) (old new : Run) (kept : List ℕ) (long : Bool) (emitted during emitted' : List Event → Type 0) (lines : List (List ℕ))
     → Stands descriptors first start before reader old emitted lines → (g : GivesLine before after reader reader' kept long)
-    → TakesTurn (said_in (reads g.line)) old new during false
+    → TakesTurn (said_in (read_line g.line)) old new during false
     → ((xs ys : List Event) → emitted xs → during ys → emitted' (xs ++ ys))
     → Stands descriptors first start after reader' new emitted' (lines ++ g.line ∷ [])
 Stands-line descriptors first start before after reader reader' old new kept long emitted during emitted' lines s g t joins = record {
@@ -115,7 +116,7 @@ module _ (descriptors : ℕ) (first : Run) (start before after : Option (List �
   more line = omega (arith, count, length-append lines (line ∷ []))
 
   pub ends-line : (g : GivesLine before after reader reader' kept long) (e : End) (failed : Bool) → IsLineEnd e failed
-      → TakesTurn (said_in (reads g.line)) old new during (is_wanted e)
+      → TakesTurn (said_in (read_line g.line)) old new during (is_wanted e)
       → Performs descriptors first (record { end = e; lines = n + 1 }) start after new emitted'
   ends-line g e failed h turned =
       let read = HasRead-line most_bytes start before after reader reader' kept long lines s.read g in record {
@@ -127,7 +128,7 @@ module _ (descriptors : ℕ) (first : Run) (start before after : Option (List �
       }
 
   pub ends-last : (g : GivesLast before after reader reader' kept long)
-      → TakesTurn (said_in (reads g.line)) old new during false
+      → TakesTurn (said_in (read_line g.line)) old new during false
       → Performs descriptors first (record { end = end.Whole; lines = n + 1 }) start after new emitted'
   ends-last g turned =
       let read = HasRead-last most_bytes start before after reader reader' kept long lines s.read g in record {
@@ -139,7 +140,7 @@ module _ (descriptors : ℕ) (first : Run) (start before after : Option (List �
       }
 
   pub ends-last_line : (g : GivesLast before after reader reader' kept long) (e : End) (failed : Bool) → IsLineEnd e failed
-      → TakesTurn (said_in (reads g.line)) old new during (is_wanted e)
+      → TakesTurn (said_in (read_line g.line)) old new during (is_wanted e)
       → Performs descriptors first (record { end = e; lines = n + 1 }) start after new emitted'
   ends-last_line g e failed h turned =
       let read = HasRead-last most_bytes start before after reader reader' kept long lines s.read g in record {
@@ -151,7 +152,7 @@ module _ (descriptors : ℕ) (first : Run) (start before after : Option (List �
       }
 
   pub ends-last_any : (g : GivesLast before after reader reader' kept long) (r : Option End) (failed : Bool) → IfSome r (λ e. IsLineEnd e failed)
-      → TakesTurn (said_in (reads g.line)) old new during (is_wanted_in r)
+      → TakesTurn (said_in (read_line g.line)) old new during (is_wanted_in r)
       → Performs descriptors first (record { end = unwrap_or r end.Whole; lines = n + 1 }) start after new emitted'
   ends-last_any g None failed h turned = ends-last g turned
   ends-last_any g (Some e) failed h turned = ends-last_line g e failed h turned

@@ -4,7 +4,8 @@ ghost use Rattle.pgs_io.specs.Faults.{HasRisen};
 ghost use Rattle.pgs_io.specs.Lines.{IsKept};
 ghost use Rattle.pgs_io.specs.Reading.{GivesLine, GivesLast, MeetsEnd, MeetsFault, MeetsLimit};
 ghost use Rattle.pgs_io.specs.Answers.{IfLine, IfLast, OnEnd, OnFault, OnTooMuch, OnNoFault};
-ghost use Rattle.pgs_turns.specs.Script.{reads, said_in};
+ghost use Rattle.pgs_command.specs.Lines.{read_line};
+ghost use Rattle.pgs_turns.specs.Script.{said_in};
 ghost use Rattle.pgs_world.specs.PrinterView.{ShowsEvents, TakesEvents};
 ghost use Rattle.pgs_turns.specs.World.{run_of, AreStanding, HaveDescriptors, IsOpening};
 ghost use Rattle.pgs_turns.specs.Turns.{HaveRoom, TakesTurn};
@@ -149,7 +150,7 @@ fn perform_line<K: Sink, H: ResetHook, X: ExtKind>(
     requires standing { AreStanding 0 (run_of sessions.old shared.old) }
     requires room { HaveRoom (run_of sessions.old shared.old) }
     ensures turn { (line : List ℕ) → IsKept line kept.now long
-        → TakesTurn (said_in (reads line)) (run_of sessions.old shared.old) (run_of sessions.new shared.new) (λ xs. ShowsEvents K.written K.faults printer.old xs printer.new) (is_wanted_in result) }
+        → TakesTurn (said_in (read_line line)) (run_of sessions.old shared.old) (run_of sessions.new shared.new) (λ xs. ShowsEvents K.written K.faults printer.old xs printer.new) (is_wanted_in result) }
     ensures standing { AreStanding 0 (run_of sessions.new shared.new) }
     ensures end { IfSome result (λ end. IsLineEnd end printer.new.failed) }
 {
@@ -171,7 +172,7 @@ fn perform_said<K: Sink, H: ResetHook, X: ExtKind>(
     requires standing { AreStanding 0 (run_of sessions.old shared.old) }
     requires room { HaveRoom (run_of sessions.old shared.old) }
     ensures turn { (line : List ℕ) → IsKept line kept.now long
-        → TakesTurn (said_in (reads line)) (run_of sessions.old shared.old) (run_of sessions.new shared.new) (λ xs. ShowsEvents K.written K.faults printer.old xs printer.new) (is_wanted_in result) }
+        → TakesTurn (said_in (read_line line)) (run_of sessions.old shared.old) (run_of sessions.new shared.new) (λ xs. ShowsEvents K.written K.faults printer.old xs printer.new) (is_wanted_in result) }
     ensures standing { AreStanding 0 (run_of sessions.new shared.new) }
     ensures end { IfSome result (λ end. IsLineEnd end printer.new.failed) }
 {

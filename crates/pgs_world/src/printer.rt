@@ -7,7 +7,7 @@ ghost use Rattle.session_rules.specs.Transcript.{is_error};
 
 use arrayvec::ArrayVec;
 use pgs_io::{Sink, put_all};
-use pgs_step::{Emit, Event, Name, What, append_text};
+use pgs_step::{Emit, Name, What, append_text};
 use pgs_turns::Transcript;
 
 /// How many bytes are gathered before they are handed to the sink.
@@ -92,22 +92,22 @@ impl<'a, K: Sink> Printer<'a, K> {
         }
     }
 
-    /// Appends the event's line where no write has failed.
-    fn append(&mut self, event: &Event)
+    /// Appends the line of what the session says where no write has failed.
+    fn append(&mut self, what: &What)
         requires { self.old.failed ≡ false → array_vec_len self.old.gathered + LINE ≤ GATHERED }
-        ensures { TakesBytes K.written K.faults self.old (text_of self.old.names.now event.now) self.new }
+        ensures { TakesBytes K.written K.faults self.old (text_of self.old.names.now (record { session = self.old.session; what = what.now })) self.new }
     {
         if !self.failed {
-            append_text(event, self.names, &mut self.gathered);
+            append_text(self.session, what, self.names, &mut self.gathered);
         }
     }
 
-    /// Gathers the event's line, which is handed on with what comes behind it.
-    fn gather(&mut self, event: &Event)
-        ensures { TakesBytes K.written K.faults self.old (text_of self.old.names.now event.now) self.new }
+    /// Gathers that line, which is handed on with what comes behind it.
+    fn gather(&mut self, what: &What)
+        ensures { TakesBytes K.written K.faults self.old (text_of self.old.names.now (record { session = self.old.session; what = what.now })) self.new }
     {
         self.make_room();
-        self.append(event);
+        self.append(what);
     }
 
     /// Counts the event where it is an ERROR event.
@@ -147,12 +147,8 @@ impl<'a, K: Sink> Emit for Printer<'a, K> {
     ghost emits = { TakesEvents K.written K.faults };
 
     fn emit(&mut self, what: What) {
-        let event = Event {
-            session: self.session,
-            what,
-        };
-        self.count(&event.what);
-        self.gather(&event);
+        self.count(&what);
+        self.gather(&what);
     }
 
     ghost emits_none = { TakesEvents-none K.written K.faults };

@@ -156,7 +156,7 @@ fn fourteen_scripts(rt: HostRuntime) -> Result<(), Fail> {
         },
         Row {
             words: &[],
-            script: b"begin\nportal p 5 25\nfetch p 5\npin 1\n@1 rollback\nrollback\n",
+            script: b"begin\nportal p\nfetch p 0\npin 1\n@1 rollback\nrollback\n",
             transcript: b"1 begin level 1\n1 create c6 TopTransactionContext in c1\n1 owner o1\n1 ok\n1 ERROR 42601 syntax error\n1 abort level 1\n1 ERROR 42601 syntax error\n1 ERROR 25P02 transaction is aborted\n1 cleanup level 1\n1 owner o1 gone\n1 delete c6\n1 ok\n1 warning there is no transaction in progress\n1 ok\n1 delete c5\n1 delete c4\n1 delete c3\n1 delete c2\n1 delete c1\n1 exit\n",
             status: 1,
             errors: 3,
@@ -270,6 +270,43 @@ fn files_and_kinds_at_their_limits(rt: HostRuntime) -> Result<(), Fail> {
             status: 1,
             errors: 1,
             lines: 6,
+        },
+    ] {
+        let played = play(rt.alloc(), row.words, row.script, 5, 0, 0)?;
+        assert_eq!(rt; played.outcome.status, row.status);
+        assert_eq!(rt;
+            (
+                played.outcome.call,
+                played.outcome.errors,
+                played.outcome.lines
+            ),
+            (0, row.errors, row.lines)
+        );
+        assert_eq!(rt; played.written.as_slice(), row.transcript);
+        assert_eq!(rt; played.held, 0);
+    }
+    Ok(())
+}
+
+/// A portal that fails in a savepoint at the row that can't be read, and one that is fetched from to its end and closed.
+#[test]
+fn portals_fail_and_end(rt: HostRuntime) -> Result<(), Fail> {
+    for row in [
+        Row {
+            words: &[],
+            script: b"begin\nlock 9 AccessShareLock\nportal p 40 30 3\nsavepoint s\nfetch p 5\nrollback to s\nrollback\n",
+            transcript: b"1 begin level 1\n1 create c6 TopTransactionContext in c1\n1 owner o1\n1 ok\n1 acquire lock 9 AccessShareLock o1\n1 ok\n1 create c7 PortalContext in c4\n1 owner o2 in o1\n1 acquire lock 40 AccessShareLock o2\n1 acquire relcache reference 40 #1 o2\n1 acquire snapshot reference 40 #2 o2\n1 create c8 ExprContext in c7\n1 ok\n1 begin level 2\n1 create c9 CurTransactionContext in c6\n1 owner o3 in o1\n1 ok\n1 acquire buffer pin 40 #3 o2\n1 row p 0 240\n1 reset c8\n1 row p 1 247\n1 reset c8\n1 row p 2 254\n1 reset c8\n1 ERROR 22012 bad row 3\n1 abort level 2\n1 owner o2 to o3\n1 release buffer pin 40 #3 o2\n1 release relcache reference 40 #1 o2\n1 release lock 40 AccessShareLock x1 o2\n1 release snapshot reference 40 #2 o2\n1 cleanup level 2\n1 owner o2 gone\n1 owner o3 gone\n1 delete c9\n1 begin level 2\n1 create c10 CurTransactionContext in c6\n1 owner o4 in o1\n1 ok\n1 abort level 2\n1 cleanup level 2\n1 owner o4 gone\n1 delete c10\n1 abort level 1\n1 delete c8\n1 release lock 9 AccessShareLock x1 o1\n1 cleanup level 1\n1 delete c7\n1 owner o1 gone\n1 delete c6\n1 ok\n1 delete c5\n1 delete c4\n1 delete c3\n1 delete c2\n1 delete c1\n1 exit\n",
+            status: 1,
+            errors: 1,
+            lines: 7,
+        },
+        Row {
+            words: &[],
+            script: b"begin\nportal q 3 12\nfetch q 20\nendportal q\ncommit\n",
+            transcript: b"1 begin level 1\n1 create c6 TopTransactionContext in c1\n1 owner o1\n1 ok\n1 create c7 PortalContext in c4\n1 owner o2 in o1\n1 acquire lock 3 AccessShareLock o2\n1 acquire relcache reference 3 #1 o2\n1 acquire snapshot reference 3 #2 o2\n1 create c8 ExprContext in c7\n1 ok\n1 acquire buffer pin 3 #3 o2\n1 row q 0 93\n1 reset c8\n1 row q 1 100\n1 reset c8\n1 row q 2 107\n1 reset c8\n1 row q 3 114\n1 reset c8\n1 row q 4 121\n1 reset c8\n1 row q 5 128\n1 reset c8\n1 row q 6 135\n1 reset c8\n1 row q 7 142\n1 reset c8\n1 row q 8 149\n1 reset c8\n1 row q 9 156\n1 reset c8\n1 release buffer pin 3 #3 o2\n1 acquire buffer pin 4 #4 o2\n1 row q 10 163\n1 reset c8\n1 row q 11 170\n1 release buffer pin 4 #4 o2\n1 fetched q 12\n1 ok\n1 release relcache reference 3 #1 o2\n1 release snapshot reference 3 #2 o2\n1 pass lock 3 AccessShareLock x1 o2 to o1\n1 owner o2 gone\n1 delete c8\n1 delete c7\n1 ok\n1 commit level 1\n1 release lock 3 AccessShareLock x1 o1\n1 owner o1 gone\n1 delete c6\n1 ok\n1 delete c5\n1 delete c4\n1 delete c3\n1 delete c2\n1 delete c1\n1 exit\n",
+            status: 0,
+            errors: 0,
+            lines: 5,
         },
     ] {
         let played = play(rt.alloc(), row.words, row.script, 5, 0, 0)?;
@@ -500,13 +537,13 @@ fn rounds_are_made_in_place_of_a_script(rt: HostRuntime) -> Result<(), Fail> {
     assert_eq!(rt;
         played.outcome,
         Outcome {
-            status: 1,
+            status: 0,
             call: 0,
-            errors: 9,
+            errors: 0,
             lines: 39
         }
     );
-    let wanted = b"generated 39 lines, 120 events, 9 errors, 42 calls\n";
+    let wanted = b"generated 39 lines, 241 events, 0 errors, 120 calls\n";
     assert_eq!(rt; played.written.as_slice(), wanted.as_slice());
     assert_eq!(rt; played.unread, 6);
     Ok(())
@@ -520,7 +557,7 @@ fn numbers_that_cannot_be_written(rt: HostRuntime) -> Result<(), Fail> {
         Outcome {
             status: 4,
             call: 0,
-            errors: 9,
+            errors: 0,
             lines: 39
         }
     );

@@ -1,12 +1,17 @@
-use Rattle.std.proofs.Common.{sym, ◌∙◌}
-use Rattle.pgs_turns.proofs.ScriptLemmas.{bad_is_bad, good_is_read, other_is_bad}
+use Rattle.std.proofs.Common.{◌≡◌, ℕ, Option, Some, None, refl, ap, ◌∙◌}
+use Rattle.pgs_command.specs.declared.commands.Command.{Command}
+use Rattle.pgs_command.specs.Lines.{said}
+use Rattle.pgs_turns.specs.declared.lines.Said.{Said}
+use Rattle.pgs_turns.specs.Script.{said_in}
 use Rattle.pgs_turns.proofs.lines.read_line.Goals as goal
 
-pub returns-then-is_built-clause-read : goal.returns-then-is_built-clause-read
-returns-then-is_built-clause-read c line k = good_is_read line c.in-Ok.line (sym (c.in-Ok.ensures.read line k)) (sym c.is_built.ensures ∙ c.if-is_built.true)
+-- what was said is what is said of it
+told : (session : ℕ) (command : Option Command) → record { session = session; command = command } ≡ said_in (said session command)
+told session None = refl
+told session (Some command) = refl
 
-pub returns-else-is_built-clause-read : goal.returns-else-is_built-clause-read
-returns-else-is_built-clause-read c line k = other_is_bad line c.in-Ok.line (sym (c.in-Ok.ensures.read line k)) (sym c.is_built.ensures ∙ c.if-is_built.false)
-
-pub returns-in-Err-clause-read : goal.returns-in-Err-clause-read
-returns-in-Err-clause-read c line k = bad_is_bad line c.in-Err.bad (sym (c.in-Err.ensures.read line k))
+pub returns-clause-read : goal.returns-clause-read
+returns-clause-read c line k =
+    ap (λ (session : ℕ). record { session = session; command = c.parse_command.result }) (c.parse_session.ensures.read line c.args.long k)
+    ∙ told _ c.parse_command.result
+    ∙ ap said_in (c.parse_command.ensures.read line k)

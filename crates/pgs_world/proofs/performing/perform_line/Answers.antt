@@ -1,7 +1,8 @@
 use Rattle.std.proofs.Common.{◌≡◌, ◌<◌, true, false, length, sym, ◌∙◌, arith}
 use Rattle.std.proofs.lemmas.Bool.Decides.{nat_tests}
 use Rattle.pgs_world.specs.PrinterLaws.{ShowsEvents-none}
-use Rattle.pgs_turns.specs.Script.{reads, said_in}
+use Rattle.pgs_command.specs.Lines.{read_line}
+use Rattle.pgs_turns.specs.Script.{said_in}
 use Rattle.pgs_turns.specs.World.{run_of}
 use Rattle.pgs_turns.proofs.IdleLemmas.{comment_is_idle, first_there, idle_turned}
 use Rattle.pgs_world.proofs.performing.perform_line.Goals as goal
@@ -11,5 +12,5 @@ pub returns-then-not-is_empty-clause-turn : goal.returns-then-not-is_empty-claus
 returns-then-not-is_empty-clause-turn g c line k =
     let some : 0 < length c.args.sessions.now = grind (arith, nat_tests, c.is_empty.ensures, c.if-not-is_empty.true) in
     let first = first_there c.args.sessions.now some in
-    idle_turned (run_of c.args.sessions.now c.args.shared.now) first.0 first.1 _ (ShowsEvents-none g.K.Sink.written g.K.Sink.faults c.args.printer.now) (said_in (reads line))
+    idle_turned (run_of c.args.sessions.now c.args.shared.now) first.0 first.1 _ (ShowsEvents-none g.K.Sink.written g.K.Sink.faults c.args.printer.now) (said_in (read_line line))
     (comment_is_idle line c.args.kept.now c.args.long k (sym c.is_comment.ensures ∙ c.if-is_comment.true) c.if-not-long.true)
