@@ -1,4 +1,3 @@
-pub mod MarkLemmas
 pub mod Taken
 pub mod Refusals
 pub mod Steps

@@ -1,37 +1,10 @@
 //! What the headers in a space tell of a chunk.
-ghost use Rattle.std.specs.Prelude.{◌≡◌, ℕ, ◌^◌, ◌<◌, List, length};
-ghost use Rattle.addr_space.specs.Space.{HasBytes};
+ghost use Rattle.std.specs.Prelude.{◌≡◌, ℕ, ◌^◌, ◌<◌};
 ghost use Rattle.addr_space.specs.Footprint.{Footprint, Agrees};
 ghost use Rattle.chunk_header.specs.Header.{IsMarked, IsLeading, block_bytes, space_of, shared_bytes, TakesSpace, IsHeaded};
 
 use addr_space::{Addr, Space};
-use chunk_header::{BLOCK_HEADER, CHUNK_HEADER, Header, Kind};
-
-// Eight known bytes.
-fn read_word(space: &Space, at: Addr) -> [u8; 8]
-    requires { (bytes : List ℕ) × (length bytes ≡ 8) × HasBytes space.now at bytes }
-    ensures { (bytes : List ℕ) → length bytes ≡ 8 → HasBytes space.now at bytes → result ≡ bytes }
-{
-    let mut word = [0; 8];
-    space.read(at, &mut word);
-    word
-}
-
-// The header of a chunk.
-fn header_at(space: &Space, at: Addr) -> Header
-    requires { (context : ℕ) × IsMarked space.now at context }
-    ensures { (context : ℕ) → (m : IsMarked space.now at context) → result ≡ m.header }
-{
-    let place = Addr {
-        region: at.region,
-        offset: at.offset - CHUNK_HEADER,
-    };
-    let word = u64::from_le_bytes(read_word(space, place));
-    match Header::unpack(word) {
-        Ok(header) => header,
-        Err(_) => unreachable!(),
-    }
-}
+use chunk_header::{BLOCK_HEADER, CHUNK_HEADER, Header, Kind, header_at, word_at};
 
 // The first bytes of the block that a chunk's header leads to.
 fn block_word(space: &Space, at: Addr, header: Header) -> [u8; 8]
@@ -42,7 +15,7 @@ fn block_word(space: &Space, at: Addr, header: Header) -> [u8; 8]
         region: at.region,
         offset: at.offset - CHUNK_HEADER - header.dist,
     };
-    read_word(space, place)
+    word_at(space, place)
 }
 
 /// The number of the context that a chunk belongs to, which was handed to the context's `create`:

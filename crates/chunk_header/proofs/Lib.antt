@@ -1,5 +1,6 @@
 -- Lemmas for this crate, and for the allocators above it.
 pub mod Words
+pub mod Known
 pub mod Doubling
 pub mod Sums
 pub mod Marks

@@ -10,7 +10,10 @@ ghost use Rattle.chunk_header.specs.Header.{kind_code, word_of, IsPackable, head
 ghost use Rattle.chunk_header.specs.Growth.{up8, granted, grown};
 ghost use Rattle.chunk_header.specs.Answers.{refusal_of};
 
+mod reading;
+
 use addr_space::SpaceError;
+pub use reading::{header_at, word_at};
 
 /// The kinds of memory context, as a chunk's header names them: PostgreSQL's `MemoryContextMethodID`
 /// (memutils_internal.h).
@@ -30,6 +33,7 @@ pub enum Kind {
 
 impl Kind {
     // The kind that four bits stand for.
+    #[inline]
     fn from_bits(bits: u8) -> Option<Kind>
         ensures some { IfSome result (λ kind. kind_code kind ≡ bits) }
         ensures none { IfNone result ((bits ≡ 0) ⊎ (5 < bits)) }
@@ -45,6 +49,7 @@ impl Kind {
     }
 
     // The bits that stand for the kind.
+    #[inline]
     fn bits(self) -> u64
         ensures { result ≡ kind_code self }
     {
@@ -141,6 +146,7 @@ impl From<SpaceError> for CtxError {
 
 impl Header {
     /// The word that stands for the header.
+    #[inline]
     pub fn pack(&self) -> u64
         requires value { self.now.value < 2 ^ 30 }
         requires dist { self.now.dist % 8 ≡ 0 }
@@ -153,6 +159,7 @@ impl Header {
     }
 
     /// The bytes of the header's word, lowest first.
+    #[inline]
     pub fn bytes(&self) -> [u8; 8]
         requires value { self.now.value < 2 ^ 30 }
         requires dist { self.now.dist % 8 ≡ 0 }
@@ -162,6 +169,7 @@ impl Header {
     }
 
     /// The header that a word stands for, or the lowest four bits where they are no kind.
+    #[inline]
     pub fn unpack(word: u64) -> Result<Header, BadKind>
         ensures word { IfOk result (λ h. word_of h ≡ word) }
         ensures packable { IfOk result IsPackable }
@@ -185,6 +193,7 @@ impl Header {
 }
 
 /// The first bytes of a block's header: the number of its context and its size.
+#[inline]
 pub fn block_header(context: u32, size: u32) -> [u8; 8]
     ensures { result ≡ block_bytes context size }
 {
@@ -201,6 +210,7 @@ pub fn marked()
 {}
 
 /// A size rounded up to a multiple of 8.
+#[inline]
 pub fn up8(n: u32) -> u32
     requires { n ≤ 2 ^ 31 }
     ensures value { result ≡ up8 n }
@@ -213,6 +223,7 @@ pub fn up8(n: u32) -> u32
 
 /// The bytes of a chunk that is cut to measure: a multiple of 8, and 8 where none was asked for.
 #[tactic(auto, unfolding(crate::specs::Growth::granted))]
+#[inline]
 pub fn granted(size: u32) -> u32
     requires { size < 2 ^ 30 }
     ensures value { result ≡ granted size }

@@ -4,26 +4,32 @@ use Rattle.chunk_header.specs.Header.{IsLeading, space_of, shared_bytes}
 use Rattle.any_ctx.proofs.marked.chunk_space.Goals as goal
 use Rattle.chunk_header.proofs.Marks.{marked_by}
 
+pub header_at-header-requires-clause-behind : goal.header_at-header-requires-clause-behind
+header_at-header-requires-clause-behind c = omega (arith, c.requires.1.behind)
+
+pub header_at-header-requires-clause-known : goal.header_at-header-requires-clause-known
+header_at-header-requires-clause-known c = let m = c.requires.1 in (m.header, m.packable, m.word)
+
 pub block_size-requires : goal.block_size-requires
 block_size-requires c =
     let m = c.requires.1 in
-    (c.requires.0, m, c.header_at-header.ensures c.requires.0 m)
+    (c.requires.0, m, c.header_at-header.ensures m.header m.packable m.word)
 
 pub shared_bytes-requires-clause-value : goal.shared_bytes-requires-clause-value
 shared_bytes-requires-clause-value c =
     let m = c.requires.1 in
-    let value = ap (λ (h : Header). h.value) (c.header_at-header.ensures c.requires.0 m) in
+    let value = ap (λ (h : Header). h.value) (c.header_at-header.ensures m.header m.packable m.word) in
     omega (arith, value, m.packable.value)
 
 pub shared_bytes-requires-clause-leading : goal.shared_bytes-requires-clause-leading
 shared_bytes-requires-clause-leading c =
     let m = c.requires.1 in
-    subst IsLeading (sym (c.header_at-header.ensures c.requires.0 m)) m.leading
+    subst IsLeading (sym (c.header_at-header.ensures m.header m.packable m.word)) m.leading
 
 pub returns-then-header-clause-marked : goal.returns-then-header-clause-marked
 unfolding space_of
 returns-then-header-clause-marked c = λ context m below.
-    let header = c.header_at-header.ensures context m in
+    let header = c.header_at-header.ensures m.header m.packable m.word in
     let own = sym (ap (λ (h : Header). h.own) header) ∙ c.if-header.true in
     let size = c.block_size.ensures context m header below in
     c.from.ensures ∙ c.saturating_sub.ensures ∙ ap (λ n. n - 40) size ∙ sym (ap (λ b. if b then m.size - 40 else shared_bytes m.header.kind m.header.value + 8) own)
@@ -31,7 +37,7 @@ returns-then-header-clause-marked c = λ context m below.
 pub returns-else-header-clause-marked : goal.returns-else-header-clause-marked
 unfolding space_of
 returns-else-header-clause-marked c = λ context m below.
-    let header = c.header_at-header.ensures context m in
+    let header = c.header_at-header.ensures m.header m.packable m.word in
     let own = sym (ap (λ (h : Header). h.own) header) ∙ c.if-header.false in
     c.from-else-header.ensures ∙ ap (λ n. n + 8) (c.shared_bytes.ensures.value ∙ ap (λ (h : Header). shared_bytes h.kind h.value) header)
     ∙ sym (ap (λ b. if b then m.size - 40 else shared_bytes m.header.kind m.header.value + 8) own)
