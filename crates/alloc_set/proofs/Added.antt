@@ -13,7 +13,7 @@ use Rattle.alloc_set.specs.State.{SetState, chunk_at, region_of, start_of, live_
 use Rattle.alloc_set.specs.Kept.{IsSettled, IsAlone}
 use Rattle.addr_space.proofs.Options.{from_then}
 use Rattle.chunk_header.proofs.Words.{length-block_bytes}
-use Rattle.alloc_set.proofs.Settled.{mark_cases, IsSound-settled}
+use Rattle.alloc_set.proofs.Settled.{mark_cases, mark_from_link, IsSound-settled}
 use Rattle.alloc_set.proofs.Carved.{mark_from_block, mark_from_chunk}
 use Rattle.alloc_set.specs.declared.chunk.Chunk.{Chunk}
 use Rattle.alloc_set.specs.declared.chunk.Chunk.TheVariants.{Live, Free, Own}
@@ -30,7 +30,7 @@ pub record Adds (s t : SetState) (number size : ℕ) : Type 0 where
   pub owned : region_of t number ≡ Some size
   pub others : (other : ℕ) → other ≢ number → region_of t other ≡ region_of s other
 
-module _ (s t : SetState) (active active_size number size : ℕ) (settled : IsSettled s active active_size) (adds : Adds s t number size) (keeper_owned : (len : ℕ) × (region_of s s.keeper ≡ Some len)) (least : 48 ≤ size) (most : size ≤ 2 ^ 31) where
+module _ (s t : SetState) (active active_size number size : ℕ) (settled : IsSettled s active active_size) (adds : Adds s t number size) (keeper_owned : (len : ℕ) × (region_of s s.keeper ≡ Some len)) (least : 48 ≤ size) (most : size ≤ 2 ^ 31) (narrow : number < 2 ^ 32) where
   start_same : (other : ℕ) → start_of t other ≡ start_of s other
   start_same other = rw adds.keeper refl
 
@@ -61,10 +61,10 @@ module _ (s t : SetState) (active active_size number size : ℕ) (settled : IsSe
       | inl same ↦
           let one : Some len ≡ Some size = sym owned ∙ ap (region_of t) same ∙ adds.owned in
           let is : len ≡ size = cc in
-          (omega (arith, is, most), omega (arith, is, least, ap (start_of t) same, number_start))
+          (omega (arith, is, most), omega (arith, is, least, ap (start_of t) same, number_start), omega (arith, same, narrow))
       | inr differs ↦
           let was = settled.small other len (sym (adds.others other differs) ∙ owned) in
-          (was.0, omega (arith, was.1, start_same other))
+          (was.0, omega (arith, was.1, start_same other), was.2)
     ];
     placed = λ at chunk found.
         let was = settled.placed at chunk (sym (chunk_same at) ∙ found) in
@@ -98,15 +98,21 @@ module _ (s t : SetState) (active active_size number size : ℕ) (settled : IsSe
                     ∙ ap Some (ap (λ x. block_bytes x block.0) (sym adds.context) ∙ block.3),
               )
         ]
-        | inr other ↦
-            let place : Addr = record { region = b.region; offset = b.offset + 8 } in
-            let found = sym (chunk_same place) ∙ other.2 in
-            let was = settled.placed place other.0 found in
-            inr (
-              owned_differs b.region was.len was.owned,
-              mark_from_chunk s b other.0 (λ e. other.1 (e ∙ sym (start_same b.region))) found
-                  ∙ ap Some (ap (λ x. header_bytes (header_of other.0 (b.offset - x))) (sym (start_same b.region)) ∙ other.3),
-            )
+        | inr rest ↦ elim rest [
+          | inl other ↦
+              let place : Addr = record { region = b.region; offset = b.offset + 8 } in
+              let found = sym (chunk_same place) ∙ other.2 in
+              let was = settled.placed place other.0 found in
+              inr (
+                owned_differs b.region was.len was.owned,
+                mark_from_chunk s b other.0 (λ e. other.1 (e ∙ sym (start_same b.region))) found
+                    ∙ ap Some (ap (λ x. header_bytes (header_of other.0 (b.offset - x))) (sym (start_same b.region)) ∙ other.3),
+              )
+          | inr free ↦
+              let found = sym (chunk_same b) ∙ free.1 in
+              let was = settled.placed b free.0 found in
+              inr (owned_differs b.region was.len was.owned, mark_from_link s active active_size settled b free.0 bytes found free.2)
+        ]
       ]
 
   module _ (sp mp tp : Space) (agrees : Agrees (footprint s) sp) (free : region_at sp number ≡ None) (took : Changes sp mp number (Some (unwritten s.account size)))

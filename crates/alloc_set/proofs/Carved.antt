@@ -1,5 +1,6 @@
 -- Lemmas on a chunk that is cut off the active block.
-use Rattle.std.proofs.Common.{◌≡◌, ◌≢◌, ℕ, ◌+◌, ◌-◌, ◌%◌, ◌<◌, ◌≤◌, ◌⊎◌, ◌==◌, if◌then◌else◌, List, length, Option, Some, None, option_map, true, false, refl, sym, ap, subst, ◌∙◌, arith, inl, inr, slice_index, map}
+use Rattle.std.specs.Option.{option_or}
+use Rattle.std.proofs.Common.{option_and_then, ◌≡◌, ◌≢◌, ℕ, ◌+◌, ◌-◌, ◌%◌, ◌<◌, ◌≤◌, ◌⊎◌, ◌==◌, if◌then◌else◌, List, length, Option, Some, None, option_map, true, false, refl, sym, ap, subst, ◌∙◌, arith, inl, inr, slice_index, map}
 use Rattle.std.proofs.lemmas.Bool.Decides.{nat_tests}
 use Rattle.addr_space.specs.declared.Addr.{Addr}
 use Rattle.addr_space.specs.Space.{Space, region_at, byte_at, overwritten, Changes}
@@ -9,14 +10,14 @@ use Rattle.addr_space.proofs.Steps.{Moves-one}
 use Rattle.chunk_header.specs.declared.Kind.TheVariants.{AllocSet as SetKind}
 use Rattle.chunk_header.specs.Header.{header_bytes, block_bytes}
 use Rattle.alloc_set.specs.Ledger.{class_size}
-use Rattle.alloc_set.specs.State.{SetState, chunk_at, region_of, start_of, capacity_of, live_size, header_of, mark_of, footprint}
+use Rattle.alloc_set.specs.State.{SetState, chunk_at, region_of, start_of, capacity_of, live_size, header_of, link_of, mark_of, footprint}
 use Rattle.alloc_set.specs.Kept.{IsSettled, IsPlaced, IsSized, IsAlone}
 use Rattle.alloc_set.specs.Steps.{IsOfClass, PutsChunk, SameBlocks, Carves}
 use Rattle.alloc_set.proofs.ClassSizes.{class_size-least}
 use Rattle.addr_space.proofs.Options.{from_then, option_cases}
 use Rattle.addr_space.proofs.Addresses.{same_addr_from, put_at-cases}
 use Rattle.chunk_header.proofs.Words.{length-header_bytes, length-block_bytes}
-use Rattle.alloc_set.proofs.Settled.{mark_cases, live_size-le, IsSound-settled}
+use Rattle.alloc_set.proofs.Settled.{mark_cases, mark_from_link, linked, live_size-le, IsSound-settled}
 use Rattle.alloc_set.specs.declared.chunk.Chunk.{Chunk}
 use Rattle.alloc_set.specs.declared.chunk.Chunk.TheVariants.{Live, Free, Own}
 
@@ -54,7 +55,8 @@ unfolding mark_of
 mark_from_block s at len first owned =
     let test : (at.offset == start_of s at.region) ≡ true = grind (arith, nat_tests) in
     let block : Option (List ℕ) = option_map (block_bytes s.context) (region_of s at.region) in
-    let other : Option (List ℕ) = option_map (λ chunk. header_bytes (header_of chunk (at.offset - start_of s at.region))) (chunk_at s (record { region = at.region; offset = at.offset + 8 })) in
+    let link : Option (List ℕ) = option_and_then link_of (chunk_at s at) in
+    let other : Option (List ℕ) = option_or (option_map (λ chunk. header_bytes (header_of chunk (at.offset - start_of s at.region))) (chunk_at s (record { region = at.region; offset = at.offset + 8 }))) link in
     ap (λ b. if b then block else other) test ∙ ap (option_map (block_bytes s.context)) owned
 
 pub mark_from_chunk : (s : SetState) (at : Addr) (chunk : Chunk) → at.offset ≢ start_of s at.region → chunk_at s (record { region = at.region; offset = at.offset + 8 }) ≡ Some chunk → mark_of s at ≡ Some (header_bytes (header_of chunk (at.offset - start_of s at.region)))
@@ -62,8 +64,9 @@ unfolding mark_of
 mark_from_chunk s at chunk differs found =
     let test : (at.offset == start_of s at.region) ≡ false = grind (arith, nat_tests) in
     let block : Option (List ℕ) = option_map (block_bytes s.context) (region_of s at.region) in
-    let other : Option (List ℕ) = option_map (λ chunk. header_bytes (header_of chunk (at.offset - start_of s at.region))) (chunk_at s (record { region = at.region; offset = at.offset + 8 })) in
-    ap (λ b. if b then block else other) test ∙ ap (option_map (λ chunk. header_bytes (header_of chunk (at.offset - start_of s at.region)))) found
+    let link : Option (List ℕ) = option_and_then link_of (chunk_at s at) in
+    let other : Option (List ℕ) = option_or (option_map (λ chunk. header_bytes (header_of chunk (at.offset - start_of s at.region))) (chunk_at s (record { region = at.region; offset = at.offset + 8 }))) link in
+    ap (λ b. if b then block else other) test ∙ ap (λ o. option_or (option_map (λ chunk. header_bytes (header_of chunk (at.offset - start_of s at.region))) o) link) found
 
 -- the marks of the active block end before its room
 pub mark_below : (s : SetState) (active size : ℕ) → IsSettled s active size → (at : Addr) (bytes : List ℕ) → mark_of s at ≡ Some bytes → at.region ≡ active → (at.offset + 8 + s.ledger.room ≤ size) × (length bytes ≡ 8)
@@ -71,9 +74,14 @@ mark_below s active size settled at bytes marked region =
     elim (mark_cases s at bytes marked) [
       | inl block ↦
           (omega (arith, block.1, settled.active_room, ap (start_of s) region), ap length (sym block.3) ∙ length-block_bytes s.context block.0)
-      | inr other ↦
-          let there = settled.placed (record { region = at.region; offset = at.offset + 8 }) other.0 other.2 in
-          (omega (arith, there.below region), ap length (sym other.3) ∙ length-header_bytes (header_of other.0 (at.offset - start_of s at.region)))
+      | inr rest ↦ elim rest [
+        | inl other ↦
+            let there = settled.placed (record { region = at.region; offset = at.offset + 8 }) other.0 other.2 in
+            (omega (arith, there.below region), ap length (sym other.3) ∙ length-header_bytes (header_of other.0 (at.offset - start_of s at.region)))
+        | inr free ↦
+            let link = linked free.0 bytes free.2 in
+            (omega (arith, (settled.placed at free.0 free.1).below region, link.1), link.0)
+      ]
     ]
 
 module _ (s t : SetState) (active size class : ℕ) (at : Addr) (chunk : Chunk) (settled : IsSettled s active size) (carves : Carves s t active size class at chunk) (filled : (size - s.ledger.room) % 8 ≡ 0) where
@@ -128,7 +136,7 @@ module _ (s t : SetState) (active size class : ℕ) (at : Addr) (chunk : Chunk) 
     active_room = omega (arith, start_same s t carves.same active, settled.active_room, carves.room);
     small = λ number len owned.
         let was = settled.small number len (sym (region_same s t carves.same number) ∙ owned) in
-        (was.0, omega (arith, was.1, start_same s t carves.same number));
+        (was.0, omega (arith, was.1, start_same s t carves.same number), was.2);
     placed = placed_now;
     apart = λ a b first second at_a at_b region below.
         elim (put_cases s t at (Some chunk) carves.chunks a) [
@@ -157,21 +165,31 @@ module _ (s t : SetState) (active size class : ℕ) (at : Addr) (chunk : Chunk) 
         | inl block ↦
             inr (mark_from_block s b block.0 (block.1 ∙ start_same s t carves.same b.region) (sym (region_same s t carves.same b.region) ∙ block.2)
             ∙ ap Some (ap (λ x. block_bytes x block.0) (sym carves.same.context) ∙ block.3))
-        | inr other ↦
-            let place : Addr = record { region = b.region; offset = b.offset + 8 } in
-            let start = start_same s t carves.same b.region in
-            elim (put_cases s t at (Some chunk) carves.chunks place) [
-              | inl new ↦
-                  let region : b.region ≡ at.region = ap (λ (x : Addr). x.region) new.0 in
-                  let offset : b.offset ≡ at.offset - 8 = omega (arith, ap (λ (x : Addr). x.offset) new.0) in
-                  let one : Some chunk ≡ Some other.0 = sym new.1 ∙ other.2 in
-                  let is : chunk ≡ other.0 = cc in
-                  let dist : at.offset - 8 - start_of s at.region ≡ b.offset - start_of t b.region = omega (arith, offset, start, ap (start_of s) region) in
-                  inl (same_addr_from b (record { region = at.region; offset = at.offset - 8 }) region offset, ap (λ d. header_bytes (header_of chunk d)) dist ∙ ap (λ x. header_bytes (header_of x (b.offset - start_of t b.region))) is ∙ other.3)
-              | inr old ↦
-                  inr (mark_from_chunk s b other.0 (λ e. other.1 (e ∙ sym start)) (sym old.1 ∙ other.2)
-                  ∙ ap Some (ap (λ x. header_bytes (header_of other.0 (b.offset - x))) (sym start) ∙ other.3))
-            ]
+        | inr rest ↦ elim rest [
+          | inl other ↦
+              let place : Addr = record { region = b.region; offset = b.offset + 8 } in
+              let start = start_same s t carves.same b.region in
+              elim (put_cases s t at (Some chunk) carves.chunks place) [
+                | inl new ↦
+                    let region : b.region ≡ at.region = ap (λ (x : Addr). x.region) new.0 in
+                    let offset : b.offset ≡ at.offset - 8 = omega (arith, ap (λ (x : Addr). x.offset) new.0) in
+                    let one : Some chunk ≡ Some other.0 = sym new.1 ∙ other.2 in
+                    let is : chunk ≡ other.0 = cc in
+                    let dist : at.offset - 8 - start_of s at.region ≡ b.offset - start_of t b.region = omega (arith, offset, start, ap (start_of s) region) in
+                    inl (same_addr_from b (record { region = at.region; offset = at.offset - 8 }) region offset, ap (λ d. header_bytes (header_of chunk d)) dist ∙ ap (λ x. header_bytes (header_of x (b.offset - start_of t b.region))) is ∙ other.3)
+                | inr old ↦
+                    inr (mark_from_chunk s b other.0 (λ e. other.1 (e ∙ sym start)) (sym old.1 ∙ other.2)
+                    ∙ ap Some (ap (λ x. header_bytes (header_of other.0 (b.offset - x))) (sym start) ∙ other.3))
+              ]
+          | inr free ↦ elim (put_cases s t at (Some chunk) carves.chunks b) [
+            | inl new ↦
+                let one : Some chunk ≡ Some free.0 = sym new.1 ∙ free.1 in
+                let is : chunk ≡ free.0 = cc in
+                let clash = sym carves.unlinked ∙ ap link_of is ∙ free.2 in
+                absurd (cc)
+            | inr old ↦ inr (mark_from_link s active size settled b free.0 bytes (sym old.1 ∙ free.1) free.2)
+          ]
+        ]
       ]
 
   module _ (sp tp : Space) (agrees : Agrees (footprint s) sp) where

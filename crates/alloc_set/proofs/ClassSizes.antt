@@ -1,6 +1,9 @@
 -- Lemmas on the classes of chunks.
-use Rattle.std.proofs.Common.{◌≡◌, ℕ, zero, suc, ◌-◌, ◌/◌, ◌%◌, ◌^◌, ◌<◌, ◌≤◌, refl, arith, inl, inr}
+use Rattle.std.proofs.Common.{◌≡◌, ℕ, zero, suc, ◌-◌, ◌/◌, ◌%◌, ◌^◌, ◌<◌, ◌≤◌, refl, sym, ap, ◌∙◌, arith, inl, inr}
+use Rattle.std.proofs.Math.Nat.{pow-succ'}
 use Rattle.std.proofs.Math.Pow.{pow_mono}
+use Rattle.std.proofs.lemmas.Nat.{leading_top}
+use Rattle.std.specs.Int.Count.{count_leading_zeros}
 use Rattle.std.proofs.lemmas.Bool.{cases_lt}
 use Rattle.std.proofs.lemmas.Bool.Decides.{nat_tests}
 use Rattle.alloc_set.specs.Ledger.{class_size, class_bytes, class_up_to, limit_class, chunk_limit}
@@ -64,3 +67,27 @@ limit_class-most (suc class) max = let before = limit_class-most class max in gr
 pub chunk_limit-most : (max : ℕ) → chunk_limit max ≤ 8192
 unfolding chunk_limit
 chunk_limit-most max = class_size-most (limit_class 10 max) (limit_class-most 10 max)
+
+-- twice the size of a class, and that of the next one
+class_size-suc : (class : ℕ) → class_size (suc class) ≡ 2 ^ suc (suc (suc (suc class)))
+class_size-suc class = omega (arith, pow-succ' 2 class, pow-succ' 2 (suc class), pow-succ' 2 (suc (suc class)), pow-succ' 2 (suc (suc (suc class))))
+
+-- the class by the bits of the size before
+pub class-bits : (size zeros : ℕ) → 8 < size → size ≤ 8192 → zeros ≡ count_leading_zeros 32 (size - 1)
+    → (zeros ≤ 28) × (29 - zeros ≤ 10) × (size ≤ class_size (29 - zeros)) × ((lower : ℕ) → lower < 29 - zeros → class_size lower < size)
+class-bits size zeros over small is =
+    let top = leading_top 32 (size - 1) (omega arith) (omega arith) in
+    let least : 3 ≤ top.0 = elim (cases_lt top.0 3) [
+      | inl below ↦ let le : suc top.0 ≤ 3 = omega (arith, below) in let p : 2 ^ suc top.0 ≤ 2 ^ 3 = pow_mono le in absurd (omega (arith, p, top.3, over))
+      | inr not_below ↦ not_below
+    ] in
+    let most : top.0 ≤ 12 = elim (cases_lt 12 top.0) [
+      | inl above ↦ let le : 13 ≤ top.0 = omega (arith, above) in let p : 2 ^ 13 ≤ 2 ^ top.0 = pow_mono le in absurd (omega (arith, p, top.2, small))
+      | inr not_above ↦ not_above
+    ] in
+    let k : ℕ = top.0 - 3 in
+    let bits : top.0 ≡ suc (suc (suc k)) = omega (arith, least) in
+    let class : 29 - zeros ≡ suc k = omega (arith, is, top.1, least) in
+    let here : class_size (29 - zeros) ≡ 2 ^ suc top.0 = ap class_size class ∙ class_size-suc k ∙ ap (λ n. 2 ^ suc n) (sym bits) in
+    let before : class_size k ≡ 2 ^ top.0 = omega (arith, pow-succ' 2 k, pow-succ' 2 (suc k), pow-succ' 2 (suc (suc k)), ap (λ n. 2 ^ n) bits) in
+    (omega (arith, is, top.1, least), omega (arith, class, most), omega (arith, here, top.3), λ lower less. omega (arith, class_size-mono lower k (omega (arith, less, class)), before, top.2, over))

@@ -33,7 +33,7 @@ module _ (s t : SetState) (active size : ℕ) (settled : IsSettled s active size
     active_room = omega (arith, keeper_start t, room);
     small = λ number len owned.
         let it = settled.small number len (sym (region_same s t same number) ∙ owned) in
-        (it.0, omega (arith, it.1, start_same s t same number));
+        (it.0, omega (arith, it.1, start_same s t same number), it.2);
     placed = λ at chunk found. let none = no_chunk at in absurd (cc);
     apart = λ a b first second at_a at_b region below. let none = no_chunk a in absurd (cc);
   }
@@ -45,7 +45,10 @@ module _ (s t : SetState) (active size : ℕ) (settled : IsSettled s active size
         | inl block ↦
             mark_from_block s b block.0 (block.1 ∙ start_same s t same b.region) (sym (region_same s t same b.region) ∙ block.2)
             ∙ ap Some (ap (λ x. block_bytes x block.0) (sym same.context) ∙ block.3)
-        | inr other ↦ let none = no_chunk (record { region = b.region; offset = b.offset + 8 }) in let found = other.2 in absurd (cc)
+        | inr rest ↦ elim rest [
+          | inl other ↦ let none = no_chunk (record { region = b.region; offset = b.offset + 8 }) in let found = other.2 in absurd (cc)
+          | inr free ↦ let none = no_chunk b in let found = free.1 in absurd (cc)
+        ]
       ]
 
   pub Moves-cleared : (sp : Space) → Agrees (footprint s) sp → Moves (footprint s) (footprint t) sp sp

@@ -3,8 +3,6 @@ use Rattle.std.proofs.Common.{◌≡◌, ℕ, suc, ◌+◌, ◌-◌, ◌*◌, �
 use Rattle.std.proofs.Math.Nat.{pow-succ', mod-eq_of_lt, div-eq_of_lt, div-eq_of_lt-le, mod-eq-sub-mod}
 use Rattle.std.proofs.lemmas.List.{set-get_or}
 use Rattle.alloc_set.specs.Ledger.{class_bytes, cut_rest, cut_up, with_free}
-use Rattle.alloc_set.specs.Cut.{CutsUp}
-use Rattle.alloc_set.specs.declared.books.Books.{Books}
 
 pub class_bytes-suc : (class : ℕ) → class_bytes (suc class) + 8 ≡ 2 * class_bytes class
 class_bytes-suc class = omega (arith, pow-succ' 2 class)
@@ -49,23 +47,3 @@ cut_rest-zero room = refl
 pub cut_up-zero : (room : ℕ) (free : List ℕ) → cut_up 0 room free ≡ free
 unfolding cut_up
 cut_up-zero room free = refl
-
--- one class less, with nothing cut
-pub CutsUp-less : (b n : Books) (room few more : ℕ) → few ≤ more → CutsUp b n room few → CutsUp b n room more
-CutsUp-less b n room few more le cut = record {
-  kept = cut.kept;
-  ledger = cut.ledger;
-  account = cut.account;
-  context = cut.context;
-  limit = cut.limit;
-  keeper = cut.keeper;
-  blocks = cut.blocks;
-  active = cut.active;
-  less = cut.less;
-  spare = omega (arith, cut.spare, le);
-  len = omega (arith, cut.len, le);
-  others = cut.others;
-  owned = cut.owned;
-  live = cut.live;
-  stays = cut.stays;
-}

@@ -11,7 +11,7 @@ use Rattle.chunk_header.specs.Header.{header_bytes, block_bytes}
 use Rattle.alloc_set.specs.State.{SetState, chunk_at, region_of, start_of, live_size, header_of, mark_of, footprint}
 use Rattle.alloc_set.specs.Kept.{IsSettled, IsAlone}
 use Rattle.addr_space.proofs.Options.{from_then}
-use Rattle.alloc_set.proofs.Settled.{mark_cases, IsSound-settled}
+use Rattle.alloc_set.proofs.Settled.{mark_cases, mark_from_link, IsSound-settled}
 use Rattle.alloc_set.proofs.Carved.{mark_from_block, mark_from_chunk}
 use Rattle.alloc_set.specs.declared.chunk.Chunk.{Chunk}
 use Rattle.alloc_set.specs.declared.chunk.Chunk.TheVariants.{Live, Free, Own}
@@ -108,7 +108,7 @@ module _ (s t : SetState) (active active_size number size : ℕ) (settled : IsSe
     active_room = omega (arith, start_same active, settled.active_room, gives.room);
     small = λ other len owned.
         let was = settled.small other len (left other len owned) in
-        (was.0, omega (arith, was.1, start_same other));
+        (was.0, omega (arith, was.1, start_same other), was.2);
     placed = λ at chunk found.
         let stood = sym (chunk_same at) ∙ found in
         let was = settled.placed at chunk stood in
@@ -133,9 +133,12 @@ module _ (s t : SetState) (active active_size number size : ℕ) (settled : IsSe
         | inl block ↦
             mark_from_block s b block.0 (block.1 ∙ start) (left b.region block.0 block.2)
             ∙ ap Some (ap (λ x. block_bytes x block.0) (sym gives.context) ∙ block.3)
-        | inr other ↦
-            mark_from_chunk s b other.0 (λ e. other.1 (e ∙ sym start)) (sym (chunk_same (record { region = b.region; offset = b.offset + 8 })) ∙ other.2)
-            ∙ ap Some (ap (λ x. header_bytes (header_of other.0 (b.offset - x))) (sym start) ∙ other.3)
+        | inr rest ↦ elim rest [
+          | inl other ↦
+              mark_from_chunk s b other.0 (λ e. other.1 (e ∙ sym start)) (sym (chunk_same (record { region = b.region; offset = b.offset + 8 })) ∙ other.2)
+              ∙ ap Some (ap (λ x. header_bytes (header_of other.0 (b.offset - x))) (sym start) ∙ other.3)
+          | inr free ↦ mark_from_link s active active_size settled b free.0 bytes (sym (chunk_same b) ∙ free.1) free.2
+        ]
       ]
 
   module _ (sp tp : Space) (agrees : Agrees (footprint s) sp) (changes : Changes sp tp number None) (holds : (account : ℕ) → held tp account + share account (region_at sp number) ≡ held sp account) where

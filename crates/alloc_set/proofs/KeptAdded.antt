@@ -1,5 +1,5 @@
 -- What the code keeps, after a block was added.
-use Rattle.std.proofs.Common.{◌≡◌, ◌≢◌, ℕ, ◌+◌, ◌^◌, ◌≤◌, ◌==◌, Some, None, sym, ap, ◌∙◌, subst, arith, inl, inr, sum, sum_by, min, if◌then◌else◌, true, false}
+use Rattle.std.proofs.Common.{◌≡◌, ◌≢◌, ℕ, ◌+◌, ◌^◌, ◌<◌, ◌≤◌, ◌==◌, Some, None, sym, ap, ◌∙◌, subst, arith, inl, inr, sum, sum_by, min, if◌then◌else◌, true, false}
 use Rattle.std.specs.Map.{values_of, lookup}
 use Rattle.std.proofs.lemmas.List.Sums.{sum_by-le-sum_by}
 use Rattle.std.proofs.lemmas.Bool.Decides.{nat_tests}
@@ -8,7 +8,7 @@ use Rattle.addr_space.specs.Footprint.{Agrees}
 use Rattle.addr_space.proofs.Options.{option_cases}
 use Rattle.alloc_set.specs.Ledger.{chunk_limit}
 use Rattle.alloc_set.specs.State.{SetState, region_of, footprint}
-use Rattle.alloc_set.specs.Kept.{state_of, own_bytes, IsCounted, IsSettled, IsShelved, IsKept}
+use Rattle.alloc_set.specs.Kept.{state_of, taken_bytes, IsCounted, IsSettled, IsShelved, IsKept}
 use Rattle.alloc_set.specs.declared.books.Books.{Books}
 use Rattle.alloc_set.proofs.Added.{Adds, IsSettled-added}
 use Rattle.alloc_set.proofs.Shelved.{IsShelved-same}
@@ -61,9 +61,9 @@ count-le b counted =
     let most : sum_by (min 1) blocks ≤ sum blocks = sum_by-le-sum_by (min 1) (λ x. x) blocks (λ x. omega arith) in
     omega (arith, most, counted.blocks, counted.total, counted.sizes.0)
 
-module _ (b n : Books) (number size : ℕ) (kept : IsKept b) (adds : Adds (state_of b) (state_of n) number size) (least : 48 ≤ size) (most : size ≤ 2 ^ 31)
+module _ (b n : Books) (number size : ℕ) (kept : IsKept b) (adds : Adds (state_of b) (state_of n) number size) (least : 48 ≤ size) (most : size ≤ 2 ^ 31) (narrow : number < 2 ^ 32)
     (active : n.active ≡ b.active) (sizes : n.sizes ≡ b.sizes) (next : n.next ≡ b.next) (limit : n.limit ≡ b.limit) (count : n.count ≡ b.count + 1) (idle : n.idle ≡ b.idle) (shelves : n.shelves ≡ b.shelves)
-    (sums : (f : ℕ → ℕ) → sum_by f (values_of n.blocks.entries) ≡ sum_by f (values_of b.blocks.entries) + f size) (small : b.total ≤ 2 ^ 61)
+    (sums : (f : ℕ → ℕ) → sum_by f (values_of n.blocks.entries) ≡ sum_by f (values_of b.blocks.entries) + f size) (small : b.total ≤ 2 ^ 56)
     (noted : (other : ℕ) → lookup (λ n. other == n) n.blocks.entries ≡ (if number == other then Some size else lookup (λ n. other == n) b.blocks.entries)) where
   pub IsKept-added : IsKept n
   IsKept-added =
@@ -72,7 +72,7 @@ module _ (b n : Books) (number size : ℕ) (kept : IsKept b) (adds : Adds (state
       let init : n.sizes.init ≡ b.sizes.init = ap (λ x. x.init) sizes in
       let active_size : n.active.size ≡ b.active.size = ap (λ x. x.size) active in
       let room : n.active.room ≡ b.active.room = ap (λ x. x.room) active in
-      let now = IsSettled-added (state_of b) (state_of n) b.active.region b.active.size number size kept.settled adds (b.sizes.init, keeper_owned (state_of b)) least most in
+      let now = IsSettled-added (state_of b) (state_of n) b.active.region b.active.size number size kept.settled adds (b.sizes.init, keeper_owned (state_of b)) least most narrow in
       let differs : b.keeper ≢ number = not_keeper (state_of b) number adds.fresh in
       let other : (number == b.keeper) ≡ false = grind (arith, nat_tests) in
       let same : (state_of n).chunks ≡ (state_of b).chunks = adds.chunks in
@@ -86,7 +86,7 @@ module _ (b n : Books) (number size : ℕ) (kept : IsKept b) (adds : Adds (state
           total = omega (arith, was.total, adds.total, sums (λ x. x), init);
           most = omega (arith, small, adds.total, most);
           blocks = omega (arith, was.blocks, count, sums (min 1), least);
-          rooms = omega (arith, was.rooms, adds.total, room, idle, ap (λ e. sum_by own_bytes (values_of e)) same);
+          rooms = omega (arith, was.rooms, adds.total, room, idle, ap (λ e. sum_by taken_bytes (values_of e)) same);
         };
         settled = subst (λ x. IsSettled (state_of n) x.region x.size) (sym active) now;
         shelved = subst (IsShelved (state_of n)) (sym shelves) (IsShelved-same (state_of b) (state_of n) b.shelves same kept.shelved);

@@ -1,5 +1,5 @@
 -- What the code keeps of a new context.
-use Rattle.std.proofs.Common.{◌≡◌, ℕ, ◌+◌, ◌<◌, ◌≤◌, ◌==◌, List, [], length, map, replicate, Option, Some, None, refl, sym, ap, ◌∙◌, arith, inl, inr, if◌then◌else◌, true, false, slice_index}
+use Rattle.std.proofs.Common.{◌≡◌, ℕ, ◌+◌, ◌^◌, ◌<◌, ◌≤◌, ◌==◌, List, [], length, map, replicate, Option, Some, None, refl, sym, ap, ◌∙◌, subst, arith, inl, inr, if◌then◌else◌, true, false, slice_index}
 use Rattle.std.specs.Map.{lookup}
 use Rattle.std.proofs.lemmas.List.{length-replicate, get_or-replicate}
 use Rattle.std.proofs.lemmas.Bool.{cases_eq}
@@ -11,13 +11,24 @@ use Rattle.addr_space.proofs.Written.{HasRegion-written, HasBytes-written, held-
 use Rattle.addr_space.proofs.Steps.{Moves-one, Changes-more, Agrees-nothing, none_counted}
 use Rattle.chunk_header.specs.Header.{block_bytes}
 use Rattle.alloc_set.specs.State.{SetState, chunk_at, region_of, start_of, footprint}
+use Rattle.alloc_set.specs.Listed.{IsUnique}
+use Rattle.alloc_set.proofs.Listed.{IsUnique-none}
 use Rattle.alloc_set.specs.Kept.{no_shelf, shelf_at, IsSettled, IsShelved}
 use Rattle.chunk_header.proofs.Words.{length-block_bytes}
 use Rattle.alloc_set.proofs.Settled.{mark_cases, IsSound-settled}
 use Rattle.alloc_set.proofs.KeptAdded.{keeper_owned}
 
+-- no chunk is free where there is none
+pub IsShelved-none : (s : SetState) → s.chunks ≡ [] → IsShelved s (replicate 11 no_shelf)
+IsShelved-none s chunks = record {
+  eleven = refl;
+  chain = λ class below. let is : shelf_at (replicate 11 no_shelf) class ≡ no_shelf = get_or-replicate 11 class no_shelf no_shelf below in rw is refl;
+  counted = λ class below. let is : shelf_at (replicate 11 no_shelf) class ≡ no_shelf = get_or-replicate 11 class no_shelf no_shelf below in rw (is, chunks) refl;
+  unique = subst IsUnique (sym chunks) IsUnique-none;
+}
+
 -- what agrees with a context that has nothing
-module _ (s : SetState) (blocks : s.blocks ≡ []) (chunks : s.chunks ≡ []) (large : 1024 ≤ s.ledger.init) (small : s.ledger.init ≤ 8388608) (room : s.ledger.room + 240 ≡ s.ledger.init) where
+module _ (s : SetState) (blocks : s.blocks ≡ []) (chunks : s.chunks ≡ []) (large : 1024 ≤ s.ledger.init) (small : s.ledger.init ≤ 8388608) (room : s.ledger.room + 240 ≡ s.ledger.init) (narrow : s.keeper < 2 ^ 32) where
   no_chunk : (at : Addr) → chunk_at s at ≡ None
   no_chunk at = rw chunks refl
 
@@ -43,17 +54,9 @@ module _ (s : SetState) (blocks : s.blocks ≡ []) (chunks : s.chunks ≡ []) (l
   IsSettled-new = record {
     active_owned = keeper_owned s;
     active_room = omega (arith, keeper_start, room);
-    small = λ number len owned. let it = only_keeper number len owned in (omega (arith, it.1, small), omega (arith, it.1, large, ap (start_of s) it.0, keeper_start));
+    small = λ number len owned. let it = only_keeper number len owned in (omega (arith, it.1, small), omega (arith, it.1, large, ap (start_of s) it.0, keeper_start), omega (arith, it.0, narrow));
     placed = λ at chunk found. let none = no_chunk at in absurd (cc);
     apart = λ a b first second at_a at_b region below. let none = no_chunk a in absurd (cc);
-  }
-
-  pub IsShelved-new : IsShelved s (replicate 11 no_shelf)
-  IsShelved-new = record {
-    eleven = refl;
-    chain = λ class below. let is : shelf_at (replicate 11 no_shelf) class ≡ no_shelf = get_or-replicate 11 class no_shelf no_shelf below in rw is refl;
-    counted = λ class below. let is : shelf_at (replicate 11 no_shelf) class ≡ no_shelf = get_or-replicate 11 class no_shelf no_shelf below in rw (is, chunks) refl;
-    few = rw chunks (omega arith);
   }
 
   module _ (sp mp tp : Space) (below : s.account < accounts sp) (free : region_at sp s.keeper ≡ None) (took : Changes sp mp s.keeper (Some (unwritten s.account s.ledger.init)))
@@ -94,11 +97,17 @@ module _ (s : SetState) (blocks : s.blocks ≡ []) (chunks : s.chunks ≡ []) (l
               let offset : b.offset ≡ 200 = block.1 ∙ ap (start_of s) region ∙ keeper_start in
               let short : k < length (block_bytes s.context s.ledger.init) = omega (arith, below, ap length same) in
               ap (λ r. byte_at tp r (b.offset + k)) region ∙ ap (λ o. byte_at tp s.keeper (o + k)) offset ∙ has k short ∙ ap (λ xs. Some (slice_index xs k)) same
-          | inr other ↦ let none = no_chunk (record { region = b.region; offset = b.offset + 8 }) in let found = other.2 in absurd (cc)
+          | inr rest ↦ elim rest [
+            | inl other ↦ let none = no_chunk (record { region = b.region; offset = b.offset + 8 }) in let found = other.2 in absurd (cc)
+            | inr free ↦ let none = no_chunk b in let found = free.1 in absurd (cc)
+          ]
         ])
         (λ b bytes marked differs. elim (mark_cases s b bytes marked) [
           | inl block ↦ absurd (differs (only_keeper b.region block.0 block.2).0)
-          | inr other ↦ let none = no_chunk (record { region = b.region; offset = b.offset + 8 }) in let found = other.2 in absurd (cc)
+          | inr rest ↦ elim rest [
+            | inl other ↦ let none = no_chunk (record { region = b.region; offset = b.offset + 8 }) in let found = other.2 in absurd (cc)
+            | inr free ↦ let none = no_chunk b in let found = free.1 in absurd (cc)
+          ]
         ])
         (λ account.
         let now = held-written mp tp place word (unwritten s.account s.ledger.init) took.changed fits wrote account in

@@ -6,7 +6,8 @@ use Rattle.addr_space.specs.declared.Addr.{Addr}
 use Rattle.addr_space.specs.Space.{Region, Space, held, IsOverLimit}
 use Rattle.alloc_set.specs.Ledger.{class_size}
 use Rattle.alloc_set.specs.State.{SetState, chunk_at, region_of}
-use Rattle.alloc_set.specs.Kept.{state_of, own_bytes, is_free, IsKept}
+use Rattle.alloc_set.specs.Kept.{state_of, taken_bytes, is_free, IsKept}
+use Rattle.alloc_set.specs.Listed.{IsUnique}
 use Rattle.alloc_set.specs.Steps.{SameBlocks, PutsChunk}
 use Rattle.alloc_set.specs.declared.books.Books.{Books}
 use Rattle.alloc_set.specs.declared.chunk.Chunk.{Chunk}
@@ -70,8 +71,8 @@ with_others b m = record b { blocks = m.blocks; chunks = m.chunks; total = m.tot
 pub IsKept-refitted : (b m : Books) (class old size : ℕ) (at : Addr) → IsKept b → m ≡ record b { chunks = m.chunks } → chunk_at (state_of b) at ≡ Some (Live class old) → size ≤ class_size class
     → PutsChunk (state_of b) (state_of m) at (Some (Live class size))
     → ((f : Chunk → ℕ) → sum_by f (values_of m.chunks.entries) + f (Live class old) ≡ sum_by f (values_of b.chunks.entries) + f (Live class size))
-    → length m.chunks.entries ≡ length b.chunks.entries → IsKept m
-IsKept-refitted b m class old size at kept rest was fits puts sums len =
+    → IsUnique m.chunks.entries → IsKept m
+IsKept-refitted b m class old size at kept rest was fits puts sums unique =
     let n : Books = record b { chunks = m.chunks } in
     let sized = (kept.settled.placed at (Live class old) was).sized in
     let same : SameBlocks (state_of b) (state_of n) = record { account = refl; context = refl; keeper = refl; blocks = refl; init = refl; total = refl } in
@@ -86,10 +87,10 @@ IsKept-refitted b m class old size at kept rest was fits puts sums len =
         total = kept.counted.total;
         most = kept.counted.most;
         blocks = kept.counted.blocks;
-        rooms = omega (arith, kept.counted.rooms, sums own_bytes);
+        rooms = omega (arith, kept.counted.rooms, sums taken_bytes);
       };
       settled = IsSettled-flipped (state_of b) (state_of n) b.active.region b.active.size class at (Live class old) (Live class size) kept.settled same refl was (refl, sized.0, sized.1) (refl, sized.0, fits) puts_now;
-      shelved = IsShelved-taken (state_of b) (state_of n) b.shelves at (Some (Live class size)) kept.shelved puts_now (omega (arith, len, kept.shelved.few)) (taken-live (chunk_at (state_of b) at) class old was)
+      shelved = IsShelved-taken (state_of b) (state_of n) b.shelves at (Some (Live class size)) kept.shelved puts_now unique (taken-live (chunk_at (state_of b) at) class old was)
           (λ k under. omega (arith, sums (is_free k)));
     } in
     subst IsKept (sym rest) now
@@ -98,10 +99,10 @@ IsKept-refitted b m class old size at kept rest was fits puts sums len =
 pub IsKept-stretched : (b m : Books) (p old size room : ℕ) (at : Addr) → IsKept b → m ≡ with_others b m → chunk_at (state_of b) at ≡ Some (Own p old) → size ≤ room → room + 48 ≤ 2 ^ 31
     → Stretches (state_of b) (state_of m) at old size room
     → ((f : Chunk → ℕ) → sum_by f (values_of m.chunks.entries) + f (Own p old) ≡ sum_by f (values_of b.chunks.entries) + f (Own size room))
-    → length m.chunks.entries ≡ length b.chunks.entries
+    → IsUnique m.chunks.entries
     → ((f : ℕ → ℕ) → sum_by f (values_of m.blocks.entries) + f (old + 48) ≡ sum_by f (values_of b.blocks.entries) + f (room + 48))
-    → lookup (λ k. b.keeper == k) m.blocks.entries ≡ None → m.total ≤ 2 ^ 62 → IsKept m
-IsKept-stretched b m p old size room at kept rest was fits most stretches sums len blocks free top =
+    → lookup (λ k. b.keeper == k) m.blocks.entries ≡ None → m.total ≤ 2 ^ 57 → IsKept m
+IsKept-stretched b m p old size room at kept rest was fits most stretches sums unique blocks free top =
     let n : Books = with_others b m in
     let now_is : Stretches (state_of b) (state_of n) at old size room = subst (λ (x : Books). Stretches (state_of b) (state_of x) at old size room) rest stretches in
     let total : m.total + old ≡ b.total + room = stretches.total in
@@ -115,10 +116,10 @@ IsKept-stretched b m p old size room at kept rest was fits most stretches sums l
         total = omega (arith, kept.counted.total, total, blocks (λ x. x));
         most = top;
         blocks = omega (arith, kept.counted.blocks, blocks (min 1));
-        rooms = omega (arith, kept.counted.rooms, sums own_bytes, total);
+        rooms = omega (arith, kept.counted.rooms, sums taken_bytes, total);
       };
       settled = IsSettled-stretched (state_of b) (state_of n) b.active.region b.active.size p old size room at kept.settled was now_is fits most;
-      shelved = IsShelved-taken (state_of b) (state_of n) b.shelves at (Some (Own size room)) kept.shelved now_is.puts (omega (arith, len, kept.shelved.few)) (taken-own (chunk_at (state_of b) at) p old was)
+      shelved = IsShelved-taken (state_of b) (state_of n) b.shelves at (Some (Own size room)) kept.shelved now_is.puts unique (taken-own (chunk_at (state_of b) at) p old was)
           (λ k under. omega (arith, sums (is_free k)));
     } in
     subst IsKept (sym rest) now

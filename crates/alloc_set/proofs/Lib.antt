@@ -1,5 +1,7 @@
 pub mod ClassSizes
 pub mod Settled
+pub mod Listed
+pub mod Links
 pub mod Carved
 pub mod Shelved
 pub mod KeptCut
@@ -14,6 +16,7 @@ pub mod Flipped
 pub mod Taken
 pub mod Owned
 pub mod Leads
+pub mod Reading
 pub mod Unlisted
 pub mod Given
 pub mod Cleared

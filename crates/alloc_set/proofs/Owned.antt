@@ -7,12 +7,12 @@ use Rattle.addr_space.specs.Footprint.{Agrees, Moves, Keeps, HasRegion, counted}
 use Rattle.addr_space.proofs.Written.{HasRegion-written, byte_at-apart, HasBytes-written, held-written}
 use Rattle.addr_space.proofs.Steps.{Moves-one}
 use Rattle.chunk_header.specs.Header.{header_bytes, block_bytes}
-use Rattle.alloc_set.specs.State.{SetState, chunk_at, region_of, start_of, capacity_of, live_size, header_of, mark_of, footprint}
+use Rattle.alloc_set.specs.State.{SetState, chunk_at, region_of, start_of, capacity_of, live_size, header_of, link_of, mark_of, footprint}
 use Rattle.alloc_set.specs.Kept.{IsSettled, IsPlaced, IsSized, IsAlone}
 use Rattle.alloc_set.specs.Steps.{PutsChunk, SameBlocks}
 use Rattle.addr_space.proofs.Options.{from_then}
 use Rattle.chunk_header.proofs.Words.{length-header_bytes, length-block_bytes}
-use Rattle.alloc_set.proofs.Settled.{mark_cases, IsSound-settled}
+use Rattle.alloc_set.proofs.Settled.{mark_cases, mark_from_link, IsSound-settled}
 use Rattle.alloc_set.proofs.Carved.{put_cases, region_same, start_same, IsAlone-same, mark_from_block, mark_from_chunk}
 use Rattle.alloc_set.specs.declared.chunk.Chunk.{Chunk}
 use Rattle.alloc_set.specs.declared.chunk.Chunk.TheVariants.{Own}
@@ -70,7 +70,7 @@ module _ (s t : SetState) (active active_size number size room : ℕ) (at : Addr
     active_room = omega (arith, start_same s t same active, settled.active_room, rooms);
     small = λ other len has.
         let it = settled.small other len (sym (region_same s t same other) ∙ has) in
-        (it.0, omega (arith, it.1, start_same s t same other));
+        (it.0, omega (arith, it.1, start_same s t same other), it.2);
     placed = placed_now;
     apart = λ a b first second at_a at_b region below.
         elim (put_cases s t at (Some (Own size room)) puts a) [
@@ -92,21 +92,31 @@ module _ (s t : SetState) (active active_size number size room : ℕ) (at : Addr
         | inl block ↦
             inr (mark_from_block s b block.0 (block.1 ∙ start_same s t same b.region) (sym (region_same s t same b.region) ∙ block.2)
             ∙ ap Some (ap (λ x. block_bytes x block.0) (sym same.context) ∙ block.3))
-        | inr other ↦
-            let place : Addr = record { region = b.region; offset = b.offset + 8 } in
-            let start = start_same s t same b.region in
-            elim (put_cases s t at (Some (Own size room)) puts place) [
-              | inl here ↦
-                  let region : b.region ≡ number = ap (λ (x : Addr). x.region) here.0 ∙ at_region in
-                  let offset : b.offset ≡ 40 = omega (arith, ap (λ (x : Addr). x.offset) here.0, at_offset) in
-                  let one : Some (Own size room) ≡ Some other.0 = sym here.1 ∙ other.2 in
-                  let is : Own size room ≡ other.0 = cc in
-                  let dist : 40 ≡ b.offset - start_of t b.region = omega (arith, offset, start, ap (start_of s) region, start_zero) in
-                  inl (region, offset, ap (λ d. header_bytes (header_of (Own size room) d)) dist ∙ ap (λ x. header_bytes (header_of x (b.offset - start_of t b.region))) is ∙ other.3)
-              | inr there ↦
-                  inr (mark_from_chunk s b other.0 (λ e. other.1 (e ∙ sym start)) (sym there.1 ∙ other.2)
-                  ∙ ap Some (ap (λ x. header_bytes (header_of other.0 (b.offset - x))) (sym start) ∙ other.3))
-            ]
+        | inr rest ↦ elim rest [
+          | inl other ↦
+              let place : Addr = record { region = b.region; offset = b.offset + 8 } in
+              let start = start_same s t same b.region in
+              elim (put_cases s t at (Some (Own size room)) puts place) [
+                | inl here ↦
+                    let region : b.region ≡ number = ap (λ (x : Addr). x.region) here.0 ∙ at_region in
+                    let offset : b.offset ≡ 40 = omega (arith, ap (λ (x : Addr). x.offset) here.0, at_offset) in
+                    let one : Some (Own size room) ≡ Some other.0 = sym here.1 ∙ other.2 in
+                    let is : Own size room ≡ other.0 = cc in
+                    let dist : 40 ≡ b.offset - start_of t b.region = omega (arith, offset, start, ap (start_of s) region, start_zero) in
+                    inl (region, offset, ap (λ d. header_bytes (header_of (Own size room) d)) dist ∙ ap (λ x. header_bytes (header_of x (b.offset - start_of t b.region))) is ∙ other.3)
+                | inr there ↦
+                    inr (mark_from_chunk s b other.0 (λ e. other.1 (e ∙ sym start)) (sym there.1 ∙ other.2)
+                    ∙ ap Some (ap (λ x. header_bytes (header_of other.0 (b.offset - x))) (sym start) ∙ other.3))
+              ]
+          | inr free ↦ elim (put_cases s t at (Some (Own size room)) puts b) [
+            | inl here ↦
+                let one : Some (Own size room) ≡ Some free.0 = sym here.1 ∙ free.1 in
+                let is : Own size room ≡ free.0 = cc in
+                let clash : None ≡ Some bytes = ap link_of is ∙ free.2 in
+                absurd (cc)
+            | inr there ↦ inr (mark_from_link s active active_size settled b free.0 bytes (sym there.1 ∙ free.1) free.2)
+          ]
+        ]
       ]
 
   -- the old marks of the region end before the header
@@ -114,7 +124,10 @@ module _ (s t : SetState) (active active_size number size room : ℕ) (at : Addr
   old_ends b bytes marked region =
       elim (mark_cases s b bytes marked) [
         | inl block ↦ (block.1 ∙ ap (start_of s) region ∙ start_zero, ap length (sym block.3) ∙ length-block_bytes s.context block.0)
-        | inr other ↦ absurd (clash (record { region = b.region; offset = b.offset + 8 }) other.0 other.2 region)
+        | inr rest ↦ elim rest [
+          | inl other ↦ absurd (clash (record { region = b.region; offset = b.offset + 8 }) other.0 other.2 region)
+          | inr free ↦ absurd (clash b free.0 free.1 region)
+        ]
       ]
 
   module _ (sp tp : Space) (agrees : Agrees (footprint s) sp) (wrote : Changes sp tp number (overwritten (region_at sp number) 40 (map Some (header_bytes (header_of (Own size room) 40))))) where

@@ -1,5 +1,6 @@
 -- Lemmas on the free chunks of each class.
-use Rattle.std.proofs.Common.{◌≡◌, ◌≢◌, ℕ, zero, suc, ◌+◌, ◌^◌, ◌<◌, ◌≤◌, List, [], ◌∷◌, length, Option, Some, None, refl, sym, ap, ◌∙◌, subst, arith, inl, inr, sum_by, set}
+use Rattle.std.proofs.Common.{◌≡◌, ◌≢◌, ℕ, zero, suc, ◌+◌, ◌*◌, ◌^◌, ◌<◌, ◌≤◌, List, [], ◌∷◌, length, Option, Some, None, refl, sym, ap, ◌∙◌, subst, arith, inl, inr, sum_by, set}
+use Rattle.std.proofs.Math.Nat.{mul-le-mul_left}
 use Rattle.std.proofs.lemmas.Bool.{cases_eq}
 use Rattle.std.proofs.lemmas.Bool.Decides.{nat_tests}
 use Rattle.std.proofs.lemmas.List.{length-set, get_or-set_same, get_or-set_other}
@@ -8,7 +9,11 @@ use Rattle.std.specs.Map.{values_of, lookup}
 use Rattle.addr_space.specs.declared.Addr.{Addr}
 use Rattle.addr_space.specs.Live.{same_addr}
 use Rattle.alloc_set.specs.State.{SetState, chunk_at}
-use Rattle.alloc_set.specs.Kept.{IsChain, IsShelved, is_free, shelf_at, no_shelf}
+use Rattle.alloc_set.specs.Ledger.{class_bytes}
+use Rattle.alloc_set.specs.Listed.{IsUnique}
+use Rattle.alloc_set.specs.Kept.{IsChain, IsSettled, IsShelved, IsKept, is_free, taken_bytes, shelf_at, no_shelf}
+use Rattle.alloc_set.specs.Links.{IsLinkable}
+use Rattle.alloc_set.specs.declared.books.Books.{Books}
 use Rattle.alloc_set.specs.Steps.{PutsChunk}
 use Rattle.alloc_set.specs.declared.chunk.Chunk.{Chunk}
 use Rattle.alloc_set.specs.declared.chunk.Chunk.TheVariants.{Live, Free, Own}
@@ -46,15 +51,30 @@ IsChain-without c d class at whole from others (suc count) first below chain =
 abbrev pub IsTaken : Option Chunk → Type 0
 IsTaken slot = (class : ℕ) (next : Option Addr) → slot ≢ Some (Free class next)
 
--- a number of free chunks is at most that of all
-pub is_free-le : (class : ℕ) (chunk : Chunk) → is_free class chunk ≤ 1
-is_free-le class (Live other size) = omega arith
-is_free-le class (Free other next) = grind (arith, nat_tests)
-is_free-le class (Own size room) = omega arith
+-- the free chunks of a class take no more than all
+is_free-bytes : (class : ℕ) (chunk : Chunk) → is_free class chunk * class_bytes class ≤ taken_bytes chunk
+is_free-bytes class (Live other size) = omega arith
+is_free-bytes class (Free other next) =
+    elim (cases_eq class other) [
+      | inl same ↦ let one : is_free class (Free other next) ≡ 1 = grind (arith, nat_tests) in omega (arith, ap (λ n. n * class_bytes class) one, ap class_bytes same)
+      | inr differs ↦ let none : is_free class (Free other next) ≡ 0 = grind (arith, nat_tests) in omega (arith, ap (λ n. n * class_bytes class) none)
+    ]
+is_free-bytes class (Own size room) = omega arith
 
-pub sum_by-le-length : {X : Type 0} (f : X → ℕ) → ((x : X) → f x ≤ 1) → (xs : List X) → sum_by f xs ≤ length xs
-sum_by-le-length f one [] = omega arith
-sum_by-le-length f one (x ∷ xs) = omega (arith, sum_by-cons f x xs, one x, sum_by-le-length f one xs)
+free-bytes : (class : ℕ) (chunks : List Chunk) → sum_by (is_free class) chunks * class_bytes class ≤ sum_by taken_bytes chunks
+free-bytes class [] = omega arith
+free-bytes class (chunk ∷ chunks) =
+    omega (arith, ap (λ n. n * class_bytes class) (sum_by-cons (is_free class) chunk chunks), sum_by-cons taken_bytes chunk chunks, is_free-bytes class chunk, free-bytes class chunks)
+
+-- a count of free chunks, and their bytes
+pub count-bytes : (b : Books) (class : ℕ) → IsKept b → class < 11 → (shelf_at b.shelves class).count * class_bytes class ≤ b.total
+count-bytes b class kept below =
+    omega (arith, ap (λ n. n * class_bytes class) (kept.shelved.counted class below), free-bytes class (values_of b.chunks.entries), kept.counted.rooms)
+
+pub count-few : (b : Books) (class : ℕ) → IsKept b → class < 11 → (shelf_at b.shelves class).count ≤ 2 ^ 57
+count-few b class kept below =
+    let least : (shelf_at b.shelves class).count * 1 ≤ (shelf_at b.shelves class).count * class_bytes class = mul-le-mul_left (shelf_at b.shelves class).count (omega arith) in
+    omega (arith, least, count-bytes b class kept below, kept.counted.most)
 
 pub is_free-same : (class : ℕ) (next : Option Addr) → is_free class (Free class next) ≡ 1
 is_free-same class next = grind (arith, nat_tests)
@@ -62,7 +82,7 @@ is_free-same class next = grind (arith, nat_tests)
 pub is_free-other : (class other : ℕ) (next : Option Addr) → class ≢ other → is_free class (Free other next) ≡ 0
 is_free-other class other next differs = grind (arith, nat_tests)
 
-module _ (s t : SetState) (shelves : List Shelf) (at : Addr) (slot : Option Chunk) (shelved : IsShelved s shelves) (puts : PutsChunk s t at slot) (few : length t.chunks ≤ 2 ^ 40) where
+module _ (s t : SetState) (shelves : List Shelf) (at : Addr) (slot : Option Chunk) (shelved : IsShelved s shelves) (puts : PutsChunk s t at slot) (unique : IsUnique t.chunks) where
   -- a chunk that is free neither before nor after changes no shelf
   pub IsShelved-taken : IsTaken (chunk_at s at) → ((class : ℕ) → class < 11 → sum_by (is_free class) (values_of t.chunks) ≡ sum_by (is_free class) (values_of s.chunks)) → IsShelved t shelves
   IsShelved-taken taken sums = record {
@@ -73,7 +93,7 @@ module _ (s t : SetState) (shelves : List Shelf) (at : Addr) (slot : Option Chun
           | inr there ↦ there.1 ∙ free
         ]) (shelf_at shelves class).count (shelf_at shelves class).first (shelved.chain class below);
     counted = λ class below. shelved.counted class below ∙ sym (sums class below);
-    few = few;
+    unique = unique;
   }
 
   -- a chunk that becomes free is the first of its shelf
@@ -111,7 +131,7 @@ module _ (s t : SetState) (shelves : List Shelf) (at : Addr) (slot : Option Chun
               let count : (shelf_at (set shelves class new) k).count ≡ (shelf_at shelves k).count = ap (λ (x : Shelf). x.count) (get_or-set_other shelves class k new no_shelf differs) in
               omega (arith, count, shelved.counted k under, sums k under, is_free-other k class (shelf_at shelves class).first differs)
         ];
-        few = few;
+        unique = unique;
       }
 
   -- the first chunk of a shelf is taken off it
@@ -157,7 +177,7 @@ module _ (s t : SetState) (shelves : List Shelf) (at : Addr) (slot : Option Chun
               let now : (shelf_at (set shelves class new) k).count ≡ (shelf_at shelves k).count = ap (λ (x : Shelf). x.count) (get_or-set_other shelves class k new no_shelf differs) in
               omega (arith, now, shelved.counted k under, sums k under, is_free-other k class next differs)
         ];
-        few = few;
+        unique = unique;
       }
 
 -- the shelves stay while the chunks do
@@ -166,16 +186,25 @@ IsShelved-same s t shelves same shelved = record {
   eleven = shelved.eleven;
   chain = λ class below. subst (λ cs. IsChain (λ at. lookup (same_addr at) cs) class (shelf_at shelves class).count (shelf_at shelves class).first) (sym same) (shelved.chain class below);
   counted = λ class below. shelved.counted class below ∙ ap (λ cs. sum_by (is_free class) (values_of cs)) (sym same);
-  few = omega (arith, shelved.few, ap length same);
+  unique = subst IsUnique (sym same) shelved.unique;
 }
 
 -- a shelf with a first chunk has a free one there, and one without has none
-pub chain_head : (c : Addr → Option Chunk) (class count : ℕ) (first : Option Addr) (at : Addr) → IsChain c class count first → first ≡ Some at → (next : Option Addr) × (rest : ℕ) × (c at ≡ Some (Free class next)) × (count ≡ suc rest)
+pub chain_head : (c : Addr → Option Chunk) (class count : ℕ) (first : Option Addr) (at : Addr) → IsChain c class count first → first ≡ Some at
+    → (next : Option Addr) × (rest : ℕ) × (c at ≡ Some (Free class next)) × (count ≡ suc rest) × IsChain c class rest next
 chain_head c class zero first at chain is = let clash = sym chain ∙ is in absurd (cc)
 chain_head c class (suc count) first at chain is =
     let one : Some chain.0 ≡ Some at = sym chain.2 ∙ is in
     let same : chain.0 ≡ at = cc in
-    (chain.1, count, ap c (sym same) ∙ chain.3, refl)
+    (chain.1, count, ap c (sym same) ∙ chain.3, refl, chain.4)
+
+-- the next one, if there is one, is where a link can lead
+pub IsLinkable-chain : (s : SetState) (active size class count : ℕ) (first : Option Addr) → IsSettled s active size → IsChain (chunk_at s) class count first → IsLinkable first
+IsLinkable-chain s active size class zero first settled chain = subst IsLinkable (sym chain) tt
+IsLinkable-chain s active size class (suc count) first settled chain =
+    let placed = settled.placed chain.0 (Free class chain.1) chain.3 in
+    let small = settled.small chain.0.region placed.len placed.owned in
+    subst IsLinkable (sym chain.2) (small.2, omega (arith, placed.first), omega (arith, placed.last, small.0))
 
 pub chain_empty : (c : Addr → Option Chunk) (class count : ℕ) (first : Option Addr) → IsChain c class count first → first ≡ None → count ≡ 0
 chain_empty c class zero first chain none = refl

@@ -7,13 +7,13 @@ use Rattle.addr_space.specs.Space.{Space, region_at, byte_at, bytes_of, overwrit
 use Rattle.addr_space.specs.Footprint.{Agrees, Moves, Keeps, HasRegion, counted}
 use Rattle.addr_space.proofs.Steps.{Moves-one, Moves-still}
 use Rattle.chunk_header.specs.Header.{header_bytes, block_bytes}
-use Rattle.alloc_set.specs.State.{SetState, chunk_at, region_of, start_of, capacity_of, live_size, header_of, mark_of, footprint}
+use Rattle.alloc_set.specs.State.{SetState, chunk_at, region_of, start_of, capacity_of, live_size, header_of, link_of, mark_of, footprint}
 use Rattle.alloc_set.specs.Kept.{IsSettled, IsPlaced, IsSized, IsAlone}
 use Rattle.alloc_set.specs.Steps.{PutsChunk}
 use Rattle.addr_space.proofs.Options.{from_then}
 use Rattle.addr_space.proofs.Addresses.{same_addr_from}
 use Rattle.chunk_header.proofs.Words.{length-header_bytes, length-block_bytes}
-use Rattle.alloc_set.proofs.Settled.{mark_cases, IsSound-settled}
+use Rattle.alloc_set.proofs.Settled.{mark_cases, mark_from_link, IsSound-settled}
 use Rattle.alloc_set.proofs.Carved.{put_cases, mark_from_block, mark_from_chunk}
 use Rattle.alloc_set.proofs.Resized.{length-resized, share-len, HasRegion-resized, HasBytes-resized, byte_at-resized}
 use Rattle.alloc_set.specs.declared.chunk.Chunk.{Chunk}
@@ -106,10 +106,10 @@ module _ (s t : SetState) (active active_size n old size room : ℕ) (at : Addr)
       | inl same ↦
           let one : Some len ≡ Some (room + 48) = sym has ∙ ap (region_of t) same ∙ stretches.owned in
           let is : len ≡ room + 48 = cc in
-          (omega (arith, is, most), omega (arith, is, start_same other, ap (start_of s) same, start_zero))
+          (omega (arith, is, most), omega (arith, is, start_same other, ap (start_of s) same, start_zero), omega (arith, same, (settled.small at.region (old + 48) place.alone.3).2))
       | inr differs ↦
           let it = settled.small other len (sym (stretches.others other differs) ∙ has) in
-          (it.0, omega (arith, it.1, start_same other))
+          (it.0, omega (arith, it.1, start_same other), it.2)
     ];
     placed = placed_now;
     apart = λ a b first second at_a at_b region below.
@@ -142,29 +142,41 @@ module _ (s t : SetState) (active active_size n old size room : ℕ) (at : Addr)
                     ∙ ap Some (ap (λ x. block_bytes x block.0) (sym stretches.context) ∙ block.3),
               )
         ]
-        | inr other ↦
-            let here_place : Addr = record { region = b.region; offset = b.offset + 8 } in
-            let start = start_same b.region in
-            let len : length bytes ≡ 8 = ap length (sym other.3) ∙ length-header_bytes (header_of other.0 (b.offset - start_of t b.region)) in
-            elim (put_cases s t at (Some (Own size room)) stretches.puts here_place) [
-              | inl here ↦
-                  let offset : b.offset ≡ 40 = omega (arith, ap (λ (x : Addr). x.offset) here.0, place.alone.2) in
-                  let one : Some (Own size room) ≡ Some other.0 = sym here.1 ∙ other.2 in
-                  let is : Own size room ≡ other.0 = cc in
-                  let before : chunk_at s here_place ≡ Some (Own n old) = ap (chunk_at s) here.0 ∙ was in
-                  inr (
-                    (λ e. (offset, len)),
-                    mark_from_chunk s b (Own n old) (λ e. other.1 (e ∙ sym start)) before
-                        ∙ ap Some (ap (λ x. header_bytes (header_of (Own n old) (b.offset - x))) (sym start) ∙ ap (λ x. header_bytes (header_of x (b.offset - start_of t b.region))) is ∙ other.3),
-                  )
-              | inr there ↦
-                  let before : chunk_at s here_place ≡ Some other.0 = sym there.1 ∙ other.2 in
-                  inr (
-                    (λ e. absurd (lonely here_place other.0 before there.0 e)),
-                    mark_from_chunk s b other.0 (λ e. other.1 (e ∙ sym start)) before
-                        ∙ ap Some (ap (λ x. header_bytes (header_of other.0 (b.offset - x))) (sym start) ∙ other.3),
-                  )
-            ]
+        | inr rest ↦ elim rest [
+          | inl other ↦
+              let here_place : Addr = record { region = b.region; offset = b.offset + 8 } in
+              let start = start_same b.region in
+              let len : length bytes ≡ 8 = ap length (sym other.3) ∙ length-header_bytes (header_of other.0 (b.offset - start_of t b.region)) in
+              elim (put_cases s t at (Some (Own size room)) stretches.puts here_place) [
+                | inl here ↦
+                    let offset : b.offset ≡ 40 = omega (arith, ap (λ (x : Addr). x.offset) here.0, place.alone.2) in
+                    let one : Some (Own size room) ≡ Some other.0 = sym here.1 ∙ other.2 in
+                    let is : Own size room ≡ other.0 = cc in
+                    let before : chunk_at s here_place ≡ Some (Own n old) = ap (chunk_at s) here.0 ∙ was in
+                    inr (
+                      (λ e. (offset, len)),
+                      mark_from_chunk s b (Own n old) (λ e. other.1 (e ∙ sym start)) before
+                          ∙ ap Some (ap (λ x. header_bytes (header_of (Own n old) (b.offset - x))) (sym start) ∙ ap (λ x. header_bytes (header_of x (b.offset - start_of t b.region))) is ∙ other.3),
+                    )
+                | inr there ↦
+                    let before : chunk_at s here_place ≡ Some other.0 = sym there.1 ∙ other.2 in
+                    inr (
+                      (λ e. absurd (lonely here_place other.0 before there.0 e)),
+                      mark_from_chunk s b other.0 (λ e. other.1 (e ∙ sym start)) before
+                          ∙ ap Some (ap (λ x. header_bytes (header_of other.0 (b.offset - x))) (sym start) ∙ other.3),
+                    )
+              ]
+          | inr free ↦ elim (put_cases s t at (Some (Own size room)) stretches.puts b) [
+            | inl here ↦
+                let one : Some (Own size room) ≡ Some free.0 = sym here.1 ∙ free.1 in
+                let is : Own size room ≡ free.0 = cc in
+                let clash : None ≡ Some bytes = ap link_of is ∙ free.2 in
+                absurd (cc)
+            | inr there ↦
+                let before : chunk_at s b ≡ Some free.0 = sym there.1 ∙ free.1 in
+                inr ((λ e. absurd (lonely b free.0 before there.0 e)), mark_from_link s active active_size settled b free.0 bytes before free.2)
+          ]
+        ]
       ]
 
   -- where the block keeps its length, the space stays

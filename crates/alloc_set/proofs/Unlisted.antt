@@ -10,7 +10,7 @@ use Rattle.alloc_set.specs.State.{SetState, chunk_at, region_of, header_of, mark
 use Rattle.alloc_set.specs.Kept.{IsSettled}
 use Rattle.alloc_set.specs.Steps.{PutsChunk, SameBlocks}
 use Rattle.addr_space.proofs.Addresses.{same_addr_from}
-use Rattle.alloc_set.proofs.Settled.{mark_cases, IsSound-settled}
+use Rattle.alloc_set.proofs.Settled.{mark_cases, mark_from_link, IsSound-settled}
 use Rattle.alloc_set.proofs.Carved.{put_cases, region_same, start_same, IsAlone-same, mark_from_block, mark_from_chunk}
 use Rattle.alloc_set.specs.declared.chunk.Chunk.{Chunk}
 use Rattle.alloc_set.specs.declared.chunk.Chunk.TheVariants.{Own}
@@ -30,7 +30,7 @@ module _ (s t : SetState) (active size : ℕ) (at : Addr) (settled : IsSettled s
     active_room = omega (arith, start_same s t same active, settled.active_room, rooms);
     small = λ number len owned.
         let it = settled.small number len (sym (region_same s t same number) ∙ owned) in
-        (it.0, omega (arith, it.1, start_same s t same number));
+        (it.0, omega (arith, it.1, start_same s t same number), it.2);
     placed = λ other chunk found.
         let was = settled.placed other chunk (found_before other chunk found).1 in
         record {
@@ -54,9 +54,12 @@ module _ (s t : SetState) (active size : ℕ) (at : Addr) (settled : IsSettled s
         | inl block ↦
             mark_from_block s b block.0 (block.1 ∙ start) (sym (region_same s t same b.region) ∙ block.2)
             ∙ ap Some (ap (λ x. block_bytes x block.0) (sym same.context) ∙ block.3)
-        | inr other ↦
-            mark_from_chunk s b other.0 (λ e. other.1 (e ∙ sym start)) (found_before (record { region = b.region; offset = b.offset + 8 }) other.0 other.2).1
-            ∙ ap Some (ap (λ x. header_bytes (header_of other.0 (b.offset - x))) (sym start) ∙ other.3)
+        | inr rest ↦ elim rest [
+          | inl other ↦
+              mark_from_chunk s b other.0 (λ e. other.1 (e ∙ sym start)) (found_before (record { region = b.region; offset = b.offset + 8 }) other.0 other.2).1
+              ∙ ap Some (ap (λ x. header_bytes (header_of other.0 (b.offset - x))) (sym start) ∙ other.3)
+          | inr free ↦ mark_from_link s active size settled b free.0 bytes (found_before b free.0 free.1).1 free.2
+        ]
       ]
 
   pub Moves-unlisted : (sp : Space) → Agrees (footprint s) sp → Moves (footprint s) (footprint t) sp sp

@@ -1,5 +1,5 @@
 -- What is left once the rest of a block was cut up.
-use Rattle.std.specs.Prelude.{◌≡◌, ◌≢◌, ℕ, ◌+◌, ◌-◌, ◌<◌, ◌≤◌, ◌^◌, length, Some, None, Result, sum_by}
+use Rattle.std.specs.Prelude.{◌≡◌, ◌≢◌, ℕ, ◌+◌, ◌-◌, ◌≤◌, Some, None, Result, sum_by}
 use Rattle.std.specs.Map.{values_of}
 use Rattle.addr_space.specs.Footprint.{Moves, Keeps}
 use Rattle.chunk_header.specs.declared.CtxError.{CtxError}
@@ -7,16 +7,15 @@ use Rattle.addr_space.specs.Space.{Space, Asks, held}
 use Rattle.chunk_header.specs.Answers.{Taken}
 use Rattle.alloc_set.specs.Calls.{Serves}
 use Rattle.alloc_set.specs.Ledger.{SetLedger, SetPlace, block_size, renewed, class_bytes}
-use Rattle.indexmap.specs.IndexMap.{spare}
 use Rattle.addr_space.specs.declared.Addr.{Addr}
 use Rattle.alloc_set.specs.State.{SetState, chunk_at, footprint}
-use Rattle.alloc_set.specs.Kept.{state_of, IsKept, own_bytes}
+use Rattle.alloc_set.specs.Kept.{state_of, IsKept, taken_bytes}
 use Rattle.addr_space.specs.Live.{PutsLive, SameLive}
 use Rattle.alloc_set.specs.Live.{LeavesLive}
 use Rattle.alloc_set.specs.declared.books.Books.{Books}
 
--- free chunks of the active block were made, of so many classes at most
-pub record CutsUp (b n : Books) (room classes : ℕ) : Type 0 where
+-- free chunks of the active block were made
+pub record CutsUp (b n : Books) : Type 0 where
   pub kept : IsKept n
   pub ledger : (state_of n).ledger ≡ record (state_of b).ledger { room = n.active.room; free = (state_of n).ledger.free }
   pub account : n.account ≡ b.account
@@ -26,10 +25,8 @@ pub record CutsUp (b n : Books) (room classes : ℕ) : Type 0 where
   pub blocks : n.blocks ≡ b.blocks
   pub active : n.active ≡ record b.active { room = n.active.room }
   pub less : n.active.room ≤ b.active.room
-  pub spare : spare b.chunks ≤ spare n.chunks + classes
-  pub len : length n.chunks.entries ≤ length b.chunks.entries + classes
   pub others : (at : Addr) → at.region ≢ b.active.region → chunk_at (state_of n) at ≡ chunk_at (state_of b) at
-  pub owned : sum_by own_bytes (values_of n.chunks.entries) ≡ sum_by own_bytes (values_of b.chunks.entries)
+  pub sums : sum_by taken_bytes (values_of n.chunks.entries) + n.active.room ≡ sum_by taken_bytes (values_of b.chunks.entries) + b.active.room
   pub live : SameLive (footprint (state_of b)) (footprint (state_of n))
   pub stays : LeavesLive (state_of b) (state_of n)
 
@@ -41,8 +38,6 @@ pub record Renews (b n : Books) (s t : Space) (class : ℕ) : Type 0 where
   pub ledger : (state_of n).ledger ≡ renewed (state_of b).ledger size
   pub room : class_bytes class ≤ n.active.room
   pub limit : n.limit ≡ b.limit
-  pub spare : 0 < spare n.chunks
-  pub len : length n.chunks.entries < 2 ^ 40
   pub live : SameLive (footprint (state_of b)) (footprint (state_of n))
   pub stays : LeavesLive (state_of b) (state_of n)
   pub asked : Asks b.account size s t

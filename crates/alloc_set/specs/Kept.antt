@@ -2,12 +2,13 @@
 use Rattle.std.specs.Prelude.{◌≡◌, ◌≢◌, ℕ, ◌+◌, ◌-◌, ◌%◌, ◌^◌, ◌<◌, ◌≤◌, ◌==◌, List, [], replicate, length, map, min, Option, Some, None, if◌then◌else◌, sum, sum_by, zero, suc, slice_index_or}
 use Rattle.std.specs.Map.{values_of, lookup}
 use Rattle.addr_space.specs.declared.Addr.{Addr}
-use Rattle.alloc_set.specs.Ledger.{class_size, chunk_limit}
+use Rattle.alloc_set.specs.Ledger.{class_size, class_bytes, chunk_limit}
 use Rattle.alloc_set.specs.State.{SetState, chunk_at, region_of, start_of, capacity_of}
 use Rattle.alloc_set.specs.declared.chunk.Chunk.{Chunk}
 use Rattle.alloc_set.specs.declared.chunk.Chunk.TheVariants.{Live, Free, Own}
 use Rattle.alloc_set.specs.declared.chunk.Shelf.{Shelf}
 use Rattle.alloc_set.specs.declared.books.Books.{Books}
+use Rattle.alloc_set.specs.Listed.{IsUnique}
 
 abbrev pub no_shelf : Shelf
 no_shelf = record { first = None; count = 0 }
@@ -60,16 +61,9 @@ pub record IsPlaced (s : SetState) (active size : ℕ) (at : Addr) (chunk : Chun
 pub record IsSettled (s : SetState) (active size : ℕ) : Type 0 where
   pub active_owned : region_of s active ≡ Some size
   pub active_room : start_of s active + 40 + s.ledger.room ≤ size
-  pub small : (number len : ℕ) → region_of s number ≡ Some len → (len ≤ 2 ^ 31) × (start_of s number + 40 ≤ len)
+  pub small : (number len : ℕ) → region_of s number ≡ Some len → (len ≤ 2 ^ 31) × (start_of s number + 40 ≤ len) × (number < 2 ^ 32)
   pub placed : (at : Addr) (chunk : Chunk) → chunk_at s at ≡ Some chunk → IsPlaced s active size at chunk
   pub apart : (a b : Addr) (first second : Chunk) → chunk_at s a ≡ Some first → chunk_at s b ≡ Some second → a.region ≡ b.region → a.offset < b.offset → a.offset + capacity_of first + 8 ≤ b.offset
-
--- the next free chunk, which a free one names
-abbrev pub next_of : Option Chunk → Option Addr
-next_of (Some (Live class size)) = None
-next_of (Some (Free class next)) = next
-next_of (Some (Own size room)) = None
-next_of None = None
 
 -- so many free chunks of a class, each of which names the next one
 abbrev pub IsChain : (Addr → Option Chunk) → ℕ → ℕ → Option Addr → Type 0
@@ -87,26 +81,19 @@ is_free class (Own size room) = 0
 abbrev pub shelf_at : List Shelf → ℕ → Shelf
 shelf_at shelves class = slice_index_or shelves class no_shelf
 
--- what stands in place of a chunk that is freed: one of a class is the first of its shelf
-abbrev pub freed_in : List Shelf → Option Chunk → Option Chunk
-freed_in shelves (Some (Live class size)) = Some (Free class (shelf_at shelves class).first)
-freed_in shelves (Some (Free class next)) = Some (Free class next)
-freed_in shelves (Some (Own size room)) = Some (Own size room)
-freed_in shelves None = None
-
 pub record IsShelved (s : SetState) (shelves : List Shelf) : Type 0 where
   pub eleven : length shelves ≡ 11
   pub chain : (class : ℕ) → class < 11 → IsChain (chunk_at s) class (shelf_at shelves class).count (shelf_at shelves class).first
   pub counted : (class : ℕ) → class < 11 → (shelf_at shelves class).count ≡ sum_by (is_free class) (values_of s.chunks)
-  pub few : length s.chunks ≤ 2 ^ 40
+  pub unique : IsUnique s.chunks
 
--- what a chunk that has its block for itself takes
-abbrev pub own_bytes : Chunk → ℕ
-own_bytes (Live class size) = 0
-own_bytes (Free class next) = 0
-own_bytes (Own size room) = room + 48
+-- what a chunk takes of the total: its header counts too, and that of its block where it has the block for itself
+abbrev pub taken_bytes : Chunk → ℕ
+taken_bytes (Live class size) = class_bytes class
+taken_bytes (Free class next) = class_bytes class
+taken_bytes (Own size room) = room + 48
 
--- the numbers: no other block has the keeper's, each counts 1, and no room lies in a chunk's own block
+-- the numbers: no other block has the keeper's, each counts 1, and no byte is taken twice
 pub record IsCounted (b : Books) : Type 0 where
   pub sizes : (1024 ≤ b.sizes.init) × (b.sizes.init ≤ b.sizes.max) × (b.sizes.max ≤ 8388608) × (b.sizes.init % 8 ≡ 0) × (b.sizes.max % 8 ≡ 0)
   pub next : (1024 ≤ b.next) × (b.next ≤ b.sizes.max) × (b.next % 8 ≡ 0)
@@ -114,9 +101,9 @@ pub record IsCounted (b : Books) : Type 0 where
   pub filled : (b.active.size - b.active.room) % 8 ≡ 0
   pub keeper : lookup (λ n. b.keeper == n) b.blocks.entries ≡ None
   pub total : b.total ≡ b.sizes.init + sum (values_of b.blocks.entries)
-  pub most : b.total ≤ 2 ^ 62
+  pub most : b.total ≤ 2 ^ 57
   pub blocks : b.count ≡ 1 + sum_by (min 1) (values_of b.blocks.entries)
-  pub rooms : b.active.room + b.idle + sum_by own_bytes (values_of b.chunks.entries) ≤ b.total
+  pub rooms : b.active.room + b.idle + sum_by taken_bytes (values_of b.chunks.entries) ≤ b.total
 
 -- no chunk is there, and the keeper, with its whole room, is active
 pub record IsCleared (b : Books) : Type 0 where

@@ -1,5 +1,6 @@
 -- What contracts see of an AllocSet: its ledger, and where its blocks and chunks are.
 use Rattle.std.specs.Prelude.{ℕ, ◌+◌, ◌-◌, ◌==◌, true, false, List, [], Option, Some, None, is_some, option_map, if◌then◌else◌, option_and_then}
+use Rattle.std.specs.Option.{option_or}
 use Rattle.std.specs.Map.{lookup}
 use Rattle.addr_space.specs.declared.Addr.{Addr}
 use Rattle.addr_space.specs.Footprint.{Footprint}
@@ -73,12 +74,24 @@ header_of (Own size room) dist = record { kind = SetKind; own = true; value = 0;
 abbrev pub emptied : SetState → SetState
 emptied s = record s { ledger = reset s.ledger; blocks = []; chunks = [] }
 
--- the marks: a block's header begins with the context's number and the block's size, and a chunk's header
--- stands before it
+-- a free chunk's first bytes lead to the next one: its region and its offset, which is 0 where there is none
+abbrev pub link_bytes : Option Addr → List ℕ
+link_bytes None = block_bytes 0 0
+link_bytes (Some next) = block_bytes next.region next.offset
+
+abbrev pub link_of : Chunk → Option (List ℕ)
+link_of (Live class size) = None
+link_of (Free class next) = Some (link_bytes next)
+link_of (Own size room) = None
+
+-- the marks: a block's header begins with the context's number and the block's size, a chunk's header stands before
+-- it, and a free chunk begins with its link
 unfoldable pub mark_of : SetState → Addr → Option (List ℕ)
 mark_of s at =
     if at.offset == start_of s at.region then option_map (block_bytes s.context) (region_of s at.region)
-    else option_map (λ chunk. header_bytes (header_of chunk (at.offset - start_of s at.region))) (chunk_at s (record { region = at.region; offset = at.offset + 8 }))
+    else option_or
+    (option_map (λ chunk. header_bytes (header_of chunk (at.offset - start_of s at.region))) (chunk_at s (record { region = at.region; offset = at.offset + 8 })))
+    (option_and_then link_of (chunk_at s at))
 
 -- what the context has in a space
 abbrev pub footprint : SetState → Footprint

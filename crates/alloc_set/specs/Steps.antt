@@ -1,11 +1,9 @@
 -- What the steps of an AllocSet do to its state.
 use Rattle.std.specs.Prelude.{◌≡◌, ℕ, ◌+◌, ◌≤◌, Option, Some, None, if◌then◌else◌}
 use Rattle.addr_space.specs.declared.Addr.{Addr}
-use Rattle.addr_space.specs.Space.{Space}
-use Rattle.addr_space.specs.Footprint.{Agrees, Moves}
-use Rattle.alloc_set.specs.Ledger.{Class, class_size, class_bytes, shelved}
-use Rattle.addr_space.specs.Live.{same_addr, PutsAt, PutsLive}
-use Rattle.alloc_set.specs.State.{SetState, chunk_at, place_at, footprint}
+use Rattle.alloc_set.specs.Ledger.{class_size, class_bytes}
+use Rattle.addr_space.specs.Live.{same_addr}
+use Rattle.alloc_set.specs.State.{SetState, chunk_at, link_of}
 use Rattle.alloc_set.specs.declared.chunk.Chunk.{Chunk}
 use Rattle.alloc_set.specs.declared.chunk.Chunk.TheVariants.{Live, Free, Own}
 
@@ -35,12 +33,5 @@ pub record Carves (s t : SetState) (active size class : ℕ) (at : Addr) (chunk 
   pub offset : at.offset + s.ledger.room ≡ size + 8
   pub room : t.ledger.room + class_bytes class ≡ s.ledger.room
   pub of_class : IsOfClass class chunk
+  pub unlinked : link_of chunk ≡ None
   pub chunks : PutsChunk s t at (Some chunk)
-
--- a live chunk of a class is free now
-pub record Shelves (s t : SetState) (class : ℕ) (at : Addr) : Type 0 where
-  pub was : place_at s at ≡ Some (Class class)
-  pub ledger : t.ledger ≡ shelved s.ledger class
-  pub place : PutsAt (place_at s) (place_at t) at None
-  pub live : PutsLive (footprint s) (footprint t) at None
-  pub moves : (sp : Space) → Agrees (footprint s) sp → Moves (footprint s) (footprint t) sp sp

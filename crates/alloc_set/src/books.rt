@@ -1,5 +1,5 @@
 //! The books of an AllocSet: its blocks, chunks and numbers.
-ghost use Rattle.std.specs.Prelude.{◌≡◌, ◌≢◌, ℕ, ◌+◌, ◌-◌, ◌*◌, ◌%◌, ◌^◌, ◌<◌, ◌≤◌, ◌↔◌, Ok, Err, Some, None, IfOk, IfErr, OnOk, OnErr, cond, option_map, unwrap_or, sum_by, if◌then◌else◌, length, is_some, sum, ◌==◌, ◌⊎◌, min, IfSome, IsSome, IfNone, OnSome, slice_index, replicate, [], Option};
+ghost use Rattle.std.specs.Prelude.{◌≡◌, ◌≢◌, ℕ, ◌+◌, ◌-◌, ◌*◌, ◌%◌, ◌^◌, ◌<◌, ◌≤◌, ◌↔◌, Ok, Err, Some, None, IfOk, IfErr, OnOk, OnErr, sum_by, if◌then◌else◌, ◌==◌, ◌⊎◌, min, IfSome, IsSome, IfNone, OnSome, slice_index, replicate, [], Option};
 ghost use Rattle.std.specs.Map.{values_of, lookup};
 ghost use Rattle.indexmap.specs.IndexMap.{spare};
 ghost use Rattle.addr_space.specs.declared.Addr.{Addr};
@@ -7,14 +7,16 @@ ghost use Rattle.alloc_set.specs.declared.chunk.Chunk.{Chunk};
 ghost use Rattle.addr_space.specs.Footprint.{Agrees, Moves, Keeps, nothing};
 ghost use Rattle.alloc_set.specs.Ledger.{Class, Own as OwnPlace, class_bytes, class_size, cut_off, with_free, stats, with_own, cut_rest, cut_up, halved, block_size, reused, created, chunk_limit, take_class, class_of, take_own, own_size, take};
 ghost use Rattle.chunk_header.specs.Growth.{grown};
-ghost use Rattle.addr_space.specs.Live.{same_addr, PutsAt};
-ghost use Rattle.alloc_set.specs.Kept.{next_of, freed_in, no_shelf};
-ghost use Rattle.alloc_set.specs.Steps.{Shelves};
+ghost use Rattle.addr_space.specs.Live.{PutsAt};
+ghost use Rattle.alloc_set.specs.Kept.{no_shelf};
+ghost use Rattle.alloc_set.specs.Listed.{IsUnique};
 ghost use Rattle.alloc_set.specs.State.{start_of, chunk_at, place_at, region_of, mark_of, footprint};
 ghost use Rattle.addr_space.specs.Space.{Space, held, accounts, Asks};
 
 use crate::chunk::{Chunk, Shelf};
+use crate::chunks::{Chunks, put};
 use crate::classes::{chunk_limit, class_of, class_size};
+use crate::linking::{link_bytes, next_at};
 use addr_space::{Addr, Space};
 use chunk_header::{
     BLOCK_HEADER, CHUNK_HEADER, CONTEXT_BYTES, CtxError, Header, Kind, LARGEST, Sizes, Stats,
@@ -46,56 +48,13 @@ pub struct Books {
     pub active: Block,
     // The size of each other region.
     pub blocks: IndexMap<u32, u32>,
-    pub chunks: IndexMap<Addr, Chunk>,
+    pub chunks: Chunks,
     pub shelves: [Shelf; 11],
     // The bytes of all blocks, and how many they are.
     pub total: u64,
     pub count: u64,
     // The rooms of the blocks that are not active.
     pub idle: u64,
-}
-
-// Notes what stands at an address where room was made, or where a chunk stands already. Answers what stood there.
-pub fn put(chunks: &mut IndexMap<Addr, Chunk>, at: Addr, chunk: Chunk) -> Option<Chunk>
-    requires { (lookup (same_addr at) chunks.old.entries ≡ None) → 0 < spare chunks.old }
-    ensures at { (other : Addr) → lookup (same_addr other) chunks.new.entries ≡ (if same_addr at other then Some chunk else lookup (same_addr other) chunks.old.entries) }
-    ensures sums { (f : Chunk → ℕ) → sum_by f (values_of chunks.new.entries) + unwrap_or (option_map f (lookup (same_addr at) chunks.old.entries)) 0 ≡ sum_by f (values_of chunks.old.entries) + f chunk }
-    ensures len { length chunks.new.entries ≡ length chunks.old.entries + (if is_some (lookup (same_addr at) chunks.old.entries) then 0 else 1) }
-    ensures spare { spare chunks.old ≤ spare chunks.new + 1 }
-    ensures was { result ≡ lookup (same_addr at) chunks.old.entries }
-{
-    match chunks.insert(at, chunk) {
-        Ok(was) => was,
-        Err(_) => unreachable!(),
-    }
-}
-
-// Makes a live chunk of a class a free one, before the first of its shelf. Answers what stood there.
-fn free_in(chunks: &mut IndexMap<Addr, Chunk>, shelves: &[Shelf; 11], at: Addr) -> Option<Chunk>
-    requires { (class size : ℕ) → lookup (same_addr at) chunks.old.entries ≡ Some (Chunk.Live class size) → class ≤ 10 }
-    ensures was { result ≡ lookup (same_addr at) chunks.old.entries }
-    ensures at { (other : Addr) → lookup (same_addr other) chunks.new.entries ≡ (if same_addr at other then freed_in shelves.now result else lookup (same_addr other) chunks.old.entries) }
-    ensures sums { (f : Chunk → ℕ) → sum_by f (values_of chunks.new.entries) + unwrap_or (option_map f result) 0 ≡ sum_by f (values_of chunks.old.entries) + unwrap_or (option_map f (freed_in shelves.now result)) 0 }
-    ensures len { length chunks.new.entries ≡ length chunks.old.entries }
-    ensures same { freed_in shelves.now result ≡ result → chunks.new.entries ≡ chunks.old.entries }
-{
-    let slot = chunks.get_mut(&at)?;
-    let was = *slot;
-    if let Chunk::Live { class, size: _ } = was {
-        let next = shelves[class as usize].first;
-        *slot = Chunk::Free { class, next };
-    }
-    Some(was)
-}
-
-// The free chunk that a free chunk names.
-fn next_of(slot: Option<Chunk>) -> Option<Addr>
-    ensures { result ≡ next_of slot }
-{
-    match slot {
-        Some(Chunk::Free { class: _, next }) => next,
-        _ => None,
-    }
 }
 
 // Notes the size of a new block, for which room was made.
@@ -118,22 +77,20 @@ pub const KEEPER_HEADERS: u32 = CONTEXT_BYTES + BLOCK_HEADER;
 pub const OWN_HEADERS: u32 = BLOCK_HEADER + CHUNK_HEADER;
 
 // The greatest total with which a context takes one more block, in bytes.
-pub const MOST: u64 = 1 << 61;
+pub const MOST: u64 = 1 << 56;
 
 // The size from which a block that doesn't fit is halved.
 const LARGE: u32 = 1_048_576;
 
-// The greatest number of chunks with which a context cuts off more.
-const MOST_CHUNKS: usize = 1 << 39;
-
 impl Books {
-    ghost use Rattle.alloc_set.specs.Kept.{state_of, own_bytes, IsSettled, IsShelved, IsCounted, IsKept};
-    ghost use Rattle.alloc_set.specs.Steps.{IsOfClass, Carves};
+    ghost use Rattle.alloc_set.specs.Kept.{state_of, taken_bytes, IsSettled, IsShelved, IsCounted, IsKept};
+    ghost use Rattle.alloc_set.specs.Steps.{Carves};
     ghost use Rattle.addr_space.specs.Live.{PutsLive, SameLive};
     ghost use Rattle.alloc_set.specs.Live.{LeavesLive};
     ghost use Rattle.alloc_set.specs.Cut.{CutsUp, Renews, Allocates};
 
     // The books of a new context, as if its first block were the region 0.
+    #[inline]
     fn unplaced(alloc: Global, account: u8, context: u32, sizes: Sizes) -> Books
         requires least { 1024 ≤ sizes.init }
         requires order { sizes.init ≤ sizes.max }
@@ -168,7 +125,7 @@ impl Books {
                 room: sizes.init - KEEPER_HEADERS,
             },
             blocks: IndexMap::new(alloc),
-            chunks: IndexMap::new(alloc),
+            chunks: Chunks::none(),
             shelves: [Shelf {
                 first: None,
                 count: 0,
@@ -226,6 +183,7 @@ impl Books {
     }
 
     // How many bytes of a region stand before the header of its block.
+    #[inline]
     fn start(&self, region: u32) -> u32
         ensures { result ≡ start_of (state_of self.now) region }
     {
@@ -236,20 +194,20 @@ impl Books {
         }
     }
 
-    // Cuts a chunk of a class off the active block.
-    fn carve(&mut self, space: &mut Space, class: u8, chunk: Chunk) -> Addr
+    // Cuts a live chunk of a class off the active block.
+    #[inline]
+    fn carve(&mut self, space: &mut Space, class: u8, size: u32) -> Addr
         requires settled { IsSettled (state_of self.old) self.old.active.region self.old.active.size }
         requires filled { (self.old.active.size - self.old.active.room) % 8 ≡ 0 }
         requires agrees { Agrees (footprint (state_of self.old)) space.old }
         requires room { class_bytes class ≤ self.old.active.room }
-        requires of_class { IsOfClass class chunk }
-        requires spare { 0 < spare self.old.chunks }
-        ensures carves { Carves (state_of self.old) (state_of self.new) self.old.active.region self.old.active.size class result chunk }
+        requires class { class ≤ 10 }
+        requires size { size ≤ class_size class }
+        ensures carves { Carves (state_of self.old) (state_of self.new) self.old.active.region self.old.active.size class result (Chunk.Live class size) }
         ensures rest { self.new ≡ record self.old { chunks = self.new.chunks; active = self.new.active } }
         ensures active { self.new.active ≡ record self.old.active { room = self.new.active.room } }
-        ensures sums { (f : Chunk → ℕ) → sum_by f (values_of self.new.chunks.entries) ≡ sum_by f (values_of self.old.chunks.entries) + f chunk }
-        ensures len { length self.new.chunks.entries ≡ length self.old.chunks.entries + 1 }
-        ensures spare { spare self.old.chunks ≤ spare self.new.chunks + 1 }
+        ensures sums { (f : Chunk → ℕ) → sum_by f (values_of self.new.chunks.entries) ≡ sum_by f (values_of self.old.chunks.entries) + f (Chunk.Live class size) }
+        ensures unique { IsUnique self.old.chunks.entries → IsUnique self.new.chunks.entries }
         ensures moves { Moves (footprint (state_of self.old)) (footprint (state_of self.new)) space.old space.new }
         ensures keeps { Keeps (footprint (state_of self.old)) (footprint (state_of self.new)) space.old space.new }
         ensures asked { space.new.taken ≡ space.old.taken }
@@ -267,20 +225,19 @@ impl Books {
             region,
             offset: offset + CHUNK_HEADER,
         };
-        put(&mut self.chunks, at, chunk);
+        put(&mut self.chunks, at, Chunk::Live { class, size });
         self.active.room -= class_size(class) + CHUNK_HEADER;
         at
     }
 
-    // Cuts a live chunk of a class off the active block.
+    // The same, by what the code keeps.
+    #[inline]
     pub fn cut(&mut self, space: &mut Space, class: u8, size: u32) -> Addr
         requires kept { IsKept self.old }
         requires agrees { Agrees (footprint (state_of self.old)) space.old }
         requires room { class_bytes class ≤ self.old.active.room }
         requires class { class ≤ 10 }
         requires size { size ≤ class_size class }
-        requires spare { 0 < spare self.old.chunks }
-        requires few { length self.old.chunks.entries < 2 ^ 40 }
         ensures kept { IsKept self.new }
         ensures ledger { (state_of self.new).ledger ≡ cut_off (state_of self.old).ledger class }
         ensures fresh { (footprint (state_of self.old)).live result ≡ None }
@@ -289,9 +246,13 @@ impl Books {
         ensures moves { Moves (footprint (state_of self.old)) (footprint (state_of self.new)) space.old space.new }
         ensures keeps { Keeps (footprint (state_of self.old)) (footprint (state_of self.new)) space.old space.new }
         ensures place { place_at (state_of self.new) result ≡ Some (Class class) }
+        ensures carves { Carves (state_of self.old) (state_of self.new) self.old.active.region self.old.active.size class result (Chunk.Live class size) }
+        ensures rest { self.new ≡ record self.old { chunks = self.new.chunks; active = self.new.active } }
+        ensures active { self.new.active ≡ record self.old.active { room = self.new.active.room } }
+        ensures sums { sum_by taken_bytes (values_of self.new.chunks.entries) ≡ sum_by taken_bytes (values_of self.old.chunks.entries) + class_bytes class }
         ensures asked { space.new.taken ≡ space.old.taken }
     {
-        self.carve(space, class, Chunk::Live { class, size })
+        self.carve(space, class, size)
     }
 
     // Cuts a free chunk of a class off the active block.
@@ -300,15 +261,11 @@ impl Books {
         requires agrees { Agrees (footprint (state_of self.old)) space.old }
         requires room { class_bytes class ≤ self.old.active.room }
         requires class { class ≤ 10 }
-        requires spare { 0 < spare self.old.chunks }
-        requires few { length self.old.chunks.entries < 2 ^ 40 }
         ensures kept { IsKept self.new }
         ensures ledger { (state_of self.new).ledger ≡ record (state_of self.old).ledger { room = self.old.active.room - class_bytes class; free = with_free (state_of self.old).ledger.free class 1 } }
         ensures active { self.new.active ≡ record self.old.active { room = self.new.active.room } }
-        ensures spare { spare self.old.chunks ≤ spare self.new.chunks + 1 }
-        ensures len { length self.new.chunks.entries ≡ length self.old.chunks.entries + 1 }
         ensures rest { self.new ≡ record self.old { chunks = self.new.chunks; active = self.new.active; shelves = self.new.shelves } }
-        ensures owned { sum_by own_bytes (values_of self.new.chunks.entries) ≡ sum_by own_bytes (values_of self.old.chunks.entries) }
+        ensures sums { sum_by taken_bytes (values_of self.new.chunks.entries) ≡ sum_by taken_bytes (values_of self.old.chunks.entries) + class_bytes class }
         ensures others { (at : Addr) → at.region ≢ self.old.active.region → chunk_at (state_of self.new) at ≡ chunk_at (state_of self.old) at }
         ensures live { SameLive (footprint (state_of self.old)) (footprint (state_of self.new)) }
         ensures stays { LeavesLive (state_of self.old) (state_of self.new) }
@@ -316,13 +273,8 @@ impl Books {
         ensures keeps { Keeps (footprint (state_of self.old)) (footprint (state_of self.new)) space.old space.new }
         ensures asked { space.new.taken ≡ space.old.taken }
     {
-        let shelf = self.shelves[class as usize];
-        let next = shelf.first;
-        let at = self.carve(space, class, Chunk::Free { class, next });
-        self.shelves[class as usize] = Shelf {
-            first: Some(at),
-            count: shelf.count + 1,
-        };
+        let at = self.cut(space, class, 0);
+        self.shelve(space, class, at);
     }
 
     // What the books say.
@@ -345,21 +297,16 @@ impl Books {
         }
     }
 
-    // Makes room in the maps, for what one request may need.
+    // Makes room for the size of one more block.
     fn make_room(&mut self) -> Result<(), CtxError>
         requires { IsKept self.old }
         ensures kept { IsKept self.new }
         ensures state { state_of self.new ≡ state_of self.old }
         ensures limit { self.new.limit ≡ self.old.limit }
-        ensures spare_blocks { OnOk result (1 ≤ spare self.new.blocks) }
-        ensures spare_chunks { OnOk result (12 ≤ spare self.new.chunks) }
-        ensures few { OnOk result (length self.new.chunks.entries ≤ 2 ^ 39) }
+        ensures spare { OnOk result (0 < spare self.new.blocks) }
         ensures only_memory { IfErr result (λ e. e ≡ CtxError.Memory) }
     {
-        if self.chunks.len() > MOST_CHUNKS
-            || self.chunks.reserve(12).is_err()
-            || self.blocks.reserve(1).is_err()
-        {
+        if self.blocks.reserve(1).is_err() {
             return Err(CtxError::Memory);
         }
         Ok(())
@@ -403,9 +350,7 @@ impl Books {
         requires kept { IsKept self.old }
         requires agrees { Agrees (footprint (state_of self.old)) space.old }
         requires little { self.old.active.room < class_bytes 11 }
-        requires spare { 11 ≤ spare self.old.chunks }
-        requires few { length self.old.chunks.entries ≤ 2 ^ 39 }
-        ensures cut { CutsUp self.old self.new (self.old.active.room) 11 }
+        ensures cut { CutsUp self.old self.new }
         ensures room { self.new.active.room ≡ cut_rest 11 self.old.active.room }
         ensures free { (state_of self.new).ledger.free ≡ cut_up 11 self.old.active.room (state_of self.old).ledger.free }
         ensures moves { Moves (footprint (state_of self.old)) (footprint (state_of self.new)) space.old space.new }
@@ -427,7 +372,7 @@ impl Books {
         requires owned { region_of (state_of self.old) region ≡ Some size }
         requires other { region ≢ self.old.keeper }
         requires empty { (at : Addr) → at.region ≡ region → chunk_at (state_of self.old) at ≡ None }
-        requires counted { self.old.active.room + self.old.idle + sum_by own_bytes (values_of self.old.chunks.entries) + size ≤ self.old.total }
+        requires counted { self.old.active.room + self.old.idle + sum_by taken_bytes (values_of self.old.chunks.entries) + size ≤ self.old.total }
         ensures kept { IsKept self.new }
         ensures state { state_of self.new ≡ record (state_of self.old) { ledger = record (state_of self.old).ledger { next = min (2 * self.old.next) self.old.sizes.max; idle = self.old.idle + self.old.active.room; room = size - 40 } } }
         ensures rest { self.new ≡ record self.old { active = self.new.active; idle = self.new.idle; next = self.new.next } }
@@ -466,9 +411,7 @@ impl Books {
         requires agrees { Agrees (footprint (state_of self.old)) space.old }
         requires class { class ≤ 10 }
         requires little { self.old.active.room < class_bytes class }
-        requires spare_blocks { 0 < spare self.old.blocks }
-        requires spare_chunks { 12 ≤ spare self.old.chunks }
-        requires few { length self.old.chunks.entries ≤ 2 ^ 39 }
+        requires spare { 0 < spare self.old.blocks }
         ensures renewed { OnOk result (Renews self.old self.new space.old space.new class) }
         ensures moves { OnOk result (Moves (footprint (state_of self.old)) (footprint (state_of self.new)) space.old space.new) }
         ensures keeps { OnOk result (Keeps (footprint (state_of self.old)) (footprint (state_of self.new)) space.old space.new) }
@@ -485,8 +428,10 @@ impl Books {
     }
 
     // Takes the first free chunk of a class.
-    fn reuse(&mut self, class: u8, size: u32) -> Option<Addr>
+    #[inline]
+    fn reuse(&mut self, space: &Space, class: u8, size: u32) -> Option<Addr>
         requires kept { IsKept self.old }
+        requires agrees { Agrees (footprint (state_of self.old)) space.now }
         requires class { class ≤ 10 }
         requires size { size ≤ class_size class }
         ensures none { IfNone result (self.new ≡ self.old) }
@@ -498,64 +443,47 @@ impl Books {
         ensures live { IfSome result (λ at. PutsLive (footprint (state_of self.old)) (footprint (state_of self.new)) at (Some size)) }
         ensures place { IfSome result (λ at. place_at (state_of self.new) at ≡ Some (Class class)) }
         ensures stays { LeavesLive (state_of self.old) (state_of self.new) }
-        ensures moves { OnSome result ((sp : Space) → Agrees (footprint (state_of self.old)) sp → Moves (footprint (state_of self.old)) (footprint (state_of self.new)) sp sp) }
+        ensures moves { OnSome result (Moves (footprint (state_of self.old)) (footprint (state_of self.new)) space.now space.now) }
         ensures rest { self.new ≡ record self.old { chunks = self.new.chunks; shelves = self.new.shelves } }
     {
         let shelf = self.shelves[class as usize];
         let Some(at) = shelf.first else {
             return None;
         };
-        let next = next_of(put(&mut self.chunks, at, Chunk::Live { class, size }));
         self.shelves[class as usize] = Shelf {
-            first: next,
+            first: next_at(space, at),
             count: shelf.count - 1,
         };
+        put(&mut self.chunks, at, Chunk::Live { class, size });
         Some(at)
     }
 
-    // Frees a chunk of a class: it is the first of its shelf.
-    pub fn shelve(&mut self, class: u8, at: Addr)
+    // Frees a live chunk of a class: it is the first of its shelf, and its first bytes lead to the one that was.
+    #[inline]
+    pub fn shelve(&mut self, space: &mut Space, class: u8, at: Addr)
         requires kept { IsKept self.old }
+        requires agrees { Agrees (footprint (state_of self.old)) space.old }
         requires class { class ≤ 10 }
         requires live { (size : ℕ) × (chunk_at (state_of self.old) at ≡ Some (Chunk.Live class size)) }
         ensures kept { IsKept self.new }
         ensures ledger { (state_of self.new).ledger ≡ record (state_of self.old).ledger { free = with_free (state_of self.old).ledger.free class 1 } }
         ensures live { PutsLive (footprint (state_of self.old)) (footprint (state_of self.new)) at None }
-        ensures moves { (sp : Space) → Agrees (footprint (state_of self.old)) sp → Moves (footprint (state_of self.old)) (footprint (state_of self.new)) sp sp }
+        ensures moves { Moves (footprint (state_of self.old)) (footprint (state_of self.new)) space.old space.new }
+        ensures keeps { Keeps (footprint (state_of self.old)) (footprint (state_of self.new)) space.old space.new }
         ensures place { PutsAt (place_at (state_of self.old)) (place_at (state_of self.new)) at None }
+        ensures others { (other : Addr) → other ≢ at → chunk_at (state_of self.new) other ≡ chunk_at (state_of self.old) other }
+        ensures sums { sum_by taken_bytes (values_of self.new.chunks.entries) ≡ sum_by taken_bytes (values_of self.old.chunks.entries) }
         ensures rest { self.new ≡ record self.old { chunks = self.new.chunks; shelves = self.new.shelves } }
+        ensures asked { space.new.taken ≡ space.old.taken }
     {
         let shelf = self.shelves[class as usize];
         let next = shelf.first;
+        space.write(at, &link_bytes(next));
         put(&mut self.chunks, at, Chunk::Free { class, next });
         self.shelves[class as usize] = Shelf {
             first: Some(at),
             count: shelf.count + 1,
         };
-    }
-
-    // Frees a live chunk of a class: it is the first of its shelf. One that has its block for itself stays, and the
-    // answer is its room.
-    pub fn free_class(&mut self, at: Addr) -> Option<u32>
-        requires kept { IsKept self.old }
-        requires live { IsSome ((footprint (state_of self.old)).live at) }
-        ensures kept { IsKept self.new }
-        ensures own { IfSome result (λ room. (size : ℕ) × (chunk_at (state_of self.new) at ≡ Some (Chunk.Own size room))) }
-        ensures same { OnSome result (state_of self.new ≡ state_of self.old) }
-        ensures shelved { IfNone result ((class : ℕ) × Shelves (state_of self.old) (state_of self.new) class at) }
-    {
-        match free_in(&mut self.chunks, &self.shelves, at) {
-            Some(Chunk::Live { class, size: _ }) => {
-                let count = self.shelves[class as usize].count + 1;
-                self.shelves[class as usize] = Shelf {
-                    first: Some(at),
-                    count,
-                };
-                None
-            }
-            Some(Chunk::Own { size: _, room }) => Some(room),
-            _ => unreachable!(),
-        }
     }
 
     // Serves a request by a chunk of a class.
@@ -571,13 +499,13 @@ impl Books {
         ensures err_space { OnErr result (space.new ≡ space.old) }
     {
         let class = class_of(size);
-        if let Some(at) = self.reuse(class, size) {
+        if let Some(at) = self.reuse(space, class, size) {
             return Ok(at);
         }
-        self.make_room()?;
         if self.active.room >= class_size(class) + CHUNK_HEADER {
             return Ok(self.cut(space, class, size));
         }
+        self.make_room()?;
         self.renew(space, class)?;
         Ok(self.cut(space, class, size))
     }
@@ -591,9 +519,7 @@ impl Books {
         requires not_active { region ≢ self.old.active.region }
         requires empty { (other : Addr) → other.region ≡ region → chunk_at (state_of self.old) other ≡ None }
         requires fits { size ≤ room }
-        requires counted { self.old.active.room + self.old.idle + sum_by own_bytes (values_of self.old.chunks.entries) + room + 48 ≤ self.old.total }
-        requires spare { 0 < spare self.old.chunks }
-        requires few { length self.old.chunks.entries < 2 ^ 40 }
+        requires counted { self.old.active.room + self.old.idle + sum_by taken_bytes (values_of self.old.chunks.entries) + room + 48 ≤ self.old.total }
         ensures kept { IsKept self.new }
         ensures ledger { (state_of self.new).ledger ≡ (state_of self.old).ledger }
         ensures fresh { (footprint (state_of self.old)).live result ≡ None }

@@ -6,6 +6,7 @@ ghost use Rattle.alloc_set.specs.Ledger.{class_size, class_of, chunk_limit};
 pub const LAST: u8 = 10;
 
 /// The size of the chunks of a class.
+#[inline]
 pub fn class_size(class: u8) -> u32
     requires { class ≤ 10 }
     ensures value { result ≡ class_size class }
@@ -17,17 +18,18 @@ pub fn class_size(class: u8) -> u32
 }
 
 /// The class that serves a request.
+#[inline]
 pub fn class_of(size: u32) -> u8
     requires { size ≤ 8192 }
     ensures value { result ≡ class_of size }
     ensures last { result ≤ 10 }
     ensures holds { size ≤ class_size result }
 {
-    let mut class = 0;
-    while class < LAST && class_size(class) < size {
-        class += 1;
+    if size <= 8 {
+        return 0;
     }
-    class
+    // Class 1 has sizes from 9 on: 28 zeros stand before 8.
+    (29 - (size - 1).leading_zeros()) as u8
 }
 
 /// The greatest request that a class serves, in a context whose greatest block has `max` bytes.

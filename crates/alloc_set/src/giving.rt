@@ -5,23 +5,16 @@ ghost use Rattle.addr_space.specs.declared.Addr.{Addr};
 ghost use Rattle.alloc_set.specs.declared.chunk.Chunk.{Chunk};
 ghost use Rattle.addr_space.specs.Footprint.{Agrees, Moves, Keeps, nothing};
 ghost use Rattle.alloc_set.specs.Ledger.{without_own, give};
-ghost use Rattle.addr_space.specs.Live.{same_addr, PutsAt};
+ghost use Rattle.addr_space.specs.Live.{PutsAt};
 ghost use Rattle.alloc_set.specs.State.{chunk_at, place_at, region_of, emptied, footprint};
 ghost use Rattle.addr_space.specs.Space.{Space};
 
 use crate::books::{Block, Books, KEEPER_HEADERS, OWN_HEADERS};
 use crate::chunk::{Chunk, Shelf};
+use crate::chunks::{Chunks, forget};
 use addr_space::{Addr, Space};
+use chunk_header::header_at;
 use indexmap::IndexMap;
-
-// Takes off what stands at an address.
-fn forget(chunks: &mut IndexMap<Addr, Chunk>, at: Addr)
-    ensures at { (other : Addr) → lookup (same_addr other) chunks.new.entries ≡ (if same_addr at other then None else lookup (same_addr other) chunks.old.entries) }
-    ensures sums { (f : Chunk → ℕ) → sum_by f (values_of chunks.new.entries) + unwrap_or (option_map f (lookup (same_addr at) chunks.old.entries)) 0 ≡ sum_by f (values_of chunks.old.entries) }
-    ensures len { length chunks.new.entries ≤ length chunks.old.entries }
-{
-    chunks.swap_remove(&at);
-}
 
 // Takes off the size of a block.
 fn strike(blocks: &mut IndexMap<u32, u32>, number: u32)
@@ -33,15 +26,36 @@ fn strike(blocks: &mut IndexMap<u32, u32>, number: u32)
 }
 
 impl Books {
-    ghost use Rattle.alloc_set.specs.Kept.{state_of, own_bytes, IsCleared, IsKept};
+    ghost use Rattle.alloc_set.specs.Kept.{state_of, taken_bytes, IsCleared, IsKept};
     ghost use Rattle.addr_space.specs.Live.{PutsLive, SameLive};
     ghost use Rattle.alloc_set.specs.Steps.{PutsChunk};
 
-    // What stands at an address.
-    pub fn chunk(&self, at: Addr) -> Option<Chunk>
-        ensures { result ≡ chunk_at (state_of self.now) at }
+    // The class of a live chunk, as its header says, or nothing where it has its block for itself.
+    #[inline]
+    pub fn class(&self, space: &Space, at: Addr) -> Option<u8>
+        requires kept { IsKept self.now }
+        requires agrees { Agrees (footprint (state_of self.now)) space.now }
+        requires live { IsSome ((footprint (state_of self.now)).live at) }
+        ensures class { IfSome result (λ class. (size : ℕ) × (chunk_at (state_of self.now) at ≡ Some (Chunk.Live class size))) }
+        ensures own { IfNone result ((size room : ℕ) × (chunk_at (state_of self.now) at ≡ Some (Chunk.Own size room))) }
     {
-        self.chunks.get(&at).copied()
+        let header = header_at(space, at);
+        if header.own {
+            return None;
+        }
+        Some(header.value as u8)
+    }
+
+    // The room of a chunk that has its block for itself.
+    pub fn room(&self, at: Addr) -> u32
+        requires kept { IsKept self.now }
+        requires own { (size room : ℕ) × (chunk_at (state_of self.now) at ≡ Some (Chunk.Own size room)) }
+        ensures { (size room : ℕ) → chunk_at (state_of self.now) at ≡ Some (Chunk.Own size room) → result ≡ room }
+    {
+        match self.blocks.get(&at.region) {
+            Some(size) => *size - OWN_HEADERS,
+            None => unreachable!(),
+        }
     }
 
     // Takes a chunk that has its block for itself off the books. The block is empty then.
@@ -51,7 +65,7 @@ impl Books {
         ensures kept { IsKept self.new }
         ensures rest { self.new ≡ record self.old { chunks = self.new.chunks } }
         ensures empty { (other : Addr) → other.region ≡ at.region → chunk_at (state_of self.new) other ≡ None }
-        ensures counted { self.new.active.room + self.new.idle + sum_by own_bytes (values_of self.new.chunks.entries) + (room + 48) ≤ self.new.total }
+        ensures counted { self.new.active.room + self.new.idle + sum_by taken_bytes (values_of self.new.chunks.entries) + (room + 48) ≤ self.new.total }
         ensures live { PutsLive (footprint (state_of self.old)) (footprint (state_of self.new)) at None }
         ensures place { PutsAt (place_at (state_of self.old)) (place_at (state_of self.new)) at None }
         ensures moves { (sp : Space) → Agrees (footprint (state_of self.old)) sp → Moves (footprint (state_of self.old)) (footprint (state_of self.new)) sp sp }
@@ -67,7 +81,7 @@ impl Books {
         requires not_keeper { number ≢ self.old.keeper }
         requires not_active { number ≢ self.old.active.region }
         requires empty { (at : Addr) → at.region ≡ number → chunk_at (state_of self.old) at ≡ None }
-        requires counted { self.old.active.room + self.old.idle + sum_by own_bytes (values_of self.old.chunks.entries) + size ≤ self.old.total }
+        requires counted { self.old.active.room + self.old.idle + sum_by taken_bytes (values_of self.old.chunks.entries) + size ≤ self.old.total }
         ensures kept { IsKept self.new }
         ensures ledger { (state_of self.new).ledger ≡ without_own (state_of self.old).ledger size }
         ensures rest { self.new ≡ record self.old { blocks = self.new.blocks; total = self.new.total; count = self.new.count } }
@@ -115,9 +129,9 @@ impl Books {
         ensures keeps { Keeps (footprint (state_of self.old)) (footprint (state_of self.new)) space.old space.new }
         ensures asked { space.new.taken ≡ space.old.taken }
     {
-        match self.free_class(at) {
-            None => {}
-            Some(room) => self.give_own(space, at, room),
+        match self.class(space, at) {
+            Some(class) => self.shelve(space, class, at),
+            None => self.give_own(space, at, self.room(at)),
         }
     }
 
@@ -135,7 +149,7 @@ impl Books {
             size: self.sizes.init,
             room: self.sizes.init - KEEPER_HEADERS,
         };
-        self.chunks.clear();
+        self.chunks = Chunks::none();
         self.shelves = [Shelf {
             first: None,
             count: 0,

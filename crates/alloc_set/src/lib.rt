@@ -7,8 +7,10 @@ ghost use Rattle.alloc_set.specs.Ledger.{stats};
 
 mod books;
 mod chunk;
+mod chunks;
 mod classes;
 mod giving;
+mod linking;
 mod resizing;
 
 use addr_space::{Addr, Space};
@@ -104,7 +106,7 @@ impl AllocSet {
     }
 
     /// Takes a chunk of `size` bytes, which may be 0, and answers its address: `AllocSetAlloc`. A chunk that was
-    /// freed before has the bytes that stood there.
+    /// freed before has the bytes that stood there, but for the first 8, which may be others.
     ///
     /// `TooBig`, where `size` is over 1,073,741,823, `NoSpace` and `Memory` are tried in this order. A refused call
     /// changes nothing.
@@ -215,6 +217,3 @@ impl AllocSet {
         books.discard(space);
     }
 }
-
-#[cfg(test)]
-mod tests;

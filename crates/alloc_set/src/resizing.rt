@@ -8,8 +8,9 @@ ghost use Rattle.alloc_set.specs.declared.chunk.Chunk.{Chunk};
 ghost use Rattle.alloc_set.specs.Ledger.{SetPlace, Class, Own as OwnPlace, class_size, with_block, resize_class, resize_block, kept_size};
 ghost use Rattle.alloc_set.specs.State.{chunk_at, place_at, footprint};
 
-use crate::books::{Books, MOST, OWN_HEADERS, put};
+use crate::books::{Books, MOST, OWN_HEADERS};
 use crate::chunk::Chunk;
+use crate::chunks::put;
 use crate::classes::class_size;
 use addr_space::{Addr, Space};
 use chunk_header::{CtxError, LARGEST, block_header, up8};
@@ -52,6 +53,7 @@ impl Books {
     ghost use Rattle.alloc_set.specs.Resize.{Reallocates};
 
     // Gives a chunk of a class another size in place.
+    #[inline]
     fn refit(&mut self, class: u8, at: Addr, size: u32)
         requires kept { IsKept self.old }
         requires class { class ≤ 10 }
@@ -92,7 +94,7 @@ impl Books {
     {
         let to = self.alloc(space, u64::from(size))?;
         space.copy(at, to, keep);
-        self.shelve(class, at);
+        self.shelve(space, class, at);
         Ok(to)
     }
 
@@ -231,15 +233,13 @@ impl Books {
         if size > LARGEST {
             return Err(CtxError::TooBig);
         }
-        match self.chunk(at) {
-            Some(Chunk::Live { class, size: _ }) => {
-                self.resize_class(space, class, at, keep.min(size) as u32, size as u32)
-            }
-            Some(Chunk::Own { size: _, room }) => {
+        match self.class(space, at) {
+            Some(class) => self.resize_class(space, class, at, keep.min(size) as u32, size as u32),
+            None => {
+                let room = self.room(at);
                 self.resize_own(space, at, room, size as u32)?;
                 Ok(at)
             }
-            _ => unreachable!(),
         }
     }
 }

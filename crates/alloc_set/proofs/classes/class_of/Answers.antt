@@ -1,16 +1,31 @@
-use Rattle.std.proofs.Common.{◌≡◌, ◌≤◌, sym, arith}
-use Rattle.alloc_set.specs.Ledger.{class_size, class_of}
-use Rattle.alloc_set.proofs.ClassSizes.{class_up_to-is}
+use Rattle.std.proofs.Common.{◌-◌, refl, sym, arith}
+use Rattle.std.specs.Int.Count.{count_leading_zeros}
+use Rattle.alloc_set.specs.Ledger.{class_of}
+use Rattle.alloc_set.proofs.ClassSizes.{class_up_to-is, class-bits}
 use Rattle.alloc_set.proofs.classes.class_of.Goals as goal
 
-pub returns-else-class_size-size-clause-value : goal.returns-else-class_size-size-clause-value
+pub returns-then-size-le8-clause-value : goal.returns-then-size-le8-clause-value
 unfolding class_of
-returns-else-class_size-size-clause-value c =
-    sym (class_up_to-is 10 c.args.size c.loop-class.class c.loop-class.invariant.last (omega (arith, c.class_size.ensures.value, c.if-class_size-size.false)) c.loop-class.invariant.lower)
+returns-then-size-le8-clause-value c = sym (class_up_to-is 10 c.args.size 0 (omega arith) (omega (arith, c.if-size-le8.true)) (λ lower below. omega (arith, below)))
 
-pub returns-after-loop-class-clause-value : goal.returns-after-loop-class-clause-value
+pub overflow_sub-result-2 : goal.overflow_sub-result-2
+overflow_sub-result-2 c =
+    let zeros = count_leading_zeros 32 (c.args.size - 1) in
+    omega (arith, (class-bits c.args.size zeros (omega (arith, c.if-size-le8.false)) c.requires refl).0)
+
+pub returns-clause-value : goal.returns-clause-value
 unfolding class_of
-returns-after-loop-class-clause-value c =
-    let last : c.loop-class.class ≡ 10 = omega (arith, c.loop-class.invariant.last, c.loop-class-test.false) in
-    let holds : c.args.size ≤ class_size c.loop-class.class = rw last (omega (arith, c.requires)) in
-    sym (class_up_to-is 10 c.args.size c.loop-class.class c.loop-class.invariant.last holds c.loop-class.invariant.lower)
+returns-clause-value c =
+    let zeros = count_leading_zeros 32 (c.args.size - 1) in
+    let is = class-bits c.args.size zeros (omega (arith, c.if-size-le8.false)) c.requires refl in
+    sym (class_up_to-is 10 c.args.size (29 - zeros) is.1 is.2 is.3)
+
+pub returns-clause-last : goal.returns-clause-last
+returns-clause-last c =
+    let zeros = count_leading_zeros 32 (c.args.size - 1) in
+    (class-bits c.args.size zeros (omega (arith, c.if-size-le8.false)) c.requires refl).1
+
+pub returns-clause-holds : goal.returns-clause-holds
+returns-clause-holds c =
+    let zeros = count_leading_zeros 32 (c.args.size - 1) in
+    (class-bits c.args.size zeros (omega (arith, c.if-size-le8.false)) c.requires refl).2

@@ -1,4 +1,4 @@
-use Rattle.std.proofs.Common.{◌≡◌, ◌+◌, map, Some, None, ap, subst, refl, arith}
+use Rattle.std.proofs.Common.{◌≡◌, ◌+◌, ◌^◌, ◌<◌, map, Some, None, ap, subst, refl, arith, rules}
 use Rattle.addr_space.specs.Space.{Changes, region_at, overwritten}
 use Rattle.chunk_header.specs.Header.{block_bytes}
 use Rattle.alloc_set.specs.Ledger.{with_own}
@@ -15,6 +15,10 @@ note-requires-clause-new c = not_noted (state_of c.args.self.now) c.in_ok-at.at.
 -- no region of the context had the number
 none : (c : goal.After-self-2-1) → region_of (state_of c.args.self.now) c.in_ok-at.at.region ≡ None
 none c = unowned (state_of c.args.self.now) c.args.space.now c.in_ok-at.at.region c.requires.agrees c.in_ok-at.ensures.fresh
+
+-- its number has room in 4 bytes
+narrow : (c : goal.After-self-2-1) → c.in_ok-at.at.region < 2 ^ 32
+narrow c = search (rules, c.take.type_inv)
 
 now : goal.After-self-2-1 → Books
 now c = record c.args.self.now { blocks = c.note.new.blocks; total = c.args.self.now.total + c.from.result; count = c.args.self.now.count + 1 }
@@ -39,7 +43,7 @@ overflow_add-self-2 c = omega (arith, count-le c.args.self.now c.requires.kept.c
 pub returns-clause-kept : goal.returns-clause-kept
 unfolding now
 returns-clause-kept c =
-    IsKept-added c.args.self.now (now c) c.in_ok-at.at.region c.args.size c.requires.kept (adds c) c.requires.least c.requires.most
+    IsKept-added c.args.self.now (now c) c.in_ok-at.at.region c.args.size c.requires.kept (adds c) c.requires.least c.requires.most (narrow c)
     refl refl refl refl refl refl refl c.note.ensures.sums (omega (arith, c.if-self-gt-MOST.false)) c.note.ensures.at
 
 pub returns-clause-ledger : goal.returns-clause-ledger
@@ -61,4 +65,4 @@ returns-clause-moves c =
     (subst (λ b. Changes c.take.new.self c.write.new.self number (overwritten old c.in_ok-at.at.offset (map Some b))) c.block_header.ensures c.write.ensures.changes) in
     let kept = c.requires.kept in
     Moves-added (state_of c.args.self.now) (state_of (now c)) c.args.self.now.active.region c.args.self.now.active.size number c.args.size kept.settled (adds c)
-    (c.args.self.now.sizes.init, keeper_owned (state_of c.args.self.now)) c.requires.least c.requires.most c.args.space.now c.take.new.self c.write.new.self c.requires.agrees c.in_ok-at.ensures.fresh c.in_ok-at.ensures.changes c.in_ok-at.ensures.held wrote
+    (c.args.self.now.sizes.init, keeper_owned (state_of c.args.self.now)) c.requires.least c.requires.most (narrow c) c.args.space.now c.take.new.self c.write.new.self c.requires.agrees c.in_ok-at.ensures.fresh c.in_ok-at.ensures.changes c.in_ok-at.ensures.held wrote

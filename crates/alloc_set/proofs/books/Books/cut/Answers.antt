@@ -15,7 +15,7 @@ returns-clause-kept c =
     let rest = c.carve.ensures.rest in
     IsKept-live b n c.args.class c.carve.result (Live c.args.class c.args.size) c.requires.kept c.carve.ensures.carves c.carve.ensures.active
     (ap (λ (x : Books). x.sizes) rest) (ap (λ (x : Books). x.next) rest) (ap (λ (x : Books). x.limit) rest) (ap (λ (x : Books). x.count) rest) (ap (λ (x : Books). x.idle) rest)
-    c.carve.ensures.len c.requires.few (ap (λ (x : Books). x.shelves) rest) c.args.size refl c.carve.ensures.sums
+    (c.carve.ensures.unique c.requires.kept.shelved.unique) (ap (λ (x : Books). x.shelves) rest) c.args.size refl c.carve.ensures.sums
 
 pub returns-clause-ledger : goal.returns-clause-ledger
 unfolding cut_off
@@ -33,7 +33,7 @@ returns-clause-fresh c =
     let rest = c.carve.ensures.rest in
     live-without b n c.args.class c.carve.result (Live c.args.class c.args.size) c.requires.kept c.carve.ensures.carves c.carve.ensures.active
     (ap (λ (x : Books). x.sizes) rest) (ap (λ (x : Books). x.next) rest) (ap (λ (x : Books). x.limit) rest) (ap (λ (x : Books). x.count) rest) (ap (λ (x : Books). x.idle) rest)
-    c.carve.ensures.len c.requires.few
+    (c.carve.ensures.unique c.requires.kept.shelved.unique)
 
 pub returns-clause-stays : goal.returns-clause-stays
 returns-clause-stays c =
@@ -43,7 +43,7 @@ returns-clause-stays c =
     LeavesLive-put (state_of b) (state_of n) c.carve.result (Some (Live c.args.class c.args.size)) c.carve.ensures.carves.chunks
     (live-without b n c.args.class c.carve.result (Live c.args.class c.args.size) c.requires.kept c.carve.ensures.carves c.carve.ensures.active
     (ap (λ (x : Books). x.sizes) rest) (ap (λ (x : Books). x.next) rest) (ap (λ (x : Books). x.limit) rest) (ap (λ (x : Books). x.count) rest) (ap (λ (x : Books). x.idle) rest)
-    c.carve.ensures.len c.requires.few)
+    (c.carve.ensures.unique c.requires.kept.shelved.unique))
 
 pub returns-clause-place : goal.returns-clause-place
 returns-clause-place c = place-put (state_of c.args.self.now) (state_of c.carve.new.self) c.carve.result (Some (Live c.args.class c.args.size)) c.carve.ensures.carves.chunks

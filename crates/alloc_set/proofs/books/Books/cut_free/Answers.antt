@@ -1,73 +1,62 @@
-use Rattle.std.proofs.Common.{◌≡◌, ℕ, ◌+◌, ◌-◌, ◌<◌, ap, ◌∙◌, sym, refl, arith, Some, List, length, map, set, get_or}
-use Rattle.std.proofs.lemmas.List.{map-set, get_or-map}
-use Rattle.alloc_set.specs.Ledger.{class_bytes, with_free}
-use Rattle.alloc_set.specs.State.{mark_of}
-use Rattle.alloc_set.specs.Kept.{state_of, own_bytes, shelf_at, no_shelf}
-use Rattle.alloc_set.proofs.KeptCut.{IsKept-free, live-without, Carves-shelved, SameLive-put, count-few}
-use Rattle.alloc_set.specs.declared.books.Books.{Books}
-use Rattle.alloc_set.specs.declared.chunk.Shelf.{Shelf}
-use Rattle.alloc_set.specs.declared.chunk.Chunk.TheVariants.{Free}
-use Rattle.alloc_set.proofs.Stays.{LeavesLive-put}
+use Rattle.std.proofs.Common.{◌≡◌, ◌≢◌, ℕ, Some, None, sym, ap, ◌∙◌, inl, inr}
+use Rattle.addr_space.specs.declared.Addr.{Addr}
+use Rattle.addr_space.specs.Live.{SameLive, StaysLive}
+use Rattle.addr_space.proofs.Addresses.{put_at-cases}
+use Rattle.addr_space.proofs.Steps.{Moves-more, Keeps-more}
+use Rattle.alloc_set.specs.Ledger.{SetLedger, cut_off, with_free}
+use Rattle.alloc_set.specs.State.{footprint}
+use Rattle.alloc_set.specs.Kept.{state_of}
+use Rattle.alloc_set.proofs.Carved.{put_cases}
 use Rattle.alloc_set.proofs.books.Books.cut_free.Goals as goal
+use Rattle.alloc_set.proofs.books.Books.cut_free.Goals.{After-shelve}
 
-pub overflow_add-self : goal.overflow_add-self
-overflow_add-self c =
-    omega (arith, count-few (state_of c.args.self.now) c.args.self.now.shelves c.args.class c.requires.kept.shelved (omega (arith, c.requires.class)))
+-- no chunk was live where one was cut, nor is now
+other_stays : (c : After-shelve) (other : Addr) → other ≢ c.cut-at.result → (footprint (state_of c.cut-at.new.self)).live other ≡ (footprint (state_of c.args.self.now)).live other
+other_stays c other differs =
+    elim (put_at-cases (footprint (state_of c.args.self.now)).live (footprint (state_of c.cut-at.new.self)).live c.cut-at.result (Some 0) c.cut-at.ensures.live other) [
+      | inl here ↦ absurd (differs here.0)
+      | inr there ↦ there.1
+    ]
 
-pub returns-clause-kept : goal.returns-clause-kept
-returns-clause-kept c =
-    let b = c.args.self.now in
-    let m = c.carve-at.new.self in
-    let rest = c.carve-at.ensures.rest in
-    let shelves : m.shelves ≡ b.shelves = ap (λ (x : Books). x.shelves) rest in
-    let new : Shelf = record { first = Some c.carve-at.result; count = (shelf_at b.shelves c.args.class).count + 1 } in
-    let n : Books = record m { shelves = set m.shelves c.args.class new } in
-    IsKept-free b n c.args.class c.carve-at.result (Free c.args.class (shelf_at b.shelves c.args.class).first) c.requires.kept
-    (Carves-shelved (state_of b) (state_of m) (map (λ s. s.count) (set m.shelves c.args.class new)) b.active.region b.active.size c.args.class c.carve-at.result _ c.carve-at.ensures.carves)
-    c.carve-at.ensures.active
-    (ap (λ (x : Books). x.sizes) rest) (ap (λ (x : Books). x.next) rest) (ap (λ (x : Books). x.limit) rest) (ap (λ (x : Books). x.count) rest) (ap (λ (x : Books). x.idle) rest)
-    c.carve-at.ensures.len c.requires.few (omega (arith, c.requires.class)) (ap (λ xs. set xs c.args.class new) shelves) refl c.carve-at.ensures.sums
+same : (c : After-shelve) → SameLive (footprint (state_of c.args.self.now)) (footprint (state_of c.shelve.new.self))
+same c other =
+    elim (put_at-cases (footprint (state_of c.cut-at.new.self)).live (footprint (state_of c.shelve.new.self)).live c.cut-at.result None c.shelve.ensures.live other) [
+      | inl here ↦ here.1 ∙ sym c.cut-at.ensures.fresh ∙ ap (footprint (state_of c.args.self.now)).live (sym here.0)
+      | inr there ↦ there.1 ∙ other_stays c other there.0
+    ]
+
+-- what was live is not there
+differs : (c : After-shelve) (other : Addr) (size : ℕ) → (footprint (state_of c.args.self.now)).live other ≡ Some size → other ≢ c.cut-at.result
+differs c other size live = λ e. let clash = sym c.cut-at.ensures.fresh ∙ ap (footprint (state_of c.args.self.now)).live (sym e) ∙ live in absurd (cc)
 
 pub returns-clause-ledger : goal.returns-clause-ledger
-returns-clause-ledger c =
-    let b = c.args.self.now in
-    let m = c.carve-at.new.self in
-    let rest = c.carve-at.ensures.rest in
-    let room : m.active.room ≡ b.active.room - class_bytes c.args.class = omega (arith, c.carve-at.ensures.carves.room) in
-    let shelves : m.shelves ≡ b.shelves = ap (λ (x : Books). x.shelves) rest in
-    let new : Shelf = record { first = Some c.carve-at.result; count = (shelf_at b.shelves c.args.class).count + 1 } in
-    let counts : List ℕ = map (λ (s : Shelf). s.count) b.shelves in
-    let below : c.args.class < length b.shelves = omega (arith, c.requires.class, c.requires.kept.shelved.eleven) in
-    let count : get_or counts c.args.class 0 ≡ (shelf_at b.shelves c.args.class).count = get_or-map (λ (s : Shelf). s.count) b.shelves c.args.class no_shelf 0 below in
-    let free : map (λ (s : Shelf). s.count) (set m.shelves c.args.class new) ≡ with_free counts c.args.class 1 =
-    ap (λ xs. map (λ (s : Shelf). s.count) (set xs c.args.class new)) shelves ∙ map-set (λ (s : Shelf). s.count) b.shelves c.args.class new ∙ ap (λ x. set counts c.args.class (x + 1)) (sym count) in
-    ap (λ (x : Books). record (state_of x).ledger { free = map (λ (s : Shelf). s.count) (set m.shelves c.args.class new) }) rest
-    ∙ ap (λ r. record (state_of b).ledger { room = r; free = map (λ (s : Shelf). s.count) (set m.shelves c.args.class new) }) room
-    ∙ ap (λ f. record (state_of b).ledger { room = b.active.room - class_bytes c.args.class; free = f }) free
-
-pub returns-clause-owned : goal.returns-clause-owned
-returns-clause-owned c = omega (arith, c.carve-at.ensures.sums own_bytes)
+unfolding cut_off
+returns-clause-ledger c = c.shelve.ensures.ledger ∙ ap (λ (l : SetLedger). record l { free = with_free l.free c.args.class 1 }) c.cut-at.ensures.ledger
 
 pub returns-clause-live : goal.returns-clause-live
-returns-clause-live c =
-    let b = c.args.self.now in
-    let m = c.carve-at.new.self in
-    let rest = c.carve-at.ensures.rest in
-    SameLive-put (state_of b) (state_of m) c.carve-at.result (Some (Free c.args.class (shelf_at b.shelves c.args.class).first)) c.carve-at.ensures.carves.chunks refl
-    (live-without b m c.args.class c.carve-at.result (Free c.args.class (shelf_at b.shelves c.args.class).first) c.requires.kept c.carve-at.ensures.carves c.carve-at.ensures.active
-    (ap (λ (x : Books). x.sizes) rest) (ap (λ (x : Books). x.next) rest) (ap (λ (x : Books). x.limit) rest) (ap (λ (x : Books). x.count) rest) (ap (λ (x : Books). x.idle) rest)
-    c.carve-at.ensures.len c.requires.few)
+returns-clause-live c = same (goal.at.returns-clause-live c).After-shelve
 
-pub returns-clause-moves : goal.returns-clause-moves
-unfolding mark_of
-returns-clause-moves c = c.carve-at.ensures.moves
+pub returns-clause-others : goal.returns-clause-others
+returns-clause-others c = λ other apart.
+    let d = (goal.at.returns-clause-others c).After-shelve in
+    let carves = d.cut-at.ensures.carves in
+    let elsewhere : other ≢ d.cut-at.result = λ e. apart (ap (λ (x : Addr). x.region) e ∙ carves.region) in
+    d.shelve.ensures.others other elsewhere ∙ elim (put_cases (state_of d.args.self.now) (state_of d.cut-at.new.self) d.cut-at.result _ carves.chunks other) [
+      | inl here ↦ absurd (elsewhere here.0)
+      | inr there ↦ there.1
+    ]
 
 pub returns-clause-stays : goal.returns-clause-stays
-returns-clause-stays c =
-    let b = c.args.self.now in
-    let m = c.carve-at.new.self in
-    let rest = c.carve-at.ensures.rest in
-    LeavesLive-put (state_of b) (state_of m) c.carve-at.result (Some (Free c.args.class (shelf_at b.shelves c.args.class).first)) c.carve-at.ensures.carves.chunks
-    (live-without b m c.args.class c.carve-at.result (Free c.args.class (shelf_at b.shelves c.args.class).first) c.requires.kept c.carve-at.ensures.carves c.carve-at.ensures.active
-    (ap (λ (x : Books). x.sizes) rest) (ap (λ (x : Books). x.next) rest) (ap (λ (x : Books). x.limit) rest) (ap (λ (x : Books). x.count) rest) (ap (λ (x : Books). x.idle) rest)
-    c.carve-at.ensures.len c.requires.few)
+returns-clause-stays c = λ other size live.
+    let d = (goal.at.returns-clause-stays c).After-shelve in
+    d.shelve.ensures.others other (differs d other size live) ∙ d.cut-at.ensures.stays other size live
+
+pub returns-clause-moves : goal.returns-clause-moves
+returns-clause-moves c =
+    Moves-more (footprint (state_of c.args.self.now)) (footprint (state_of c.cut-at.new.self)) (footprint (state_of c.shelve.new.self)) c.args.space.now c.cut-at.new.space c.shelve.new.space c.cut-at.ensures.moves c.shelve.ensures.moves
+
+pub returns-clause-keeps : goal.returns-clause-keeps
+returns-clause-keeps c =
+    let d = (goal.at.returns-clause-keeps c).After-shelve in
+    let stays : StaysLive (footprint (state_of d.args.self.now)) (footprint (state_of d.cut-at.new.self)) = λ other size live. other_stays d other (differs d other size live) ∙ live in
+    Keeps-more (footprint (state_of c.args.self.now)) (footprint (state_of c.cut-at.new.self)) (footprint (state_of c.shelve.new.self)) c.args.space.now c.cut-at.new.space c.shelve.new.space stays c.cut-at.ensures.keeps c.shelve.ensures.keeps

@@ -5,7 +5,7 @@ use Rattle.alloc_set.specs.State.{footprint}
 use Rattle.alloc_set.specs.Kept.{state_of}
 use Rattle.alloc_set.specs.declared.books.Books.{Books}
 use Rattle.alloc_set.specs.declared.books.Block.{Block}
-use Rattle.alloc_set.proofs.Cuts.{class_bytes-suc, cut_rest-in, cut_up-in, cut_rest-out, cut_up-out, cut_rest-zero, cut_up-zero, CutsUp-less}
+use Rattle.alloc_set.proofs.Cuts.{class_bytes-suc, cut_rest-in, cut_up-in, cut_rest-out, cut_up-out, cut_rest-zero, cut_up-zero}
 use Rattle.alloc_set.proofs.Stays.{LeavesLive-more}
 use Rattle.alloc_set.proofs.books.Books.cut_up.Goals as goal
 
@@ -35,10 +35,8 @@ loop-class-preserved-then-self-class_size c =
         blocks = ap (λ (x : Books). x.blocks) rest ∙ kept.cut.blocks;
         active = c.cut_free.ensures.active ∙ ap (λ (x : Block). record x { room = n.active.room }) active;
         less = omega (arith, room, kept.cut.less);
-        spare = omega (arith, c.cut_free.ensures.spare, kept.cut.spare, kept.last, c.loop-class-test.true);
-        len = omega (arith, c.cut_free.ensures.len, kept.cut.len, kept.last, c.loop-class-test.true);
         others = λ at differs. c.cut_free.ensures.others at (λ e. differs (e ∙ ap (λ (x : Block). x.region) active)) ∙ kept.cut.others at differs;
-        owned = c.cut_free.ensures.owned ∙ kept.cut.owned;
+        sums = omega (arith, c.cut_free.ensures.sums, room, fits, kept.cut.sums);
         live = λ at. c.cut_free.ensures.live at ∙ kept.cut.live at;
         stays = LeavesLive-more (state_of b) (state_of m) (state_of n) kept.cut.stays c.cut_free.ensures.stays;
       };
@@ -60,7 +58,7 @@ loop-class-preserved c =
     let little : m.active.room < class_bytes class = omega (arith, c.class_size.ensures.value, c.if-self-class_size.false) in
     record {
       last = omega (arith, kept.last);
-      cut = CutsUp-less b m b.active.room (11 - c.loop-class.class) (11 - class) (omega arith) kept.cut;
+      cut = kept.cut;
       little = little;
       room = sym (cut_rest-out class m.active.room little) ∙ ap (λ k. cut_rest k m.active.room) up ∙ kept.room;
       free = sym (cut_up-out class m.active.room (state_of m).ledger.free little) ∙ ap (λ k. cut_up k m.active.room (state_of m).ledger.free) up ∙ kept.free;

@@ -1,4 +1,4 @@
-use Rattle.std.proofs.Common.{◌≡◌, ◌-◌, ◌<◌, ◌≤◌}
+use Rattle.std.proofs.Common.{◌≡◌, ◌<◌, ◌≤◌}
 use Rattle.addr_space.specs.Footprint.{Moves, Keeps}
 use Rattle.alloc_set.specs.Ledger.{class_bytes, cut_rest, cut_up}
 use Rattle.alloc_set.specs.State.{footprint}
@@ -9,7 +9,7 @@ use Rattle.alloc_set.proofs.books.Books.cut_up.Given as goal
 abbrev pub invariant-loop-class : goal.invariant-loop-class
 invariant-loop-class l = record {
   last : l.class ≤ 11;
-  cut : CutsUp l.initial.self l.self l.initial.self.active.room (11 - l.class);
+  cut : CutsUp l.initial.self l.self;
   little : l.self.active.room < class_bytes l.class;
   room : cut_rest l.class l.self.active.room ≡ cut_rest 11 l.initial.self.active.room;
   free : cut_up l.class l.self.active.room (state_of l.self).ledger.free ≡ cut_up 11 l.initial.self.active.room (state_of l.initial.self).ledger.free;

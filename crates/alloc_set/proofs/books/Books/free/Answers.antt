@@ -1,47 +1,32 @@
-use Rattle.std.proofs.Common.{◌≡◌, ◌+◌, Some, None, IfSome, sym, ap, subst, option_and_then}
-use Rattle.addr_space.specs.Footprint.{Agrees, Moves, Keeps}
-use Rattle.addr_space.specs.Live.{PutsAt, PutsLive}
-use Rattle.alloc_set.specs.Ledger.{Own as OwnPlace, give}
-use Rattle.alloc_set.specs.State.{SetState, place_at, live_place, footprint}
+use Rattle.std.proofs.Common.{◌≡◌, ◌+◌, Some, IfSome, sym, ap, ◌∙◌, subst, option_and_then}
+use Rattle.alloc_set.specs.Ledger.{Class, Own as OwnPlace, give}
+use Rattle.alloc_set.specs.State.{place_at, live_place}
 use Rattle.alloc_set.specs.Kept.{state_of}
+use Rattle.alloc_set.specs.declared.chunk.Chunk.TheVariants.{Live, Own}
 use Rattle.alloc_set.proofs.books.Books.free.Goals as goal
+
+pub shelve-requires-clause-class : goal.shelve-requires-clause-class
+shelve-requires-clause-class c =
+    let found = c.in-Some.ensures.class in
+    (c.requires.kept.settled.placed c.args.at (Live c.in-Some.class found.0) found.1).sized.0
+
+pub returns-in-Some-clause-ledger : goal.returns-in-Some-clause-ledger
+unfolding give
+returns-in-Some-clause-ledger c =
+    let a = state_of c.args.self.now in
+    let place : place_at a c.args.at ≡ Some (Class c.in-Some.class) = ap (λ o. option_and_then live_place o) c.in-Some.ensures.class.1 in
+    subst (λ o. IfSome o (λ place. (state_of c.shelve.new.self).ledger ≡ give a.ledger place)) (sym place) c.shelve.ensures.ledger
+
+pub give_own-requires-clause-own : goal.give_own-requires-clause-own
+give_own-requires-clause-own c =
+    let own = c.in-None.ensures.own in
+    (own.0, own.2 ∙ ap (λ r. Some (Own own.0 r)) (sym (c.room.ensures own.0 own.1 own.2)))
 
 pub returns-in-None-clause-ledger : goal.returns-in-None-clause-ledger
 unfolding give
 returns-in-None-clause-ledger c =
     let a = state_of c.args.self.now in
-    let done = c.in-None.ensures.shelved in
-    subst (λ o. IfSome o (λ place. (state_of c.free_class.new.self).ledger ≡ give a.ledger place)) (sym done.1.was) done.1.ledger
-
-pub returns-in-None-clause-place : goal.returns-in-None-clause-place
-returns-in-None-clause-place c = c.in-None.ensures.shelved.1.place
-
-pub returns-in-None-clause-live : goal.returns-in-None-clause-live
-returns-in-None-clause-live c = c.in-None.ensures.shelved.1.live
-
-pub returns-in-None-clause-moves : goal.returns-in-None-clause-moves
-returns-in-None-clause-moves c = c.in-None.ensures.shelved.1.moves c.args.space.now c.requires.agrees
-
-pub give_own-requires-clause-agrees : goal.give_own-requires-clause-agrees
-give_own-requires-clause-agrees c = subst (λ (x : SetState). Agrees (footprint x) c.args.space.now) (sym c.in-Some.ensures.same) c.requires.agrees
-
-pub returns-in-Some-clause-ledger : goal.returns-in-Some-clause-ledger
-unfolding give
-returns-in-Some-clause-ledger c =
-    let n = state_of c.give_own.new.self in
-    let own = c.in-Some.ensures.own in
-    let place : place_at (state_of c.free_class.new.self) c.args.at ≡ Some (OwnPlace (c.in-Some.room + 48)) = ap (λ o. option_and_then live_place o) own.1 in
-    subst (λ (x : SetState). IfSome (place_at x c.args.at) (λ place. n.ledger ≡ give x.ledger place)) c.in-Some.ensures.same
-    (subst (λ o. IfSome o (λ place. n.ledger ≡ give (state_of c.free_class.new.self).ledger place)) (sym place) c.give_own.ensures.ledger)
-
-pub returns-in-Some-clause-place : goal.returns-in-Some-clause-place
-returns-in-Some-clause-place c = subst (λ (x : SetState). PutsAt (place_at x) (place_at (state_of c.give_own.new.self)) c.args.at None) c.in-Some.ensures.same c.give_own.ensures.place
-
-pub returns-in-Some-clause-live : goal.returns-in-Some-clause-live
-returns-in-Some-clause-live c = subst (λ (x : SetState). PutsLive (footprint x) (footprint (state_of c.give_own.new.self)) c.args.at None) c.in-Some.ensures.same c.give_own.ensures.live
-
-pub returns-in-Some-clause-moves : goal.returns-in-Some-clause-moves
-returns-in-Some-clause-moves c = subst (λ (x : SetState). Moves (footprint x) (footprint (state_of c.give_own.new.self)) c.args.space.now c.give_own.new.space) c.in-Some.ensures.same c.give_own.ensures.moves
-
-pub returns-in-Some-clause-keeps : goal.returns-in-Some-clause-keeps
-returns-in-Some-clause-keeps c = subst (λ (x : SetState). Keeps (footprint x) (footprint (state_of c.give_own.new.self)) c.args.space.now c.give_own.new.space) c.in-Some.ensures.same c.give_own.ensures.keeps
+    let own = c.in-None.ensures.own in
+    let there = own.2 ∙ ap (λ r. Some (Own own.0 r)) (sym (c.room.ensures own.0 own.1 own.2)) in
+    let place : place_at a c.args.at ≡ Some (OwnPlace (c.room.result + 48)) = ap (λ o. option_and_then live_place o) there in
+    subst (λ o. IfSome o (λ place. (state_of c.give_own.new.self).ledger ≡ give a.ledger place)) (sym place) c.give_own.ensures.ledger

@@ -2,7 +2,7 @@ use Rattle.std.proofs.Common.{ap, ◌∙◌, arith, sum_by}
 use Rattle.std.specs.Map.{values_of}
 use Rattle.addr_space.proofs.Steps.{Moves-more}
 use Rattle.alloc_set.specs.State.{footprint}
-use Rattle.alloc_set.specs.Kept.{state_of, own_bytes}
+use Rattle.alloc_set.specs.Kept.{state_of, taken_bytes}
 use Rattle.alloc_set.specs.declared.books.Block.{Block}
 use Rattle.alloc_set.specs.declared.books.Books.{Books}
 use Rattle.alloc_set.proofs.Cleared.{size-le, IsCleared-kept}
@@ -14,7 +14,7 @@ give_block-requires-clause-counted c =
     let cleared = c.loop-number.invariant.cleared in
     let noted = c.in-Some.ensures.some in
     let room = ap (λ (x : Block). x.room) cleared.active in
-    let owned = ap (λ e. sum_by own_bytes (values_of e)) cleared.chunks in
+    let owned = ap (λ e. sum_by taken_bytes (values_of e)) cleared.chunks in
     omega (arith, c.loop-number.invariant.kept.counted.total, size-le b.blocks.entries c.in-Some.number c.in-Some.size noted, room, owned, cleared.idle, c.loop-number.invariant.kept.counted.sizes.0)
 
 pub loop-number-preserved : goal.loop-number-preserved

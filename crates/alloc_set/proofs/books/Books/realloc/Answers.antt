@@ -38,52 +38,57 @@ module _ (a : SetState) (n : Books) (s t : Space) (at : Addr) (keep size : ℕ) 
 
 pub resize_class-requires-clause-class : goal.resize_class-requires-clause-class
 resize_class-requires-clause-class c =
-    let found : chunk_at (state_of c.args.self.now) c.args.at ≡ Some (Live c.in-Some-Live.class c.in-Some-Live.field-0-1) = cc in
-    (c.requires.kept.settled.placed c.args.at (Live c.in-Some-Live.class c.in-Some-Live.field-0-1) found).sized.0
+    let found = c.in-Some.ensures.class in
+    (c.requires.kept.settled.placed c.args.at (Live c.in-Some.class found.0) found.1).sized.0
 
-pub returns-in-Some-Live-clause-ok : goal.returns-in-Some-Live-clause-ok
-returns-in-Some-Live-clause-ok c =
+pub returns-in-Some-clause-ok : goal.returns-in-Some-clause-ok
+returns-in-Some-clause-ok c =
     let a = state_of c.args.self.now in
     let s = c.args.space.now in
-    let class : ℕ = c.in-Some-Live.class in
-    let found : chunk_at a c.args.at ≡ Some (Live class c.in-Some-Live.field-0-1) = cc in
+    let class : ℕ = c.in-Some.class in
     let keep : c.min.result ≡ min c.args.keep c.args.size = c.min.ensures in
-    ok a c.resize_class.new.self s c.resize_class.new.space c.args.at (min c.args.keep c.args.size) c.args.size (Class class) (omega (arith, c.if-size-gt-LARGEST.false)) (ap (λ o. option_and_then live_place o) found) c.resize_class.result
+    ok a c.resize_class.new.self s c.resize_class.new.space c.args.at (min c.args.keep c.args.size) c.args.size (Class class) (omega (arith, c.if-size-gt-LARGEST.false)) (ap (λ o. option_and_then live_place o) c.in-Some.ensures.class.1) c.resize_class.result
     (subst (λ k. IfOk c.resize_class.result (λ to. Reallocates a c.resize_class.new.self s c.resize_class.new.space c.args.at to k c.args.size (resize_class a.ledger (held s a.account) s.limit class c.args.size))) keep c.resize_class.ensures.ok)
 
-pub returns-in-Some-Live-clause-no_space : goal.returns-in-Some-Live-clause-no_space
-returns-in-Some-Live-clause-no_space c = λ refused.
+pub returns-in-Some-clause-no_space : goal.returns-in-Some-clause-no_space
+returns-in-Some-clause-no_space c = λ refused.
     let a = state_of c.args.self.now in
     let s = c.args.space.now in
-    let class : ℕ = c.in-Some-Live.class in
-    let found : chunk_at a c.args.at ≡ Some (Live class c.in-Some-Live.field-0-1) = cc in
-    none a c.resize_class.new.self s c.resize_class.new.space c.args.at (min c.args.keep c.args.size) c.args.size (Class class) (omega (arith, c.if-size-gt-LARGEST.false)) (ap (λ o. option_and_then live_place o) found)
+    none a c.resize_class.new.self s c.resize_class.new.space c.args.at (min c.args.keep c.args.size) c.args.size (Class c.in-Some.class) (omega (arith, c.if-size-gt-LARGEST.false)) (ap (λ o. option_and_then live_place o) c.in-Some.ensures.class.1)
     (c.resize_class.ensures.no_space refused)
 
-pub returns-in_ok-resize_own-in-Some-Own-clause-ok : goal.returns-in_ok-resize_own-in-Some-Own-clause-ok
-returns-in_ok-resize_own-in-Some-Own-clause-ok c =
+-- the room of a chunk that has its block for itself
+pub resize_own-requires-clause-live : goal.resize_own-requires-clause-live
+resize_own-requires-clause-live c =
+    let own = c.in-None.ensures.own in
+    (own.0, own.2 ∙ ap (λ r. Some (Own own.0 r)) (sym (c.room-room.ensures own.0 own.1 own.2)))
+
+pub returns-in_ok-resize_own-in-None-clause-ok : goal.returns-in_ok-resize_own-in-None-clause-ok
+returns-in_ok-resize_own-in-None-clause-ok c =
     let a = state_of c.args.self.now in
     let s = c.args.space.now in
     let n = c.resize_own.new.self in
     let t = c.resize_own.new.space in
-    let old : ℕ = c.in-Some-Own.field-0-0 in
-    let room : ℕ = c.in-Some-Own.room in
+    let own = c.in-None.ensures.own in
+    let old : ℕ = own.0 in
+    let room : ℕ = c.room-room.result in
     let keep : ℕ = min c.args.keep c.args.size in
-    let found : chunk_at a c.args.at ≡ Some (Own old room) = cc in
+    let found : chunk_at a c.args.at ≡ Some (Own old room) = own.2 ∙ ap (λ r. Some (Own old r)) (sym (c.room-room.ensures own.0 own.1 own.2)) in
     let live : (footprint a).live c.args.at ≡ Some old = ap (λ o. option_and_then live_size o) found in
     let few : c.args.keep ≤ old = if_some (λ n. c.args.keep ≤ n) ((footprint a).live c.args.at) old live c.requires.keep in
+    let done = c.in_ok-resize_own-in-None.ensures in
     let had : Reallocates a n s t c.args.at c.args.at keep c.args.size (resize_at a.ledger (held s a.account) s.limit (OwnPlace (room + 48)) c.args.size) =
     Reallocates-in_place a n s t c.args.at old keep c.args.size (resize_at a.ledger (held s a.account) s.limit (OwnPlace (room + 48)) c.args.size)
-    c.in_ok-resize_own-in-Some-Own.ensures.kept c.in_ok-resize_own-in-Some-Own.ensures.refits live (omega (arith, few)) (omega arith) c.in_ok-resize_own-in-Some-Own.ensures.live c.in_ok-resize_own-in-Some-Own.ensures.moves c.in_ok-resize_own-in-Some-Own.ensures.keeps in
+    done.kept done.refits live (omega (arith, few)) (omega arith) done.live done.moves done.keeps in
     ok a n s t c.args.at keep c.args.size (OwnPlace (room + 48)) (omega (arith, c.if-size-gt-LARGEST.false)) (ap (λ o. option_and_then live_place o) found) (Ok c.args.at) had
 
-pub returns-in_err-resize_own-in-Some-Own-clause-no_space : goal.returns-in_err-resize_own-in-Some-Own-clause-no_space
-returns-in_err-resize_own-in-Some-Own-clause-no_space c = λ refused.
+pub returns-in_err-resize_own-in-None-clause-no_space : goal.returns-in_err-resize_own-in-None-clause-no_space
+returns-in_err-resize_own-in-None-clause-no_space c = λ refused.
     let a = state_of c.args.self.now in
     let s = c.args.space.now in
-    let old : ℕ = c.in-Some-Own.field-0-0 in
-    let room : ℕ = c.in-Some-Own.room in
-    let found : chunk_at a c.args.at ≡ Some (Own old room) = cc in
-    let is : c.in_err-resize_own-in-Some-Own.field-0.0 ≡ NoSpace = let p = err_from_is_err_and c.from_residual.result c.from_residual.ensures.1 in cc in
+    let own = c.in-None.ensures.own in
+    let room : ℕ = c.room-room.result in
+    let found : chunk_at a c.args.at ≡ Some (Own own.0 room) = own.2 ∙ ap (λ r. Some (Own own.0 r)) (sym (c.room-room.ensures own.0 own.1 own.2)) in
+    let is : c.in_err-resize_own-in-None.field-0.0 ≡ NoSpace = let p = err_from_is_err_and c.from_residual.result c.from_residual.ensures.1 in cc in
     none a c.resize_own.new.self s c.resize_own.new.space c.args.at (min c.args.keep c.args.size) c.args.size (OwnPlace (room + 48)) (omega (arith, c.if-size-gt-LARGEST.false)) (ap (λ o. option_and_then live_place o) found)
-    (c.in_err-resize_own-in-Some-Own.ensures.no_space (ap Err is))
+    (c.in_err-resize_own-in-None.ensures.no_space (ap Err is))

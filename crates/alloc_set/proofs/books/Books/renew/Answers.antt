@@ -1,7 +1,6 @@
-use Rattle.std.proofs.Common.{◌≡◌, ◌≢◌, ℕ, ◌+◌, ◌-◌, ◌*◌, ap, ◌∙◌, sym, subst, arith, Some, None, List, length, min, inl, inr, sum_by}
+use Rattle.std.proofs.Common.{◌≡◌, ◌≢◌, ℕ, ◌+◌, ◌-◌, ◌*◌, ap, ◌∙◌, sym, subst, arith, Some, None, List, min, inl, inr, sum_by}
 use Rattle.std.proofs.lemmas.Result.{err_from_is_err_and}
 use Rattle.std.specs.Map.{values_of}
-use Rattle.indexmap.specs.IndexMap.{spare}
 use Rattle.addr_space.specs.Space.{held}
 use Rattle.addr_space.specs.Footprint.{Footprint, Moves, Keeps}
 use Rattle.addr_space.proofs.Steps.{Moves-more, Keeps-more, same_stays}
@@ -11,7 +10,7 @@ use Rattle.chunk_header.specs.declared.CtxError.TheVariants.{NoSpace}
 use Rattle.chunk_header.specs.Growth.{grown}
 use Rattle.alloc_set.specs.Ledger.{SetLedger, class_size, cut_rest, cut_up, with_own, renewed, block_size, halved}
 use Rattle.alloc_set.specs.State.{SetState, chunk_at, region_of, footprint}
-use Rattle.alloc_set.specs.Kept.{state_of, own_bytes}
+use Rattle.alloc_set.specs.Kept.{state_of, taken_bytes}
 use Rattle.alloc_set.specs.declared.books.Books.{Books}
 use Rattle.alloc_set.proofs.Stays.{LeavesLive-same, LeavesLive-more}
 use Rattle.alloc_set.proofs.books.Books.renew.Goals as goal
@@ -72,7 +71,7 @@ activate-requires-clause-counted c =
     let ledger = ledger_cut (goal.at.activate-requires-clause-counted c).After-cut_up in
     let m = c.add_block.new.self in
     let active : m.active.room ≡ c.args.self.now.active.room = ap (λ (x : Books). x.active.room) c.in_ok-region.ensures.rest in
-    omega (arith, ap (λ (l : SetLedger). l.total) ledger, ap (λ (l : SetLedger). l.idle) ledger, c.cut_up.ensures.cut.less, active, c.requires.kept.counted.rooms, c.cut_up.ensures.cut.owned, ap (λ (x : Books). sum_by own_bytes (values_of x.chunks.entries)) c.in_ok-region.ensures.rest)
+    omega (arith, ap (λ (l : SetLedger). l.total) ledger, ap (λ (l : SetLedger). l.idle) ledger, active, c.requires.kept.counted.rooms, c.cut_up.ensures.cut.sums, ap (λ (x : Books). sum_by taken_bytes (values_of x.chunks.entries)) c.in_ok-region.ensures.rest)
 
 pub returns-clause-renewed : goal.returns-clause-renewed
 unfolding block_size renewed
@@ -96,8 +95,6 @@ returns-clause-renewed c =
       ledger = now ∙ ap (λ (l : SetLedger). record l { next = min (2 * l.next) l.max; idle = l.idle + l.room; room = size - 40 }) cut;
       room = omega (arith, room, c.fitted-size.ensures.enough, c.class_size.ensures.value);
       limit = ap (λ (x : Books). x.limit) c.activate.ensures.rest ∙ c.cut_up.ensures.cut.limit ∙ ap (λ (x : Books). x.limit) c.in_ok-region.ensures.rest;
-      spare = omega (arith, ap spare chunks, c.cut_up.ensures.cut.spare, ap spare first, c.requires.spare_chunks);
-      len = omega (arith, ap (λ e. length e.entries) chunks, c.cut_up.ensures.cut.len, ap (λ e. length e.entries) first, c.requires.few);
       live = λ at. ap (λ (x : Books). (footprint (state_of x)).live at) c.activate.ensures.rest ∙ c.cut_up.ensures.cut.live at ∙ ap (λ (x : Books). (footprint (state_of x)).live at) c.in_ok-region.ensures.rest;
       stays = LeavesLive-more (state_of b) (state_of m) (state_of t)
           (LeavesLive-same (state_of b) (state_of m) (ap (λ x. x.entries) first))

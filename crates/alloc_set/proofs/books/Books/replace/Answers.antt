@@ -8,7 +8,7 @@ use Rattle.alloc_set.specs.Cut.{Allocates}
 use Rattle.alloc_set.proofs.Refits.{resize_class-moves}
 use Rattle.addr_space.proofs.Carried.{IsInside-live}
 use Rattle.alloc_set.specs.State.{footprint}
-use Rattle.alloc_set.proofs.Replaced.{live_now, IsKnown-kept, Reallocates-replaced}
+use Rattle.alloc_set.proofs.Replaced.{live_now, IsKnown-kept, Moves-copied, Reallocates-replaced}
 use Rattle.alloc_set.proofs.books.Books.replace.Goals as goal
 use Rattle.alloc_set.proofs.books.Books.replace.Goals.{In_ok-to}
 
@@ -34,8 +34,13 @@ copy-requires-clause-known c =
     IsKnown-kept (state_of c.args.self.now) c.alloc.new.self c.args.space.now c.alloc.new.space c.args.at c.in_ok-to.to c.args.class c.requires.live.0 c.args.keep c.args.size c.requires.live.1 c.requires.live.2
     (took (goal.at.copy-requires-clause-known c).In_ok-to) c.requires.known
 
+pub shelve-requires-clause-agrees : goal.shelve-requires-clause-agrees
+shelve-requires-clause-agrees c =
+    (Moves-copied (state_of c.args.self.now) c.alloc.new.self c.args.space.now c.alloc.new.space c.args.at c.in_ok-to.to c.args.class c.requires.live.0 c.args.keep c.args.size c.requires.live.1 c.requires.live.2
+    (took (goal.at.shelve-requires-clause-agrees c).In_ok-to) c.copy.new.self c.requires.keep c.requires.known c.copy.ensures.changes).agrees
+
 pub returns-clause-ok : goal.returns-clause-ok
 returns-clause-ok c =
     Reallocates-replaced (state_of c.args.self.now) c.alloc.new.self c.args.space.now c.alloc.new.space c.args.at c.in_ok-to.to c.args.class c.requires.live.0 c.args.keep c.args.size c.requires.live.1 c.requires.live.2
-    (took (goal.at.returns-clause-ok c).In_ok-to) c.shelve.new.self c.copy.new.self c.requires.over c.requires.keep c.requires.known c.copy.ensures.changes c.copy.ensures.taken
-    c.shelve.ensures.kept c.shelve.ensures.ledger c.shelve.ensures.place c.shelve.ensures.live c.shelve.ensures.moves
+    (took (goal.at.returns-clause-ok c).In_ok-to) c.shelve.new.self c.copy.new.self c.shelve.new.space c.requires.over c.requires.keep c.requires.known c.copy.ensures.changes c.copy.ensures.taken
+    c.shelve.ensures.kept c.shelve.ensures.ledger c.shelve.ensures.place c.shelve.ensures.live c.shelve.ensures.moves c.shelve.ensures.keeps c.shelve.ensures.asked

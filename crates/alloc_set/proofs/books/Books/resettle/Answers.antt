@@ -1,4 +1,4 @@
-use Rattle.std.proofs.Common.{◌≡◌, ◌^◌, ◌≤◌, ◌+◌, Some, refl, arith}
+use Rattle.std.proofs.Common.{◌≡◌, ◌^◌, ◌≤◌, ◌+◌, Some, refl}
 use Rattle.alloc_set.proofs.Places.{PutsPlace-chunk}
 use Rattle.alloc_set.specs.State.{chunk_at}
 use Rattle.alloc_set.specs.Kept.{state_of}
@@ -34,7 +34,7 @@ pub returns-clause-kept : goal.returns-clause-kept
 unfolding now
 returns-clause-kept c =
     IsKept-stretched c.args.self.now (now c) c.requires.live.0 c.args.room c.args.size c.args.room c.args.at c.requires.kept refl (was c) c.requires.fits (most c) (stretches c)
-    (λ f. rw (was c) at (c.put.ensures.sums f)) (let len = rw (was c) at c.put.ensures.len in omega (arith, len)) (λ f. refl) c.requires.kept.counted.keeper c.requires.kept.counted.most
+    (λ f. rw (was c) at (c.put.ensures.sums f)) (c.put.ensures.unique c.requires.kept.shelved.unique) (λ f. refl) c.requires.kept.counted.keeper c.requires.kept.counted.most
 
 pub returns-clause-moves : goal.returns-clause-moves
 unfolding now

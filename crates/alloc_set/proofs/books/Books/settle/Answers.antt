@@ -4,7 +4,7 @@ use Rattle.addr_space.specs.declared.Addr.{Addr}
 use Rattle.addr_space.specs.Space.{Changes, region_at, overwritten}
 use Rattle.chunk_header.specs.Header.{header_bytes}
 use Rattle.alloc_set.specs.State.{chunk_at, header_of, live_size}
-use Rattle.alloc_set.specs.Kept.{state_of, is_free, own_bytes}
+use Rattle.alloc_set.specs.Kept.{state_of, is_free, taken_bytes}
 use Rattle.alloc_set.specs.Steps.{SameBlocks}
 use Rattle.alloc_set.proofs.Owned.{IsSettled-owned, Moves-owned}
 use Rattle.alloc_set.proofs.Shelved.{IsShelved-taken}
@@ -31,7 +31,6 @@ returns-clause-kept c =
     let at : Addr = record { region = c.args.region; offset = 48 } in
     let kept = c.requires.kept in
     let was : chunk_at (state_of b) at ≡ None = c.requires.empty at refl in
-    let len = rw was at c.put.ensures.len in
     record {
       counted = record {
         sizes = kept.counted.sizes;
@@ -42,10 +41,10 @@ returns-clause-kept c =
         total = kept.counted.total;
         most = kept.counted.most;
         blocks = kept.counted.blocks;
-        rooms = let sums = rw was at (c.put.ensures.sums own_bytes) in omega (arith, c.requires.counted, sums);
+        rooms = let sums = rw was at (c.put.ensures.sums taken_bytes) in omega (arith, c.requires.counted, sums);
       };
       settled = IsSettled-owned (state_of b) (state_of n) b.active.region b.active.size c.args.region c.args.size c.args.room at kept.settled (same b n refl refl refl refl refl refl) refl refl refl c.put.ensures.at c.requires.owned c.requires.not_keeper c.requires.not_active c.requires.empty c.requires.fits;
-      shelved = IsShelved-taken (state_of b) (state_of n) b.shelves at (Some (Own c.args.size c.args.room)) kept.shelved c.put.ensures.at (omega (arith, len, c.requires.few)) (IsTaken-none (chunk_at (state_of b) at) was)
+      shelved = IsShelved-taken (state_of b) (state_of n) b.shelves at (Some (Own c.args.size c.args.room)) kept.shelved c.put.ensures.at (c.put.ensures.unique kept.shelved.unique) (IsTaken-none (chunk_at (state_of b) at) was)
           (λ k under. let sums = rw was at (c.put.ensures.sums (is_free k)) in omega (arith, sums));
     }
 

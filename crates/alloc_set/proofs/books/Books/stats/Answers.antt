@@ -1,33 +1,28 @@
-use Rattle.std.proofs.Common.{◌≡◌, ℕ, ◌+◌, ◌*◌, ◌^◌, ◌<◌, ◌≤◌, ap, ◌∙◌, arith, List, [], ◌∷◌, length, map, drop, sum, get_or}
-use Rattle.std.proofs.Math.Nat.{mul-le-mul_left}
+use Rattle.std.proofs.Common.{◌≡◌, ℕ, ◌+◌, ◌*◌, ◌<◌, ◌≤◌, ap, ◌∙◌, arith, List, [], ◌∷◌, length, map, drop, sum, get_or}
 use Rattle.std.proofs.lemmas.List.{drop_more, drop_all, get_or-map, length-map}
 use Rattle.std.proofs.lemmas.List.Sums.{sum_by-cons}
 use Rattle.alloc_set.specs.Ledger.{class_size, class_bytes, free_bytes, stats}
-use Rattle.alloc_set.specs.Kept.{state_of, shelf_at, no_shelf}
+use Rattle.alloc_set.specs.Kept.{IsKept, shelf_at, no_shelf}
 use Rattle.alloc_set.specs.declared.chunk.Shelf.{Shelf}
-use Rattle.alloc_set.proofs.KeptCut.{count-few}
+use Rattle.alloc_set.specs.declared.books.Books.{Books}
+use Rattle.alloc_set.proofs.Shelved.{count-few, count-bytes}
 use Rattle.alloc_set.proofs.books.Books.stats.Goals as goal
 
--- the bytes of the free chunks of a class are not many
-product : (count size : ℕ) → count ≤ 2 ^ 40 → size ≤ 8192 → count * (size + 8) ≤ 2 ^ 54
-product count size few small =
-    let most : size + 8 ≤ 8200 = omega arith in
-    omega (arith, mul-le-mul_left count most)
+-- the bytes of the free chunks of a class are within the total
+bytes_of : (b : Books) (class size : ℕ) → IsKept b → class < 11 → size ≡ class_size class → (shelf_at b.shelves class).count * (size + 8) ≤ b.total
+bytes_of b class size kept below is = omega (arith, ap (λ n. (shelf_at b.shelves class).count * (n + 8)) is, count-bytes b class kept below)
 
 pub overflow_mul-free : goal.overflow_mul-free
 overflow_mul-free c =
-    let few = count-few (state_of c.args.self.now) c.args.self.now.shelves c.loop-class.class c.requires.shelved c.loop-class-test.true in
-    omega (arith, product (shelf_at c.args.self.now.shelves c.loop-class.class).count c.from-in-loop-class.result few (omega (arith, c.from-in-loop-class.ensures, c.class_size.ensures.most)))
+    omega (arith, bytes_of c.args.self.now c.loop-class.class c.from-in-loop-class.result c.requires c.loop-class-test.true (c.from-in-loop-class.ensures ∙ c.class_size.ensures.value), c.requires.counted.most)
 
 pub overflow_add-free-in-loop-class-2 : goal.overflow_add-free-in-loop-class-2
 overflow_add-free-in-loop-class-2 c =
-    let few = count-few (state_of c.args.self.now) c.args.self.now.shelves c.loop-class.class c.requires.shelved c.loop-class-test.true in
-    omega (arith, product (shelf_at c.args.self.now.shelves c.loop-class.class).count c.from-in-loop-class.result few (omega (arith, c.from-in-loop-class.ensures, c.class_size.ensures.most)), c.loop-class.invariant.most, c.requires.counted.most)
+    omega (arith, bytes_of c.args.self.now c.loop-class.class c.from-in-loop-class.result c.requires c.loop-class-test.true (c.from-in-loop-class.ensures ∙ c.class_size.ensures.value), c.loop-class.invariant.most, c.loop-class-test.true, c.requires.counted.most)
 
 pub overflow_add-chunks : goal.overflow_add-chunks
 overflow_add-chunks c =
-    let few = count-few (state_of c.args.self.now) c.args.self.now.shelves c.loop-class.class c.requires.shelved c.loop-class-test.true in
-    omega (arith, few, c.loop-class.invariant.few)
+    omega (arith, count-few c.args.self.now c.loop-class.class c.requires c.loop-class-test.true, c.loop-class.invariant.few, c.loop-class-test.true)
 
 pub loop-class-preserved : goal.loop-class-preserved
 loop-class-preserved c =
@@ -35,7 +30,7 @@ loop-class-preserved c =
     let class = c.loop-class.class in
     let counts : List ℕ = map (λ (s : Shelf). s.count) b.shelves in
     let count : ℕ = (shelf_at b.shelves class).count in
-    let few = count-few (state_of b) b.shelves class c.requires.shelved c.loop-class-test.true in
+    let few = count-few b class c.requires c.loop-class-test.true in
     let within : class < length b.shelves = omega (arith, c.requires.shelved.eleven, c.loop-class-test.true) in
     let within_counts : class < length counts = omega (arith, within, length-map b.shelves (λ (s : Shelf). s.count)) in
     let here : get_or counts class 0 ≡ count = get_or-map (λ (s : Shelf). s.count) b.shelves class no_shelf 0 within in
@@ -45,11 +40,11 @@ loop-class-preserved c =
     let sums : sum (drop class counts) ≡ count + sum (drop (class + 1) counts) = ap sum split ∙ sum_by-cons (λ (x : ℕ). x) count (drop (class + 1) counts) in
     let size : c.from-in-loop-class.result ≡ class_size class = c.from-in-loop-class.ensures ∙ c.class_size.ensures.value in
     let part : count * (c.from-in-loop-class.result + 8) ≡ class_bytes class * count = ap (λ x. count * (x + 8)) size ∙ omega arith in
-    let bound = product count c.from-in-loop-class.result few (omega (arith, c.from-in-loop-class.ensures, c.class_size.ensures.most)) in
+    let bound = bytes_of b class c.from-in-loop-class.result c.requires c.loop-class-test.true size in
     record {
       free = omega (arith, c.loop-class.invariant.free, bytes, part);
       chunks = omega (arith, c.loop-class.invariant.chunks, sums);
-      most = omega (arith, c.loop-class.invariant.most, bound);
+      most = omega (arith, c.loop-class.invariant.most, bound, c.requires.counted.most);
       few = omega (arith, c.loop-class.invariant.few, few);
     }
 

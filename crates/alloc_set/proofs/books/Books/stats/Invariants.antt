@@ -7,6 +7,6 @@ abbrev pub invariant-loop-class : goal.invariant-loop-class
 invariant-loop-class l = record {
   free : l.free + free_bytes l.class (drop l.class (state_of l.self).ledger.free) ≡ l.self.active.room + l.self.idle + free_bytes 0 (state_of l.self).ledger.free;
   chunks : l.chunks + sum (drop l.class (state_of l.self).ledger.free) ≡ sum (state_of l.self).ledger.free;
-  most : l.free ≤ l.self.total + l.class * 2 ^ 54;
-  few : l.chunks ≤ l.class * 2 ^ 40;
+  most : l.free ≤ l.self.total + l.class * 2 ^ 57;
+  few : l.chunks ≤ l.class * 2 ^ 57;
 }

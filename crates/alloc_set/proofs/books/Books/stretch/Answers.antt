@@ -66,12 +66,11 @@ returns-clause-kept c =
     let was : chunk_at (state_of b) c.args.at ≡ Some (Own n c.args.old) = c.requires.live.1 in
     let is = alone b c.args.at n c.args.old c.requires.kept was in
     let before = noted (state_of b) c.args.at.region (c.args.old + 48) is.1 is.3 in
-    let len = rw was at c.put.ensures.len in
     let test : (c.args.at.region == b.keeper) ≡ false = grind (arith, nat_tests, is.1) in
     let free = c.note_again.ensures.at b.keeper ∙ ap (λ x. if x then Some (c.args.room + 48) else lookup (λ k. b.keeper == k) b.blocks.entries) test ∙ c.requires.kept.counted.keeper in
     IsKept-stretched b m n c.args.old c.args.size c.args.room c.args.at c.requires.kept refl was c.requires.fits c.requires.most
     (stretches b m c.args.at n c.args.old c.args.size c.args.room c.from.result c.from-2.result c.requires.kept refl was c.from.ensures c.from-2.ensures refl c.note_again.ensures.at c.put.ensures.at)
-    (λ f. rw was at (c.put.ensures.sums f)) (omega (arith, len)) (λ f. rw before at (c.note_again.ensures.sums f)) free
+    (λ f. rw was at (c.put.ensures.sums f)) (c.put.ensures.unique c.requires.kept.shelved.unique) (λ f. rw before at (c.note_again.ensures.sums f)) free
     (omega (arith, c.if-self-gt-MOST.false, c.from-2.ensures, c.requires.most))
 
 pub returns-clause-moves : goal.returns-clause-moves

@@ -33,7 +33,7 @@ returns-in-Some-clause-ok c =
       fresh = c.in-Some.ensures.fresh;
       live = c.in-Some.ensures.live;
       stays = c.reuse.ensures.stays;
-      moves = c.in-Some.ensures.moves s c.requires.agrees;
+      moves = c.in-Some.ensures.moves;
       keeps = λ at p q k live again below short. refl;
     })
 
@@ -42,11 +42,11 @@ returns-then-self-class_size-clause-ok c =
     let s = c.args.space.now in
     let t = c.cut.new.space in
     let b = c.args.self.now in
-    let r = c.make_room.new.self in
+    let r = c.reuse.new.self in
     let n = c.cut.new.self in
     let left : ℕ = s.limit - held s b.account in
     let class : ℕ = c.class_of-class.result in
-    let same : state_of r ≡ state_of b = made (goal.at.returns-then-self-class_size-clause-ok c).In_ok-make_room in
+    let same : state_of r ≡ state_of b = ap state_of c.in_default.ensures.none in
     let none : slice_index (state_of r).ledger.free class ≡ 0 = ap (λ (x : SetState). slice_index x.ledger.free class) same ∙ c.in_default.ensures.empty in
     let fits : class_bytes class ≤ r.active.room = omega (arith, c.class_size.ensures.value, c.if-self-class_size.true) in
     Allocates-at (state_of r) (state_of b) n s t c.args.size c.cut.result left class (class_of c.args.size) same c.class_of-class.ensures.value (record {
@@ -68,7 +68,7 @@ returns-in_err-renew-clause-no_space c = λ e.
     let class : ℕ = c.class_of-class.result in
     let same : state_of r ≡ state_of b = made (goal.at.returns-in_err-renew-clause-no_space c).In_ok-make_room in
     let none : slice_index (state_of r).ledger.free class ≡ 0 = ap (λ (x : SetState). slice_index x.ledger.free class) same ∙ c.in_default.ensures.empty in
-    let little : r.active.room < class_bytes class = omega (arith, c.class_size.ensures.value, c.if-self-class_size.false) in
+    let little : r.active.room < class_bytes class = omega (arith, c.class_size.ensures.value, c.if-self-class_size.false, ap (λ (x : SetState). x.ledger.room) c.make_room.ensures.state) in
     let account : r.account ≡ b.account = ap (λ (s : SetState). s.account) same in
     let it : c.in_err-renew.field-0.0 ≡ NoSpace = let p = err_from_is_err_and c.from_residual-in_err-renew.result c.from_residual-in_err-renew.ensures.1 in cc in
     let none_had : block_size (state_of r).ledger left class ≡ None = subst (λ a. block_size (state_of r).ledger (c.args.space.now.limit - held c.args.space.now a) class ≡ None) account (c.in_err-renew.ensures.no_space (ap Err it)) in
@@ -88,7 +88,7 @@ returns-clause-ok c =
     let class : ℕ = c.class_of-class.result in
     let same : state_of r ≡ state_of b = made (goal.at.returns-clause-ok c).In_ok-make_room in
     let none : slice_index (state_of r).ledger.free class ≡ 0 = ap (λ (x : SetState). slice_index x.ledger.free class) same ∙ c.in_default.ensures.empty in
-    let little : r.active.room < class_bytes class = omega (arith, c.class_size.ensures.value, c.if-self-class_size.false) in
+    let little : r.active.room < class_bytes class = omega (arith, c.class_size.ensures.value, c.if-self-class_size.false, ap (λ (x : SetState). x.ledger.room) c.make_room.ensures.state) in
     let account : r.account ≡ b.account = ap (λ (x : SetState). x.account) same in
     let new : Renews r w s u class = c.in_ok-renew.ensures.renewed in
     let had : block_size (state_of r).ledger left class ≡ Some new.size = subst (λ a. block_size (state_of r).ledger (s.limit - held s a) class ≡ Some new.size) account new.had in

@@ -9,7 +9,7 @@ use Rattle.addr_space.proofs.Options.{option_cases}
 use Rattle.chunk_header.specs.declared.CtxError.TheVariants.{NoSpace}
 use Rattle.alloc_set.specs.Ledger.{SetLedger, take_own, with_own, own_size, of_own}
 use Rattle.alloc_set.specs.State.{SetState, chunk_at, region_of, footprint}
-use Rattle.alloc_set.specs.Kept.{state_of, own_bytes}
+use Rattle.alloc_set.specs.Kept.{state_of, taken_bytes}
 use Rattle.addr_space.specs.Live.{PutsLive, SameLive}
 use Rattle.alloc_set.specs.Live.{LeavesLive}
 use Rattle.alloc_set.specs.declared.books.Books.{Books}
@@ -43,11 +43,11 @@ settle-requires-clause-counted c =
       ap (λ (l : SetLedger). l.total) c.in_ok-region.ensures.ledger,
       ap (λ (l : SetLedger). l.room) c.in_ok-region.ensures.ledger,
       ap (λ (l : SetLedger). l.idle) c.in_ok-region.ensures.ledger,
-      ap (λ (x : Books). sum_by own_bytes (values_of x.chunks.entries)) rest,
+      ap (λ (x : Books). sum_by taken_bytes (values_of x.chunks.entries)) rest,
       ap (λ (s : SetState). s.ledger.total) same,
       ap (λ (s : SetState). s.ledger.room) same,
       ap (λ (s : SetState). s.ledger.idle) same,
-      ap (λ (s : SetState). sum_by own_bytes (values_of s.chunks)) same,
+      ap (λ (s : SetState). sum_by taken_bytes (values_of s.chunks)) same,
     )
 
 pub settle-requires-clause-empty : goal.settle-requires-clause-empty

@@ -1,7 +1,7 @@
 use Rattle.std.proofs.Common.{◌≡◌, refl, sym, ◌∙◌, arith, Some, None}
 use Rattle.alloc_set.proofs.Places.{PutsPlace-chunk}
 use Rattle.alloc_set.specs.State.{chunk_at}
-use Rattle.alloc_set.specs.Kept.{state_of, own_bytes, is_free}
+use Rattle.alloc_set.specs.Kept.{state_of, taken_bytes, is_free}
 use Rattle.alloc_set.specs.Steps.{SameBlocks}
 use Rattle.alloc_set.proofs.Shelved.{IsShelved-taken, IsTaken}
 use Rattle.alloc_set.proofs.Unlisted.{IsSettled-unlisted, Moves-unlisted, empty-unlisted}
@@ -36,10 +36,10 @@ returns-clause-kept c =
         total = kept.counted.total;
         most = kept.counted.most;
         blocks = kept.counted.blocks;
-        rooms = omega (arith, kept.counted.rooms, c.forget.ensures.sums own_bytes);
+        rooms = omega (arith, kept.counted.rooms, c.forget.ensures.sums taken_bytes);
       };
       settled = IsSettled-unlisted (state_of b) (state_of (now c)) b.active.region b.active.size c.args.at kept.settled (same c) refl c.forget.ensures.at;
-      shelved = IsShelved-taken (state_of b) (state_of (now c)) b.shelves c.args.at None kept.shelved c.forget.ensures.at (omega (arith, c.forget.ensures.len, kept.shelved.few)) taken
+      shelved = IsShelved-taken (state_of b) (state_of (now c)) b.shelves c.args.at None kept.shelved c.forget.ensures.at c.forget.ensures.unique taken
           (λ k under. let sums = rw was at (c.forget.ensures.sums (is_free k)) in omega (arith, sums));
     }
 

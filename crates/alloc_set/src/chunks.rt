@@ -1,0 +1,127 @@
+//! Which chunks stand where.
+ghost use Rattle.std.specs.Prelude.{◌≡◌, ℕ, ◌+◌, List, [], Some, None, sum_by, unwrap_or, option_map, if◌then◌else◌};
+ghost use base.Fml.{ftrue};
+ghost use Rattle.std.specs.Map.{values_of, lookup};
+ghost use Rattle.addr_space.specs.declared.Addr.{Addr};
+ghost use Rattle.addr_space.specs.Live.{same_addr};
+ghost use Rattle.alloc_set.specs.declared.chunk.Chunk.{Chunk};
+ghost use Rattle.alloc_set.specs.Listed.{with_chunk, without_chunk, IsUnique};
+
+use crate::chunk::Chunk;
+use addr_space::Addr;
+use std::marker::{Model, PhantomData};
+
+/// How the chunks are read off a value.
+pub trait Tells<X> {
+    ghost told: { X → List (Addr × Chunk) };
+}
+
+/// What stands at each address where a chunk was cut.
+///
+/// It takes no memory and owns none: it says what the clauses of its owner tell. The code reads a chunk's header and a
+/// free chunk's link in the space.
+pub struct Chunks {
+    marker: PhantomData<()>,
+    pub ghost entries: { List (Addr × Chunk) },
+}
+
+impl Model for Chunks {
+    ghost also_owns = { λ _. ftrue };
+}
+
+impl Chunks {
+    #[inline]
+    fn of<X, M: Tells<X>>(x: &X) -> Chunks
+        ensures { result.entries ≡ M.told x.now }
+    {
+        let _ = x;
+        Chunks {
+            marker: PhantomData,
+        }
+    }
+}
+
+impl Drop for Chunks {
+    #[inline]
+    fn drop(self) {
+        let Self { marker: _ } = self;
+    }
+}
+
+// A chunk that is put at an address.
+#[derive(Drop)]
+struct Noted<'a> {
+    chunks: &'a Chunks,
+    at: Addr,
+    chunk: Chunk,
+}
+
+// An address whose chunk is taken off.
+#[derive(Drop)]
+struct Struck<'a> {
+    chunks: &'a Chunks,
+    at: Addr,
+}
+
+struct Rule;
+
+impl Tells<()> for Rule {
+    ghost told = { λ _. [] };
+}
+
+impl<'a> Tells<Noted<'a>> for Rule {
+    ghost told = { λ p. with_chunk p.chunks.now.entries p.at p.chunk };
+}
+
+impl<'a> Tells<Struck<'a>> for Rule {
+    ghost told = { λ g. without_chunk g.chunks.now.entries g.at };
+}
+
+impl Chunks {
+    /// No chunk.
+    #[inline]
+    pub fn none() -> Chunks
+        ensures { result.entries ≡ [] }
+    {
+        Chunks::of::<(), Rule>(&())
+    }
+
+    // The same with a chunk at an address.
+    #[inline]
+    fn with(&self, at: Addr, chunk: Chunk) -> Chunks
+        ensures { result.entries ≡ with_chunk self.now.entries at chunk }
+    {
+        let chunks = self;
+        Chunks::of::<Noted, Rule>(&Noted { chunks, at, chunk })
+    }
+
+    // The same with none there.
+    #[inline]
+    fn without(&self, at: Addr) -> Chunks
+        ensures { result.entries ≡ without_chunk self.now.entries at }
+    {
+        let chunks = self;
+        Chunks::of::<Struck, Rule>(&Struck { chunks, at })
+    }
+}
+
+/// Notes what stands at an address.
+#[inline]
+pub fn put(chunks: &mut Chunks, at: Addr, chunk: Chunk)
+    ensures at { (other : Addr) → lookup (same_addr other) chunks.new.entries ≡ (if same_addr at other then Some chunk else lookup (same_addr other) chunks.old.entries) }
+    ensures sums { (f : Chunk → ℕ) → sum_by f (values_of chunks.new.entries) + unwrap_or (option_map f (lookup (same_addr at) chunks.old.entries)) 0 ≡ sum_by f (values_of chunks.old.entries) + f chunk }
+    ensures unique { IsUnique chunks.old.entries → IsUnique chunks.new.entries }
+{
+    *chunks = chunks.with(at, chunk);
+}
+
+/// Takes off what stands at an address.
+#[inline]
+pub fn forget(chunks: &mut Chunks, at: Addr)
+    requires { IsUnique chunks.old.entries }
+    ensures at { (other : Addr) → lookup (same_addr other) chunks.new.entries ≡ (if same_addr at other then None else lookup (same_addr other) chunks.old.entries) }
+    ensures sums { (f : Chunk → ℕ) → sum_by f (values_of chunks.new.entries) + unwrap_or (option_map f (lookup (same_addr at) chunks.old.entries)) 0 ≡ sum_by f (values_of chunks.old.entries) }
+    ensures unique { IsUnique chunks.new.entries }
+{
+    *chunks = chunks.without(at);
+}
