@@ -1,11 +1,10 @@
 -- Requests that are served in steps.
-use Rattle.std.proofs.Common.{◌≡◌, ℕ, Some, Result, Ok, true, false, Bool, Option, option_map, if◌then◌else◌, refl, sym, ap, subst, ◌∙◌}
+use Rattle.std.proofs.Common.{◌≡◌, ℕ, Some, Ok, true, false, Bool, Option, option_map, if◌then◌else◌, refl, sym, ap, subst, ◌∙◌}
 use Rattle.addr_space.specs.declared.Addr.{Addr}
 use Rattle.addr_space.specs.Space.{Space, Asks, raised}
 use Rattle.addr_space.specs.Footprint.{Moves, Keeps}
 use Rattle.addr_space.specs.Live.{same_addr, PutsAt}
 use Rattle.addr_space.proofs.Steps.{Moves-more, Keeps-more}
-use Rattle.chunk_header.specs.declared.CtxError.{CtxError}
 use Rattle.ctx_blocks.specs.Layout.{Layout, chunk_at, footprint}
 use Rattle.ctx_blocks.specs.Steps.{PutsChunk}
 use Rattle.ctx_blocks.specs.declared.parts.Chunk.{Chunk}
@@ -14,7 +13,6 @@ use Rattle.bump_ctx.specs.State.{place_in}
 use Rattle.bump_ctx.specs.Steps.{Allocates}
 use Rattle.bump_ctx.specs.declared.books.Books.{Books}
 use Rattle.ctx_blocks.proofs.Changed.{stays_live}
-use Rattle.ctx_blocks.proofs.Spared.{footprint-spare}
 
 choose : (b : Bool) (chunk : Chunk) (other : Option Chunk) → option_map (λ (c : Chunk). Anywhere) (if b then Some chunk else other) ≡ (if b then Some Anywhere else option_map (λ (c : Chunk). Anywhere) other)
 choose true chunk other = refl
@@ -43,19 +41,3 @@ allocates_more b m n s t u size at l asked same account moves keeps asks rest =
       moves = Moves-more (footprint b.blocks) (footprint m.blocks) (footprint n.blocks) s t u moves rest.moves;
       keeps = Keeps-more (footprint b.blocks) (footprint m.blocks) (footprint n.blocks) s t u (stays_live b.blocks m.blocks same) keeps rest.keeps;
     }
-
--- after room was made
-module _ (b : Books) (i j : ℕ) where
-  pub allocates_made : (n : Books) (s t : Space) (size : ℕ) (at : Addr) (step : Result BumpTaken CtxError) → Allocates (record b { blocks = record b.blocks { spare_blocks = i; spare_chunks = j } }) n s t size at step → Allocates b n s t size at step
-  allocates_made n s t size at step rest = record {
-    kept = rest.kept;
-    answer = rest.answer;
-    is = rest.is;
-    ledger = rest.ledger;
-    place = rest.place;
-    asked = rest.asked;
-    fresh = rest.fresh;
-    live = rest.live;
-    moves = rw (← footprint-spare b.blocks i j) rest.moves;
-    keeps = rest.keeps;
-  }

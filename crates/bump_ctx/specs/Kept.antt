@@ -1,7 +1,7 @@
 -- What holds of the insides of a Bump context.
 use Rattle.std.specs.Prelude.{◌≡◌, ℕ, ◌-◌, length, Option, Some, None}
 use Rattle.chunk_header.specs.declared.Kind.TheVariants.{Bump}
-use Rattle.ctx_blocks.specs.Layout.{Layout, block_at, total, rooms, bare}
+use Rattle.ctx_blocks.specs.Layout.{Layout, block_at, total, rooms}
 use Rattle.ctx_blocks.specs.declared.parts.Block.{Block}
 use Rattle.bump_ctx.specs.Ledger.{BumpLedger}
 use Rattle.bump_ctx.specs.State.{BumpState}
@@ -31,7 +31,7 @@ ledger_of b = record {
 
 -- the value that contracts see
 abbrev pub state_of : Books → BumpState
-state_of b = record { ledger = ledger_of b; layout = bare b.blocks }
+state_of b = record { ledger = ledger_of b; layout = b.blocks }
 
 -- all that the code keeps
 pub record IsKept (b : Books) : Type 0 where

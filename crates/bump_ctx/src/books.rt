@@ -119,7 +119,6 @@ impl Books {
         requires fits { size ≤ room }
         requires whole { room % 8 ≡ 0 }
         requires value { room < 2 ^ 30 }
-        requires spare { 1 ≤ self.old.blocks.spare_chunks }
         ensures { Allocates self.old self.new space.old space.new size result (Ok (served (cut_off (ledger_of self.old) room) 0)) }
     {
         self.blocks.cut(space, self.newest, size, room, false)
@@ -132,12 +131,10 @@ impl Books {
         requires agrees { Agrees (footprint self.old.blocks) space.old }
         requires some { 8 ≤ room }
         requires most { room ≤ 524288 }
-        requires spare { 1 ≤ self.old.blocks.spare_blocks }
         ensures kept { OnOk result (IsKept self.new) }
         ensures ledger { OnOk result (ledger_of self.new ≡ renewed (ledger_of self.old) (block_size (ledger_of self.old) room)) }
         ensures room { OnOk result (room ≤ room_at self.new.blocks self.new.newest) }
         ensures chunks { OnOk result (self.new.blocks.chunks ≡ self.old.blocks.chunks) }
-        ensures spare { OnOk result (self.new.blocks.spare_chunks ≡ self.old.blocks.spare_chunks) }
         ensures account { OnOk result (self.new.blocks.account ≡ self.old.blocks.account) }
         ensures moves { OnOk result (Moves (footprint self.old.blocks) (footprint self.new.blocks) space.old space.new) }
         ensures keeps { OnOk result (Keeps (footprint self.old.blocks) (footprint self.new.blocks) space.old space.new) }
@@ -159,8 +156,6 @@ impl Books {
         requires kept { IsKept self.old }
         requires agrees { Agrees (footprint self.old.blocks) space.old }
         requires size { size ≤ 524288 }
-        requires spare_blocks { 1 ≤ self.old.blocks.spare_blocks }
-        requires spare_chunks { 1 ≤ self.old.blocks.spare_chunks }
         ensures ok { IfOk result (λ at. Allocates self.old self.new space.old space.new size at (take_cut (ledger_of self.old) (space.old.limit - held space.old self.old.blocks.account) (granted size))) }
         ensures no_space { result ≡ Err CtxError.NoSpace → take_cut (ledger_of self.old) (space.old.limit - held space.old self.old.blocks.account) (granted size) ≡ Err CtxError.NoSpace }
         ensures no_other { IfErr result (λ e. (e ≡ CtxError.NoSpace) ⊎ (e ≡ CtxError.Memory)) }
@@ -180,8 +175,6 @@ impl Books {
         requires kept { IsKept self.old }
         requires agrees { Agrees (footprint self.old.blocks) space.old }
         requires size { size < 2 ^ 30 }
-        requires spare_blocks { 1 ≤ self.old.blocks.spare_blocks }
-        requires spare_chunks { 1 ≤ self.old.blocks.spare_chunks }
         ensures ok { IfOk result (λ at. Allocates self.old self.new space.old space.new size at (take_own (ledger_of self.old) (space.old.limit - held space.old self.old.blocks.account) (granted size + 40))) }
         ensures no_space { result ≡ Err CtxError.NoSpace → take_own (ledger_of self.old) (space.old.limit - held space.old self.old.blocks.account) (granted size + 40) ≡ Err CtxError.NoSpace }
         ensures no_other { IfErr result (λ e. (e ≡ CtxError.NoSpace) ⊎ (e ≡ CtxError.Memory)) }
@@ -193,13 +186,11 @@ impl Books {
         Ok(self.blocks.cut(space, number, size, room, true))
     }
 
-    // Serves a request for which room was made.
+    // Serves a request of a size that isn't too big.
     fn take(&mut self, space: &mut Space, size: u32) -> Result<Addr, CtxError>
         requires kept { IsKept self.old }
         requires agrees { Agrees (footprint self.old.blocks) space.old }
         requires size { size ≤ 1073741823 }
-        requires spare_blocks { 1 ≤ self.old.blocks.spare_blocks }
-        requires spare_chunks { 1 ≤ self.old.blocks.spare_chunks }
         ensures ok { IfOk result (λ at. Allocates self.old self.new space.old space.new size at (take (ledger_of self.old) (space.old.limit - held space.old self.old.blocks.account) size)) }
         ensures no_space { result ≡ Err CtxError.NoSpace → take (ledger_of self.old) (space.old.limit - held space.old self.old.blocks.account) size ≡ Err CtxError.NoSpace }
         ensures no_other { IfErr result (λ e. (e ≡ CtxError.NoSpace) ⊎ (e ≡ CtxError.Memory)) }
@@ -227,7 +218,6 @@ impl Books {
         if size > LARGEST {
             return Err(CtxError::TooBig);
         }
-        self.blocks.make_room()?;
         self.take(space, size as u32)
     }
 

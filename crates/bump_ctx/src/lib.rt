@@ -102,7 +102,6 @@ impl BumpCtx {
     ///
     /// `TooBig`, where `size` is over 1,073,741,823, `NoSpace` and `Memory` are tried in this order. A refused call
     /// changes nothing.
-    #[tactic(auto, using(ctx_blocks::proofs::Spared::agrees_bare, ctx_blocks::proofs::Spared::moves_bare))]
     pub fn alloc(&mut self, space: &mut Space, size: u64) -> Result<Addr, CtxError>
         requires { Agrees (footprint self.old) space.old }
 
@@ -161,7 +160,6 @@ impl BumpCtx {
 
     /// Frees all chunks and gives every block but the first back: `BumpReset`. The ledger is that of a new context. It
     /// takes no memory.
-    #[tactic(auto, using(ctx_blocks::proofs::Spared::agrees_bare, ctx_blocks::proofs::Spared::moves_bare))]
     pub fn reset(&mut self, space: &mut Space)
         requires agrees { Agrees (footprint self.old) space.old }
         ensures ledger { self.new.ledger ≡ reset self.old.ledger }

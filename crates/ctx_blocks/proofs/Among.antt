@@ -1,5 +1,5 @@
 -- Blocks that are among those of another layout, and numbers that stay.
-use Rattle.std.proofs.Common.{◌≡◌, ◌≢◌, ℕ, Option, Some, None, refl, ap, sym, ◌∙◌, arith, inl, inr}
+use Rattle.std.proofs.Common.{◌≡◌, ℕ, Option, Some, None, refl, ap, sym, ◌∙◌, arith, inl, inr}
 use Rattle.std.proofs.lemmas.Bool.{cases_eq}
 use Rattle.addr_space.proofs.Options.{one_value}
 use Rattle.ctx_blocks.specs.Layout.{Layout, block_at}

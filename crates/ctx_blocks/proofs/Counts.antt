@@ -1,13 +1,10 @@
 -- Lemmas on the counts of live chunks.
-use Rattle.std.proofs.Common.{◌≡◌, ◌≢◌, ℕ, ◌+◌, ◌≤◌, ◌==◌, if◌then◌else◌, List, [], ◌∷◌, Option, Some, None, true, false, is_some, position, refl, sym, ap, ◌∙◌, arith, inl, inr, sum_by, get_or}
-use Rattle.std.specs.Map.{lookup, keys_of}
+use Rattle.std.proofs.Common.{◌≡◌, ◌≢◌, ℕ, ◌+◌, ◌≤◌, ◌==◌, if◌then◌else◌, List, [], ◌∷◌, Some, None, true, false, is_some, refl, sym, ap, ◌∙◌, arith, inl, inr, sum_by}
+use Rattle.std.specs.Map.{lookup}
 use Rattle.std.proofs.lemmas.Bool.{cases_eq}
 use Rattle.std.proofs.lemmas.Bool.Decides.{nat_tests}
-use Rattle.std.proofs.lemmas.List.{get_or-map}
-use Rattle.std.proofs.lemmas.List.Quantifiers.{position-Some}
-use Rattle.std.proofs.lemmas.List.Sums.{sum_by-cons, sum_by-swap_remove}
-use Rattle.indexmap.specs.IndexMap.{insert_entry, swap_remove_entry}
-use Rattle.indexmap.proofs.MapLemmas.{Found-position, some_index, swap_remove_entry-found}
+use Rattle.std.proofs.lemmas.List.Sums.{sum_by-cons}
+use Rattle.indexmap.specs.IndexMap.{insert_entry}
 use Rattle.addr_space.specs.declared.Addr.{Addr}
 use Rattle.addr_space.specs.Live.{same_addr}
 use Rattle.ctx_blocks.specs.Layout.{Layout, chunk_at, block_at, is_in, count_in}
@@ -60,21 +57,6 @@ none_in l counted number block at owned none region =
 
 pub some_in : (l : Layout) → IsCounted l → (at : Addr) (chunk : Chunk) (block : Block) → chunk_at l at ≡ Some chunk → block_at l at.region ≡ Some block → 1 ≤ block.live
 some_in l counted at chunk block found owned = omega (arith, counted at.region block owned, counted_some l at chunk found)
-
--- what the count loses where a chunk is taken out
-pub count-removed : (number : ℕ) (at : Addr) (chunk : Chunk) (es : List (Addr × Chunk)) → lookup (same_addr at) es ≡ Some chunk → sum_by (is_in number) (swap_remove_entry (same_addr at) es) + one_in number at.region ≡ sum_by (is_in number) es
-count-removed number at chunk es found = by (position (same_addr at) (keys_of es)) refl
-  where
-    by : (r : Option ℕ) → position (same_addr at) (keys_of es) ≡ r → sum_by (is_in number) (swap_remove_entry (same_addr at) es) + one_in number at.region ≡ sum_by (is_in number) es
-    by None none = let clash = sym (ap is_some found) ∙ sym (some_index (same_addr at) es) ∙ ap is_some none in absurd (cc)
-    by (Some i) some =
-        let d : Addr × Chunk = (at, chunk) in
-        let it = Found-position (same_addr at) es i some in
-        let passes = position-Some (same_addr at) (keys_of es) i at some in
-        let key : get_or (keys_of es) i at ≡ (get_or es i d).0 = get_or-map (λ (e : Addr × Chunk). e.0) es i d at it.within in
-        let one : is_in number (get_or es i d) ≡ one_in number at.region = same_region number at (get_or es i d).0 (ap (same_addr at) (sym key) ∙ passes.1) in
-        let entries = swap_remove_entry-found (same_addr at) es i d some in
-        omega (arith, ap (sum_by (is_in number)) entries, sum_by-swap_remove (is_in number) es i d it.within, one)
 
 -- where a region counts a chunk one is live there
 some_step : (number : ℕ) (e : Addr × Chunk) (es : List (Addr × Chunk)) → 1 ≤ sum_by (is_in number) (e ∷ es) → (1 ≤ sum_by (is_in number) es → (at : Addr) × (x : Chunk) × (at.region ≡ number) × (lookup (same_addr at) es ≡ Some x))

@@ -1,7 +1,9 @@
 pub mod Entries
+pub mod Found
 pub mod Laid
 pub mod Changed
 pub mod Counts
+pub mod LiveChunks
 pub mod Headed
 pub mod New
 pub mod Lessened

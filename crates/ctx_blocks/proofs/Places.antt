@@ -1,10 +1,10 @@
 -- Numbers of blocks and places of live chunks, once a block or a chunk is another one.
-use Rattle.std.proofs.Common.{◌≡◌, ◌≢◌, ℕ, Bool, true, false, if◌then◌else◌, Option, Some, None, unwrap_or, option_map, refl, ap, sym, ◌∙◌, arith, inl, inr}
+use Rattle.std.proofs.Common.{◌≡◌, ℕ, Bool, true, false, if◌then◌else◌, Option, Some, None, unwrap_or, option_map, refl, ap, sym, ◌∙◌, arith, inl, inr}
 use Rattle.std.proofs.lemmas.Bool.{cases_eq}
 use Rattle.addr_space.specs.declared.Addr.{Addr}
 use Rattle.addr_space.specs.Space.{Space}
-use Rattle.addr_space.specs.Footprint.{Agrees, Moves}
-use Rattle.addr_space.specs.Live.{same_addr, PutsAt, MovesAt}
+use Rattle.addr_space.specs.Footprint.{Agrees}
+use Rattle.addr_space.specs.Live.{same_addr, PutsAt}
 use Rattle.addr_space.proofs.Options.{one_value}
 use Rattle.addr_space.proofs.Addresses.{same_addr_from}
 use Rattle.ctx_blocks.specs.Layout.{Layout, block_at, chunk_at, footprint}
@@ -13,7 +13,7 @@ use Rattle.ctx_blocks.specs.Steps.{PutsBlock, PutsChunk}
 use Rattle.ctx_blocks.specs.declared.parts.Block.{Block}
 use Rattle.ctx_blocks.specs.declared.parts.Chunk.{Chunk}
 use Rattle.ctx_blocks.proofs.Changed.{put_here, put_other}
-use Rattle.ctx_blocks.proofs.Laid.{live_is, put_cases}
+use Rattle.ctx_blocks.proofs.Laid.{live_is}
 
 -- the number of a block that is there
 pub number_is : (l : Layout) (region : ℕ) (block : Block) → block_at l region ≡ Some block → number_of l region ≡ block.number

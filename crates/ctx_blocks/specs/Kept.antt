@@ -1,8 +1,8 @@
 -- What holds of the blocks of a context and of the chunks in them.
 use Rattle.std.specs.Prelude.{◌≡◌, ℕ, ◌+◌, ◌-◌, ◌*◌, ◌%◌, ◌^◌, ◌<◌, ◌≤◌, ◌⊎◌, List, [], ◌∷◌, Some, true}
 use Rattle.addr_space.specs.declared.Addr.{Addr}
-use Rattle.indexmap.specs.IndexMap.{spare}
 use Rattle.ctx_blocks.specs.Layout.{Layout, block_at, chunk_at, start_of, header_room, whole_of, count_in, total}
+use Rattle.ctx_blocks.specs.Steps.{AreUnique}
 use Rattle.ctx_blocks.specs.declared.parts.Block.{Block}
 use Rattle.ctx_blocks.specs.declared.parts.Chunk.{Chunk}
 use Rattle.ctx_blocks.specs.declared.books.Books.{Books}
@@ -18,8 +18,6 @@ layout_of b = record {
   last_number = b.last_number;
   blocks = b.blocks.entries;
   chunks = b.chunks.entries;
-  spare_blocks = spare b.blocks;
-  spare_chunks = spare b.chunks;
 }
 
 -- there is a block in a region, and it has so many bytes
@@ -82,3 +80,4 @@ pub record IsKept (b : Books) : Type 0 where
   pub numbered : AreRising b.first_number b.last_number b.blocks.entries
   pub total : b.total ≡ total (layout_of b)
   pub most : b.total ≤ 2 ^ 62
+  pub unique : AreUnique b.chunks.entries

@@ -13,7 +13,7 @@ use Rattle.addr_space.specs.Live.{same_addr}
 
 -- the kind of the context; the account and the number that it was created with; the region of the keeper; the
 -- numbers of the keeper and of the block that was taken last; each block by its region, in the order in which they
--- were taken; each live chunk by its address; and for how many more blocks and chunks room was made
+-- were taken; and each live chunk by its address
 pub record Layout : Type 0 where
   pub kind : Kind
   pub account : ℕ
@@ -23,12 +23,6 @@ pub record Layout : Type 0 where
   pub last_number : ℕ
   pub blocks : List (ℕ × Block)
   pub chunks : List (Addr × Chunk)
-  pub spare_blocks : ℕ
-  pub spare_chunks : ℕ
-
--- the blocks and live chunks alone: that room was made for more of them doesn't count
-abbrev pub bare : Layout → Layout
-bare l = record l { spare_blocks = 0; spare_chunks = 0 }
 
 -- the block in a region, and the live chunk at an address
 abbrev pub block_at : Layout → ℕ → Option Block

@@ -1,5 +1,6 @@
 -- What calls do to the blocks and chunks of a context.
-use Rattle.std.specs.Prelude.{◌≡◌, ℕ, ◌==◌, List, Option, Some, None, if◌then◌else◌}
+use Rattle.std.specs.Prelude.{◌≡◌, ℕ, ◌==◌, List, [], ◌∷◌, Option, Some, None, false, if◌then◌else◌, unwrap_or}
+use Rattle.std.specs.Map.{lookup}
 use Rattle.addr_space.specs.declared.Addr.{Addr}
 use Rattle.addr_space.specs.Space.{Space}
 use Rattle.addr_space.specs.Footprint.{Agrees, Moves}
@@ -16,6 +17,25 @@ with_block blocks number block = insert_entry (λ a b. a == b) blocks number blo
 -- the blocks without that of a region, in their order
 abbrev pub without_block : List (ℕ × Block) → ℕ → List (ℕ × Block)
 without_block blocks number = shift_remove_entry (λ n. number == n) blocks
+
+-- a chunk without bytes
+abbrev pub no_chunk : Chunk
+no_chunk = record { size = 0; room = 0; own = false }
+
+-- the live chunks with this one at its address, with another size of the one there, or without that
+abbrev pub with_chunk : List (Addr × Chunk) → Addr → Chunk → List (Addr × Chunk)
+with_chunk chunks at chunk = insert_entry same_addr chunks at chunk
+
+abbrev pub with_size : List (Addr × Chunk) → Addr → ℕ → List (Addr × Chunk)
+with_size chunks at size = with_chunk chunks at (record (unwrap_or (lookup (same_addr at) chunks) no_chunk) { size = size })
+
+abbrev pub without_chunk : List (Addr × Chunk) → Addr → List (Addr × Chunk)
+without_chunk chunks at = shift_remove_entry (same_addr at) chunks
+
+-- no two chunks of a list are at one address
+abbrev pub AreUnique : List (Addr × Chunk) → Type 0
+AreUnique [] = Unit {0}
+AreUnique (e ∷ es) = (lookup (same_addr e.0) es ≡ None) × AreUnique es
 
 -- one region has another block, and every other block stays, in its place
 pub record PutsBlock (l m : Layout) (number : ℕ) (block : Block) : Type 0 where

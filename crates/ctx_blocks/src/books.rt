@@ -1,20 +1,22 @@
 //! The books of the blocks: where each is, and the live chunks in them.
-ghost use Rattle.std.specs.Prelude.{◌≡◌, ◌≢◌, ℕ, ◌+◌, ◌-◌, ◌*◌, ◌%◌, ◌^◌, ◌<◌, ◌≤◌, ◌↔◌, ◌⊎◌, ◌==◌, Ok, Err, Some, None, IfOk, IfErr, OnOk, OnErr, if◌then◌else◌, is_some, length, sum_by, [], ◌∷◌, ◌++◌, take, true, false, map, slice_get};
+ghost use Rattle.std.specs.Prelude.{◌≡◌, ◌≢◌, ℕ, ◌+◌, ◌-◌, ◌*◌, ◌%◌, ◌^◌, ◌<◌, ◌≤◌, ◌↔◌, ◌⊎◌, ◌==◌, Ok, Err, Some, None, IfOk, IfErr, OnOk, OnErr, if◌then◌else◌, length, [], ◌∷◌, ◌++◌, take, true, false, map, slice_get, IsTrue, IfSome, IfNone};
 ghost use Rattle.std.specs.Map.{lookup};
 ghost use Rattle.indexmap.specs.IndexMap.{spare};
 ghost use Rattle.addr_space.specs.declared.Addr.{Addr};
 ghost use Rattle.addr_space.specs.Space.{Space, Asks, accounts, held, region_at, overwritten, IsKnown, Changes};
 ghost use Rattle.addr_space.specs.Footprint.{Agrees, Moves, Keeps, KeepsBut, nothing};
+ghost use Rattle.chunk_header.specs.declared.Kind.TheVariants.{Slab, Generation};
 ghost use Rattle.chunk_header.specs.Header.{header_bytes};
 ghost use Rattle.ctx_blocks.specs.declared.parts.Block.{Block};
 ghost use Rattle.ctx_blocks.specs.declared.parts.Chunk.{Chunk};
-ghost use Rattle.addr_space.specs.Live.{same_addr, HasBytesOf};
-ghost use Rattle.ctx_blocks.specs.Layout.{Layout, block_at, chunk_at, total, rooms, all_freed, is_in, start_of, header_room, gap_of, whole_of, header_of, footprint, keeper_alone, whole_block};
+ghost use Rattle.addr_space.specs.Live.{HasBytesOf};
+ghost use Rattle.ctx_blocks.specs.Layout.{Layout, block_at, chunk_at, total, rooms, all_freed, start_of, header_room, gap_of, whole_of, header_of, footprint, keeper_alone, whole_block};
 ghost use Rattle.ctx_blocks.specs.Steps.{with_block, without_block, PutsBlock, DropsBlock, PutsChunk, SameContext, MovesStill};
 
+use crate::chunks::Chunks;
 use crate::parts::{Block, Chunk};
 use addr_space::{Addr, Space};
-use chunk_header::{CtxError, Header, Kind, block_header};
+use chunk_header::{CtxError, Header, Kind, block_header, header_at};
 use indexmap::IndexMap;
 use std::alloc::Global;
 
@@ -31,27 +33,17 @@ pub struct Books {
     pub last_number: u64,
     // The blocks in the order in which they were taken.
     pub blocks: IndexMap<u32, Block>,
-    // The live chunks.
-    pub chunks: IndexMap<Addr, Chunk>,
+    // The places among them of the blocks that got a chunk last and that lost one last, which are looked at first.
+    pub gained: usize,
+    pub lost: usize,
+    // The live chunks, which the clauses alone tell.
+    pub chunks: Chunks,
     // The bytes of all regions.
     pub total: u64,
 }
 
 // The greatest total with which a context takes one more block, in bytes.
 const MOST: u64 = 1 << 61;
-
-// Notes a chunk at an address where room was made, or where a chunk stands already.
-fn put(chunks: &mut IndexMap<Addr, Chunk>, at: Addr, chunk: Chunk)
-    requires { (lookup (same_addr at) chunks.old.entries ≡ None) → 0 < spare chunks.old }
-    ensures at { (other : Addr) → lookup (same_addr other) chunks.new.entries ≡ (if same_addr at other then Some chunk else lookup (same_addr other) chunks.old.entries) }
-    ensures count { (number : ℕ) → sum_by (is_in number) chunks.new.entries + (if is_some (lookup (same_addr at) chunks.old.entries) then (if at.region == number then 1 else 0) else 0) ≡ sum_by (is_in number) chunks.old.entries + (if at.region == number then 1 else 0) }
-    ensures spare { spare chunks.old ≤ spare chunks.new + 1 }
-{
-    match chunks.insert(at, chunk) {
-        Ok(_) => {}
-        Err(_) => unreachable!(),
-    }
-}
 
 // Notes a block for which room was made, or that stands already.
 fn note(blocks: &mut IndexMap<u32, Block>, number: u32, block: Block)
@@ -62,6 +54,19 @@ fn note(blocks: &mut IndexMap<u32, Block>, number: u32, block: Block)
     match blocks.insert(number, block) {
         Ok(_) => {}
         Err(_) => unreachable!(),
+    }
+}
+
+// Makes the block of a region, which stands at a place, another one.
+#[inline]
+fn change(blocks: &mut IndexMap<u32, Block>, place: usize, number: u32, block: Block)
+    requires { (b : Block) × (slice_get blocks.old.entries place ≡ Some (number, b)) }
+    ensures blocks { blocks.new.entries ≡ with_block blocks.old.entries number block }
+    ensures at { (other : ℕ) → lookup (λ n. other == n) blocks.new.entries ≡ (if number == other then Some block else lookup (λ n. other == n) blocks.old.entries) }
+{
+    match blocks.get_index_mut(place) {
+        Some(slot) => *slot = block,
+        None => unreachable!(),
     }
 }
 
@@ -94,7 +99,9 @@ impl Books {
             first_number: 0,
             last_number: 0,
             blocks,
-            chunks: IndexMap::new(alloc),
+            gained: 0,
+            lost: 0,
+            chunks: Chunks::none(),
             total: 200,
         })
     }
@@ -160,12 +167,15 @@ impl Books {
             first_number: first,
             last_number: first,
             blocks,
-            chunks: IndexMap::new(alloc),
+            gained: 0,
+            lost: 0,
+            chunks: Chunks::none(),
             total: u64::from(size),
         })
     }
 
     // How many bytes of a region stand before the header of its block.
+    #[inline]
     fn start(&self, number: u32) -> u32
         ensures { result ≡ start_of (layout_of self.now) number }
     {
@@ -173,6 +183,7 @@ impl Books {
     }
 
     // The bytes of the header of a chunk.
+    #[inline]
     fn gap(&self) -> u32
         ensures { result ≡ header_room (layout_of self.now) }
     {
@@ -183,73 +194,135 @@ impl Books {
     }
 
     // The room that a block of so many bytes has while it is empty.
+    #[inline]
     fn whole(&self, number: u32, size: u32) -> u32
         ensures { result ≡ whole_of (layout_of self.now) number size }
     {
         size.saturating_sub(self.start(number)).saturating_sub(40)
     }
 
+    // Whether the block of a region stands at a place.
+    #[inline]
+    fn is_at(&self, place: usize, number: u32) -> bool
+        ensures { IsTrue result → (b : Block) × (slice_get self.now.blocks.entries place ≡ Some (number, b)) × (block_at (layout_of self.now) number ≡ Some b) }
+    {
+        match self.blocks.get_index(place) {
+            Some((other, _)) => *other == number,
+            None => false,
+        }
+    }
+
+    // The place of the block in a region among the blocks, if there is one.
+    #[inline]
+    fn find(&self, number: u32) -> Option<usize>
+        ensures some { IfSome result (λ place. (b : Block) × (slice_get self.now.blocks.entries place ≡ Some (number, b)) × (block_at (layout_of self.now) number ≡ Some b)) }
+        ensures none { IfNone result (block_at (layout_of self.now) number ≡ None) }
+    {
+        if self.is_at(self.gained, number) {
+            return Some(self.gained);
+        }
+        if self.is_at(self.lost, number) {
+            return Some(self.lost);
+        }
+        match self.blocks.get_full(&number) {
+            Some((place, _, _)) => Some(place),
+            None => None,
+        }
+    }
+
     // The block in a region, if it is the context's.
+    #[inline]
     pub fn block(&self, number: u32) -> Option<Block>
         ensures { result ≡ block_at (layout_of self.now) number }
     {
-        self.blocks.get(&number).copied()
+        let place = self.find(number)?;
+        Some(self.at(place).1)
     }
 
-    // The live chunk at an address, if there is one.
-    pub fn chunk(&self, at: Addr) -> Option<Chunk>
-        ensures { result ≡ chunk_at (layout_of self.now) at }
-    {
-        self.chunks.get(&at).copied()
-    }
-
-    // The block in a region of the context.
-    fn owned(&self, number: u32) -> Block
+    // The place of the block in a region of the context.
+    #[inline]
+    fn seek(&self, number: u32) -> usize
         requires { (b : Block) × (block_at (layout_of self.now) number ≡ Some b) }
+        ensures { (b : Block) × (slice_get self.now.blocks.entries result ≡ Some (number, b)) × (block_at (layout_of self.now) number ≡ Some b) }
+    {
+        match self.find(number) {
+            Some(place) => place,
+            None => unreachable!(),
+        }
+    }
+
+    // The block in a region, which stands at a place.
+    #[inline]
+    fn owned(&self, place: usize, number: u32) -> Block
+        requires { (b : Block) × (slice_get self.now.blocks.entries place ≡ Some (number, b)) × (block_at (layout_of self.now) number ≡ Some b) }
         ensures { block_at (layout_of self.now) number ≡ Some result }
     {
-        match self.block(number) {
-            Some(block) => block,
-            None => unreachable!(),
-        }
+        self.at(place).1
     }
 
-    // The live chunk at an address that has one.
-    fn held(&self, at: Addr) -> Chunk
-        requires { (c : Chunk) × (chunk_at (layout_of self.now) at ≡ Some c) }
-        ensures { chunk_at (layout_of self.now) at ≡ Some result }
+    // What the header of a live chunk says.
+    #[inline]
+    pub fn header(&self, space: &Space, at: Addr) -> Header
+        requires laid { IsLaid (layout_of self.now) }
+        requires agrees { Agrees (footprint (layout_of self.now)) space.now }
+        requires kind { (self.now.kind ≡ Slab) ⊎ (self.now.kind ≡ Generation) }
+        requires chunk { (c : Chunk) × (chunk_at (layout_of self.now) at ≡ Some c) }
+        ensures { (c : Chunk) → chunk_at (layout_of self.now) at ≡ Some c → result ≡ header_of self.now.kind c (at.offset - 8 - start_of (layout_of self.now) at.region) }
     {
-        match self.chunk(at) {
-            Some(chunk) => chunk,
-            None => unreachable!(),
-        }
+        let _ = &self.blocks;
+        header_at(space, at)
     }
 
-    // Makes room in the maps for one chunk and one block.
-    pub fn make_room(&mut self) -> Result<(), CtxError>
+    // Makes room in the map for one block.
+    fn make_room(&mut self) -> Result<(), CtxError>
         requires { IsKept self.old }
         ensures kept { IsKept self.new }
-        ensures same { layout_of self.new ≡ record (layout_of self.old) { spare_blocks = (layout_of self.new).spare_blocks; spare_chunks = (layout_of self.new).spare_chunks } }
-        ensures footprint { footprint (layout_of self.new) ≡ footprint (layout_of self.old) }
-        ensures spare_blocks { OnOk result (1 ≤ spare self.new.blocks) }
-        ensures spare_chunks { OnOk result (1 ≤ spare self.new.chunks) }
+        ensures same { layout_of self.new ≡ layout_of self.old }
+        ensures spare { OnOk result (1 ≤ spare self.new.blocks) }
         ensures only_memory { IfErr result (λ e. e ≡ CtxError.Memory) }
     {
-        if self.chunks.reserve(1).is_err() || self.blocks.reserve(1).is_err() {
+        if self.blocks.reserve(1).is_err() {
             return Err(CtxError::Memory);
         }
         Ok(())
     }
 
-    // Takes a block, which is the last one, and writes its header.
+    // Takes a block, the last one from now on, makes room for it and writes its header.
     pub fn add(&mut self, space: &mut Space, size: u32) -> Result<u32, CtxError>
         requires kept { IsKept self.old }
         requires agrees { Agrees (footprint (layout_of self.old)) space.old }
         requires least { 48 ≤ size }
         requires most { size ≤ 2 ^ 31 }
         requires whole { size % 8 ≡ 0 }
+        ensures kept { IsKept self.new }
+        ensures same { OnOk result (SameContext (layout_of self.old) (layout_of self.new)) }
+        ensures fresh { IfOk result (λ number. block_at (layout_of self.old) number ≡ None) }
+        ensures block { IfOk result (λ number. PutsBlock (layout_of self.old) (layout_of self.new) number (record { number = (layout_of self.old).last_number + 1; size = size; room = size - 40; live = 0; freed = 0 })) }
+        ensures chunks { OnOk result ((layout_of self.new).chunks ≡ (layout_of self.old).chunks) }
+        ensures last { OnOk result ((layout_of self.new).last_number ≡ (layout_of self.old).last_number + 1) }
+        ensures total { OnOk result (total (layout_of self.new) ≡ total (layout_of self.old) + size) }
+        ensures moves { Moves (footprint (layout_of self.old)) (footprint (layout_of self.new)) space.old space.new }
+        ensures keeps { Keeps (footprint (layout_of self.old)) (footprint (layout_of self.new)) space.old space.new }
+        ensures asked { OnOk result (Asks (layout_of self.old).account size space.old space.new) }
+        ensures fits { OnOk result (size ≤ space.old.limit - held space.old (layout_of self.old).account) }
+        ensures no_space { (result ≡ Err CtxError.NoSpace) → space.old.limit - held space.old (layout_of self.old).account < size }
+        ensures no_other { IfErr result (λ e. (e ≡ CtxError.NoSpace) ⊎ (e ≡ CtxError.Memory)) }
+        ensures err { OnErr result (layout_of self.new ≡ layout_of self.old) }
+        ensures err_space { OnErr result (space.new ≡ space.old) }
+    {
+        self.make_room()?;
+        self.take(space, size)
+    }
+
+    // Takes a block for which there is room, the last one from now on, and writes its header.
+    fn take(&mut self, space: &mut Space, size: u32) -> Result<u32, CtxError>
+        requires kept { IsKept self.old }
+        requires agrees { Agrees (footprint (layout_of self.old)) space.old }
+        requires least { 48 ≤ size }
+        requires most { size ≤ 2 ^ 31 }
+        requires whole { size % 8 ≡ 0 }
         requires spare { 1 ≤ spare self.old.blocks }
-        ensures kept { OnOk result (IsKept self.new) }
+        ensures kept { IsKept self.new }
         ensures same { OnOk result (SameContext (layout_of self.old) (layout_of self.new)) }
         ensures fresh { IfOk result (λ number. block_at (layout_of self.old) number ≡ None) }
         ensures block { IfOk result (λ number. PutsBlock (layout_of self.old) (layout_of self.new) number (record { number = self.old.last_number + 1; size = size; room = size - 40; live = 0; freed = 0 })) }
@@ -284,6 +357,7 @@ impl Books {
     }
 
     // Writes the header of a chunk, where its kind has one.
+    #[inline]
     fn head(&self, space: &mut Space, at: Addr, chunk: Chunk)
         requires { IsWritten (layout_of self.now) space.old at chunk }
         ensures none { header_room (layout_of self.now) ≡ 0 → space.new ≡ space.old }
@@ -307,29 +381,31 @@ impl Books {
         space.write(place, &header.bytes());
     }
 
-    // Notes a live chunk in a block, which becomes another one, and writes its header.
-    fn hold(&mut self, space: &mut Space, at: Addr, chunk: Chunk, block: Block)
+    // Notes a live chunk in the block at a place, which becomes another one, and writes its header.
+    #[inline]
+    fn hold(&mut self, space: &mut Space, place: usize, at: Addr, chunk: Chunk, block: Block)
         requires kept { IsKept self.old }
         requires agrees { Agrees (footprint (layout_of self.old)) space.old }
         requires holds { Holds (layout_of self.old) at chunk block }
-        requires spare { 1 ≤ spare self.old.chunks }
+        requires place { (b : Block) × (slice_get self.old.blocks.entries place ≡ Some (at.region, b)) × (block_at (layout_of self.old) at.region ≡ Some b) }
         ensures kept { IsKept self.new }
         ensures same { SameContext (layout_of self.old) (layout_of self.new) }
         ensures last { self.new.last_number ≡ self.old.last_number }
         ensures fresh { chunk_at (layout_of self.old) at ≡ None }
         ensures chunk { PutsChunk (layout_of self.old) (layout_of self.new) at (Some chunk) }
         ensures block { PutsBlock (layout_of self.old) (layout_of self.new) at.region block }
-        ensures spare { spare self.old.chunks ≤ spare self.new.chunks + 1 }
         ensures moves { Moves (footprint (layout_of self.old)) (footprint (layout_of self.new)) space.old space.new }
         ensures keeps { Keeps (footprint (layout_of self.old)) (footprint (layout_of self.new)) space.old space.new }
         ensures asked { space.new.taken ≡ space.old.taken }
     {
         self.head(space, at, chunk);
-        put(&mut self.chunks, at, chunk);
-        note(&mut self.blocks, at.region, block);
+        self.gained = place;
+        self.chunks.put(at, chunk);
+        change(&mut self.blocks, place, at.region, block);
     }
 
     // Cuts a live chunk off the room of a block.
+    #[inline]
     pub fn cut(&mut self, space: &mut Space, number: u32, size: u32, room: u32, own: bool) -> Addr
         requires kept { IsKept self.old }
         requires agrees { Agrees (footprint (layout_of self.old)) space.old }
@@ -338,7 +414,6 @@ impl Books {
         requires fits { size ≤ room }
         requires whole { room % 8 ≡ 0 }
         requires value { (own ≡ true) ⊎ (room < 2 ^ 30) }
-        requires spare { 1 ≤ spare self.old.chunks }
         ensures kept { IsKept self.new }
         ensures same { SameContext (layout_of self.old) (layout_of self.new) }
         ensures last { self.new.last_number ≡ self.old.last_number }
@@ -347,12 +422,12 @@ impl Books {
         ensures fresh { chunk_at (layout_of self.old) result ≡ None }
         ensures chunk { PutsChunk (layout_of self.old) (layout_of self.new) result (Some (record { size = size; room = room; own = own })) }
         ensures block { (b : Block) → block_at (layout_of self.old) number ≡ Some b → PutsBlock (layout_of self.old) (layout_of self.new) number (record b { room = b.room - (header_room (layout_of self.old) + room); live = b.live + 1 }) }
-        ensures spare { spare self.old.chunks ≤ spare self.new.chunks + 1 }
         ensures moves { Moves (footprint (layout_of self.old)) (footprint (layout_of self.new)) space.old space.new }
         ensures keeps { Keeps (footprint (layout_of self.old)) (footprint (layout_of self.new)) space.old space.new }
         ensures asked { space.new.taken ≡ space.old.taken }
     {
-        let block = self.owned(number);
+        let place = self.seek(number);
+        let block = self.owned(place, number);
         let gap = self.gap();
         let at = Addr {
             region: number,
@@ -365,11 +440,12 @@ impl Books {
             live: block.live + 1,
             freed: block.freed,
         };
-        self.hold(space, at, Chunk { size, room, own }, less);
+        self.hold(space, place, at, Chunk { size, room, own }, less);
         at
     }
 
     // Puts a live chunk where a block's chunks were cut off and freed.
+    #[inline]
     pub fn place(&mut self, space: &mut Space, at: Addr, size: u32, room: u32)
         requires kept { IsKept self.old }
         requires agrees { Agrees (footprint (layout_of self.old)) space.old }
@@ -380,19 +456,18 @@ impl Books {
         requires fits { size ≤ room }
         requires value { room < 2 ^ 30 }
         requires clear { (other : Addr) (c : Chunk) → chunk_at (layout_of self.old) other ≡ Some c → IsClear (header_room (layout_of self.old)) other c at (record { size = size; room = room; own = false }) }
-        requires spare { 1 ≤ spare self.old.chunks }
         ensures kept { IsKept self.new }
         ensures same { SameContext (layout_of self.old) (layout_of self.new) }
         ensures last { self.new.last_number ≡ self.old.last_number }
         ensures fresh { chunk_at (layout_of self.old) at ≡ None }
         ensures chunk { PutsChunk (layout_of self.old) (layout_of self.new) at (Some (record { size = size; room = room; own = false })) }
         ensures block { (b : Block) → block_at (layout_of self.old) at.region ≡ Some b → PutsBlock (layout_of self.old) (layout_of self.new) at.region (record b { live = b.live + 1; freed = b.freed - 1 }) }
-        ensures spare { spare self.old.chunks ≤ spare self.new.chunks + 1 }
         ensures moves { Moves (footprint (layout_of self.old)) (footprint (layout_of self.new)) space.old space.new }
         ensures keeps { Keeps (footprint (layout_of self.old)) (footprint (layout_of self.new)) space.old space.new }
         ensures asked { space.new.taken ≡ space.old.taken }
     {
-        let block = self.owned(at.region);
+        let place = self.seek(at.region);
+        let block = self.owned(place, at.region);
         let taken = Block {
             number: block.number,
             size: block.size,
@@ -405,10 +480,11 @@ impl Books {
             room,
             own: false,
         };
-        self.hold(space, at, chunk, taken);
+        self.hold(space, place, at, chunk, taken);
     }
 
     // Makes the size of a live chunk another one.
+    #[inline]
     pub fn set_size(&mut self, at: Addr, size: u32)
         requires kept { IsKept self.old }
         requires chunk { (c : Chunk) × (chunk_at (layout_of self.old) at ≡ Some c) × (size ≤ c.room) }
@@ -419,30 +495,24 @@ impl Books {
         ensures blocks { self.new.blocks ≡ self.old.blocks }
         ensures moves { MovesStill (layout_of self.old) (layout_of self.new) }
     {
-        let chunk = self.held(at);
-        let other = Chunk {
-            size,
-            room: chunk.room,
-            own: chunk.own,
-        };
-        put(&mut self.chunks, at, other);
+        self.chunks.set_size(at, size);
     }
 
-    // Forgets a live chunk.
-    pub fn remove(&mut self, at: Addr) -> Chunk
+    // Forgets a live chunk, and answers its block as it was.
+    #[inline]
+    pub fn remove(&mut self, at: Addr) -> Block
         requires kept { IsKept self.old }
         requires chunk { (c : Chunk) × (chunk_at (layout_of self.old) at ≡ Some c) }
         ensures kept { IsKept self.new }
         ensures same { SameContext (layout_of self.old) (layout_of self.new) }
         ensures last { self.new.last_number ≡ self.old.last_number }
-        ensures was { chunk_at (layout_of self.old) at ≡ Some result }
+        ensures was { block_at (layout_of self.old) at.region ≡ Some result }
         ensures chunk { PutsChunk (layout_of self.old) (layout_of self.new) at None }
         ensures block { (b : Block) → block_at (layout_of self.old) at.region ≡ Some b → PutsBlock (layout_of self.old) (layout_of self.new) at.region (record b { live = b.live - 1; freed = b.freed + 1 }) }
-        ensures spare { spare self.old.chunks ≤ spare self.new.chunks }
         ensures moves { MovesStill (layout_of self.old) (layout_of self.new) }
     {
-        let chunk = self.held(at);
-        let block = self.owned(at.region);
+        let place = self.seek(at.region);
+        let block = self.owned(place, at.region);
         let less = Block {
             number: block.number,
             size: block.size,
@@ -450,9 +520,10 @@ impl Books {
             live: block.live - 1,
             freed: block.freed + 1,
         };
-        let _ = self.chunks.swap_remove(&at);
-        note(&mut self.blocks, at.region, less);
-        chunk
+        self.lost = place;
+        self.chunks.remove(at);
+        change(&mut self.blocks, place, at.region, less);
+        block
     }
 
     // Gives a block without chunks its whole room.
@@ -466,7 +537,8 @@ impl Books {
         ensures block { (b : Block) → block_at (layout_of self.old) number ≡ Some b → PutsBlock (layout_of self.old) (layout_of self.new) number (whole_block b.number (start_of (layout_of self.old) number) b.size) }
         ensures moves { MovesStill (layout_of self.old) (layout_of self.new) }
     {
-        let old = self.owned(number);
+        let place = self.seek(number);
+        let old = self.owned(place, number);
         let block = Block {
             number: old.number,
             size: old.size,
@@ -474,7 +546,7 @@ impl Books {
             live: 0,
             freed: 0,
         };
-        note(&mut self.blocks, number, block);
+        change(&mut self.blocks, place, number, block);
     }
 
     // Gives a block without chunks back.
@@ -489,12 +561,12 @@ impl Books {
         ensures chunks { self.new.chunks ≡ self.old.chunks }
         ensures block { DropsBlock (layout_of self.old) (layout_of self.new) number }
         ensures total { (b : Block) → block_at (layout_of self.old) number ≡ Some b → total (layout_of self.new) + b.size ≡ total (layout_of self.old) }
-        ensures spare { spare self.old.blocks ≤ spare self.new.blocks }
         ensures moves { Moves (footprint (layout_of self.old)) (footprint (layout_of self.new)) space.old space.new }
         ensures keeps { Keeps (footprint (layout_of self.old)) (footprint (layout_of self.new)) space.old space.new }
         ensures asked { space.new.taken ≡ space.old.taken }
     {
-        let size = self.owned(number).size;
+        let place = self.seek(number);
+        let size = self.owned(place, number).size;
         let _ = self.blocks.shift_remove(&number);
         self.total -= u64::from(size);
         let at = Addr {
@@ -543,7 +615,7 @@ impl Books {
         ensures moves { Moves (footprint (layout_of self.old)) (footprint (layout_of self.new)) space.old space.new }
         ensures asked { space.new.taken ≡ space.old.taken }
     {
-        self.chunks.clear();
+        self.chunks = Chunks::none();
         while self.blocks.len() > first {
             self.drop_last(space);
         }
@@ -563,7 +635,8 @@ impl Books {
     {
         self.shrink(space, 1);
         let keeper = self.keeper;
-        let size = self.owned(keeper).size;
+        let place = self.seek(keeper);
+        let size = self.owned(place, keeper).size;
         let block = Block {
             number: self.first_number,
             size,
@@ -571,7 +644,7 @@ impl Books {
             live: 0,
             freed: 0,
         };
-        note(&mut self.blocks, keeper, block);
+        change(&mut self.blocks, place, keeper, block);
         self.last_number = self.first_number;
     }
 
@@ -603,6 +676,7 @@ impl Books {
     }
 
     // How many blocks there are.
+    #[inline]
     pub fn len(&self) -> usize
         ensures { result ≡ length (layout_of self.now).blocks }
     {
@@ -610,6 +684,7 @@ impl Books {
     }
 
     // A block, in the order in which they were taken.
+    #[inline]
     pub fn at(&self, index: usize) -> (u32, Block)
         requires { index < length (layout_of self.now).blocks }
         ensures entry { slice_get (layout_of self.now).blocks index ≡ Some result }

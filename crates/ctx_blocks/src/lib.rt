@@ -10,13 +10,14 @@ ghost use Rattle.std.specs.Prelude.{◌≡◌, ◌≢◌, ℕ, ◌+◌, ◌-◌,
 ghost use Rattle.addr_space.specs.declared.Addr.{Addr};
 
 mod books;
+mod chunks;
 mod parts;
 #[cfg(test)]
 mod tests;
 
 use addr_space::{Addr, Space};
 use books::Books;
-use chunk_header::{CtxError, Kind};
+use chunk_header::{CtxError, Header, Kind};
 pub use parts::{Block, Chunk};
 use std::alloc::Global;
 use std::marker::Model;
@@ -47,7 +48,7 @@ impl Blocks {
     ghost use Rattle.chunk_header.specs.Header.{AllHeaded, AllOfKind, TakesSpace};
     ghost use Rattle.ctx_blocks.specs.declared.parts.Block.{Block};
     ghost use Rattle.ctx_blocks.specs.declared.parts.Chunk.{Chunk};
-    ghost use Rattle.ctx_blocks.specs.Layout.{block_at, chunk_at, total, rooms, all_freed, start_of, header_room, whole_block, whole_of, keeper_alone, footprint};
+    ghost use Rattle.ctx_blocks.specs.Layout.{block_at, chunk_at, total, rooms, all_freed, start_of, header_room, header_of, whole_block, whole_of, keeper_alone, footprint};
     ghost use Rattle.ctx_blocks.specs.Kept.{IsFilled, IsPlaced, IsClear, IsFirst, AreRising};
     ghost use Rattle.ctx_blocks.specs.Steps.{PutsBlock, DropsBlock, PutsChunk, SameContext, MovesStill};
 
@@ -94,33 +95,20 @@ impl Blocks {
         Ok(Blocks { books })
     }
 
-    /// Makes room to note one chunk and one block. A refused call makes room for one of them at most, and changes
-    /// nothing else.
-    pub fn make_room(&mut self) -> Result<(), CtxError>
-        ensures same { self.new ≡ record self.old { spare_blocks = self.new.spare_blocks; spare_chunks = self.new.spare_chunks } }
-        ensures footprint { footprint self.new ≡ footprint self.old }
-        ensures spare_blocks { OnOk result (1 ≤ self.new.spare_blocks) }
-        ensures spare_chunks { OnOk result (1 ≤ self.new.spare_chunks) }
-        ensures only_memory { IfErr result (λ e. e ≡ CtxError.Memory) }
-    {
-        self.books.make_room()
-    }
-
     /// Takes a block of `size` bytes, the last one from now on, which has the next number; writes its header and answers
     /// its region.
     ///
-    /// `NoSpace` comes where the account has less left. A refused call changes nothing.
+    /// `Memory` comes where there is none to note the block, and `NoSpace` where the account has less left. A refused
+    /// call changes nothing.
     pub fn add(&mut self, space: &mut Space, size: u32) -> Result<u32, CtxError>
         requires agrees { Agrees (footprint self.old) space.old }
         requires least { 48 ≤ size }
         requires most { size ≤ 2 ^ 31 }
         requires whole { size % 8 ≡ 0 }
-        requires spare { 1 ≤ self.old.spare_blocks }
         ensures same { OnOk result (SameContext self.old self.new) }
         ensures fresh { IfOk result (λ number. block_at self.old number ≡ None) }
         ensures block { IfOk result (λ number. PutsBlock self.old self.new number (record { number = self.old.last_number + 1; size = size; room = size - 40; live = 0; freed = 0 })) }
         ensures chunks { OnOk result (self.new.chunks ≡ self.old.chunks) }
-        ensures spare { OnOk result (self.new.spare_chunks ≡ self.old.spare_chunks) }
         ensures last { OnOk result (self.new.last_number ≡ self.old.last_number + 1) }
         ensures total { OnOk result (total self.new ≡ total self.old + size) }
         ensures moves { Moves (footprint self.old) (footprint self.new) space.old space.new }
@@ -137,6 +125,7 @@ impl Blocks {
 
     /// Cuts a live chunk off the room of a block, writes its header and answers its address. `size` bytes of it were
     /// asked for, it may have `room`, a multiple of 8, and `own` says whether it has the block for itself.
+    #[inline]
     pub fn cut(&mut self, space: &mut Space, number: u32, size: u32, room: u32, own: bool) -> Addr
         requires agrees { Agrees (footprint self.old) space.old }
         requires block { (b : Block) × (block_at self.old number ≡ Some b) × (header_room self.old + room ≤ b.room) }
@@ -144,7 +133,6 @@ impl Blocks {
         requires fits { size ≤ room }
         requires whole { room % 8 ≡ 0 }
         requires value { (own ≡ true) ⊎ (room < 2 ^ 30) }
-        requires spare { 1 ≤ self.old.spare_chunks }
         ensures same { SameContext self.old self.new }
         ensures last { self.new.last_number ≡ self.old.last_number }
         ensures region { result.region ≡ number }
@@ -152,7 +140,6 @@ impl Blocks {
         ensures fresh { chunk_at self.old result ≡ None }
         ensures chunk { PutsChunk self.old self.new result (Some (record { size = size; room = room; own = own })) }
         ensures block { (b : Block) → block_at self.old number ≡ Some b → PutsBlock self.old self.new number (record b { room = b.room - (header_room self.old + room); live = b.live + 1 }) }
-        ensures spare { self.old.spare_chunks ≤ self.new.spare_chunks + 1 }
         ensures moves { Moves (footprint self.old) (footprint self.new) space.old space.new }
         ensures keeps { Keeps (footprint self.old) (footprint self.new) space.old space.new }
         ensures asked { space.new.taken ≡ space.old.taken }
@@ -162,6 +149,7 @@ impl Blocks {
 
     /// Puts a live chunk at an address of a block where chunks were cut off and freed, and writes its header. It
     /// takes the place of one that was freed.
+    #[inline]
     pub fn place(&mut self, space: &mut Space, at: Addr, size: u32, room: u32)
         requires agrees { Agrees (footprint self.old) space.old }
         requires block { (b : Block) × (block_at self.old at.region ≡ Some b) × (at.offset + room + b.room ≤ b.size) × (1 ≤ b.freed) }
@@ -171,13 +159,11 @@ impl Blocks {
         requires fits { size ≤ room }
         requires value { room < 2 ^ 30 }
         requires clear { (other : Addr) (c : Chunk) → chunk_at self.old other ≡ Some c → IsClear (header_room self.old) other c at (record { size = size; room = room; own = false }) }
-        requires spare { 1 ≤ self.old.spare_chunks }
         ensures same { SameContext self.old self.new }
         ensures last { self.new.last_number ≡ self.old.last_number }
         ensures fresh { chunk_at self.old at ≡ None }
         ensures chunk { PutsChunk self.old self.new at (Some (record { size = size; room = room; own = false })) }
         ensures block { (b : Block) → block_at self.old at.region ≡ Some b → PutsBlock self.old self.new at.region (record b { live = b.live + 1; freed = b.freed - 1 }) }
-        ensures spare { self.old.spare_chunks ≤ self.new.spare_chunks + 1 }
         ensures moves { Moves (footprint self.old) (footprint self.new) space.old space.new }
         ensures keeps { Keeps (footprint self.old) (footprint self.new) space.old space.new }
         ensures asked { space.new.taken ≡ space.old.taken }
@@ -186,6 +172,7 @@ impl Blocks {
     }
 
     /// Makes the size of a live chunk another one, up to its room. It needs no memory.
+    #[inline]
     pub fn set_size(&mut self, at: Addr, size: u32)
         requires { (c : Chunk) × (chunk_at self.old at ≡ Some c) × (size ≤ c.room) }
         ensures same { SameContext self.old self.new }
@@ -197,15 +184,15 @@ impl Blocks {
         self.books.set_size(at, size);
     }
 
-    /// Forgets a live chunk, and answers what it was.
-    pub fn remove(&mut self, at: Addr) -> Chunk
+    /// Forgets a live chunk, and answers its block as it was.
+    #[inline]
+    pub fn remove(&mut self, at: Addr) -> Block
         requires { (c : Chunk) × (chunk_at self.old at ≡ Some c) }
         ensures same { SameContext self.old self.new }
         ensures last { self.new.last_number ≡ self.old.last_number }
-        ensures was { chunk_at self.old at ≡ Some result }
+        ensures was { block_at self.old at.region ≡ Some result }
         ensures chunk { PutsChunk self.old self.new at None }
         ensures block { (b : Block) → block_at self.old at.region ≡ Some b → PutsBlock self.old self.new at.region (record b { live = b.live - 1; freed = b.freed + 1 }) }
-        ensures spare { self.old.spare_chunks ≤ self.new.spare_chunks }
         ensures moves { MovesStill self.old self.new }
     {
         self.books.remove(at)
@@ -217,7 +204,6 @@ impl Blocks {
         ensures same { SameContext self.old self.new }
         ensures last { self.new.last_number ≡ self.old.last_number }
         ensures chunks { self.new.chunks ≡ self.old.chunks }
-        ensures spare { self.new.spare_chunks ≡ self.old.spare_chunks }
         ensures block { (b : Block) → block_at self.old number ≡ Some b → PutsBlock self.old self.new number (whole_block b.number (start_of self.old number) b.size) }
         ensures moves { MovesStill self.old self.new }
     {
@@ -232,8 +218,6 @@ impl Blocks {
         ensures same { SameContext self.old self.new }
         ensures last { self.new.last_number ≡ self.old.last_number }
         ensures chunks { self.new.chunks ≡ self.old.chunks }
-        ensures spare_chunks { self.new.spare_chunks ≡ self.old.spare_chunks }
-        ensures spare_blocks { self.old.spare_blocks ≤ self.new.spare_blocks }
         ensures block { DropsBlock self.old self.new number }
         ensures total { (b : Block) → block_at self.old number ≡ Some b → total self.new + b.size ≡ total self.old }
         ensures moves { Moves (footprint self.old) (footprint self.new) space.old space.new }
@@ -268,6 +252,7 @@ impl Blocks {
     }
 
     /// Copies the first `n` bytes, which are known, of a live chunk into another one.
+    #[inline]
     pub fn carry(&self, space: &mut Space, from: Addr, to: Addr, n: u32)
         requires agrees { Agrees (footprint self.now) space.old }
         requires from { (c : Chunk) × (chunk_at self.now from ≡ Some c) × (n ≤ c.size) }
@@ -283,20 +268,27 @@ impl Blocks {
     }
 
     /// The block in a region, if it is the context's.
+    #[inline]
     pub fn block(&self, number: u32) -> Option<Block>
         ensures { result ≡ block_at self.now number }
     {
         self.books.block(number)
     }
 
-    /// The live chunk at an address, if there is one.
-    pub fn chunk(&self, at: Addr) -> Option<Chunk>
-        ensures { result ≡ chunk_at self.now at }
+    /// What the header of a live chunk says, of a Slab or a Generation: whether it has its block for itself, and else
+    /// the bytes that it may have.
+    #[inline]
+    pub fn header(&self, space: &Space, at: Addr) -> Header
+        requires agrees { Agrees (footprint self.now) space.now }
+        requires kind { (self.now.kind ≡ Slab) ⊎ (self.now.kind ≡ Generation) }
+        requires chunk { (c : Chunk) × (chunk_at self.now at ≡ Some c) }
+        ensures { (c : Chunk) → chunk_at self.now at ≡ Some c → result ≡ header_of self.now.kind c (at.offset - 8 - start_of self.now at.region) }
     {
-        self.books.chunk(at)
+        self.books.header(space, at)
     }
 
     /// The bytes of all blocks together.
+    #[inline]
     pub fn total(&self) -> u64
         ensures total { result ≡ total self.now }
         ensures most { result ≤ 2 ^ 62 }
@@ -305,6 +297,7 @@ impl Blocks {
     }
 
     /// The number of the first block's region.
+    #[inline]
     pub fn keeper(&self) -> u32
         ensures { result ≡ self.now.keeper }
     {
@@ -312,6 +305,7 @@ impl Blocks {
     }
 
     /// The account that the blocks count for.
+    #[inline]
     pub fn account(&self) -> u8
         ensures { result ≡ self.now.account }
     {
@@ -319,6 +313,7 @@ impl Blocks {
     }
 
     /// How many blocks there are.
+    #[inline]
     pub fn len(&self) -> usize
         ensures { result ≡ length self.now.blocks }
     {
@@ -326,6 +321,7 @@ impl Blocks {
     }
 
     /// A block with the number of its region, in the order in which they were taken: the keeper is the first.
+    #[inline]
     pub fn at(&self, index: usize) -> (u32, Block)
         requires { index < length self.now.blocks }
         ensures entry { slice_get self.now.blocks index ≡ Some result }

@@ -12,13 +12,13 @@ use std::test::Fail;
 fn a_chunk_is_cut(rt: HostRuntime) -> Result<(), Fail> {
     let mut space = Space::new(rt.alloc(), 1, 100_000)?;
     let mut blocks = Blocks::create(rt.alloc(), &mut space, Kind::Generation, 0, 7, 1, 1024)?;
-    blocks.make_room()?;
     let number = blocks.add(&mut space, 2048)?;
     let at = blocks.cut(&mut space, number, 20, 24, false);
-    let chunk = Chunk {
-        size: 20,
-        room: 24,
+    let header = Header {
+        kind: Kind::Generation,
         own: false,
+        value: 24,
+        dist: 40,
     };
     let block = Block {
         number: 2,
@@ -28,8 +28,8 @@ fn a_chunk_is_cut(rt: HostRuntime) -> Result<(), Fail> {
         freed: 0,
     };
     assert_eq!(rt;
-        (at.offset, blocks.chunk(at), blocks.block(number)),
-        (48, Some(chunk), Some(block))
+        (at.offset, blocks.header(&space, at), blocks.block(number)),
+        (48, header, Some(block))
     );
     assert_eq!(rt;
         (blocks.rooms(), blocks.freed(), blocks.total(), blocks.len()),
@@ -42,16 +42,11 @@ fn a_chunk_is_cut(rt: HostRuntime) -> Result<(), Fail> {
 fn a_chunk_goes(rt: HostRuntime) -> Result<(), Fail> {
     let mut space = Space::new(rt.alloc(), 1, 100_000)?;
     let mut blocks = Blocks::create(rt.alloc(), &mut space, Kind::Bump, 0, 7, 1, 1024)?;
-    blocks.make_room()?;
     let number = blocks.add(&mut space, 2048)?;
     let at = blocks.cut(&mut space, number, 20, 24, false);
     blocks.set_size(at, 8);
-    let sized = blocks.chunk(at).ok_or("no chunk")?;
     let was = blocks.remove(at);
-    assert_eq!(rt;
-        (at.offset, sized.size, was.room, blocks.chunk(at)),
-        (40, 8, 24, None)
-    );
+    assert_eq!(rt; (at.offset, was.live, was.room), (40, 1, 1984));
     let block = blocks.block(number).ok_or("no block")?;
     assert_eq!(rt; (block.room, block.freed, blocks.freed()), (1984, 1, 1));
     assert_eq!(rt; block.live, 0);
@@ -67,7 +62,6 @@ fn a_chunk_goes(rt: HostRuntime) -> Result<(), Fail> {
 fn blocks_go(rt: HostRuntime) -> Result<(), Fail> {
     let mut space = Space::new(rt.alloc(), 1, 100_000)?;
     let mut blocks = Blocks::create(rt.alloc(), &mut space, Kind::Slab, 0, 7, 0, 200)?;
-    blocks.make_room()?;
     let number = blocks.add(&mut space, 8192)?;
     let (last, block) = blocks.at(1);
     assert_eq!(rt;
@@ -87,7 +81,6 @@ fn blocks_go(rt: HostRuntime) -> Result<(), Fail> {
 fn a_chunk_is_placed(rt: HostRuntime) -> Result<(), Fail> {
     let mut space = Space::new(rt.alloc(), 1, 100_000)?;
     let mut blocks = Blocks::create(rt.alloc(), &mut space, Kind::Slab, 0, 7, 0, 1024)?;
-    blocks.make_room()?;
     let number = blocks.keeper();
     let at = blocks.cut(&mut space, number, 20, 24, false);
     let there = Addr {
@@ -95,9 +88,7 @@ fn a_chunk_is_placed(rt: HostRuntime) -> Result<(), Fail> {
         offset: 248,
     };
     assert_eq!(rt; at, there);
-    let _was = blocks.chunk(there).ok_or("no chunk")?;
-    blocks.remove(there);
-    blocks.make_room()?;
+    blocks.remove(at);
     let free = blocks.block(number).ok_or("no block")?;
     assert_eq!(rt; free.size, 1024);
     assert_eq!(rt; free.room, 752);
@@ -124,7 +115,6 @@ fn written(alloc: Global, space: &mut Space, bytes: &[u8; 5]) -> Result<(Blocks,
     ensures known { IfOk result (λ made. IsKnown space.new made.1 5) }
 {
     let mut blocks = Blocks::create(alloc, space, Kind::Generation, 0, 7, 1, 1024)?;
-    blocks.make_room()?;
     let number = blocks.keeper();
     let at = blocks.cut(space, number, 5, 8, false);
     space.write(at, bytes);
@@ -141,7 +131,6 @@ fn carried(space: &mut Space, blocks: &mut Blocks, from: Addr) -> Result<Addr, C
     ensures inside { IfOk result (λ to. IsInside space.new to 5) }
     ensures known { IfOk result (λ to. IsKnown space.new to 5) }
 {
-    blocks.make_room()?;
     let to = blocks.cut(space, from.region, 16, 16, false);
     blocks.carry(space, from, to, 5);
     Ok(to)

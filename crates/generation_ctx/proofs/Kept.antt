@@ -79,14 +79,6 @@ kept_next b next kept sized = record { kind = kept.kind; numbered = kept.numbere
 pub kept_spare : (b : Books) (number : ℕ) → IsKept b → IsIdle b.blocks b.current number → IsKept (record b { spare = Some number })
 kept_spare b number kept idle = record { kind = kept.kind; numbered = kept.numbered; sizes = kept.sizes; keeper = kept.keeper; bytes = kept.bytes; current = kept.current; spare = idle; alone = kept.alone }
 
--- room was made
-pub kept_made : (b : Books) (i j : ℕ) → IsKept b → IsKept (record b { blocks = record b.blocks { spare_blocks = i; spare_chunks = j } })
-kept_made b i j kept = record { kind = kept.kind; numbered = record { first = kept.numbered.first; rising = kept.numbered.rising; some = kept.numbered.some; keeper = kept.numbered.keeper }; sizes = kept.sizes; keeper = record { block = kept.keeper.block; is = kept.keeper.is; size = kept.keeper.size }; bytes = kept.bytes; current = record { block = kept.current.block; is = kept.current.is; size = kept.current.size }; spare = spare_made b.spare kept.spare; alone = λ at chunk is own. (let a = kept.alone at chunk is own in record { block = a.block; is = a.is; live = a.live; room = a.room; whole = a.whole; not_keeper = a.not_keeper; not_current = a.not_current }) }
-  where
-    spare_made : (spare : Option ℕ) → IsSpare b.blocks b.current spare → IsSpare (record b.blocks { spare_blocks = i; spare_chunks = j }) b.current spare
-    spare_made None idle = idle
-    spare_made (Some other) idle = record { block = idle.block; is = idle.is; live = idle.live; not_keeper = idle.not_keeper; not_current = idle.not_current }
-
 -- another block becomes current
 seated : (l : Layout) (current number other : ℕ) (t : Bool) → (other == number) ≡ t → IsIdle l current other → IsSpare l number (if t then None else Some other)
 seated l current number other true is idle = tt

@@ -1,5 +1,5 @@
 -- The numbers of blocks, and the ledger by them, once a block was put, added or given back.
-use Rattle.std.proofs.Common.{◌≡◌, ◌≢◌, ℕ, ◌+◌, ◌-◌, ◌≤◌, ◌==◌, Bool, true, false, if◌then◌else◌, ◌∷◌, [], ◌++◌, List, map, filter, Option, Some, None, unwrap_or, option_map, refl, ap, sym, ◌∙◌, arith, inl, inr}
+use Rattle.std.proofs.Common.{◌≡◌, ◌≢◌, ℕ, ◌+◌, ◌-◌, ◌≤◌, ◌==◌, Bool, true, false, if◌then◌else◌, ◌∷◌, [], ◌++◌, map, filter, Option, Some, None, unwrap_or, option_map, refl, ap, sym, ◌∙◌, arith, inl, inr}
 use Rattle.std.specs.List.{find}
 use Rattle.std.specs.Map.{values_of}
 use Rattle.addr_space.specs.declared.Addr.{Addr}
@@ -11,12 +11,11 @@ use Rattle.ctx_blocks.specs.Layout.{Layout, block_at, chunk_at, whole_block, foo
 use Rattle.ctx_blocks.proofs.Laid.{live_is}
 use Rattle.ctx_blocks.specs.declared.parts.Chunk.{Chunk}
 use Rattle.ctx_blocks.specs.Numbered.{put_at, is_other, KeepsNumbers}
-use Rattle.ctx_blocks.specs.Kept.{AreRising}
-use Rattle.ctx_blocks.specs.Steps.{PutsBlock, DropsBlock, SameContext, with_block, without_block}
+use Rattle.ctx_blocks.specs.Steps.{PutsBlock, DropsBlock, SameContext}
 use Rattle.ctx_blocks.specs.declared.parts.Block.{Block}
 use Rattle.ctx_blocks.proofs.Changed.{put_here, put_other, drop_other}
 use Rattle.ctx_blocks.proofs.Numbered.{found_by_number, put_by_number, add_by_number, drop_by_number, put_behind, rising_put, rising_add, rising_drop, region_by_number}
-use Rattle.generation_ctx.specs.Ledger.{GenerationLedger, no_block, block_in, put, added, given, whole, is_spare}
+use Rattle.generation_ctx.specs.Ledger.{no_block, block_in, put, given, whole, is_spare}
 use Rattle.generation_ctx.specs.State.{number_of}
 use Rattle.generation_ctx.specs.Kept.{ledger_of, AreNumbered, IsSpare}
 use Rattle.generation_ctx.specs.declared.books.Books.{Books}

@@ -1,5 +1,5 @@
 -- A shared block without live chunks gets its whole room, or goes back.
-use Rattle.std.proofs.Common.{◌≡◌, ◌≢◌, ℕ, ◌+◌, ◌-◌, ◌==◌, Bool, true, false, List, map, Option, Some, None, unwrap_or, if◌then◌else◌, refl, arith, ◌∙◌, sym, ap}
+use Rattle.std.proofs.Common.{◌≡◌, ◌≢◌, ℕ, ◌+◌, ◌-◌, ◌==◌, Bool, false, List, Option, Some, None, unwrap_or, if◌then◌else◌, refl, arith, ◌∙◌, sym, ap}
 use Rattle.std.specs.List.{find}
 use Rattle.ctx_blocks.specs.Layout.{Layout, block_at, start_of as start_in, whole_block}
 use Rattle.ctx_blocks.specs.Steps.{PutsBlock, SameContext}

@@ -1,16 +1,14 @@
 -- Steps, one after another.
-use Rattle.std.proofs.Common.{◌≡◌, ℕ, Result, refl, sym, ◌∙◌}
+use Rattle.std.proofs.Common.{◌≡◌, ℕ, refl, sym, ◌∙◌}
 use Rattle.addr_space.specs.declared.Addr.{Addr}
 use Rattle.addr_space.specs.Space.{Space, Asks}
 use Rattle.addr_space.specs.Footprint.{Agrees}
 use Rattle.addr_space.proofs.Steps.{Moves-none, Moves-more, Keeps-more, Keeps-then}
-use Rattle.chunk_header.specs.declared.CtxError.{CtxError}
 use Rattle.ctx_blocks.specs.Layout.{footprint}
 use Rattle.generation_ctx.specs.Ledger.{GenerationLedger, GenerationTaken}
 use Rattle.generation_ctx.specs.Kept.{ledger_of, IsKept}
-use Rattle.generation_ctx.specs.Steps.{Rearranges, Allocates, Serves, Frees}
+use Rattle.generation_ctx.specs.Steps.{Rearranges, Allocates, Frees}
 use Rattle.generation_ctx.specs.declared.books.Books.{Books}
-use Rattle.ctx_blocks.proofs.Spared.{footprint-spare}
 use Rattle.ctx_blocks.specs.Numbered.{AreAmong, KeepsNumbers}
 use Rattle.ctx_blocks.proofs.Changed.{stays_live}
 use Rattle.ctx_blocks.proofs.Among.{among_more}
@@ -21,7 +19,6 @@ rearranges_none b s ledger kept agrees is = record {
   kept = kept;
   ledger_is = is;
   chunks = refl;
-  spare = refl;
   account = refl;
   moves = Moves-none (footprint b.blocks) s agrees;
   keeps = λ at p q k live again below short. refl;
@@ -46,28 +43,9 @@ rearranges_more b m n s t u first second one two = record {
   kept = two.kept;
   ledger_is = two.ledger_is;
   chunks = two.chunks ∙ one.chunks;
-  spare = two.spare ∙ one.spare;
   account = two.account ∙ one.account;
   moves = Moves-more (footprint b.blocks) (footprint m.blocks) (footprint n.blocks) s t u one.moves two.moves;
   keeps = Keeps-more (footprint b.blocks) (footprint m.blocks) (footprint n.blocks) s t u (stays_live b.blocks m.blocks one.chunks) one.keeps two.keeps;
-}
-
--- after room was made
-pub serves_made : (b : Books) (i j : ℕ) (n : Books) (s t : Space) (size : ℕ) (at : Addr) (step : Result GenerationTaken CtxError) → Serves (record b { blocks = record b.blocks { spare_blocks = i; spare_chunks = j } }) n s t size at step → Serves b n s t size at step
-serves_made b i j n s t size at step rest = record {
-  answer = rest.answer;
-  is = rest.is;
-  does = record {
-    kept = rest.does.kept;
-    ledger = rest.does.ledger;
-    fresh = rest.does.fresh;
-    chunk = rest.does.chunk;
-    number = rest.does.number;
-    numbers = rest.does.numbers;
-    asked = rest.does.asked;
-    moves = rw (← footprint-spare b.blocks i j) rest.does.moves;
-    keeps = rest.does.keeps;
-  };
 }
 
 -- blocks are rearranged after a chunk was freed

@@ -3,7 +3,7 @@ use Rattle.std.specs.Prelude.{◌≡◌, ◌≢◌, ◌≤◌, ℕ, true, Option
 use Rattle.std.specs.Map.{values_of}
 use Rattle.addr_space.specs.declared.Addr.{Addr}
 use Rattle.chunk_header.specs.declared.Kind.TheVariants.{Generation}
-use Rattle.ctx_blocks.specs.Layout.{Layout, block_at, chunk_at, bare}
+use Rattle.ctx_blocks.specs.Layout.{Layout, block_at, chunk_at}
 use Rattle.ctx_blocks.specs.declared.parts.Block.{Block}
 use Rattle.ctx_blocks.specs.declared.parts.Chunk.{Chunk}
 use Rattle.generation_ctx.specs.Ledger.{GenerationLedger}
@@ -26,7 +26,7 @@ ledger_of b = record {
 
 -- the value that contracts see
 abbrev pub state_of : Books → GenerationState
-state_of b = record { ledger = ledger_of b; layout = bare b.blocks }
+state_of b = record { ledger = ledger_of b; layout = b.blocks }
 
 -- there is a block without live chunks, and it is neither the keeper nor the current one
 pub record IsIdle (l : Layout) (current number : ℕ) : Type 0 where

@@ -20,7 +20,6 @@ pub record Rearranges (b n : Books) (s t : Space) (ledger : GenerationLedger) : 
   pub kept : IsKept n
   pub ledger_is : ledger_of n ≡ ledger
   pub chunks : n.blocks.chunks ≡ b.blocks.chunks
-  pub spare : n.blocks.spare_chunks ≡ b.blocks.spare_chunks
   pub account : n.blocks.account ≡ b.blocks.account
   pub moves : Moves (footprint b.blocks) (footprint n.blocks) s t
   pub keeps : Keeps (footprint b.blocks) (footprint n.blocks) s t

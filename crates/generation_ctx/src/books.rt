@@ -206,7 +206,6 @@ impl Books {
         requires agrees { Agrees (footprint self.old.blocks) space.old }
         requires size { size ≤ 524288 }
         requires room { (block : Block) × (block_at self.old.blocks self.old.current ≡ Some block) × (granted size + 8 ≤ block.room) }
-        requires spare { 1 ≤ self.old.blocks.spare_chunks }
         ensures allocates { Allocates self.old self.new space.old space.new size result (cut (ledger_of self.old) (granted size) 0) }
         ensures among { AreAmong self.new.blocks self.old.blocks }
         ensures asked { space.new.taken ≡ space.old.taken }
@@ -271,7 +270,6 @@ impl Books {
         requires agrees { Agrees (footprint self.old.blocks) space.old }
         requires some { 8 ≤ bytes }
         requires most { bytes ≤ 2 ^ 20 }
-        requires spare { 1 ≤ self.old.blocks.spare_blocks }
         ensures ok { OnOk result (Rearranges self.old self.new space.old space.new (with_new (ledger_of self.old) (block_size (ledger_of self.old) bytes))) }
         ensures number { IfOk result (λ number. number_of self.new.blocks number ≡ (ledger_of self.old).count + 1) }
         ensures among { OnOk result (AreAmong self.old.blocks self.new.blocks) }
@@ -297,8 +295,6 @@ impl Books {
         requires agrees { Agrees (footprint self.old.blocks) space.old }
         requires size { size ≤ 524288 }
         requires little { (block : Block) × (block_at self.old.blocks self.old.current ≡ Some block) × (block.room < granted size + 8) }
-        requires spare_blocks { 1 ≤ self.old.blocks.spare_blocks }
-        requires spare_chunks { 1 ≤ self.old.blocks.spare_chunks }
         ensures ok { IfOk result (λ at. Serves self.old self.new space.old space.new size at (take_cut (ledger_of self.old) (space.old.limit - held space.old self.old.blocks.account) (granted size))) }
         ensures no_space { result ≡ Err CtxError.NoSpace → take_cut (ledger_of self.old) (space.old.limit - held space.old self.old.blocks.account) (granted size) ≡ Err CtxError.NoSpace }
         ensures no_other { IfErr result (λ e. (e ≡ CtxError.NoSpace) ⊎ (e ≡ CtxError.Memory)) }
@@ -320,8 +316,6 @@ impl Books {
         requires kept { IsKept self.old }
         requires agrees { Agrees (footprint self.old.blocks) space.old }
         requires size { size ≤ 524288 }
-        requires spare_blocks { 1 ≤ self.old.blocks.spare_blocks }
-        requires spare_chunks { 1 ≤ self.old.blocks.spare_chunks }
         ensures ok { IfOk result (λ at. Serves self.old self.new space.old space.new size at (take_cut (ledger_of self.old) (space.old.limit - held space.old self.old.blocks.account) (granted size))) }
         ensures no_space { result ≡ Err CtxError.NoSpace → take_cut (ledger_of self.old) (space.old.limit - held space.old self.old.blocks.account) (granted size) ≡ Err CtxError.NoSpace }
         ensures no_other { IfErr result (λ e. (e ≡ CtxError.NoSpace) ⊎ (e ≡ CtxError.Memory)) }
@@ -339,8 +333,6 @@ impl Books {
         requires kept { IsKept self.old }
         requires agrees { Agrees (footprint self.old.blocks) space.old }
         requires size { size < 2 ^ 30 }
-        requires spare_blocks { 1 ≤ self.old.blocks.spare_blocks }
-        requires spare_chunks { 1 ≤ self.old.blocks.spare_chunks }
         ensures ok { IfOk result (λ at. Serves self.old self.new space.old space.new size at (take_own (ledger_of self.old) (space.old.limit - held space.old self.old.blocks.account) (granted size))) }
         ensures no_space { result ≡ Err CtxError.NoSpace → take_own (ledger_of self.old) (space.old.limit - held space.old self.old.blocks.account) (granted size) ≡ Err CtxError.NoSpace }
         ensures no_other { IfErr result (λ e. (e ≡ CtxError.NoSpace) ⊎ (e ≡ CtxError.Memory)) }
@@ -352,13 +344,11 @@ impl Books {
         Ok(self.blocks.cut(space, number, size, room, true))
     }
 
-    // Serves a request for which room was made.
+    // Serves a request of a size that isn't too big.
     fn take(&mut self, space: &mut Space, size: u32) -> Result<Addr, CtxError>
         requires kept { IsKept self.old }
         requires agrees { Agrees (footprint self.old.blocks) space.old }
         requires size { size ≤ 1073741823 }
-        requires spare_blocks { 1 ≤ self.old.blocks.spare_blocks }
-        requires spare_chunks { 1 ≤ self.old.blocks.spare_chunks }
         ensures ok { IfOk result (λ at. Serves self.old self.new space.old space.new size at (take (ledger_of self.old) (space.old.limit - held space.old self.old.blocks.account) size)) }
         ensures no_space { result ≡ Err CtxError.NoSpace → take (ledger_of self.old) (space.old.limit - held space.old self.old.blocks.account) size ≡ Err CtxError.NoSpace }
         ensures no_other { IfErr result (λ e. (e ≡ CtxError.NoSpace) ⊎ (e ≡ CtxError.Memory)) }
@@ -369,22 +359,6 @@ impl Books {
             return self.take_own(space, size);
         }
         self.take_cut(space, size)
-    }
-
-    // Serves a request of a size that isn't too big.
-    fn serve(&mut self, space: &mut Space, size: u32) -> Result<Addr, CtxError>
-        requires kept { IsKept self.old }
-        requires agrees { Agrees (footprint self.old.blocks) space.old }
-        requires size { size ≤ 1073741823 }
-        ensures ok { IfOk result (λ at. Serves self.old self.new space.old space.new size at (take (ledger_of self.old) (space.old.limit - held space.old self.old.blocks.account) size)) }
-        ensures no_space { result ≡ Err CtxError.NoSpace → take (ledger_of self.old) (space.old.limit - held space.old self.old.blocks.account) size ≡ Err CtxError.NoSpace }
-        ensures no_other { IfErr result (λ e. (e ≡ CtxError.NoSpace) ⊎ (e ≡ CtxError.Memory)) }
-        ensures err { OnErr result (state_of self.new ≡ state_of self.old) }
-        ensures err_kept { OnErr result (IsKept self.new) }
-        ensures err_space { OnErr result (space.new ≡ space.old) }
-    {
-        self.blocks.make_room()?;
-        self.take(space, size)
     }
 
     // Serves a request.
@@ -402,7 +376,7 @@ impl Books {
         if size > LARGEST {
             return Err(CtxError::TooBig);
         }
-        self.serve(space, size as u32)
+        self.take(space, size as u32)
     }
 
     // Gives a shared block whose last live chunk was freed its whole room, or back.
@@ -476,6 +450,17 @@ impl Books {
         self.blocks.give(space, at.region);
     }
 
+    // Whether a live chunk has its block for itself.
+    #[inline]
+    fn is_own(&self, space: &Space, at: Addr) -> bool
+        requires kept { IsKept self.now }
+        requires agrees { Agrees (footprint self.now.blocks) space.now }
+        requires chunk { (c : Chunk) × (chunk_at self.now.blocks at ≡ Some c) }
+        ensures { (c : Chunk) → chunk_at self.now.blocks at ≡ Some c → result ≡ c.own }
+    {
+        self.blocks.header(space, at).own
+    }
+
     // Frees a chunk.
     pub fn free(&mut self, space: &mut Space, at: Addr)
         requires kept { IsKept self.old }
@@ -485,15 +470,10 @@ impl Books {
         ensures ledger { (c : Chunk) → chunk_at self.old.blocks at ≡ Some c → ledger_of self.new ≡ give (ledger_of self.old) (place_in self.old.blocks at.region c) }
         ensures asked { space.new.taken ≡ space.old.taken }
     {
-        match self.blocks.chunk(at) {
-            Some(chunk) => {
-                if chunk.own {
-                    self.free_own(space, at);
-                } else {
-                    self.free_shared(space, at);
-                }
-            }
-            None => {}
+        if self.is_own(space, at) {
+            self.free_own(space, at);
+        } else {
+            self.free_shared(space, at);
         }
     }
 
@@ -518,21 +498,24 @@ impl Books {
         ensures err_kept { OnErr result (IsKept self.new) }
         ensures err_space { OnErr result (space.new ≡ space.old) }
     {
-        let to = self.serve(space, size)?;
+        let to = self.take(space, size)?;
         self.blocks.carry(space, at, to, keep);
         self.free(space, at);
         Ok(to)
     }
 
-    // The bytes that the live chunk at an address may have.
-    fn room_at(&self, at: Addr) -> u32
-        requires { (c : Chunk) × (chunk_at self.now.blocks at ≡ Some c) }
+    // The bytes that the live chunk at an address may have: those of its header, or of its block.
+    fn room_at(&self, space: &Space, at: Addr) -> u32
+        requires kept { IsKept self.now }
+        requires agrees { Agrees (footprint self.now.blocks) space.now }
+        requires chunk { (c : Chunk) × (chunk_at self.now.blocks at ≡ Some c) }
         ensures { (c : Chunk) → chunk_at self.now.blocks at ≡ Some c → result ≡ c.room }
     {
-        match self.blocks.chunk(at) {
-            Some(chunk) => chunk.room,
-            None => 0,
+        let header = self.blocks.header(space, at);
+        if header.own {
+            return self.block(at.region).size - 48;
         }
+        header.value
     }
 
     // Gives a chunk another size that it may have where it is.
@@ -572,7 +555,7 @@ impl Books {
         }
         let size = size as u32;
         let keep = keep.min(u64::from(size)) as u32;
-        if self.room_at(at) >= size {
+        if self.room_at(space, at) >= size {
             self.set_size(space, at, keep, size);
             return Ok(at);
         }

@@ -113,7 +113,6 @@ impl GenerationCtx {
     /// Takes a chunk of `size` bytes, which may be 0, and answers its address: `GenerationAlloc`.
     ///
     /// `TooBig`, `NoSpace` and `Memory` are tried in this order. A refused call changes nothing.
-    #[tactic(auto, using(ctx_blocks::proofs::Spared::agrees_bare, ctx_blocks::proofs::Spared::moves_bare))]
     pub fn alloc(&mut self, space: &mut Space, size: u64) -> Result<Addr, CtxError>
         requires { Agrees (footprint self.old) space.old }
 
@@ -138,7 +137,6 @@ impl GenerationCtx {
     /// Frees a live chunk: `GenerationFree`. It never refuses, and takes no memory. A block that the chunk had for
     /// itself goes back to the space. Of a shared block whose last live chunk it is, the room is whole again, or the
     /// block goes back.
-    #[tactic(auto, using(ctx_blocks::proofs::Spared::agrees_bare, ctx_blocks::proofs::Spared::moves_bare))]
     pub fn free(&mut self, space: &mut Space, at: Addr) -> Result<(), CtxError>
         requires agrees { Agrees (footprint self.old) space.old }
         requires live { IsSome ((footprint self.old).live at) }
@@ -162,7 +160,6 @@ impl GenerationCtx {
     ///
     /// `TooBig`, where `size` is over 1,073,741,823, comes before `NoSpace`, and `Memory` may come in place of any
     /// other but `TooBig`. A refused call changes nothing.
-    #[tactic(auto, using(ctx_blocks::proofs::Spared::agrees_bare, ctx_blocks::proofs::Spared::moves_bare))]
     pub fn realloc(
         &mut self,
         space: &mut Space,
@@ -197,7 +194,6 @@ impl GenerationCtx {
 
     /// Frees all chunks and gives every block but the first back: the context is as it was created
     /// (`GenerationReset`). It takes no memory.
-    #[tactic(auto, using(ctx_blocks::proofs::Spared::agrees_bare, ctx_blocks::proofs::Spared::moves_bare))]
     pub fn reset(&mut self, space: &mut Space)
         requires { Agrees (footprint self.old) space.old }
         ensures ledger { self.new.ledger ≡ reset self.old.ledger }

@@ -1,5 +1,5 @@
 -- Lemmas on what a Slab has in a space with its free chunks.
-use Rattle.std.proofs.Common.{◌≡◌, ◌≢◌, ℕ, ◌+◌, ◌-◌, ◌/◌, ◌%◌, ◌<◌, ◌≤◌, ◌==◌, if◌then◌else◌, Bool, true, false, List, Option, Some, None, refl, sym, ap, subst, ◌∙◌, inl, inr, arith}
+use Rattle.std.proofs.Common.{◌≡◌, ◌≢◌, ℕ, ◌+◌, ◌-◌, ◌/◌, ◌%◌, ◌<◌, ◌≤◌, ◌==◌, if◌then◌else◌, Bool, true, false, List, Option, Some, None, refl, sym, ap, ◌∙◌, inl, inr, arith}
 use Rattle.std.specs.Global.{Vec}
 use Rattle.std.proofs.Math.Nat.{mod-eq-sub-div-mul, div-mul-le_self}
 use Rattle.std.proofs.lemmas.Bool.Decides.{nat_tests}
@@ -8,7 +8,7 @@ use Rattle.addr_space.specs.Space.{Space}
 use Rattle.addr_space.specs.Footprint.{Footprint, IsSound, Agrees, Moves, nothing, counted}
 use Rattle.chunk_header.specs.Header.{IsHeaded, AllHeaded, AllOfKind, TakesSpace}
 use Rattle.chunk_header.specs.declared.Kind.{Kind}
-use Rattle.ctx_blocks.specs.Layout.{Layout, block_at, chunk_at, mark_of, front_of, start_of, footprint as footprint_of, bare}
+use Rattle.ctx_blocks.specs.Layout.{Layout, block_at, chunk_at, front_of, start_of, footprint as footprint_of}
 use Rattle.ctx_blocks.specs.declared.parts.Block.{Block}
 use Rattle.ctx_blocks.specs.declared.parts.Chunk.{Chunk}
 use Rattle.slab_ctx.specs.Lives.{stride}
@@ -23,11 +23,6 @@ use Rattle.slab_ctx.proofs.Places.{start-is, slot-least}
 -- what the context has in a space: what the blocks have, and the free chunks
 abbrev pub full : ℕ → Layout → Footprint
 full size l = record (footprint_of l) { free = free_at size l }
-
--- that room was made for more doesn't count
-full-bare : (size : ℕ) (l : Layout) → full size (bare l) ≡ full size l
-unfolding mark_of
-full-bare size l = refl
 
 -- the test of a slot
 slot-from : (size offset : ℕ) → 1 ≤ size → is_slot size offset ≡ true → IsSlot size offset × (offset + (stride size - 8) ≤ 8192)
@@ -112,9 +107,8 @@ module _ (l : Layout) (size : ℕ) (s : List (ℕ × Vec ℕ)) (slotted : IsSlot
   }
 
 -- a space has the blocks of a context that it agrees with
-pub Agrees-plain : (size : ℕ) (l : Layout) (sp : Space) → Agrees (full size (bare l)) sp → Agrees (footprint_of l) sp
-Agrees-plain size l sp bare_agrees =
-    let agrees = subst (λ f. Agrees f sp) (full-bare size l) bare_agrees in
+pub Agrees-plain : (size : ℕ) (l : Layout) (sp : Space) → Agrees (full size l) sp → Agrees (footprint_of l) sp
+Agrees-plain size l sp agrees =
     record {
       sound = record {
         live_inside = agrees.sound.live_inside;
@@ -133,10 +127,10 @@ Agrees-plain size l sp bare_agrees =
     }
 
 -- the steps, with the free chunks
-pub Moves-full : (size now : ℕ) (l m : Layout) (t : List (ℕ × Vec ℕ)) (sp sq : Space) → now ≡ size → IsSlotted m now t → Moves (footprint_of l) (footprint_of m) sp sq → Moves (full size (bare l)) (full now (bare m)) sp sq
+pub Moves-full : (size now : ℕ) (l m : Layout) (t : List (ℕ × Vec ℕ)) (sp sq : Space) → now ≡ size → IsSlotted m now t → Moves (footprint_of l) (footprint_of m) sp sq → Moves (full size l) (full now m) sp sq
 unfolding counted
 Moves-full size now l m t sp sq same slotted moves =
-    let more : Moves (full size l) (full now m) sp sq = record {
+    record {
       agrees = Agrees-full m now t slotted sq moves.agrees;
       account = moves.account;
       context = moves.context;
@@ -144,13 +138,12 @@ Moves-full size now l m t sp sq same slotted moves =
       accounts = moves.accounts;
       limit = moves.limit;
       held = moves.held;
-    } in
-    subst (λ f. Moves f (full now (bare m)) sp sq) (sym (full-bare size l)) (subst (λ g. Moves (full size l) g sp sq) (sym (full-bare now m)) more)
+    }
 
-pub Moves-made : (size account context : ℕ) (m : Layout) (t : List (ℕ × Vec ℕ)) (sp sq : Space) → IsSlotted m size t → Moves (nothing account context) (footprint_of m) sp sq → Moves (nothing account context) (full size (bare m)) sp sq
+pub Moves-made : (size account context : ℕ) (m : Layout) (t : List (ℕ × Vec ℕ)) (sp sq : Space) → IsSlotted m size t → Moves (nothing account context) (footprint_of m) sp sq → Moves (nothing account context) (full size m) sp sq
 unfolding counted
 Moves-made size account context m t sp sq slotted moves =
-    let more : Moves (nothing account context) (full size m) sp sq = record {
+    record {
       agrees = Agrees-full m size t slotted sq moves.agrees;
       account = moves.account;
       context = moves.context;
@@ -158,13 +151,12 @@ Moves-made size account context m t sp sq slotted moves =
       accounts = moves.accounts;
       limit = moves.limit;
       held = moves.held;
-    } in
-    subst (λ g. Moves (nothing account context) g sp sq) (sym (full-bare size m)) more
+    }
 
-pub Moves-gone : (size account context : ℕ) (l : Layout) (sp sq : Space) → Moves (footprint_of l) (nothing account context) sp sq → Moves (full size (bare l)) (nothing account context) sp sq
+pub Moves-gone : (size account context : ℕ) (l : Layout) (sp sq : Space) → Moves (footprint_of l) (nothing account context) sp sq → Moves (full size l) (nothing account context) sp sq
 unfolding counted
 Moves-gone size account context l sp sq moves =
-    let more : Moves (full size l) (nothing account context) sp sq = record {
+    record {
       agrees = moves.agrees;
       account = moves.account;
       context = moves.context;
@@ -172,8 +164,7 @@ Moves-gone size account context l sp sq moves =
       accounts = moves.accounts;
       limit = moves.limit;
       held = moves.held;
-    } in
-    subst (λ f. Moves f (nothing account context) sp sq) (sym (full-bare size l)) more
+    }
 
 -- live chunks have headers, free ones count for nothing there
 abbrev IsHeaded-full : (size : ℕ) (l : Layout) (at : Addr) → IsHeaded (footprint_of l) at → IsHeaded (full size l) at
@@ -188,14 +179,11 @@ IsHeaded-full size l at it = record {
   block = it.block;
 }
 
-pub AllHeaded-full : (size : ℕ) (l : Layout) → AllHeaded (footprint_of l) → AllHeaded (full size (bare l))
-AllHeaded-full size l headed = subst AllHeaded (sym (full-bare size l)) (λ at n live. IsHeaded-full size l at (headed at n live))
+pub AllHeaded-full : (size : ℕ) (l : Layout) → AllHeaded (footprint_of l) → AllHeaded (full size l)
+AllHeaded-full size l headed at n live = IsHeaded-full size l at (headed at n live)
 
-pub TakesSpace-full : (size : ℕ) (l : Layout) (at : Addr) (space : ℕ) → TakesSpace (footprint_of l) at space → TakesSpace (full size (bare l)) at space
-TakesSpace-full size l at space takes =
-    let more : TakesSpace (full size l) at space = record { headed = IsHeaded-full size l at takes.headed; small = takes.small; is = takes.is } in
-    subst (λ f. TakesSpace f at space) (sym (full-bare size l)) more
+pub TakesSpace-full : (size : ℕ) (l : Layout) (at : Addr) (space : ℕ) → TakesSpace (footprint_of l) at space → TakesSpace (full size l) at space
+TakesSpace-full size l at space takes = record { headed = IsHeaded-full size l at takes.headed; small = takes.small; is = takes.is }
 
-pub AllOfKind-full : (size : ℕ) (l : Layout) (kind : Kind) → AllOfKind kind (footprint_of l) → AllOfKind kind (full size (bare l))
-AllOfKind-full size l kind all = subst (AllOfKind kind) (sym (full-bare size l)) (λ at n live.
-    (let it = all at n live in (IsHeaded-full size l at it.0, it.1)))
+pub AllOfKind-full : (size : ℕ) (l : Layout) (kind : Kind) → AllOfKind kind (footprint_of l) → AllOfKind kind (full size l)
+AllOfKind-full size l kind all at n live = let it = all at n live in (IsHeaded-full size l at it.0, it.1)

@@ -140,12 +140,3 @@ sum-set f xs i x within = sum_by-set f xs i x 0 within
 
 pub sum-remove : (f : ℕ → ℕ) (xs : List ℕ) (i : ℕ) → i < length xs → sum_by f (remove xs i) + f (slice_index xs i) ≡ sum_by f xs
 sum-remove f xs i within = sum_by-remove f xs i 0 within
-
--- no block changes
-pub IsListed-same : (l m : Layout) → IsListed l → m.keeper ≡ l.keeper → m.last_number ≡ l.last_number → m.blocks ≡ l.blocks → IsListed m
-IsListed-same l m listed keeper last blocks = record {
-  shape = blocks ∙ listed.shape ∙ ap (λ k. (k, first_region) ∷ others l.blocks) (sym keeper) ∙ ap (λ es. (m.keeper, first_region) ∷ others es) (sym blocks);
-  alone = ap (λ k. find k (others m.blocks)) keeper ∙ ap (λ es. find l.keeper (others es)) blocks ∙ listed.alone;
-  rising = rw (last, blocks) listed.rising;
-  apart = rw blocks listed.apart;
-}

@@ -126,21 +126,3 @@ IsSlotted-none l size s kind one least most blocks chunks =
       slot = λ at chunk found. absurd (none at chunk found);
       owned = λ at chunk found. absurd (none at chunk found);
     }
-
--- no block and no chunk changes
-pub IsSlotted-same : (l m : Layout) (size : ℕ) (s : List (ℕ × Vec ℕ)) → SameContext l m → m.blocks ≡ l.blocks → m.chunks ≡ l.chunks → IsSlotted l size s → IsSlotted m size s
-IsSlotted-same l m size s same blocks chunks slotted =
-    let stay = λ (at : Addr). ap (λ cs. lookup (same_addr at) cs) chunks in
-    let block = λ (number : ℕ). ap (λ es. lookup (λ n. number == n) es) blocks in
-    record {
-      kind = same.kind ∙ slotted.kind;
-      first = same.first_number ∙ slotted.first;
-      least = slotted.least;
-      most = slotted.most;
-      keeper = block m.keeper ∙ ap (block_at l) same.keeper ∙ slotted.keeper;
-      filled = λ number b differs found. IsFilled-kept l m size number b (stack_at s number) (stack_at s number) refl (λ offset. stay (at_offset number offset))
-          (slotted.filled number b (λ e. differs (e ∙ sym same.keeper)) (sym (block number) ∙ found));
-      chunk = λ at c found. slotted.chunk at c (sym (stay at) ∙ found);
-      slot = λ at c found. slotted.slot at c (sym (stay at) ∙ found);
-      owned = λ at c found e. slotted.owned at c (sym (stay at) ∙ found) (e ∙ same.keeper);
-    }

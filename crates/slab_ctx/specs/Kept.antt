@@ -1,7 +1,7 @@
 -- What holds of the insides of a Slab.
 use Rattle.std.specs.Prelude.{◌≡◌, ℕ, ◌+◌, ◌*◌, ◌^◌, ◌≤◌, ◌==◌, List, [], ◌∷◌, length, None}
 use Rattle.std.specs.Map.{lookup}
-use Rattle.ctx_blocks.specs.Layout.{Layout, total, bare}
+use Rattle.ctx_blocks.specs.Layout.{Layout, total}
 use Rattle.ctx_blocks.specs.Kept.{AreRising}
 use Rattle.ctx_blocks.specs.declared.parts.Block.{Block}
 use Rattle.slab_ctx.specs.Lives.{LiveCounts, empties, free_chunks, per_block}
@@ -21,7 +21,7 @@ ledger_of b = record { size = b.slots.size; count = b.slots.blocks.last_number; 
 
 -- the value that contracts see
 abbrev pub state_of : Books → SlabState
-state_of b = record { ledger = ledger_of b; layout = bare b.slots.blocks }
+state_of b = record { ledger = ledger_of b; layout = b.slots.blocks }
 
 -- no two blocks of a list are in one region
 abbrev pub AreApart : List (ℕ × Block) → Type 0

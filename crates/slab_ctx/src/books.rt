@@ -151,7 +151,6 @@ impl Books {
         requires agrees { Agrees (blocks_footprint self.old.slots.blocks) space.old }
         requires not_keeper { number ≢ self.old.slots.blocks.keeper }
         requires block { (b : Block) × (block_at self.old.slots.blocks number ≡ Some b) × (b.live < per_block self.old.slots.size) }
-        requires spare { 1 ≤ self.old.slots.blocks.spare_chunks }
         ensures kept { IsKept self.new }
         ensures size { self.new.slots.size ≡ self.old.slots.size }
         ensures blocks { (b : Block) → block_at self.old.slots.blocks number ≡ Some b → blocks_of self.new.slots.blocks ≡ with_live (blocks_of self.old.slots.blocks) b.number (b.live + 1) }
@@ -173,11 +172,10 @@ impl Books {
         self.slots.take(space, number, block)
     }
 
-    // Takes a block, for which room was made.
+    // Takes a block.
     fn add(&mut self, space: &mut Space) -> Result<u32, CtxError>
         requires kept { IsKept self.old }
         requires agrees { Agrees (blocks_footprint self.old.slots.blocks) space.old }
-        requires spare { 1 ≤ self.old.slots.blocks.spare_blocks }
         ensures kept { IsKept self.new }
         ensures size { self.new.slots.size ≡ self.old.slots.size }
         ensures blocks { OnOk result (blocks_of self.new.slots.blocks ≡ blocks_of self.old.slots.blocks ++ record { number = self.old.slots.blocks.last_number + 1; live = 0 } ∷ []) }
@@ -187,7 +185,6 @@ impl Books {
         ensures block { IfOk result (λ number. block_at self.new.slots.blocks number ≡ Some (record { number = self.old.slots.blocks.last_number + 1; size = 8192; room = 8152; live = 0; freed = 0 })) }
         ensures not_keeper { IfOk result (λ number. number ≢ self.new.slots.blocks.keeper) }
         ensures chunks { OnOk result (self.new.slots.blocks.chunks ≡ self.old.slots.blocks.chunks) }
-        ensures spare { OnOk result (self.new.slots.blocks.spare_chunks ≡ self.old.slots.blocks.spare_chunks) }
         ensures moves { OnOk result (Moves (blocks_footprint self.old.slots.blocks) (blocks_footprint self.new.slots.blocks) space.old space.new) }
         ensures keeps { OnOk result (Keeps (blocks_footprint self.old.slots.blocks) (blocks_footprint self.new.slots.blocks) space.old space.new) }
         ensures fits { OnOk result (8192 ≤ space.old.limit - held space.old self.old.slots.blocks.account) }
@@ -208,24 +205,10 @@ impl Books {
         Ok(number)
     }
 
-    // Makes room to note one chunk and one block.
-    fn make_room(&mut self) -> Result<(), CtxError>
-        requires { IsKept self.old }
-        ensures kept { IsKept self.new }
-        ensures state { state_of self.new ≡ state_of self.old }
-        ensures spare_blocks { OnOk result (1 ≤ self.new.slots.blocks.spare_blocks) }
-        ensures spare_chunks { OnOk result (1 ≤ self.new.slots.blocks.spare_chunks) }
-        ensures only_memory { IfErr result (λ e. e ≡ CtxError.Memory) }
-    {
-        self.slots.blocks.make_room()
-    }
-
-    // Serves a request for a chunk, for which room was made.
+    // Serves a request for a chunk.
     fn serve(&mut self, space: &mut Space) -> Result<Addr, CtxError>
         requires kept { IsKept self.old }
         requires agrees { Agrees (footprint (state_of self.old)) space.old }
-        requires spare_blocks { 1 ≤ self.old.slots.blocks.spare_blocks }
-        requires spare_chunks { 1 ≤ self.old.slots.blocks.spare_chunks }
         ensures ok { IfOk result (λ at. Serves (state_of self.old) self.new space.old space.new at (serve (ledger_of self.old) (space.old.limit - held space.old self.old.slots.blocks.account) (serving (per_block self.old.slots.size) (blocks_of self.old.slots.blocks)))) }
         ensures no_space { result ≡ Err CtxError.NoSpace → serve (ledger_of self.old) (space.old.limit - held space.old self.old.slots.blocks.account) (serving (per_block self.old.slots.size) (blocks_of self.old.slots.blocks)) ≡ Err CtxError.NoSpace }
         ensures no_other { IfErr result (λ e. (e ≡ CtxError.NoSpace) ⊎ (e ≡ CtxError.Memory)) }
@@ -260,7 +243,6 @@ impl Books {
         if size != u64::from(self.slots.size) {
             return Err(CtxError::WrongSize);
         }
-        self.make_room()?;
         self.serve(space)
     }
 

@@ -153,11 +153,10 @@ impl Slots {
         }
     }
 
-    // Takes a block, for which room was made.
+    // Takes a block.
     pub fn add(&mut self, space: &mut Space) -> Result<u32, CtxError>
         requires slots { HasSlots self.old }
         requires agrees { Agrees (footprint self.old.blocks) space.old }
-        requires spare { 1 ≤ self.old.blocks.spare_blocks }
         ensures slots { HasSlots self.new }
         ensures size { self.new.size ≡ self.old.size }
         ensures same { OnOk result (SameContext self.old.blocks self.new.blocks) }
@@ -167,7 +166,6 @@ impl Slots {
         ensures last { OnOk result (self.new.blocks.last_number ≡ self.old.blocks.last_number + 1) }
         ensures asked { OnOk result (Asks self.old.blocks.account 8192 space.old space.new) }
         ensures chunks { OnOk result (self.new.blocks.chunks ≡ self.old.blocks.chunks) }
-        ensures spare { OnOk result (self.new.blocks.spare_chunks ≡ self.old.blocks.spare_chunks) }
         ensures total { OnOk result (total self.new.blocks ≡ total self.old.blocks + 8192) }
         ensures most { OnOk result (total self.new.blocks ≤ 2 ^ 62) }
         ensures moves { OnOk result (Moves (footprint self.old.blocks) (footprint self.new.blocks) space.old space.new) }
@@ -197,7 +195,6 @@ impl Slots {
         requires agrees { Agrees (footprint self.old.blocks) space.old }
         requires not_keeper { number ≢ self.old.blocks.keeper }
         requires block { (b : Block) × (block_at self.old.blocks number ≡ Some b) × (b.freed ≡ depth + 1) }
-        requires spare { 1 ≤ self.old.blocks.spare_chunks }
         ensures slots { HasSlots self.new }
         ensures size { self.new.size ≡ self.old.size }
         ensures same { SameContext self.old.blocks self.new.blocks }
@@ -225,7 +222,6 @@ impl Slots {
         requires agrees { Agrees (footprint self.old.blocks) space.old }
         requires not_keeper { number ≢ self.old.blocks.keeper }
         requires block { (b : Block) × (block_at self.old.blocks number ≡ Some b) × (stride self.old.size ≤ b.room) }
-        requires spare { 1 ≤ self.old.blocks.spare_chunks }
         ensures slots { HasSlots self.new }
         ensures size { self.new.size ≡ self.old.size }
         ensures same { SameContext self.old.blocks self.new.blocks }
@@ -249,7 +245,6 @@ impl Slots {
         requires not_keeper { number ≢ self.old.blocks.keeper }
         requires block { block_at self.old.blocks number ≡ Some block }
         requires free { block.live < per_block self.old.size }
-        requires spare { 1 ≤ self.old.blocks.spare_chunks }
         ensures slots { HasSlots self.new }
         ensures size { self.new.size ≡ self.old.size }
         ensures same { SameContext self.old.blocks self.new.blocks }
@@ -283,8 +278,7 @@ impl Slots {
         ensures moves { MovesStill self.old.blocks self.new.blocks }
     {
         self.blocks.laid();
-        let block = self.owned(at.region);
-        let _ = self.blocks.remove(at);
+        let block = self.blocks.remove(at);
         push(&mut self.stacks, at.region, block.freed, at.offset as u16);
         block
     }

@@ -2,7 +2,6 @@ use Rattle.std.proofs.Common.{ap, ◌∙◌}
 use Rattle.addr_space.specs.Footprint.{Footprint}
 use Rattle.addr_space.proofs.Options.{on_ok, on_err, either_way, both_err}
 use Rattle.addr_space.proofs.Steps.{Moves-same, Keeps-same}
-use Rattle.ctx_blocks.proofs.Spared.{moves_bare}
 use Rattle.bump_ctx.specs.State.{footprint}
 use Rattle.bump_ctx.specs.Kept.{state_of}
 use Rattle.bump_ctx.proofs.BumpCtx.alloc.Goals as goal
@@ -16,7 +15,7 @@ returns-clause-moves c =
     let f : Footprint = footprint (state_of b) in
     let g : Footprint = footprint (state_of n) in
     rw (← (ap state_of c.deref_mut.ensures.value ∙ c.self.view_is)) (either_way c.alloc.result
-    (on_ok c.alloc.result (λ at had. moves_bare b.blocks n.blocks s t had.moves) c.alloc.ensures.ok)
+    (on_ok c.alloc.result (λ at had. had.moves) c.alloc.ensures.ok)
     (both_err c.alloc.result (λ same same_space. Moves-same f g s t (rw (← (ap state_of c.deref_mut.ensures.value ∙ c.self.view_is)) at c.requires) (ap footprint same) same_space) c.alloc.ensures.err c.alloc.ensures.err_space))
 
 pub returns-clause-keeps : goal.returns-clause-keeps

@@ -1,10 +1,8 @@
-use Rattle.std.proofs.Common.{◌≡◌, Some, None, false, ap, sym, ◌∙◌, arith, inl, inr}
+use Rattle.std.proofs.Common.{◌≡◌, Some, None, false, ap, ◌∙◌, arith, inl, inr}
 use Rattle.std.specs.Map.{lookup}
-use Rattle.addr_space.specs.declared.Addr.{Addr}
 use Rattle.addr_space.specs.Live.{same_addr}
 use Rattle.ctx_blocks.specs.Layout.{Layout, block_at, chunk_at, gap_of, header_room}
 use Rattle.ctx_blocks.specs.declared.parts.Block.{Block}
-use Rattle.addr_space.proofs.Addresses.{same_addr_from}
 use Rattle.ctx_blocks.proofs.Laid.{put_cases}
 use Rattle.ctx_blocks.proofs.New.{keeper_is}
 use Rattle.ctx_blocks.proofs.tests.a_chunk_is_placed.Given.{Over}
@@ -15,15 +13,15 @@ use Rattle.ctx_blocks.proofs.tests.a_chunk_is_placed.Goals.{After-keeper-number}
 first : Block
 first = record { number = 0; size = 1024; room = 784; live = 0; freed = 0 }
 
-owned : (g : Over) (c : After-keeper-number g) → block_at c.make_room.new.self c.keeper-number.result ≡ Some first
+owned : (g : Over) (c : After-keeper-number g) → block_at c.in_ok-blocks.blocks c.keeper-number.result ≡ Some first
 unfolding first
 owned g c =
     let l : Layout = c.in_ok-blocks.blocks in
     let it : block_at l l.keeper ≡ Some first = keeper_is l first c.in_ok-blocks.ensures.blocks c.in_ok-blocks.ensures.chunks in
-    ap (block_at c.make_room.new.self) c.keeper-number.ensures ∙ ap (λ (x : Layout). block_at x x.keeper) c.in_ok-make_room.ensures.same ∙ it
+    ap (block_at l) c.keeper-number.ensures ∙ it
 
-gap : (g : Over) (c : After-keeper-number g) → header_room c.make_room.new.self ≡ 8
-gap g c = ap gap_of (ap (λ (x : Layout). x.kind) c.in_ok-make_room.ensures.same ∙ c.in_ok-blocks.ensures.kind)
+gap : (g : Over) (c : After-keeper-number g) → header_room c.in_ok-blocks.blocks ≡ 8
+gap g c = ap gap_of c.in_ok-blocks.ensures.kind
 
 pub cut-at-requires-clause-block : goal.cut-at-requires-clause-block
 unfolding first
@@ -34,16 +32,11 @@ cut-at-requires-clause-block g c =
 pub place-requires-clause-clear : goal.place-requires-clause-clear
 unfolding first
 place-requires-clause-clear g c = λ other it found region.
-    let then = (goal.at.place-requires-clause-clear g c).After-keeper-number in
-    let there : Addr = record { region = c.keeper-number.result; offset = 248 } in
-    let offset : c.cut-at.result.offset ≡ 248 = omega (arith, c.cut-at.ensures.offset first (owned g then), gap g then) in
-    let at : c.cut-at.result ≡ there = same_addr_from c.cut-at.result there c.cut-at.ensures.region offset in
-    let before : chunk_at c.make_room.new.self other ≡ None = ap (λ (x : Layout). chunk_at x other) c.in_ok-make_room.ensures.same ∙ ap (λ es. lookup (same_addr other) es) c.in_ok-blocks.ensures.chunks in
-    let last : chunk_at c.remove.new.self other ≡ Some it = sym (ap (λ (x : Layout). chunk_at x other) c.in_ok-make_room-2.ensures.same) ∙ found in
-    elim (put_cases c.cut-at.new.self c.remove.new.self there None c.remove.ensures.chunk other) [
+    let before : chunk_at c.in_ok-blocks.blocks other ≡ None = ap (λ es. lookup (same_addr other) es) c.in_ok-blocks.ensures.chunks in
+    elim (put_cases c.cut-at.new.self c.remove.new.self c.cut-at.result None c.remove.ensures.chunk other) [
       | inl gone ↦ let none = gone.1 in absurd (cc)
-      | inr kept ↦ elim (put_cases c.make_room.new.self c.cut-at.new.self c.cut-at.result (Some (record { size = 20; room = 24; own = false })) c.cut-at.ensures.chunk other) [
-        | inl cut ↦ absurd (kept.0 (cut.0 ∙ at))
+      | inr kept ↦ elim (put_cases c.in_ok-blocks.blocks c.cut-at.new.self c.cut-at.result (Some (record { size = 20; room = 24; own = false })) c.cut-at.ensures.chunk other) [
+        | inl cut ↦ absurd (kept.0 cut.0)
         | inr old ↦ let none = kept.1 ∙ old.1 ∙ before in absurd (cc)
       ]
     ]

@@ -1,15 +1,14 @@
-use Rattle.std.proofs.Common.{◌≡◌, Some, false, ap, ◌∙◌, arith}
+use Rattle.std.proofs.Common.{◌≡◌, Some, false, ap, arith}
 use Rattle.addr_space.proofs.Carried.{IsInside-live}
-use Rattle.ctx_blocks.specs.Layout.{Layout, block_at, chunk_at, gap_of, header_room, footprint}
+use Rattle.ctx_blocks.specs.Layout.{chunk_at, gap_of, header_room, footprint}
 use Rattle.ctx_blocks.specs.declared.parts.Chunk.{Chunk}
 use Rattle.ctx_blocks.proofs.Laid.{live_is}
 use Rattle.ctx_blocks.proofs.tests.carried.Goals as goal
 
 pub cut-to-requires-clause-block : goal.cut-to-requires-clause-block
 cut-to-requires-clause-block c =
-    let same = c.in_ok-make_room.ensures.same in
-    let gap : header_room c.make_room.new.self ≡ 8 = ap gap_of (ap (λ (x : Layout). x.kind) same ∙ c.requires.kind) in
-    (record { number = 1; size = 1024; room = 768; live = 1; freed = 0 }, ap (λ (x : Layout). block_at x c.args.from.region) same ∙ c.requires.block, omega (arith, gap))
+    let gap : header_room c.args.blocks.now ≡ 8 = ap gap_of c.requires.kind in
+    (record { number = 1; size = 1024; room = 768; live = 1; freed = 0 }, c.requires.block, omega (arith, gap))
 
 pub returns-clause-inside : goal.returns-clause-inside
 returns-clause-inside c =

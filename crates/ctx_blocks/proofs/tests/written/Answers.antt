@@ -22,15 +22,15 @@ first = record { number = 1; size = 1024; room = 784; live = 0; freed = 0 }
 cut : Chunk
 cut = record { size = 5; room = 8; own = false }
 
-owned : (c : After-keeper-number) → block_at c.make_room.new.self c.keeper-number.result ≡ Some first
+owned : (c : After-keeper-number) → block_at c.in_ok-blocks.blocks c.keeper-number.result ≡ Some first
 unfolding first
 owned c =
     let l : Layout = c.in_ok-blocks.blocks in
     let it : block_at l l.keeper ≡ Some first = keeper_is l first c.in_ok-blocks.ensures.blocks c.in_ok-blocks.ensures.chunks in
-    ap (block_at c.make_room.new.self) c.keeper-number.ensures ∙ ap (λ (x : Layout). block_at x x.keeper) c.in_ok-make_room.ensures.same ∙ it
+    ap (block_at l) c.keeper-number.ensures ∙ it
 
-gap : (c : After-keeper-number) → header_room c.make_room.new.self ≡ 8
-gap c = ap gap_of (ap (λ (x : Layout). x.kind) c.in_ok-make_room.ensures.same ∙ c.in_ok-blocks.ensures.kind)
+gap : (c : After-keeper-number) → header_room c.in_ok-blocks.blocks ≡ 8
+gap c = ap gap_of c.in_ok-blocks.ensures.kind
 
 pub cut-at-requires-clause-block : goal.cut-at-requires-clause-block
 unfolding first
@@ -48,12 +48,12 @@ pub write-requires : goal.write-requires
 unfolding cut
 write-requires c =
     IsInside-live (footprint c.cut-at.new.self) c.cut-at.new.space c.cut-at.result 5 (length c.args.bytes.now) c.cut-at.ensures.moves.agrees
-    (live c.make_room.new.self c.cut-at.new.self c.cut-at.result c.cut-at.ensures.chunk) (omega arith)
+    (live c.in_ok-blocks.blocks c.cut-at.new.self c.cut-at.result c.cut-at.ensures.chunk) (omega arith)
 
 writes : (c : After-write) → WritesInside (footprint c.cut-at.new.self) c.cut-at.new.space c.write.new.self c.cut-at.result c.cut-at.result 5 c.args.bytes.now
 unfolding cut
 writes c = record {
-  live = live c.make_room.new.self c.cut-at.new.self c.cut-at.result c.cut-at.ensures.chunk;
+  live = live c.in_ok-blocks.blocks c.cut-at.new.self c.cut-at.result c.cut-at.ensures.chunk;
   region = refl;
   first = omega arith;
   last = omega arith;
@@ -69,7 +69,7 @@ unfolding first
 returns-clause-block c =
     let now = (goal.at.returns-clause-block c).After-keeper-number in
     let less : ℕ → Block = λ n. record { number = 1; size = 1024; room = 784 - (n + 8); live = 1; freed = 0 } in
-    let l : Layout = c.make_room.new.self in
+    let l : Layout = c.in_ok-blocks.blocks in
     let put : PutsBlock l c.cut-at.new.self c.keeper-number.result (less (header_room l)) = c.cut-at.ensures.block first (owned now) in
     ap (block_at c.cut-at.new.self) c.cut-at.ensures.region ∙ put_here l c.cut-at.new.self c.keeper-number.result (less (header_room l)) put ∙ ap (λ n. Some (less n)) (gap now)
 

@@ -1,9 +1,8 @@
-use Rattle.std.proofs.Common.{◌≡◌, ◌∙◌, ℕ, Some, ap, refl}
-use Rattle.addr_space.specs.Footprint.{Footprint}
+use Rattle.std.proofs.Common.{◌∙◌, ℕ, Some, ap}
+use Rattle.addr_space.specs.Footprint.{Footprint, Agrees}
 use Rattle.addr_space.proofs.Options.{if_ok, on_ok, on_err, either_way, both_err}
 use Rattle.addr_space.proofs.Steps.{Moves-same, Keeps-same}
-use Rattle.ctx_blocks.proofs.Spared.{agrees_bare, moves_bare}
-use Rattle.generation_ctx.specs.Ledger.{GenerationPlace}
+use Rattle.ctx_blocks.specs.Layout.{footprint as blocks_footprint}
 use Rattle.generation_ctx.specs.State.{footprint}
 use Rattle.generation_ctx.specs.Kept.{state_of}
 use Rattle.generation_ctx.proofs.Places.{places_put}
@@ -15,7 +14,7 @@ returns-clause-taken c =
     let m = c.alloc.new.self.blocks in
     let s = c.args.space.now in
     let t = c.alloc.new.space in
-    let agrees = agrees_bare l s (rw (← (ap state_of c.deref_mut.ensures.value ∙ c.self.view_is)) at c.requires) in
+    let agrees : Agrees (blocks_footprint l) c.args.space.now = rw (← (ap state_of c.deref_mut.ensures.value ∙ c.self.view_is)) at c.requires in
     rw (← (ap state_of c.deref_mut.ensures.value ∙ c.self.view_is)) (if_ok c.alloc.result (λ at had. record {
       answer = had.answer;
       is = had.is;
@@ -33,7 +32,7 @@ returns-clause-moves c =
     let f : Footprint = footprint (state_of b) in
     let g : Footprint = footprint (state_of n) in
     rw (← (ap state_of c.deref_mut.ensures.value ∙ c.self.view_is)) (either_way c.alloc.result
-    (on_ok c.alloc.result (λ at had. moves_bare b.blocks n.blocks s t had.does.moves) c.alloc.ensures.ok)
+    (on_ok c.alloc.result (λ at had. had.does.moves) c.alloc.ensures.ok)
     (both_err c.alloc.result (λ same same_space. Moves-same f g s t (rw (← (ap state_of c.deref_mut.ensures.value ∙ c.self.view_is)) at c.requires) (ap footprint same) same_space) c.alloc.ensures.err c.alloc.ensures.err_space))
 
 pub returns-clause-keeps : goal.returns-clause-keeps

@@ -1,6 +1,6 @@
 use Rattle.std.proofs.Common.{None, refl, ap, ◌∙◌}
-use Rattle.ctx_blocks.specs.Layout.{chunk_at}
-use Rattle.ctx_blocks.proofs.Spared.{agrees_bare, moves_bare}
+use Rattle.addr_space.specs.Footprint.{Agrees}
+use Rattle.ctx_blocks.specs.Layout.{chunk_at, footprint as blocks_footprint}
 use Rattle.generation_ctx.proofs.Places.{chunk_there, places_put, numbers_among}
 use Rattle.generation_ctx.specs.Kept.{state_of}
 use Rattle.generation_ctx.proofs.GenerationCtx.free.Goals as goal
@@ -14,11 +14,11 @@ returns-clause-place c =
     let l = c.deref_mut.result.now.blocks in
     let m = c.free.new.self.blocks in
     let f = c.free.ensures.frees in
-    let agrees = agrees_bare l c.args.space.now (rw (← (ap state_of c.deref_mut.ensures.value ∙ c.self.view_is)) at c.requires.agrees) in
+    let agrees : Agrees (blocks_footprint l) c.args.space.now = rw (← (ap state_of c.deref_mut.ensures.value ∙ c.self.view_is)) at c.requires.agrees in
     rw (← (ap state_of c.deref_mut.ensures.value ∙ c.self.view_is)) (places_put l m c.args.space.now c.free.new.space agrees f.moves (numbers_among l m f.among) c.args.at None None f.chunk refl)
 
 pub returns-clause-moves : goal.returns-clause-moves
-returns-clause-moves c = rw (← (ap state_of c.deref_mut.ensures.value ∙ c.self.view_is)) (moves_bare c.deref_mut.result.now.blocks c.free.new.self.blocks _ _ c.free.ensures.frees.moves)
+returns-clause-moves c = rw (← (ap state_of c.deref_mut.ensures.value ∙ c.self.view_is)) c.free.ensures.frees.moves
 
 pub returns-clause-keeps : goal.returns-clause-keeps
 returns-clause-keeps c = rw (← (ap state_of c.deref_mut.ensures.value ∙ c.self.view_is)) c.free.ensures.frees.keeps

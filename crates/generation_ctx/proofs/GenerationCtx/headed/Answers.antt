@@ -1,21 +1,20 @@
 use Rattle.std.proofs.Common.{◌≡◌, ◌+◌, ap, subst, ◌∙◌}
 use Rattle.chunk_header.specs.Header.{TakesSpace}
 use Rattle.ctx_blocks.specs.Layout.{footprint}
-use Rattle.ctx_blocks.proofs.Spared.{footprint-spare}
 use Rattle.generation_ctx.specs.Ledger.{GenerationPlace}
 use Rattle.generation_ctx.proofs.Places.{placed}
 use Rattle.generation_ctx.specs.Kept.{state_of}
 use Rattle.generation_ctx.proofs.GenerationCtx.headed.Goals as goal
 
 pub returns-clause-headed : goal.returns-clause-headed
-returns-clause-headed c = rw (← (ap state_of c.deref.ensures ∙ c.self.view_is)) (rw (footprint-spare c.deref.result.now.blocks 0 0) c.headed.ensures.headed)
+returns-clause-headed c = rw (← (ap state_of c.deref.ensures ∙ c.self.view_is)) c.headed.ensures.headed
 
 pub returns-clause-kinds : goal.returns-clause-kinds
-returns-clause-kinds c = rw (← (ap state_of c.deref.ensures ∙ c.self.view_is)) (rw (footprint-spare c.deref.result.now.blocks 0 0) c.headed.ensures.kinds)
+returns-clause-kinds c = rw (← (ap state_of c.deref.ensures ∙ c.self.view_is)) c.headed.ensures.kinds
 
 pub returns-clause-spaces : goal.returns-clause-spaces
 returns-clause-spaces c = rw (← (ap state_of c.deref.ensures ∙ c.self.view_is)) (λ at place there.
     (let l = c.deref.result.now.blocks in
     let it = placed l at place there in
     let room : it.0.room + 8 ≡ place.room + 8 = ap (λ (p : GenerationPlace). p.room + 8) it.2 in
-    rw (footprint-spare l 0 0) (subst (TakesSpace (footprint l) at) room (c.headed.ensures.spaces at it.0 it.1))))
+    subst (TakesSpace (footprint l) at) room (c.headed.ensures.spaces at it.0 it.1)))

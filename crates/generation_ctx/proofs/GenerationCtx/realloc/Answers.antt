@@ -1,13 +1,11 @@
-use Rattle.std.proofs.Common.{◌≡◌, ◌∙◌, ℕ, Some, IsSome, option_map, IfSome, ap, sym, subst, refl, arith, ◌≤◌}
-use Rattle.addr_space.specs.Footprint.{Footprint}
+use Rattle.std.proofs.Common.{◌≡◌, ◌∙◌, ℕ, Some, IsSome, option_map, ap, sym, subst, arith}
+use Rattle.addr_space.specs.Footprint.{Footprint, Agrees}
 use Rattle.addr_space.proofs.Options.{if_ok, on_ok, on_err, either_way, both_err}
 use Rattle.addr_space.proofs.Steps.{Moves-same, KeepsBut-same}
-use Rattle.ctx_blocks.proofs.Spared.{agrees_bare, moves_bare}
 use Rattle.ctx_blocks.specs.declared.parts.Chunk.{Chunk}
-use Rattle.generation_ctx.specs.Ledger.{GenerationPlace}
 use Rattle.generation_ctx.specs.State.{footprint, place_in}
 use Rattle.generation_ctx.specs.Kept.{state_of}
-use Rattle.ctx_blocks.specs.Layout.{chunk_at}
+use Rattle.ctx_blocks.specs.Layout.{chunk_at, footprint as blocks_footprint}
 use Rattle.ctx_blocks.proofs.Changed.{fresh_put}
 use Rattle.generation_ctx.proofs.Places.{chunk_kept, places, places_move}
 use Rattle.generation_ctx.proofs.Resizes.{moves_map}
@@ -24,7 +22,7 @@ returns-clause-resized c =
     let m = c.realloc.new.self.blocks in
     let s = c.args.space.now in
     let t = c.realloc.new.space in
-    let agrees = agrees_bare l s (rw (← (ap state_of c.deref_mut.ensures.value ∙ c.self.view_is)) at c.requires.agrees) in
+    let agrees : Agrees (blocks_footprint l) c.args.space.now = rw (← (ap state_of c.deref_mut.ensures.value ∙ c.self.view_is)) at c.requires.agrees in
     rw (← (ap state_of c.deref_mut.ensures.value ∙ c.self.view_is)) (if_ok c.realloc.result (λ to had.
     (let there : places l c.args.at ≡ Some (place_in l c.args.at.region had.old) = ap (option_map (place_in l c.args.at.region)) had.was in
     rw there (record {
@@ -54,7 +52,7 @@ returns-clause-moves c =
     let f : Footprint = footprint (state_of b) in
     let g : Footprint = footprint (state_of n) in
     rw (← (ap state_of c.deref_mut.ensures.value ∙ c.self.view_is)) (either_way c.realloc.result
-    (on_ok c.realloc.result (λ at had. moves_bare b.blocks n.blocks s t had.moves) c.realloc.ensures.ok)
+    (on_ok c.realloc.result (λ at had. had.moves) c.realloc.ensures.ok)
     (both_err c.realloc.result (λ same same_space. Moves-same f g s t (rw (← (ap state_of c.deref_mut.ensures.value ∙ c.self.view_is)) at c.requires.agrees) (ap footprint same) same_space) c.realloc.ensures.err c.realloc.ensures.err_space))
 
 pub returns-clause-keeps : goal.returns-clause-keeps

@@ -21,7 +21,9 @@ books c = record {
   first_number = c.args.first;
   last_number = c.args.first;
   blocks = c.note.new.blocks;
-  chunks = c.new.result;
+  gained = 0;
+  lost = 0;
+  chunks = c.none.result;
   total = c.from.result;
 }
 
@@ -45,12 +47,13 @@ unfolding books block
 returns-clause-kept c =
     let l = layout_of (books c) in
     record {
-      laid = IsLaid-new l (block c) (one c) c.new.ensures.empty (filled c);
-      counted = IsCounted-new l (block c) (one c) c.new.ensures.empty refl;
+      laid = IsLaid-new l (block c) (one c) c.none.ensures (filled c);
+      counted = IsCounted-new l (block c) (one c) c.none.ensures refl;
       first = rw (one c) (refl, refl);
       numbered = rw (one c) (omega arith, omega arith, tt);
-      total = c.from.ensures ∙ sym (total_one l (block c) (one c) c.new.ensures.empty);
+      total = c.from.ensures ∙ sym (total_one l (block c) (one c) c.none.ensures);
       most = omega (arith, c.from.ensures, c.requires.most);
+      unique = rw c.none.ensures tt;
     }
 
 pub returns-clause-moves : goal.returns-clause-moves
@@ -63,8 +66,8 @@ returns-clause-moves c =
           let wrote : Changes c.take.new.self w.write.new.self number (overwritten (region_at c.take.new.self number) 200 (map Some (block_bytes c.args.context c.args.size))) =
           subst (λ b. Changes c.take.new.self w.write.new.self number (overwritten (region_at c.take.new.self number) 200 (map Some b))) w.block_header.ensures w.write.ensures.changes in
           subst (λ s. Moves (nothing c.args.account c.args.context) (footprint l) c.args.space.now s) (sym w.space-is)
-          (Moves-new l (block c) (one c) c.new.ensures.empty (filled c) c.args.space.now c.take.new.self c.requires.account c.in_ok-at.ensures.fresh c.in_ok-at.ensures.changes c.in_ok-at.ensures.held w.write.new.self w.if-size-ge240.true wrote)
+          (Moves-new l (block c) (one c) c.none.ensures (filled c) c.args.space.now c.take.new.self c.requires.account c.in_ok-at.ensures.fresh c.in_ok-at.ensures.changes c.in_ok-at.ensures.held w.write.new.self w.if-size-ge240.true wrote)
       | else-size-ge240 w ↦
           subst (λ s. Moves (nothing c.args.account c.args.context) (footprint l) c.args.space.now s) (sym w.space-is)
-          (Moves-bare l (block c) (one c) c.new.ensures.empty (filled c) c.args.space.now c.take.new.self c.requires.account c.in_ok-at.ensures.fresh c.in_ok-at.ensures.changes c.in_ok-at.ensures.held w.if-size-ge240.false)
+          (Moves-bare l (block c) (one c) c.none.ensures (filled c) c.args.space.now c.take.new.self c.requires.account c.in_ok-at.ensures.fresh c.in_ok-at.ensures.changes c.in_ok-at.ensures.held w.if-size-ge240.false)
     ]

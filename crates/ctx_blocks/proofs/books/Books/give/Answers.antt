@@ -50,6 +50,7 @@ returns-clause-kept c =
       numbered = subst (AreRising b.first_number b.last_number) (sym c.shift_remove.ensures.entries) (AreRising-dropped b.first_number b.last_number b.blocks.entries c.args.number kept.numbered);
       total = omega (arith, kept.total, totals c, c.from.ensures);
       most = omega (arith, kept.most);
+      unique = kept.unique;
     }
 
 pub returns-clause-total : goal.returns-clause-total

@@ -13,30 +13,30 @@ use Rattle.ctx_blocks.proofs.Numbers.{AreRising-put}
 use Rattle.addr_space.proofs.Options.{one_value}
 use Rattle.ctx_blocks.specs.declared.parts.Block.{Block}
 use Rattle.ctx_blocks.proofs.books.Books.hold.Goals as goal
-use Rattle.ctx_blocks.proofs.books.Books.hold.Goals.{After-note}
+use Rattle.ctx_blocks.proofs.books.Books.hold.Goals.{After-change}
 
 pub head-requires : goal.head-requires
 head-requires c = IsWritten-held (layout_of c.args.self.now) c.args.space.now c.args.at c.args.chunk c.args.block c.requires.agrees c.requires.holds
 
-now : After-note → Books
-now c = record c.args.self.now { blocks = c.note.new.blocks; chunks = c.put.new.chunks }
+now : After-change → Books
+now c = record c.args.self.now { blocks = c.change.new.blocks; gained = c.args.place; chunks = c.put.new.self }
 
-same : (c : After-note) → SameContext (layout_of c.args.self.now) (layout_of (now c))
+same : (c : After-change) → SameContext (layout_of c.args.self.now) (layout_of (now c))
 unfolding now
 same c = record { kind = refl; account = refl; context = refl; keeper = refl; first_number = refl }
 
-totals : (c : After-note) → total (layout_of (now c)) ≡ total (layout_of c.args.self.now)
+totals : (c : After-change) → total (layout_of (now c)) ≡ total (layout_of c.args.self.now)
 unfolding now
-totals c = total-put (layout_of c.args.self.now) (layout_of (now c)) c.args.at.region c.requires.holds.old c.args.block c.note.ensures.blocks c.requires.holds.owned c.requires.holds.size
+totals c = total-put (layout_of c.args.self.now) (layout_of (now c)) c.args.at.region c.requires.holds.old c.args.block c.change.ensures.blocks c.requires.holds.owned c.requires.holds.size
 
-counts : (c : After-note) (number : ℕ) → count_in (layout_of (now c)) number ≡ count_in (layout_of c.args.self.now) number + one_in number c.args.at.region
+counts : (c : After-change) (number : ℕ) → count_in (layout_of (now c)) number ≡ count_in (layout_of c.args.self.now) number + one_in number c.args.at.region
 unfolding now
 counts c number =
     let none = place_free (layout_of c.args.self.now) c.args.at c.args.chunk c.args.block c.requires.kept.laid c.requires.holds in
     omega (arith, c.put.ensures.count number, ap (λ o. if is_some o then one_in number c.args.at.region else 0) none)
 
 -- the block has its number
-same_number : (c : After-note) (old : Block) → block_at (layout_of c.args.self.now) c.args.at.region ≡ Some old → c.args.block.number ≡ old.number
+same_number : (c : After-change) (old : Block) → block_at (layout_of c.args.self.now) c.args.at.region ≡ Some old → c.args.block.number ≡ old.number
 same_number c old owned = c.requires.holds.number ∙ ap (λ (x : Block). x.number) (one_value (block_at (layout_of c.args.self.now) c.args.at.region) c.requires.holds.old old c.requires.holds.owned owned)
 
 pub returns-clause-kept : goal.returns-clause-kept
@@ -46,12 +46,13 @@ returns-clause-kept c =
     let l = layout_of b in
     let kept = c.requires.kept in
     record {
-      laid = IsLaid-held l (layout_of (now c)) c.args.at c.args.chunk c.args.block kept.laid c.requires.holds (same c) c.put.ensures.at c.note.ensures.at;
-      counted = IsCounted-held l (layout_of (now c)) c.args.at c.args.chunk c.args.block kept.laid c.requires.holds (same c) c.put.ensures.at c.note.ensures.at kept.counted (counts c);
-      first = rw c.note.ensures.blocks (IsFirst-put b.keeper b.first_number b.blocks.entries c.args.at.region _ (same_number c) kept.first);
-      numbered = rw c.note.ensures.blocks (AreRising-put b.first_number b.last_number b.blocks.entries c.args.at.region c.requires.holds.old c.args.block c.requires.holds.owned c.requires.holds.number kept.numbered);
+      laid = IsLaid-held l (layout_of (now c)) c.args.at c.args.chunk c.args.block kept.laid c.requires.holds (same c) c.put.ensures.at c.change.ensures.at;
+      counted = IsCounted-held l (layout_of (now c)) c.args.at c.args.chunk c.args.block kept.laid c.requires.holds (same c) c.put.ensures.at c.change.ensures.at kept.counted (counts c);
+      first = rw c.change.ensures.blocks (IsFirst-put b.keeper b.first_number b.blocks.entries c.args.at.region _ (same_number c) kept.first);
+      numbered = rw c.change.ensures.blocks (AreRising-put b.first_number b.last_number b.blocks.entries c.args.at.region c.requires.holds.old c.args.block c.requires.holds.owned c.requires.holds.number kept.numbered);
       total = kept.total ∙ sym (totals c);
       most = kept.most;
+      unique = c.put.ensures.unique kept.unique;
     }
 
 pub returns-clause-fresh : goal.returns-clause-fresh
@@ -65,9 +66,9 @@ returns-clause-moves c =
     elim (gap_cases l.kind) [
       | inl none ↦
           subst (λ (s : Space). Moves (footprint l) (footprint m) c.args.space.now s) (sym (c.head.ensures.none none))
-          (Moves-bare l m c.args.at c.args.chunk c.args.block c.requires.kept.laid c.requires.holds (same c) c.put.ensures.at c.note.ensures.at (totals c) c.args.space.now c.requires.agrees none)
+          (Moves-bare l m c.args.at c.args.chunk c.args.block c.requires.kept.laid c.requires.holds (same c) c.put.ensures.at c.change.ensures.at (totals c) c.args.space.now c.requires.agrees none)
       | inr some ↦
-          Moves-held l m c.args.at c.args.chunk c.args.block c.requires.kept.laid c.requires.holds (same c) c.put.ensures.at c.note.ensures.at (totals c) c.args.space.now c.requires.agrees some c.head.new.space (c.head.ensures.some some)
+          Moves-held l m c.args.at c.args.chunk c.args.block c.requires.kept.laid c.requires.holds (same c) c.put.ensures.at c.change.ensures.at (totals c) c.args.space.now c.requires.agrees some c.head.new.space (c.head.ensures.some some)
     ]
 
 pub returns-clause-keeps : goal.returns-clause-keeps
@@ -79,5 +80,5 @@ returns-clause-keeps c =
       | inl none ↦
           subst (λ (s : Space). Keeps (footprint l) (footprint m) c.args.space.now s) (sym (c.head.ensures.none none)) (λ at p q k live again below short. refl)
       | inr some ↦
-          Keeps-held l m c.args.at c.args.chunk c.args.block c.requires.kept.laid c.requires.holds (same c) c.put.ensures.at c.note.ensures.at (totals c) c.args.space.now c.requires.agrees some c.head.new.space (c.head.ensures.some some)
+          Keeps-held l m c.args.at c.args.chunk c.args.block c.requires.kept.laid c.requires.holds (same c) c.put.ensures.at c.change.ensures.at (totals c) c.args.space.now c.requires.agrees some c.head.new.space (c.head.ensures.some some)
     ]

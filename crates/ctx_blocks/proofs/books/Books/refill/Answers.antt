@@ -10,28 +10,28 @@ use Rattle.ctx_blocks.proofs.Refilled.{Lessens-refilled, IsCounted-refilled, reg
 use Rattle.ctx_blocks.proofs.Totals.{total-put, IsFirst-put}
 use Rattle.ctx_blocks.proofs.Numbers.{AreRising-put}
 use Rattle.ctx_blocks.proofs.books.Books.refill.Goals as goal
-use Rattle.ctx_blocks.proofs.books.Books.refill.Goals.{After-note}
+use Rattle.ctx_blocks.proofs.books.Books.refill.Goals.{After-change}
 
-now : After-note → Books
-now c = record c.args.self.now { blocks = c.note.new.blocks }
+now : After-change → Books
+now c = record c.args.self.now { blocks = c.change.new.blocks }
 
 -- the block counts no chunk
-none : (c : After-note) → c.owned-old.result.live ≡ 0
+none : (c : After-change) → c.owned-old.result.live ≡ 0
 none c = ap (λ (b : Block). b.live) (one_value (block_at (layout_of c.args.self.now) c.args.number) c.owned-old.result c.requires.block.0 c.owned-old.ensures c.requires.block.1) ∙ c.requires.block.2
 
-less : (c : After-note) → Lessens (layout_of c.args.self.now) (layout_of (now c))
+less : (c : After-change) → Lessens (layout_of c.args.self.now) (layout_of (now c))
 unfolding now
 less c =
     let l = layout_of c.args.self.now in
     Lessens-refilled l (layout_of (now c)) c.requires.kept.laid (record { kind = refl; account = refl; context = refl; keeper = refl; first_number = refl }) refl c.args.number c.owned-old.result.number c.whole.result c.owned-old.result c.owned-old.ensures c.whole.ensures
-    (λ at region. none_in l c.requires.kept.counted c.args.number c.owned-old.result at c.owned-old.ensures (none c) region) c.note.ensures.at
+    (λ at region. none_in l c.requires.kept.counted c.args.number c.owned-old.result at c.owned-old.ensures (none c) region) c.change.ensures.at
 
-totals : (c : After-note) → total (layout_of (now c)) ≡ total (layout_of c.args.self.now)
+totals : (c : After-change) → total (layout_of (now c)) ≡ total (layout_of c.args.self.now)
 unfolding now
-totals c = total-put (layout_of c.args.self.now) (layout_of (now c)) c.args.number c.owned-old.result _ c.note.ensures.blocks c.owned-old.ensures refl
+totals c = total-put (layout_of c.args.self.now) (layout_of (now c)) c.args.number c.owned-old.result _ c.change.ensures.blocks c.owned-old.ensures refl
 
 -- the block has its number
-same_number : (c : After-note) (old : Block) → block_at (layout_of c.args.self.now) c.args.number ≡ Some old → c.owned-old.result.number ≡ old.number
+same_number : (c : After-change) (old : Block) → block_at (layout_of c.args.self.now) c.args.number ≡ Some old → c.owned-old.result.number ≡ old.number
 same_number c old owned = ap (λ (x : Block). x.number) (one_value (block_at (layout_of c.args.self.now) c.args.number) c.owned-old.result old c.owned-old.ensures owned)
 
 pub returns-clause-kept : goal.returns-clause-kept
@@ -43,11 +43,12 @@ returns-clause-kept c =
     record {
       laid = IsLaid-lessened l (layout_of (now c)) kept.laid (less c);
       counted = IsCounted-refilled l (layout_of (now c)) kept.laid (record { kind = refl; account = refl; context = refl; keeper = refl; first_number = refl }) refl c.args.number c.owned-old.result.number c.whole.result c.owned-old.result c.owned-old.ensures c.whole.ensures
-          (λ at region. none_in l kept.counted c.args.number c.owned-old.result at c.owned-old.ensures (none c) region) c.note.ensures.at kept.counted (sym (kept.counted c.args.number c.owned-old.result c.owned-old.ensures) ∙ none c);
-      first = rw c.note.ensures.blocks (IsFirst-put b.keeper b.first_number b.blocks.entries c.args.number _ (same_number c) kept.first);
-      numbered = rw c.note.ensures.blocks (AreRising-put b.first_number b.last_number b.blocks.entries c.args.number c.owned-old.result _ c.owned-old.ensures refl kept.numbered);
+          (λ at region. none_in l kept.counted c.args.number c.owned-old.result at c.owned-old.ensures (none c) region) c.change.ensures.at kept.counted (sym (kept.counted c.args.number c.owned-old.result c.owned-old.ensures) ∙ none c);
+      first = rw c.change.ensures.blocks (IsFirst-put b.keeper b.first_number b.blocks.entries c.args.number _ (same_number c) kept.first);
+      numbered = rw c.change.ensures.blocks (AreRising-put b.first_number b.last_number b.blocks.entries c.args.number c.owned-old.result _ c.owned-old.ensures refl kept.numbered);
       total = kept.total ∙ sym (totals c);
       most = kept.most;
+      unique = kept.unique;
     }
 
 pub returns-clause-moves : goal.returns-clause-moves
@@ -56,5 +57,5 @@ returns-clause-moves c =
     let l = layout_of c.args.self.now in
     MovesStill-lessened l (layout_of (now c)) c.requires.kept.laid (less c)
     (regions-refilled l (layout_of (now c)) c.requires.kept.laid (record { kind = refl; account = refl; context = refl; keeper = refl; first_number = refl }) refl c.args.number c.owned-old.result.number c.whole.result c.owned-old.result c.owned-old.ensures c.whole.ensures
-    (λ at region. none_in l c.requires.kept.counted c.args.number c.owned-old.result at c.owned-old.ensures (none c) region) c.note.ensures.at)
+    (λ at region. none_in l c.requires.kept.counted c.args.number c.owned-old.result at c.owned-old.ensures (none c) region) c.change.ensures.at)
     (totals c)

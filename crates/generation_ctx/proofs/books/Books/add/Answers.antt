@@ -1,17 +1,15 @@
-use Rattle.std.proofs.Common.{◌≡◌, ℕ, ◌-◌, ◌+◌, ◌*◌, ◌∙◌, List, ◌∷◌, [], ◌++◌, None, Some, Option, option_map, min, refl, ap, sym, arith}
+use Rattle.std.proofs.Common.{◌≡◌, ◌-◌, ◌+◌, ◌*◌, ◌∙◌, ◌∷◌, [], ◌++◌, None, Some, option_map, min, refl, ap, sym, arith}
 use Rattle.std.specs.Map.{values_of}
-use Rattle.ctx_blocks.specs.Layout.{block_at, whole_block}
+use Rattle.ctx_blocks.specs.Layout.{block_at}
 use Rattle.ctx_blocks.specs.declared.parts.Block.{Block}
-use Rattle.ctx_blocks.proofs.Changed.{put_here}
-use Rattle.ctx_blocks.proofs.Among.{among_adding}
-use Rattle.generation_ctx.specs.Ledger.{with_new, block_size, added, whole, start_of}
+use Rattle.generation_ctx.specs.Ledger.{with_new, block_size, whole}
 use Rattle.chunk_header.specs.Growth.{AreSizes}
 use Rattle.generation_ctx.specs.State.{number_of}
 use Rattle.generation_ctx.specs.Kept.{ledger_of, IsKept}
 use Rattle.generation_ctx.proofs.Alone.{apart_none}
 use Rattle.generation_ctx.proofs.Kepts.{spare_none}
 use Rattle.generation_ctx.proofs.Kept.{kept_put, kept_next, were_still}
-use Rattle.generation_ctx.proofs.Numbers.{number_is, number_add, numbered_add, values_add, spare_added, whole_new}
+use Rattle.generation_ctx.proofs.Numbers.{number_add, numbered_add, values_add, spare_added, whole_new}
 use Rattle.generation_ctx.proofs.books.Books.add.Goals as goal
 use Rattle.chunk_header.proofs.Doubling.{AreSizes-next}
 
@@ -41,7 +39,6 @@ returns-clause-ok c =
       kept = kept_next (record b { blocks = m }) c.min-self.result put sized;
       ledger_is = cc;
       chunks = e.chunks;
-      spare = e.spare;
       account = e.same.account;
       moves = c.add.ensures.moves;
       keeps = c.add.ensures.keeps;

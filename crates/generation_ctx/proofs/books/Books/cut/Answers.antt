@@ -2,7 +2,7 @@ use Rattle.std.proofs.Common.{◌≡◌, ℕ, ◌+◌, ◌-◌, ◌∙◌, Some,
 use Rattle.ctx_blocks.specs.Layout.{block_at, header_room, gap_of}
 use Rattle.ctx_blocks.specs.declared.parts.Block.{Block}
 use Rattle.ctx_blocks.specs.declared.parts.Chunk.{Chunk}
-use Rattle.ctx_blocks.proofs.Among.{among_put, among_putting, numbers_stay, among_same}
+use Rattle.ctx_blocks.proofs.Among.{among_put, numbers_stay, among_same}
 use Rattle.chunk_header.specs.Growth.{granted}
 use Rattle.generation_ctx.specs.Ledger.{block_in, cut_off, cut, put}
 use Rattle.generation_ctx.specs.State.{number_of}

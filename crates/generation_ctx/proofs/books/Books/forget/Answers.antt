@@ -1,5 +1,4 @@
-use Rattle.std.proofs.Common.{◌∙◌, refl, ap, sym, arith}
-use Rattle.ctx_blocks.specs.declared.parts.Block.{Block}
+use Rattle.std.proofs.Common.{◌∙◌, refl, ap, sym}
 use Rattle.ctx_blocks.proofs.Changed.{put_here}
 use Rattle.ctx_blocks.proofs.Among.{among_put}
 use Rattle.generation_ctx.specs.Ledger.{lessened, put}

@@ -1,4 +1,4 @@
-use Rattle.std.proofs.Common.{◌≡◌, ◌≢◌, ℕ, ◌+◌, ◌-◌, ◌≤◌, ◌∙◌, List, Some, refl, ap, sym, arith}
+use Rattle.std.proofs.Common.{◌≡◌, ◌≢◌, ◌≤◌, ◌∙◌, List, Some, refl, ap, sym, arith}
 use Rattle.addr_space.proofs.Steps.{Moves-more, Keeps-then}
 use Rattle.ctx_blocks.specs.Layout.{footprint, block_at}
 use Rattle.ctx_blocks.specs.declared.parts.Block.{Block}

@@ -1,8 +1,7 @@
-use Rattle.std.proofs.Common.{◌≡◌, ◌≢◌, ◌-◌, ◌+◌, ◌∙◌, Some, ap, sym, arith}
+use Rattle.std.proofs.Common.{◌≡◌, ◌≢◌, ◌-◌, ◌+◌, ◌∙◌, ap, sym, arith}
 use Rattle.addr_space.proofs.Options.{one_value}
-use Rattle.ctx_blocks.specs.Layout.{block_at, chunk_at}
+use Rattle.ctx_blocks.specs.Layout.{block_at}
 use Rattle.ctx_blocks.specs.declared.parts.Block.{Block}
-use Rattle.ctx_blocks.specs.declared.parts.Chunk.{Chunk}
 use Rattle.generation_ctx.specs.Ledger.{GenerationLedger, emptied, lessened, freed_shared}
 use Rattle.generation_ctx.specs.State.{number_of, place_in}
 use Rattle.generation_ctx.specs.Kept.{ledger_of}

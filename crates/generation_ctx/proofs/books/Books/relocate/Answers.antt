@@ -1,4 +1,4 @@
-use Rattle.std.proofs.Common.{◌≡◌, ◌≢◌, ◌↔◌, ℕ, ◌+◌, ◌-◌, ◌<◌, Bool, false, Option, Some, None, IsSome, IsTrue, Ok, Err, Result, ap, sym, ◌∙◌, arith, subst, option_map}
+use Rattle.std.proofs.Common.{◌≡◌, ◌≢◌, ℕ, ◌+◌, ◌<◌, false, Option, Some, None, IsSome, Err, Result, ap, sym, ◌∙◌, arith, subst, option_map}
 use Rattle.std.proofs.lemmas.Result.{err_from_is_err_and}
 use Rattle.addr_space.specs.declared.Addr.{Addr}
 use Rattle.addr_space.specs.Space.{held, byte_at}
@@ -12,7 +12,7 @@ use Rattle.ctx_blocks.specs.declared.parts.Chunk.{Chunk}
 use Rattle.ctx_blocks.proofs.Laid.{live_is}
 use Rattle.ctx_blocks.proofs.Changed.{fresh_put}
 use Rattle.ctx_blocks.proofs.Among.{numbers_left}
-use Rattle.generation_ctx.specs.Ledger.{GenerationPlace, GenerationTaken, give, moved, resize}
+use Rattle.generation_ctx.specs.Ledger.{GenerationPlace, GenerationTaken, give, moved}
 use Rattle.generation_ctx.specs.State.{number_of, place_in}
 use Rattle.generation_ctx.specs.Kept.{ledger_of}
 use Rattle.generation_ctx.proofs.Addrs.{stays, put_there}
@@ -30,15 +30,15 @@ apart c = λ e.
     absurd (cc))
 
 -- the old one is still there
-still : (c : In_ok-to) → chunk_at c.serve.new.self.blocks c.args.at ≡ Some c.requires.chunk.0
-still c = stays c.args.self.now.blocks c.serve.new.self.blocks c.in_ok-to.to c.args.at _ c.in_ok-to.ensures.ok.does.chunk (apart c) ∙ c.requires.chunk.1
+still : (c : In_ok-to) → chunk_at c.take.new.self.blocks c.args.at ≡ Some c.requires.chunk.0
+still c = stays c.args.self.now.blocks c.take.new.self.blocks c.in_ok-to.to c.args.at _ c.in_ok-to.ensures.ok.does.chunk (apart c) ∙ c.requires.chunk.1
 
 -- with its bytes
-kept_bytes : (c : In_ok-to) (k : ℕ) → k < c.args.keep → byte_at c.serve.new.space c.args.at.region (c.args.at.offset + k) ≡ byte_at c.args.space.now c.args.at.region (c.args.at.offset + k)
+kept_bytes : (c : In_ok-to) (k : ℕ) → k < c.args.keep → byte_at c.take.new.space c.args.at.region (c.args.at.offset + k) ≡ byte_at c.args.space.now c.args.at.region (c.args.at.offset + k)
 kept_bytes c k below =
     let chunk = c.requires.chunk.0 in
     let short : k < chunk.size = omega (arith, below, c.requires.chunk.2) in
-    c.in_ok-to.ensures.ok.does.keeps c.args.at chunk.size chunk.size k (live_is c.args.self.now.blocks c.args.at chunk c.requires.chunk.1) (live_is c.serve.new.self.blocks c.args.at chunk (still c)) short short
+    c.in_ok-to.ensures.ok.does.keeps c.args.at chunk.size chunk.size k (live_is c.args.self.now.blocks c.args.at chunk c.requires.chunk.1) (live_is c.take.new.self.blocks c.args.at chunk (still c)) short short
 
 pub carry-requires-clause-known : goal.carry-requires-clause-known
 carry-requires-clause-known c = λ k below. subst IsSome (sym (kept_bytes (goal.at.carry-requires-clause-known c).In_ok-to k below)) (c.requires.known k below)
@@ -47,10 +47,10 @@ pub returns-clause-ok : goal.returns-clause-ok
 returns-clause-ok c =
     let it = (goal.at.returns-clause-ok c).In_ok-to in
     let b = c.args.self.now.blocks in
-    let m = c.serve.new.self.blocks in
+    let m = c.take.new.self.blocks in
     let n = c.free.new.self.blocks in
     let s = c.args.space.now in
-    let t = c.serve.new.space in
+    let t = c.take.new.space in
     let v = c.carry.new.space in
     let u = c.free.new.space in
     let at = c.args.at in
@@ -66,7 +66,7 @@ returns-clause-ok c =
     let in_n : chunk_at n to ≡ Some new = stays m n at to None f.chunk (λ e. apart it (sym e)) ∙ in_m in
     let place : GenerationPlace = place_in b at.region q.0 in
     let same : number_of m at.region ≡ number_of b at.region = number_in b m s t at q.0 q.1 (still it) c.requires.agrees ok.moves ok.numbers in
-    let freed : ledger_of c.free.new.self ≡ give answer.ledger place = c.free.ensures.ledger q.0 (still it) ∙ ap (λ (k : ℕ). give (ledger_of c.serve.new.self) (record place { block = k })) same ∙ ap (λ l. give l place) ok.ledger in
+    let freed : ledger_of c.free.new.self ≡ give answer.ledger place = c.free.ensures.ledger q.0 (still it) ∙ ap (λ (k : ℕ). give (ledger_of c.take.new.self) (record place { block = k })) same ∙ ap (λ l. give l place) ok.ledger in
     record {
       kept = f.kept;
       old = q.0;

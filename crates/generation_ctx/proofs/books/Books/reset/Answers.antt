@@ -2,7 +2,7 @@ use Rattle.std.proofs.Common.{◌≡◌, ◌∙◌, None, refl, ap}
 use Rattle.generation_ctx.specs.Ledger.{reset}
 use Rattle.generation_ctx.specs.declared.books.Books.{Books}
 use Rattle.ctx_blocks.proofs.Changed.{alone_as}
-use Rattle.ctx_blocks.specs.Layout.{Layout, keeper_alone}
+use Rattle.ctx_blocks.specs.Layout.{keeper_alone}
 use Rattle.generation_ctx.proofs.Resets.{kept_alone, ledger_alone}
 use Rattle.generation_ctx.proofs.books.Books.reset.Goals as goal
 use Rattle.chunk_header.proofs.Doubling.{AreSizes-first}

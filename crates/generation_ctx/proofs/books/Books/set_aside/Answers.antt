@@ -1,5 +1,4 @@
-use Rattle.std.proofs.Common.{◌≡◌, ◌∙◌, Option, ℕ, option_map, refl, ap, sym}
-use Rattle.ctx_blocks.proofs.Among.{among_same, among_drop}
+use Rattle.std.proofs.Common.{◌∙◌, Option, ℕ, option_map, ap, sym}
 use Rattle.generation_ctx.specs.Ledger.{aside}
 use Rattle.generation_ctx.specs.State.{number_of}
 use Rattle.generation_ctx.specs.Kept.{ledger_of}
@@ -23,7 +22,6 @@ returns-in-Some-clause-rearranges c =
       kept = kept_drop b m number kept g.same g.block idle.not_keeper idle.not_current (numbered_drop b.blocks m number idle.block idle.is g.block idle.not_keeper kept.numbered g.same g.last) c.requires.other (were_still b.blocks m b.current number g.chunks kept.alone (λ at x a. apart_live b.blocks b.current at x a number idle.block idle.is idle.live));
       ledger_is = ledger ∙ ap (λ (o : Option ℕ). aside o (ledger_of b) (number_of b.blocks number)) (sym spare);
       chunks = g.chunks;
-      spare = g.spare_chunks;
       account = g.same.account;
       moves = g.moves;
       keeps = g.keeps;

@@ -1,9 +1,9 @@
-use Rattle.std.proofs.Common.{◌≡◌, ◌≤◌, ◌∙◌, Some, true, refl, ap, sym, arith}
-use Rattle.ctx_blocks.specs.Layout.{footprint, chunk_at}
+use Rattle.std.proofs.Common.{true, refl}
+use Rattle.ctx_blocks.specs.Layout.{chunk_at}
 use Rattle.ctx_blocks.specs.declared.parts.Chunk.{Chunk}
 use Rattle.ctx_blocks.proofs.Among.{among_same, numbers_stay}
 use Rattle.addr_space.specs.Space.{held}
-use Rattle.generation_ctx.specs.State.{number_of, place_in}
+use Rattle.generation_ctx.specs.State.{place_in}
 use Rattle.generation_ctx.specs.Kept.{ledger_of}
 use Rattle.generation_ctx.proofs.Sizes.{kept_sized, ledger_sized, number_sized}
 use Rattle.generation_ctx.proofs.Ledgers.{resize-stays}

@@ -1,4 +1,4 @@
-use Rattle.std.proofs.Common.{◌≡◌, ℕ, ◌+◌, ◌-◌, ◌≤◌, arith, ap}
+use Rattle.std.proofs.Common.{ℕ, ◌+◌, ◌-◌, ◌≤◌, arith, ap}
 use Rattle.addr_space.specs.Space.{held}
 use Rattle.ctx_blocks.specs.declared.parts.Block.{Block}
 use Rattle.chunk_header.specs.Growth.{granted}

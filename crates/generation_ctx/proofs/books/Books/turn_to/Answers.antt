@@ -1,6 +1,5 @@
-use Rattle.std.proofs.Common.{◌≡◌, ◌∙◌, Option, ℕ, None, option_map, if◌then◌else◌, ap, sym, subst}
-use Rattle.ctx_blocks.specs.Numbered.{AreAmong}
-use Rattle.generation_ctx.specs.Ledger.{GenerationLedger, turned, stopped, is_spare}
+use Rattle.std.proofs.Common.{◌∙◌, Option, ℕ, ap, sym, subst}
+use Rattle.generation_ctx.specs.Ledger.{turned, stopped}
 use Rattle.generation_ctx.specs.State.{number_of}
 use Rattle.generation_ctx.specs.Kept.{ledger_of, IsKept}
 use Rattle.generation_ctx.specs.Steps.{Rearranges}
@@ -26,4 +25,4 @@ returns-clause-rearranges c =
     let r = subst (λ (x : Books). Rearranges x n s t (stopped (ledger_of x) (number_of x.blocks b.current))) c.seat.ensures c.stop.ensures.rearranges in
     let spare = seated b.blocks b.current c.args.number b.spare block.0 c.requires.kept.numbered block.1 c.requires.kept.spare in
     let ledger = ap (λ (o : Option ℕ). stopped (record (ledger_of b) { current = number_of b.blocks c.args.number; spare = o }) (number_of b.blocks b.current)) spare in
-    record { kept = r.kept; ledger_is = r.ledger_is ∙ ledger; chunks = r.chunks; spare = r.spare; account = r.account; moves = r.moves; keeps = r.keeps }
+    record { kept = r.kept; ledger_is = r.ledger_is ∙ ledger; chunks = r.chunks; account = r.account; moves = r.moves; keeps = r.keeps }

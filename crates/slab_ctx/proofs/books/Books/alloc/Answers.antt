@@ -1,11 +1,10 @@
 use Rattle.std.proofs.Common.{◌≡◌, ◌≢◌, ◌-◌, ◌⊎◌, ℕ, Result, Ok, Err, IfOk, IfErr, sym, subst, ◌∙◌, arith, refl, inl, inr}
 use Rattle.addr_space.specs.declared.Addr.{Addr}
 use Rattle.addr_space.specs.Space.{held}
-use Rattle.std.proofs.lemmas.Result.{err_from_is_err_and}
 use Rattle.chunk_header.specs.declared.CtxError.{CtxError}
 use Rattle.chunk_header.specs.declared.CtxError.TheVariants.{TooBig, NoSpace, WrongSize, Memory}
-use Rattle.slab_ctx.specs.Ledger.{per_block, serving, serve}
-use Rattle.slab_ctx.specs.State.{SlabState, blocks_of}
+use Rattle.slab_ctx.specs.Ledger.{per_block, serving}
+use Rattle.slab_ctx.specs.State.{blocks_of}
 use Rattle.slab_ctx.specs.Kept.{ledger_of, state_of}
 use Rattle.slab_ctx.specs.Steps.{Serves}
 use Rattle.slab_ctx.proofs.Served.{take-big, take-other, take-right, serve-not_wrong}
@@ -37,8 +36,7 @@ returns-clause-ok c =
     let sq = c.serve.new.space in
     let right = c.if-size-from.false ∙ c.from.ensures in
     let is = take-right (ledger_of b) (sp.limit - held sp b.slots.blocks.account) c.args.size (omega (arith, c.if-size-gt-LARGEST.false)) right in
-    let there = subst (λ (s : SlabState). IfOk c.serve.result (λ at. Serves s n sp sq at (serve s.ledger (sp.limit - held sp s.layout.account) (serving (per_block s.ledger.size) s.ledger.blocks)))) c.make_room.ensures.state c.serve.ensures.ok in
-    subst (λ step. IfOk c.serve.result (λ at. Serves (state_of b) n sp sq at step)) (sym is) there
+    subst (λ step. IfOk c.serve.result (λ at. Serves (state_of b) n sp sq at step)) (sym is) c.serve.ensures.ok
 
 pub returns-clause-wrong_size : goal.returns-clause-wrong_size
 returns-clause-wrong_size c =
@@ -53,14 +51,4 @@ returns-clause-no_space c = λ e.
     let b = c.args.self.now in
     let sp = c.args.space.now in
     let is = take-right (ledger_of b) (sp.limit - held sp b.slots.blocks.account) c.args.size (omega (arith, c.if-size-gt-LARGEST.false)) (c.if-size-from.false ∙ c.from.ensures) in
-    is ∙ subst (λ (s : SlabState). serve s.ledger (sp.limit - held sp s.layout.account) (serving (per_block s.ledger.size) s.ledger.blocks) ≡ Err NoSpace) c.make_room.ensures.state (c.serve.ensures.no_space e)
-
-pub returns-in_err-make_room-clause-wrong_size : goal.returns-in_err-make_room-clause-wrong_size
-returns-in_err-make_room-clause-wrong_size c =
-    let b = c.args.self.now in
-    let sp = c.args.space.now in
-    let left : ℕ = sp.limit - held sp b.slots.blocks.account in
-    let memory : c.in_err-make_room.field-0.0 ≡ Memory = c.in_err-make_room.ensures.only_memory in
-    let is = take-right (ledger_of b) left c.args.size (omega (arith, c.if-size-gt-LARGEST.false)) (c.if-size-from.false ∙ c.from.ensures) in
-    let p = err_from_is_err_and c.from_residual.result c.from_residual.ensures.1 in
-    ((λ e. absurd (cc)), (λ e. absurd (serve-not_wrong (ledger_of b) left (serving (per_block b.slots.size) (blocks_of b.slots.blocks)) (sym is ∙ e))))
+    is ∙ c.serve.ensures.no_space e
