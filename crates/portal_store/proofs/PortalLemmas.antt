@@ -51,6 +51,28 @@ named_here name [] i x place = absurd (omega (arith, place.within))
 named_here name (p ∷ portals) zero x place = let yes : has_name name p ≡ true = ap (has_name name) (sym place.here) ∙ place.named in rw yes (ap Some (sym place.here))
 named_here name (p ∷ portals) (suc i) x place = let no : has_name name p ≡ false = place.first 0 (omega arith) in rw no (named_here name portals i x (behind name p portals i x place))
 
+-- the test of a name tells that the names are one
+name_is : (name : List ℕ) (x : Portal) → has_name name x ≡ true → x.name ≡ name
+name_is name x named = same_text x.name name (sym named)
+
+-- the same of the list that a model shows, and of what is read at the place
+module _ (name : List ℕ) (portals view : List Portal) (i : ℕ) (x : Portal) (same : portals ≡ view) (at_view : position (has_name name) view ≡ Some i) (here : x ≡ slice_index_or portals i x) where
+  pub changed_at : (change : Portal → Portal) → slice_set portals i (change x) ≡ changed name change view
+  changed_at change = changed_set name change portals i x (place_of name portals view i x same at_view here) ∙ ap (changed name change) same
+
+  pub named_at : portal_named name view ≡ Some x
+  named_at = sym (ap (portal_named name) same) ∙ named_here name portals i x (place_of name portals view i x same at_view here)
+
+  pub name_at : x.name ≡ name
+  name_at = let place = place_of name portals view i x same at_view here in name_is name x place.named
+
+  -- what is asked of the portal of the name is known there, and what is known there is told of it
+  pub asked_at : (P : Portal → Type 0) → IfSome (portal_named name view) P → P x
+  asked_at P asked = subst (λ (o : Option Portal). IfSome o P) named_at asked
+
+  pub told_at : (P : Portal → Type 0) → P x → IfSome (portal_named name view) P
+  told_at P told = subst (λ (o : Option Portal). IfSome o P) (sym named_at) told
+
 -- a name without a place is no portal's
 pub named_nowhere : (name : List ℕ) (portals : List Portal) → position (has_name name) portals ≡ None → portal_named name portals ≡ None
 named_nowhere name portals none = (elim (nat_lt (position_or_len (has_name name) portals) (length portals)) as (λ b. nat_lt (position_or_len (has_name name) portals) (length portals) ≡ b → portal_named name portals ≡ None) [
@@ -68,10 +90,6 @@ without_nowhere name (p ∷ portals) none = (elim (has_name name p) as (λ b. ha
   | true ↦ λ yes. let some : Some p ≡ None = rw yes at none in absurd (cc)
   | false ↦ λ no. rw no (ap (λ qs. p ∷ qs) (without_nowhere name portals (rw no at none)))
 ]) refl
-
--- the test of a name tells that the names are one
-pub name_is : (name : List ℕ) (x : Portal) → has_name name x ≡ true → x.name ≡ name
-name_is name x named = same_text x.name name (sym named)
 
 -- what holds of all portals stays, where the names stay
 pub IsPortals_renamed : (old new : List Portal) → names new ≡ names old → IsPortals old → IsPortals new

@@ -1,9 +1,17 @@
--- What the end of a subtransaction does to a portal.
-use Rattle.std.specs.Prelude.{ℕ, ◌-◌, ◌==◌, nat_lt, Bool, ◌&&◌, if◌then◌else◌, Option, None}
+-- What a step of its scan and the end of a subtransaction do to a portal.
+use Rattle.std.specs.Prelude.{ℕ, ◌-◌, ◌==◌, nat_lt, Bool, true, false, ◌&&◌, if◌then◌else◌, List, Option, None}
+use Rattle.exec_core.specs.Turn.{left, turn}
+use Rattle.exec_core.specs.declared.scan.Scan.{Scan}
+use Rattle.exec_core.specs.declared.steps.ScanStep.{ScanStep}
 use Rattle.pgs_step.specs.declared.ids.OwnerId.{OwnerId}
 use Rattle.portal_store.specs.declared.portal.Portal.{Portal}
 use Rattle.portal_store.specs.declared.portal.PortalState.{PortalState}
 use Rattle.portal_store.specs.declared.portal.PortalState.TheVariants.{New, Ready, Failed}
+
+-- the steps of a turn that come, where it begins, and where it has begun
+abbrev pub coming : Bool → Scan → List ScanStep
+coming true scan = turn scan
+coming false scan = left scan
 
 -- a level, or the one before it where it is the level that ends
 abbrev pub lowered : ℕ → ℕ → ℕ

@@ -3,7 +3,7 @@ use Rattle.std.specs.Prelude.{◌≢◌, ℕ, ◌≤◌, ◌==◌, Bool, if◌th
 use lib.Pointwise.{pointwise}
 use Rattle.exec_core.specs.declared.scan.Scan.{Scan}
 use Rattle.portal_store.specs.declared.portal.Portal.{Portal}
-use Rattle.portal_store.specs.declared.portal.PortalState.TheVariants.{New, Failed}
+use Rattle.portal_store.specs.declared.portal.PortalState.TheVariants.{New}
 
 -- a portal that was just made at a level
 abbrev pub new_portal : List ℕ → Scan → ℕ → Portal
@@ -26,10 +26,6 @@ changed name change (portal ∷ portals) = if has_name name portal then change p
 abbrev pub without : List ℕ → List Portal → List Portal
 without name [] = []
 without name (portal ∷ portals) = if has_name name portal then portals else portal ∷ without name portals
-
--- a portal whose query has failed
-abbrev pub marked_failed : Portal → Portal
-marked_failed portal = record portal { state = Failed }
 
 -- the names of the portals
 abbrev pub names : List Portal → List (List ℕ)

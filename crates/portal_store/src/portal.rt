@@ -1,7 +1,7 @@
 //! One portal.
-ghost use Rattle.std.specs.Prelude.{◌≡◌, ◌<◌};
+ghost use Rattle.std.specs.Prelude.{◌≡◌, ◌∷◌, ◌<◌};
 
-use exec_core::Scan;
+use exec_core::{Scan, ScanStep};
 use pgs_step::{CtxId, Name, OwnerId};
 
 /// How far a portal is: PostgreSQL's `PortalStatus`.
@@ -44,7 +44,22 @@ pub struct Portal {
 }
 
 impl Portal {
-    ghost use Rattle.portal_store.specs.Portal.{to_parent, sub_aborted, moved_owner};
+    ghost use Rattle.exec_core.specs.Turn.{IsScan, rest, taken};
+    ghost use Rattle.portal_store.specs.Portal.{coming, to_parent, sub_aborted, moved_owner};
+
+    /// The next step of its scan. Where a turn begins, one that was left in the middle begins anew.
+    #[inline]
+    pub(crate) fn step(&mut self, begins: bool) -> ScanStep
+        requires { IsScan self.old.scan }
+        ensures step { coming begins self.old.scan ≡ result ∷ rest result (taken result self.old.scan) }
+        ensures portal { self.new ≡ record self.old { scan = taken result self.old.scan } }
+        ensures scan { IsScan (taken result self.old.scan) }
+    {
+        if begins {
+            self.scan.stage = 0;
+        }
+        self.scan.next()
+    }
 
     /// A subtransaction of this level has committed.
     pub(crate) fn to_parent(&mut self, level: u32)

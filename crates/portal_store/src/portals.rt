@@ -1,11 +1,12 @@
 //! The portals of a session.
-ghost use Rattle.std.specs.Prelude.{◌≡◌, ◌↔◌, ◌<◌, ◌≤◌, length, map, position, find, slice_get, slice_set, [], ◌∷◌, OnOk, OnErr, IfOk, IfSome, IsSome, IsNone, IsTrue, is_some, option_copied, option_and_then};
-ghost use Rattle.portal_store.specs.Portal.{to_parent, sub_aborted, moved_owner};
-ghost use Rattle.portal_store.specs.Portals.{has_name, portal_named, new_portal, changed, without, marked_failed, HasDistinctNames};
+ghost use Rattle.std.specs.Prelude.{◌≡◌, ◌↔◌, ◌<◌, ◌≤◌, length, map, position, find, slice_get, slice_set, [], ◌∷◌, Some, OnOk, OnErr, IfOk, IfSome, IsSome, IsNone, IsTrue, is_some, option_copied, option_and_then};
+ghost use Rattle.exec_core.specs.Turn.{IsScan, rest, taken};
+ghost use Rattle.portal_store.specs.Portal.{coming, to_parent, sub_aborted, moved_owner};
+ghost use Rattle.portal_store.specs.Portals.{has_name, portal_named, new_portal, changed, without, HasDistinctNames};
 
 use crate::portal::{Portal, PortalError, PortalState};
-use exec_core::Scan;
-use pgs_step::{Name, OwnerId};
+use exec_core::{Scan, ScanStep};
+use pgs_step::{CtxId, Name, OwnerId};
 use std::alloc::Global;
 use std::marker::Model;
 
@@ -87,9 +88,73 @@ impl Portals {
         requires { IsSome (portal_named portal.name self.old) }
         ensures { self.new ≡ changed portal.name (λ old. portal) self.old }
     {
-        if let Some(place) = self.place(&portal.name) {
-            self.portals[place] = portal;
-        }
+        let place = self.place(&portal.name);
+        self.portals[place] = portal;
+    }
+
+    /// The next step of the scan of the portal of that name, which stands behind it then.
+    ///
+    /// Where a turn begins, one that was left in the middle begins anew.
+    pub fn step(&mut self, name: &Name, begins: bool) -> ScanStep
+        requires there { IsSome (portal_named name.now self.old) }
+        requires scan { IfSome (portal_named name.now self.old) (λ p. IsScan p.scan) }
+        ensures step { IfSome (portal_named name.now self.old) (λ p. coming begins p.scan ≡ result ∷ rest result (taken result p.scan)) }
+        ensures portals { self.new ≡ changed name.now (λ p. record p { scan = taken result p.scan }) self.old }
+        ensures scan { IfSome (portal_named name.now self.old) (λ p. IsScan (taken result p.scan)) }
+        ensures distinct { HasDistinctNames self.old }
+    {
+        let place = self.place(name);
+        self.portals[place].step(begins)
+    }
+
+    /// The portal of that name has this context.
+    pub fn set_context(&mut self, name: &Name, context: CtxId)
+        requires { IsSome (portal_named name.now self.old) }
+        ensures portals { self.new ≡ changed name.now (λ p. record p { context = Some context }) self.old }
+        ensures distinct { HasDistinctNames self.old }
+    {
+        let place = self.place(name);
+        self.portals[place].context = Some(context);
+    }
+
+    /// The portal of that name has this context for one row.
+    pub fn set_expr(&mut self, name: &Name, expr: CtxId)
+        requires { IsSome (portal_named name.now self.old) }
+        ensures portals { self.new ≡ changed name.now (λ p. record p { expr = Some expr }) self.old }
+        ensures distinct { HasDistinctNames self.old }
+    {
+        let place = self.place(name);
+        self.portals[place].expr = Some(expr);
+    }
+
+    /// The portal of that name has this owner.
+    pub fn set_owner(&mut self, name: &Name, owner: OwnerId)
+        requires { IsSome (portal_named name.now self.old) }
+        ensures portals { self.new ≡ changed name.now (λ p. record p { owner = Some owner }) self.old }
+        ensures distinct { HasDistinctNames self.old }
+    {
+        let place = self.place(name);
+        self.portals[place].owner = Some(owner);
+    }
+
+    /// The portal of that name is active in the level of this number.
+    pub fn set_active(&mut self, name: &Name, active: u32)
+        requires { IsSome (portal_named name.now self.old) }
+        ensures portals { self.new ≡ changed name.now (λ p. record p { active = active }) self.old }
+        ensures distinct { HasDistinctNames self.old }
+    {
+        let place = self.place(name);
+        self.portals[place].active = active;
+    }
+
+    /// The portal of that name is so far.
+    pub fn set_state(&mut self, name: &Name, state: PortalState)
+        requires { IsSome (portal_named name.now self.old) }
+        ensures portals { self.new ≡ changed name.now (λ p. record p { state = state }) self.old }
+        ensures distinct { HasDistinctNames self.old }
+    {
+        let place = self.place(name);
+        self.portals[place].state = state;
     }
 
     /// How many portals there are.
@@ -113,16 +178,6 @@ impl Portals {
         ensures { option_copied result ≡ slice_get self.now i }
     {
         self.portals.get(i)
-    }
-
-    /// The query of the portal of that name has failed.
-    pub fn mark_failed(&mut self, name: &Name)
-        requires { IsSome (portal_named name.now self.old) }
-        ensures { self.new ≡ changed name.now marked_failed self.old }
-    {
-        if let Some(place) = self.place(name) {
-            self.portals[place].state = PortalState::Failed;
-        }
     }
 
     /// The subtransaction of this level has committed: what was created at it, or active at it, is so now at
@@ -151,7 +206,7 @@ impl Portals {
         ensures taken { result ≡ portal_named name.now self.old }
         ensures others { self.new ≡ without name.now self.old }
     {
-        let place = self.place(name)?;
+        let place = self.find(name)?;
         Some(self.portals.remove(place))
     }
 
@@ -162,11 +217,23 @@ impl Portals {
         self.get(name).is_some()
     }
 
-    /// Where the portal of that name is.
-    fn place(&self, name: &Name) -> Option<usize>
+    /// Where the portal of that name is, if there is one.
+    fn find(&self, name: &Name) -> Option<usize>
         ensures { result ≡ position (has_name name.now) self.now }
     {
         self.portals.iter().position(|portal| portal.name == *name)
+    }
+
+    /// Where the portal of that name is, which is there.
+    #[inline]
+    fn place(&self, name: &Name) -> usize
+        requires { IsSome (portal_named name.now self.now) }
+        ensures { position (has_name name.now) self.now ≡ Some result }
+    {
+        match self.find(name) {
+            Some(place) => place,
+            None => unreachable!(),
+        }
     }
 }
 

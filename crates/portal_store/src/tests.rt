@@ -1,6 +1,6 @@
 use crate::portal::{Portal, PortalError, PortalState};
 use crate::portals::{MAX_PORTALS, Portals};
-use exec_core::Scan;
+use exec_core::{Scan, ScanStep};
 use pgs_step::{CtxId, Name, OwnerId};
 use std::process::Abort;
 use std::test::*;
@@ -27,9 +27,27 @@ fn put(rt: &impl Abort, portals: &mut Portals, portal: Portal) {
     portals.put(portal);
 }
 
-fn mark_failed(rt: &impl Abort, portals: &mut Portals, name: &Name) {
+/// Gives a portal that is live all that it gets when it is made, and what is set as it runs.
+fn equip(rt: &impl Abort, portals: &mut Portals, name: &Name) {
     assert!(rt; portals.get(name).is_some());
-    portals.mark_failed(name);
+    portals.set_context(name, CtxId { number: 7, slot: 6 });
+    assert!(rt; portals.get(name).is_some());
+    portals.set_expr(name, CtxId { number: 8, slot: 7 });
+    assert!(rt; portals.get(name).is_some());
+    portals.set_owner(name, OWNER);
+    assert!(rt; portals.get(name).is_some());
+    portals.set_active(name, 2);
+    assert!(rt; portals.get(name).is_some());
+    portals.set_state(name, PortalState::Failed);
+}
+
+/// The next step of the scan of a live portal, which stands before its first row.
+fn step(rt: &impl Abort, portals: &mut Portals, name: &Name, begins: bool) -> Option<ScanStep> {
+    let scan = portals.get(name)?.scan;
+    assert!(rt; scan.at == 0);
+    assert!(rt; scan.rows > 0);
+    assert!(rt; scan.stage <= 3);
+    Some(portals.step(name, begins))
 }
 
 /// What the newest portal is when a subtransaction of this level aborts, and the owner that moves.
@@ -52,22 +70,43 @@ fn a_portal_lives(rt: HostRuntime) -> Result<(), Fail> {
         portals.get(&p).map(|portal| portal.state),
         Some(PortalState::New)
     );
-    put(
-        &rt,
-        &mut portals,
-        portal(p, 1, Some(OWNER), PortalState::Ready),
-    );
+    put(&rt, &mut portals, portal(p, 1, None, PortalState::Ready));
     assert_eq!(rt;
-        portals.get(&p).map(|portal| portal.owner),
-        Some(Some(OWNER))
+        portals.get(&p).copied(),
+        Some(portal(p, 1, None, PortalState::Ready))
     );
-    mark_failed(&rt, &mut portals, &p);
+    equip(&rt, &mut portals, &p);
     assert_eq!(rt;
         portals.take_out(&p),
-        Some(portal(p, 1, Some(OWNER), PortalState::Failed))
+        Some(portal(p, 2, Some(OWNER), PortalState::Failed))
     );
     assert_eq!(rt; portals.get(&p), None);
     assert_eq!(rt; portals.take_out(&p), None);
+    Ok(())
+}
+
+/// A turn goes on where it was left, or begins anew. Another portal's scan stays where it is.
+#[test]
+fn a_scan_takes_its_steps(rt: HostRuntime) -> Result<(), Fail> {
+    let p = Name::new(b"p").ok_or("no name")?;
+    let q = Name::new(b"q").ok_or("no name")?;
+    let mut portals = Portals::new(rt.alloc());
+    assert_eq!(rt; portals.create(p, Scan::new(40, 30, Some(3)), 1), Ok(()));
+    assert_eq!(rt; portals.create(q, Scan::new(40, 30, Some(3)), 1), Ok(()));
+    for (begins, expected) in [
+        (true, ScanStep::Reset),
+        (false, ScanStep::Pin(40)),
+        (true, ScanStep::Reset),
+        (false, ScanStep::Pin(40)),
+        (false, ScanStep::Alloc),
+        (false, ScanStep::Row(0, 240)),
+    ] {
+        assert_eq!(rt; step(&rt, &mut portals, &p, begins), Some(expected));
+    }
+    assert_eq!(rt;
+        portals.get(&q).map(|portal| portal.scan),
+        Some(Scan::new(40, 30, Some(3)))
+    );
     Ok(())
 }
 

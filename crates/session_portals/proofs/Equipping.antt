@@ -1,5 +1,5 @@
 -- A portal of a store gets its contexts and its owner.
-use Rattle.std.proofs.Common.{◌≡◌, ℕ, ◌+◌, true, Option, Some, List, [], ◌∷◌, ◌++◌, append-nil, All, refl, sym, ap, ◌∙◌, subst}
+use Rattle.std.proofs.Common.{◌≡◌, ℕ, ◌+◌, true, Option, Some, None, List, [], ◌∷◌, ◌++◌, append-nil, All, refl, sym, ap, ◌∙◌, subst}
 use Rattle.std.specs.Prelude.{codes}
 use Rattle.std.specs.Option.{option_and_then, option_map}
 use Rattle.std.proofs.lemmas.List.Elements.{All-nil, All-cons, All-head, All-tail}
@@ -17,7 +17,7 @@ use Rattle.plan_store.specs.Plans.{Plans}
 use Rattle.subxact_stack.specs.declared.levels.Level.{Level}
 use Rattle.session_owners.specs.ResourceState as owners
 use Rattle.session_owners.specs.ResourceState.{ResourceState, owners_of, plans_of}
-use Rattle.session_owners.specs.Placing.{contexts_of}
+use Rattle.session_tables.specs.Placing.{contexts_of}
 use Rattle.session_owners.specs.Fitting as fitting
 use Rattle.session_owners.specs.Commons.{Balances, CommonState, seen_by}
 use Rattle.session_owners.proofs.Balances.{balances_none}
@@ -88,12 +88,14 @@ has_context n p = record p { context = Some n }
 abbrev pub has_expr : ℕ → OpenPortal → OpenPortal
 has_expr n p = record p { expr = Some n }
 
-parent_of_row : (a : StoreState) (s : Space) (x : ShelfState) (commons : CommonState) (around : Around) (name : List ℕ) (p : Portal) (id : CtxId) → portal_named name a.portals ≡ Some p → p.context ≡ Some id
+below_portal : (o : Option Portal) (id : CtxId) → option_and_then (λ p. p.context) o ≡ Some id → option_and_then (λ q. q.context) (option_map portal_state o) ≡ Some id.number
+below_portal None id is = absurd (cc is)
+below_portal (Some p) id is = ap (option_map (λ (i : CtxId). i.number)) is
+
+parent_of_row : (a : StoreState) (s : Space) (x : ShelfState) (commons : CommonState) (around : Around) (name : List ℕ) (id : CtxId) → option_and_then (λ p. p.context) (portal_named name a.portals) ≡ Some id
     → option_and_then (λ q. q.context) (rules.portal_named name (scene_of a s x commons around).session.portals) ≡ Some id.number
 unfolding session_of
-parent_of_row a s x commons around name p id e is =
-    ap (option_and_then (λ q. q.context)) (sym (named_is name a.portals) ∙ ap (option_map portal_state) e)
-    ∙ ap (option_map (λ (i : CtxId). i.number)) is
+parent_of_row a s x commons around name id is = ap (option_and_then (λ q. q.context)) (sym (named_is name a.portals)) ∙ below_portal (portal_named name a.portals) id is
 
 module _ (a : StoreState) (b : TreeState) (qs : List Portal) (name title : List ℕ) (parent id : CtxId) (s t : Space) (x : ShelfState) (commons : CommonState) (Said : List What → Type 0) (distinct : HasDistinctNames a.portals) (number : id.number ≡ a.tree.next)
     (is : stands_for b t ≡ created parent.number a.tree.next title kind.Small true (stands_for a.tree s)) (current : b.current ≡ a.tree.current) (next : b.next ≡ a.tree.next + 1) (limit : t.limit ≡ s.limit) (says : Said (created_events parent.number a.tree.next title)) where
@@ -107,9 +109,9 @@ module _ (a : StoreState) (b : TreeState) (qs : List Portal) (name title : List 
       (subst (λ (words : List ℕ). Acted (made_below name words has_context parent.number) a (record a { tree = b; portals = qs }) s t x x commons commons Said) called
       (below_acted a b qs name title has_context parent.number s t x commons Said is current next limit says now))
 
-  pub row_acted : (p : Portal) → portal_named name a.portals ≡ Some p → p.context ≡ Some parent → title ≡ codes "ExprContext" → qs ≡ changed name (λ p. record p { expr = Some id }) a.portals
+  pub row_acted : option_and_then (λ p. p.context) (portal_named name a.portals) ≡ Some parent → title ≡ codes "ExprContext" → qs ≡ changed name (λ p. record p { expr = Some id }) a.portals
       → Acted (new_context_made (RowContext name)) a (record a { tree = b; portals = qs }) s t x x commons commons Said
-  row_acted p there below called e =
+  row_acted below called e =
       let now : portals_of qs ≡ portal_changed name (has_expr a.tree.next) (portals_of a.portals) =
       ap portals_of e ∙ changed_is name (λ p. record p { expr = Some id }) (has_expr id.number) a.portals distinct (λ p. refl)
       ∙ ap (λ (n : ℕ). portal_changed name (has_expr n) (portals_of a.portals)) number in
@@ -117,7 +119,7 @@ module _ (a : StoreState) (b : TreeState) (qs : List Portal) (name title : List 
       (λ around.
       let z : Scene = scene_of a s x commons around in
       ap (λ (o : Option ℕ). where_there o (λ n. in_order (context_made n (codes "ExprContext") true kind.Small ∷ portal_becomes name (λ q. record q { expr = Some z.session.next_context }) ∷ [])) z)
-      (sym (parent_of_row a s x commons around name p parent there below)))
+      (sym (parent_of_row a s x commons around name parent below)))
       (subst (λ (words : List ℕ). Acted (made_below name words has_expr parent.number) a (record a { tree = b; portals = qs }) s t x x commons commons Said) called
       (below_acted a b qs name title has_expr parent.number s t x commons Said is current next limit says now))
 

@@ -1,9 +1,10 @@
 -- What a portal of a store has is there where the session stands, and lies where its id says.
-use Rattle.std.proofs.Common.{◌≡◌, Option, Some, None, List, All, IfSome, sym, ap, ◌∙◌, subst}
+use Rattle.std.proofs.Common.{◌≡◌, Option, Some, None, List, All, IfSome, refl, sym, ap, ◌∙◌, subst}
 use Rattle.std.specs.Option.{option_and_then, option_map}
 use Rattle.std.specs.Prelude.{ℕ}
 use Rattle.addr_space.specs.Space.{Space}
 use Rattle.forest.proofs.Mapped.{mapped-has}
+use Rattle.pgs_step.specs.declared.ids.CtxId.{CtxId}
 use Rattle.reset_callbacks.specs.ShelfState.{ShelfState}
 use Rattle.exec_core.specs.Turn.{IsScan}
 use Rattle.context_tree.specs.State.{TreeState, IsLive}
@@ -65,6 +66,14 @@ module _ (tree : TreeState) (table : ResourceState) (levels : List Level) (porta
     pub context_in : (name : List ℕ) (o : Option Portal) → o ≡ portal_named name portals → IfSome (option_and_then (λ p. p.context) o) (IsLive v.tree)
     context_in name None e = tt
     context_in name (Some p) e = subst (λ (a : StoreState). IfSome p.context (IsLive a.tree)) is (context_named name p (sym e))
+
+    -- so is the context in which that of one row is made
+    pub parent_live : (name : List ℕ) (id : CtxId) → option_and_then (λ p. p.context) (portal_named name portals) ≡ Some id → IsLive tree id
+    parent_live name id is = on_it (portal_named name portals) refl is
+      where
+        on_it : (o : Option Portal) → o ≡ portal_named name portals → option_and_then (λ p. p.context) o ≡ Some id → IsLive tree id
+        on_it None e is = absurd (cc is)
+        on_it (Some p) e is = subst (λ (c : Option CtxId). IfSome c (IsLive tree)) is (context_named name p (sym e))
 
     pub expr_in : (name : List ℕ) (o : Option Portal) → o ≡ portal_named name portals → IfSome (option_and_then (λ p. p.expr) o) (IsLive v.tree)
     expr_in name None e = tt

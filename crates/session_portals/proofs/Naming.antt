@@ -1,6 +1,5 @@
 -- The portal of a name, in the list that a store keeps and in that of the session.
 use Rattle.std.proofs.Common.{◌≡◌, ◌≢◌, ℕ, zero, suc, false, List, [], ◌∷◌, Some, AllPairs, All, refl, sym, ap, subst, ◌∙◌, inl, inr, arith}
-use Rattle.std.specs.Prelude.{IsSome}
 use Rattle.std.specs.Option.{option_map}
 use Rattle.std.proofs.lemmas.Bool.{cases_Bool, false_from_ne_true}
 use Rattle.std.proofs.lemmas.List.Elements.{All-cons, All-head, All-tail}
@@ -21,17 +20,6 @@ named_is name (p ∷ ps) = elim (cases_Bool (has_name name p)) [
   | inr y ↦ rw y (named_is name ps)
 ]
 
--- it has the name
-pub named_title : (name : List ℕ) (ps : List Portal) (p : Portal) → portal_named name ps ≡ Some p → p.name ≡ name
-named_title name [] p e = absurd (cc e)
-named_title name (q ∷ ps) p e = elim (cases_Bool (has_name name q)) [
-  | inl y ↦ let same : Some q ≡ Some p = rw y at e in let is : q ≡ p = cc same in ap (λ (r : Portal). r.name) (sym is) ∙ is_text-means q.name name y
-  | inr y ↦ named_title name ps p (rw y at e)
-]
-
-pub named_there : (name : List ℕ) (ps : List Portal) (p : Portal) → portal_named name ps ≡ Some p → IsSome (portal_named p.name ps)
-named_there name ps p e = subst (λ (n : List ℕ). IsSome (portal_named n ps)) (sym (named_title name ps p e)) (rw e refl)
-
 -- what is known of all is known of it
 pub named_all : (P : Portal → Type 0) (name : List ℕ) (ps : List Portal) (p : Portal) → All P ps → portal_named name ps ≡ Some p → P p
 named_all P name [] p all e = absurd (cc e)
@@ -39,21 +27,6 @@ named_all P name (q ∷ ps) p all e = elim (cases_Bool (has_name name q)) [
   | inl y ↦ let same : Some q ≡ Some p = rw y at e in let is : q ≡ p = cc same in subst P is (All-head P q ps all)
   | inr y ↦ named_all P name ps p (All-tail P q ps all) (rw y at e)
 ]
-
--- only what a change makes of that portal matters
-pub changed_same : (name : List ℕ) (f g : Portal → Portal) (ps : List Portal) (p : Portal) → portal_named name ps ≡ Some p → f p ≡ g p → changed name f ps ≡ changed name g ps
-changed_same name f g [] p e same = refl
-changed_same name f g (q ∷ ps) p e same = elim (cases_Bool (has_name name q)) [
-  | inl y ↦ let here : Some q ≡ Some p = rw y at e in let is : p ≡ q = cc here in rw y (ap (λ (r : Portal). r ∷ ps) (subst (λ (r : Portal). f r ≡ g r) is same))
-  | inr y ↦ rw y (ap (λ (rs : List Portal). q ∷ rs) (changed_same name f g ps p (rw y at e) same))
-]
-
--- a portal that is put in its place
-pub put_changed : (name : List ℕ) (f : Portal → Portal) (ps qs : List Portal) (p q : Portal) → portal_named name ps ≡ Some p → q ≡ f p → q.name ≡ p.name → qs ≡ changed q.name (λ old. q) ps → qs ≡ changed name f ps
-put_changed name f ps qs p q e is named put =
-    put
-    ∙ ap (λ (n : List ℕ). changed n (λ old. q) ps) (named ∙ named_title name ps p e)
-    ∙ changed_same name (λ old. q) f ps p e is
 
 -- what is known of all is known of all behind a change that keeps it
 pub changed_all : (P : Portal → Type 0) (name : List ℕ) (f : Portal → Portal) (ps : List Portal) → ((p : Portal) → portal_named name ps ≡ Some p → P p → P (f p)) → All P ps → All P (changed name f ps)

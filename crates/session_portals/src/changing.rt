@@ -1,5 +1,5 @@
 //! Portals are asked for, and change as their queries run.
-ghost use Rattle.std.specs.Prelude.{◌≡◌, ◌∷◌, Some, IfSome, IsSome, length};
+ghost use Rattle.std.specs.Prelude.{◌≡◌, ◌∷◌, IfSome, IsSome, length, option_copied};
 ghost use Rattle.std.specs.Option.{option_and_then, option_map};
 ghost use Rattle.addr_space.specs.Space.{Space};
 ghost use Rattle.reset_callbacks.specs.ShelfState.{ShelfState};
@@ -15,7 +15,6 @@ ghost use Rattle.session_rules.specs.Acts.{portal_becomes};
 ghost use Rattle.session_store.specs.State.{portal_state, session_of};
 ghost use Rattle.session_store.specs.Calls.{Acted, IsSilent, PortalsAlone, StandsIn};
 
-use crate::fields::{portal_in, set_active, set_scan, set_state};
 use exec_core::ScanStep;
 use pgs_step::Name;
 use portal_store::{Portal, PortalState};
@@ -23,18 +22,16 @@ use reset_callbacks::ResetHook;
 use session_store::Store;
 
 /// The portal of this name: `GetPortalByName`.
-pub fn portal_named<H: ResetHook>(store: &Store<H>, name: &Name) -> Option<Portal>
-    ensures portal { result ≡ portal_named name.now store.now.portals }
-    ensures session { (s : Space) → option_map portal_state result ≡ rules.portal_named name.now (session_of store.now s).portals }
-    ensures context { (s : Space) (x : ShelfState) (c : CommonState) → StandsIn store.now s x c → IfSome (option_and_then (λ p. p.context) result) (IsLive store.now.tree) }
-    ensures expr { (s : Space) (x : ShelfState) (c : CommonState) → StandsIn store.now s x c → IfSome (option_and_then (λ p. p.expr) result) (IsLive store.now.tree) }
-    ensures owner { (s : Space) (x : ShelfState) (c : CommonState) → StandsIn store.now s x c → IfSome (option_and_then (λ p. p.owner) result) (owners.IsLive store.now.owners) }
-    ensures scan { IfSome result (λ p. IsScan p.scan) }
+#[inline]
+pub fn portal_named<'a, H: ResetHook>(store: &'a Store<H>, name: &Name) -> Option<&'a Portal>
+    ensures portal { option_copied result ≡ portal_named name.now store.now.portals }
+    ensures session { (s : Space) → option_map portal_state (option_copied result) ≡ rules.portal_named name.now (session_of store.now s).portals }
+    ensures context { (s : Space) (x : ShelfState) (c : CommonState) → StandsIn store.now s x c → IfSome (option_and_then (λ p. p.context) (option_copied result)) (IsLive store.now.tree) }
+    ensures expr { (s : Space) (x : ShelfState) (c : CommonState) → StandsIn store.now s x c → IfSome (option_and_then (λ p. p.expr) (option_copied result)) (IsLive store.now.tree) }
+    ensures owner { (s : Space) (x : ShelfState) (c : CommonState) → StandsIn store.now s x c → IfSome (option_and_then (λ p. p.owner) (option_copied result)) (owners.IsLive store.now.owners) }
+    ensures scan { IfSome (option_copied result) (λ p. IsScan p.scan) }
 {
-    match store.portals.get(name) {
-        Some(portal) => Some(*portal),
-        None => None,
-    }
+    store.portals.get(name)
 }
 
 /// The portal of this name is whole: its scan may be fetched from. That is `PORTAL_READY` in PostgreSQL.
@@ -44,7 +41,7 @@ pub fn portal_ready<H: ResetHook>(store: &mut Store<H>, name: &Name)
     ensures alone { PortalsAlone store.old store.new }
     ensures portals { store.new.portals ≡ changed name.now (λ p. record p { state = state.Ready }) store.old.portals }
 {
-    set_state(&mut store.portals, name, PortalState::Ready);
+    store.portals.set_state(name, PortalState::Ready);
 }
 
 /// The portal of this name is fetched from in the deepest level: `MarkPortalActive` as far as its level goes.
@@ -55,17 +52,18 @@ pub fn begin_fetch<H: ResetHook>(store: &mut Store<H>, name: &Name)
     ensures portals { store.new.portals ≡ changed name.now (λ p. record p { active = length store.old.levels }) store.old.portals }
 {
     let level = store.levels.depth();
-    set_active(&mut store.portals, name, level);
+    store.portals.set_active(name, level);
 }
 
 /// The query of the portal of this name has failed: `MarkPortalFailed`.
+#[cold]
 pub fn fail_portal<H: ResetHook>(store: &mut Store<H>, name: &Name)
     requires there { IsSome (portal_named name.now store.old.portals) }
     ensures acted { (s : Space) (x : ShelfState) (c : CommonState) → Acted (portal_becomes name.now (λ p. record p { state = state.Failed })) store.old store.new s s x x c c IsSilent }
     ensures alone { PortalsAlone store.old store.new }
     ensures portals { store.new.portals ≡ changed name.now (λ p. record p { state = state.Failed }) store.old.portals }
 {
-    set_state(&mut store.portals, name, PortalState::Failed);
+    store.portals.set_state(name, PortalState::Failed);
 }
 
 /// The next step of a portal's scan, which stands behind it then. What the step asks of the session is the caller's to do.
@@ -76,10 +74,7 @@ pub fn next_step<H: ResetHook>(store: &mut Store<H>, name: &Name) -> ScanStep
     ensures alone { PortalsAlone store.old store.new }
     ensures portals { store.new.portals ≡ changed name.now (λ old. record old { scan = taken result old.scan }) store.old.portals }
 {
-    let mut scan = portal_in(&store.portals, name).scan;
-    let step = scan.next();
-    set_scan(&mut store.portals, name, scan);
-    step
+    store.portals.step(name, false)
 }
 
 /// The first step of a turn of a portal's scan, which stands behind it then: a turn that was left in the middle begins anew. What the
@@ -91,9 +86,5 @@ pub fn first_step<H: ResetHook>(store: &mut Store<H>, name: &Name) -> ScanStep
     ensures alone { PortalsAlone store.old store.new }
     ensures portals { store.new.portals ≡ changed name.now (λ old. record old { scan = taken result old.scan }) store.old.portals }
 {
-    let mut scan = portal_in(&store.portals, name).scan;
-    scan.stage = 0;
-    let step = scan.next();
-    set_scan(&mut store.portals, name, scan);
-    step
+    store.portals.step(name, true)
 }

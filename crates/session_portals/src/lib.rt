@@ -2,7 +2,6 @@
 #![tactic(auto)]
 
 mod changing;
-mod fields;
 mod making;
 
 pub use changing::{begin_fetch, fail_portal, first_step, next_step, portal_named, portal_ready};

@@ -20,7 +20,6 @@ ghost use Rattle.session_rules.specs.Making.{new_context_made, new_owner_made, p
 ghost use Rattle.session_store.specs.State.{contexts_in, left_in};
 ghost use Rattle.session_store.specs.Calls.{Acted, IsSilent, Keeps, PortalsAlone, Refused, StandsIn};
 
-use crate::fields::{portal_in, set_context, set_expr, set_owner};
 use addr_space::Space;
 use any_ctx::CtxKind;
 use context_node::own_name;
@@ -28,7 +27,7 @@ use context_rules::TreeError;
 use exec_core::Scan;
 use owner_core::OwnerError;
 use pgs_step::{CtxId, Emit, Name};
-use portal_store::{MAX_PORTALS, Portal, PortalError};
+use portal_store::{MAX_PORTALS, PortalError, Portals};
 use reset_callbacks::ResetHook;
 use session_store::Store;
 
@@ -92,18 +91,21 @@ pub fn make_portal_context<H: ResetHook, E: Emit>(
         .create(space, parent, title, CtxKind::Small, true, out)
     {
         Ok(context) => {
-            set_context(&mut store.portals, name, context);
+            store.portals.set_context(name, context);
             Ok(())
         }
         Err(error) => Err(error),
     }
 }
 
-/// The context of this portal, which is made.
-fn context_of(portal: &Portal) -> CtxId
-    requires { IsSome portal.now.context }
-    ensures { portal.now.context ≡ Some result }
+/// The context of the portal of this name, which has one.
+fn context_of(portals: &Portals, name: &Name) -> CtxId
+    requires { IsSome (option_and_then (λ p. p.context) (portal_named name.now portals.now)) }
+    ensures { option_and_then (λ p. p.context) (portal_named name.now portals.now) ≡ Some result }
 {
+    let Some(portal) = portals.get(name) else {
+        unreachable!()
+    };
     match portal.context {
         Some(context) => context,
         None => unreachable!(),
@@ -135,14 +137,14 @@ pub fn make_row_context<H: ResetHook, E: Emit>(
     ensures err_asked { IfErr result (λ e. AsksInVain e store.old.tree.account (first_size kind.Small) space.old space.new) }
     ensures silent { OnErr result (out.new ≡ out.old) }
 {
-    let parent = context_of(&portal_in(&store.portals, name));
+    let parent = context_of(&store.portals, name);
     let title = own_name(b"ExprContext");
     match store
         .tree
         .create(space, parent, title, CtxKind::Small, true, out)
     {
         Ok(context) => {
-            set_expr(&mut store.portals, name, context);
+            store.portals.set_expr(name, context);
             Ok(())
         }
         Err(error) => Err(error),
@@ -173,7 +175,7 @@ pub fn make_portal_owner<H: ResetHook, E: Emit>(
     let parent = store.level_owner();
     match store.owners.make_owner(parent, out) {
         Ok(owner) => {
-            set_owner(&mut store.portals, name, owner);
+            store.portals.set_owner(name, owner);
             Ok(())
         }
         Err(error) => Err(error),

@@ -12,15 +12,15 @@ set_active-requires g c = there_in _ _ _ _ _ c.store.view_is c.args.name.now c.r
 
 pub invariant_of-store : goal.invariant_of-store
 invariant_of-store g c =
-    placed_changed _ _ _ c.store.inside.portals c.set_active.new.portals c.args.name.now (λ (p : Portal). record p { active = c.depth-level.result }) c.store.invariant
+    placed_changed _ _ _ c.store.inside.portals c.set_active.new.self c.args.name.now (λ (p : Portal). record p { active = c.depth-level.result }) c.store.invariant
     (λ p e lies. record { context = lies.context; expr = lies.expr; owner = lies.owner; scan = lies.scan }) c.set_active.ensures.portals
 
 pub returns-clause-acted : goal.returns-clause-acted
 returns-clause-acted g c s x commons =
-    active_after _ _ _ _ _ c.store.view_is c.set_active.new.portals c.args.name.now c.depth-level.result s x commons c.set_active.ensures.distinct c.depth-level.ensures.depth c.set_active.ensures.portals
+    active_after _ _ _ _ _ c.store.view_is c.set_active.new.self c.args.name.now c.depth-level.result s x commons c.set_active.ensures.distinct c.depth-level.ensures.depth c.set_active.ensures.portals
 
 pub returns-clause-alone : goal.returns-clause-alone
-returns-clause-alone g c = portals_alone_after _ _ _ _ _ c.store.view_is c.set_active.new.portals
+returns-clause-alone g c = portals_alone_after _ _ _ _ _ c.store.view_is c.set_active.new.self
 
 pub returns-clause-portals : goal.returns-clause-portals
 returns-clause-portals g c =

@@ -24,7 +24,7 @@ create-requires-clause-live g c =
 
 pub invariant_of-store : goal.invariant_of-store
 invariant_of-store g c =
-    placed_changed _ _ _ c.store.inside.portals c.set_context.new.portals c.args.name.now (λ (p : Portal). record p { context = Some c.in-Ok.context })
+    placed_changed _ _ _ c.store.inside.portals c.set_context.new.self c.args.name.now (λ (p : Portal). record p { context = Some c.in-Ok.context })
     (placed_after _ _ _ _ _ c.store.view_is c.create.new.self c.args.space.now c.create.new.space c.requires.stands.0 c.requires.stands.1.0 c.requires.stands.1.1 c.store.invariant
     (goes_made _ _ _ _ c.create.ensures.moves c.create.ensures.stays c.create.ensures.fresh c.create.ensures.current))
     (λ p e lies. record { context = λ there. c.in-Ok.ensures.live; expr = lies.expr; owner = lies.owner; scan = lies.scan }) c.set_context.ensures.portals
@@ -32,15 +32,15 @@ invariant_of-store g c =
 pub returns-in-Ok-clause-acted : goal.returns-in-Ok-clause-acted
 returns-in-Ok-clause-acted g c x commons =
     let a : StoreState = record { tree = c.store.inside.tree; owners = c.store.inside.owners; levels = c.store.inside.levels; portals = c.store.inside.portals } in
-    subst (λ (v : StoreState). Acted (new_context_made (PortalContext c.args.name.now)) v (record { tree = c.create.new.self; owners = a.owners; levels = a.levels; portals = c.set_context.new.portals }) c.args.space.now c.create.new.space x x commons commons (λ events. g.E.Emit.emits c.args.out.now events c.create.new.out)) c.store.view_is
-    (context_acted a c.create.new.self c.set_context.new.portals c.args.name.now c.own_name-title.result c.portals-parent.result c.in-Ok.context c.args.space.now c.create.new.space x commons (λ events. g.E.Emit.emits c.args.out.now events c.create.new.out) c.set_context.ensures.distinct
+    subst (λ (v : StoreState). Acted (new_context_made (PortalContext c.args.name.now)) v (record { tree = c.create.new.self; owners = a.owners; levels = a.levels; portals = c.set_context.new.self }) c.args.space.now c.create.new.space x x commons commons (λ events. g.E.Emit.emits c.args.out.now events c.create.new.out)) c.store.view_is
+    (context_acted a c.create.new.self c.set_context.new.self c.args.name.now c.own_name-title.result c.portals-parent.result c.in-Ok.context c.args.space.now c.create.new.space x commons (λ events. g.E.Emit.emits c.args.out.now events c.create.new.out) c.set_context.ensures.distinct
     c.in-Ok.ensures.number c.in-Ok.ensures.contexts c.create.ensures.current c.in-Ok.ensures.next c.create.ensures.moves.limit c.in-Ok.ensures.emits
     c.portals-parent.ensures.number c.own_name-title.ensures c.set_context.ensures.portals)
 
 pub returns-in-Ok-clause-keeps : goal.returns-in-Ok-clause-keeps
 returns-in-Ok-clause-keeps g c =
     let a : StoreState = record { tree = c.store.inside.tree; owners = c.store.inside.owners; levels = c.store.inside.levels; portals = c.store.inside.portals } in
-    keeps_open (record a { tree = c.create.new.self }) a.owners c.set_context.new.portals c.create.new.space
+    keeps_open (record a { tree = c.create.new.self }) a.owners c.set_context.new.self c.create.new.space
     (keeps_on a c.create.new.self c.args.space.now c.create.new.space (keeps_in _ _ _ _ _ c.store.view_is c.args.space.now c.requires.keeps) c.create.ensures.moves)
 
 pub returns-in-Err-clause-keeps : goal.returns-in-Err-clause-keeps

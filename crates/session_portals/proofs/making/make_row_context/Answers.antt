@@ -1,5 +1,5 @@
 -- The new context is below the portal's, and the portal has it.
-use Rattle.std.proofs.Common.{◌≡◌, ◌⊎◌, true, ℕ, Some, None, refl, subst, IfSome}
+use Rattle.std.proofs.Common.{◌≡◌, ◌⊎◌, true, ℕ, Some, None, refl, subst}
 use Rattle.std.specs.Prelude.{codes}
 use Rattle.any_ctx.specs.declared.any.CtxKind.TheVariants as kind
 use Rattle.context_rules.specs.Contexts.{Contexts}
@@ -16,20 +16,16 @@ use Rattle.session_store.proofs.Through.{keeps_in, left_through, placed_after}
 use Rattle.session_store.proofs.Led.{refused_regions}
 use Rattle.session_portals.proofs.Becoming.{placed_changed}
 use Rattle.session_portals.proofs.Equipping.{row_acted, keeps_open}
-use Rattle.pgs_step.specs.declared.ids.CtxId.{CtxId}
-use Rattle.context_tree.specs.State.{IsLive}
-use Rattle.std.proofs.Common.{Option}
-use Rattle.session_portals.proofs.Living.{context_named}
+use Rattle.session_portals.proofs.Living.{parent_live}
 use Rattle.session_portals.proofs.making.make_row_context.Goals as goal
 
 pub create-requires-clause-live : goal.create-requires-clause-live
 create-requires-clause-live g c =
-    subst (λ (o : Option CtxId). IfSome o (IsLive c.store.inside.tree)) c.context_of-parent.ensures
-    (context_named _ _ _ _ c.store.invariant _ c.store.view_is c.args.space.now c.requires.stands.0 c.requires.stands.1.0 c.requires.stands.1.1 c.args.name.now c.portal_in.result c.portal_in.ensures.portal)
+    parent_live _ _ _ _ c.store.invariant _ c.store.view_is c.args.space.now c.requires.stands.0 c.requires.stands.1.0 c.requires.stands.1.1 c.args.name.now c.context_of-parent.result c.context_of-parent.ensures
 
 pub invariant_of-store : goal.invariant_of-store
 invariant_of-store g c =
-    placed_changed _ _ _ c.store.inside.portals c.set_expr.new.portals c.args.name.now (λ (p : Portal). record p { expr = Some c.in-Ok.context })
+    placed_changed _ _ _ c.store.inside.portals c.set_expr.new.self c.args.name.now (λ (p : Portal). record p { expr = Some c.in-Ok.context })
     (placed_after _ _ _ _ _ c.store.view_is c.create.new.self c.args.space.now c.create.new.space c.requires.stands.0 c.requires.stands.1.0 c.requires.stands.1.1 c.store.invariant
     (goes_made _ _ _ _ c.create.ensures.moves c.create.ensures.stays c.create.ensures.fresh c.create.ensures.current))
     (λ p e lies. record { context = lies.context; expr = λ there. c.in-Ok.ensures.live; owner = lies.owner; scan = lies.scan }) c.set_expr.ensures.portals
@@ -37,15 +33,15 @@ invariant_of-store g c =
 pub returns-in-Ok-clause-acted : goal.returns-in-Ok-clause-acted
 returns-in-Ok-clause-acted g c x commons =
     let a : StoreState = record { tree = c.store.inside.tree; owners = c.store.inside.owners; levels = c.store.inside.levels; portals = c.store.inside.portals } in
-    subst (λ (v : StoreState). Acted (new_context_made (RowContext c.args.name.now)) v (record { tree = c.create.new.self; owners = a.owners; levels = a.levels; portals = c.set_expr.new.portals }) c.args.space.now c.create.new.space x x commons commons (λ events. g.E.Emit.emits c.args.out.now events c.create.new.out)) c.store.view_is
-    (row_acted a c.create.new.self c.set_expr.new.portals c.args.name.now c.own_name-title.result c.context_of-parent.result c.in-Ok.context c.args.space.now c.create.new.space x commons (λ events. g.E.Emit.emits c.args.out.now events c.create.new.out) c.set_expr.ensures.distinct
+    subst (λ (v : StoreState). Acted (new_context_made (RowContext c.args.name.now)) v (record { tree = c.create.new.self; owners = a.owners; levels = a.levels; portals = c.set_expr.new.self }) c.args.space.now c.create.new.space x x commons commons (λ events. g.E.Emit.emits c.args.out.now events c.create.new.out)) c.store.view_is
+    (row_acted a c.create.new.self c.set_expr.new.self c.args.name.now c.own_name-title.result c.context_of-parent.result c.in-Ok.context c.args.space.now c.create.new.space x commons (λ events. g.E.Emit.emits c.args.out.now events c.create.new.out) c.set_expr.ensures.distinct
     c.in-Ok.ensures.number c.in-Ok.ensures.contexts c.create.ensures.current c.in-Ok.ensures.next c.create.ensures.moves.limit c.in-Ok.ensures.emits
-    c.portal_in.result c.portal_in.ensures.portal c.context_of-parent.ensures c.own_name-title.ensures c.set_expr.ensures.portals)
+    c.context_of-parent.ensures c.own_name-title.ensures c.set_expr.ensures.portals)
 
 pub returns-in-Ok-clause-keeps : goal.returns-in-Ok-clause-keeps
 returns-in-Ok-clause-keeps g c =
     let a : StoreState = record { tree = c.store.inside.tree; owners = c.store.inside.owners; levels = c.store.inside.levels; portals = c.store.inside.portals } in
-    keeps_open (record a { tree = c.create.new.self }) a.owners c.set_expr.new.portals c.create.new.space
+    keeps_open (record a { tree = c.create.new.self }) a.owners c.set_expr.new.self c.create.new.space
     (keeps_on a c.create.new.self c.args.space.now c.create.new.space (keeps_in _ _ _ _ _ c.store.view_is c.args.space.now c.requires.keeps) c.create.ensures.moves)
 
 pub returns-in-Err-clause-keeps : goal.returns-in-Err-clause-keeps

@@ -1,0 +1,6 @@
+use Rattle.std.proofs.Common.{sym, ◌∙◌}
+use Rattle.portal_store.proofs.PortalLemmas.{not_nowhere}
+use Rattle.portal_store.proofs.portals.Portals.place.Goals as goal
+
+pub unreachable-requires : goal.unreachable-requires
+unreachable-requires c = absurd (not_nowhere c.args.name.now c.args.self.now c.requires (sym c.find.ensures ∙ c.in-None.is))
