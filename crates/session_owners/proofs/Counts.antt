@@ -27,7 +27,7 @@ use Rattle.file_table.specs.Files.{OpensOneMore, opens}
 use Rattle.plan_store.specs.Plans.{RefersAlike, RefersOneMore, references_to}
 use Rattle.plan_store.specs.declared.plan.Plan.{Plan}
 use Rattle.owner_kinds.specs.KindShelf as shelf
-use Rattle.session_owners.specs.Tables.{Held, Lending, times_held, times_lent}
+use Rattle.session_tables.specs.Tables.{Held, Lending, times_held, times_lent}
 
 module _ (kind : KindId) (key : ℕ) where
   used : Owner → ℕ
@@ -175,12 +175,6 @@ times_held-pinned a b buffer kind key within is =
     omega (arith, more)
 
 -- one file more
-pub pin_is_other : (kind : ℕ) → (kind == 1) ≡ true → (kind == 8) ≡ false
-pin_is_other kind y = ne_eqb kind 8 (λ e. omega (arith, e, eqb-true kind 1 y))
-
-pub pin_is_none : (kind : ℕ) → (kind == 1) ≡ true → (kind == 5) ≡ false
-pin_is_none kind y = ne_eqb kind 5 (λ e. omega (arith, e, eqb-true kind 1 y))
-
 pub times_held-opened : (a b : Held) (file : ℕ) (kind : KindId) (key : ℕ) → b ≡ record a { files = b.files } → OpensOneMore a.files b.files file
     → times_held b kind key ≡ times_held a kind key + (if (8 == kind.0) && (file == key) then 1 else 0)
 times_held-opened a b file kind key is more =

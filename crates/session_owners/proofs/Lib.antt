@@ -1,5 +1,4 @@
 pub mod Balances
-pub mod TableSteps
 pub mod Names
 pub mod Counts
 pub mod Kept
@@ -10,6 +9,4 @@ pub mod Remembered
 pub mod LockActs
 pub mod OwnPins
 pub mod Stack
-pub mod PlanSteps
 pub mod Stat
-pub mod Classes

@@ -1,11 +1,11 @@
 -- The open files are those that the owners hold.
-use Rattle.std.proofs.Common.{◌≡◌, ◌≢◌, ◌↔◌, ℕ, suc, zero, ◌<◌, ◌≤◌, Bool, true, false, ◌||◌, cond, nat_eq, List, [], ◌∷◌, ◌++◌, length, Result, Ok, Err, IfErr, refl, sym, ap, ◌∙◌, inl, inr, arith}
-use Rattle.std.specs.Prelude.{◌==◌, nat_lt, count_by, IsTrue}
+use Rattle.std.proofs.Common.{◌≡◌, ◌≢◌, ◌↔◌, ℕ, suc, ◌≤◌, true, false, cond, nat_eq, List, [], ◌∷◌, ◌++◌, length, Result, Ok, Err, IfErr, refl, sym, ap, ◌∙◌, inl, inr, arith}
+use Rattle.std.specs.Prelude.{◌==◌, nat_lt, IsTrue}
 use Rattle.std.specs.List.{list_any}
 use Rattle.std.specs.Set.{distinct_count}
-use Rattle.std.proofs.lemmas.Bool.{both_ways, cases_Bool, lt-ltb}
+use Rattle.std.proofs.lemmas.Bool.{both_ways, cases_Bool}
 use Rattle.std.proofs.lemmas.Bool.Decides.{nat_tests}
-use Rattle.std.proofs.lemmas.List.Sums.{sum_by-append, sum_by-cons}
+use Rattle.std.proofs.lemmas.List.Sums.{sum_by-append}
 use Rattle.pgs_step.specs.declared.ids.Item.{Item}
 use Rattle.pgs_step.specs.declared.ids.KindId.{KindId}
 use Rattle.forest.specs.Forest.{Empty, Node}
@@ -20,20 +20,7 @@ use Rattle.file_table.proofs.Sound.{no_descriptor}
 use Rattle.session_rules.specs.State.{file_kind}
 use Rattle.session_rules.specs.Counts.{all_items, distinct, keys_of}
 use Rattle.session_owners.specs.Counted.{files_held, holds_file}
-
--- an element passes a test where some do
-pub any_counts : {A : Type 0} (test : A → Bool) (xs : List A) → list_any test xs ≡ nat_lt 0 (count_by test xs)
-any_counts test [] = refl
-any_counts test (x ∷ xs) = go (any_counts test xs) (test x) refl
-  where
-    go : list_any test xs ≡ nat_lt 0 (count_by test xs) → (b : Bool) → test x ≡ b → (b || list_any test xs) ≡ nat_lt 0 (count_by test (x ∷ xs))
-    go rest true e =
-        let one : cond (test x) (suc zero) zero ≡ suc zero = ap (λ b. cond b (suc zero) zero) e in
-        sym (lt-ltb 0 (count_by test (x ∷ xs)) (omega (arith, sum_by-cons (λ other. cond (test other) 1 0) x xs, one)))
-    go rest false e =
-        let none : cond (test x) (suc zero) zero ≡ zero = ap (λ b. cond b (suc zero) zero) e in
-        let same : count_by test xs ≡ count_by test (x ∷ xs) = omega (arith, sum_by-cons (λ other. cond (test other) 1 0) x xs, none) in
-        rest ∙ ap (nat_lt 0) same
+use Rattle.session_tables.proofs.OpenCounts.{any_counts}
 
 -- how often owners hold a kind and key, by all their items
 pub held_all : (kind : KindId) (key : ℕ) (owners : OwnerTree) → held kind key owners ≡ uses kind key (all_items owners)
@@ -105,15 +92,6 @@ descriptors_kept files file =
       | inl y ↦ rw y refl
       | inr n ↦ rw n refl
     ]
-
--- a file that is open isn't missed
-pub is_there : (files : Files) (file : ℕ) → 0 < opens files file → is_among file files.opened ≡ true
-is_there files file some = any_counts (λ other. file == other) files.opened ∙ lt-ltb 0 (opens files file) some
-
-pub closes : (files : Files) (file : ℕ) (r : Result (Unit {0}) FileError) (e : FileError) → r ≡ Err e → IfErr r (λ error. error ≡ NoFile) → (r ≡ Err NoFile) ↔ (is_among file files.opened ≡ false) → 0 < opens files file → ⊥
-closes files file (Ok u) e is other missing some = let z : Ok u ≡ Err e = is in cc z
-closes files file (Err d) e is other missing some =
-    both_ways (is_among file files.opened) (missing.0 (ap (λ (x : FileError). Err x) other)) (is_there files file some)
 
 -- where as many files are open as can be
 pub full : (files : Files) (owners : OwnerTree) (file : ℕ) (r : Result (Unit {0}) FileError) → IsSound files → ((key : ℕ) → opens files key ≡ held file_kind key owners) → holds_file file owners ≡ false

@@ -14,19 +14,13 @@ use Rattle.owner_core.specs.Released.{released}
 use Rattle.owner_core.specs.Sound.{IsSoundTable}
 use Rattle.session_rules.specs.State.{file_kind}
 use Rattle.session_rules.specs.Counts.{all_items, distinct, keys_of}
-use Rattle.session_rules.specs.Releases.{NoOne, keeper_of}
-use Rattle.session_owners.specs.Tables.{Held, times_held}
+use Rattle.session_tables.specs.Tables.{Held, times_held}
+pub use Rattle.session_tables.specs.Tables.{IsReference}
 
 -- the item is a pin of one of the buffers
 pub record IsPin (item : Item) : Type 0 where
   pub kind : item.kind.0 ≡ 1
   pub buffer : item.key < 1024
-
--- a kind of references that nothing but owners and these tables keep count of
-pub record IsReference (kind : KindId) : Type 0 where
-  pub from : 2 ≤ kind.0
-  pub to : kind.0 ≤ 8
-  pub unkept : keeper_of kind ≡ NoOne
 
 -- an item that is counted: a pin, a reference, an open file, a reference to a plan, or what an extension kind holds
 abbrev pub IsHeld : Item → Type 0

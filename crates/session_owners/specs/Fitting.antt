@@ -2,12 +2,11 @@
 use Rattle.std.specs.Prelude.{◌≡◌, List}
 use Rattle.lock_shared.specs.Ranked.{beside}
 use Rattle.pgs_step.specs.declared.events.What.{What}
-use Rattle.context_rules.specs.Contexts.{Contexts}
-use Rattle.reset_callbacks.specs.ShelfState.{ShelfState}
 use Rattle.session_rules.specs.World.{Scene}
 use Rattle.session_rules.specs.Acts.{Ended}
 use Rattle.session_owners.specs.ResourceState.{ResourceState, owners_of, plans_of}
 use Rattle.session_owners.specs.Commons.{CommonState, pinned_beside, seen_by}
+pub use Rattle.session_tables.specs.Hosting.{Hosting, HostsFit, hosting_of, with_hosting}
 
 -- The owners of a scene, its files that have a descriptor, its locks, its active snapshots and its plans are these, as many descriptors
 -- are its share, and its kinds, what others have locked and how many others pin each buffer are those of the commons.
@@ -35,26 +34,6 @@ with_owners state commons scene = record scene {
 pub record Acted (act : Scene → Ended) (a b : ResourceState) (c d : CommonState) (Said : List What → Type 0) : Type 0 where
   pub leads : (scene : Scene) → OwnersFit a c scene → (act scene).scene ≡ with_owners b d scene
   pub says : (scene : Scene) → OwnersFit a c scene → Said (act scene).events
-
--- what a session has of contexts, and the hooks of the run
-pub record Hosting : Type 0 where
-  pub contexts : Contexts
-  pub shelf : ShelfState
-
-abbrev pub hosting_of : Contexts → ShelfState → Hosting
-hosting_of contexts shelf = record { contexts = contexts; shelf = shelf }
-
--- a scene has these contexts and these hooks
-pub record HostsFit (hosting : Hosting) (scene : Scene) : Type 0 where
-  pub contexts : scene.session.contexts ≡ hosting.contexts
-  pub shelf : scene.around.shelf ≡ hosting.shelf
-
--- the scene with these contexts and these hooks
-abbrev pub with_hosting : Hosting → Scene → Scene
-with_hosting hosting scene = record scene {
-  session = record scene.session { contexts = hosting.contexts };
-  around = record scene.around { shelf = hosting.shelf };
-}
 
 -- The same where contexts of plans may go: an act leads from owners, commons, contexts and hooks to others and changes nothing else, and
 -- what it says is so.

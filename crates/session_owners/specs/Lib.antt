@@ -1,7 +1,5 @@
 pub mod ResourceState
 pub mod Commons
+pub mod LockLaws
 pub mod Fitting
-pub mod Placing
-pub mod Tables
-pub mod TableLaws
 pub mod Counted

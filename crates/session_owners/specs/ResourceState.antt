@@ -1,7 +1,7 @@
 -- What the resources of a session are seen as: its owners, and its files as far as their descriptors go.
-use Rattle.std.specs.Prelude.{◌≡◌, ℕ, List, [], map, Option, Some, refl}
+use Rattle.std.specs.Prelude.{◌≡◌, ℕ, List, [], map, Some, refl}
 use Rattle.std.specs.Option.{option_map_or}
-use Rattle.std.specs.Coded.{Coded, code_by, coded×, coded_ℕ, coded_list, coded_option}
+use Rattle.std.specs.Coded.{Coded, code_by, coded×, coded_ℕ, coded_list}
 use Rattle.pgs_step.specs.declared.ids.OwnerId.{OwnerId}
 use Rattle.forest.specs.Forest.{Forest, at}
 use Rattle.forest.specs.Code.{forest_code}
@@ -9,12 +9,12 @@ use Rattle.file_table.specs.Files.{Files}
 use Rattle.snap_table.specs.declared.active.Active.{Active}
 use Rattle.snap_table.specs.contracts.active.Active as active
 use Rattle.plan_store.specs.Plans.{Plans}
-use Rattle.plan_store.specs.declared.plan.Plan.{Plan}
-use Rattle.plan_store.specs.contracts.plan.Plan as plan
 use Rattle.lock_local.specs.Locks.{Lock, SessionLocks}
 use Rattle.lock_local.specs.Code.{lock_code}
 use Rattle.owner_core.specs.TableCode.{roomy_code}
 use Rattle.session_rules.specs.State.{StandingPlan}
+use Rattle.session_tables.specs.PlanStates.{plans_code}
+pub use Rattle.session_tables.specs.PlanStates.{plan_state}
 pub use Rattle.owner_core.specs.Owners.{Owner, OwnerTree, Roomy, AllAt, HoldsNothing, created, entered, forgotten, has_begun, held, items_of, remembered, tree_of}
 
 -- the owners with their room, where each lies, the numbers that the next owner and the next item get, the files that have a
@@ -31,12 +31,6 @@ pub record ResourceState : Type 0 where
   pub locks : List Lock
   pub stack : List Active
   pub plans : Plans
-
--- the plans as a value
-abbrev pub plans_code : Coded Plans
-plans_code =
-    code_by (List (ℕ × Plan) × Option ℕ) (coded× (coded_list (coded× coded_ℕ plan.the_row.coded)) (coded_option coded_ℕ))
-    (λ p. (p.standing, p.reserved)) (λ p. record { standing = p.0; reserved = p.1 }) (λ _. refl)
 
 abbrev pub resource_code : Coded ResourceState
 resource_code =
@@ -65,9 +59,6 @@ spare_of n state = option_map_or (λ room. room.spare) (at n state.rooms) 0
 abbrev pub files_of : ResourceState → Files
 files_of state = record { descriptors = state.descriptors; opened = []; recent = state.recent }
 
--- a plan that stands, by the number of its context, and the plans as the session's rules have them
-abbrev pub plan_state : ℕ × Plan → StandingPlan
-plan_state plan = record { number = plan.0; context = plan.1.context.number; discarded = plan.1.discarded; references = plan.1.references }
-
+-- the plans as the session's rules have them
 abbrev pub plans_of : ResourceState → List StandingPlan
 plans_of state = map plan_state state.plans.standing

@@ -4,14 +4,11 @@
 
 mod commons;
 mod lent;
-mod place;
-mod plans;
 mod resources;
-mod tables;
 
 pub use commons::Commons;
-pub use place::PlanContexts;
 pub use resources::Resources;
+pub use session_tables::PlanContexts;
 
 #[cfg(test)]
 mod tests;

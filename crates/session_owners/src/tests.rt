@@ -1,20 +1,17 @@
-//! An owner that is released, pins of two sessions, active snapshots, and plans whose contexts go. Whole sessions are played in
-//! session_trials.
+//! An owner that is released, active snapshots, and a plan whose context goes. Whole sessions are played in session_trials.
 ghost use Rattle.std.specs.Prelude.{◌≡◌, ◌↔◌, ◌+◌, ◌<◌, ◌≤◌, ◌^◌, true, false, [], ◌∷◌, None, Some, IfOk, IfSome, OnOk};
 ghost use Rattle.std.specs.Option.{option_map};
 ghost use Rattle.forest.specs.Forest.{Empty, parent_of};
 ghost use Rattle.session_owners.specs.ResourceState.{owners_of, AllAt, HoldsNothing, IsLive, created};
 ghost use Rattle.session_owners.specs.Commons.{Serves};
-ghost use Rattle.session_owners.specs.Placing.{PlansFit};
+ghost use Rattle.session_tables.specs.Placing.{PlansFit};
 ghost use Rattle.plan_store.specs.Plans.{is_usable};
 
-use crate::tables::Tables;
-use crate::{Commons, PlanContexts, Resources, plans};
+use crate::{Commons, PlanContexts, Resources};
 use owner_core::OwnerError;
 use owner_kinds::{CountedKind, KindShelf};
 use pgs_step::{CtxId, Emit, EventList, OwnerId, What};
-use pin_table::SharedPins;
-use plan_store::{PlanError, PlanStore};
+use plan_store::PlanError;
 use snap_table::SnapError;
 use std::alloc::{AllocError, Global};
 use std::test::Fail;
@@ -154,19 +151,6 @@ fn an_owner_that_is_released_gets_no_room(rt: HostRuntime) -> Result<(), Fail> {
 }
 
 #[test]
-fn each_of_two_sessions_counts_once(rt: HostRuntime) -> Result<(), Fail> {
-    let mut shared = SharedPins::new(rt.alloc())?;
-    let mut first = Tables::new(rt.alloc(), 8)?;
-    let mut second = Tables::new(rt.alloc(), 8)?;
-    first.pin(7, &mut shared);
-    second.pin(7, &mut shared);
-    first.pin(7, &mut shared);
-    assert_eq!(rt; shared.count(7), 2);
-    assert_eq!(rt; first.pinned_buffers(), 1);
-    Ok(())
-}
-
-#[test]
 fn active_snapshots_are_popped_at_their_level(rt: HostRuntime) -> Result<(), Fail> {
     let mut out = EventList::new(rt.alloc(), 20)?;
     let mut session = Session::new(rt.alloc(), no_kinds(rt.alloc())?)?;
@@ -189,20 +173,5 @@ fn a_plan_that_is_discarded_goes_with_its_context(rt: HostRuntime) -> Result<(),
     session.drop_plan(3, &mut out);
     assert_eq!(rt; session.place.gone, Some(CONTEXT));
     assert_eq!(rt; session.resources.has_plan(3), false);
-    Ok(())
-}
-
-#[test]
-fn the_last_reference_takes_the_context_along(rt: HostRuntime) -> Result<(), Fail> {
-    let mut out = EventList::new(rt.alloc(), 20)?;
-    let mut place = Place { gone: None };
-    let mut store = PlanStore::new(rt.alloc());
-    store.reserve(3)?;
-    store.make(3, CONTEXT);
-    store.add_ref(3)?;
-    plans::discard(&mut store, 3, &mut place, &mut out);
-    assert_eq!(rt; place.gone, None);
-    plans::leave(&mut store, 3, &mut place, &mut out);
-    assert_eq!(rt; place.gone, Some(CONTEXT));
     Ok(())
 }

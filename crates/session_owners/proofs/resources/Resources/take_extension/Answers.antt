@@ -1,6 +1,6 @@
 use Rattle.std.proofs.Common.{◌≤◌, List, ap, refl, subst, sym}
 use Rattle.session_owners.specs.Commons.{CommonState}
-use Rattle.session_owners.specs.TableLaws.{LocksBalance-nothing}
+use Rattle.session_owners.specs.LockLaws.{LocksBalance-nothing}
 use Rattle.session_owners.specs.ResourceState.{ResourceState, owners_of, spare_of}
 use Rattle.session_owners.proofs.Acts.{acted_extension, state_of}
 use Rattle.session_owners.proofs.Balances.{balances_extended, locks_moved, serves_still}

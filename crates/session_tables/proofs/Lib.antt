@@ -1,0 +1,4 @@
+pub mod TableSteps
+pub mod PlanSteps
+pub mod Classes
+pub mod OpenCounts

@@ -1,0 +1,33 @@
+-- A file is open where it is counted.
+use Rattle.std.proofs.Common.{◌≡◌, ◌↔◌, ℕ, suc, zero, ◌<◌, Bool, true, false, ◌||◌, cond, List, [], ◌∷◌, Result, Ok, Err, IfErr, refl, sym, ap, ◌∙◌, arith}
+use Rattle.std.specs.Prelude.{◌==◌, nat_lt, count_by}
+use Rattle.std.specs.List.{list_any}
+use Rattle.std.proofs.lemmas.Bool.{both_ways, lt-ltb}
+use Rattle.std.proofs.lemmas.List.Sums.{sum_by-cons}
+use Rattle.file_table.specs.Descriptors.{is_among}
+use Rattle.file_table.specs.declared.files.FileError.{FileError}
+use Rattle.file_table.specs.declared.files.FileError.TheVariants.{NoFile}
+use Rattle.file_table.specs.Files.{Files, opens}
+
+-- an element passes a test where some do
+pub any_counts : {A : Type 0} (test : A → Bool) (xs : List A) → list_any test xs ≡ nat_lt 0 (count_by test xs)
+any_counts test [] = refl
+any_counts test (x ∷ xs) = go (any_counts test xs) (test x) refl
+  where
+    go : list_any test xs ≡ nat_lt 0 (count_by test xs) → (b : Bool) → test x ≡ b → (b || list_any test xs) ≡ nat_lt 0 (count_by test (x ∷ xs))
+    go rest true e =
+        let one : cond (test x) (suc zero) zero ≡ suc zero = ap (λ b. cond b (suc zero) zero) e in
+        sym (lt-ltb 0 (count_by test (x ∷ xs)) (omega (arith, sum_by-cons (λ other. cond (test other) 1 0) x xs, one)))
+    go rest false e =
+        let none : cond (test x) (suc zero) zero ≡ zero = ap (λ b. cond b (suc zero) zero) e in
+        let same : count_by test xs ≡ count_by test (x ∷ xs) = omega (arith, sum_by-cons (λ other. cond (test other) 1 0) x xs, none) in
+        rest ∙ ap (nat_lt 0) same
+
+-- a file that is open isn't missed
+pub is_there : (files : Files) (file : ℕ) → 0 < opens files file → is_among file files.opened ≡ true
+is_there files file some = any_counts (λ other. file == other) files.opened ∙ lt-ltb 0 (opens files file) some
+
+pub closes : (files : Files) (file : ℕ) (r : Result (Unit {0}) FileError) (e : FileError) → r ≡ Err e → IfErr r (λ error. error ≡ NoFile) → (r ≡ Err NoFile) ↔ (is_among file files.opened ≡ false) → 0 < opens files file → ⊥
+closes files file (Ok u) e is other missing some = let z : Ok u ≡ Err e = is in cc z
+closes files file (Err d) e is other missing some =
+    both_ways (is_among file files.opened) (missing.0 (ap (λ (x : FileError). Err x) other)) (is_there files file some)
