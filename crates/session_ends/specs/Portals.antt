@@ -10,7 +10,7 @@ use Rattle.context_rules.specs.Contexts.{Contexts}
 use Rattle.context_tree.specs.State.{HooksFit, IsLive, Moves}
 use Rattle.session_owners.specs.ResourceState as owners
 use Rattle.session_owners.specs.ResourceState.{owners_of}
-use Rattle.session_owners.specs.Placing.{PlansFit}
+use Rattle.session_tables.specs.Placing.{PlansFit}
 use Rattle.session_owners.specs.Commons.{CommonState}
 use Rattle.exec_core.specs.declared.scan.Scan.{Scan}
 use Rattle.session_rules.specs.State.{LevelState, OpenPortal, buffer_pin, first_of, owner_of, relcache_reference, snapshot_reference}

@@ -28,10 +28,10 @@ use Rattle.session_owners.specs.Commons.{CommonState}
 use Rattle.session_owners.proofs.Balances.{balances_none}
 use Rattle.session_store.specs.State.{StoreState, contexts_in, held_in, left_in, session_of}
 use Rattle.session_store.specs.Calls.{Acted, ContextsAlone, IsSilent, Keeps, Refused}
-use Rattle.session_work.specs.declared.calls.Calls.{Calls}
-use Rattle.session_work.specs.Performed.{Now, Performed, scene_in}
-use Rattle.session_work.proofs.Performing.{Raises, performed_act, performed_end, performed_injected, performed_more, performed_own, performed_step, performed_want}
-use Rattle.session_work.proofs.Commands.{fails, passes, tree_error_plain, unchanged}
+use Rattle.session_items.specs.declared.calls.Calls.{Calls}
+use Rattle.session_items.specs.Performed.{Now, Performed, scene_in}
+use Rattle.session_items.proofs.Performing.{Raises, performed_act, performed_end, performed_injected, performed_more, performed_own, performed_step, performed_want}
+use Rattle.session_items.proofs.Commands.{fails, passes, tree_error_plain, unchanged}
 
 -- what an act that says nothing tells
 pub silently : (act : Scene → Ended) (a b : StoreState) (s t : Space) (x y : ShelfState) (c d : CommonState) (P : List What → Type 0) → P [] → Acted act a b s t x y c d IsSilent → Acted act a b s t x y c d P

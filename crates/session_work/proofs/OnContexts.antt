@@ -18,8 +18,8 @@ use Rattle.session_rules.specs.Calls.{unfailing}
 use Rattle.session_rules.specs.Does.{does}
 use Rattle.session_store.specs.State.{StoreState, contexts_in, session_of}
 use Rattle.session_store.specs.Calls.{Acted, ContextsAlone, Keeps, Refused}
-use Rattle.session_work.specs.Performed.{Now, Performed}
-use Rattle.session_work.proofs.Commands.{may_delete, may_reset, may_reset_only, on_context}
+use Rattle.session_items.specs.Performed.{Now, Performed}
+use Rattle.session_items.proofs.Commands.{may_delete, may_reset, may_reset_only, on_context}
 
 -- what the store said of a name, of the session as it is seen
 pub named_as : (name : Text) (store v : StoreState) (s : Space) (r : Option CtxId) → store ≡ v → option_map (λ id. id.number) r ≡ context_named name (session_of store s)

@@ -31,10 +31,10 @@ use Rattle.session_store.specs.declared.hooks.RegisterError.{RegisterError}
 use Rattle.session_store.specs.declared.hooks.RegisterError.TheVariants as register
 use Rattle.session_store.specs.State.{StoreState, contexts_in, left_in, session_of}
 use Rattle.session_store.specs.Calls.{Acted, ContextsAlone, Keeps, Refused}
-use Rattle.session_work.specs.Performed.{Now, Performed, scene_in}
-use Rattle.session_work.proofs.Takings.{none_in_vain, some_in_vain}
-use Rattle.session_work.proofs.Performing.{Raises, performed_act, performed_injected, performed_own, performed_step, performed_want}
-use Rattle.session_work.proofs.Commands.{acted_at, at_raises, fails, on_no_context, may_move, passes, there, tree_error_plain, unchanged}
+use Rattle.session_items.specs.Performed.{Now, Performed, scene_in}
+use Rattle.session_items.proofs.Takings.{none_in_vain, some_in_vain}
+use Rattle.session_items.proofs.Performing.{Raises, performed_act, performed_injected, performed_own, performed_step, performed_want}
+use Rattle.session_items.proofs.Commands.{acted_at, at_raises, fails, on_no_context, may_move, passes, there, tree_error_plain, unchanged}
 
 -- another way to say what was said
 pub acted_said : (act : Scene → Ended) (a b : StoreState) (s t : Space) (x y : ShelfState) (c d : CommonState) (P Q : List What → Type 0) → ((events : List What) → P events → Q events) → Acted act a b s t x y c d P → Acted act a b s t x y c d Q

@@ -36,15 +36,15 @@ use Rattle.session_owners.specs.ResourceState.{plan_state}
 use Rattle.session_store.specs.State.{StoreState, contexts_in, left_in, session_of}
 use Rattle.session_store.specs.Calls.{Acted, BothAlone, Keeps, Unmade}
 use Rattle.session_store.specs.Plans.{plan_refusal}
-use Rattle.session_work.specs.Deepest.{IsLevelOwner}
-use Rattle.session_work.specs.Performed.{Grows, Now, Performed, scene_in}
-use Rattle.session_work.proofs.Commands.{fails, passes, tree_error_plain}
-use Rattle.session_work.proofs.HeldItems.{no_room_for, take_kept_done, taken_in_room}
-use Rattle.session_work.proofs.Numbering.{becomes_keeps, keeps_rises, there_keeps}
+use Rattle.session_items.specs.Deepest.{IsLevelOwner}
+use Rattle.session_items.specs.Performed.{Grows, Now, Performed, scene_in}
+use Rattle.session_items.proofs.Commands.{fails, passes, tree_error_plain}
+use Rattle.session_items.proofs.HeldItems.{no_room_for, take_kept_done, taken_in_room}
+use Rattle.session_items.proofs.Numbering.{becomes_keeps, keeps_rises, there_keeps}
 use Rattle.session_work.proofs.OnOthers.{by_cause}
-use Rattle.session_work.proofs.Performing.{performed_end, performed_made, performed_more, refused_own, refused_want, scene_with}
-use Rattle.session_work.proofs.Stepping.{Rises, count_behind, grown, lent, step_injected, limit_free, limit_reached, still_asks, still_keeps, still_moves, still_refused}
-use Rattle.session_work.proofs.Takings.{none_in_vain, some_in_vain}
+use Rattle.session_items.proofs.Performing.{performed_end, performed_made, performed_more, refused_own, refused_want, scene_with}
+use Rattle.session_items.proofs.Stepping.{Rises, count_behind, grown, lent, step_injected, limit_free, limit_reached, still_asks, still_keeps, still_moves, still_refused}
+use Rattle.session_items.proofs.Takings.{none_in_vain, some_in_vain}
 
 -- by what a plan is refused: that 1,024 stand, and then that no context can be made
 refusals_agree : (n : ℕ) (o : Option TreeError) → option_or (limit 1024 n) (option_map tree_error o) ≡ option_map tree_error (option_or (where_so (not (nat_lt n 1024)) tree.TooMany) o)

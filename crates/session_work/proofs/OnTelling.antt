@@ -17,10 +17,10 @@ use Rattle.session_rules.specs.Parts.{pinning, tells}
 use Rattle.session_owners.proofs.Balances.{balances_none}
 use Rattle.session_store.specs.State.{contexts_in, session_of}
 use Rattle.session_store.specs.Calls.{Keeps}
-use Rattle.session_work.specs.Performed.{Now, Performed, scene_in}
-use Rattle.session_work.proofs.Commands.{fails, passes}
-use Rattle.session_work.proofs.Performing.{grows_nothing, moves_nothing, performed_end}
-use Rattle.session_work.proofs.Pinning.{buffer_fails, buffer_passes}
+use Rattle.session_items.specs.Performed.{Now, Performed, scene_in}
+use Rattle.session_items.proofs.Commands.{fails, passes}
+use Rattle.session_items.proofs.Performing.{grows_nothing, moves_nothing, performed_end}
+use Rattle.session_items.proofs.Pinning.{buffer_fails, buffer_passes}
 
 module _ (a : Now) (P : List What → Type 0) (keeps : Keeps a.store a.space) where
   -- what the scene is asked for is told

@@ -12,8 +12,8 @@ use Rattle.session_rules.specs.Checks.{tree_error}
 use Rattle.session_owners.specs.Commons.{CommonState}
 use Rattle.session_store.specs.State.{StoreState, session_of}
 use Rattle.session_store.specs.Calls.{ContextsAlone, Keeps, Refused}
-use Rattle.session_work.specs.Performed.{Now, Performed}
-use Rattle.session_work.proofs.Performing.{moves_nothing}
+use Rattle.session_items.specs.Performed.{Now, Performed}
+use Rattle.session_items.proofs.Performing.{moves_nothing}
 
 -- the answer of a call on contexts as an answer of the session
 pub answered_ok : (k : ℕ) (es : List Element) (a b : Now) (P : List What → Type 0) (r : Result (Unit {0}) TreeError) (u : Unit {0}) → r ≡ Ok u → Performed k es a b P (option_map tree_error (error_of r)) → Performed k es a b P None

@@ -1,25 +1,17 @@
 -- What a command does, by what the command is.
-use Rattle.std.proofs.Common.{◌≡◌, ◌≤◌, ℕ, List, [], ◌∷◌, Option, Some, None, OnOk, Result, Ok, Err, refl, sym, subst}
+use Rattle.std.proofs.Common.{List, [], Some, refl}
 use Rattle.pgs_step.specs.declared.errors.Error.TheVariants as error
 use Rattle.session_rules.specs.Elements as element
 use Rattle.session_store.specs.Calls.{Keeps}
-use Rattle.session_work.specs.Answers.{refusal_of}
-use Rattle.session_work.proofs.Commands.{fails}
+use Rattle.session_items.proofs.Commands.{fails}
 use Rattle.pgs_command.specs.declared.commands.Command.{Command}
-use Rattle.pgs_step.specs.declared.errors.Error.{Error}
 use Rattle.pgs_step.specs.declared.events.What.{What}
 use Rattle.session_rules.specs.Works.{work_of}
 use Rattle.pgs_command.specs.declared.commands.Command.TheVariants as command
 use Rattle.session_rules.proofs.TurnStands as rules
-use Rattle.session_rules.specs.State.{LevelState, SessionState}
-use Rattle.session_rules.proofs.StepsStand.{IsWorking}
-use Rattle.session_work.specs.Deepest.{InActiveLevel}
+use Rattle.session_rules.specs.State.{SessionState}
 use Rattle.session_work.specs.Works.{IsWork}
-use Rattle.session_work.specs.Performed.{Now, Performed}
-use Rattle.session_work.proofs.Performing.{performed_more}
-
-pub as_command : (j k : ℕ) (x y : Command) (session : SessionState) (a b : Now) (P : List What → Type 0) (r : Option Error) → j ≤ k → x ≡ y → Performed j (work_of y session) a b P r → Performed k (work_of x session) a b P r
-as_command j k x y session a b P r le is h = subst (λ (z : Command). Performed k (work_of z session) a b P r) (sym is) (performed_more j k (work_of y session) a b P r le h)
+use Rattle.session_items.specs.Performed.{Now, Performed}
 
 -- the rules have lemmas on each command that works
 pub is_work : (c : Command) → IsWork c → rules.IsWork c
@@ -62,16 +54,6 @@ is_work (command.Put chunk at bytes) h = tt
 is_work (command.Show chunk at length) h = tt
 is_work other h = absurd h
 
--- what is known where a command was performed
-pub where_done : {A X : Type 0} (r : Result A Error) → (refusal_of r ≡ None → X) → OnOk r X
-where_done (Ok a) known = known refl
-where_done (Err e) known = tt
-
 -- `raise`
 pub raised_error : (a : Now) (session : SessionState) (P : List What → Type 0) → Keeps a.store a.space → P [] → Performed 0 (work_of command.Raise session) a a P (Some error.Raised)
 raised_error a session P keeps silent = fails (element.Refuse error.Raised) [] a P error.Raised keeps silent refl (λ around. refl)
-
--- a level in which steps can be taken
-pub in_active : (levels : List LevelState) → IsWorking levels → InActiveLevel levels
-in_active [] h = h
-in_active (level ∷ levels) h = h

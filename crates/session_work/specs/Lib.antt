@@ -1,5 +1,2 @@
--- What a call answers and performs, and which commands work in a transaction.
-pub mod Answers
-pub mod Performed
-pub mod Deepest
+-- Which commands work in a transaction.
 pub mod Works

@@ -8,16 +8,15 @@ ghost use Rattle.session_rules.specs.Works.{work_of};
 ghost use Rattle.session_rules.specs.State.{SessionState};
 ghost use Rattle.session_store.specs.State.{contexts_in};
 ghost use Rattle.session_store.specs.Calls.{Keeps};
-ghost use Rattle.session_work.specs.Answers.{refusal_of};
-ghost use Rattle.session_work.specs.Performed.{now, HasRoom, IsBetweenSteps, Performed};
+ghost use Rattle.session_items.specs.Answers.{refusal_of};
+ghost use Rattle.session_items.specs.Performed.{now, HasRoom, IsBetweenSteps, Performed};
 
-use crate::errors::{call_error, tree_error};
-use crate::shared::Shared;
 use addr_space::Space;
 use context_rules::TreeError;
 use owner_kinds::ExtKind;
 use pgs_step::{ChunkBytes, Emit, Error, Name, What};
 use reset_callbacks::ResetHook;
+use session_items::{Shared, call_error, tree_error};
 use session_store::Store;
 
 /// `alloc`: takes a chunk in the current context.

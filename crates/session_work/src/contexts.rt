@@ -4,16 +4,15 @@ ghost use Rattle.pgs_command.specs.declared.commands.Command.TheVariants as comm
 ghost use Rattle.any_ctx.specs.Kinds.{IsSlabSize};
 ghost use Rattle.session_rules.specs.Works.{kind_of, work_of};
 ghost use Rattle.session_rules.specs.State.{SessionState};
-ghost use Rattle.session_work.specs.Answers.{refusal_of};
-ghost use Rattle.session_work.specs.Performed.{now, HasRoom, IsBetweenSteps, Performed};
+ghost use Rattle.session_items.specs.Answers.{refusal_of};
+ghost use Rattle.session_items.specs.Performed.{now, HasRoom, IsBetweenSteps, Performed};
 
-use crate::errors::{call_error, register_error, tree_error};
-use crate::shared::Shared;
 use any_ctx::CtxKind;
 use owner_kinds::ExtKind;
 use pgs_command::ContextKind;
 use pgs_step::{Emit, Error, Name};
 use reset_callbacks::ResetHook;
+use session_items::{Shared, call_error, register_error, tree_error};
 use session_store::Store;
 
 /// `context`: makes a context.

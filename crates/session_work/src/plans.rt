@@ -9,17 +9,15 @@ ghost use Rattle.session_rules.specs.State.{SessionState, plan_reference};
 ghost use Rattle.session_rules.specs.Works.{work_of};
 ghost use Rattle.session_store.specs.Calls.{Keeps};
 ghost use Rattle.session_store.specs.State.{levels_of};
-ghost use Rattle.session_work.specs.Answers.{refusal_of};
-ghost use Rattle.session_work.specs.Deepest.{InActiveLevel, IsLevelOwner};
-ghost use Rattle.session_work.specs.Performed.{now, HasRoom, IsBetweenSteps, Performed};
+ghost use Rattle.session_items.specs.Answers.{refusal_of};
+ghost use Rattle.session_items.specs.Deepest.{InActiveLevel, IsLevelOwner};
+ghost use Rattle.session_items.specs.Performed.{now, HasRoom, IsBetweenSteps, Performed};
 
-use crate::errors::call_error;
-use crate::items::{enlarge, give_back, owner_of_level};
-use crate::shared::Shared;
 use owner_kinds::ExtKind;
 use pgs_step::{Emit, Error, KindId, OwnerId};
 use reset_callbacks::ResetHook;
 use session_ends::drop_plan;
+use session_items::{Shared, call_error, enlarge, give_back, owner_of_level};
 use session_store::Store;
 
 /// `plan`: a plan of this number is made, with a context of its own below that for caches: `CreateCachedPlan`.

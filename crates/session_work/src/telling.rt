@@ -3,14 +3,13 @@ ghost use Rattle.std.specs.Prelude.{◌≡◌, ◌<◌, None};
 ghost use Rattle.pgs_command.specs.declared.commands.Command.TheVariants as command;
 ghost use Rattle.session_rules.specs.State.{SessionState};
 ghost use Rattle.session_rules.specs.Works.{work_of};
-ghost use Rattle.session_work.specs.Answers.{refusal_of};
-ghost use Rattle.session_work.specs.Performed.{now, IsBetweenSteps, Performed};
+ghost use Rattle.session_items.specs.Answers.{refusal_of};
+ghost use Rattle.session_items.specs.Performed.{now, IsBetweenSteps, Performed};
 
-use crate::items::BUFFERS;
-use crate::shared::Shared;
 use owner_kinds::ExtKind;
 use pgs_step::{Emit, Error, What};
 use reset_callbacks::ResetHook;
+use session_items::{BUFFERS, Shared};
 use session_store::Store;
 
 /// `report`: tells what each context holds, and all together: `MemoryContextStats`.

@@ -6,27 +6,24 @@ ghost use Rattle.session_rules.proofs.StepsStand.{IsWorking};
 ghost use Rattle.pgs_command.specs.Ranges.{IsInRange};
 ghost use Rattle.session_rules.specs.Works.{work_of};
 ghost use Rattle.session_rules.specs.State.{SessionState};
-ghost use Rattle.session_work.specs.Answers.{refusal_of};
-ghost use Rattle.session_work.specs.Performed.{now, HasRoom, IsBetweenSteps, Performed};
+ghost use Rattle.session_items.specs.Answers.{refusal_of};
+ghost use Rattle.session_items.specs.Performed.{now, HasRoom, IsBetweenSteps, Performed};
 ghost use Rattle.session_work.specs.Works.{IsOnChunks, IsOnContexts, IsWork, OnlyTells};
 
 use crate::chunks::{alloc, alloc_zeroed, free, put, realloc, show};
 use crate::contexts::{
     delete, delete_children, make_context, register, reparent, reset, reset_only, switch,
 };
-use crate::extensions::{acquire, give_up};
-use crate::items::{
-    close_file, open_file, pin, reference, snapshot, touch, unpin, unreference, unsnapshot,
-};
-use crate::locks::{lock, unlock};
 use crate::plans::{discard_plan, make_plan, reference_plan, unreference_plan};
-use crate::shared::Shared;
-use crate::snapshots::{pop, push};
 use crate::telling::{tell_buffer, tell_contexts, tell_counts};
 use owner_kinds::ExtKind;
 use pgs_command::Command;
 use pgs_step::{Emit, Error};
 use reset_callbacks::ResetHook;
+use session_items::{
+    Shared, acquire, close_file, give_up, lock, open_file, pin, pop, push, reference, snapshot,
+    touch, unlock, unpin, unreference, unsnapshot,
+};
 use session_store::Store;
 
 /// What a command does in a transaction that isn't aborted.

@@ -1,5 +1,5 @@
 use Rattle.std.proofs.Common.{true, ap}
-use Rattle.session_work.specs.declared.calls.Calls.{Calls}
+use Rattle.session_items.specs.declared.calls.Calls.{Calls}
 use Rattle.session_work.proofs.OnChunks.{alloc_done, alloc_injected, alloc_refuses, alloc_taken}
 use Rattle.session_work.proofs.chunks.alloc_zeroed.Goals as goal
 

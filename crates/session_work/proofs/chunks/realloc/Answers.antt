@@ -1,5 +1,5 @@
 use Rattle.std.proofs.Common.{ap}
-use Rattle.session_work.specs.declared.calls.Calls.{Calls}
+use Rattle.session_items.specs.declared.calls.Calls.{Calls}
 use Rattle.session_work.proofs.OnChunks.{realloc_done, realloc_injected, realloc_refuses, realloc_unknown}
 use Rattle.session_work.proofs.chunks.realloc.Goals as goal
 

@@ -1,5 +1,5 @@
 use Rattle.std.proofs.Common.{refl, sym}
-use Rattle.session_work.proofs.Commands.{on_no_context}
+use Rattle.session_items.proofs.Commands.{on_no_context}
 use Rattle.session_work.proofs.OnContexts.{delete_children_performed}
 use Rattle.session_work.proofs.Refusing.{answered_err, answered_ok, err_with, ok_with, silent_where}
 use Rattle.session_work.proofs.contexts.delete_children.Goals as goal

@@ -1,8 +1,8 @@
 use Rattle.std.proofs.Common.{arith, refl, sym, subst, ap, ◌∙◌, []}
 use Rattle.pgs_step.specs.declared.errors.Error.TheVariants as error
-use Rattle.session_work.specs.declared.calls.Calls.{Calls}
-use Rattle.session_work.proofs.Commands.{on_no_context}
-use Rattle.session_work.proofs.Performing.{performed_more}
+use Rattle.session_items.specs.declared.calls.Calls.{Calls}
+use Rattle.session_items.proofs.Commands.{on_no_context}
+use Rattle.session_items.proofs.Performing.{performed_more}
 use Rattle.session_work.proofs.OnOthers.{answer_of, register_done, register_injected, register_refused}
 use Rattle.session_work.proofs.Refusing.{alone_same, both_still, err_of, told_as, nothing_changed}
 use Rattle.session_work.proofs.contexts.register.Goals as goal

@@ -1,5 +1,5 @@
 use Rattle.std.proofs.Common.{refl, sym}
-use Rattle.session_work.proofs.Commands.{on_no_context}
+use Rattle.session_items.proofs.Commands.{on_no_context}
 use Rattle.session_work.proofs.OnOthers.{here, no_parent, reparent_performed}
 use Rattle.session_work.proofs.Refusing.{answered_err, answered_ok, refused_still, silent_where}
 use Rattle.session_work.proofs.contexts.reparent.Goals as goal

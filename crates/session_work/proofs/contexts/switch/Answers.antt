@@ -1,6 +1,6 @@
 use Rattle.std.proofs.Common.{refl, sym, subst, List}
 use Rattle.pgs_step.specs.declared.events.What.{What}
-use Rattle.session_work.proofs.Commands.{on_no_context}
+use Rattle.session_items.proofs.Commands.{on_no_context}
 use Rattle.session_work.proofs.OnOthers.{acted_said, switch_performed}
 use Rattle.session_work.proofs.contexts.switch.Goals as goal
 

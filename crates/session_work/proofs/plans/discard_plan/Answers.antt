@@ -1,5 +1,5 @@
 use Rattle.std.proofs.Common.{refl}
-use Rattle.session_work.specs.Performed.{now}
+use Rattle.session_items.specs.Performed.{now}
 use Rattle.session_work.proofs.OnPlans.{discarded, no_plan}
 use Rattle.session_work.proofs.plans.discard_plan.Goals as goal
 

@@ -1,9 +1,9 @@
 use Rattle.std.proofs.Common.{arith, refl, sym, subst, ap, ◌∙◌, []}
 use Rattle.pgs_step.specs.declared.errors.Error.TheVariants as error
-use Rattle.session_work.specs.declared.calls.Calls.{Calls}
+use Rattle.session_items.specs.declared.calls.Calls.{Calls}
 use Rattle.session_work.proofs.OnOthers.{answer_of}
 use Rattle.session_work.proofs.OnPlans.{make_done, make_injected, make_refused, make_taken}
-use Rattle.session_work.proofs.Performing.{performed_more}
+use Rattle.session_items.proofs.Performing.{performed_more}
 use Rattle.session_work.proofs.Refusing.{err_of}
 use Rattle.session_work.proofs.plans.make_plan.Goals as goal
 

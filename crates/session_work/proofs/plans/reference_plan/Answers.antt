@@ -2,9 +2,9 @@ use Rattle.std.proofs.Common.{ap, ◌∙◌}
 use Rattle.forest.specs.Forest.{has}
 use Rattle.session_owners.specs.ResourceState.{has_begun}
 use Rattle.session_rules.specs.Elements.{OfLevel}
-use Rattle.session_work.specs.Performed.{now}
+use Rattle.session_items.specs.Performed.{now}
 use Rattle.session_work.proofs.OnPlans.{no_plan, no_room, referred}
-use Rattle.session_work.proofs.Pinning.{owner_there, owner_unbegun, owners_same, room_left}
+use Rattle.session_items.proofs.Pinning.{owner_there, owner_unbegun, owners_same, room_left}
 use Rattle.session_work.proofs.plans.reference_plan.Goals as goal
 
 pub returns-then-not-can_refer : goal.returns-then-not-can_refer

@@ -1,9 +1,9 @@
 use Rattle.std.proofs.Common.{refl}
 use Rattle.session_rules.specs.State.{plan_reference}
 use Rattle.session_rules.specs.Elements.{OfLevel}
-use Rattle.session_work.proofs.HeldItems.{take_item_injected, take_item_wants}
+use Rattle.session_items.proofs.HeldItems.{take_item_injected, take_item_wants}
 use Rattle.session_work.proofs.OnPlans.{take_plan_done}
-use Rattle.session_work.proofs.Stepping.{said_nothing}
+use Rattle.session_items.proofs.Stepping.{said_nothing}
 use Rattle.session_work.proofs.plans.take_plan.Goals as goal
 
 pub returns-in-Err : goal.returns-in-Err

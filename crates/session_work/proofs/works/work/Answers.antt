@@ -1,6 +1,6 @@
 use Rattle.session_rules.specs.State.{opening}
-use Rattle.session_work.proofs.Standing.{work_levels, work_stands}
-use Rattle.session_work.proofs.Working.{is_work, where_done}
+use Rattle.session_items.proofs.Standing.{where_done, work_levels, work_stands}
+use Rattle.session_work.proofs.Working.{is_work}
 use Rattle.session_work.proofs.works.work.Goals as goal
 
 pub returns : goal.returns

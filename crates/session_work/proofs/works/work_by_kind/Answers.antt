@@ -1,6 +1,7 @@
 use Rattle.std.proofs.Common.{arith}
-use Rattle.session_work.proofs.Performing.{performed_more}
-use Rattle.session_work.proofs.Working.{as_command, in_active, raised_error}
+use Rattle.session_items.proofs.Performing.{as_command, performed_more}
+use Rattle.session_items.proofs.Standing.{in_active}
+use Rattle.session_work.proofs.Working.{raised_error}
 use Rattle.session_work.proofs.works.work_by_kind.Goals as goal
 
 pub returns-in-Raise : goal.returns-in-Raise

@@ -1,5 +1,5 @@
 use Rattle.std.proofs.Common.{arith}
-use Rattle.session_work.proofs.Working.{as_command}
+use Rattle.session_items.proofs.Performing.{as_command}
 use Rattle.session_work.proofs.works.work_on_chunks.Goals as goal
 
 pub returns-in-Alloc : goal.returns-in-Alloc

@@ -1,0 +1,13 @@
+pub mod Answered
+pub mod Takings
+pub mod Performing
+pub mod Commands
+pub mod Standing
+pub mod Stepping
+pub mod Numbering
+pub mod Pinning
+pub mod HeldItems
+pub mod OnFiles
+pub mod OnKinds
+pub mod OnLocks
+pub mod OnSnapshots
