@@ -11,11 +11,11 @@ use Rattle.session_rules.specs.Does.{does}
 use Rattle.session_rules.specs.Elements.{Element}
 use Rattle.session_store.specs.Calls.{Acted, IsSilent, Keeps, PortalsAlone}
 use Rattle.session_store.specs.State.{StoreState}
-use Rattle.session_work.specs.Performed.{HasRoom, Now, Performed, scene_in}
-use Rattle.session_work.proofs.Performing.{performed_both, performed_end, performed_more, performed_stop}
-use Rattle.session_work.proofs.Pinning.{performed_said}
-use Rattle.session_work.proofs.Numbering.{keeps_rises, numbers}
-use Rattle.session_work.proofs.Stepping.{grown, moves_same}
+use Rattle.session_items.specs.Performed.{HasRoom, Now, Performed, scene_in}
+use Rattle.session_items.proofs.Performing.{performed_both, performed_end, performed_more, performed_stop}
+use Rattle.session_items.proofs.Pinning.{performed_said}
+use Rattle.session_items.proofs.Numbering.{keeps_rises, numbers}
+use Rattle.session_items.proofs.Stepping.{grown, moves_same}
 use Rattle.portal_commands.proofs.Listed.{keeps_alone}
 
 pub stops : (j k : ℕ) (xs ys : List Element) (a b : Now) (P : List What → Type 0) (e : Error) → j ≤ k → Performed j xs a b P (Some e) → Performed k (xs ++ ys) a b P (Some e)

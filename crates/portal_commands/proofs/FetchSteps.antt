@@ -14,6 +14,7 @@ use Rattle.pgs_step.specs.declared.events.What.{What}
 use Rattle.pgs_step.specs.declared.events.What.TheVariants as what
 use Rattle.pgs_step.specs.declared.ids.Item.{Item}
 use Rattle.pgs_step.specs.declared.ids.OwnerId.{OwnerId}
+use Rattle.portal_store.specs.Portal.{coming}
 use Rattle.portal_store.specs.declared.portal.Portal.{Portal}
 use Rattle.portal_store.specs.Portals as list
 use Rattle.owner_items.specs.ItemList.{is_of}
@@ -37,19 +38,19 @@ use Rattle.session_rules.proofs.PortalWorks.{Beside, IsFetched, becomes_fetched,
 use Rattle.session_rules.proofs.StepsStand.{IsWorking}
 use Rattle.session_store.specs.Calls.{Acted, BothAlone, ContextsAlone, IsSilent, Keeps, PortalsAlone, Refused}
 use Rattle.session_store.specs.State.{StoreState, levels_of, portal_state, portals_of, session_of}
-use Rattle.session_work.specs.Answers.{at_calls, wants}
-use Rattle.session_work.specs.Deepest.{IsOwnerOf}
-use Rattle.session_work.specs.Performed.{IsBetweenSteps, Now, Performed, scene_in}
-use Rattle.session_work.specs.declared.calls.Calls.{Calls}
-use Rattle.session_work.proofs.Numbering.{item_keeps, numbers, there_keeps}
-use Rattle.session_work.proofs.Performing.{moves_nothing, performed_end, performed_none, same_scene_in}
-use Rattle.session_work.proofs.Commands.{fails}
-use Rattle.session_work.proofs.Numbering.{keeps_rises}
-use Rattle.session_work.proofs.Standing.{empty_around, fitting, fitting_fits}
-use Rattle.session_work.proofs.Stepping.{grown}
+use Rattle.session_items.specs.Answers.{at_calls, wants}
+use Rattle.session_items.specs.Deepest.{IsOwnerOf}
+use Rattle.session_items.specs.Performed.{IsBetweenSteps, Now, Performed, scene_in}
+use Rattle.session_items.specs.declared.calls.Calls.{Calls}
+use Rattle.session_items.proofs.Numbering.{item_keeps, numbers, there_keeps}
+use Rattle.session_items.proofs.Performing.{moves_nothing, performed_end, performed_none, same_scene_in}
+use Rattle.session_items.proofs.Commands.{fails}
+use Rattle.session_items.proofs.Numbering.{keeps_rises}
+use Rattle.session_items.proofs.Standing.{empty_around, fitting, fitting_fits}
+use Rattle.session_items.proofs.Stepping.{grown}
 use Rattle.portal_commands.proofs.Listed.{keeps_alone, named_as}
 use Rattle.portal_commands.proofs.TurnLists.{is_bad_step}
-use Rattle.portal_commands.specs.Fetching.{Follows, IsFetching, IsPage, coming, cost_of, part_of, scan_named}
+use Rattle.portal_commands.specs.Fetching.{Follows, IsFetching, IsPage, cost_of, part_of, scan_named}
 
 -- the scan of the portal of a name, as the rules see it
 abbrev scan_in : Text → Scene → Option Scan

@@ -32,11 +32,11 @@ use Rattle.session_rules.specs.Lookup.{portal_named}
 use Rattle.session_rules.specs.Making.{context_made, left, limit, new_context_made, new_context_refused, new_owner_made, portal_made}
 use Rattle.session_store.specs.State.{contexts_in, left_in, portals_of, session_of}
 use Rattle.session_store.specs.Calls.{Acted, Keeps, Refused}
-use Rattle.session_work.specs.Performed.{Now, Performed, scene_in}
-use Rattle.session_work.proofs.Commands.{tree_error_plain}
-use Rattle.session_work.proofs.Takings.{none_in_vain, some_in_vain}
-use Rattle.session_work.proofs.Performing.{performed_made, performed_own}
-use Rattle.session_work.proofs.Stepping.{Rises, count_behind, grown, lent, limit_free, limit_reached, memory_or_not, moves_same, step_injected, step_wants, still_asks, still_keeps, still_moves, still_refused, still_some}
+use Rattle.session_items.specs.Performed.{Now, Performed, scene_in}
+use Rattle.session_items.proofs.Commands.{tree_error_plain}
+use Rattle.session_items.proofs.Takings.{none_in_vain, some_in_vain}
+use Rattle.session_items.proofs.Performing.{performed_made, performed_own}
+use Rattle.session_items.proofs.Stepping.{Rises, count_behind, grown, lent, limit_free, limit_reached, memory_or_not, moves_same, step_injected, step_wants, still_asks, still_keeps, still_moves, still_refused, still_some}
 
 does_make_portal : (name : Text) (object rows : ℕ) (bad : Option ℕ) (w : Option ℕ) (m : Moment)
     → does w (element.MakePortal name object rows bad) m ≡ fallible w m (limit 1024 (length m.scene.session.portals)) (portal_made name object rows bad)

@@ -23,10 +23,10 @@ use Rattle.session_store.specs.Calls.{Acted, ContextsAlone, IsSilent, Keeps, Ref
 use Rattle.session_owners.specs.Commons.{CommonState}
 use Rattle.reset_callbacks.specs.ShelfState.{ShelfState}
 use Rattle.session_owners.proofs.Balances.{balances_none}
-use Rattle.session_work.specs.Performed.{Now, Performed, scene_in}
-use Rattle.session_work.proofs.Commands.{tree_error_plain}
-use Rattle.session_work.proofs.Performing.{performed_made, performed_own, performed_step, same_scene_in}
-use Rattle.session_work.proofs.Stepping.{Rises, count_behind, grown, lent, memory_or_not, step_injected, step_wants, still_asks, still_keeps, still_moves, still_refused}
+use Rattle.session_items.specs.Performed.{Now, Performed, scene_in}
+use Rattle.session_items.proofs.Commands.{tree_error_plain}
+use Rattle.session_items.proofs.Performing.{performed_made, performed_own, performed_step, same_scene_in}
+use Rattle.session_items.proofs.Stepping.{Rises, count_behind, grown, lent, memory_or_not, step_injected, step_wants, still_asks, still_keeps, still_moves, still_refused}
 
 module _ (role : MemoryRole) (bytes : ℕ) where
   abbrev own : Scene → Option Error

@@ -1,7 +1,8 @@
 -- The commands on portals.
 use Rattle.std.proofs.Common.{◌≡◌, ℕ, ◌+◌, ◌*◌, ◌≤◌, List, [], ◌∷◌, ◌++◌, Option, Some, None, is_some, refl, sym, ◌∙◌, ap, subst, arith}
 use Rattle.std.specs.Prelude.{Bool, false, true, is_none, not}
-use Rattle.std.specs.Option.{option_map, option_map_or}
+use Rattle.std.specs.Borrow.{Bor}
+use Rattle.std.specs.Option.{option_copied, option_map, option_map_or}
 use Rattle.addr_space.specs.Space.{Asks}
 use Rattle.context_tree.specs.State.{Moves}
 use Rattle.pgs_command.specs.declared.commands.Command.{Command}
@@ -29,9 +30,9 @@ use Rattle.session_rules.specs.Works.{fetch_steps, portal_steps, work_of}
 use Rattle.session_rules.proofs.TurnStands as rules
 use Rattle.session_store.specs.Calls.{Acted, Keeps}
 use Rattle.session_store.specs.State.{portal_state, session_of}
-use Rattle.session_work.specs.Performed.{Grows, Now, Performed, most_work, scene_in}
-use Rattle.session_work.proofs.Commands.{fails, passes}
-use Rattle.session_work.proofs.Performing.{grows_nothing, moves_nothing, performed_both, performed_end, performed_more}
+use Rattle.session_items.specs.Performed.{Grows, Now, Performed, most_work, scene_in}
+use Rattle.session_items.proofs.Commands.{fails, passes}
+use Rattle.session_items.proofs.Performing.{grows_nothing, moves_nothing, performed_both, performed_end, performed_more}
 use Rattle.session_owners.proofs.Balances.{balances_none}
 use Rattle.portal_commands.proofs.Chains.{silent_then}
 use Rattle.portal_commands.specs.Fetching.{scan_named}
@@ -83,6 +84,11 @@ some_of (Some x) e = (x, refl)
 pub none_of : {A : Type 0} (o : Option A) → is_some o ≡ false → o ≡ None
 none_of None e = refl
 none_of (Some x) e = absurd (cc e)
+
+-- a reference is there where what it points to is
+pub copied_some : {A : Type 0} (o : Option (Bor A)) → is_some (option_copied o) ≡ is_some o
+copied_some None = refl
+copied_some (Some x) = refl
 
 pub not_failed : (s : PortalState) → (s ≡ ready.Failed → ⊥) → has_failed s ≡ false
 not_failed ready.New h = refl

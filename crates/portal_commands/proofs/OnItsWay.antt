@@ -38,10 +38,10 @@ use Rattle.session_rules.proofs.PortalWorks.{Beside, owner_named, portal_allocat
 use Rattle.session_rules.proofs.StepsStand.{IsWorking, below_limit}
 use Rattle.session_rules.proofs.TurnStands.{Leads, fallible_leads, leads_nowhere, leads_on, no_value_of}
 use Rattle.session_store.specs.State.{StoreState, levels_of, portal_state, portals_of, session_of}
-use Rattle.session_work.specs.Deepest.{IsOwnerOf}
-use Rattle.session_work.specs.Answers.{at_calls}
-use Rattle.session_work.specs.Performed.{IsBetweenSteps, Now, Performed, scene_in}
-use Rattle.session_work.proofs.Standing.{empty_around, known_behind, stands_behind}
+use Rattle.session_items.specs.Deepest.{IsOwnerOf}
+use Rattle.session_items.specs.Answers.{at_calls}
+use Rattle.session_items.specs.Performed.{IsBetweenSteps, Now, Performed, scene_in}
+use Rattle.session_items.proofs.Standing.{empty_around, known_behind, stands_behind}
 use Rattle.portal_commands.proofs.Listed.{named_as}
 use Rattle.portal_commands.specs.Making.{IsMaking, IsOnItsWay}
 

@@ -17,13 +17,13 @@ use Rattle.session_rules.specs.Works.{takes}
 use Rattle.session_owners.proofs.Balances.{balances_none}
 use Rattle.session_store.specs.Calls.{Keeps}
 use Rattle.session_store.specs.State.{session_of}
-use Rattle.session_work.specs.Answers.{refusal_of}
-use Rattle.session_work.specs.Performed.{Now, Performed, scene_in}
-use Rattle.session_work.specs.declared.calls.Calls.{Calls}
-use Rattle.session_work.proofs.HeldItems.{no_room_for, take_item_injected, taken_in_room}
-use Rattle.session_work.proofs.Performing.{moves_nothing, performed_made}
-use Rattle.session_work.proofs.Pinning.{enlarge_done, enlarge_injected}
-use Rattle.session_work.proofs.Stepping.{Rises, count_behind, grown}
+use Rattle.session_items.specs.Answers.{refusal_of}
+use Rattle.session_items.specs.Performed.{Now, Performed, scene_in}
+use Rattle.session_items.specs.declared.calls.Calls.{Calls}
+use Rattle.session_items.proofs.HeldItems.{no_room_for, take_item_injected, taken_in_room}
+use Rattle.session_items.proofs.Performing.{moves_nothing, performed_made}
+use Rattle.session_items.proofs.Pinning.{enlarge_done, enlarge_injected}
+use Rattle.session_items.proofs.Stepping.{Rises, count_behind, grown}
 
 abbrev pins : OwnerRole → ℕ → Scene → Ended
 pins role page = at_owner role (λ owner. item_taken owner buffer_pin page)

@@ -7,8 +7,9 @@ use Rattle.exec_core.specs.declared.scan.Scan.{Scan}
 use Rattle.exec_core.specs.declared.steps.ScanStep.{ScanStep}
 use Rattle.exec_core.specs.declared.steps.ScanStep.TheVariants as step
 use Rattle.exec_core.specs.Turn.{is_bad, is_tenth, left, page_of, page_steps, rest, row_step, row_steps, taken, turn, unpinned}
+use Rattle.portal_store.specs.Portal.{coming}
 use Rattle.session_rules.specs.Elements.{Element, Text}
-use Rattle.portal_commands.specs.Fetching.{IsPage, coming, cost_of, step_elements}
+use Rattle.portal_commands.specs.Fetching.{IsPage, cost_of, step_elements}
 
 -- each pins one of the buffers
 abbrev pub ArePages : List ScanStep → Type 0

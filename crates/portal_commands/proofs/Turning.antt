@@ -10,15 +10,16 @@ use Rattle.exec_core.specs.Turn.{left, rest, taken, turn}
 use Rattle.pgs_step.specs.declared.errors.Error.{Error}
 use Rattle.pgs_step.specs.declared.events.What.{What}
 use Rattle.pgs_step.specs.declared.events.What.TheVariants as what
+use Rattle.portal_store.specs.Portal.{coming}
 use Rattle.session_rules.specs.State.{OpenPortal}
 use Rattle.session_rules.specs.Elements as element
 use Rattle.session_rules.specs.Elements.{Element, Text}
 use Rattle.session_rules.specs.Lookup.{portal_named}
 use Rattle.session_rules.specs.Works.{after_turn, fallible_part, fetch_steps, turn_steps}
 use Rattle.session_store.specs.State.{StoreState, portals_of}
-use Rattle.session_work.specs.Performed.{HasRoom, Now, Performed}
-use Rattle.session_work.proofs.Performing.{performed_both, performed_more, performed_none, performed_stop}
-use Rattle.portal_commands.specs.Fetching.{IsFetching, coming, cost_of, step_elements}
+use Rattle.session_items.specs.Performed.{HasRoom, Now, Performed}
+use Rattle.session_items.proofs.Performing.{performed_both, performed_more, performed_none, performed_stop}
+use Rattle.portal_commands.specs.Fetching.{IsFetching, cost_of, step_elements}
 use Rattle.portal_commands.proofs.FetchSteps.{found}
 use Rattle.portal_commands.proofs.TurnLists.{after, after_more, closing, costs, costs_both, elements_both, elements_more, gives_end, gives_row, is_bad_step, rest_last, rest_left, turn_costs}
 

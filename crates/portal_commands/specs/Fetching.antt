@@ -1,9 +1,8 @@
 -- A portal that is fetched from, and the steps of its turns.
-use Rattle.std.specs.Prelude.{◌≡◌, ◌<◌, ℕ, Bool, true, false, List, ◌∷◌, Option, Some}
+use Rattle.std.specs.Prelude.{◌≡◌, ◌<◌, ℕ, List, ◌∷◌, Option, Some}
 use Rattle.std.specs.Option.{option_map}
 use Rattle.addr_space.specs.Space.{Asks}
 use Rattle.context_tree.specs.State.{Moves}
-use Rattle.exec_core.specs.Turn.{left, turn}
 use Rattle.exec_core.specs.declared.scan.Scan.{Scan}
 use Rattle.exec_core.specs.declared.steps.ScanStep.{ScanStep}
 use Rattle.exec_core.specs.declared.steps.ScanStep.TheVariants as step
@@ -22,7 +21,7 @@ use Rattle.session_rules.specs.Works.{fallible_part}
 use Rattle.session_rules.specs.World.{Around, Scene}
 use Rattle.session_store.specs.Calls.{Acted, Keeps}
 use Rattle.session_store.specs.State.{StoreState, levels_of, portals_of}
-use Rattle.session_work.specs.Performed.{IsBetweenSteps, Now, scene_in}
+use Rattle.session_items.specs.Performed.{IsBetweenSteps, Now, scene_in}
 
 -- the scan of the portal of a name
 abbrev pub scan_named : Text → StoreState → Option Scan
@@ -34,11 +33,6 @@ pub record IsFetching (name : Text) (scan : Scan) (n : Now) : Type 0 where
   pub working : IsWorking (levels_of n.store.levels)
   pub fetched : (around : Around) → IsFetched name (scene_in n around)
   pub is : scan_named name n.store ≡ Some scan
-
--- the steps of a turn that come, where it begins, and where it has begun
-abbrev pub coming : Bool → Scan → List ScanStep
-coming true scan = turn scan
-coming false scan = left scan
 
 -- how many fallible calls a step makes
 abbrev pub cost_of : ScanStep → ℕ

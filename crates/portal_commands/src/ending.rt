@@ -6,15 +6,15 @@ ghost use Rattle.session_rules.specs.Standing.{IsAtRest};
 ghost use Rattle.session_rules.specs.State.{SessionState};
 ghost use Rattle.session_rules.specs.Works.{work_of};
 ghost use Rattle.session_store.specs.State.{levels_of, portals_of};
-ghost use Rattle.session_work.specs.Answers.{refusal_of};
-ghost use Rattle.session_work.specs.Performed.{now, IsBetweenSteps, Performed};
+ghost use Rattle.session_items.specs.Answers.{refusal_of};
+ghost use Rattle.session_items.specs.Performed.{now, IsBetweenSteps, Performed};
 
 use owner_kinds::ExtKind;
 use pgs_step::{Emit, Error, Name};
 use reset_callbacks::ResetHook;
+use session_items::Shared;
 use session_portals::portal_named;
 use session_store::Store;
-use session_work::Shared;
 
 /// `endportal`: a query is closed: `PortalDrop`. Its owner gives back what it holds, and its contexts go.
 ///

@@ -10,17 +10,17 @@ ghost use Rattle.session_rules.specs.Elements.{Element};
 ghost use Rattle.session_rules.specs.Works.{fetch_steps, work_of};
 ghost use Rattle.session_store.specs.State.{levels_of, session_of};
 ghost use Rattle.portal_commands.specs.Fetching.{IsFetching};
-ghost use Rattle.session_work.specs.Answers.{refusal_of};
-ghost use Rattle.session_work.specs.Performed.{now, HasRoom, IsBetweenSteps, Performed, most_work};
+ghost use Rattle.session_items.specs.Answers.{refusal_of};
+ghost use Rattle.session_items.specs.Performed.{now, HasRoom, IsBetweenSteps, Performed, most_work};
 
 use crate::turns::take_turn;
 use owner_kinds::ExtKind;
 use pgs_step::{Emit, Error, Name, What};
 use portal_store::PortalState;
 use reset_callbacks::ResetHook;
+use session_items::Shared;
 use session_portals::{begin_fetch, portal_named};
 use session_store::Store;
-use session_work::Shared;
 
 /// `fetch`: at most so many rows are fetched from a portal: `PortalRunFetch`. The scan takes a turn for each row, and one more where it ends.
 ///

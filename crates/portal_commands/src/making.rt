@@ -10,8 +10,8 @@ ghost use Rattle.session_rules.specs.Works.{takes, work_of};
 ghost use Rattle.session_store.specs.State.{levels_of};
 ghost use Rattle.pgs_step.specs.declared.lock_modes.Mode.TheVariants as mode;
 ghost use Rattle.portal_commands.specs.Making.{IsMaking};
-ghost use Rattle.session_work.specs.Answers.{refusal_of};
-ghost use Rattle.session_work.specs.Performed.{now, HasRoom, IsBetweenSteps, Performed, most_work};
+ghost use Rattle.session_items.specs.Answers.{refusal_of};
+ghost use Rattle.session_items.specs.Performed.{now, HasRoom, IsBetweenSteps, Performed, most_work};
 
 use crate::steps::{
     make_context, make_owner, make_row, new_portal, take_lock, take_memory, take_reference,
@@ -19,9 +19,9 @@ use crate::steps::{
 use owner_kinds::ExtKind;
 use pgs_step::{Emit, Error, KindId, Name};
 use reset_callbacks::ResetHook;
+use session_items::Shared;
 use session_portals::{portal_named, portal_ready};
 use session_store::Store;
-use session_work::Shared;
 
 /// `portal`: a query is opened under a name, over a scan of an object: `CreatePortal` and `PortalStart`. Its portal gets a context, an owner, which
 /// holds the lock on the object, a reference to it and one to a snapshot, and the context of one row.

@@ -17,20 +17,20 @@ ghost use Rattle.session_rules.specs.Works.{takes};
 ghost use Rattle.session_store.specs.Calls.{StandsIn};
 ghost use Rattle.session_store.specs.State.{levels_of, session_of};
 ghost use Rattle.portal_commands.specs.Making.{IsMaking};
-ghost use Rattle.session_work.specs.Answers.{refusal_of};
-ghost use Rattle.session_work.specs.Deepest.{IsOwnerOf};
-ghost use Rattle.session_work.specs.Performed.{now, HasRoom, IsBetweenSteps, Performed};
+ghost use Rattle.session_items.specs.Answers.{refusal_of};
+ghost use Rattle.session_items.specs.Deepest.{IsOwnerOf};
+ghost use Rattle.session_items.specs.Performed.{now, HasRoom, IsBetweenSteps, Performed};
 
 use owner_core::OwnerError;
 use owner_kinds::ExtKind;
 use pgs_step::{CtxId, Emit, Error, KindId, Mode, Name, OwnerId};
 use portal_store::PortalError;
 use reset_callbacks::ResetHook;
+use session_items::{Shared, call_error, hold_lock, hold_reference};
 use session_portals::{
     make_portal, make_portal_context, make_portal_owner, make_row_context, portal_named,
 };
 use session_store::Store;
-use session_work::{Shared, call_error, hold_lock, hold_reference};
 
 /// How many bytes a portal takes in its context.
 const PORTAL_BYTES: u64 = 200;

@@ -7,6 +7,7 @@ ghost use Rattle.context_tree.specs.State.{IsLive};
 ghost use Rattle.exec_core.specs.Turn.{rest, taken, turn};
 ghost use Rattle.exec_core.specs.declared.scan.Scan.{Scan as AScan};
 ghost use Rattle.exec_core.specs.declared.steps.ScanStep.TheVariants as step;
+ghost use Rattle.portal_store.specs.Portal.{coming};
 ghost use Rattle.portal_store.specs.Portals as list;
 ghost use Rattle.reset_callbacks.specs.ShelfState.{ShelfState};
 ghost use Rattle.session_owners.specs.Commons.{CommonState};
@@ -19,18 +20,18 @@ ghost use Rattle.session_rules.specs.State.{buffer_pin};
 ghost use Rattle.session_rules.specs.Works.{after_turn, fallible_part, takes, turn_steps};
 ghost use Rattle.session_store.specs.Calls.{Acted, IsSilent, Keeps, PortalsAlone, StandsIn};
 ghost use Rattle.session_store.specs.State.{StoreState, session_of};
-ghost use Rattle.portal_commands.specs.Fetching.{Follows, IsFetching, IsPage, coming, cost_of, part_of, step_elements};
-ghost use Rattle.session_work.specs.Answers.{refusal_of};
-ghost use Rattle.session_work.specs.Performed.{now, HasRoom, Performed};
+ghost use Rattle.portal_commands.specs.Fetching.{Follows, IsFetching, IsPage, cost_of, part_of, step_elements};
+ghost use Rattle.session_items.specs.Answers.{refusal_of};
+ghost use Rattle.session_items.specs.Performed.{now, HasRoom, Performed};
 
 use exec_core::ScanStep;
 use owner_kinds::ExtKind;
 use pgs_step::{CtxId, Emit, Error, KindId, Name, OwnerId, What};
 use reset_callbacks::ResetHook;
 use session_ends::release_item;
+use session_items::{Shared, call_error, hold_pin};
 use session_portals::{fail_portal, first_step, next_step, portal_named};
 use session_store::Store;
-use session_work::{Shared, call_error, hold_pin};
 
 /// How many bytes a row takes.
 const ROW_BYTES: u64 = 64;

@@ -6,8 +6,8 @@ ghost use Rattle.session_rules.proofs.StepsStand.{IsWorking};
 ghost use Rattle.session_rules.specs.Standing.{IsAtRest};
 ghost use Rattle.session_rules.specs.Works.{work_of};
 ghost use Rattle.session_store.specs.State.{levels_of, portals_of, session_of};
-ghost use Rattle.session_work.specs.Answers.{refusal_of};
-ghost use Rattle.session_work.specs.Performed.{now, HasRoom, IsBetweenSteps, Performed, most_work};
+ghost use Rattle.session_items.specs.Answers.{refusal_of};
+ghost use Rattle.session_items.specs.Performed.{now, HasRoom, IsBetweenSteps, Performed, most_work};
 
 use crate::ending::end_portal;
 use crate::fetching::fetch;
@@ -16,8 +16,8 @@ use owner_kinds::ExtKind;
 use pgs_command::Command;
 use pgs_step::{Emit, Error};
 use reset_callbacks::ResetHook;
+use session_items::Shared;
 use session_store::Store;
-use session_work::Shared;
 
 /// What a command on portals does in a transaction that isn't aborted.
 ///

@@ -19,8 +19,8 @@ use Rattle.session_store.specs.Calls.{Acted, Keeps, StandsIn}
 use Rattle.session_store.proofs.Depths.{levels_long}
 use Rattle.session_core.specs.Lines.{IsBetweenLines}
 use Rattle.session_core.specs.Ended.{Ends}
-use Rattle.session_work.specs.Performed.{IsBetweenSteps, Now}
-use Rattle.session_work.proofs.Standing.{empty_around}
+use Rattle.session_items.specs.Performed.{IsBetweenSteps, Now}
+use Rattle.session_items.proofs.Standing.{empty_around}
 
 -- the deepest level and those above it
 record HasDeepest (ls : List LevelState) : Type 0 where

@@ -23,13 +23,13 @@ use Rattle.session_store.specs.Calls.{Acted, Keeps}
 use Rattle.addr_space.specs.Space.{Space}
 use Rattle.session_rules.proofs.StepsStand.{IsWorking}
 use Rattle.session_rules.proofs.TurnStands.{IsWork}
-use Rattle.session_work.specs.Answers.{refusal_of}
+use Rattle.session_items.specs.Answers.{refusal_of}
 use Rattle.session_work.specs.Works.{IsWork as IsSessionWork}
 use Rattle.session_rules.specs.Standing.{AreOuter}
 use Rattle.session_core.specs.Lines.{IsAbortedBlock, IsInBlock}
-use Rattle.session_work.proofs.Commands.{fails}
-use Rattle.session_work.specs.Performed.{Now, Performed, most_steps, most_work}
-use Rattle.session_work.proofs.Performing.{grows_nothing, moves_nothing, performed_both, performed_end, performed_more, performed_stop}
+use Rattle.session_items.proofs.Commands.{fails}
+use Rattle.session_items.specs.Performed.{Now, Performed, most_steps, most_work}
+use Rattle.session_items.proofs.Performing.{grows_nothing, moves_nothing, performed_both, performed_end, performed_more, performed_stop}
 
 -- the elements of a command where these are the levels
 pub with_levels : (c : Command) (session : SessionState) (levels : List LevelState) → session.levels ≡ levels → elements_of c session ≡ elements_of c (record session { levels = levels })

@@ -24,12 +24,12 @@ use Rattle.session_owners.specs.Commons.{CommonState}
 use Rattle.session_owners.proofs.Balances.{balances_more}
 use Rattle.session_store.specs.State.{StoreState, levels_of, scene_of, session_of}
 use Rattle.session_store.specs.Calls.{Acted, Keeps}
-use Rattle.session_work.specs.Answers.{at_calls}
+use Rattle.session_items.specs.Answers.{at_calls}
 use Rattle.session_core.specs.Ended.{Ends}
-use Rattle.session_work.specs.Performed.{Grows, Now, Performed, scene_in}
+use Rattle.session_items.specs.Performed.{Grows, Now, Performed, scene_in}
 use Rattle.session_core.proofs.Numbers.{KeepsNumbers, numbers_grow}
 use Rattle.session_core.proofs.OnLevels.{does_abort, does_cleanup}
-use Rattle.session_work.proofs.Performing.{nowhere}
+use Rattle.session_items.proofs.Performing.{nowhere}
 
 -- all levels are rolled back
 abbrev pub all_rolled : Scene → Ended

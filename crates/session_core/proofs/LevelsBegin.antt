@@ -17,12 +17,12 @@ use Rattle.session_rules.proofs.StepsStand.{below_limit, level_context_stands, l
 use Rattle.session_rules.proofs.TurnStands.{Leads, fallible_leads, leads_nowhere, leads_on}
 use Rattle.session_store.specs.State.{levels_of, portals_of, session_of}
 use Rattle.session_store.proofs.Depths.{levels_long}
-use Rattle.session_work.specs.Answers.{at_calls}
+use Rattle.session_items.specs.Answers.{at_calls}
 use Rattle.session_core.specs.Begun.{HasBegun}
 use Rattle.session_store.specs.Calls.{IsSilent}
-use Rattle.session_work.specs.Performed.{Now, Grows, HasRoom, IsBetweenSteps, Performed, scene_in}
-use Rattle.session_work.proofs.Performing.{performed_both, performed_more, performed_stop}
-use Rattle.session_work.proofs.Standing.{empty_around, known_behind, stands_behind}
+use Rattle.session_items.specs.Performed.{Now, Grows, HasRoom, IsBetweenSteps, Performed, scene_in}
+use Rattle.session_items.proofs.Performing.{performed_both, performed_more, performed_stop}
+use Rattle.session_items.proofs.Standing.{empty_around, known_behind, stands_behind}
 
 -- a level as it is being begun
 abbrev pub begun : Option Text → Bool → Option ℕ → Option ℕ → Bool → LevelState

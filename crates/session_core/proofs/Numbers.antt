@@ -20,9 +20,9 @@ use Rattle.session_rules.specs.Ends.{aborted, cleaned_up, committed, empty_conte
 use Rattle.session_owners.specs.Commons.{CommonState}
 use Rattle.session_store.specs.State.{StoreState, scene_of, session_of}
 use Rattle.session_store.specs.Calls.{Acted}
-use Rattle.session_work.specs.Performed.{Grows, Now}
-use Rattle.session_work.proofs.Numbering.{Numbers, for_keeps, item_keeps, left_keeps, numbers, so_keeps, there_keeps}
-use Rattle.session_work.proofs.Performing.{nowhere}
+use Rattle.session_items.specs.Performed.{Grows, Now}
+use Rattle.session_items.proofs.Numbering.{Numbers, for_keeps, item_keeps, left_keeps, numbers, so_keeps, there_keeps}
+use Rattle.session_items.proofs.Performing.{nowhere}
 
 -- a release leaves them, step by step
 step_keeps : (step : Step) (s : Scene) → numbers (step_done step s).scene ≡ numbers s

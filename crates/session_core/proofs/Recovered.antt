@@ -18,10 +18,10 @@ use Rattle.context_tree.specs.State.{Moves}
 use Rattle.context_tree.proofs.Composed.{tree_more}
 use Rattle.session_store.specs.Calls.{Acted, Keeps}
 use Rattle.session_store.proofs.Depths.{levels_long}
-use Rattle.session_work.specs.declared.shared.Shared.{Shared}
+use Rattle.session_items.specs.declared.shared.Shared.{Shared}
 use Rattle.session_core.specs.Begun.{IsStarting}
 use Rattle.session_core.specs.Ended.{Ends}
-use Rattle.session_work.specs.Performed.{Now, now, scene_in}
+use Rattle.session_items.specs.Performed.{Now, now, scene_in}
 use Rattle.session_core.proofs.Numbers.{KeepsNumbers, numbers_grow}
 
 -- what is given up, of these levels

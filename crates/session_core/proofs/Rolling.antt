@@ -16,9 +16,9 @@ use Rattle.session_rules.specs.Elements as element
 use Rattle.session_rules.specs.Standing.{AreOuter, FitLevels, IsAtRest, Stands}
 use Rattle.session_store.specs.State.{level_state, levels_of, portals_of, session_of}
 use Rattle.session_store.proofs.Depths.{levels_are, levels_long}
-use Rattle.session_work.specs.Performed.{IsBetweenSteps, Now, Performed, scene_in}
-use Rattle.session_work.proofs.Performing.{performed_both, performed_none}
-use Rattle.session_work.proofs.Standing.{empty_around}
+use Rattle.session_items.specs.Performed.{IsBetweenSteps, Now, Performed, scene_in}
+use Rattle.session_items.proofs.Performing.{performed_both, performed_none}
+use Rattle.session_items.proofs.Standing.{empty_around}
 
 -- how a level is rolled back
 abbrev level_ends : Bool → List Element

@@ -33,12 +33,12 @@ use Rattle.session_rules.specs.Parts.{level_stands}
 use Rattle.session_store.specs.State.{StoreState, contexts_in, left_in, session_of}
 use Rattle.session_store.specs.Calls.{Acted, Keeps, Refused}
 use Rattle.session_store.proofs.Depths.{levels_long}
-use Rattle.session_work.specs.declared.calls.Calls.{Calls}
-use Rattle.session_work.specs.Performed.{Now, Performed, scene_in}
-use Rattle.session_work.proofs.Commands.{tree_error_plain}
-use Rattle.session_work.proofs.Takings.{none_in_vain, some_in_vain}
-use Rattle.session_work.proofs.Performing.{performed_end, performed_made, performed_own}
-use Rattle.session_work.proofs.Stepping.{Rises, count_behind, grown, lent, limit_free, limit_reached, memory_or_not, moves_same, step_injected, step_wants, still_asks, still_keeps, still_moves, still_refused, still_some}
+use Rattle.session_items.specs.declared.calls.Calls.{Calls}
+use Rattle.session_items.specs.Performed.{Now, Performed, scene_in}
+use Rattle.session_items.proofs.Commands.{tree_error_plain}
+use Rattle.session_items.proofs.Takings.{none_in_vain, some_in_vain}
+use Rattle.session_items.proofs.Performing.{performed_end, performed_made, performed_own}
+use Rattle.session_items.proofs.Stepping.{Rises, count_behind, grown, lent, limit_free, limit_reached, memory_or_not, moves_same, step_injected, step_wants, still_asks, still_keeps, still_moves, still_refused, still_some}
 
 does_make_level : (name : Option Text) (implicit : Bool) (w : Option ℕ) (m : Moment) → does w (element.MakeLevel name implicit) m ≡ fallible w m (limit 1000 (depth m.scene.session)) (level_made name implicit)
 unfolding does

@@ -16,14 +16,14 @@ use Rattle.session_rules.specs.World.{Around, Moment}
 use Rattle.session_owners.proofs.Balances.{balances_more}
 use Rattle.session_store.specs.Calls.{Keeps}
 use Rattle.session_store.specs.State.{session_of}
-use Rattle.session_work.specs.declared.calls.Calls.{Calls}
-use Rattle.session_work.specs.Answers.{Fits}
+use Rattle.session_items.specs.declared.calls.Calls.{Calls}
+use Rattle.session_items.specs.Answers.{Fits}
 use Rattle.session_core.specs.Ended.{Ends}
-use Rattle.session_work.specs.Performed.{Now, Performed, Takes, most_steps, scene_in}
+use Rattle.session_items.specs.Performed.{Now, Performed, Takes, most_steps, scene_in}
 use Rattle.session_core.specs.Turns.{Turned, moment_in}
-use Rattle.session_work.proofs.Commands.{fails}
-use Rattle.session_work.proofs.Performing.{performed_more}
-use Rattle.session_work.proofs.Takings.{takes_on}
+use Rattle.session_items.proofs.Commands.{fails}
+use Rattle.session_items.proofs.Performing.{performed_more}
+use Rattle.session_items.proofs.Takings.{takes_on}
 
 -- what is known of a turn
 record TurnIs (t : Turn) (m : Moment) (P : List What → Type 0) (wanted : Bool) : Type 0 where

@@ -9,4 +9,4 @@ mod transactions;
 mod turns;
 
 pub use session::{Session, StartError};
-pub use session_work::{Calls, Shared};
+pub use session_items::{Calls, Shared};

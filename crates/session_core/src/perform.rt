@@ -9,9 +9,9 @@ ghost use Rattle.session_rules.specs.Commands.{elements_of};
 ghost use Rattle.session_rules.proofs.StepsStand.{IsWorking};
 ghost use Rattle.session_rules.proofs.TurnStands.{IsWork};
 ghost use Rattle.session_store.specs.State.{levels_of, portals_of, session_of};
-ghost use Rattle.session_work.specs.Answers.{refusal_of};
+ghost use Rattle.session_items.specs.Answers.{refusal_of};
 ghost use Rattle.session_core.specs.Lines.{IsAbortedBlock, IsBetweenLines, IsInBlock};
-ghost use Rattle.session_work.specs.Performed.{now, most_steps, most_work, HasRoom, IsBetweenSteps, Performed};
+ghost use Rattle.session_items.specs.Performed.{now, most_steps, most_work, HasRoom, IsBetweenSteps, Performed};
 
 use crate::session::Session;
 use owner_kinds::ExtKind;
@@ -19,7 +19,8 @@ use pgs_command::Command;
 use pgs_step::{Emit, Error, What};
 use portal_commands::work_on_portals;
 use reset_callbacks::ResetHook;
-use session_work::{Shared, work};
+use session_items::Shared;
+use session_work::work;
 
 impl<H: ResetHook> Session<H> {
     /// Performs a command up to its `ok`: in the transaction that is open, or in one that is begun for it alone.

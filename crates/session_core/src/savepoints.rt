@@ -6,14 +6,14 @@ ghost use Rattle.session_rules.specs.Commands.{at_savepoint, committed_to, rolle
 ghost use Rattle.session_rules.specs.Standing.{AreOuter, IsAtRest};
 ghost use Rattle.session_store.specs.State.{levels_of, portals_of};
 ghost use Rattle.subxact_stack.specs.declared.levels.Level.{Level as ALevel};
-ghost use Rattle.session_work.specs.Answers.{refusal_of};
-ghost use Rattle.session_work.specs.Performed.{now, HasRoom, IsBetweenSteps, Performed};
+ghost use Rattle.session_items.specs.Answers.{refusal_of};
+ghost use Rattle.session_items.specs.Performed.{now, HasRoom, IsBetweenSteps, Performed};
 
 use crate::session::Session;
 use owner_kinds::ExtKind;
 use pgs_step::{Emit, Error, Name, What};
 use reset_callbacks::ResetHook;
-use session_work::Shared;
+use session_items::Shared;
 
 impl<H: ResetHook> Session<H> {
     /// The deepest level is rolled back; where it is aborted it is only cleaned up.

@@ -5,16 +5,16 @@ ghost use Rattle.session_rules.specs.Elements.{LevelContext, OfLevel};
 ghost use Rattle.session_rules.specs.Commands.{start};
 ghost use Rattle.session_rules.specs.Standing.{AreOuter, IsAtRest};
 ghost use Rattle.session_store.specs.State.{levels_of, portals_of};
-ghost use Rattle.session_work.specs.Answers.{refusal_of};
+ghost use Rattle.session_items.specs.Answers.{refusal_of};
 ghost use Rattle.session_core.specs.Begun.{HasBegun};
-ghost use Rattle.session_work.specs.Performed.{now, HasRoom, IsBetweenSteps, Performed};
+ghost use Rattle.session_items.specs.Performed.{now, HasRoom, IsBetweenSteps, Performed};
 
 use crate::session::Session;
 use owner_core::OwnerError;
 use owner_kinds::ExtKind;
 use pgs_step::{Emit, Error, Name};
 use reset_callbacks::ResetHook;
-use session_work::{Shared, call_error};
+use session_items::{Shared, call_error};
 use subxact_stack::LevelError;
 
 impl<H: ResetHook> Session<H> {

@@ -4,8 +4,8 @@ use Rattle.session_rules.specs.Acts.{portal_becomes}
 use Rattle.session_rules.specs.Checks.{has_failed}
 use Rattle.session_rules.specs.Elements as element
 use Rattle.session_rules.specs.State.{depth}
-use Rattle.session_work.specs.Performed.{now}
-use Rattle.session_work.proofs.Pinning.{room_left}
+use Rattle.session_items.specs.Performed.{now}
+use Rattle.session_items.proofs.Pinning.{room_left}
 use Rattle.portal_commands.proofs.Chains.{alone_done, less_room}
 use Rattle.portal_commands.proofs.FetchSteps.{fetching_begins}
 use Rattle.portal_commands.proofs.OnCommands.{does_begin, fetch_done, fetch_of_failed, fetch_of_none, fetch_refused, not_failed, scan_of_it}
@@ -18,12 +18,12 @@ returns-in_default g c = record {
 
 pub returns-in-Failed : goal.returns-in-Failed
 returns-in-Failed g c = record {
-  performed = fetch_of_failed c.args.name c.args.count (now c.args.store.now c.args.shared.now) _ c.requires.between.keeps c.in-Some.portal (sym c.in-Some.ensures.portal) (ap has_failed c.in-Failed.is) (g.met.E.Emit.emits_none c.args.out.now);
+  performed = fetch_of_failed c.args.name c.args.count (now c.args.store.now c.args.shared.now) _ c.requires.between.keeps c.in-Some.portal.now (sym c.in-Some.ensures.portal) (ap has_failed c.in-Failed.is) (g.met.E.Emit.emits_none c.args.out.now);
 }
 
 pub fetch_rows-requires : goal.fetch_rows-requires
 fetch_rows-requires g c = record {
-  fetching = (c.in-Some.portal.scan, (fetching_begins c.args.name c.in-Some.portal.scan (now c.args.store.now c.args.shared.now) c.begin_fetch.new.store c.requires.between c.requires.active (scan_of_it c.args.name c.args.count (now c.args.store.now c.args.shared.now) (λ (events : List What). events ≡ []) c.requires.between.keeps c.in-Some.portal (sym c.in-Some.ensures.portal)) (c.begin_fetch.ensures.acted c.args.shared.now.space.now c.args.shared.now.shelf.now c.args.shared.now.commons.now) c.begin_fetch.ensures.alone));
+  fetching = (c.in-Some.portal.now.scan, (fetching_begins c.args.name c.in-Some.portal.now.scan (now c.args.store.now c.args.shared.now) c.begin_fetch.new.store c.requires.between c.requires.active (scan_of_it c.args.name c.args.count (now c.args.store.now c.args.shared.now) (λ (events : List What). events ≡ []) c.requires.between.keeps c.in-Some.portal.now (sym c.in-Some.ensures.portal)) (c.begin_fetch.ensures.acted c.args.shared.now.space.now c.args.shared.now.shelf.now c.args.shared.now.commons.now) c.begin_fetch.ensures.alone));
   room = room_left 0 (3 * c.args.count) (now c.args.store.now c.args.shared.now) _ (less_room (0 + 3 * c.args.count) 4194304 (now c.args.store.now c.args.shared.now) (omega (arith, c.requires.range.1)) c.requires.room)
       (let begun = (alone_done (element.FetchBegins c.args.name) (λ scene. portal_becomes c.args.name (λ p. record p { active = depth scene.session }) scene) (now c.args.store.now c.args.shared.now) c.begin_fetch.new.store (does_begin c.args.name) (λ s. refl) (λ s. refl) (c.begin_fetch.ensures.acted c.args.shared.now.space.now c.args.shared.now.shelf.now c.args.shared.now.commons.now) c.begin_fetch.ensures.alone c.requires.between.keeps) in begun.grows);
 }
@@ -31,16 +31,16 @@ fetch_rows-requires g c = record {
 pub returns-in-Err : goal.returns-in-Err
 returns-in-Err g c = record {
   performed =
-      fetch_refused c.args.name c.args.count (now c.args.store.now c.args.shared.now) _ c.requires.between.keeps c.in-Some.portal (sym c.in-Some.ensures.portal) (not_failed c.in-Some.portal.state c.in_default-state.not-Failed) c.requires.range.1 _ _
+      fetch_refused c.args.name c.args.count (now c.args.store.now c.args.shared.now) _ c.requires.between.keeps c.in-Some.portal.now (sym c.in-Some.ensures.portal) (not_failed c.in-Some.portal.now.state c.in_default-state.not-Failed) c.requires.range.1 _ _
       (alone_done (element.FetchBegins c.args.name) (λ scene. portal_becomes c.args.name (λ p. record p { active = depth scene.session }) scene) (now c.args.store.now c.args.shared.now) c.begin_fetch.new.store (does_begin c.args.name) (λ s. refl) (λ s. refl) (c.begin_fetch.ensures.acted c.args.shared.now.space.now c.args.shared.now.shelf.now c.args.shared.now.commons.now) c.begin_fetch.ensures.alone c.requires.between.keeps)
-      c.in-Err.error (c.in-Err.ensures.refused c.in-Some.portal.scan (fetching_begins c.args.name c.in-Some.portal.scan (now c.args.store.now c.args.shared.now) c.begin_fetch.new.store c.requires.between c.requires.active (scan_of_it c.args.name c.args.count (now c.args.store.now c.args.shared.now) (λ (events : List What). events ≡ []) c.requires.between.keeps c.in-Some.portal (sym c.in-Some.ensures.portal)) (c.begin_fetch.ensures.acted c.args.shared.now.space.now c.args.shared.now.shelf.now c.args.shared.now.commons.now) c.begin_fetch.ensures.alone));
+      c.in-Err.error (c.in-Err.ensures.refused c.in-Some.portal.now.scan (fetching_begins c.args.name c.in-Some.portal.now.scan (now c.args.store.now c.args.shared.now) c.begin_fetch.new.store c.requires.between c.requires.active (scan_of_it c.args.name c.args.count (now c.args.store.now c.args.shared.now) (λ (events : List What). events ≡ []) c.requires.between.keeps c.in-Some.portal.now (sym c.in-Some.ensures.portal)) (c.begin_fetch.ensures.acted c.args.shared.now.space.now c.args.shared.now.shelf.now c.args.shared.now.commons.now) c.begin_fetch.ensures.alone));
 }
 
 pub returns : goal.returns
 returns g c = record {
   performed =
-      let f = c.in-Ok.ensures.fetched c.in-Some.portal.scan (fetching_begins c.args.name c.in-Some.portal.scan (now c.args.store.now c.args.shared.now) c.begin_fetch.new.store c.requires.between c.requires.active (scan_of_it c.args.name c.args.count (now c.args.store.now c.args.shared.now) (λ (events : List What). events ≡ []) c.requires.between.keeps c.in-Some.portal (sym c.in-Some.ensures.portal)) (c.begin_fetch.ensures.acted c.args.shared.now.space.now c.args.shared.now.shelf.now c.args.shared.now.commons.now) c.begin_fetch.ensures.alone) in
-      fetch_done c.args.name c.args.count (now c.args.store.now c.args.shared.now) _ c.requires.between.keeps c.in-Some.portal (sym c.in-Some.ensures.portal) (not_failed c.in-Some.portal.state c.in_default-state.not-Failed) c.requires.range.1 _ _
+      let f = c.in-Ok.ensures.fetched c.in-Some.portal.now.scan (fetching_begins c.args.name c.in-Some.portal.now.scan (now c.args.store.now c.args.shared.now) c.begin_fetch.new.store c.requires.between c.requires.active (scan_of_it c.args.name c.args.count (now c.args.store.now c.args.shared.now) (λ (events : List What). events ≡ []) c.requires.between.keeps c.in-Some.portal.now (sym c.in-Some.ensures.portal)) (c.begin_fetch.ensures.acted c.args.shared.now.space.now c.args.shared.now.shelf.now c.args.shared.now.commons.now) c.begin_fetch.ensures.alone) in
+      fetch_done c.args.name c.args.count (now c.args.store.now c.args.shared.now) _ c.requires.between.keeps c.in-Some.portal.now (sym c.in-Some.ensures.portal) (not_failed c.in-Some.portal.now.state c.in_default-state.not-Failed) c.requires.range.1 _ _
       (alone_done (element.FetchBegins c.args.name) (λ scene. portal_becomes c.args.name (λ p. record p { active = depth scene.session }) scene) (now c.args.store.now c.args.shared.now) c.begin_fetch.new.store (does_begin c.args.name) (λ s. refl) (λ s. refl) (c.begin_fetch.ensures.acted c.args.shared.now.space.now c.args.shared.now.shelf.now c.args.shared.now.commons.now) c.begin_fetch.ensures.alone c.requires.between.keeps)
       c.in-Ok.rows (λ (events : List What). g.E.Emit.emits c.args.out.now events c.fetch_rows.new.out) _ f.0 f.1 f.2 (let x = f.2 in x.keeps) c.emit.ensures.emitted (λ us vs x y. g.met.E.Emit.emits_more _ _ _ _ _ _ x y refl);
 }

@@ -1,7 +1,7 @@
 use Rattle.std.proofs.Common.{refl, arith}
-use Rattle.session_work.specs.Performed.{now}
-use Rattle.session_work.proofs.Performing.{performed_both}
-use Rattle.session_work.proofs.Pinning.{room_left}
+use Rattle.session_items.specs.Performed.{now}
+use Rattle.session_items.proofs.Performing.{performed_both}
+use Rattle.session_items.proofs.Pinning.{room_left}
 use Rattle.portal_commands.proofs.Chains.{less_room, silent_stops, silent_then, stops}
 use Rattle.portal_commands.proofs.making.begin.Goals as goal
 

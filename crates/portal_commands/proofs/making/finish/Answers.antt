@@ -2,8 +2,8 @@ use Rattle.std.proofs.Common.{true, refl, arith}
 use Rattle.portal_store.specs.declared.portal.PortalState.TheVariants.{Ready}
 use Rattle.session_rules.specs.Acts.{portal_becomes}
 use Rattle.session_rules.specs.Elements as element
-use Rattle.session_work.specs.Performed.{now}
-use Rattle.session_work.proofs.Performing.{performed_both}
+use Rattle.session_items.specs.Performed.{now}
+use Rattle.session_items.proofs.Performing.{performed_both}
 use Rattle.portal_commands.proofs.Chains.{alone_done, stops, then_silent}
 use Rattle.portal_commands.proofs.OnCommands.{does_ready}
 use Rattle.portal_commands.proofs.OnItsWay.{has_name}

@@ -1,5 +1,5 @@
 use Rattle.std.proofs.Common.{refl, arith}
-use Rattle.session_work.proofs.Performing.{performed_both}
+use Rattle.session_items.proofs.Performing.{performed_both}
 use Rattle.portal_commands.proofs.Chains.{stops}
 use Rattle.portal_commands.proofs.making.hold.Goals as goal
 

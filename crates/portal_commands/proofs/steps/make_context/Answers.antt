@@ -1,7 +1,7 @@
 use Rattle.std.proofs.Common.{None, codes, false, refl}
 use Rattle.session_rules.specs.Elements.{PortalContext}
-use Rattle.session_work.proofs.Stepping.{said_nothing}
-use Rattle.session_work.specs.Performed.{now}
+use Rattle.session_items.proofs.Stepping.{said_nothing}
+use Rattle.session_items.specs.Performed.{now}
 use Rattle.portal_commands.proofs.MakingSteps.{context_done, context_injected, context_not_made, portal_is_new}
 use Rattle.portal_commands.proofs.OnItsWay.{context_on, has_name}
 use Rattle.portal_commands.proofs.steps.make_context.Goals as goal

@@ -1,6 +1,6 @@
 use Rattle.std.proofs.Common.{None, Err, true, false, refl, ap, ◌∙◌}
-use Rattle.session_work.proofs.Stepping.{said_nothing}
-use Rattle.session_work.specs.Performed.{now}
+use Rattle.session_items.proofs.Stepping.{said_nothing}
+use Rattle.session_items.specs.Performed.{now}
 use Rattle.portal_commands.proofs.MakingSteps.{owner_done, owner_injected, owner_refused, owner_wants}
 use Rattle.portal_commands.proofs.OnItsWay.{has_name, owner_on}
 use Rattle.portal_commands.proofs.steps.make_owner.Goals as goal

@@ -1,7 +1,7 @@
 use Rattle.std.proofs.Common.{None, codes, true, false, refl}
 use Rattle.session_rules.specs.Elements.{RowContext}
-use Rattle.session_work.proofs.Stepping.{said_nothing}
-use Rattle.session_work.specs.Performed.{now}
+use Rattle.session_items.proofs.Stepping.{said_nothing}
+use Rattle.session_items.specs.Performed.{now}
 use Rattle.portal_commands.proofs.MakingSteps.{context_done, context_injected, context_not_made, row_is_new}
 use Rattle.portal_commands.proofs.OnItsWay.{has_context, row_on, way_context}
 use Rattle.portal_commands.proofs.steps.make_row.Goals as goal

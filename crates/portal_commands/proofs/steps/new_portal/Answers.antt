@@ -1,5 +1,5 @@
 use Rattle.std.proofs.Common.{None, Err, refl, ap, ◌∙◌}
-use Rattle.session_work.specs.Performed.{now}
+use Rattle.session_items.specs.Performed.{now}
 use Rattle.portal_commands.proofs.Listed.{keeps_alone, none_named}
 use Rattle.portal_commands.proofs.MakingSteps.{portal_done, portal_injected, portal_refused, portal_wants}
 use Rattle.portal_commands.proofs.OnItsWay.{making_begins}

@@ -1,6 +1,6 @@
 use Rattle.std.proofs.Common.{None, true, false, refl}
 use Rattle.session_rules.specs.Elements.{InPortal}
-use Rattle.session_work.specs.Performed.{now}
+use Rattle.session_items.specs.Performed.{now}
 use Rattle.portal_commands.proofs.MemorySteps.{memory_done, memory_injected, memory_refused}
 use Rattle.portal_commands.proofs.OnItsWay.{has_context, memory_on}
 use Rattle.portal_commands.proofs.steps.take_memory.Goals as goal

@@ -1,8 +1,8 @@
 use Rattle.std.proofs.Common.{true, false}
 use Rattle.session_rules.specs.Elements.{OfPortal}
-use Rattle.session_work.specs.Performed.{now}
-use Rattle.session_work.proofs.Pinning.{owner_unbegun}
-use Rattle.session_work.proofs.Working.{in_active, where_done}
+use Rattle.session_items.specs.Performed.{now}
+use Rattle.session_items.proofs.Pinning.{owner_unbegun}
+use Rattle.session_items.proofs.Standing.{in_active, where_done}
 use Rattle.portal_commands.proofs.OnItsWay.{has_owner, portals_owner, reference_on}
 use Rattle.portal_commands.proofs.steps.take_reference.Goals as goal
 

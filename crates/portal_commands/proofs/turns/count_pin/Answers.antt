@@ -1,4 +1,4 @@
-use Rattle.session_work.specs.Performed.{now}
+use Rattle.session_items.specs.Performed.{now}
 use Rattle.portal_commands.proofs.PinSteps.{no_pin, no_room}
 use Rattle.portal_commands.proofs.turns.count_pin.Goals as goal
 

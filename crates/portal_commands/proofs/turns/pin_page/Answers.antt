@@ -1,9 +1,9 @@
 use Rattle.std.proofs.Common.{◌≡◌, sym, subst, [], List}
 use Rattle.pgs_step.specs.declared.events.What.{What}
 use Rattle.session_rules.specs.Elements.{OfPortal}
-use Rattle.session_work.specs.Performed.{now}
-use Rattle.session_work.proofs.Pinning.{owner_unbegun, performed_said}
-use Rattle.session_work.proofs.Working.{in_active}
+use Rattle.session_items.specs.Performed.{now}
+use Rattle.session_items.proofs.Pinning.{owner_unbegun, performed_said}
+use Rattle.session_items.proofs.Standing.{in_active}
 use Rattle.portal_commands.proofs.FetchSteps.{fetched_owner}
 use Rattle.portal_commands.proofs.turns.pin_page.Goals as goal
 

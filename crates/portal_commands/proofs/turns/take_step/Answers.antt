@@ -1,5 +1,5 @@
 use Rattle.portal_commands.proofs.FetchSteps.{fetching_follows, fetching_step, scan_done, step_named, there_scan}
-use Rattle.session_work.specs.Performed.{now}
+use Rattle.session_items.specs.Performed.{now}
 use Rattle.portal_commands.proofs.turns.take_step.Goals as goal
 
 pub returns-clause-performed : goal.returns-clause-performed

@@ -1,9 +1,9 @@
 use Rattle.std.proofs.Common.{refl}
-use Rattle.session_work.specs.Performed.{now}
-use Rattle.session_work.proofs.HeldItems.{missing_item}
-use Rattle.session_work.proofs.Pinning.{owner_unbegun}
-use Rattle.session_work.proofs.Stepping.{said_nothing}
-use Rattle.session_work.proofs.Working.{in_active}
+use Rattle.session_items.specs.Performed.{now}
+use Rattle.session_items.proofs.HeldItems.{missing_item}
+use Rattle.session_items.proofs.Pinning.{owner_unbegun}
+use Rattle.session_items.proofs.Stepping.{said_nothing}
+use Rattle.session_items.proofs.Standing.{in_active}
 use Rattle.portal_commands.proofs.FetchSteps.{follows_nothing, no_owner, page_not_held, page_unpinned}
 use Rattle.portal_commands.proofs.turns.unpin_page.Goals as goal
 

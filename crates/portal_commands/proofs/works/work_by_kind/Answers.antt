@@ -1,8 +1,8 @@
 use Rattle.std.proofs.Common.{arith, subst}
 use Rattle.pgs_command.specs.Ranges.{IsInRange}
 use Rattle.session_store.specs.State.{session_of}
-use Rattle.session_work.specs.Performed.{most_work}
-use Rattle.session_work.proofs.Working.{as_command}
+use Rattle.session_items.specs.Performed.{most_work}
+use Rattle.session_items.proofs.Performing.{as_command}
 use Rattle.portal_commands.proofs.works.work_by_kind.Goals as goal
 
 pub returns-in-Portal : goal.returns-in-Portal

@@ -1,6 +1,5 @@
-use Rattle.session_work.specs.Performed.{most_work}
-use Rattle.session_work.proofs.Standing.{work_levels, work_stands}
-use Rattle.session_work.proofs.Working.{in_active, where_done}
+use Rattle.session_items.specs.Performed.{most_work}
+use Rattle.session_items.proofs.Standing.{in_active, where_done, work_levels, work_stands}
 use Rattle.portal_commands.proofs.OnCommands.{is_work}
 use Rattle.portal_commands.proofs.works.work_on_portals.Goals as goal
 

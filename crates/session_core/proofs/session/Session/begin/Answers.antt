@@ -1,6 +1,6 @@
 use Rattle.std.proofs.Common.{refl}
 use Rattle.session_core.proofs.ByState.{error_told, none_told, performed_ok}
-use Rattle.session_work.proofs.Performing.{performed_stop}
+use Rattle.session_items.proofs.Performing.{performed_stop}
 use Rattle.session_core.proofs.session.Session.begin.Goals as goal
 
 pub returns-in-Err-clause-performed : goal.returns-in-Err-clause-performed

@@ -1,6 +1,6 @@
 use Rattle.std.proofs.Common.{refl}
 use Rattle.session_core.proofs.LevelsBegin.{room_behind}
-use Rattle.session_work.proofs.Performing.{performed_both}
+use Rattle.session_items.proofs.Performing.{performed_both}
 use Rattle.session_core.proofs.session.Session.begin_again.Goals as goal
 
 pub start_level-requires-clause-room : goal.start_level-requires-clause-room

@@ -1,7 +1,7 @@
 use Rattle.std.proofs.Common.{refl}
 use Rattle.session_core.proofs.Seen.{seen, stands_of}
 use Rattle.session_core.proofs.Starting.{context_injected, context_made_for, context_not_made}
-use Rattle.session_work.proofs.Stepping.{said_nothing}
+use Rattle.session_items.proofs.Stepping.{said_nothing}
 use Rattle.session_core.proofs.session.Session.make_context_of_level.Goals as goal
 
 pub returns-in-Err : goal.returns-in-Err

@@ -1,7 +1,7 @@
 use Rattle.std.proofs.Common.{◌≤◌, Err, refl, ap, ◌∙◌}
 use Rattle.session_core.proofs.Seen.{keeps_of, levels_seen, seen}
 use Rattle.session_core.proofs.Starting.{level_injected, level_pushed, level_refused, level_wants}
-use Rattle.session_work.proofs.Stepping.{said_nothing}
+use Rattle.session_items.proofs.Stepping.{said_nothing}
 use Rattle.session_core.proofs.session.Session.make_level.Goals as goal
 
 pub returns-in-Err : goal.returns-in-Err

@@ -1,7 +1,7 @@
 use Rattle.std.proofs.Common.{Err, refl, ap, ◌∙◌}
 use Rattle.session_core.proofs.Seen.{keeps_of, seen, stands_of}
 use Rattle.session_core.proofs.Starting.{owner_injected, owner_made_for, owner_refused, owner_wants}
-use Rattle.session_work.proofs.Stepping.{said_nothing}
+use Rattle.session_items.proofs.Stepping.{said_nothing}
 use Rattle.session_core.proofs.session.Session.make_owner_of_level.Goals as goal
 
 pub returns-in-Err : goal.returns-in-Err

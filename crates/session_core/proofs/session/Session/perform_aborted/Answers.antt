@@ -1,7 +1,7 @@
 use Rattle.std.proofs.Common.{arith}
 use Rattle.pgs_command.specs.declared.commands.Command.TheVariants as command
 use Rattle.session_core.proofs.ByState.{as_elements, commit_aborted, in_aborted, none_done, nothing_aborted, of_command, others_aborted, refused_aborted, return_aborted, return_done, rollback_aborted, rollback_done, transaction_refused}
-use Rattle.session_work.proofs.Performing.{performed_more, performed_none}
+use Rattle.session_items.proofs.Performing.{performed_more, performed_none}
 use Rattle.session_core.proofs.session.Session.perform_aborted.Goals as goal
 
 pub returns-in-Nothing-clause-performed : goal.returns-in-Nothing-clause-performed

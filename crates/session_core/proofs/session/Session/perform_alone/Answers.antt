@@ -1,7 +1,7 @@
 use Rattle.std.proofs.Common.{◌+◌, refl, arith}
 use Rattle.session_core.proofs.ByState.{alone_done, alone_refused, alone_unstarted, error_told, level_and_work, no_levels, none_told}
 use Rattle.session_core.proofs.LevelsBegin.{room_behind, room_less}
-use Rattle.session_work.specs.Performed.{most_steps, most_work}
+use Rattle.session_items.specs.Performed.{most_steps, most_work}
 use Rattle.session_core.proofs.session.Session.perform_alone.Goals as goal
 
 pub returns-in-Err-clause-performed : goal.returns-in-Err-clause-performed

@@ -3,8 +3,8 @@ use Rattle.pgs_command.specs.declared.commands.Command.TheVariants as command
 use Rattle.pgs_step.specs.declared.events.What.TheVariants as what
 use Rattle.session_core.proofs.ByState.{as_elements, begin_idle, commit_idle, in_none, no_levels, nothing_idle, of_command, performed_warned, refused_idle, rollback_idle, savepoints_idle}
 use Rattle.session_core.proofs.LevelsBegin.{room_less}
-use Rattle.session_work.proofs.Performing.{performed_more, performed_none}
-use Rattle.session_work.specs.Performed.{most_steps}
+use Rattle.session_items.proofs.Performing.{performed_more, performed_none}
+use Rattle.session_items.specs.Performed.{most_steps}
 use Rattle.session_core.proofs.session.Session.perform_idle.Goals as goal
 
 pub returns-in-Nothing-clause-performed : goal.returns-in-Nothing-clause-performed

@@ -3,8 +3,8 @@ use Rattle.pgs_command.specs.declared.commands.Command.TheVariants as command
 use Rattle.pgs_step.specs.declared.events.What.TheVariants as what
 use Rattle.session_core.proofs.ByState.{as_elements, begin_block, begin_done, commit_block, commit_done, in_block, none_done, nothing_block, of_command, performed_warned, release_block, release_done, return_block, return_done, rollback_block, rollback_done, save_done, savepoint_block, working_block}
 use Rattle.session_core.proofs.LevelsBegin.{room_less}
-use Rattle.session_work.proofs.Performing.{performed_more, performed_none}
-use Rattle.session_work.specs.Performed.{most_steps, most_work}
+use Rattle.session_items.proofs.Performing.{performed_more, performed_none}
+use Rattle.session_items.specs.Performed.{most_steps, most_work}
 use Rattle.session_core.proofs.session.Session.perform_in_block.Goals as goal
 
 pub returns-in-Nothing-clause-performed : goal.returns-in-Nothing-clause-performed

@@ -1,6 +1,6 @@
 use Rattle.std.proofs.Common.{refl}
 use Rattle.session_core.proofs.ByState.{error_told, none_told, work_stopped, work_then_ok}
-use Rattle.session_work.specs.Performed.{most_work}
+use Rattle.session_items.specs.Performed.{most_work}
 use Rattle.session_core.proofs.session.Session.perform_work.Goals as goal
 
 pub returns : goal.returns

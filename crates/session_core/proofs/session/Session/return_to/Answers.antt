@@ -2,7 +2,7 @@ use Rattle.std.proofs.Common.{◌≡◌, ◌≤◌, ◌++◌, false, None, Some,
 use Rattle.session_rules.specs.Commands.{rolled_back_to, savepoint, start, then_ok}
 use Rattle.session_store.specs.State.{StoreState, levels_of}
 use Rattle.session_core.proofs.ByState.{as_elements, error_told, none_told, performed_ok, refused_missing}
-use Rattle.session_work.proofs.Performing.{performed_more, performed_stop}
+use Rattle.session_items.proofs.Performing.{performed_more, performed_stop}
 use Rattle.session_core.proofs.Rolling.{at_found, at_missing}
 use Rattle.session_core.proofs.session.Session.return_to.Goals as goal
 

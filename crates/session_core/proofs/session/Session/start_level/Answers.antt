@@ -1,7 +1,7 @@
 use Rattle.std.proofs.Common.{◌<◌, refl, ap}
 use Rattle.session_store.specs.State.{levels_of}
 use Rattle.session_core.proofs.Seen.{keeps_of, levels_seen, seen, stands_of}
-use Rattle.session_work.specs.Performed.{now}
+use Rattle.session_items.specs.Performed.{now}
 use Rattle.session_core.proofs.Starting.{stood_performed}
 use Rattle.session_core.proofs.LevelsBegin.{context_behind, level_behind, owner_behind, some_level, stands_now, start_performed, start_stops_first, start_stops_second, start_stops_third}
 use Rattle.session_core.proofs.session.Session.start_level.Goals as goal

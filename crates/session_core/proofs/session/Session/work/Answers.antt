@@ -1,8 +1,8 @@
 use Rattle.std.proofs.Common.{arith}
 use Rattle.session_rules.specs.Works.{work_of}
 use Rattle.session_store.specs.State.{StoreState, session_of}
-use Rattle.session_work.specs.Performed.{most_work}
-use Rattle.session_work.proofs.Performing.{performed_more}
+use Rattle.session_items.specs.Performed.{most_work}
+use Rattle.session_items.proofs.Performing.{performed_more}
 use Rattle.session_core.proofs.ByState.{works_beside}
 use Rattle.session_core.proofs.Seen.{seen, seen_from}
 use Rattle.session_core.proofs.session.Session.work.Goals as goal
