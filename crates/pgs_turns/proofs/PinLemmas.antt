@@ -6,7 +6,6 @@ use Rattle.std.proofs.lemmas.List.Sums.{get_or-le-sum_by, sum_by-cons, sum_by-se
 use Rattle.std.proofs.lemmas.Option.{get_or_from_slice_get, slice_get_within}
 use Rattle.forest.specs.Forest.{Empty}
 use Rattle.addr_space.specs.Space.{Space}
-use Rattle.alloc_set.proofs.Shelved.{sum_by-le-length}
 use Rattle.owner_core.specs.Owners.{OwnerTree}
 use Rattle.session_rules.specs.State.{SessionState}
 use Rattle.session_rules.specs.World.{for_buffers, others, pinning_among}
@@ -21,6 +20,11 @@ use Rattle.pgs_turns.specs.World.{PinsFit, sessions_in}
 -- 1 for a session that pins a buffer
 abbrev once_by : ℕ → StoreState → ℕ
 once_by buffer store = pinned_once buffer (owners_of store.owners)
+
+-- what counts each of a list once at most counts no more than its length
+sum_by-le-length : {X : Type 0} (f : X → ℕ) → ((x : X) → f x ≤ 1) → (xs : List X) → sum_by f xs ≤ length xs
+sum_by-le-length f one [] = omega arith
+sum_by-le-length f one (x ∷ xs) = omega (arith, sum_by-cons f x xs, one x, sum_by-le-length f one xs)
 
 -- what sessions have pinned serves each of them
 pub pins_serve : (stores : List StoreState) (pins : List ℕ) → PinsFit stores pins → length stores ≤ 2 ^ 31 → (place : ℕ) (store : StoreState) → slice_get stores place ≡ Some store → PinsServe (owners_of store.owners) pins

@@ -1,7 +1,7 @@
-use Rattle.std.proofs.Common.{◌≡◌, ℕ, ◌^◌, ◌<◌, List, Option, Some, sym, ◌∙◌, ap, subst, arith, ◌⊎◌}
+use Rattle.std.proofs.Common.{◌≡◌, ℕ, ◌^◌, ◌<◌, List, length, Option, Some, sym, ◌∙◌, ap, subst, arith, ◌⊎◌}
 use Rattle.pgs_step.specs.declared.events.Event.{Event}
 use Rattle.session_rules.specs.Transcript.{errors_in}
-use Rattle.session_work.specs.Answers.{Fits}
+use Rattle.session_items.specs.Answers.{Fits}
 use Rattle.pgs_turns.specs.Transcript.{Setting, course_of, EndsAt, names_of, transcript}
 use Rattle.pgs_turns.specs.Courses.{IsOver}
 use Rattle.pgs_turns.specs.World.{HaveDescriptors, Run, run_of, setting_of}
@@ -91,7 +91,11 @@ returns g c d has =
     let over = over g c d has in
     let run = performs g c d has in
     let f = facts g c d has in
-    rw c.made_outcome.ensures (record {
+    subst (λ (o : Outcome). Ends (length c.args.sessions.now) (setting g c d has) o
+        (outside (g.S.Source.left c.args.src.now) (g.S.Source.faults c.args.src.now) (g.K.Sink.written c.args.out.now) (g.K.Sink.faults c.args.out.now) c.args.shared.now.shelf.now c.args.shared.now.commons.now.kinds)
+        (outside (g.S.Source.left c.perform_lines-ended.new.src) (g.S.Source.faults c.perform_lines-ended.new.src) (g.K.Sink.written c.out-1.given.0) (g.K.Sink.faults c.out-1.given.0) c.exit_all.new.shared.shelf.now c.exit_all.new.shared.commons.now.kinds)
+        c.args.shared.now.space.now c.exit_all.new.shared.space.now)
+    (sym c.made_outcome.ensures) (record {
       performed = performed_by _ _ _ _ _ _ (outside (g.S.Source.left c.args.src.now) (g.S.Source.faults c.args.src.now) (g.K.Sink.written c.args.out.now) (g.K.Sink.faults c.args.out.now) c.args.shared.now.shelf.now c.args.shared.now.commons.now.kinds)
           (outside (g.S.Source.left c.perform_lines-ended.new.src) (g.S.Source.faults c.perform_lines-ended.new.src) (g.K.Sink.written c.out-1.given.0) (g.K.Sink.faults c.out-1.given.0) c.exit_all.new.shared.shelf.now c.exit_all.new.shared.commons.now.kinds)
           f c.perform_lines-ended.ensures.fault c.perform_lines-ended.ensures.no_fault;
