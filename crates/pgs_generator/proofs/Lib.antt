@@ -1,3 +1,5 @@
+pub mod WordLemmas
+pub mod LineLemmas
 pub mod MadeLemmas
 pub mod ToldLemmas
 pub mod TurnLemmas

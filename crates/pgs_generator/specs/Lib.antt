@@ -1,3 +1,4 @@
 pub mod Counting
 pub mod Summary
+pub mod Made
 pub mod Generating

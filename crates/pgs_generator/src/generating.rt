@@ -10,11 +10,11 @@ ghost use Rattle.pgs_generator.specs.Generating.{IsFront, Tells};
 ghost use Rattle.pgs_generator.specs.Summary.{numbers};
 
 use crate::counter::Counter;
-use crate::lines::{LINES, made_line};
+use crate::lines::{LINES, made_command};
 use crate::telling::summary;
 use owner_kinds::ExtKind;
 use pgs_io::{Sink, put_all};
-use pgs_turns::{exit_all, read_line, take_turn};
+use pgs_turns::{exit_all, take_turn};
 use reset_callbacks::ResetHook;
 use session_core::{Session, Shared};
 
@@ -84,8 +84,7 @@ fn perform_made<H: ResetHook, X: ExtKind>(
 {
     let count = rounds as u32 * LINES;
     for place in 0..count {
-        let line = made_line(place / LINES + 1, place % LINES);
-        let said = read_line(line.as_slice(), false);
+        let said = made_command(place / LINES + 1, place % LINES);
         if take_turn(sessions, &said, shared, counter) {
             return (place as u64 + 1, true);
         }

@@ -1,70 +1,99 @@
-//! The lines of the script that is made.
-ghost use Rattle.std.specs.Prelude.{◌≡◌, ◌+◌, ◌/◌, ◌%◌, ◌<◌, ◌≤◌, ◌++◌, decimal, length, slice_get, Some};
-ghost use Rattle.session_rules.specs.Modes.{made_lines};
+//! The lines of the script that is made, as what they ask for.
+ghost use Rattle.std.specs.Prelude.{◌≡◌, ◌∷◌, ◌<◌, ◌≤◌, IsTrue, decimal, Some, IfSome};
+ghost use Rattle.pgs_step.specs.Name.{IsName, is_name_byte};
+ghost use Rattle.pgs_command.specs.Ranges.{IsInRange, IsSession};
+ghost use Rattle.pgs_generator.specs.Made.{asked_at, read_at, says};
 
-use crate::pieces::{put, put_counted};
+use crate::pieces::put_counted;
 use arrayvec::ArrayVec;
-
-/// The most bytes that a made line has.
-pub(crate) const LINE: usize = 64;
+use pgs_command::{Command, ContextKind, ReferenceClass};
+use pgs_step::{Mode, Name};
+use pgs_turns::Said;
 
 /// How many lines each round has.
 pub(crate) const LINES: u32 = 13;
 
-/// The line at this place of a round. Rounds count from 1, and places from 0.
-pub(crate) fn made_line(round: u32, place: u32) -> ArrayVec<u8, LINE>
+/// What the line at this place of a round asks for. Rounds count from 1, and places from 0.
+pub(crate) fn made_command(round: u32, place: u32) -> Said
     requires round { round ≤ 10000 }
     requires place { place < 13 }
-    ensures line { slice_get (made_lines round) place ≡ Some result.items }
-    ensures short { length result.items ≤ 64 }
+    ensures asked { asked_at round place ≡ Some result }
+    ensures session { IsSession result.session }
+    ensures in_range { IfSome result.command IsInRange }
 {
-    match place {
-        0 => word(b"begin"),
-        1 => counted(b"context g", round, b" CurTransactionContext default"),
-        2 => counted(b"switch g", round, b""),
-        3 => chunk(round),
-        4 => counted(b"pin ", 7 * round % 1024, b""),
-        5 => word(b"savepoint s"),
-        6 => counted(b"lock ", round % 64, b" AccessShareLock"),
-        7 => counted(b"ref relcache ", round % 100, b""),
-        8 if round % 2 == 1 => word(b"release s"),
-        8 => word(b"rollback to s"),
-        9 => counted(b"portal p ", round % 512, b" 25"),
-        10 => word(b"fetch p 12"),
-        11 => word(b"endportal p"),
-        _ if round % 3 == 0 => word(b"rollback"),
-        _ => word(b"commit"),
+    Said {
+        session: 1,
+        command: Some(command_at(round, place)),
     }
 }
 
-/// A line that is the same in each round.
-fn word(word: &[u8]) -> ArrayVec<u8, LINE>
-    requires { length word.now ≤ 64 }
-    ensures { result.items ≡ word.now }
+/// The command of the line at this place of a round.
+#[tactic(auto, using(crate::proofs::LineLemmas::lines_read))]
+fn command_at(round: u32, place: u32) -> Command
+    requires round { round ≤ 10000 }
+    requires place { place < 13 }
+    ensures read { read_at round place ≡ Some (says result) }
+    ensures in_range { IsInRange result }
 {
-    let mut line = ArrayVec::new();
-    put(&mut line, word);
-    line
+    match place {
+        0 => Command::Begin,
+        1 => Command::Context {
+            name: numbered(b'g', round),
+            parent: name(b"CurTransactionContext"),
+            kind: ContextKind::Default,
+        },
+        2 => Command::Switch(numbered(b'g', round)),
+        3 => Command::Alloc {
+            chunk: numbered(b'a', round),
+            size: 733 * round % 9000,
+        },
+        4 => Command::Pin(7 * round % 1024),
+        5 => Command::Savepoint(name(b"s")),
+        6 => Command::Lock {
+            object: round % 64,
+            mode: Mode::AccessShareLock,
+        },
+        7 => Command::Reference {
+            class: ReferenceClass::Relcache,
+            key: round % 100,
+        },
+        8 if round % 2 == 1 => Command::Release(name(b"s")),
+        8 => Command::RollbackTo(name(b"s")),
+        9 => Command::Portal {
+            name: name(b"p"),
+            object: round % 512,
+            rows: 25,
+            bad: None,
+        },
+        10 => Command::Fetch {
+            name: name(b"p"),
+            count: 12,
+        },
+        11 => Command::EndPortal(name(b"p")),
+        _ if round % 3 == 0 => Command::Rollback,
+        _ => Command::Commit,
+    }
 }
 
-/// A line with a number in it.
-fn counted(word: &[u8], n: u32, rest: &[u8]) -> ArrayVec<u8, LINE>
-    requires { length word.now + 20 + length rest.now ≤ 64 }
-    ensures { result.items ≡ word.now ++ (decimal n ++ rest.now) }
+/// The name that a letter and a round's number are.
+#[tactic(auto, using(crate::proofs::WordLemmas::is_numbered_name))]
+fn numbered(letter: u8, round: u32) -> Name
+    requires letter { IsTrue (is_name_byte letter) }
+    requires round { round ≤ 10000 }
+    ensures { result ≡ letter ∷ decimal round }
 {
-    let mut line = ArrayVec::new();
-    put_counted(&mut line, word, n as u64);
-    put(&mut line, rest);
-    line
+    let mut word: ArrayVec<u8, 32> = ArrayVec::new();
+    put_counted(&mut word, &[letter], round as u64);
+    name(word.as_slice())
 }
 
-/// The line that asks for the round's chunk.
-fn chunk(round: u32) -> ArrayVec<u8, LINE>
-    requires { round ≤ 10000 }
-    ensures { slice_get (made_lines round) 3 ≡ Some result.items }
+/// The name that a word is.
+fn name(word: &[u8]) -> Name
+    requires { IsName word.now }
+    ensures { result ≡ word.now }
 {
-    let mut line = ArrayVec::new();
-    put_counted(&mut line, b"alloc a", round as u64);
-    put_counted(&mut line, b" ", (733 * round % 9000) as u64);
-    line
+    match Name::new(word) {
+        Some(name) => name,
+        None => unreachable!(),
+    }
 }

@@ -1,4 +1,5 @@
-use crate::lines::{LINES, made_line};
+use crate::lines::{LINES, made_command};
+use pgs_turns::read_line;
 use std::test::Fail;
 
 /// The lines of rounds 1, 2 and 3.
@@ -47,8 +48,10 @@ const ROUNDS: &[&[u8]] = &[
 #[test]
 fn lines_of_three_rounds(rt: HostRuntime) -> Result<(), Fail> {
     for place in 0..3 * LINES {
-        let line = made_line(place / LINES + 1, place % LINES);
-        assert!(rt; line.as_slice() == ROUNDS[place as usize], "line {place}");
+        let read = read_line(ROUNDS[place as usize], false);
+        let made = made_command(place / LINES + 1, place % LINES);
+        assert_eq!(rt; made.session, read.session, "line {place}");
+        assert_eq!(rt; made.command, read.command, "line {place}");
     }
     Ok(())
 }

@@ -1,10 +1,10 @@
-use Rattle.std.proofs.Common.{◌≡◌, ℕ, ◌*◌, false, take, subst, ◌∙◌, sym, arith}
+use Rattle.std.proofs.Common.{◌≡◌, ℕ, ◌*◌, false, take, subst, arith}
 use Rattle.session_rules.specs.Modes.{made_script}
 use Rattle.pgs_turns.specs.World.{run_of}
 use Rattle.pgs_turns.specs.Courses.{HasPerformed}
 use Rattle.pgs_turns.proofs.PlayLemmas.{performed_none}
 use Rattle.pgs_generator.specs.Counting.{TakesEvents, TakesEvents-none}
-use Rattle.pgs_generator.proofs.TurnLemmas.{kept_whole, made_room, made_turn}
+use Rattle.pgs_generator.proofs.TurnLemmas.{made_room, made_turn}
 use Rattle.pgs_generator.proofs.generating.perform_made.Goals as goal
 
 pub loop-place-init : goal.loop-place-init
@@ -21,15 +21,15 @@ take_turn-requires-clause-room g c =
 pub returns-then-take_turn-clause-performed : goal.returns-then-take_turn-clause-performed
 returns-then-take_turn-clause-performed g c descriptors has =
     made_turn descriptors (run_of c.args.sessions.now c.args.shared.now) (run_of c.loop-place.sessions c.loop-place.shared) (run_of c.take_turn.new.sessions c.take_turn.new.shared) c.args.counter.now c.loop-place.counter c.take_turn.new.out
-    c.args.rounds c.loop-place.place c.made_line-line.result.items c.read_line-said.result _ (c.loop-place.invariant.performed descriptors has) (omega (arith, c.loop-place-test.true, c.loop-place.auto.place-end)) c.made_line-line.ensures.line
-    (c.read_line-said.ensures.read c.made_line-line.result.items (kept_whole c.made_line-line.result.items c.as_slice.result.now c.as_slice.ensures.value c.made_line-line.ensures.short)) c.if-take_turn.ensures.turn
+    c.args.rounds c.loop-place.place c.made_command-said.result _ (c.loop-place.invariant.performed descriptors has) (omega (arith, c.loop-place-test.true, c.loop-place.auto.place-end)) c.made_command-said.ensures.asked
+    c.if-take_turn.ensures.turn
 
 pub loop-place-preserved : goal.loop-place-preserved
 loop-place-preserved g c = record {
   performed = λ descriptors has.
       made_turn descriptors (run_of c.args.sessions.now c.args.shared.now) (run_of c.loop-place.sessions c.loop-place.shared) (run_of c.take_turn.new.sessions c.take_turn.new.shared) c.args.counter.now c.loop-place.counter c.take_turn.new.out
-      c.args.rounds c.loop-place.place c.made_line-line.result.items c.read_line-said.result _ (c.loop-place.invariant.performed descriptors has) (omega (arith, c.loop-place-test.true, c.loop-place.auto.place-end)) c.made_line-line.ensures.line
-      (c.read_line-said.ensures.read c.made_line-line.result.items (kept_whole c.made_line-line.result.items c.as_slice.result.now c.as_slice.ensures.value c.made_line-line.ensures.short)) c.if-take_turn.ensures.turn;
+      c.args.rounds c.loop-place.place c.made_command-said.result _ (c.loop-place.invariant.performed descriptors has) (omega (arith, c.loop-place-test.true, c.loop-place.auto.place-end)) c.made_command-said.ensures.asked
+      c.if-take_turn.ensures.turn;
   standing = c.take_turn.ensures.standing;
 }
 
