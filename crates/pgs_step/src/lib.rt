@@ -27,6 +27,3 @@ pub use lock_modes::Mode;
 pub use names::Name;
 pub use steps::Step;
 pub use texts::{append_text, text, text_with};
-
-#[cfg(test)]
-mod tests;

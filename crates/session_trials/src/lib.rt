@@ -8,8 +8,4 @@ pub use playing::{Played, outcome, outcome_over};
 #[cfg(test)]
 mod plan_tests;
 #[cfg(test)]
-mod portal_tests;
-#[cfg(test)]
-mod telling_tests;
-#[cfg(test)]
 mod tests;

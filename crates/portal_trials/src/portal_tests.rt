@@ -1,8 +1,8 @@
 //! What whole sessions say of portals.
 
-use crate::outcome;
 use pgs_command::Command;
 use pgs_step::{Error, Item, KindId, Mode, Name, What};
+use session_trials::outcome;
 use std::test::Fail;
 
 fn name(word: &[u8]) -> Result<Name, Fail> {

@@ -1,9 +1,9 @@
 //! What sessions say of active snapshots, and of what they hold.
 ghost use Rattle.std.specs.Prelude.{◌≤◌};
 
-use crate::outcome;
 use pgs_command::{Command, ReferenceClass};
 use pgs_step::{Depth, Error, Item, KindId, MemoryCounters, Mode, Name, SessionCounts, What};
+use session_trials::outcome;
 use std::test::Fail;
 
 fn name(word: &[u8]) -> Result<Name, Fail> {

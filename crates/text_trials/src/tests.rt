@@ -1,6 +1,9 @@
 //! The text of an event of each kind, names, modes, and a list of events.
-use super::*;
 use arrayvec::ArrayVec;
+use pgs_step::{
+    ChunkBytes, Depth, Emit, Error, Event, EventList, Item, KindId, MemoryCounters, Mode, Name,
+    SessionCounts, What, append_text, text, text_with,
+};
 use std::test::Fail;
 
 fn item(kind: u8, key: u32, serial: u64) -> Item {

@@ -1,0 +1,83 @@
+use Rattle.std.proofs.Common.{◌≡◌, ℕ, length, Option, Some, IsSome, if◌then◌else◌, refl, sym, ap, ◌∙◌, subst, arith, inl, inr}
+use Rattle.addr_space.specs.Space.{Space}
+use Rattle.addr_space.specs.Footprint.{Footprint, Agrees, Moves, AreDisjoint, WritesInside, nothing}
+use Rattle.addr_space.proofs.Apart.{Agrees-other, AreDisjoint-other, Moves-inside}
+use Rattle.addr_space.proofs.Written.{HasBytes-written}
+use Rattle.addr_space.proofs.Carried.{IsInside-live}
+use Rattle.alloc_set.specs.State.{SetState, footprint}
+use Rattle.addr_space.specs.Live.{PutsLive}
+use Rattle.addr_space.proofs.Addresses.{same_addr-cases}
+use Rattle.addr_space.specs.declared.Addr.{Addr}
+use Rattle.set_trials.proofs.tests.written.Goals as goal
+use Rattle.set_trials.proofs.tests.written.Goals.{After-write}
+
+-- one context behind another
+record Both (f g : Footprint) (s : Space) : Type 0 where
+  agrees : Agrees f s
+  others : Agrees g s
+  disjoint : AreDisjoint f g
+
+move : (f h g : Footprint) (s t : Space) → AreDisjoint f g → Agrees g s → Moves f h s t → Both h g t
+move f h g s t disjoint others moves = record {
+  agrees = moves.agrees;
+  others = Agrees-other f h g s t moves disjoint others;
+  disjoint = AreDisjoint-other f h g s t moves disjoint others;
+}
+
+-- what was put stands there
+put_live : (s t : SetState) (at : Addr) (slot : Option ℕ) → PutsLive (footprint s) (footprint t) at slot → (footprint t).live at ≡ slot
+put_live s t at slot puts =
+    elim (same_addr-cases at at) [
+      | inl same ↦ puts at ∙ ap (λ b. if b then slot else (footprint s).live at) same.1
+      | inr differs ↦ absurd (differs.0 refl)
+    ]
+
+len : (c : After-write) → length c.args.bytes.now ≡ 8
+len c = omega arith
+
+before : (c : After-write) → Both (footprint c.alloc.new.self) (footprint c.in_ok-other.other) c.alloc.new.space
+before c =
+    let g = footprint c.in_ok-other.other in
+    let f = footprint c.in_ok-set.set in
+    let none : AreDisjoint (nothing 0 7) g = λ number len owned. absurd (cc) in
+    let made = move (nothing 0 7) f g c.create.new.space c.create-2.new.space none c.in_ok-other.ensures.moves.agrees c.in_ok-set.ensures.moves in
+    move f (footprint c.alloc.new.self) g c.create-2.new.space c.alloc.new.space made.disjoint made.others c.alloc.ensures.moves
+
+writes : (c : After-write) → WritesInside (footprint c.alloc.new.self) c.alloc.new.space c.write.new.self c.in_ok-at.at c.in_ok-at.at 8 c.args.bytes.now
+writes c = record {
+  live = put_live c.in_ok-set.set c.alloc.new.self c.in_ok-at.at (Some 8) c.in_ok-at.ensures.live;
+  region = refl;
+  first = omega arith;
+  last = omega (arith, len c);
+  writes = c.write.ensures.changes;
+}
+
+after : (c : After-write) → Both (footprint c.alloc.new.self) (footprint c.in_ok-other.other) c.write.new.self
+after c =
+    let f = footprint c.alloc.new.self in
+    let was = before c in
+    let moves = Moves-inside f c.alloc.new.space c.write.new.self c.in_ok-at.at c.in_ok-at.at 8 c.args.bytes.now was.agrees (writes c) in
+    move f f (footprint c.in_ok-other.other) c.alloc.new.space c.write.new.self was.disjoint was.others moves
+
+pub write-requires : goal.write-requires
+write-requires c =
+    IsInside-live (footprint c.alloc.new.self) c.alloc.new.space c.in_ok-at.at 8 (length c.args.bytes.now) c.alloc.ensures.moves.agrees
+    (put_live c.in_ok-set.set c.alloc.new.self c.in_ok-at.at (Some 8) c.in_ok-at.ensures.live) (omega arith)
+
+pub returns-clause-agrees : goal.returns-clause-agrees
+returns-clause-agrees c = (after c).agrees
+
+pub returns-clause-others : goal.returns-clause-others
+returns-clause-others c = (after c).others
+
+pub returns-clause-disjoint : goal.returns-clause-disjoint
+returns-clause-disjoint c = (after c).disjoint
+
+pub returns-clause-known : goal.returns-clause-known
+returns-clause-known c = λ k below.
+    let at = c.in_ok-at.at in
+    let was = before c in
+    let within = was.agrees.sound.live_inside at 8 (writes c).live in
+    let has = was.agrees.regions at.region within.0 within.1 in
+    let bytes = HasBytes-written c.alloc.new.space c.write.new.self at c.args.bytes.now has.0 has.1 (omega (arith, within.2, has.3, len c)) c.write.ensures.changes in
+    subst IsSome (sym (bytes k (omega (arith, below, len c)))) refl

@@ -1,0 +1,251 @@
+ghost use Rattle.std.specs.Prelude.{◌≡◌, ◌≤◌, ◌<◌, ◌%◌, Some, OnOk, IfOk};
+ghost use Rattle.addr_space.specs.declared.Addr.{Addr};
+ghost use Rattle.addr_space.specs.Space.{IsKnown, Asks, accounts};
+ghost use Rattle.addr_space.specs.Footprint.{Agrees, AreDisjoint};
+ghost use Rattle.alloc_set.specs.State.{footprint};
+ghost use Rattle.alloc_set.specs.Ledger.{created};
+
+use addr_space::{Addr, Space};
+use alloc_set::AllocSet;
+use chunk_header::{CtxError, Sizes, Stats};
+use std::alloc::Global;
+use std::test::Fail;
+
+const GREAT: Sizes = Sizes {
+    init: 8192,
+    max: 8_388_608,
+};
+
+const SMALL: Sizes = Sizes {
+    init: 1024,
+    max: 8192,
+};
+
+// Total, blocks, free and chunks.
+fn stats(numbers: [u64; 4]) -> Stats {
+    let [total, blocks, free, chunks] = numbers;
+    Stats {
+        total,
+        blocks,
+        free,
+        chunks,
+    }
+}
+
+#[test]
+fn chunks_of_a_context(rt: HostRuntime) -> Result<(), Fail> {
+    let mut space = Space::new(rt.alloc(), 1, 100_000)?;
+    let mut set = AllocSet::create(rt.alloc(), &mut space, 0, 7, GREAT)?;
+    assert_eq!(rt; set.stats(), stats([8192, 1, 7952, 0]));
+    set.alloc(&mut space, 100)?;
+    assert_eq!(rt; set.stats(), stats([8192, 1, 7816, 0]));
+    set.alloc(&mut space, 8000)?;
+    assert_eq!(rt; set.stats(), stats([24576, 2, 15960, 6]));
+    Ok(())
+}
+
+#[test]
+fn small_sizes(rt: HostRuntime) -> Result<(), Fail> {
+    let mut space = Space::new(rt.alloc(), 1, 3100)?;
+    let mut set = AllocSet::create(rt.alloc(), &mut space, 0, 7, SMALL)?;
+    set.alloc(&mut space, 1024)?;
+    assert_eq!(rt; set.stats(), stats([3072, 2, 1760, 2]));
+    set.alloc(&mut space, 256)?;
+    assert_eq!(rt; set.stats(), stats([3072, 2, 1496, 1]));
+    assert_eq!(rt; set.alloc(&mut space, 1025), Err(CtxError::NoSpace));
+    assert_eq!(rt; space.held(0), 3072);
+    Ok(())
+}
+
+// What a context says after a request, after its chunk was freed, and after a second request and a reset; and
+// what its account holds once it is discarded.
+fn course(alloc: Global, sizes: Sizes, size: u64) -> Result<([Stats; 3], u64), Fail>
+    requires least { 1024 ≤ sizes.init }
+    requires order { sizes.init ≤ sizes.max }
+    requires most { sizes.max ≤ 8388608 }
+    requires whole_init { sizes.init % 8 ≡ 0 }
+    requires whole_max { sizes.max % 8 ≡ 0 }
+{
+    let mut space = Space::new(alloc, 1, 100_000)?;
+    let mut set = AllocSet::create(alloc, &mut space, 0, 7, sizes)?;
+    let at = set.alloc(&mut space, size)?;
+    let taken = set.stats();
+    set.free(&mut space, at)?;
+    let freed = set.stats();
+    set.alloc(&mut space, size)?;
+    set.reset(&mut space);
+    let emptied = set.stats();
+    set.discard(&mut space);
+    Ok(([taken, freed, emptied], space.held(0)))
+}
+
+#[test]
+fn freed_reset_and_discarded(rt: HostRuntime) -> Result<(), Fail> {
+    let new_great = [8192, 1, 7952, 0];
+    let new_small = [1024, 1, 784, 0];
+    let rows = [
+        (
+            GREAT,
+            100,
+            [8192, 1, 7816, 0],
+            [8192, 1, 7952, 1],
+            new_great,
+        ),
+        (
+            GREAT,
+            8000,
+            [24576, 2, 16096, 7],
+            [24576, 2, 24296, 8],
+            new_great,
+        ),
+        (
+            GREAT,
+            8193,
+            [16440, 2, 7952, 0],
+            [8192, 1, 7952, 0],
+            new_great,
+        ),
+        (
+            SMALL,
+            1024,
+            [3072, 2, 1760, 2],
+            [3072, 2, 2792, 3],
+            new_small,
+        ),
+        (SMALL, 1025, [2104, 2, 784, 0], [1024, 1, 784, 0], new_small),
+    ];
+    for (sizes, size, taken, freed, emptied) in rows {
+        let want = ([stats(taken), stats(freed), stats(emptied)], 0);
+        assert_eq!(rt; course(rt.alloc(), sizes, size)?, want, "{size}");
+    }
+    Ok(())
+}
+
+// Five calls beside the chunk at an address: on its context, and on another one.
+fn stir(
+    space: &mut Space,
+    set: &mut AllocSet,
+    other: &mut AllocSet,
+    at: Addr,
+    size: u64,
+) -> Result<(), CtxError>
+    requires agrees { Agrees (footprint set.old) space.old }
+    requires others { Agrees (footprint other.old) space.old }
+    requires disjoint { AreDisjoint (footprint set.old) (footprint other.old) }
+    requires live { (footprint set.old).live at ≡ Some 8 }
+    requires known { IsKnown space.old at 8 }
+    requires small { size ≤ 10000 }
+    ensures agrees { OnOk result (Agrees (footprint set.new) space.new) }
+    ensures others { OnOk result (Agrees (footprint other.new) space.new) }
+    ensures disjoint { OnOk result (AreDisjoint (footprint set.new) (footprint other.new)) }
+    ensures live { OnOk result ((footprint set.new).live at ≡ Some 8) }
+    ensures known { OnOk result (IsKnown space.new at 8) }
+{
+    let first = set.alloc(space, size)?;
+    set.alloc(space, size + 1)?;
+    set.free(space, first)?;
+    other.alloc(space, size)?;
+    other.reset(space);
+    Ok(())
+}
+
+// A hundred calls beside the chunk.
+fn stir_often(
+    space: &mut Space,
+    set: &mut AllocSet,
+    other: &mut AllocSet,
+    at: Addr,
+) -> Result<(), CtxError>
+    requires agrees { Agrees (footprint set.old) space.old }
+    requires others { Agrees (footprint other.old) space.old }
+    requires disjoint { AreDisjoint (footprint set.old) (footprint other.old) }
+    requires live { (footprint set.old).live at ≡ Some 8 }
+    requires known { IsKnown space.old at 8 }
+    ensures agrees { OnOk result (Agrees (footprint set.new) space.new) }
+    ensures live { OnOk result ((footprint set.new).live at ≡ Some 8) }
+    ensures known { OnOk result (IsKnown space.new at 8) }
+{
+    for turn in 0..20 {
+        stir(space, set, other, at, turn * 60)?;
+    }
+    Ok(())
+}
+
+// Two contexts, and a chunk of the first one with these bytes.
+fn written(
+    alloc: Global,
+    space: &mut Space,
+    bytes: &[u8; 8],
+) -> Result<(AllocSet, AllocSet, Addr), CtxError>
+    requires { 0 < accounts space.old }
+    ensures agrees { IfOk result (λ made. Agrees (footprint made.0) space.new) }
+    ensures others { IfOk result (λ made. Agrees (footprint made.1) space.new) }
+    ensures disjoint { IfOk result (λ made. AreDisjoint (footprint made.0) (footprint made.1)) }
+    ensures live { IfOk result (λ made. (footprint made.0).live made.2 ≡ Some 8) }
+    ensures known { IfOk result (λ made. IsKnown space.new made.2 8) }
+{
+    let other = AllocSet::create(alloc, space, 0, 8, SMALL)?;
+    let mut set = AllocSet::create(alloc, space, 0, 7, SMALL)?;
+    let at = set.alloc(space, 8)?;
+    space.write(at, bytes);
+    Ok((set, other, at))
+}
+
+#[test]
+fn bytes_stay_through_other_calls(rt: HostRuntime) -> Result<(), Fail> {
+    let bytes = [3, 1, 4, 1, 5, 9, 2, 6];
+    let mut space = Space::new(rt.alloc(), 1, 100_000)?;
+    let (mut set, mut other, at) = written(rt.alloc(), &mut space, &bytes)?;
+    stir_often(&mut space, &mut set, &mut other, at)?;
+    let mut read = [0; 8];
+    space.read(at, &mut read);
+    assert_eq!(rt; read, bytes);
+    Ok(())
+}
+
+// What a small context says of a chunk of 2,048 bytes, and once it is freed: the chunk has a block for itself.
+fn own_block(space: &mut Space, set: &mut AllocSet) -> Result<(Stats, Stats), CtxError>
+    requires agrees { Agrees (footprint set.old) space.old }
+    requires new { set.old.ledger ≡ created 1024 8192 }
+    ensures taken { IfOk result (λ said. said.0 ≡ record { total = 3120; blocks = 2; free = 784; chunks = 0 }) }
+    ensures freed { IfOk result (λ said. said.1 ≡ record { total = 1024; blocks = 1; free = 784; chunks = 0 }) }
+    ensures asked { OnOk result (Asks set.old.account 2096 space.old space.new) }
+{
+    let at = set.alloc(space, 2048)?;
+    let taken = set.stats();
+    set.free(space, at)?;
+    Ok((taken, set.stats()))
+}
+
+#[test]
+fn an_own_block_goes_back(rt: HostRuntime) -> Result<(), Fail> {
+    let mut space = Space::new(rt.alloc(), 1, 100_000)?;
+    let mut set = AllocSet::create(rt.alloc(), &mut space, 0, 7, SMALL)?;
+    let said = own_block(&mut space, &mut set)?;
+    assert_eq!(rt; said, (stats([3120, 2, 784, 0]), stats([1024, 1, 784, 0])));
+    assert_eq!(rt; space.taken(0), 3120);
+    Ok(())
+}
+
+#[test]
+fn an_own_block_is_resized(rt: HostRuntime) -> Result<(), Fail> {
+    let mut space = Space::new(rt.alloc(), 1, 100_000)?;
+    let mut set = AllocSet::create(rt.alloc(), &mut space, 0, 7, GREAT)?;
+    let at = set.alloc(&mut space, 9000)?;
+    set.realloc(&mut space, at, 0, 20_000)?;
+    assert_eq!(rt; set.stats(), stats([28240, 2, 7952, 0]));
+    assert_eq!(rt; space.taken(0), 28240);
+    Ok(())
+}
+
+#[test]
+fn a_moved_chunk_keeps_its_bytes(rt: HostRuntime) -> Result<(), Fail> {
+    let bytes = [3, 1, 4, 1, 5, 9, 2, 6];
+    let mut space = Space::new(rt.alloc(), 1, 100_000)?;
+    let (mut set, _other, at) = written(rt.alloc(), &mut space, &bytes)?;
+    let to = set.realloc(&mut space, at, 8, 9)?;
+    let mut read = [0; 8];
+    space.read(to, &mut read);
+    assert_eq!(rt; read, bytes);
+    Ok(())
+}
