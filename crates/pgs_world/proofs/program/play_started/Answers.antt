@@ -92,9 +92,9 @@ returns g c d has =
     let run = performs g c d has in
     let f = facts g c d has in
     subst (λ (o : Outcome). Ends (length c.args.sessions.now) (setting g c d has) o
-        (outside (g.S.Source.left c.args.src.now) (g.S.Source.faults c.args.src.now) (g.K.Sink.written c.args.out.now) (g.K.Sink.faults c.args.out.now) c.args.shared.now.shelf.now c.args.shared.now.commons.now.kinds)
-        (outside (g.S.Source.left c.perform_lines-ended.new.src) (g.S.Source.faults c.perform_lines-ended.new.src) (g.K.Sink.written c.out-1.given.0) (g.K.Sink.faults c.out-1.given.0) c.exit_all.new.shared.shelf.now c.exit_all.new.shared.commons.now.kinds)
-        c.args.shared.now.space.now c.exit_all.new.shared.space.now)
+    (outside (g.S.Source.left c.args.src.now) (g.S.Source.faults c.args.src.now) (g.K.Sink.written c.args.out.now) (g.K.Sink.faults c.args.out.now) c.args.shared.now.shelf.now c.args.shared.now.commons.now.kinds)
+    (outside (g.S.Source.left c.perform_lines-ended.new.src) (g.S.Source.faults c.perform_lines-ended.new.src) (g.K.Sink.written c.out-1.given.0) (g.K.Sink.faults c.out-1.given.0) c.exit_all.new.shared.shelf.now c.exit_all.new.shared.commons.now.kinds)
+    c.args.shared.now.space.now c.exit_all.new.shared.space.now)
     (sym c.made_outcome.ensures) (record {
       performed = performed_by _ _ _ _ _ _ (outside (g.S.Source.left c.args.src.now) (g.S.Source.faults c.args.src.now) (g.K.Sink.written c.args.out.now) (g.K.Sink.faults c.args.out.now) c.args.shared.now.shelf.now c.args.shared.now.commons.now.kinds)
           (outside (g.S.Source.left c.perform_lines-ended.new.src) (g.S.Source.faults c.perform_lines-ended.new.src) (g.K.Sink.written c.out-1.given.0) (g.K.Sink.faults c.out-1.given.0) c.exit_all.new.shared.shelf.now c.exit_all.new.shared.commons.now.kinds)
