@@ -69,7 +69,7 @@ odd_or P true e r h = tt
 odd_or P false e (Ok a) h = h
 odd_or P false e (Err d) h = tt
 
-bytes_in_range : (word : List ℕ) → IfSome (bytes_of word) (λ bytes. IsBetween 1 128 (length bytes))
+pub bytes_in_range : (word : List ℕ) → IfSome (bytes_of word) (λ bytes. IsBetween 1 128 (length bytes))
 unfolding bytes_of
 bytes_in_range word =
     gate (λ bytes. IsBetween 1 128 (length bytes)) (nat_le 2 (length word) && nat_le (length word) 256) (result_ok (decode_of word))

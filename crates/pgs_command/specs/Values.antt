@@ -1,6 +1,6 @@
 -- What a word of a line stands for, where it stands for anything.
 use Rattle.std.specs.Prelude.{ℕ, ◌&&◌, nat_le, if◌then◌else◌, List, [], ◌∷◌, length, codes, find, Option, Some, None}
-use Rattle.std.specs.Option.{option_map, option_or}
+use Rattle.std.specs.Option.{option_map, option_or, unwrap_or}
 use Rattle.std.specs.Result.{result_ok}
 use Rattle.std.specs.List.{list_all}
 use Rattle.std.specs.Fmt.{decimal}
@@ -33,6 +33,10 @@ number_of word = number_between 0 4294967295 word
 -- HEX: 2 to 256 hexadecimal digits in either case, an even number of them
 unfoldable pub bytes_of : List ℕ → Option (List ℕ)
 bytes_of word = if nat_le 2 (length word) && nat_le (length word) 256 then result_ok (decode_of word) else None
+
+-- the bytes that such digits write
+abbrev pub bytes_in : List ℕ → List ℕ
+bytes_in word = unwrap_or (bytes_of word) []
 
 -- LEN
 abbrev pub length_of : List ℕ → Option ℕ

@@ -1,10 +1,11 @@
 //! The commands of a script.
 use crate::kinds::{ContextKind, ReferenceClass};
-use pgs_step::{ChunkBytes, Mode, Name};
+use crate::hex_bytes::HexBytes;
+use pgs_step::{Mode, Name};
 
 /// What a line of a script asks for.
-#[derive(Clone, Copy, Debug, PartialEq, Eq)]
-pub enum Command {
+#[derive(Debug, Drop, PartialEq, Eq)]
+pub enum Command<'a> {
     /// An empty line or a comment.
     Nothing,
     /// `begin`: begins a transaction block.
@@ -69,7 +70,7 @@ pub enum Command {
     Put {
         chunk: Name,
         at: u32,
-        bytes: ChunkBytes,
+        bytes: HexBytes<'a>,
     },
     /// `show CHUNK N LEN`: shows `length` bytes of a chunk, 1 to 128, from byte `at` on.
     Show {

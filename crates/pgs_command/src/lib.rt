@@ -2,6 +2,7 @@
 #![tactic(auto)]
 
 mod commands;
+mod hex_bytes;
 mod kinds;
 mod lines;
 mod picks;
@@ -10,6 +11,7 @@ mod values;
 mod words;
 
 pub use commands::Command;
+pub use hex_bytes::HexBytes;
 pub use kinds::{ContextKind, ReferenceClass};
 pub use lines::{BadLine, Line, parse_command, parse_line, parse_session};
 

@@ -8,11 +8,11 @@ use crate::commands::Command;
 use crate::rows::read_command;
 
 /// A line of a script.
-#[derive(Clone, Copy, Debug, PartialEq, Eq)]
-pub struct Line {
+#[derive(Debug, Drop, PartialEq, Eq)]
+pub struct Line<'a> {
     /// The session that performs the command, 1 to 8.
     pub session: u8,
-    pub command: Command,
+    pub command: Command<'a>,
 }
 
 /// A line that isn't in the grammar.
@@ -25,7 +25,7 @@ pub struct BadLine {
 /// What a line says.
 ///
 /// `kept` are the first 512 bytes of the line, and `long` says whether it has more, as a reader of lines tells them.
-pub fn parse_line(kept: &[u8], long: bool) -> Result<Line, BadLine>
+pub fn parse_line(kept: &[u8], long: bool) -> Result<Line<'_>, BadLine>
     ensures read { (line : List ℕ) → IsKept line kept.now long → result ≡ read_line line }
     ensures session { IfOk result (λ line. IsSession line.session) }
     ensures in_range { IfOk result (λ line. IsInRange line.command) }
@@ -41,7 +41,7 @@ pub fn parse_line(kept: &[u8], long: bool) -> Result<Line, BadLine>
 /// The command of a line, or `None` where the line isn't in the grammar. It is what `parse_line` tells besides the session.
 ///
 /// `kept` are the first 512 bytes of the line, and `long` says whether it has more.
-pub fn parse_command(kept: &[u8], long: bool) -> Option<Command>
+pub fn parse_command(kept: &[u8], long: bool) -> Option<Command<'_>>
     ensures read { (line : List ℕ) → IsKept line kept.now long → said (session_of line) result ≡ read_line line }
     ensures in_range { IfSome result IsInRange }
 {
@@ -82,7 +82,7 @@ fn prefix(line: &[u8]) -> Option<u8>
 }
 
 /// The command of a line of at most 512 bytes.
-fn read_short(line: &[u8]) -> Option<Command>
+fn read_short(line: &[u8]) -> Option<Command<'_>>
     ensures value { result ≡ short_command line.now }
     ensures in_range { IfSome result (λ command. IsInRange command) }
 {

@@ -10,11 +10,12 @@ ghost use Rattle.pgs_command.specs.declared.commands.Command.TheVariants.{Rollba
 use crate::commands::Command;
 use crate::kinds::ContextKind;
 use crate::picks::by_word;
-use crate::values::{read_bytes, read_number, read_plain_kind};
+use crate::hex_bytes::HexBytes;
+use crate::values::{read_number, read_plain_kind};
 use crate::words::{Words, split_word};
 
 /// The commands of transactions.
-fn read_transaction(word: &[u8], rest: Option<&[u8]>) -> Option<Command>
+fn read_transaction<'a>(word: &[u8], rest: Option<&'a [u8]>) -> Option<Command<'a>>
     ensures { result ≡ look_up transaction_rows word.now (words_in (option_copied rest.entry)) }
 {
     let words = Words::new(rest);
@@ -22,8 +23,8 @@ fn read_transaction(word: &[u8], rest: Option<&[u8]>) -> Option<Command>
         b"begin" => words.end(Command::Begin),
         b"commit" => words.end(Command::Commit),
         b"rollback" => read_rollback(words),
-        b"savepoint" => words.only_name().map(Command::Savepoint),
-        b"release" => words.only_name().map(Command::Release),
+        b"savepoint" => Some(Command::Savepoint(words.only_name()?)),
+        b"release" => Some(Command::Release(words.only_name()?)),
         b"raise" => words.end(Command::Raise),
         b"report" => words.end(Command::Report),
         b"stat" => words.end(Command::Stat),
@@ -31,14 +32,14 @@ fn read_transaction(word: &[u8], rest: Option<&[u8]>) -> Option<Command>
 }
 
 /// `rollback` and `rollback to NAME`.
-fn read_rollback(mut words: Words<'_>) -> Option<Command>
+fn read_rollback(mut words: Words<'_>) -> Option<Command<'_>>
     ensures { result ≡ option_or (none Rollback words.entry) (behind (codes "to") (one name_of RollbackTo) words.entry) }
 {
     match words.next() {
         None => Some(Command::Rollback),
         Some(word) => {
             if word == b"to".as_slice() {
-                words.only_name().map(Command::RollbackTo)
+                Some(Command::RollbackTo(words.only_name()?))
             } else {
                 None
             }
@@ -47,24 +48,24 @@ fn read_rollback(mut words: Words<'_>) -> Option<Command>
 }
 
 /// The commands of memory contexts.
-fn read_context(word: &[u8], rest: Option<&[u8]>) -> Option<Command>
+fn read_context<'a>(word: &[u8], rest: Option<&'a [u8]>) -> Option<Command<'a>>
     ensures { result ≡ look_up context_rows word.now (words_in (option_copied rest.entry)) }
 {
     let words = Words::new(rest);
     by_word! { word;
         b"context" => read_new_context(words),
-        b"switch" => words.only_name().map(Command::Switch),
-        b"onreset" => words.only_name().map(Command::OnReset),
-        b"reset" => words.only_name().map(Command::Reset),
-        b"resetonly" => words.only_name().map(Command::ResetOnly),
-        b"delete" => words.only_name().map(Command::Delete),
-        b"deletechildren" => words.only_name().map(Command::DeleteChildren),
-        b"reparent" => words.two_names().map(|(name, parent)| Command::Reparent { name, parent }),
+        b"switch" => Some(Command::Switch(words.only_name()?)),
+        b"onreset" => Some(Command::OnReset(words.only_name()?)),
+        b"reset" => Some(Command::Reset(words.only_name()?)),
+        b"resetonly" => Some(Command::ResetOnly(words.only_name()?)),
+        b"delete" => Some(Command::Delete(words.only_name()?)),
+        b"deletechildren" => Some(Command::DeleteChildren(words.only_name()?)),
+        b"reparent" => { let (name, parent) = words.two_names()?; Some(Command::Reparent { name, parent }) },
     }
 }
 
 /// `context NAME PARENT KIND`.
-fn read_new_context(mut words: Words<'_>) -> Option<Command>
+fn read_new_context(mut words: Words<'_>) -> Option<Command<'_>>
     ensures { result ≡ with_kind words.entry }
 {
     let name = words.name()?;
@@ -89,32 +90,32 @@ fn read_kind(mut words: Words<'_>) -> Option<ContextKind>
 }
 
 /// The commands of chunks.
-fn read_chunk(word: &[u8], rest: Option<&[u8]>) -> Option<Command>
+fn read_chunk<'a>(word: &[u8], rest: Option<&'a [u8]>) -> Option<Command<'a>>
     ensures { result ≡ look_up chunk_rows word.now (words_in (option_copied rest.entry)) }
 {
     let words = Words::new(rest);
     by_word! { word;
-        b"alloc" => words.name_and_number(0, u32::MAX).map(|(chunk, size)| Command::Alloc { chunk, size }),
-        b"alloc0" => words.name_and_number(0, u32::MAX).map(|(chunk, size)| Command::AllocZeroed { chunk, size }),
-        b"realloc" => words.name_and_number(0, u32::MAX).map(|(chunk, size)| Command::Realloc { chunk, size }),
-        b"free" => words.only_name().map(Command::Free),
+        b"alloc" => { let (chunk, size) = words.name_and_number(0, u32::MAX)?; Some(Command::Alloc { chunk, size }) },
+        b"alloc0" => { let (chunk, size) = words.name_and_number(0, u32::MAX)?; Some(Command::AllocZeroed { chunk, size }) },
+        b"realloc" => { let (chunk, size) = words.name_and_number(0, u32::MAX)?; Some(Command::Realloc { chunk, size }) },
+        b"free" => Some(Command::Free(words.only_name()?)),
         b"put" => read_put(words),
         b"show" => read_show(words),
     }
 }
 
 /// `put CHUNK N HEX`.
-fn read_put(mut words: Words<'_>) -> Option<Command>
+fn read_put(mut words: Words<'_>) -> Option<Command<'_>>
     ensures { result ≡ three name_of number_of bytes_of Put words.entry }
 {
     let chunk = words.name()?;
     let at = words.number(0, u32::MAX)?;
-    let bytes = read_bytes(words.next()?)?;
+    let bytes = HexBytes::new(words.next()?)?;
     words.end(Command::Put { chunk, at, bytes })
 }
 
 /// `show CHUNK N LEN`.
-fn read_show(mut words: Words<'_>) -> Option<Command>
+fn read_show(mut words: Words<'_>) -> Option<Command<'_>>
     ensures { result ≡ three name_of number_of length_of Show words.entry }
 {
     let chunk = words.name()?;
@@ -128,48 +129,48 @@ fn read_show(mut words: Words<'_>) -> Option<Command>
 }
 
 /// The commands of buffers, files, locks, references and extension kinds.
-fn read_resource(word: &[u8], rest: Option<&[u8]>) -> Option<Command>
+fn read_resource<'a>(word: &[u8], rest: Option<&'a [u8]>) -> Option<Command<'a>>
     ensures { result ≡ look_up resource_rows word.now (words_in (option_copied rest.entry)) }
 {
     let words = Words::new(rest);
     by_word! { word;
-        b"pin" => words.only_number().map(Command::Pin),
-        b"unpin" => words.only_number().map(Command::Unpin),
-        b"buffer" => words.only_number().map(Command::Buffer),
-        b"open" => words.only_number().map(Command::Open),
-        b"touch" => words.only_number().map(Command::Touch),
-        b"close" => words.only_number().map(Command::Close),
-        b"lock" => words.number_and_mode().map(|(object, mode)| Command::Lock { object, mode }),
-        b"unlock" => words.number_and_mode().map(|(object, mode)| Command::Unlock { object, mode }),
-        b"ref" => words.class_and_number().map(|(class, key)| Command::Reference { class, key }),
-        b"unref" => words.class_and_number().map(|(class, key)| Command::Unreference { class, key }),
-        b"acquire" => words.name_and_number(0, u32::MAX).map(|(kind, key)| Command::Acquire { kind, key }),
-        b"drop" => words.name_and_number(0, u32::MAX).map(|(kind, key)| Command::Drop { kind, key }),
+        b"pin" => Some(Command::Pin(words.only_number()?)),
+        b"unpin" => Some(Command::Unpin(words.only_number()?)),
+        b"buffer" => Some(Command::Buffer(words.only_number()?)),
+        b"open" => Some(Command::Open(words.only_number()?)),
+        b"touch" => Some(Command::Touch(words.only_number()?)),
+        b"close" => Some(Command::Close(words.only_number()?)),
+        b"lock" => { let (object, mode) = words.number_and_mode()?; Some(Command::Lock { object, mode }) },
+        b"unlock" => { let (object, mode) = words.number_and_mode()?; Some(Command::Unlock { object, mode }) },
+        b"ref" => { let (class, key) = words.class_and_number()?; Some(Command::Reference { class, key }) },
+        b"unref" => { let (class, key) = words.class_and_number()?; Some(Command::Unreference { class, key }) },
+        b"acquire" => { let (kind, key) = words.name_and_number(0, u32::MAX)?; Some(Command::Acquire { kind, key }) },
+        b"drop" => { let (kind, key) = words.name_and_number(0, u32::MAX)?; Some(Command::Drop { kind, key }) },
     }
 }
 
 /// The commands of snapshots, plans and portals.
-fn read_query(word: &[u8], rest: Option<&[u8]>) -> Option<Command>
+fn read_query<'a>(word: &[u8], rest: Option<&'a [u8]>) -> Option<Command<'a>>
     ensures { result ≡ look_up query_rows word.now (words_in (option_copied rest.entry)) }
 {
     let words = Words::new(rest);
     by_word! { word;
-        b"snapshot" => words.only_number().map(Command::Snapshot),
-        b"unsnapshot" => words.only_number().map(Command::Unsnapshot),
-        b"push" => words.only_number().map(Command::Push),
+        b"snapshot" => Some(Command::Snapshot(words.only_number()?)),
+        b"unsnapshot" => Some(Command::Unsnapshot(words.only_number()?)),
+        b"push" => Some(Command::Push(words.only_number()?)),
         b"pop" => words.end(Command::Pop),
-        b"plan" => words.only_number().map(Command::Plan),
-        b"planref" => words.only_number().map(Command::PlanReference),
-        b"planunref" => words.only_number().map(Command::PlanUnreference),
-        b"plandrop" => words.only_number().map(Command::PlanDrop),
+        b"plan" => Some(Command::Plan(words.only_number()?)),
+        b"planref" => Some(Command::PlanReference(words.only_number()?)),
+        b"planunref" => Some(Command::PlanUnreference(words.only_number()?)),
+        b"plandrop" => Some(Command::PlanDrop(words.only_number()?)),
         b"portal" => read_portal(words),
-        b"fetch" => words.name_and_number(1, 1_000_000).map(|(name, count)| Command::Fetch { name, count }),
-        b"endportal" => words.only_name().map(Command::EndPortal),
+        b"fetch" => { let (name, count) = words.name_and_number(1, 1_000_000)?; Some(Command::Fetch { name, count }) },
+        b"endportal" => Some(Command::EndPortal(words.only_name()?)),
     }
 }
 
 /// `portal NAME OBJECT ROWS` and `portal NAME OBJECT ROWS BAD`.
-fn read_portal(mut words: Words<'_>) -> Option<Command>
+fn read_portal(mut words: Words<'_>) -> Option<Command<'_>>
     ensures { result ≡ option_or (portal words.entry) (portal_with_bad words.entry) }
 {
     let name = words.name()?;
@@ -198,7 +199,7 @@ fn read_bad(mut words: Words<'_>) -> Option<Option<u32>>
 }
 
 /// The command of a line's words, the first of which is `word`, where it is in the table.
-fn read_listed(word: &[u8], rest: Option<&[u8]>) -> Option<Command>
+fn read_listed<'a>(word: &[u8], rest: Option<&'a [u8]>) -> Option<Command<'a>>
     ensures { result ≡ look_up table word.now (words_in (option_copied rest.entry)) }
 {
     if let Some(command) = read_transaction(word, rest) {
@@ -217,7 +218,7 @@ fn read_listed(word: &[u8], rest: Option<&[u8]>) -> Option<Command>
 }
 
 /// The command of a text, where it is in the table.
-pub(crate) fn read_command(text: &[u8]) -> Option<Command>
+pub(crate) fn read_command(text: &[u8]) -> Option<Command<'_>>
     ensures value { result ≡ command_of (words_of text.now) }
     ensures in_range { IfSome result (λ command. IsInRange command) }
 {

@@ -7,12 +7,20 @@ fn name(rt: &impl Abort, text: &[u8]) -> Name {
     Name::new(text).expect(rt, "a name")
 }
 
-fn bytes(rt: &impl Abort, bytes: &[u8]) -> ChunkBytes {
-    ChunkBytes::new(bytes).expect(rt, "at most 128 bytes")
+fn bytes<'a>(rt: &impl Abort, digits: &'a [u8]) -> HexBytes<'a> {
+    HexBytes::new(digits).expect(rt, "pairs of digits")
+}
+
+/// The bytes that a line writes.
+fn written(line: &[u8]) -> Option<ChunkBytes> {
+    match command(line) {
+        Some(Command::Put { bytes, .. }) => Some(bytes.decoded()),
+        _ => None,
+    }
 }
 
 /// Whether session 1 is to perform the command.
-fn is_read(line: &[u8], command: Command) -> bool {
+fn is_read(line: &[u8], command: Command<'_>) -> bool {
     parse_line(line, false)
         == Ok(Line {
             session: 1,
@@ -20,8 +28,11 @@ fn is_read(line: &[u8], command: Command) -> bool {
         })
 }
 
-fn command(line: &[u8]) -> Option<Command> {
-    parse_line(line, false).ok().map(|line| line.command)
+fn command(line: &[u8]) -> Option<Command<'_>> {
+    match parse_line(line, false) {
+        Ok(Line { command, .. }) => Some(command),
+        Err(_) => None,
+    }
 }
 
 #[test]
@@ -133,10 +144,11 @@ fn chunks_are_read(rt: HostRuntime) {
             Command::Put {
                 chunk: a,
                 at: 10,
-                bytes: bytes(&rt, &[10, 255]),
+                bytes: bytes(&rt, b"0aFF"),
             }
         )
     );
+    assert_eq!(rt; written(b"put a 10 0aFF"), ChunkBytes::new(&[10, 255]));
     assert!(rt;
         is_read(
             b"show a 0 128",
@@ -466,9 +478,10 @@ fn lines_write_at_most_128_bytes(rt: HostRuntime) {
     let put = Command::Put {
         chunk: name(&rt, b"a"),
         at: 9,
-        bytes: bytes(&rt, &[0xee; 128]),
+        bytes: bytes(&rt, &[b'E'; 256]),
     };
     assert_eq!(rt; command(&line[..264]), Some(put));
+    assert_eq!(rt; written(&line[..264]), ChunkBytes::new(&[0xee; 128]));
     assert_eq!(rt; command(&line[..265]), None);
     assert_eq!(rt; command(&line), None);
 }

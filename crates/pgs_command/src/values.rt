@@ -1,14 +1,12 @@
 //! What a word stands for.
-ghost use Rattle.std.specs.Prelude.{◌≡◌, ◌≤◌, length, find, IfSome};
-ghost use Rattle.std.specs.Result.{result_ok};
-ghost use Rattle.hex.specs.Hex.{decode_of};
+ghost use Rattle.std.specs.Prelude.{◌≡◌, ◌≤◌, find, IfSome};
 ghost use Rattle.pgs_step.specs.Mode.{mode_name};
-ghost use Rattle.pgs_command.specs.Values.{name_of, number_between, bytes_of, class_of, mode_of, plain_kind};
+ghost use Rattle.pgs_command.specs.Values.{name_of, number_between, class_of, mode_of, plain_kind};
 
 use crate::kinds::{ContextKind, ReferenceClass};
 use crate::picks::by_word;
 use pgs_io::number;
-use pgs_step::{ChunkBytes, Mode, Name};
+use pgs_step::{Mode, Name};
 
 /// The name that a word is.
 pub(crate) fn read_name(word: &[u8]) -> Option<Name>
@@ -31,29 +29,6 @@ pub(crate) fn read_number(word: &[u8], least: u32, most: u32) -> Option<u32>
             }
         }
         None => None,
-    }
-}
-
-/// The bytes that a word writes in hexadecimal digits.
-pub(crate) fn read_bytes(word: &[u8]) -> Option<ChunkBytes>
-    ensures { result ≡ bytes_of word.now }
-{
-    if word.len() < 2 || word.len() > 256 {
-        return None;
-    }
-    decoded(word)
-}
-
-/// The bytes that pairs of hexadecimal digits write.
-fn decoded(digits: &[u8]) -> Option<ChunkBytes>
-    requires { length digits.now ≤ 256 }
-    ensures { result ≡ result_ok (decode_of digits.now) }
-{
-    let mut places = [0; 128];
-    let bytes = &mut places[..digits.len() / 2];
-    match hex::decode_to_slice(digits, bytes) {
-        Ok(()) => ChunkBytes::new(bytes),
-        Err(_) => None,
     }
 }
 

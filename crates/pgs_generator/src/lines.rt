@@ -14,7 +14,7 @@ use pgs_turns::Said;
 pub(crate) const LINES: u32 = 13;
 
 /// What the line at this place of a round asks for. Rounds count from 1, and places from 0.
-pub(crate) fn made_command(round: u32, place: u32) -> Said
+pub(crate) fn made_command(round: u32, place: u32) -> Said<'static>
     requires round { round ≤ 10000 }
     requires place { place < 13 }
     ensures asked { asked_at round place ≡ Some result }
@@ -29,7 +29,7 @@ pub(crate) fn made_command(round: u32, place: u32) -> Said
 
 /// The command of the line at this place of a round.
 #[tactic(auto, using(crate::proofs::LineLemmas::lines_read))]
-fn command_at(round: u32, place: u32) -> Command
+fn command_at(round: u32, place: u32) -> Command<'static>
     requires round { round ≤ 10000 }
     requires place { place < 13 }
     ensures read { read_at round place ≡ Some (says result) }

@@ -8,18 +8,18 @@ ghost use Rattle.pgs_turns.specs.Script.{said_in};
 use pgs_command::{Command, parse_command, parse_session};
 
 /// What a line asks for.
-#[derive(Clone, Copy)]
-pub struct Said {
+#[derive(Drop)]
+pub struct Said<'a> {
     /// The session that the line is for, from 1.
     pub session: u8,
     /// What that is to perform, or `None` where the line is bad.
-    pub command: Option<Command>,
+    pub command: Option<Command<'a>>,
 }
 
 /// What a line asks for.
 ///
 /// `kept` are the first 512 bytes of the line, and `long` says whether it has more.
-pub fn read_line(kept: &[u8], long: bool) -> Said
+pub fn read_line(kept: &[u8], long: bool) -> Said<'_>
     ensures read { (line : List ℕ) → IsKept line kept.now long → result ≡ said_in (read_line line) }
     ensures session { IsSession result.session }
     ensures in_range { IfSome result.command IsInRange }

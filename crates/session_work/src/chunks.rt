@@ -14,6 +14,7 @@ ghost use Rattle.session_items.specs.Performed.{now, HasRoom, IsBetweenSteps, Pe
 use addr_space::Space;
 use context_rules::TreeError;
 use owner_kinds::ExtKind;
+use pgs_command::HexBytes;
 use pgs_step::{ChunkBytes, Emit, Error, Name, What};
 use reset_callbacks::ResetHook;
 use session_items::{Shared, call_error, tree_error};
@@ -112,14 +113,15 @@ pub(crate) fn put<H: ResetHook, K: ExtKind, E: Emit>(
     store: &mut Store<H>,
     chunk: &Name,
     at: u32,
-    bytes: &ChunkBytes,
+    bytes: &HexBytes<'_>,
     shared: &mut Shared<'_, H, K>,
     out: &mut E,
 ) -> Result<(), Error>
     requires between { IsBetweenSteps (now store.old shared.old) }
     ensures performed { (session : SessionState) → Performed 0 (work_of (command.Put chunk.now at bytes.now) session) (now store.old shared.old) (now store.new shared.new) (λ events. E.emits out.old events out.new) (refusal_of result) }
 {
-    let bytes = bytes.as_slice();
+    let written = bytes.decoded();
+    let bytes = written.as_slice();
     if let Err(refusal) = store.put(shared.space, chunk, at as u64, bytes) {
         return Err(tree_error(refusal));
     }

@@ -1,3 +1,4 @@
+use Rattle.std.proofs.Common.{◌∙◌}
 use Rattle.session_work.proofs.OnChunks.{put_performed}
 use Rattle.session_work.proofs.Refusing.{answered_err, answered_ok}
 use Rattle.session_work.proofs.chunks.put.Goals as goal
@@ -12,7 +13,7 @@ returns g c = record {
       answered_ok 0 _ _ _ _ c.put.result _ c.in_default.is
       (put_performed c.args.chunk.now _ _ _ _ c.put.result
       c.requires.between.keeps (g.met.E.Emit.emits_none c.args.out.now)
-      (c.put.ensures.alone c.args.shared.now.commons.now) c.put.ensures.refused c.put.ensures.asked c.args.at c.args.bytes.now c.as_slice-bytes.result.now c.as_slice-bytes.ensures.value c.put.ensures.answer c.put.ensures.acted);
+      (c.put.ensures.alone c.args.shared.now.commons.now) c.put.ensures.refused c.put.ensures.asked c.args.at c.args.bytes.now c.as_slice-bytes.result.now (c.as_slice-bytes.ensures.value ∙ c.decoded-written.ensures) c.put.ensures.answer c.put.ensures.acted);
 }
 
 pub returns-in-Err : goal.returns-in-Err
@@ -21,5 +22,5 @@ returns-in-Err g c = record {
       answered_err 0 _ _ _ _ c.put.result _ _ c.in-Err.is c.tree_error.ensures
       (put_performed c.args.chunk.now _ _ _ _ c.put.result
       c.requires.between.keeps (g.met.E.Emit.emits_none c.args.out.now)
-      (c.put.ensures.alone c.args.shared.now.commons.now) c.put.ensures.refused c.put.ensures.asked c.args.at c.args.bytes.now c.as_slice-bytes.result.now c.as_slice-bytes.ensures.value c.put.ensures.answer c.put.ensures.acted);
+      (c.put.ensures.alone c.args.shared.now.commons.now) c.put.ensures.refused c.put.ensures.asked c.args.at c.args.bytes.now c.as_slice-bytes.result.now (c.as_slice-bytes.ensures.value ∙ c.decoded-written.ensures) c.put.ensures.answer c.put.ensures.acted);
 }

@@ -1,7 +1,7 @@
 use Rattle.std.proofs.Common.{arith}
 use Rattle.std.proofs.lemmas.Bool.Decides.{nat_tests}
 use Rattle.pgs_command.specs.Values.{bytes_of}
-use Rattle.pgs_command.proofs.values.read_bytes.Goals as goal
+use Rattle.pgs_command.proofs.hex_bytes.read_bytes.Goals as goal
 
 pub returns-then-word-lt2 : goal.returns-then-word-lt2
 unfolding bytes_of
