@@ -69,6 +69,33 @@ fn within(limit: u64, held: u64, gave: u64, got: u64) -> Option<u64>
     }
 }
 
+// A region of `n` bytes for an account, none of which is known: one of those that are kept, where these have so many.
+fn new_region(
+    spare: &mut Vec<Region>,
+    alloc: Global,
+    account: u8,
+    n: u32,
+) -> Result<Region, AllocError>
+    requires { 1 ≤ n }
+    ensures account { IfOk result (λ r. r.account ≡ account) }
+    ensures bytes { IfOk result (λ r. r.bytes ≡ replicate n None) }
+{
+    if n as usize != SPARE {
+        return Region::unwritten(alloc, account, n);
+    }
+    match spare.pop() {
+        Some(region) if region.len() == SPARE => Ok(region.renewed(account)),
+        _ => Region::unwritten(alloc, account, n),
+    }
+}
+
+// Keeps a region that was given back, where it is one of those that are kept and there is room.
+fn keep(spare: &mut Vec<Region>, region: Region) {
+    if region.len() == SPARE && spare.len() < spare.capacity() {
+        spare.push_reserved(region);
+    }
+}
+
 // Stores a region under a number that had none, or drops it where there is no memory.
 fn admit(regions: &mut Slab<Region>, region: Region) -> Option<u32>
     ensures fresh { IfSome result (λ number. slice_index_or regions.old.slots number None ≡ None) }
@@ -84,6 +111,12 @@ fn admit(regions: &mut Slab<Region>, region: Region) -> Option<u32>
     Some(number)
 }
 
+/// How many regions that were given back are kept for the next ones, as PostgreSQL's aset.c keeps `MAX_FREE_CONTEXTS`.
+const MOST_SPARE: usize = 100;
+
+/// The bytes of a region that is kept so: the first block of most contexts.
+const SPARE: usize = 8192;
+
 /// A set of regions with their bytes, and what each account holds of them.
 ///
 /// Regions never overlap. The number of a region may be used again once the region was given back. An account stands
@@ -92,6 +125,8 @@ fn admit(regions: &mut Slab<Region>, region: Region) -> Option<u32>
 pub struct Space {
     alloc: Global,
     regions: Slab<Region>,
+    // Regions that were given back, whose memory serves again.
+    spare: Vec<Region>,
     accounts: Vec<Account>,
     limit: u64,
 }
@@ -122,6 +157,7 @@ impl Space {
         Ok(Space {
             alloc,
             regions: Slab::new(alloc),
+            spare: Vec::with_capacity(alloc, MOST_SPARE)?,
             accounts: list,
             limit,
         })
@@ -196,7 +232,7 @@ impl Space {
         let Some(held) = within(self.limit, entry.held, 0, u64::from(n)) else {
             return Err(SpaceError::NoSpace);
         };
-        let Ok(region) = Region::unwritten(self.alloc, account, n) else {
+        let Ok(region) = new_region(&mut self.spare, self.alloc, account, n) else {
             return Err(SpaceError::Memory);
         };
         let Some(number) = admit(&mut self.regions, region) else {
@@ -219,6 +255,7 @@ impl Space {
         let region = self.regions.remove(at.region as usize);
         let entry = &mut self.accounts[region.account() as usize];
         entry.held -= region.len() as u64;
+        keep(&mut self.spare, region);
     }
 
     /// Makes a region `n` bytes long, 1 to 2^31, at the same address. It keeps the bytes that both lengths have, and

@@ -33,6 +33,18 @@ impl Region {
         Ok(Region { account, block })
     }
 
+    /// The region as a new one of an account: none of its bytes is known.
+    pub fn renewed(self, account: u8) -> Region
+        ensures account { result.account ≡ account }
+        ensures bytes { result.bytes ≡ replicate (length self.bytes) None }
+    {
+        let Region { account: _, block } = self;
+        Region {
+            account,
+            block: block.renewed(),
+        }
+    }
+
     /// The account that the region counts for.
     pub fn account(&self) -> u8
         ensures { result ≡ self.now.account }

@@ -78,6 +78,18 @@ impl RawBlock {
         })
     }
 
+    /// The same block, of which nothing is known any more, as if it were a new one.
+    pub fn renewed(self) -> RawBlock
+        ensures { result ≡ replicate (length self) None }
+    {
+        let RawBlock { cells, len, known: _ } = self;
+        RawBlock {
+            cells,
+            len,
+            known: Known::nothing(len),
+        }
+    }
+
     /// How many bytes the block has.
     pub fn len(&self) -> u32
         ensures { result ≡ length self.now }
