@@ -92,33 +92,33 @@ fn put_what<const N: usize>(out: &mut ArrayVec<u8, N>, what: &What, names: &[Nam
     ensures text { IfSome (what_text names.now what.now) (λ text. out.new.items ≡ out.old.items ++ text) }
     ensures short { array_vec_len out.new ≤ array_vec_len out.old + 450 }
 {
-    match *what {
-        What::BeginLevel(level) => put_counted(out, b"begin level ", level as u64),
-        What::CommitLevel(level) => put_counted(out, b"commit level ", level as u64),
-        What::AbortLevel(level) => put_counted(out, b"abort level ", level as u64),
-        What::CleanupLevel(level) => put_counted(out, b"cleanup level ", level as u64),
+    match what {
+        What::BeginLevel(level) => put_counted(out, b"begin level ", *level as u64),
+        What::CommitLevel(level) => put_counted(out, b"commit level ", *level as u64),
+        What::AbortLevel(level) => put_counted(out, b"abort level ", *level as u64),
+        What::CleanupLevel(level) => put_counted(out, b"cleanup level ", *level as u64),
         What::Create {
             context,
             name,
             parent,
-        } => put_create(out, context, &name, parent),
-        What::Reset(context) => put_counted(out, b"reset c", context),
-        What::Delete(context) => put_counted(out, b"delete c", context),
-        What::Move { context, parent } => put_both(out, b"move c", context, b" to c", parent),
-        What::Hook { word, context } => put_both(out, b"hook ", word, b" c", context),
-        What::Callback { word, context } => put_both(out, b"callback ", word, b" c", context),
-        What::Owner(owner) => put_counted(out, b"owner o", owner),
-        What::OwnerIn { owner, parent } => put_both(out, b"owner o", owner, b" in o", parent),
-        What::MoveOwner { owner, parent } => put_both(out, b"owner o", owner, b" to o", parent),
-        What::OwnerGone(owner) => put_owner_gone(out, owner),
-        What::Acquire { item, owner } => put_said(out, b"acquire ", item, owner, names),
-        What::Release { item, owner } => put_said(out, b"release ", item, owner, names),
+        } => put_create(out, *context, name, *parent),
+        What::Reset(context) => put_counted(out, b"reset c", *context),
+        What::Delete(context) => put_counted(out, b"delete c", *context),
+        What::Move { context, parent } => put_both(out, b"move c", *context, b" to c", *parent),
+        What::Hook { word, context } => put_both(out, b"hook ", *word, b" c", *context),
+        What::Callback { word, context } => put_both(out, b"callback ", *word, b" c", *context),
+        What::Owner(owner) => put_counted(out, b"owner o", *owner),
+        What::OwnerIn { owner, parent } => put_both(out, b"owner o", *owner, b" in o", *parent),
+        What::MoveOwner { owner, parent } => put_both(out, b"owner o", *owner, b" to o", *parent),
+        What::OwnerGone(owner) => put_owner_gone(out, *owner),
+        What::Acquire { item, owner } => put_said(out, b"acquire ", *item, *owner, names),
+        What::Release { item, owner } => put_said(out, b"release ", *item, *owner, names),
         What::NotClosed { item, owner } => {
             put_said(
                 out,
                 b"warning resource was not closed: ",
-                item,
-                owner,
+                *item,
+                *owner,
                 names,
             )
         }
@@ -126,50 +126,50 @@ fn put_what<const N: usize>(out: &mut ArrayVec<u8, N>, what: &What, names: &[Nam
             object,
             mode,
             owner,
-        } => put_acquire_lock(out, object, mode, owner),
+        } => put_acquire_lock(out, *object, *mode, *owner),
         What::ReleaseLock {
             object,
             mode,
             count,
             owner,
-        } => { put_lock_counts(out, b"release lock ", object, mode, count, owner) }
+        } => { put_lock_counts(out, b"release lock ", *object, *mode, *count, *owner) }
         What::PassLock {
             object,
             mode,
             count,
             from,
             to,
-        } => { put_pass_lock(out, object, mode, count, from, to) }
-        What::DescriptorOpened(file) => put_counted(out, b"descriptor opened ", file as u64),
-        What::DescriptorClosed(file) => put_counted(out, b"descriptor closed ", file as u64),
-        What::Push(snapshot) => put_counted(out, b"push ", snapshot as u64),
-        What::Pop(snapshot) => put_counted(out, b"pop ", snapshot as u64),
-        What::Row { portal, row, value } => put_row(out, &portal, row, value),
-        What::Fetched { portal, rows } => put_named(out, b"fetched ", &portal, rows),
-        What::Bytes { chunk, at, bytes } => put_bytes(out, &chunk, at, &bytes),
+        } => { put_pass_lock(out, *object, *mode, *count, *from, *to) }
+        What::DescriptorOpened(file) => put_counted(out, b"descriptor opened ", *file as u64),
+        What::DescriptorClosed(file) => put_counted(out, b"descriptor closed ", *file as u64),
+        What::Push(snapshot) => put_counted(out, b"push ", *snapshot as u64),
+        What::Pop(snapshot) => put_counted(out, b"pop ", *snapshot as u64),
+        What::Row { portal, row, value } => put_row(out, portal, *row, *value),
+        What::Fetched { portal, rows } => put_named(out, b"fetched ", portal, *rows),
+        What::Bytes { chunk, at, bytes } => put_bytes(out, chunk, *at, bytes),
         What::Buffer { buffer, sessions } => {
             put_both(
                 out,
                 b"buffer ",
-                buffer as u64,
+                *buffer as u64,
                 b" pinned by ",
-                sessions as u64,
+                *sessions as u64,
             )
         }
-        What::Stat(counts) => put_stat(out, counts),
+        What::Stat(counts) => put_stat(out, *counts),
         What::ContextStats {
             depth,
             context,
             name,
             counters,
-        } => { put_context_stats(out, depth, context, &name, counters) }
-        What::GrandTotal(counters) => put_grand_total(out, counters),
+        } => { put_context_stats(out, *depth, *context, name, *counters) }
+        What::GrandTotal(counters) => put_grand_total(out, *counters),
         What::AlreadyInTransaction => {
             put(out, b"warning there is already a transaction in progress")
         }
         What::NotInTransaction => put(out, b"warning there is no transaction in progress"),
         What::Ok => put(out, b"ok"),
-        What::Error(error) => put_error_line(out, error),
+        What::Error(error) => put_error_line(out, *error),
         What::Exit => put(out, b"exit"),
     }
 }
