@@ -1,8 +1,8 @@
 //! Prints the events of sessions.
-ghost use Rattle.std.specs.Prelude.{◌≡◌, ◌+◌, ◌≤◌, ◌-◌, ◌^◌, min, false, [], if◌then◌else◌};
+ghost use Rattle.std.specs.Prelude.{◌≡◌, ◌+◌, ◌≤◌, ◌-◌, ◌^◌, min, false, [], ◌∷◌, if◌then◌else◌};
 ghost use Rattle.arrayvec.specs.ArrayVec.{array_vec_len};
 ghost use Rattle.pgs_step.specs.Text.{text_of};
-ghost use Rattle.pgs_world.specs.PrinterView.{TakesBytes};
+ghost use Rattle.pgs_world.specs.PrinterView.{TakesBytes, TakesEvents};
 ghost use Rattle.session_rules.specs.Transcript.{is_error};
 
 use arrayvec::ArrayVec;
@@ -110,6 +110,15 @@ impl<'a, K: Sink> Printer<'a, K> {
         self.append(what);
     }
 
+    /// Prints an event, which stays where it is: `emit` would copy it.
+    #[inline(never)]
+    fn print(&mut self, what: &What)
+        ensures { TakesEvents K.written K.faults self.old (what.now ∷ []) self.new }
+    {
+        self.count(what);
+        self.gather(what);
+    }
+
     /// Counts the event where it is an ERROR event.
     fn count(&mut self, what: &What)
         ensures { self.new ≡ record self.old { errors = min (self.old.errors + (if is_error what.now then 1 else 0)) (2 ^ 64 - 1) } }
@@ -146,9 +155,9 @@ impl<'a, K: Sink> Emit for Printer<'a, K> {
 
     ghost emits = { TakesEvents K.written K.faults };
 
+    #[inline(always)]
     fn emit(&mut self, what: What) {
-        self.count(&what);
-        self.gather(&what);
+        self.print(&what);
     }
 
     ghost emits_none = { TakesEvents-none K.written K.faults };
