@@ -86,6 +86,7 @@ fn has_name(kind: KindId, names: &[Name]) -> bool
 }
 
 /// Writes an event's text at the end, where it has one.
+#[inline(always)]
 #[tactic(auto, unfolding(crate::specs::Text::what_text))]
 fn put_what<const N: usize>(out: &mut ArrayVec<u8, N>, what: &What, names: &[Name])
     requires { array_vec_len out.old + 450 ≤ N }

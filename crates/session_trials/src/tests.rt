@@ -1,20 +1,24 @@
 //! What whole sessions say, from their start to their exit.
-ghost use Rattle.std.specs.Prelude.{◌≡◌, length, IfOk};
+ghost use Rattle.std.specs.Prelude.{length, IfOk};
 ghost use Rattle.pgs_command.specs.Ranges.{IsBetween};
 
 use crate::{outcome, outcome_over};
 use pgs_command::{Command, ContextKind, HexBytes, ReferenceClass};
-use pgs_step::{Error, Item, KindId, Mode, Name, What};
+use pgs_step::{ChunkBytes, Error, Item, KindId, Mode, Name, What};
 use std::test::Fail;
 
 fn name(word: &[u8]) -> Result<Name, Fail> {
     Ok(Name::new(word).ok_or("no name")?)
 }
 
-fn bytes(digits: &[u8]) -> Result<HexBytes<'_>, Fail>
+fn bytes(text: &[u8]) -> Result<ChunkBytes, Fail> {
+    Ok(ChunkBytes::new(text).ok_or("too many bytes")?)
+}
+
+fn digits(text: &[u8]) -> Result<HexBytes<'_>, Fail>
     ensures { IfOk result (λ bytes. IsBetween 1 128 (length bytes)) }
 {
-    Ok(HexBytes::new(digits).ok_or("no pairs of digits")?)
+    Ok(HexBytes::new(text).ok_or("no pairs of digits")?)
 }
 
 #[test]
@@ -81,7 +85,7 @@ fn a_context_goes_with_its_block(rt: HostRuntime) -> Result<(), Fail> {
         Command::Put {
             chunk,
             at: 3,
-            bytes: bytes(b"0102")?,
+            bytes: digits(b"0102")?,
         },
         Command::Show {
             chunk,
