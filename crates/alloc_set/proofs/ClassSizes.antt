@@ -1,5 +1,5 @@
 -- Lemmas on the classes of chunks.
-use Rattle.std.proofs.Common.{◌≡◌, ℕ, zero, suc, ◌-◌, ◌/◌, ◌%◌, ◌^◌, ◌<◌, ◌≤◌, refl, sym, ap, ◌∙◌, arith, inl, inr}
+use Rattle.std.proofs.Common.{◌≡◌, ℕ, zero, suc, ◌-◌, ◌/◌, ◌^◌, ◌<◌, ◌≤◌, refl, sym, ap, ◌∙◌, arith, inl, inr}
 use Rattle.std.proofs.Math.Nat.{pow-succ'}
 use Rattle.std.proofs.Math.Pow.{pow_mono}
 use Rattle.std.proofs.lemmas.Nat.{leading_top}
@@ -18,31 +18,15 @@ class_size-least class = omega (arith, class_size-mono 0 class (omega arith))
 pub class_size-most : (class : ℕ) → class ≤ 10 → class_size class ≤ 8192
 class_size-most class le = omega (arith, class_size-mono class 10 le)
 
-pub class_size-whole : (class : ℕ) → class_size class % 8 ≡ 0
-class_size-whole class = omega arith
-
 -- the least class that has a size
 pub class_up_to-is : (last size class : ℕ) → class ≤ last → size ≤ class_size class → ((lower : ℕ) → lower < class → class_size lower < size) → class_up_to last size ≡ class
 unfolding class_up_to
 class_up_to-is zero size class le holds lower = omega arith
 class_up_to-is (suc last) size class le holds lower =
-    elim (cases_lt (class_size last) size) [
-      | inl above ↦
-          let differs : class ≡ suc last =
-          elim (cases_lt class (suc last)) [
-            | inl below ↦ absurd (omega (arith, class_size-mono class last (omega arith)))
-            | inr not_below ↦ omega arith
-          ] in
-          grind (arith, nat_tests)
-      | inr fits ↦
-          let le_last : class ≤ last =
-          elim (cases_lt last class) [
-            | inl over ↦ absurd (omega (arith, lower last over))
-            | inr not_over ↦ not_over
-          ] in
-          let same = class_up_to-is last size class le_last holds lower in
-          grind (arith, nat_tests)
-    ]
+    let mono = class_size-mono class last in
+    let below = lower last in
+    let same : class ≤ last → class_up_to last size ≡ class = λ le. class_up_to-is last size class le holds lower in
+    grind (arith, nat_tests)
 
 -- a class whose chunks are too large for the greatest block is passed
 pub limit_class-pass : (class max : ℕ) → 0 < class → (max - 40) / 4 < class_bytes class → limit_class (class - 1) max ≡ limit_class class max
@@ -91,3 +75,6 @@ class-bits size zeros over small is =
     let here : class_size (29 - zeros) ≡ 2 ^ suc top.0 = ap class_size class ∙ class_size-suc k ∙ ap (λ n. 2 ^ suc n) (sym bits) in
     let before : class_size k ≡ 2 ^ top.0 = omega (arith, pow-succ' 2 k, pow-succ' 2 (suc k), pow-succ' 2 (suc (suc k)), ap (λ n. 2 ^ n) bits) in
     (omega (arith, is, top.1, least), omega (arith, class, most), omega (arith, here, top.3), λ lower less. omega (arith, class_size-mono lower k (omega (arith, less, class)), before, top.2, over))
+
+-- what bounds the sizes of the classes, and the limit
+pub ruleset class_sizes = (class_size-most, chunk_limit-most)

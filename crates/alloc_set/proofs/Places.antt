@@ -1,19 +1,26 @@
--- Lemmas on the places of live chunks.
-use Rattle.std.proofs.Common.{◌≡◌, ◌≢◌, ℕ, Bool, true, false, if◌then◌else◌, Option, Some, None, Result, Ok, IsTrue, refl, sym, ap, ◌∙◌, inl, inr, option_and_then}
+-- Lemmas on live chunks and their places: which a step puts, and which stay.
+use Rattle.std.proofs.Common.{◌≡◌, ℕ, ◌≤◌, if◌then◌else◌, Bool, true, false, Option, Some, None, Result, Ok, IsTrue, refl, sym, ap, ◌∙◌, arith, inl, inr, option_and_then}
+use Rattle.std.specs.Map.{lookup}
 use Rattle.addr_space.specs.declared.Addr.{Addr}
 use Rattle.addr_space.specs.Space.{Space, Asks}
-use Rattle.addr_space.specs.Live.{same_addr, PutsAt, MovesAt, PutsLive}
+use Rattle.addr_space.specs.Footprint.{Moves, Keeps}
+use Rattle.addr_space.specs.Live.{same_addr, PutsAt, PutsLive}
 use Rattle.addr_space.proofs.Addresses.{same_addr-cases}
 use Rattle.addr_space.proofs.Options.{option_cases}
 use Rattle.chunk_header.specs.declared.CtxError.{CtxError}
-use Rattle.chunk_header.specs.Answers.{Taken, Resized}
+use Rattle.chunk_header.specs.Answers.{Resized}
+use Rattle.chunk_header.proofs.Put.{put-here, MovesAt-same}
 use Rattle.alloc_set.specs.Ledger.{SetLedger, SetPlace}
 use Rattle.alloc_set.specs.State.{SetState, chunk_at, place_at, live_size, live_place, footprint}
+use Rattle.alloc_set.specs.Kept.{state_of, IsKept}
 use Rattle.alloc_set.specs.Steps.{PutsChunk}
 use Rattle.alloc_set.specs.Live.{LeavesLive}
-use Rattle.alloc_set.specs.Calls.{Serves, Refits}
+use Rattle.alloc_set.specs.Calls.{Refits}
+use Rattle.alloc_set.specs.Resize.{Reallocates}
+use Rattle.alloc_set.specs.declared.books.Books.{Books}
 use Rattle.alloc_set.specs.declared.chunk.Chunk.{Chunk}
 use Rattle.alloc_set.specs.declared.chunk.Chunk.TheVariants.{Live, Free, Own}
+use Rattle.alloc_set.proofs.Altered.{put_cases}
 
 -- what is said of one of two options
 either : {X Y : Type 0} (f : X → Option Y) (b : Bool) (x y : Option X) → option_and_then f (if b then x else y) ≡ (if b then option_and_then f x else option_and_then f y)
@@ -27,14 +34,6 @@ PutsPlace-chunk s t at slot puts other = ap (λ o. option_and_then live_place o)
 -- and so it is live or not
 pub PutsLive-chunk : (s t : SetState) (at : Addr) (slot : Option Chunk) → PutsChunk s t at slot → PutsLive (footprint s) (footprint t) at (option_and_then live_size slot)
 PutsLive-chunk s t at slot puts other = ap (λ o. option_and_then live_size o) (puts other) ∙ either live_size (same_addr at other) slot (chunk_at s other)
-
--- something is put, and stands there
-pub put-here : {A : Type 0} (f g : Addr → Option A) (at : Addr) (a : Option A) → PutsAt f g at a → g at ≡ a
-put-here f g at a puts =
-    elim (same_addr-cases at at) [
-      | inl same ↦ puts at ∙ ap (λ b. if b then a else f at) same.1
-      | inr apart ↦ absurd (apart.0 refl)
-    ]
 
 -- its place, at its own address
 pub place-put : (s t : SetState) (at : Addr) (slot : Option Chunk) → PutsChunk s t at slot → place_at t at ≡ option_and_then live_place slot
@@ -61,45 +60,6 @@ PutsPlace-live s t at size place puts stays is other =
           same ∙ sym (ap (λ b. if b then Some place else place_at s other) apart.1)
     ]
 
-module _ {A : Type 0} (f g h : Addr → Option A) where
-  -- something is put at the address where it stood
-  pub MovesAt-same : (at : Addr) (a : A) → PutsAt f g at (Some a) → MovesAt f g at at a
-  MovesAt-same at a puts other =
-      elim (same_addr-cases at other) [
-        | inl same ↦
-            puts other ∙ ap (λ b. if b then Some a else f other) same.1
-            ∙ sym (ap (λ b. if b then Some a else (if same_addr at other then None else f other)) same.1)
-        | inr apart ↦
-            puts other ∙ ap (λ x. if same_addr at other then Some a else x) (sym (ap (λ b. if b then None else f other) apart.1))
-      ]
-
-  -- something is put, and what stands elsewhere is taken away
-  pub MovesAt-from : (from to : Addr) (a : A) → to ≢ from → PutsAt f g to (Some a) → PutsAt g h from None → MovesAt f h from to a
-  MovesAt-from from to a differs first second other =
-      elim (same_addr-cases from other) [
-        | inl old ↦
-            elim (same_addr-cases to other) [
-              | inl new ↦ absurd (differs (new.0 ∙ sym old.0))
-              | inr apart ↦
-                  second other ∙ ap (λ b. if b then None else g other) old.1
-                  ∙ sym (ap (λ b. if b then Some a else (if same_addr from other then None else f other)) apart.1 ∙ ap (λ b. if b then None else f other) old.1)
-            ]
-        | inr kept ↦
-            second other ∙ ap (λ b. if b then None else g other) kept.1 ∙ first other
-            ∙ ap (λ x. if same_addr to other then Some a else x) (sym (ap (λ b. if b then None else f other) kept.1))
-      ]
-
--- a step of the ledger for a live chunk that is put
-pub Serves-put : (step : Result (Taken SetLedger SetPlace) CtxError) (a b : SetState) (at : Addr) (s t : Space) (size : ℕ) (answer : Taken SetLedger SetPlace)
-    → step ≡ Ok answer → b.ledger ≡ answer.ledger → PutsLive (footprint a) (footprint b) at (Some size) → LeavesLive a b → place_at b at ≡ Some answer.place → Asks a.account answer.asked s t → Serves step a b at s t
-Serves-put step a b at s t size answer is ledger puts stays place asked = record {
-  answer = answer;
-  is = is;
-  ledger = ledger;
-  place = PutsPlace-live a b at size answer.place puts stays place;
-  asked = asked;
-}
-
 -- a step of the ledger for a chunk that stays where it is
 pub Refits-put : (step : Result (Resized SetLedger SetPlace) CtxError) (a b : SetState) (at : Addr) (s t : Space) (answer : Resized SetLedger SetPlace)
     → step ≡ Ok answer → b.ledger ≡ answer.ledger → PutsAt (place_at a) (place_at b) at (Some answer.place) → Asks a.account answer.asked s t → IsTrue answer.stays → Refits step a b at at s t
@@ -111,3 +71,37 @@ Refits-put step a b at s t answer is ledger puts asked stays = record {
   asked = asked;
   stays = (λ same. stays, λ it. refl);
 }
+
+-- a chunk is put where none was live
+pub LeavesLive-put : (s t : SetState) (at : Addr) (slot : Option Chunk) → PutsChunk s t at slot → (footprint s).live at ≡ None → LeavesLive s t
+LeavesLive-put s t at slot puts none other size live =
+    elim (put_cases s t at slot puts other) [
+      | inl here ↦ let clash = sym none ∙ ap (λ a. option_and_then live_size (chunk_at s a)) (sym here.0) ∙ live in absurd (cc)
+      | inr there ↦ there.1
+    ]
+
+-- the chunks stay
+pub LeavesLive-same : (s t : SetState) → t.chunks ≡ s.chunks → LeavesLive s t
+LeavesLive-same s t same other size live = ap (λ cs. lookup (same_addr other) cs) same
+
+-- one step after another
+pub LeavesLive-more : (s t u : SetState) → LeavesLive s t → LeavesLive t u → LeavesLive s u
+LeavesLive-more s t u first second other size live =
+    let same = first other size live in
+    second other size (ap (λ o. option_and_then live_size o) same ∙ live) ∙ same
+
+-- a chunk gets another size where it is
+pub Reallocates-in_place : (a : SetState) (n : Books) (s t : Space) (at : Addr) (old keep size : ℕ) (step : Result (Resized SetLedger SetPlace) CtxError) → IsKept n → Refits step a (state_of n) at at s t
+    → (footprint a).live at ≡ Some old → keep ≤ old → keep ≤ size → PutsLive (footprint a) (footprint (state_of n)) at (Some size)
+    → Moves (footprint a) (footprint (state_of n)) s t → Keeps (footprint a) (footprint (state_of n)) s t → Reallocates a n s t at at keep size step
+Reallocates-in_place a n s t at old keep size step kept refits live few short puts moves keeps =
+    let now : (footprint (state_of n)).live at ≡ Some size = put-here (footprint a).live (footprint (state_of n)).live at (Some size) puts in
+    record {
+      kept = kept;
+      refits = refits;
+      fresh = λ apart. absurd (apart refl);
+      live = MovesAt-same (footprint a).live (footprint (state_of n)).live (footprint a).live at size puts;
+      bytes = λ k below. keeps at old size k live now (omega (arith, below, few)) (omega (arith, below, short));
+      moves = moves;
+      keeps = λ other m p k apart live_other again below low. keeps other m p k live_other again below low;
+    }

@@ -1,37 +1,36 @@
 -- Lemmas on where the blocks and chunks of an AllocSet are.
-use Rattle.std.proofs.Common.{◌≡◌, ◌≢◌, ℕ, ◌+◌, ◌-◌, ◌≤◌, ◌⊎◌, ◌==◌, List, length, Option, Some, None, option_map, option_and_then, false, refl, sym, ap, ◌∙◌, arith, inl, inr, is_some, if◌then◌else◌}
+use Rattle.std.proofs.Common.{◌≡◌, ◌≢◌, ℕ, ◌+◌, ◌-◌, ◌≤◌, ◌⊎◌, if◌then◌else◌, List, length, Option, Some, None, option_map, option_and_then, refl, sym, ap, ◌∙◌, arith, inl, inr, is_some}
 use Rattle.std.specs.Option.{option_or}
 use Rattle.std.proofs.lemmas.Bool.{cases_eq, cases_lt}
 use Rattle.std.proofs.lemmas.Bool.Decides.{nat_tests}
 use Rattle.addr_space.specs.declared.Addr.{Addr}
+use Rattle.addr_space.specs.Space.{IsApart}
 use Rattle.addr_space.specs.Footprint.{IsSound, IsWithin}
+use Rattle.addr_space.proofs.Options.{from_then, from_map, option_cases}
+use Rattle.addr_space.proofs.Addresses.{same_addr_from}
 use Rattle.chunk_header.specs.Header.{header_bytes, block_bytes}
-use Rattle.alloc_set.specs.State.{SetState, chunk_at, region_of, start_of, capacity_of, live_size, free_size, header_of, link_of, mark_of, footprint, front_of}
+use Rattle.chunk_header.proofs.Words.{length-header_bytes, length-block_bytes}
+use Rattle.alloc_set.specs.State.{SetState, chunk_at, region_of, start_of, capacity_of, live_size, free_size, header_of, link_of, link_bytes, mark_of, footprint, front_of}
 use Rattle.alloc_set.specs.Kept.{IsSettled, IsSized}
 use Rattle.alloc_set.specs.declared.chunk.Chunk.{Chunk}
 use Rattle.alloc_set.specs.declared.chunk.Chunk.TheVariants.{Live, Free, Own}
-use Rattle.chunk_header.proofs.Words.{length-header_bytes, length-block_bytes}
-use Rattle.addr_space.proofs.Options.{from_then, from_map, option_cases}
-use Rattle.addr_space.proofs.Addresses.{same_addr_from}
 use Rattle.alloc_set.proofs.ClassSizes.{class_size-least}
-use Rattle.alloc_set.proofs.Links.{length-link_bytes}
 
--- a live chunk is within what it may have
-pub live_size-le : (chunk : Chunk) (size : ℕ) → IsSized chunk → live_size chunk ≡ Some size → size ≤ capacity_of chunk
-live_size-le (Live class n) size sized e = let same : n ≡ size = cc in omega (arith, sized.1)
-live_size-le (Free class next) size sized e = absurd (cc)
-live_size-le (Own n room) size sized e = let same : n ≡ size = cc in omega (arith, sized)
+-- a live chunk has no link, isn't free, and is within what it may have
+pub live_is : (chunk : Chunk) (n : ℕ) → live_size chunk ≡ Some n → (link_of chunk ≡ None) × (free_size chunk ≡ None) × (IsSized chunk → n ≤ capacity_of chunk)
+live_is (Live class size) n live = let same : size ≡ n = cc in (refl, refl, λ sized. omega (arith, sized.1, same))
+live_is (Free class next) n live = absurd (cc)
+live_is (Own size room) n live = let same : size ≡ n = cc in (refl, refl, λ sized. omega (arith, sized, same))
 
 pub free_size-is : (chunk : Chunk) (size : ℕ) → free_size chunk ≡ Some size → size ≡ capacity_of chunk
 free_size-is (Live class n) size e = absurd (cc)
 free_size-is (Free class next) size e = sym (cc)
 free_size-is (Own n room) size e = absurd (cc)
 
--- no chunk is both
-pub live_not_free : (chunk : Chunk) (m n : ℕ) → live_size chunk ≡ Some m → free_size chunk ≡ Some n → ⊥
-live_not_free (Live class size) m n live free = cc
-live_not_free (Free class next) m n live free = cc
-live_not_free (Own size room) m n live free = cc
+-- a link has 8 bytes
+pub length-link_bytes : (next : Option Addr) → length (link_bytes next) ≡ 8
+length-link_bytes None = length-block_bytes 0 0
+length-link_bytes (Some next) = length-block_bytes next.region next.offset
 
 -- a chunk with a link is free, and has room for it
 pub linked : (chunk : Chunk) (bytes : List ℕ) → link_of chunk ≡ Some bytes → (length bytes ≡ 8) × (8 ≤ capacity_of chunk) × (live_size chunk ≡ None)
@@ -44,31 +43,45 @@ from_or : {X : Type 0} (a b : Option X) (x : X) → option_or a b ≡ Some x →
 from_or None b x is = inr (refl, is)
 from_or (Some y) b x is = inl is
 
+-- where a chunk is whose header stands at an address
+abbrev pub behind : Addr → Addr
+behind at = record { region = at.region; offset = at.offset + 8 }
+
 -- what is marked at a place: the header of a block, that of a chunk, or a free chunk's link
-pub mark_cases : (s : SetState) (at : Addr) (bytes : List ℕ) → mark_of s at ≡ Some bytes
-    → ((len : ℕ) × (at.offset ≡ start_of s at.region) × (region_of s at.region ≡ Some len) × (block_bytes s.context len ≡ bytes))
-    ⊎ ((chunk : Chunk) × (at.offset ≢ start_of s at.region) × (chunk_at s (record { region = at.region; offset = at.offset + 8 }) ≡ Some chunk) × (header_bytes (header_of chunk (at.offset - start_of s at.region)) ≡ bytes))
-    ⊎ ((chunk : Chunk) × (chunk_at s at ≡ Some chunk) × (link_of chunk ≡ Some bytes))
+pub data Mark (s : SetState) (at : Addr) (bytes : List ℕ) : Type 0 where
+  block : (len : ℕ) → at.offset ≡ start_of s at.region → region_of s at.region ≡ Some len → block_bytes s.context len ≡ bytes → Mark s at bytes
+  header : (chunk : Chunk) → at.offset ≢ start_of s at.region → chunk_at s (behind at) ≡ Some chunk → header_bytes (header_of chunk (at.offset - start_of s at.region)) ≡ bytes → Mark s at bytes
+  link : (chunk : Chunk) → chunk_at s at ≡ Some chunk → link_of chunk ≡ Some bytes → Mark s at bytes
+
+pub mark_cases : (s : SetState) (at : Addr) (bytes : List ℕ) → mark_of s at ≡ Some bytes → Mark s at bytes
 unfolding mark_of
 mark_cases s at bytes marked =
     elim (cases_eq at.offset (start_of s at.region)) [
       | inl same ↦
-          let block : option_map (block_bytes s.context) (region_of s at.region) ≡ Some bytes = grind (arith, nat_tests) in
-          let found = from_map (block_bytes s.context) (region_of s at.region) bytes block in
-          inl (found.0, same, found.1, found.2)
+          let found = from_map (block_bytes s.context) (region_of s at.region) bytes (grind (arith, nat_tests)) in
+          block found.0 same found.1 found.2
       | inr differs ↦
-          let header : Option (List ℕ) = option_map (λ chunk. header_bytes (header_of chunk (at.offset - start_of s at.region))) (chunk_at s (record { region = at.region; offset = at.offset + 8 })) in
-          let link : Option (List ℕ) = option_and_then link_of (chunk_at s at) in
-          let block : Option (List ℕ) = option_map (block_bytes s.context) (region_of s at.region) in
-          let test : (at.offset == start_of s at.region) ≡ false = grind (arith, nat_tests) in
-          let either : option_or header link ≡ Some bytes = sym (ap (λ b. if b then block else option_or header link) test) ∙ marked in
-          elim (from_or header link bytes either) [
-            | inl first ↦
-                let found = from_map (λ (chunk : Chunk). header_bytes (header_of chunk (at.offset - start_of s at.region))) (chunk_at s (record { region = at.region; offset = at.offset + 8 })) bytes first in
-                inr (inl (found.0, differs, found.1, found.2))
-            | inr second ↦ inr (inr (from_then link_of (chunk_at s at) bytes second.1))
+          let headers : Chunk → List ℕ = λ chunk. header_bytes (header_of chunk (at.offset - start_of s at.region)) in
+          elim (from_or (option_map headers (chunk_at s (behind at))) (option_and_then link_of (chunk_at s at)) bytes (grind (arith, nat_tests))) [
+            | inl first ↦ let found = from_map headers (chunk_at s (behind at)) bytes first in header found.0 differs found.1 found.2
+            | inr second ↦ let found = from_then link_of (chunk_at s at) bytes second.1 in link found.0 found.1 found.2
           ]
     ]
+
+-- each has 8 bytes
+pub mark_len : (s : SetState) (at : Addr) (bytes : List ℕ) → Mark s at bytes → length bytes ≡ 8
+mark_len s at bytes (block len first owned is) = ap length (sym is) ∙ length-block_bytes s.context len
+mark_len s at bytes (header chunk differs found is) = ap length (sym is) ∙ length-header_bytes (header_of chunk (at.offset - start_of s at.region))
+mark_len s at bytes (link chunk found is) = (linked chunk bytes is).0
+
+-- a mark, from what stands at its place
+pub mark_from_block : (s : SetState) (at : Addr) (len : ℕ) → at.offset ≡ start_of s at.region → region_of s at.region ≡ Some len → mark_of s at ≡ Some (block_bytes s.context len)
+unfolding mark_of
+mark_from_block s at len first owned = rw owned (grind (arith, nat_tests))
+
+pub mark_from_chunk : (s : SetState) (at : Addr) (chunk : Chunk) → at.offset ≢ start_of s at.region → chunk_at s (behind at) ≡ Some chunk → mark_of s at ≡ Some (header_bytes (header_of chunk (at.offset - start_of s at.region)))
+unfolding mark_of
+mark_from_chunk s at chunk differs found = rw found (grind (arith, nat_tests))
 
 module _ (s : SetState) (active size : ℕ) (settled : IsSettled s active size) where
   -- chunks at two addresses have a header between them
@@ -82,124 +95,117 @@ module _ (s : SetState) (active size : ℕ) (settled : IsSettled s active size) 
         ]
       ]
 
+  -- a region that isn't the context's has no chunk
+  pub none_in : (number : ℕ) → region_of s number ≡ None → (at : Addr) → at.region ≡ number → chunk_at s at ≡ None
+  none_in number none at region =
+      elim (option_cases (chunk_at s at)) [
+        | inl without ↦ without
+        | inr some ↦ let clash = sym none ∙ ap (region_of s) (sym region) ∙ (settled.placed at some.0 some.1).owned in absurd (cc)
+      ]
+
   -- a link is marked: no header stands there
   pub mark_from_link : (at : Addr) (chunk : Chunk) (bytes : List ℕ) → chunk_at s at ≡ Some chunk → link_of chunk ≡ Some bytes → mark_of s at ≡ Some bytes
   unfolding mark_of
-  mark_from_link at chunk bytes found link =
+  mark_from_link at chunk bytes found has =
       let placed = settled.placed at chunk found in
-      let behind : Addr = record { region = at.region; offset = at.offset + 8 } in
-      let headers : Option Chunk → Option (List ℕ) = option_map (λ chunk. header_bytes (header_of chunk (at.offset - start_of s at.region))) in
-      let block : Option (List ℕ) = option_map (block_bytes s.context) (region_of s at.region) in
-      let test : (at.offset == start_of s at.region) ≡ false = grind (arith, nat_tests, placed.first) in
-      let none : chunk_at s behind ≡ None = elim (option_cases (chunk_at s behind)) [
+      let none : chunk_at s (behind at) ≡ None = elim (option_cases (chunk_at s (behind at))) [
         | inl none ↦ none
-        | inr some ↦ absurd (omega (arith, settled.apart at behind chunk some.0 found some.1 refl (omega arith), (linked chunk bytes link).1))
+        | inr some ↦ absurd (omega (arith, settled.apart at (behind at) chunk some.0 found some.1 refl (omega arith), (linked chunk bytes has).1))
       ] in
-      ap (λ b. if b then block else option_or (headers (chunk_at s behind)) (option_and_then link_of (chunk_at s at))) test
-      ∙ ap (λ o. option_or (headers o) (option_and_then link_of (chunk_at s at))) none
-      ∙ ap (λ o. option_and_then link_of o) found ∙ link
+      let differs : at.offset ≢ start_of s at.region = omega (arith, placed.first) in
+      rw (none, found) (grind (arith, nat_tests))
 
-  -- a live chunk is apart from every mark
-  pub mark_apart : (a b : Addr) (chunk : Chunk) (bytes : List ℕ) (n : ℕ) → chunk_at s a ≡ Some chunk → live_size chunk ≡ Some n → mark_of s b ≡ Some bytes → a.region ≡ b.region → (a.offset + capacity_of chunk ≤ b.offset) ⊎ (b.offset + length bytes ≤ a.offset)
-  mark_apart a b chunk bytes n found live marked region =
-      let placed = settled.placed a chunk found in
-      elim (mark_cases s b bytes marked) [
-        | inl block ↦
-            let len : length bytes ≡ 8 = ap length (sym block.3) ∙ length-block_bytes s.context block.0 in
-            inr (omega (arith, placed.first, ap (start_of s) region, block.1))
-        | inr rest ↦ elim rest [
-          | inl other ↦
-              let len : length bytes ≡ 8 = ap length (sym other.3) ∙ length-header_bytes (header_of other.0 (b.offset - start_of s b.region)) in
-              let there = settled.placed (record { region = b.region; offset = b.offset + 8 }) other.0 other.2 in
-              elim (cases_lt a.offset (b.offset + 8)) [
-                | inl below ↦ inl (omega (arith, settled.apart a (record { region = b.region; offset = b.offset + 8 }) chunk other.0 found other.2 region below))
-                | inr above ↦ inr (omega arith)
-              ]
-          | inr free ↦
-              let link = linked free.0 bytes free.2 in
-              let differ : a ≢ b = λ e.
-              let one : Some chunk ≡ Some free.0 = sym found ∙ ap (chunk_at s) e ∙ free.1 in
-              let it : chunk ≡ free.0 = cc in
-              let clash = sym live ∙ ap live_size it ∙ link.2 in
-              absurd (cc) in
-              elim (chunks_apart a b chunk free.0 found free.1 differ region) [
-                | inl below ↦ inl (omega arith)
-                | inr above ↦ inr (omega (arith, above, link.0, link.1))
-              ]
+  -- what is 8 bytes apart from each other chunk of its region, and has no link itself, is apart from every mark but its header
+  pub mark_apart : (a b : Addr) (capacity : ℕ) (bytes : List ℕ) → start_of s a.region + 48 ≤ a.offset
+      → option_and_then link_of (chunk_at s a) ≡ None
+      → ((other : Addr) (it : Chunk) → chunk_at s other ≡ Some it → other ≢ a → other.region ≡ a.region → (other.offset + capacity_of it + 8 ≤ a.offset) ⊎ (a.offset + capacity + 8 ≤ other.offset))
+      → mark_of s b ≡ Some bytes → a.region ≡ b.region
+      → (b.offset + length bytes + 8 ≤ a.offset) ⊎ (a.offset + capacity ≤ b.offset) ⊎ ((behind b ≡ a) × (length bytes ≡ 8) × (chunk_at s a ≢ None))
+  mark_apart a b capacity bytes first unlinked apart marked region =
+      let cases = mark_cases s b bytes marked in
+      let eight = mark_len s b bytes cases in
+      elim cases [
+        | block len at owned is ↦ inl (omega (arith, eight, first, ap (start_of s) region, at))
+        | header it differs found is ↦ elim (cases_eq (b.offset + 8) a.offset) [
+          | inl same ↦ let here = same_addr_from (behind b) a (sym region) same in inr (inr (here, eight, λ none. let clash = sym none ∙ ap (chunk_at s) (sym here) ∙ found in absurd (cc)))
+          | inr other ↦ elim (apart (behind b) it found (λ e. other (ap (λ (x : Addr). x.offset) e)) (sym region)) [
+            | inl before ↦ inl (omega (arith, before))
+            | inr after ↦ inr (inl (omega (arith, after)))
+          ]
         ]
+        | link it found is ↦
+            let has = linked it bytes is in
+            let differ : b ≢ a = λ e. let clash = sym unlinked ∙ ap (λ x. option_and_then link_of (chunk_at s x)) (sym e) ∙ ap (λ o. option_and_then link_of o) found ∙ is in absurd (cc) in
+            elim (apart b it found differ (sym region)) [
+              | inl before ↦ inl (omega (arith, before, has.1))
+              | inr after ↦ inr (inl (omega (arith, after)))
+            ]
       ]
 
   pub mark_within : (at : Addr) (bytes : List ℕ) → mark_of s at ≡ Some bytes → IsWithin (footprint s) at (length bytes)
   mark_within at bytes marked =
-      elim (mark_cases s at bytes marked) [
-        | inl block ↦
-            let len : length bytes ≡ 8 = ap length (sym block.3) ∙ length-block_bytes s.context block.0 in
-            (block.0, block.2, omega (arith, block.1, (settled.small at.region block.0 block.2).1))
-        | inr rest ↦ elim rest [
-          | inl other ↦
-              let len : length bytes ≡ 8 = ap length (sym other.3) ∙ length-header_bytes (header_of other.0 (at.offset - start_of s at.region)) in
-              let there = settled.placed (record { region = at.region; offset = at.offset + 8 }) other.0 other.2 in
-              (there.len, there.owned, omega (arith, there.last))
-          | inr free ↦
-              let link = linked free.0 bytes free.2 in
-              let there = settled.placed at free.0 free.1 in
-              (there.len, there.owned, omega (arith, there.last, link.0, link.1))
-        ]
+      let cases = mark_cases s at bytes marked in
+      let eight = mark_len s at bytes cases in
+      elim cases [
+        | block len first owned is ↦ (len, owned, omega (arith, first, (settled.small at.region len owned).1))
+        | header chunk differs found is ↦ let there = settled.placed (behind at) chunk found in (there.len, there.owned, omega (arith, there.last))
+        | link chunk found is ↦ let there = settled.placed at chunk found in (there.len, there.owned, omega (arith, there.last, (linked chunk bytes is).1))
       ]
 
-  -- a chunk is behind what is the context's own
+  -- a chunk is behind what is the context's own, and inside its region
   front_before : (at : Addr) (chunk : Chunk) → chunk_at s at ≡ Some chunk → front_of s at.region ≤ at.offset
   front_before at chunk found =
       let placed = settled.placed at chunk found in
       let is : front_of s at.region ≡ start_of s at.region + 40 = ap (λ o. if is_some o then start_of s at.region + 40 else 0) placed.owned in
       omega (arith, is, placed.first)
 
+  within : (at : Addr) (chunk : Chunk) (n : ℕ) → chunk_at s at ≡ Some chunk → n ≤ capacity_of chunk → IsWithin (footprint s) at n
+  within at chunk n found fits = let placed = settled.placed at chunk found in (placed.len, placed.owned, omega (arith, placed.last, fits))
+
+  -- a live chunk, and a free one
+  pub live_there : (at : Addr) (n : ℕ) → (footprint s).live at ≡ Some n → (chunk : Chunk) × (chunk_at s at ≡ Some chunk) × (live_size chunk ≡ Some n) × (n ≤ capacity_of chunk)
+  live_there at n live =
+      let it = from_then live_size (chunk_at s at) n live in
+      (it.0, it.1, it.2, (live_is it.0 n it.2).2 (settled.placed at it.0 it.1).sized)
+
+  free_there : (at : Addr) (n : ℕ) → (footprint s).free at ≡ Some n → (chunk : Chunk) × (chunk_at s at ≡ Some chunk) × (free_size chunk ≡ Some n) × (n ≤ capacity_of chunk)
+  free_there at n free = let it = from_then free_size (chunk_at s at) n free in (it.0, it.1, it.2, omega (arith, free_size-is it.0 n it.2))
+
+  sizes_apart : (a b : Addr) (first second : Chunk) (m n : ℕ) → chunk_at s a ≡ Some first → chunk_at s b ≡ Some second → m ≤ capacity_of first → n ≤ capacity_of second → a ≢ b → IsApart a m b n
+  sizes_apart a b first second m n at_a at_b fits_m fits_n differ region =
+      elim (chunks_apart a b first second at_a at_b differ region) [
+        | inl below ↦ inl (omega arith)
+        | inr above ↦ inr (omega arith)
+      ]
+
   -- the footprint is sound
   pub IsSound-settled : IsSound (footprint s)
   IsSound-settled = record {
-    live_inside = λ at n live.
-        let it = from_then live_size (chunk_at s at) n live in
-        let placed = settled.placed at it.0 it.1 in
-        (placed.len, placed.owned, omega (arith, placed.last, live_size-le it.0 n placed.sized it.2));
-    free_inside = λ at n free.
-        let it = from_then free_size (chunk_at s at) n free in
-        let placed = settled.placed at it.0 it.1 in
-        (placed.len, placed.owned, omega (arith, placed.last, free_size-is it.0 n it.2));
+    live_inside = λ at n live. let it = live_there at n live in within at it.0 n it.1 it.3;
+    free_inside = λ at n free. let it = free_there at n free in within at it.0 n it.1 it.3;
     mark_inside = mark_within;
-    live_apart = λ a b m n live_a live_b differ region.
-        let first = from_then live_size (chunk_at s a) m live_a in
-        let second = from_then live_size (chunk_at s b) n live_b in
-        let le_first = live_size-le first.0 m (settled.placed a first.0 first.1).sized first.2 in
-        let le_second = live_size-le second.0 n (settled.placed b second.0 second.1).sized second.2 in
-        elim (chunks_apart a b first.0 second.0 first.1 second.1 differ region) [
-          | inl below ↦ inl (omega arith)
-          | inr above ↦ inr (omega arith)
-        ];
-    free_apart = λ a b m n live free region.
-        let first = from_then live_size (chunk_at s a) m live in
-        let second = from_then free_size (chunk_at s b) n free in
-        let le_first = live_size-le first.0 m (settled.placed a first.0 first.1).sized first.2 in
-        let is_second = free_size-is second.0 n second.2 in
-        let differ : a ≢ b = λ e.
+    live_apart = λ a b m n live_a live_b differ.
+        let first = live_there a m live_a in
+        let second = live_there b n live_b in
+        sizes_apart a b first.0 second.0 m n first.1 second.1 first.3 second.3 differ;
+    free_apart = λ a b m n live free.
+        let first = live_there a m live in
+        let second = free_there b n free in
+        sizes_apart a b first.0 second.0 m n first.1 second.1 first.3 second.3 (λ e.
         let one : Some first.0 ≡ Some second.0 = sym first.1 ∙ ap (chunk_at s) e ∙ second.1 in
         let it : first.0 ≡ second.0 = cc in
-        live_not_free second.0 m n (ap live_size (sym it) ∙ first.2) second.2 in
-        elim (chunks_apart a b first.0 second.0 first.1 second.1 differ region) [
-          | inl below ↦ inl (omega arith)
-          | inr above ↦ inr (omega arith)
-        ];
+        let clash = sym (live_is first.0 m first.2).1 ∙ ap free_size it ∙ second.2 in
+        absurd (cc));
     mark_apart = λ a b m bytes live marked region.
-        let first = from_then live_size (chunk_at s a) m live in
-        let le_first = live_size-le first.0 m (settled.placed a first.0 first.1).sized first.2 in
-        elim (mark_apart a b first.0 bytes m first.1 first.2 marked region) [
-          | inl below ↦ inl (omega arith)
-          | inr above ↦ inr (omega arith)
+        let it = live_there a m live in
+        elim (mark_apart a b (capacity_of it.0) bytes (settled.placed a it.0 it.1).first (ap (λ o. option_and_then link_of o) it.1 ∙ (live_is it.0 m it.2).0) (λ other chunk found differs same. chunks_apart other a chunk it.0 found it.1 differs same) marked region) [
+          | inl before ↦ inr (omega (arith, before))
+          | inr rest ↦ elim rest [
+            | inl after ↦ inl (omega (arith, after, it.3))
+            | inr own ↦ inr (omega (arith, own.1, ap (λ (x : Addr). x.offset) own.0))
+          ]
         ];
-    live_behind = λ at n live.
-        let it = from_then live_size (chunk_at s at) n live in
-        front_before at it.0 it.1;
-    free_behind = λ at n free.
-        let it = from_then free_size (chunk_at s at) n free in
-        front_before at it.0 it.1;
+    live_behind = λ at n live. let it = live_there at n live in front_before at it.0 it.1;
+    free_behind = λ at n free. let it = free_there at n free in front_before at it.0 it.1;
     small = λ number len owned. (settled.small number len owned).0;
   }

@@ -1,24 +1,23 @@
 -- Lemmas on the free chunks of each class.
-use Rattle.std.proofs.Common.{◌≡◌, ◌≢◌, ℕ, zero, suc, ◌+◌, ◌*◌, ◌^◌, ◌<◌, ◌≤◌, List, [], ◌∷◌, length, Option, Some, None, refl, sym, ap, ◌∙◌, subst, arith, inl, inr, sum_by, set}
+use Rattle.std.proofs.Common.{◌≡◌, ◌≢◌, ℕ, zero, suc, ◌+◌, ◌*◌, ◌^◌, ◌<◌, ◌≤◌, List, [], ◌∷◌, Option, Some, None, refl, sym, ap, ◌∙◌, subst, arith, inl, inr, sum, sum_by, min, set, get_or}
 use Rattle.std.proofs.Math.Nat.{mul-le-mul_left}
 use Rattle.std.proofs.lemmas.Bool.{cases_eq}
 use Rattle.std.proofs.lemmas.Bool.Decides.{nat_tests}
-use Rattle.std.proofs.lemmas.List.{length-set, get_or-set_same, get_or-set_other}
-use Rattle.std.proofs.lemmas.List.Sums.{sum_by-cons}
-use Rattle.std.specs.Map.{values_of, lookup}
+use Rattle.std.proofs.lemmas.List.{get_or-map, length-set, get_or-set_same, get_or-set_other}
+use Rattle.std.proofs.lemmas.List.Sums.{sum_by-cons, sum_by-le-sum_by}
+use Rattle.std.specs.Map.{values_of}
 use Rattle.addr_space.specs.declared.Addr.{Addr}
-use Rattle.addr_space.specs.Live.{same_addr}
 use Rattle.alloc_set.specs.State.{SetState, chunk_at}
-use Rattle.alloc_set.specs.Ledger.{class_bytes}
+use Rattle.alloc_set.specs.Ledger.{class_size, class_bytes}
 use Rattle.alloc_set.specs.Listed.{IsUnique}
-use Rattle.alloc_set.specs.Kept.{IsChain, IsSettled, IsShelved, IsKept, is_free, taken_bytes, shelf_at, no_shelf}
+use Rattle.alloc_set.specs.Kept.{state_of, IsChain, IsSettled, IsShelved, IsCounted, IsKept, is_free, taken_bytes, shelf_at, no_shelf}
 use Rattle.alloc_set.specs.Links.{IsLinkable}
 use Rattle.alloc_set.specs.declared.books.Books.{Books}
 use Rattle.alloc_set.specs.Steps.{PutsChunk}
 use Rattle.alloc_set.specs.declared.chunk.Chunk.{Chunk}
 use Rattle.alloc_set.specs.declared.chunk.Chunk.TheVariants.{Live, Free, Own}
 use Rattle.alloc_set.specs.declared.chunk.Shelf.{Shelf}
-use Rattle.alloc_set.proofs.Carved.{put_cases}
+use Rattle.alloc_set.proofs.Altered.{put_cases}
 
 -- a chain stays while its chunks do
 pub IsChain-kept : (c d : Addr → Option Chunk) (class : ℕ) → ((at : Addr) (next : Option Addr) → c at ≡ Some (Free class next) → d at ≡ Some (Free class next)) → (count : ℕ) (first : Option Addr) → IsChain c class count first → IsChain d class count first
@@ -51,13 +50,30 @@ IsChain-without c d class at whole from others (suc count) first below chain =
 abbrev pub IsTaken : Option Chunk → Type 0
 IsTaken slot = (class : ℕ) (next : Option Addr) → slot ≢ Some (Free class next)
 
+-- where nothing stands, and where a chunk is live
+pub IsTaken-none : (slot : Option Chunk) → slot ≡ None → IsTaken slot
+IsTaken-none slot none class next free = let clash = sym none ∙ free in absurd (cc)
+
+pub taken-live : (slot : Option Chunk) (class size : ℕ) → slot ≡ Some (Live class size) → IsTaken slot
+taken-live slot class size was other next free = let clash = sym was ∙ free in absurd (cc)
+
+pub taken-own : (slot : Option Chunk) (size room : ℕ) → slot ≡ Some (Own size room) → IsTaken slot
+taken-own slot size room was other next free = let clash = sym was ∙ free in absurd (cc)
+
+-- whether a free chunk is one of a class
+pub is_free-same : (class : ℕ) (next : Option Addr) → is_free class (Free class next) ≡ 1
+is_free-same class next = grind (arith, nat_tests)
+
+pub is_free-other : (class other : ℕ) (next : Option Addr) → class ≢ other → is_free class (Free other next) ≡ 0
+is_free-other class other next differs = grind (arith, nat_tests)
+
 -- the free chunks of a class take no more than all
 is_free-bytes : (class : ℕ) (chunk : Chunk) → is_free class chunk * class_bytes class ≤ taken_bytes chunk
 is_free-bytes class (Live other size) = omega arith
 is_free-bytes class (Free other next) =
     elim (cases_eq class other) [
-      | inl same ↦ let one : is_free class (Free other next) ≡ 1 = grind (arith, nat_tests) in omega (arith, ap (λ n. n * class_bytes class) one, ap class_bytes same)
-      | inr differs ↦ let none : is_free class (Free other next) ≡ 0 = grind (arith, nat_tests) in omega (arith, ap (λ n. n * class_bytes class) none)
+      | inl same ↦ rw (same, is_free-same other next) (omega arith)
+      | inr differs ↦ rw (is_free-other class other next differs) (omega arith)
     ]
 is_free-bytes class (Own size room) = omega arith
 
@@ -65,6 +81,10 @@ free-bytes : (class : ℕ) (chunks : List Chunk) → sum_by (is_free class) chun
 free-bytes class [] = omega arith
 free-bytes class (chunk ∷ chunks) =
     omega (arith, ap (λ n. n * class_bytes class) (sum_by-cons (is_free class) chunk chunks), sum_by-cons taken_bytes chunk chunks, is_free-bytes class chunk, free-bytes class chunks)
+
+-- the ledger's count of a class
+pub count_is : (b : Books) (class : ℕ) → IsKept b → class < 11 → get_or (state_of b).ledger.free class 0 ≡ (shelf_at b.shelves class).count
+count_is b class kept below = get_or-map (λ (s : Shelf). s.count) b.shelves class no_shelf 0 (omega (arith, below, kept.shelved.eleven))
 
 -- a count of free chunks, and their bytes
 pub count-bytes : (b : Books) (class : ℕ) → IsKept b → class < 11 → (shelf_at b.shelves class).count * class_bytes class ≤ b.total
@@ -76,118 +96,85 @@ count-few b class kept below =
     let least : (shelf_at b.shelves class).count * 1 ≤ (shelf_at b.shelves class).count * class_bytes class = mul-le-mul_left (shelf_at b.shelves class).count (omega arith) in
     omega (arith, least, count-bytes b class kept below, kept.counted.most)
 
-pub is_free-same : (class : ℕ) (next : Option Addr) → is_free class (Free class next) ≡ 1
-is_free-same class next = grind (arith, nat_tests)
+-- the bytes of the free chunks of a class are within the total
+pub bytes_of : (b : Books) (class size : ℕ) → IsKept b → class < 11 → size ≡ class_size class → (shelf_at b.shelves class).count * (size + 8) ≤ b.total
+bytes_of b class size kept below is = rw is (omega (arith, count-bytes b class kept below))
 
-pub is_free-other : (class other : ℕ) (next : Option Addr) → class ≢ other → is_free class (Free other next) ≡ 0
-is_free-other class other next differs = grind (arith, nat_tests)
+-- there are no more blocks than bytes
+pub count-le : (b : Books) → IsCounted b → b.count ≤ b.total
+count-le b counted =
+    let blocks = values_of b.blocks.entries in
+    let most : sum_by (min 1) blocks ≤ sum blocks = sum_by-le-sum_by (min 1) (λ x. x) blocks (λ x. omega arith) in
+    omega (arith, most, counted.blocks, counted.total, counted.sizes.0)
+
+-- what bounds the numbers of the books
+pub ruleset counts = (count-few, bytes_of, count-le)
 
 module _ (s t : SetState) (shelves : List Shelf) (at : Addr) (slot : Option Chunk) (shelved : IsShelved s shelves) (puts : PutsChunk s t at slot) (unique : IsUnique t.chunks) where
+  -- where no chunk of a class was free, its chains stay
+  chain_kept : (class : ℕ) → ((next : Option Addr) → chunk_at s at ≢ Some (Free class next)) → (count : ℕ) (first : Option Addr) → IsChain (chunk_at s) class count first → IsChain (chunk_at t) class count first
+  chain_kept class taken =
+      IsChain-kept (chunk_at s) (chunk_at t) class (λ other next free. elim (put_cases s t at slot puts other) [
+        | inl here ↦ absurd (taken next (sym (ap (chunk_at s) here.0) ∙ free))
+        | inr there ↦ there.1 ∙ free
+      ])
+
   -- a chunk that is free neither before nor after changes no shelf
   pub IsShelved-taken : IsTaken (chunk_at s at) → ((class : ℕ) → class < 11 → sum_by (is_free class) (values_of t.chunks) ≡ sum_by (is_free class) (values_of s.chunks)) → IsShelved t shelves
   IsShelved-taken taken sums = record {
     eleven = shelved.eleven;
-    chain = λ class below. IsChain-kept (chunk_at s) (chunk_at t) class
-        (λ other next free. elim (put_cases s t at slot puts other) [
-          | inl here ↦ absurd (taken class next (sym (ap (chunk_at s) here.0) ∙ free))
-          | inr there ↦ there.1 ∙ free
-        ]) (shelf_at shelves class).count (shelf_at shelves class).first (shelved.chain class below);
+    chain = λ class below. chain_kept class (λ next. taken class next) (shelf_at shelves class).count (shelf_at shelves class).first (shelved.chain class below);
     counted = λ class below. shelved.counted class below ∙ sym (sums class below);
     unique = unique;
   }
+
+  -- one shelf is another, and the others keep their chains and counts
+  IsShelved-set : (class : ℕ) (new : Shelf) → class < 11 → IsChain (chunk_at t) class new.count new.first → new.count ≡ sum_by (is_free class) (values_of t.chunks)
+      → ((k count : ℕ) (first : Option Addr) → k ≢ class → IsChain (chunk_at s) k count first → IsChain (chunk_at t) k count first)
+      → ((k : ℕ) → k < 11 → k ≢ class → sum_by (is_free k) (values_of t.chunks) ≡ sum_by (is_free k) (values_of s.chunks)) → IsShelved t (set shelves class new)
+  IsShelved-set class new below chain count chains counts =
+      let here = get_or-set_same shelves class new no_shelf (omega (arith, shelved.eleven)) in
+      record {
+        eleven = length-set shelves class new ∙ shelved.eleven;
+        chain = λ k under. elim (cases_eq k class) [
+          | inl same ↦ rw (same, here) chain
+          | inr differs ↦ rw (get_or-set_other shelves class k new no_shelf differs) (chains k (shelf_at shelves k).count (shelf_at shelves k).first differs (shelved.chain k under))
+        ];
+        counted = λ k under. elim (cases_eq k class) [
+          | inl same ↦ rw (same, here) count
+          | inr differs ↦ rw (get_or-set_other shelves class k new no_shelf differs) (shelved.counted k under ∙ sym (counts k under differs))
+        ];
+        unique = unique;
+      }
 
   -- a chunk that becomes free is the first of its shelf
   pub IsShelved-freed : (class : ℕ) → class < 11 → IsTaken (chunk_at s at) → slot ≡ Some (Free class (shelf_at shelves class).first)
       → ((k : ℕ) → k < 11 → sum_by (is_free k) (values_of t.chunks) ≡ sum_by (is_free k) (values_of s.chunks) + is_free k (Free class (shelf_at shelves class).first))
       → IsShelved t (set shelves class (record { first = Some at; count = (shelf_at shelves class).count + 1 }))
   IsShelved-freed class below taken is sums =
-      let new : Shelf = record { first = Some at; count = (shelf_at shelves class).count + 1 } in
-      let within : class < length shelves = omega (arith, shelved.eleven) in
-      let here : shelf_at (set shelves class new) class ≡ new = get_or-set_same shelves class new no_shelf within in
-      let kept : (k : ℕ) (count : ℕ) (first : Option Addr) → IsChain (chunk_at s) k count first → IsChain (chunk_at t) k count first =
-      λ k. IsChain-kept (chunk_at s) (chunk_at t) k (λ other next free. elim (put_cases s t at slot puts other) [
-        | inl same ↦ absurd (taken k next (sym (ap (chunk_at s) same.0) ∙ free))
-        | inr there ↦ there.1 ∙ free
-      ]) in
-      record {
-        eleven = length-set shelves class new ∙ shelved.eleven;
-        chain = λ k under. elim (cases_eq k class) [
-          | inl same ↦
-              let old = kept class (shelf_at shelves class).count (shelf_at shelves class).first (shelved.chain class below) in
-              let found : chunk_at t at ≡ Some (Free class (shelf_at shelves class).first) = elim (put_cases s t at slot puts at) [ inl it ↦ it.1 ∙ is | inr other ↦ absurd (other.0 refl) ] in
-              let whole : IsChain (chunk_at t) class (suc (shelf_at shelves class).count) (Some at) = (at, (shelf_at shelves class).first, refl, found, old) in
-              let count : suc (shelf_at shelves class).count ≡ (shelf_at shelves class).count + 1 = omega arith in
-              let there : IsChain (chunk_at t) class (shelf_at (set shelves class new) class).count (shelf_at (set shelves class new) class).first = rw (here, ← count) whole in
-              subst (λ j. IsChain (chunk_at t) j (shelf_at (set shelves class new) j).count (shelf_at (set shelves class new) j).first) (sym same) there
-          | inr differs ↦
-              rw (get_or-set_other shelves class k new no_shelf differs) (kept k (shelf_at shelves k).count (shelf_at shelves k).first (shelved.chain k under))
-        ];
-        counted = λ k under. elim (cases_eq k class) [
-          | inl same ↦
-              let count : (shelf_at (set shelves class new) class).count ≡ (shelf_at shelves class).count + 1 = ap (λ (x : Shelf). x.count) here in
-              subst (λ j. (shelf_at (set shelves class new) j).count ≡ sum_by (is_free j) (values_of t.chunks)) (sym same)
-              (omega (arith, count, shelved.counted class below, sums class below, is_free-same class (shelf_at shelves class).first))
-          | inr differs ↦
-              let count : (shelf_at (set shelves class new) k).count ≡ (shelf_at shelves k).count = ap (λ (x : Shelf). x.count) (get_or-set_other shelves class k new no_shelf differs) in
-              omega (arith, count, shelved.counted k under, sums k under, is_free-other k class (shelf_at shelves class).first differs)
-        ];
-        unique = unique;
-      }
+      let old = shelf_at shelves class in
+      let kept : (k count : ℕ) (first : Option Addr) → IsChain (chunk_at s) k count first → IsChain (chunk_at t) k count first = λ k. chain_kept k (λ next. taken k next) in
+      let found : chunk_at t at ≡ Some (Free class old.first) = elim (put_cases s t at slot puts at) [ inl it ↦ it.1 ∙ is | inr other ↦ absurd (other.0 refl) ] in
+      let whole : IsChain (chunk_at t) class (suc old.count) (Some at) = (at, old.first, refl, found, kept class old.count old.first (shelved.chain class below)) in
+      let count : suc old.count ≡ old.count + 1 = omega arith in
+      IsShelved-set class (record { first = Some at; count = old.count + 1 }) below (rw (← count) whole) (omega (arith, shelved.counted class below, sums class below, is_free-same class old.first)) (λ k count first differs. kept k count first)
+      (λ k under differs. omega (arith, sums k under, is_free-other k class old.first differs))
 
   -- the first chunk of a shelf is taken off it
   pub IsShelved-popped : (class : ℕ) (next : Option Addr) (count : ℕ) → class < 11 → (shelf_at shelves class).first ≡ Some at → chunk_at s at ≡ Some (Free class next) → (shelf_at shelves class).count ≡ suc count
       → ((k : ℕ) → k < 11 → sum_by (is_free k) (values_of t.chunks) + is_free k (Free class next) ≡ sum_by (is_free k) (values_of s.chunks))
       → IsShelved t (set shelves class (record { first = next; count = count }))
   IsShelved-popped class next count below first was number sums =
-      let new : Shelf = record { first = next; count = count } in
-      let within : class < length shelves = omega (arith, shelved.eleven) in
-      let here : shelf_at (set shelves class new) class ≡ new = get_or-set_same shelves class new no_shelf within in
-      let chain : IsChain (chunk_at s) class (suc count) (Some at) = subst (IsChain (chunk_at s) class (suc count)) first (subst (λ n. IsChain (chunk_at s) class n (shelf_at shelves class).first) number (shelved.chain class below)) in
+      let chain : IsChain (chunk_at s) class (suc count) (Some at) = rw (first, number) at (shelved.chain class below) in
       let head_is : Some at ≡ Some chain.0 = chain.2 in
       let head : chain.0 ≡ at = cc in
       let one : Some (Free class chain.1) ≡ Some (Free class next) = sym chain.3 ∙ ap (chunk_at s) head ∙ was in
       let rest : chain.1 ≡ next = cc in
-      let others : (other : Addr) → other ≢ at → chunk_at t other ≡ chunk_at s other = λ other differs. elim (put_cases s t at slot puts other) [
-        | inl same ↦ absurd (differs same.0)
-        | inr there ↦ there.1
-      ] in
-      record {
-        eleven = length-set shelves class new ∙ shelved.eleven;
-        chain = λ k under. elim (cases_eq k class) [
-          | inl same ↦
-              let old : IsChain (chunk_at s) class count next = subst (IsChain (chunk_at s) class count) rest chain.4 in
-              let whole : IsChain (chunk_at t) class count next = IsChain-without (chunk_at s) (chunk_at t) class at (suc count) chain others count next (omega arith) old in
-              let there : IsChain (chunk_at t) class (shelf_at (set shelves class new) class).count (shelf_at (set shelves class new) class).first = rw here whole in
-              subst (λ j. IsChain (chunk_at t) j (shelf_at (set shelves class new) j).count (shelf_at (set shelves class new) j).first) (sym same) there
-          | inr differs ↦
-              rw (get_or-set_other shelves class k new no_shelf differs) (IsChain-kept (chunk_at s) (chunk_at t) k (λ other after free. elim (put_cases s t at slot puts other) [
-                | inl same ↦
-                    let clash : Some (Free k after) ≡ Some (Free class next) = sym free ∙ ap (chunk_at s) same.0 ∙ was in
-                    let classes : k ≡ class = cc in
-                    absurd (differs classes)
-                | inr there ↦ there.1 ∙ free
-              ]) (shelf_at shelves k).count (shelf_at shelves k).first (shelved.chain k under))
-        ];
-        counted = λ k under. elim (cases_eq k class) [
-          | inl same ↦
-              let now : (shelf_at (set shelves class new) class).count ≡ count = ap (λ (x : Shelf). x.count) here in
-              subst (λ j. (shelf_at (set shelves class new) j).count ≡ sum_by (is_free j) (values_of t.chunks)) (sym same)
-              (omega (arith, now, number, shelved.counted class below, sums class below, is_free-same class next))
-          | inr differs ↦
-              let now : (shelf_at (set shelves class new) k).count ≡ (shelf_at shelves k).count = ap (λ (x : Shelf). x.count) (get_or-set_other shelves class k new no_shelf differs) in
-              omega (arith, now, shelved.counted k under, sums k under, is_free-other k class next differs)
-        ];
-        unique = unique;
-      }
-
--- the shelves stay while the chunks do
-pub IsShelved-same : (s t : SetState) (shelves : List Shelf) → t.chunks ≡ s.chunks → IsShelved s shelves → IsShelved t shelves
-IsShelved-same s t shelves same shelved = record {
-  eleven = shelved.eleven;
-  chain = λ class below. subst (λ cs. IsChain (λ at. lookup (same_addr at) cs) class (shelf_at shelves class).count (shelf_at shelves class).first) (sym same) (shelved.chain class below);
-  counted = λ class below. shelved.counted class below ∙ ap (λ cs. sum_by (is_free class) (values_of cs)) (sym same);
-  unique = subst IsUnique (sym same) shelved.unique;
-}
+      let others : (other : Addr) → other ≢ at → chunk_at t other ≡ chunk_at s other = λ other differs. elim (put_cases s t at slot puts other) [ inl same ↦ absurd (differs same.0) | inr there ↦ there.1 ] in
+      IsShelved-set class (record { first = next; count = count }) below (IsChain-without (chunk_at s) (chunk_at t) class at (suc count) chain others count next (omega arith) (rw rest at chain.4))
+      (omega (arith, number, shelved.counted class below, sums class below, is_free-same class next))
+      (λ k many start differs. chain_kept k (λ after free. let clash : Some (Free k after) ≡ Some (Free class next) = sym free ∙ was in let classes : k ≡ class = cc in differs classes) many start)
+      (λ k under differs. omega (arith, sums k under, is_free-other k class next differs))
 
 -- a shelf with a first chunk has a free one there, and one without has none
 pub chain_head : (c : Addr → Option Chunk) (class count : ℕ) (first : Option Addr) (at : Addr) → IsChain c class count first → first ≡ Some at

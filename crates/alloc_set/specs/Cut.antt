@@ -17,12 +17,7 @@ use Rattle.alloc_set.specs.declared.books.Books.{Books}
 -- free chunks of the active block were made
 pub record CutsUp (b n : Books) : Type 0 where
   pub kept : IsKept n
-  pub ledger : (state_of n).ledger ≡ record (state_of b).ledger { room = n.active.room; free = (state_of n).ledger.free }
-  pub account : n.account ≡ b.account
-  pub context : n.context ≡ b.context
-  pub limit : n.limit ≡ b.limit
-  pub keeper : n.keeper ≡ b.keeper
-  pub blocks : n.blocks ≡ b.blocks
+  pub rest : n ≡ record b { active = n.active; chunks = n.chunks; shelves = n.shelves }
   pub active : n.active ≡ record b.active { room = n.active.room }
   pub less : n.active.room ≤ b.active.room
   pub others : (at : Addr) → at.region ≢ b.active.region → chunk_at (state_of n) at ≡ chunk_at (state_of b) at

@@ -2,6 +2,7 @@
 use Rattle.std.specs.Prelude.{◌≡◌, ◌≢◌, ℕ, ◌+◌, ◌-◌, ◌%◌, ◌^◌, ◌<◌, ◌≤◌, ◌==◌, List, [], replicate, length, map, min, Option, Some, None, if◌then◌else◌, sum, sum_by, zero, suc, slice_index_or}
 use Rattle.std.specs.Map.{values_of, lookup}
 use Rattle.addr_space.specs.declared.Addr.{Addr}
+use Rattle.chunk_header.specs.declared.Sizes.{Sizes}
 use Rattle.alloc_set.specs.Ledger.{class_size, class_bytes, chunk_limit}
 use Rattle.alloc_set.specs.State.{SetState, chunk_at, region_of, start_of, capacity_of}
 use Rattle.alloc_set.specs.declared.chunk.Chunk.{Chunk}
@@ -12,6 +13,24 @@ use Rattle.alloc_set.specs.Listed.{IsUnique}
 
 abbrev pub no_shelf : Shelf
 no_shelf = record { first = None; count = 0 }
+
+-- the books of a new context whose first block is in a region, with the maps of others
+abbrev pub new_books : ℕ → ℕ → Sizes → ℕ → Books → Books
+new_books account context sizes region b = record {
+  account = account;
+  context = context;
+  sizes = sizes;
+  limit = chunk_limit sizes.max;
+  next = sizes.init;
+  keeper = region;
+  active = record { region = region; size = sizes.init; room = sizes.init - 240 };
+  blocks = b.blocks;
+  chunks = b.chunks;
+  shelves = replicate 11 no_shelf;
+  total = sizes.init;
+  count = 1;
+  idle = 0;
+}
 
 -- the value that contracts see
 abbrev pub state_of : Books → SetState

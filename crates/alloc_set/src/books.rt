@@ -1,14 +1,14 @@
 //! The books of an AllocSet: its blocks, chunks and numbers.
-ghost use Rattle.std.specs.Prelude.{◌≡◌, ◌≢◌, ℕ, ◌+◌, ◌-◌, ◌*◌, ◌%◌, ◌^◌, ◌<◌, ◌≤◌, ◌↔◌, Ok, Err, Some, None, IfOk, IfErr, OnOk, OnErr, sum_by, if◌then◌else◌, ◌==◌, ◌⊎◌, min, IfSome, IsSome, IfNone, OnSome, slice_index, replicate, [], Option};
+ghost use Rattle.std.specs.Prelude.{◌≡◌, ◌≢◌, ℕ, ◌+◌, ◌-◌, ◌*◌, ◌%◌, ◌^◌, ◌<◌, ◌≤◌, ◌↔◌, Ok, Err, Some, None, IfOk, IfErr, OnOk, OnErr, sum_by, if◌then◌else◌, ◌==◌, ◌⊎◌, min, IfSome, IsSome, IfNone, OnSome, slice_index, [], Option};
 ghost use Rattle.std.specs.Map.{values_of, lookup};
 ghost use Rattle.indexmap.specs.IndexMap.{spare};
 ghost use Rattle.addr_space.specs.declared.Addr.{Addr};
 ghost use Rattle.alloc_set.specs.declared.chunk.Chunk.{Chunk};
 ghost use Rattle.addr_space.specs.Footprint.{Agrees, Moves, Keeps, nothing};
-ghost use Rattle.alloc_set.specs.Ledger.{Class, Own as OwnPlace, class_bytes, class_size, cut_off, with_free, stats, with_own, cut_rest, cut_up, halved, block_size, reused, created, chunk_limit, take_class, class_of, take_own, own_size, take};
+ghost use Rattle.alloc_set.specs.Ledger.{Class, Own as OwnPlace, class_bytes, class_size, cut_off, with_free, stats, with_own, cut_rest, cut_up, halved, block_size, reused, created, take_class, class_of, take_own, own_size, take};
 ghost use Rattle.chunk_header.specs.Growth.{grown};
 ghost use Rattle.addr_space.specs.Live.{PutsAt};
-ghost use Rattle.alloc_set.specs.Kept.{no_shelf};
+ghost use Rattle.alloc_set.specs.Kept.{new_books};
 ghost use Rattle.alloc_set.specs.Listed.{IsUnique};
 ghost use Rattle.alloc_set.specs.State.{start_of, chunk_at, place_at, region_of, mark_of, footprint};
 ghost use Rattle.addr_space.specs.Space.{Space, held, accounts, Asks};
@@ -58,6 +58,7 @@ pub struct Books {
 }
 
 // Notes the size of a new block, for which room was made.
+#[tactic(auto, using(crate::proofs::Listed::noted_sums))]
 fn note(blocks: &mut IndexMap<u32, u32>, number: u32, size: u32)
     requires spare { 0 < spare blocks.old }
     requires new { lookup (λ n. number == n) blocks.old.entries ≡ None }
@@ -84,7 +85,7 @@ const LARGE: u32 = 1_048_576;
 
 impl Books {
     ghost use Rattle.alloc_set.specs.Kept.{state_of, taken_bytes, IsSettled, IsShelved, IsCounted, IsKept};
-    ghost use Rattle.alloc_set.specs.Steps.{Carves};
+    ghost use Rattle.alloc_set.specs.Steps.{PutsChunk};
     ghost use Rattle.addr_space.specs.Live.{PutsLive, SameLive};
     ghost use Rattle.alloc_set.specs.Live.{LeavesLive};
     ghost use Rattle.alloc_set.specs.Cut.{CutsUp, Renews, Allocates};
@@ -96,21 +97,7 @@ impl Books {
         requires order { sizes.init ≤ sizes.max }
         ensures blocks { result.blocks.entries ≡ [] }
         ensures chunks { result.chunks.entries ≡ [] }
-        ensures rest { result ≡ record {
-          account = account;
-          context = context;
-          sizes = sizes;
-          limit = chunk_limit sizes.max;
-          next = sizes.init;
-          keeper = 0;
-          active = record { region = 0; size = sizes.init; room = sizes.init - 240 };
-          blocks = result.blocks;
-          chunks = result.chunks;
-          shelves = replicate 11 no_shelf;
-          total = sizes.init;
-          count = 1;
-          idle = 0;
-        } }
+        ensures rest { result ≡ new_books account context sizes 0 result }
     {
         Books {
             account,
@@ -198,16 +185,22 @@ impl Books {
     #[inline]
     fn carve(&mut self, space: &mut Space, class: u8, size: u32) -> Addr
         requires settled { IsSettled (state_of self.old) self.old.active.region self.old.active.size }
+        requires unique { IsUnique self.old.chunks.entries }
         requires filled { (self.old.active.size - self.old.active.room) % 8 ≡ 0 }
         requires agrees { Agrees (footprint (state_of self.old)) space.old }
         requires room { class_bytes class ≤ self.old.active.room }
         requires class { class ≤ 10 }
         requires size { size ≤ class_size class }
-        ensures carves { Carves (state_of self.old) (state_of self.new) self.old.active.region self.old.active.size class result (Chunk.Live class size) }
+        ensures free { chunk_at (state_of self.old) result ≡ None }
+        ensures chunk { PutsChunk (state_of self.old) (state_of self.new) result (Some (Chunk.Live class size)) }
+        ensures region { result.region ≡ self.old.active.region }
+        ensures offset { result.offset + self.old.active.room ≡ self.old.active.size + 8 }
+        ensures room { self.new.active.room + class_bytes class ≡ self.old.active.room }
+        ensures settled { IsSettled (state_of self.new) self.old.active.region self.old.active.size }
         ensures rest { self.new ≡ record self.old { chunks = self.new.chunks; active = self.new.active } }
         ensures active { self.new.active ≡ record self.old.active { room = self.new.active.room } }
         ensures sums { (f : Chunk → ℕ) → sum_by f (values_of self.new.chunks.entries) ≡ sum_by f (values_of self.old.chunks.entries) + f (Chunk.Live class size) }
-        ensures unique { IsUnique self.old.chunks.entries → IsUnique self.new.chunks.entries }
+        ensures unique { IsUnique self.new.chunks.entries }
         ensures moves { Moves (footprint (state_of self.old)) (footprint (state_of self.new)) space.old space.new }
         ensures keeps { Keeps (footprint (state_of self.old)) (footprint (state_of self.new)) space.old space.new }
         ensures asked { space.new.taken ≡ space.old.taken }
@@ -246,7 +239,9 @@ impl Books {
         ensures moves { Moves (footprint (state_of self.old)) (footprint (state_of self.new)) space.old space.new }
         ensures keeps { Keeps (footprint (state_of self.old)) (footprint (state_of self.new)) space.old space.new }
         ensures place { place_at (state_of self.new) result ≡ Some (Class class) }
-        ensures carves { Carves (state_of self.old) (state_of self.new) self.old.active.region self.old.active.size class result (Chunk.Live class size) }
+        ensures chunk { PutsChunk (state_of self.old) (state_of self.new) result (Some (Chunk.Live class size)) }
+        ensures region { result.region ≡ self.old.active.region }
+        ensures offset { result.offset + self.old.active.room ≡ self.old.active.size + 8 }
         ensures rest { self.new ≡ record self.old { chunks = self.new.chunks; active = self.new.active } }
         ensures active { self.new.active ≡ record self.old.active { room = self.new.active.room } }
         ensures sums { sum_by taken_bytes (values_of self.new.chunks.entries) ≡ sum_by taken_bytes (values_of self.old.chunks.entries) + class_bytes class }
@@ -278,6 +273,7 @@ impl Books {
     }
 
     // What the books say.
+    #[tactic(auto, using(crate::proofs::Shelved::counts))]
     pub fn stats(&self) -> Stats
         requires { IsKept self.now }
         ensures { result ≡ stats (state_of self.now).ledger }
@@ -313,6 +309,7 @@ impl Books {
     }
 
     // Takes a block and notes it. Chunks are still cut off the old one.
+    #[tactic(auto, using(crate::proofs::Shelved::counts))]
     fn add_block(&mut self, space: &mut Space, size: u32) -> Result<u32, CtxError>
         requires kept { IsKept self.old }
         requires agrees { Agrees (footprint (state_of self.old)) space.old }
@@ -367,6 +364,7 @@ impl Books {
     }
 
     // Makes a block without chunks the active one.
+    #[tactic(auto, unfolding(crate::specs::State::mark_of))]
     fn activate(&mut self, region: u32, size: u32)
         requires kept { IsKept self.old }
         requires owned { region_of (state_of self.old) region ≡ Some size }
@@ -460,6 +458,7 @@ impl Books {
 
     // Frees a live chunk of a class: it is the first of its shelf, and its first bytes lead to the one that was.
     #[inline]
+    #[tactic(auto, using(crate::proofs::Shelved::counts))]
     pub fn shelve(&mut self, space: &mut Space, class: u8, at: Addr)
         requires kept { IsKept self.old }
         requires agrees { Agrees (footprint (state_of self.old)) space.old }
@@ -568,6 +567,7 @@ impl Books {
     }
 
     // Serves a request.
+    #[tactic(auto, using(crate::proofs::ClassSizes::class_sizes))]
     pub fn alloc(&mut self, space: &mut Space, size: u64) -> Result<Addr, CtxError>
         requires kept { IsKept self.old }
         requires agrees { Agrees (footprint (state_of self.old)) space.old }

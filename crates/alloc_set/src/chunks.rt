@@ -107,16 +107,19 @@ impl Chunks {
 
 /// Notes what stands at an address.
 #[inline]
+#[tactic(auto, using(crate::proofs::Listed::listed))]
 pub fn put(chunks: &mut Chunks, at: Addr, chunk: Chunk)
+    requires { IsUnique chunks.old.entries }
     ensures at { (other : Addr) → lookup (same_addr other) chunks.new.entries ≡ (if same_addr at other then Some chunk else lookup (same_addr other) chunks.old.entries) }
     ensures sums { (f : Chunk → ℕ) → sum_by f (values_of chunks.new.entries) + unwrap_or (option_map f (lookup (same_addr at) chunks.old.entries)) 0 ≡ sum_by f (values_of chunks.old.entries) + f chunk }
-    ensures unique { IsUnique chunks.old.entries → IsUnique chunks.new.entries }
+    ensures unique { IsUnique chunks.new.entries }
 {
     *chunks = chunks.with(at, chunk);
 }
 
 /// Takes off what stands at an address.
 #[inline]
+#[tactic(auto, using(crate::proofs::Listed::listed))]
 pub fn forget(chunks: &mut Chunks, at: Addr)
     requires { IsUnique chunks.old.entries }
     ensures at { (other : Addr) → lookup (same_addr other) chunks.new.entries ≡ (if same_addr at other then None else lookup (same_addr other) chunks.old.entries) }

@@ -7,6 +7,7 @@ pub const LAST: u8 = 10;
 
 /// The size of the chunks of a class.
 #[inline]
+#[tactic(auto, using(crate::proofs::ClassSizes::class_sizes))]
 pub fn class_size(class: u8) -> u32
     requires { class ≤ 10 }
     ensures value { result ≡ class_size class }

@@ -81,6 +81,7 @@ impl AllocSet {
     }
 
     /// What the context holds: `AllocSetStats`.
+    #[tactic(auto, unfolding(crate::specs::Ledger::stats))]
     pub fn stats(&self) -> Stats
         ensures stats { result ≡ stats self.now.ledger }
         ensures total { (footprint self.now).total ≡ result.total }
@@ -89,6 +90,7 @@ impl AllocSet {
     }
 
     /// What the context's regions have in all is what `stats` counts as their bytes. A caller cites the clause.
+    #[tactic(auto, unfolding(crate::specs::Ledger::stats))]
     pub fn counted(&self)
         ensures { (footprint self.now).total ≡ (stats self.now.ledger).total }
     {

@@ -1,7 +1,7 @@
 //! What an AllocSet does when a chunk gets another size.
-ghost use Rattle.std.specs.Prelude.{◌≡◌, ℕ, ◌+◌, ◌-◌, ◌^◌, ◌<◌, ◌≤◌, ◌↔◌, ◌⊎◌, ◌==◌, Ok, Err, Some, IfOk, IfErr, OnOk, OnErr, IsSome, IfSome, map, min, sum_by, unwrap_or, option_map, if◌then◌else◌};
+ghost use Rattle.std.specs.Prelude.{◌≡◌, ℕ, ◌+◌, ◌-◌, ◌^◌, ◌<◌, ◌≤◌, ◌↔◌, ◌⊎◌, ◌==◌, Ok, Err, Some, IfOk, IfErr, OnOk, OnErr, IsSome, IfSome, length, map, min, sum_by, unwrap_or, option_map, if◌then◌else◌};
 ghost use Rattle.std.specs.Map.{values_of, lookup};
-ghost use Rattle.addr_space.specs.Space.{Space, held, share, region_at, resized as with_length, overwritten, raised_by, Changes, IsOverLimit, IsKnown, Asks};
+ghost use Rattle.addr_space.specs.Space.{Space, held, share, region_at, bytes_of, byte_at, HasBytes, resized as with_length, overwritten, raised_by, Changes, IsOverLimit, IsKnown, Asks};
 ghost use Rattle.addr_space.specs.Footprint.{Agrees, Moves, Keeps};
 ghost use Rattle.chunk_header.specs.Header.{block_bytes};
 ghost use Rattle.alloc_set.specs.declared.chunk.Chunk.{Chunk};
@@ -17,6 +17,7 @@ use chunk_header::{CtxError, LARGEST, block_header, up8};
 use indexmap::IndexMap;
 
 // Notes another size of a block.
+#[tactic(auto, using(crate::proofs::Listed::noted_sums))]
 fn note_again(blocks: &mut IndexMap<u32, u32>, number: u32, size: u32)
     requires { IsSome (lookup (λ n. number == n) blocks.old.entries) }
     ensures at { (other : ℕ) → lookup (λ n. other == n) blocks.new.entries ≡ (if number == other then Some size else lookup (λ n. other == n) blocks.old.entries) }
@@ -34,7 +35,10 @@ fn resize_block(space: &mut Space, context: u32, region: u32, size: u32) -> Resu
     requires least { 48 ≤ size }
     requires most { size ≤ 2 ^ 31 }
     ensures changes { OnOk result (Changes space.old space.new region (overwritten (with_length (region_at space.old region) size) 0 (map Some (block_bytes context size)))) }
-    ensures held { OnOk result ((account : ℕ) → held space.new account + share account (region_at space.old region) ≡ held space.old account + share account (with_length (region_at space.old region) size)) }
+    ensures length { OnOk result (length (bytes_of (region_at space.new region)) ≡ size) }
+    ensures word { OnOk result (HasBytes space.new (record { region = region; offset = 0 }) (block_bytes context size)) }
+    ensures stays { OnOk result ((k : ℕ) → 8 ≤ k → k < size → k < length (bytes_of (region_at space.old region)) → byte_at space.new region k ≡ byte_at space.old region k) }
+    ensures held { OnOk result ((account : ℕ) → held space.new account + share account (region_at space.old region) ≡ held space.old account + share account (region_at space.new region)) }
     ensures taken { OnOk result (space.new.taken ≡ raised_by space.old.taken (region_at space.old region) size) }
     ensures no_space { (result ≡ Err CtxError.NoSpace) ↔ IsOverLimit space.old (region_at space.old region) size }
     ensures no_other { IfErr result (λ e. (e ≡ CtxError.NoSpace) ⊎ (e ≡ CtxError.Memory)) }
@@ -180,6 +184,7 @@ impl Books {
     }
 
     // Resizes a chunk that has its block for itself.
+    #[tactic(auto, using(crate::proofs::ClassSizes::class_sizes))]
     fn resize_own(
         &mut self,
         space: &mut Space,

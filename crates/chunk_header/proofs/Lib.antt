@@ -4,3 +4,5 @@ pub mod Known
 pub mod Doubling
 pub mod Sums
 pub mod Marks
+pub mod Wrote
+pub mod Put

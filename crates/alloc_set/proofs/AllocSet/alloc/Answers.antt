@@ -1,17 +1,22 @@
 use Rattle.std.proofs.Common.{ap, sym, subst, ◌∙◌}
 use Rattle.addr_space.specs.Footprint.{Agrees}
-use Rattle.addr_space.proofs.Options.{on_ok}
+use Rattle.addr_space.proofs.Options.{on_ok, on_err, both_err, either_way}
+use Rattle.addr_space.proofs.Steps.{Moves-same, Keeps-same}
 use Rattle.alloc_set.specs.State.{SetState, footprint}
 use Rattle.alloc_set.specs.Kept.{state_of}
-use Rattle.alloc_set.proofs.Refused.{Moves-whatever, Keeps-whatever}
 use Rattle.alloc_set.proofs.AllocSet.alloc.Goals as goal
 
 pub returns-clause-moves : goal.returns-clause-moves
 returns-clause-moves c =
-    rw (← (ap state_of c.deref_mut.ensures.value ∙ c.self.view_is))
-    (Moves-whatever (state_of c.deref_mut.result.now) (state_of c.alloc.new.self) c.args.space.now c.alloc.new.space c.alloc.result (subst (λ (x : SetState). Agrees (footprint x) c.args.space.now) (sym (ap state_of c.deref_mut.ensures.value ∙ c.self.view_is)) c.requires) c.alloc.ensures.err_state c.alloc.ensures.err_space (on_ok c.alloc.result (λ at had. had.moves) c.alloc.ensures.ok))
+    let f = footprint (state_of c.deref_mut.result.now) in
+    let g = footprint (state_of c.alloc.new.self) in
+    let is = ap state_of c.deref_mut.ensures.value ∙ c.self.view_is in
+    rw (← is)
+    (either_way c.alloc.result (on_ok c.alloc.result (λ at had. had.moves) c.alloc.ensures.ok) (both_err c.alloc.result (Moves-same f g c.args.space.now c.alloc.new.space (subst (λ (x : SetState). Agrees (footprint x) c.args.space.now) (sym is) c.requires)) (on_err c.alloc.result (ap footprint) c.alloc.ensures.err_state) c.alloc.ensures.err_space))
 
 pub returns-clause-keeps : goal.returns-clause-keeps
 returns-clause-keeps c =
+    let f = footprint (state_of c.deref_mut.result.now) in
+    let g = footprint (state_of c.alloc.new.self) in
     rw (← (ap state_of c.deref_mut.ensures.value ∙ c.self.view_is))
-    (Keeps-whatever (state_of c.deref_mut.result.now) (state_of c.alloc.new.self) c.args.space.now c.alloc.new.space c.alloc.result c.alloc.ensures.err_space (on_ok c.alloc.result (λ at had. had.keeps) c.alloc.ensures.ok))
+    (either_way c.alloc.result (on_ok c.alloc.result (λ at had. had.keeps) c.alloc.ensures.ok) (on_err c.alloc.result (Keeps-same f g c.args.space.now c.alloc.new.space) c.alloc.ensures.err_space))

@@ -1,12 +1,17 @@
+use Rattle.std.proofs.Common.{◌-◌}
+use Rattle.addr_space.proofs.Options.{from_then}
+use Rattle.alloc_set.specs.State.{chunk_at, start_of, live_size, live_place}
 use Rattle.alloc_set.specs.Kept.{state_of}
-use Rattle.alloc_set.proofs.Leads.{AllHeaded-settled, AllOfKind-settled, takes-settled}
+use Rattle.alloc_set.proofs.Leads.{headed_by, header_is, takes_by}
 use Rattle.alloc_set.proofs.AllocSet.headed.Goals as goal
 
-pub returns-clause-headed : goal.returns-clause-headed
-returns-clause-headed c = rw (← c.self.view_is) (AllHeaded-settled (state_of c.self.inside.books.value) c.self.inside.books.value.active.region c.self.inside.books.value.active.size c.self.invariant.settled)
-
-pub returns-clause-spaces : goal.returns-clause-spaces
-returns-clause-spaces c = rw (← c.self.view_is) (takes-settled (state_of c.self.inside.books.value) c.self.inside.books.value.active.region c.self.inside.books.value.active.size c.self.invariant.settled)
-
-pub returns-clause-kinds : goal.returns-clause-kinds
-returns-clause-kinds c = rw (← c.self.view_is) (AllOfKind-settled (state_of c.self.inside.books.value) c.self.inside.books.value.active.region c.self.inside.books.value.active.size c.self.invariant.settled)
+pub returns : goal.returns
+returns c =
+    let b = c.self.inside.books.value in
+    let s = state_of b in
+    let settled = c.self.invariant.settled in
+    rw (← c.self.view_is) (record {
+      headed = λ at n live. let had = from_then live_size (chunk_at s at) n live in headed_by s b.active.region b.active.size settled at had.0 had.1;
+      kinds = λ at n live. let had = from_then live_size (chunk_at s at) n live in (headed_by s b.active.region b.active.size settled at had.0 had.1, (header_is had.0 (at.offset - 8 - start_of s at.region)).1);
+      spaces = λ at place is. let had = from_then live_place (chunk_at s at) place is in takes_by s b.active.region b.active.size settled at had.0 had.1 place had.2;
+    })

@@ -13,19 +13,9 @@ overflow_sub-result-2 c =
     let zeros = count_leading_zeros 32 (c.args.size - 1) in
     omega (arith, (class-bits c.args.size zeros (omega (arith, c.if-size-le8.false)) c.requires refl).0)
 
-pub returns-clause-value : goal.returns-clause-value
+pub returns : goal.returns
 unfolding class_of
-returns-clause-value c =
+returns c =
     let zeros = count_leading_zeros 32 (c.args.size - 1) in
     let is = class-bits c.args.size zeros (omega (arith, c.if-size-le8.false)) c.requires refl in
-    sym (class_up_to-is 10 c.args.size (29 - zeros) is.1 is.2 is.3)
-
-pub returns-clause-last : goal.returns-clause-last
-returns-clause-last c =
-    let zeros = count_leading_zeros 32 (c.args.size - 1) in
-    (class-bits c.args.size zeros (omega (arith, c.if-size-le8.false)) c.requires refl).1
-
-pub returns-clause-holds : goal.returns-clause-holds
-returns-clause-holds c =
-    let zeros = count_leading_zeros 32 (c.args.size - 1) in
-    (class-bits c.args.size zeros (omega (arith, c.if-size-le8.false)) c.requires refl).2
+    record { value = sym (class_up_to-is 10 c.args.size (29 - zeros) is.1 is.2 is.3); last = is.1; holds = is.2 }

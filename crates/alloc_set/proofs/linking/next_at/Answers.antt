@@ -1,20 +1,47 @@
-use Rattle.std.proofs.Common.{sym, ◌∙◌, arith}
+use Rattle.std.proofs.Common.{◌≡◌, ℕ, ◌<◌, List, [], ◌∷◌, slice_index, Option, Some, None, refl, sym, ap, ◌∙◌, arith}
+use Rattle.std.specs.Int.{from_le_bytes, w32}
+use Rattle.std.proofs.lemmas.Nat.{from_le_bytes-to_le_bytes_4}
+use Rattle.addr_space.specs.declared.Addr.{Addr}
+use Rattle.addr_space.proofs.Addresses.{same_addr_from}
+use Rattle.chunk_header.specs.Header.{block_bytes}
+use Rattle.alloc_set.specs.Links.{IsLinkable}
 use Rattle.alloc_set.specs.State.{link_bytes}
-use Rattle.alloc_set.proofs.Links.{length-link_bytes, region-read, offset-read, next_none, next_some}
+use Rattle.alloc_set.proofs.Settled.{length-link_bytes}
 use Rattle.alloc_set.proofs.linking.next_at.Goals as goal
+
+-- the two numbers of a link
+abbrev link_region : Option Addr → ℕ
+link_region None = 0
+link_region (Some next) = next.region
+
+abbrev link_offset : Option Addr → ℕ
+link_offset None = 0
+link_offset (Some next) = next.offset
+
+numbers_read : (next : Option Addr) (word : List ℕ) → IsLinkable next → word ≡ link_bytes next
+    → (from_le_bytes w32 (slice_index word 0 ∷ slice_index word 1 ∷ slice_index word 2 ∷ slice_index word 3 ∷ []) ≡ link_region next) × (from_le_bytes w32 (slice_index word 4 ∷ slice_index word 5 ∷ slice_index word 6 ∷ slice_index word 7 ∷ []) ≡ link_offset next)
+unfolding block_bytes
+numbers_read None word linkable is = rw is (from_le_bytes-to_le_bytes_4 0 (omega arith), from_le_bytes-to_le_bytes_4 0 (omega arith))
+numbers_read (Some next) word linkable is = rw is (from_le_bytes-to_le_bytes_4 next.region linkable.0, from_le_bytes-to_le_bytes_4 next.offset linkable.2)
+
+-- they tell which chunk is next
+next_none : (next : Option Addr) → IsLinkable next → link_offset next ≡ 0 → None ≡ next
+next_none None linkable is = refl
+next_none (Some next) linkable is = absurd (omega (arith, linkable.1, is))
+
+next_some : (next : Option Addr) (region offset : ℕ) → region ≡ link_region next → offset ≡ link_offset next → 0 < offset → Some (record { region = region; offset = offset }) ≡ next
+next_some None region offset first second some = absurd (omega (arith, second, some))
+next_some (Some next) region offset first second some = ap Some (same_addr_from (record { region = region; offset = offset }) next first second)
 
 pub word_at-word-requires : goal.word_at-word-requires
 word_at-word-requires c = (link_bytes c.requires.0, length-link_bytes c.requires.0, c.requires.2)
 
 pub returns-then-offset-eq0 : goal.returns-then-offset-eq0
 returns-then-offset-eq0 c = λ next linkable has.
-    let word = c.word_at-word.ensures (link_bytes next) (length-link_bytes next) has in
-    let offset = c.from_le_bytes-offset.ensures ∙ offset-read next c.word_at-word.result linkable word in
-    next_none next linkable (sym offset ∙ c.if-offset-eq0.true)
+    let read = numbers_read next c.word_at-word.result linkable (c.word_at-word.ensures (link_bytes next) (length-link_bytes next) has) in
+    next_none next linkable (sym (c.from_le_bytes-offset.ensures ∙ read.1) ∙ c.if-offset-eq0.true)
 
 pub returns : goal.returns
 returns c = λ next linkable has.
-    let word = c.word_at-word.ensures (link_bytes next) (length-link_bytes next) has in
-    let region = c.from_le_bytes-region.ensures ∙ region-read next c.word_at-word.result linkable word in
-    let offset = c.from_le_bytes-offset.ensures ∙ offset-read next c.word_at-word.result linkable word in
-    next_some next c.from_le_bytes-region.result c.from_le_bytes-offset.result region offset (omega (arith, c.if-offset-eq0.false))
+    let read = numbers_read next c.word_at-word.result linkable (c.word_at-word.ensures (link_bytes next) (length-link_bytes next) has) in
+    next_some next c.from_le_bytes-region.result c.from_le_bytes-offset.result (c.from_le_bytes-region.ensures ∙ read.0) (c.from_le_bytes-offset.ensures ∙ read.1) (omega (arith, c.if-offset-eq0.false))

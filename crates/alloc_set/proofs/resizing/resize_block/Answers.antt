@@ -1,25 +1,52 @@
-use Rattle.std.proofs.Common.{◌≡◌, ℕ, ◌+◌, ◌-◌, ◌≤◌, ◌++◌, length, map, take, replicate, Some, None, ap, ◌∙◌, subst, arith}
-use Rattle.addr_space.specs.Space.{Region, Changes, region_at, overwritten, resized}
+use Rattle.std.proofs.Common.{◌≡◌, ℕ, ◌+◌, ◌-◌, ◌<◌, ◌≤◌, List, ◌++◌, length, map, get_or, take, replicate, Option, Some, None, refl, sym, ap, ◌∙◌, arith, rules, inr}
+use Rattle.std.proofs.lemmas.List.{length-append, length-take, length-replicate, get_or_append_left, get_or-take}
 use Rattle.addr_space.specs.declared.Addr.{Addr}
+use Rattle.addr_space.specs.Space.{Region, Changes, share, bytes_of, region_at, overwritten, resized}
 use Rattle.addr_space.proofs.Copied.{some_region}
-use Rattle.addr_space.proofs.Written.{held-written}
+use Rattle.addr_space.proofs.Written.{HasRegion-written, HasBytes-written, byte_at-apart, held-written}
 use Rattle.chunk_header.specs.Header.{block_bytes}
-use Rattle.alloc_set.proofs.Resized.{length-resized}
 use Rattle.chunk_header.proofs.Words.{length-block_bytes}
+use Rattle.chunk_header.proofs.Wrote.{share-owned}
 use Rattle.alloc_set.proofs.resizing.resize_block.Goals as goal
 
-pub returns-clause-held : goal.returns-clause-held
-returns-clause-held c = λ account.
+pub returns : goal.returns
+returns c =
     let s = c.args.space.now in
     let m = c.resize.new.self in
+    let t = c.write.new.self in
     let number : ℕ = c.args.region in
     let size : ℕ = c.args.size in
+    let word = block_bytes c.args.context size in
     let place : Addr = record { region = number; offset = 0 } in
     let it = some_region (region_at s number) c.requires.region in
-    let cut : Region = record it.0 { bytes = take size it.0.bytes ++ replicate (size - length it.0.bytes) None } in
+    let front : List (Option ℕ) = take size it.0.bytes in
+    let back : List (Option ℕ) = replicate (size - length it.0.bytes) None in
+    let cut : Region = record it.0 { bytes = front ++ back } in
     let found : region_at m number ≡ Some cut = c.in_ok-resize.ensures.changes.changed ∙ ap (λ r. resized r size) it.1 in
-    let wrote : Changes m c.write.new.self number (overwritten (region_at m number) 0 (map Some (block_bytes c.args.context size))) =
-    subst (λ b. Changes m c.write.new.self number (overwritten (region_at m number) 0 (map Some b))) c.block_header.ensures c.write.ensures.changes in
-    let inside : 0 + length (block_bytes c.args.context size) ≤ length cut.bytes = omega (arith, length-resized it.0.bytes size, length-block_bytes c.args.context size, c.requires.least) in
-    let same = held-written m c.write.new.self place (block_bytes c.args.context size) cut found inside wrote account in
-    omega (arith, same, c.in_ok-resize.ensures.held account)
+    let wrote : Changes m t number (overwritten (region_at m number) 0 (map Some word)) = rw (← c.block_header.ensures) c.write.ensures.changes in
+    let len : length cut.bytes ≡ size = simp (length-append, length-take, length-replicate) (omega arith) in
+    let eight = length-block_bytes c.args.context size in
+    let inside : 0 + length word ≤ length cut.bytes = omega (arith, len, eight, c.requires.least) in
+    let there = HasRegion-written m t place word cut found inside wrote number cut.account size (cut, found, refl, len) in
+    record {
+      changes = search rules;
+      length = rw there.1 there.3;
+      word = HasBytes-written m t place word cut found inside wrote;
+      stays = λ k behind below short.
+          let old : k < length it.0.bytes = omega (arith, short, ap (λ r. length (bytes_of r)) it.1) in
+          let taken : k < length front = simp length-take (omega arith) in
+          byte_at-apart m t place word cut found inside wrote number k (λ same. inr (omega (arith, eight, behind)))
+          ∙ ap (λ r. get_or (bytes_of r) k None) found ∙ get_or_append_left front back None k taken ∙ get_or-take size it.0.bytes k None below ∙ sym (ap (λ r. get_or (bytes_of r) k None) it.1);
+      held = λ account. omega (
+        arith,
+        held-written m t place word cut found inside wrote account,
+        c.in_ok-resize.ensures.held account,
+        ap (share account) c.in_ok-resize.ensures.changes.changed,
+        share-owned m cut.account number size account (cut, found, refl, len),
+        share-owned t cut.account number size account there,
+      );
+      taken = search rules;
+      no_space = search rules;
+      no_other = search rules;
+      err = search rules;
+    }

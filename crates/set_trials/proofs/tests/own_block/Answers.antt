@@ -5,7 +5,7 @@ use Rattle.chunk_header.specs.Growth.{up8}
 use Rattle.alloc_set.specs.Ledger.{SetLedger, SetPlace, Own, created, chunk_limit, limit_class, take, give, of_own, with_own, without_own, stats}
 use Rattle.alloc_set.specs.State.{place_at}
 use Rattle.alloc_set.proofs.Taken.{take-own, take_own-is}
-use Rattle.alloc_set.proofs.Places.{put-here}
+use Rattle.chunk_header.proofs.Put.{put-here}
 use Rattle.set_trials.proofs.tests.own_block.Goals as goal
 use Rattle.set_trials.proofs.tests.own_block.Goals.{In_ok-at, In_ok-free}
 

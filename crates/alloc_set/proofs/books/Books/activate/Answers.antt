@@ -1,15 +1,25 @@
-use Rattle.std.proofs.Common.{◌+◌, ◌-◌, refl, arith}
-use Rattle.alloc_set.specs.State.{mark_of}
-use Rattle.alloc_set.specs.Kept.{state_of}
-use Rattle.alloc_set.proofs.KeptActive.{IsSettled-active}
-use Rattle.alloc_set.proofs.Shelved.{IsShelved-same}
+use Rattle.std.proofs.Common.{◌≢◌, ℕ, arith}
+use Rattle.addr_space.specs.declared.Addr.{Addr}
+use Rattle.alloc_set.specs.Kept.{state_of, IsAlone}
+use Rattle.alloc_set.specs.declared.books.Books.{Books}
+use Rattle.alloc_set.specs.declared.chunk.Chunk.{Chunk}
+use Rattle.alloc_set.specs.declared.chunk.Chunk.TheVariants.{Live, Free, Own}
+use Rattle.alloc_set.proofs.Regions.{other_start}
 use Rattle.alloc_set.proofs.books.Books.activate.Goals as goal
+
+-- a chunk that is in another block than the one that is active now
+alone_now : (b : Books) (number : ℕ) (at : Addr) (chunk : Chunk) → at.region ≢ number → IsAlone (state_of b) b.active.region at chunk → IsAlone (state_of b) number at chunk
+alone_now b number at (Live class n) differs is = tt
+alone_now b number at (Free class after) differs is = tt
+alone_now b number at (Own n own) differs is = (differs, is.1, is.2, is.3)
 
 pub returns-clause-kept : goal.returns-clause-kept
 returns-clause-kept c =
     let b = c.args.self.now in
     let was = c.requires.kept.counted in
-    let small = c.requires.kept.settled.small c.args.region c.args.size c.requires.owned in
+    let settled = c.requires.kept.settled in
+    let shelved = c.requires.kept.shelved in
+    let small = settled.small c.args.region c.args.size c.requires.owned in
     record {
       counted = record {
         sizes = was.sizes;
@@ -22,10 +32,15 @@ returns-clause-kept c =
         blocks = was.blocks;
         rooms = omega (arith, c.requires.counted, c.from.ensures);
       };
-      settled = IsSettled-active (state_of b) (c.args.size - 40) (b.idle + c.from.result) c.min-self.result b.active.region b.active.size c.args.region c.args.size c.requires.kept.settled c.requires.owned c.requires.other c.requires.empty (omega (arith, small.1));
-      shelved = IsShelved-same (state_of b) _ b.shelves refl c.requires.kept.shelved;
+      settled = record {
+        active_owned = c.requires.owned;
+        active_room = omega (arith, other_start (state_of b) c.args.region c.requires.other, small.1);
+        small = settled.small;
+        placed = λ at chunk found.
+            let it = settled.placed at chunk found in
+            let differs : at.region ≢ c.args.region = λ region. let none = c.requires.empty at region in absurd (cc) in
+            record { len = it.len; owned = it.owned; first = it.first; last = it.last; whole = it.whole; below = λ region. absurd (differs region); sized = it.sized; alone = alone_now b c.args.region at chunk differs it.alone };
+        apart = settled.apart;
+      };
+      shelved = record { eleven = shelved.eleven; chain = shelved.chain; counted = shelved.counted; unique = shelved.unique };
     }
-
-pub returns-clause-footprint : goal.returns-clause-footprint
-unfolding mark_of
-returns-clause-footprint c = refl

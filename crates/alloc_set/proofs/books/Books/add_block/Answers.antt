@@ -1,68 +1,90 @@
-use Rattle.std.proofs.Common.{◌≡◌, ◌+◌, ◌^◌, ◌<◌, map, Some, None, ap, subst, refl, arith, rules}
+use Rattle.std.proofs.Common.{◌≡◌, ◌≢◌, ℕ, ◌+◌, ◌^◌, ◌<◌, map, min, Some, None, ap, ◌∙◌, sym, refl, arith, rules, inl, inr}
+use Rattle.addr_space.specs.declared.Addr.{Addr}
 use Rattle.addr_space.specs.Space.{Changes, region_at, overwritten}
+use Rattle.addr_space.proofs.Addresses.{same_addr_from}
+use Rattle.addr_space.proofs.Options.{option_cases, one_value}
 use Rattle.chunk_header.specs.Header.{block_bytes}
+use Rattle.chunk_header.proofs.Words.{length-block_bytes}
+use Rattle.chunk_header.proofs.Wrote.{Moves-taken, Keeps-taken}
 use Rattle.alloc_set.specs.Ledger.{with_own}
-use Rattle.alloc_set.specs.State.{region_of}
-use Rattle.alloc_set.specs.Kept.{state_of}
+use Rattle.alloc_set.specs.State.{region_of, start_of, footprint}
+use Rattle.alloc_set.specs.Kept.{state_of, IsSettled}
 use Rattle.alloc_set.specs.declared.books.Books.{Books}
-use Rattle.alloc_set.proofs.Added.{Adds, Moves-added}
-use Rattle.alloc_set.proofs.KeptAdded.{keeper_owned, unowned, not_noted, owned_now, others_now, count-le, IsKept-added}
+use Rattle.alloc_set.proofs.Altered.{Alters-blocks, old, new_block, new_header, new_link, IsSettled-altered, new_marks}
+use Rattle.alloc_set.proofs.Counted.{IsCounted-blocks}
+use Rattle.alloc_set.proofs.Regions.{noted, apart_keeper, other_start, region_now, regions_else, keeper_else}
+use Rattle.alloc_set.proofs.Settled.{IsSound-settled}
 use Rattle.alloc_set.proofs.books.Books.add_block.Goals as goal
-
-pub note-requires-clause-new : goal.note-requires-clause-new
-note-requires-clause-new c = not_noted (state_of c.args.self.now) c.in_ok-at.at.region (unowned (state_of c.args.self.now) c.args.space.now c.in_ok-at.at.region c.requires.agrees c.in_ok-at.ensures.fresh)
+use Rattle.alloc_set.proofs.books.Books.add_block.Goals.{In_ok-at}
 
 -- no region of the context had the number
-none : (c : goal.After-self-2-1) → region_of (state_of c.args.self.now) c.in_ok-at.at.region ≡ None
-none c = unowned (state_of c.args.self.now) c.args.space.now c.in_ok-at.at.region c.requires.agrees c.in_ok-at.ensures.fresh
+none : (c : In_ok-at) → region_of (state_of c.args.self.now) c.in_ok-at.at.region ≡ None
+none c =
+    let s = state_of c.args.self.now in
+    elim (option_cases (region_of s c.in_ok-at.at.region)) [
+      | inl without ↦ without
+      | inr owned ↦ let clash = sym c.in_ok-at.ensures.fresh ∙ (c.requires.agrees.regions c.in_ok-at.at.region owned.0 owned.1).1 in absurd (cc)
+    ]
 
--- its number has room in 4 bytes
-narrow : (c : goal.After-self-2-1) → c.in_ok-at.at.region < 2 ^ 32
-narrow c = search (rules, c.take.type_inv)
+pub note-requires-clause-new : goal.note-requires-clause-new
+note-requires-clause-new c =
+    let s = state_of c.args.self.now in
+    let free = none (goal.at.note-requires-clause-new c).In_ok-at in
+    sym (noted s c.in_ok-at.at.region (apart_keeper s c.in_ok-at.at.region free)) ∙ free
 
-now : goal.After-self-2-1 → Books
-now c = record c.args.self.now { blocks = c.note.new.blocks; total = c.args.self.now.total + c.from.result; count = c.args.self.now.count + 1 }
-
-adds : (c : goal.After-self-2-1) → Adds (state_of c.args.self.now) (state_of (now c)) c.in_ok-at.at.region c.args.size
-unfolding now
-adds c = record {
-  account = refl;
-  context = refl;
-  keeper = refl;
-  chunks = refl;
-  room = refl;
-  total = ap (λ n. c.args.self.now.total + n) c.from.ensures;
-  fresh = none c;
-  owned = owned_now (state_of c.args.self.now) (state_of (now c)) c.in_ok-at.at.region c.args.size (none c) refl refl c.note.ensures.at;
-  others = others_now (state_of c.args.self.now) (state_of (now c)) c.in_ok-at.at.region c.args.size (none c) refl refl c.note.ensures.at;
-}
-
-pub overflow_add-self-2 : goal.overflow_add-self-2
-overflow_add-self-2 c = omega (arith, count-le c.args.self.now c.requires.kept.counted, c.requires.kept.counted.most)
-
-pub returns-clause-kept : goal.returns-clause-kept
-unfolding now
-returns-clause-kept c =
-    IsKept-added c.args.self.now (now c) c.in_ok-at.at.region c.args.size c.requires.kept (adds c) c.requires.least c.requires.most (narrow c)
-    refl refl refl refl refl refl refl c.note.ensures.sums (omega (arith, c.if-self-gt-MOST.false)) c.note.ensures.at
-
-pub returns-clause-ledger : goal.returns-clause-ledger
+pub returns : goal.returns
 unfolding with_own
-returns-clause-ledger c = ap (λ n. record (state_of c.args.self.now).ledger { total = c.args.self.now.total + n; blocks = c.args.self.now.count + 1 }) c.from.ensures
-
-pub returns-clause-owned : goal.returns-clause-owned
-unfolding now
-returns-clause-owned c = (adds c).owned
-
-pub returns-clause-moves : goal.returns-clause-moves
-unfolding now
-returns-clause-moves c =
+returns c =
+    let b = c.args.self.now in
+    let s = state_of b in
+    let took = c.in_ok-at.ensures in
     let number = c.in_ok-at.at.region in
-    let start : c.in_ok-at.at.offset ≡ 0 = c.in_ok-at.ensures.start in
-    let old = region_at c.take.new.self number in
-    let wrote : Changes c.take.new.self c.write.new.self number (overwritten old 0 (map Some (block_bytes c.args.self.now.context c.args.size))) =
-    subst (λ o. Changes c.take.new.self c.write.new.self number (overwritten old o (map Some (block_bytes c.args.self.now.context c.args.size)))) start
-    (subst (λ b. Changes c.take.new.self c.write.new.self number (overwritten old c.in_ok-at.at.offset (map Some b))) c.block_header.ensures c.write.ensures.changes) in
+    let size = c.args.size in
+    let n : Books = record b { blocks = c.note.new.blocks; total = b.total + c.from.result; count = b.count + 1 } in
+    let t = state_of n in
     let kept = c.requires.kept in
-    Moves-added (state_of c.args.self.now) (state_of (now c)) c.args.self.now.active.region c.args.self.now.active.size number c.args.size kept.settled (adds c)
-    (c.args.self.now.sizes.init, keeper_owned (state_of c.args.self.now)) c.requires.least c.requires.most (narrow c) c.args.space.now c.take.new.self c.write.new.self c.requires.agrees c.in_ok-at.ensures.fresh c.in_ok-at.ensures.changes c.in_ok-at.ensures.held wrote
+    let was = kept.counted in
+    let free = none (goal.at.returns c).In_ok-at in
+    let apart = apart_keeper s number free in
+    let start = other_start s number apart in
+    let narrow : number < 2 ^ 32 = search (rules, c.take.type_inv) in
+    let place : Addr = record { region = number; offset = 0 } in
+    let owned : region_of t number ≡ Some size = region_now s t number (Some size) refl refl apart c.note.ensures.at in
+    let others = regions_else s t number (Some size) refl refl apart c.note.ensures.at in
+    let differs : (other len : ℕ) → region_of s other ≡ Some len → other ≢ number = λ other len has same. let clash = sym free ∙ ap (region_of s) (sym same) ∙ has in absurd (cc) in
+    let alters = Alters-blocks s t number place refl refl refl refl others (λ at chunk found. let it = kept.settled.placed at chunk found in differs at.region it.len it.owned) in
+    let settled : IsSettled t b.active.region b.active.size =
+    IsSettled-altered s t (λ k. k ≡ number) place None b.active.region b.active.size kept.settled alters (others b.active.region (differs b.active.region b.active.size kept.settled.active_owned)) (omega arith)
+    (λ k len new has.
+    let is : len ≡ size = one_value (region_of t number) len size (ap (region_of t) (sym new) ∙ has) owned in
+    (omega (arith, is, c.requires.most), omega (arith, is, c.requires.least, ap (start_of s) new, start), omega (arith, new, narrow))) tt tt in
+    let wrote : Changes c.take.new.self c.write.new.self number (overwritten (region_at c.take.new.self number) 0 (map Some (block_bytes b.context size))) = rw (← c.block_header.ensures, ← took.start) c.write.ensures.changes in
+    record {
+      kept = record {
+        counted = IsCounted-blocks b n was refl was.filled (keeper_else s t number (Some size) refl refl apart c.note.ensures.at ∙ was.keeper) (omega (arith, was.total, c.from.ensures, c.note.ensures.sums (λ x. x)))
+            (omega (arith, c.if-self-gt-MOST.false, c.from.ensures, c.requires.most)) (omega (arith, was.blocks, c.note.ensures.sums (min 1), c.requires.least)) (omega (arith, was.rooms));
+        settled = settled;
+        shelved = record { eleven = kept.shelved.eleven; chain = kept.shelved.chain; counted = kept.shelved.counted; unique = kept.shelved.unique };
+      };
+      ledger = ap (λ n. record s.ledger { total = b.total + n; blocks = b.count + 1 }) c.from.ensures;
+      rest = refl;
+      owned = owned;
+      new = free;
+      others = others;
+      moves = Moves-taken (footprint s) (footprint t) c.args.space.now c.take.new.self c.write.new.self place size (block_bytes b.context size) c.requires.agrees took.fresh took.changes wrote (omega (arith, length-block_bytes b.context size, c.requires.least)) took.held
+          (IsSound-settled t b.active.region b.active.size settled) refl refl (ap (λ n. b.total + n) c.from.ensures) owned others (λ a word marked. elim (new_marks s t (λ k. k ≡ number) place None b.active.region b.active.size kept.settled alters a word marked) [
+            | old stays before ↦ inr (stays, before)
+            | new_block len new first has is ↦
+                let len_is : len ≡ size = one_value (region_of t number) len size (ap (region_of t) (sym new) ∙ has) owned in
+                inl (same_addr_from a place new (first ∙ ap (start_of s) new ∙ start), ap (block_bytes b.context) (sym len_is) ∙ is)
+            | new_header chunk differs here is bytes_are ↦ absurd (cc)
+            | new_link chunk here is has ↦ absurd (cc)
+          ]);
+      keeps = Keeps-taken (footprint s) (footprint t) c.args.space.now c.take.new.self c.write.new.self place size (block_bytes b.context size) c.requires.agrees took.fresh took.changes wrote;
+      asked = search rules;
+      fits = search rules;
+      no_space = search rules;
+      no_other = search rules;
+      err = search rules;
+      err_space = search rules;
+    }

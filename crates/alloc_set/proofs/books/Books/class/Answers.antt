@@ -1,49 +1,63 @@
-use Rattle.std.proofs.Common.{◌≡◌, Some, ap, ◌∙◌, arith}
-use Rattle.alloc_set.specs.State.{header_of}
+use Rattle.std.proofs.Common.{◌≡◌, ℕ, Some, None, IsSome, true, false, refl, sym, ap, ◌∙◌, arith, inl, inr}
+use Rattle.addr_space.specs.Space.{HasBytes}
+use Rattle.addr_space.proofs.Options.{from_then, option_cases}
+use Rattle.chunk_header.specs.declared.Header.{Header}
+use Rattle.chunk_header.specs.Header.{IsHeaded, header_place, header_bytes}
+use Rattle.alloc_set.specs.State.{chunk_at, live_size, header_of, footprint}
 use Rattle.alloc_set.specs.Kept.{state_of}
-use Rattle.alloc_set.specs.declared.chunk.Chunk.TheVariants.{Live}
-use Rattle.alloc_set.proofs.Reading.{live_there, dist_to, header_known, class_from, own_from}
+use Rattle.alloc_set.specs.declared.chunk.Chunk.{Chunk}
+use Rattle.alloc_set.specs.declared.chunk.Chunk.TheVariants.{Live, Free, Own}
+use Rattle.alloc_set.proofs.Leads.{headed_by}
 use Rattle.alloc_set.proofs.books.Books.class.Goals as goal
-use Rattle.alloc_set.proofs.books.Books.class.Goals.{After-header_at-header}
+use Rattle.alloc_set.proofs.books.Books.class.Goals.{Start}
 
-pub header_at-header-requires-clause-behind : goal.header_at-header-requires-clause-behind
-header_at-header-requires-clause-behind c =
-    let b = c.args.self.now in
-    let it = live_there (state_of b) c.args.at c.requires.live in
-    (header_known (state_of b) b.active.region b.active.size c.args.at it.0 c.args.space.now c.requires.kept.settled c.requires.agrees it.2).0
+-- a header that says so is that of a chunk of a class, and one that doesn't of a chunk with its block for itself
+class_from : (chunk : Chunk) (n dist : ℕ) (header : Header) → live_size chunk ≡ Some n → header ≡ header_of chunk dist → header.own ≡ false → (size : ℕ) × (chunk ≡ Live header.value size)
+class_from (Live class size) n dist header live is shared = (size, ap (λ c. Live c size) (sym (ap (λ (h : Header). h.value) is)))
+class_from (Free class next) n dist header live is shared = absurd (cc)
+class_from (Own size room) n dist header live is shared = let clash = sym shared ∙ ap (λ (h : Header). h.own) is in absurd (cc)
 
-pub header_at-header-requires-clause-known : goal.header_at-header-requires-clause-known
-header_at-header-requires-clause-known c =
-    let b = c.args.self.now in
-    let it = live_there (state_of b) c.args.at c.requires.live in
-    let known = header_known (state_of b) b.active.region b.active.size c.args.at it.0 c.args.space.now c.requires.kept.settled c.requires.agrees it.2 in
-    (header_of it.0 (dist_to (state_of b) c.args.at), known.1, known.2)
+own_from : (chunk : Chunk) (n dist : ℕ) (header : Header) → live_size chunk ≡ Some n → header ≡ header_of chunk dist → header.own ≡ true → (size : ℕ) × (room : ℕ) × (chunk ≡ Own size room)
+own_from (Live class size) n dist header live is own = let clash = sym own ∙ ap (λ (h : Header). h.own) is in absurd (cc)
+own_from (Free class next) n dist header live is own = absurd (cc)
+own_from (Own size room) n dist header live is own = (size, room, refl)
 
--- the header is that of the chunk
-header_is : (c : After-header_at-header) → c.header_at-header.result ≡ header_of (live_there (state_of c.args.self.now) c.args.at c.requires.live).0 (dist_to (state_of c.args.self.now) c.args.at)
-header_is c =
-    let b = c.args.self.now in
-    let it = live_there (state_of b) c.args.at c.requires.live in
-    let known = header_known (state_of b) b.active.region b.active.size c.args.at it.0 c.args.space.now c.requires.kept.settled c.requires.agrees it.2 in
-    c.header_at-header.ensures (header_of it.0 (dist_to (state_of b) c.args.at)) known.1 known.2
+-- a live chunk stands there, and its header before it
+there : (c : Start) → (chunk : Chunk) × (n : ℕ) × (chunk_at (state_of c.args.self.now) c.args.at ≡ Some chunk) × (live_size chunk ≡ Some n)
+there c =
+    elim (option_cases ((footprint (state_of c.args.self.now)).live c.args.at)) [
+      | inl none ↦ let it : IsSome {T = ℕ} None = rw none at c.requires.live in absurd (cc)
+      | inr some ↦ let it = from_then live_size (chunk_at (state_of c.args.self.now) c.args.at) some.0 some.1 in (it.0, some.0, it.1, it.2)
+    ]
+
+abbrev headed : (c : Start) → IsHeaded (footprint (state_of c.args.self.now)) c.args.at
+headed c = headed_by (state_of c.args.self.now) c.args.self.now.active.region c.args.self.now.active.size c.requires.kept.settled c.args.at (there c).0 (there c).2
+
+known : (c : Start) → HasBytes c.args.space.now (header_place c.args.at) (header_bytes (headed c).header)
+known c = c.requires.agrees.marks (header_place c.args.at) (header_bytes (headed c).header) (headed c).word
+
+pub header_at-header-requires : goal.header_at-header-requires
+header_at-header-requires c =
+    let d = (goal.at.header_at-header-requires c).Start in
+    record { behind = omega (arith, (c.requires.kept.settled.placed c.args.at (there d).0 (there d).2).first); known = ((headed d).header, (headed d).packable, known d) }
 
 pub returns-then-header-clause-own : goal.returns-then-header-clause-own
 returns-then-header-clause-own c =
-    let b = c.args.self.now in
-    let it = live_there (state_of b) c.args.at c.requires.live in
-    let own = own_from it.0 it.1 (dist_to (state_of b) c.args.at) c.header_at-header.result it.3 (header_is (goal.at.returns-then-header-clause-own c).After-header_at-header) c.if-header.true in
-    (own.0, own.1, it.2 ∙ ap Some own.2)
+    let d = (goal.at.returns-then-header-clause-own c).Start in
+    let own = own_from (there d).0 (there d).1 _ c.header_at-header.result (there d).3 (c.header_at-header.ensures (headed d).header (headed d).packable (known d)) c.if-header.true in
+    (own.0, own.1, (there d).2 ∙ ap Some own.2)
+
+-- the class that it says is that of the chunk
+class_is : (c : Start) (header : Header) → header ≡ (headed c).header → header.own ≡ false → (size : ℕ) × (chunk_at (state_of c.args.self.now) c.args.at ≡ Some (Live header.value size))
+class_is c header is shared = let class = class_from (there c).0 (there c).1 _ header (there c).3 is shared in (class.0, (there c).2 ∙ ap Some class.1)
 
 pub overflow_cast-result : goal.overflow_cast-result
 overflow_cast-result c =
-    let b = c.args.self.now in
-    let it = live_there (state_of b) c.args.at c.requires.live in
-    let class = class_from it.0 it.1 (dist_to (state_of b) c.args.at) c.header_at-header.result it.3 (header_is (goal.at.overflow_cast-result c).After-header_at-header) c.if-header.false in
-    omega (arith, (c.requires.kept.settled.placed c.args.at (Live c.header_at-header.result.value class.0) (it.2 ∙ ap Some class.1)).sized.0)
+    let d = (goal.at.overflow_cast-result c).Start in
+    let class = class_is d c.header_at-header.result (c.header_at-header.ensures (headed d).header (headed d).packable (known d)) c.if-header.false in
+    omega (arith, (c.requires.kept.settled.placed c.args.at (Live c.header_at-header.result.value class.0) class.1).sized.0)
 
 pub returns-clause-class : goal.returns-clause-class
 returns-clause-class c =
-    let b = c.args.self.now in
-    let it = live_there (state_of b) c.args.at c.requires.live in
-    let class = class_from it.0 it.1 (dist_to (state_of b) c.args.at) c.header_at-header.result it.3 (header_is (goal.at.returns-clause-class c).After-header_at-header) c.if-header.false in
-    (class.0, it.2 ∙ ap Some class.1)
+    let d = (goal.at.returns-clause-class c).Start in
+    class_is d c.header_at-header.result (c.header_at-header.ensures (headed d).header (headed d).packable (known d)) c.if-header.false

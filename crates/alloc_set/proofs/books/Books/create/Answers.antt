@@ -1,84 +1,99 @@
-use Rattle.std.proofs.Common.{◌≡◌, ℕ, ◌-◌, ◌%◌, ◌^◌, ◌<◌, ◌≤◌, ◌==◌, [], map, min, sum, sum_by, Some, replicate, refl, sym, ap, ◌∙◌, subst, arith, rules}
-use Rattle.addr_space.specs.Footprint.{Moves, nothing}
-use Rattle.addr_space.specs.Space.{Changes, region_at, overwritten}
-use Rattle.chunk_header.specs.Header.{block_bytes}
-use Rattle.chunk_header.specs.declared.Sizes.{Sizes}
-use Rattle.alloc_set.specs.Ledger.{chunk_limit, created}
-use Rattle.alloc_set.specs.State.{footprint}
+use Rattle.std.proofs.Common.{◌≡◌, ◌≢◌, ℕ, ◌+◌, ◌^◌, ◌<◌, ◌≤◌, ◌==◌, if◌then◌else◌, [], min, sum, sum_by, refl, ap, ◌∙◌, arith, rules, map, Some, None, sym, inl, inr}
 use Rattle.std.specs.Map.{lookup, values_of}
-use Rattle.alloc_set.specs.Kept.{no_shelf, state_of, taken_bytes, IsKept}
+use Rattle.std.proofs.lemmas.Bool.{cases_eq}
+use Rattle.addr_space.specs.declared.Addr.{Addr}
+use Rattle.addr_space.specs.Space.{Space, region_at, overwritten, unwritten, Changes, accounts, held}
+use Rattle.addr_space.specs.Footprint.{Moves, nothing}
+use Rattle.addr_space.proofs.Addresses.{same_addr_from}
+use Rattle.addr_space.proofs.Options.{one_value}
+use Rattle.addr_space.proofs.Steps.{Agrees-nothing}
+use Rattle.chunk_header.specs.Header.{block_bytes}
+use Rattle.chunk_header.proofs.Words.{length-block_bytes}
+use Rattle.chunk_header.proofs.Wrote.{Moves-taken}
+use Rattle.alloc_set.specs.Ledger.{created}
+use Rattle.alloc_set.specs.Kept.{new_books, state_of, taken_bytes, IsKept, IsSettled}
 use Rattle.alloc_set.specs.declared.books.Books.{Books}
-use Rattle.alloc_set.proofs.KeptNew.{IsSettled-new, IsShelved-none, Moves-new}
+use Rattle.alloc_set.specs.State.{SetState, region_of, start_of, footprint}
+use Rattle.alloc_set.proofs.Empty.{no_chunk, IsShelved-none, IsSettled-empty}
+use Rattle.alloc_set.proofs.Regions.{keeper_owned, keeper_start, noted}
+use Rattle.alloc_set.proofs.Settled.{block, header, link, behind, mark_cases, IsSound-settled}
 use Rattle.alloc_set.proofs.books.Books.create.Goals as goal
 
--- the books of a new context whose first block is in a region, with the maps of others
-abbrev placed : ℕ → ℕ → Sizes → ℕ → Books → Books
-placed account context sizes region b = record {
-  account = account;
-  context = context;
-  sizes = sizes;
-  limit = chunk_limit sizes.max;
-  next = sizes.init;
-  keeper = region;
-  active = record { region = region; size = sizes.init; room = sizes.init - 240 };
-  blocks = b.blocks;
-  chunks = b.chunks;
-  shelves = replicate 11 no_shelf;
-  total = sizes.init;
-  count = 1;
-  idle = 0;
-}
+-- a context that has its first block alone
+module _ (s : SetState) (blocks : s.blocks ≡ []) (chunks : s.chunks ≡ []) (large : 1024 ≤ s.ledger.init) (small : s.ledger.init ≤ 8388608) (room : s.ledger.room + 240 ≡ s.ledger.init) (narrow : s.keeper < 2 ^ 32) where
+  none_else : (number : ℕ) → number ≢ s.keeper → region_of s number ≡ None
+  none_else number differs = noted s number differs ∙ ap (λ bs. lookup (λ n. number == n) bs) blocks
 
-abbrev with_keeper : ℕ → Books → Books
-with_keeper region b = record b { keeper = region }
+  -- the keeper is the only region
+  only_keeper : (number len : ℕ) → region_of s number ≡ Some len → (number ≡ s.keeper) × (len ≡ s.ledger.init)
+  only_keeper number len owned =
+      elim (cases_eq number s.keeper) [
+        | inl same ↦ (same, one_value (region_of s s.keeper) len s.ledger.init (ap (region_of s) (sym same) ∙ owned) (keeper_owned s))
+        | inr differs ↦ let none = none_else number differs in absurd (cc)
+      ]
 
-abbrev with_active : ℕ → Books → Books
-with_active region b = record b { active = record b.active { region = region } }
+  IsSettled-new : IsSettled s s.keeper s.ledger.init
+  IsSettled-new =
+      IsSettled-empty s chunks room
+      (λ number len owned. let it = only_keeper number len owned in (omega (arith, it.1, small), omega (arith, it.1, large, ap (start_of s) it.0, keeper_start s), omega (arith, it.0, narrow)))
 
--- what the code keeps of it
-kept : (account context region : ℕ) (sizes : Sizes) (b : Books) → b.blocks.entries ≡ [] → b.chunks.entries ≡ [] → 1024 ≤ sizes.init → sizes.init ≤ sizes.max → sizes.max ≤ 8388608 → sizes.init % 8 ≡ 0 → sizes.max % 8 ≡ 0 → region < 2 ^ 32 → IsKept (placed account context sizes region b)
-kept account context region sizes b blocks chunks least order most whole_init whole_max narrow = record {
-  counted = record {
-    sizes = (least, order, most, whole_init, whole_max);
-    next = (least, order, whole_init);
-    limit = refl;
-    filled = omega (arith, least);
-    keeper = ap (λ e. lookup (λ n. region == n) e) blocks;
-    total = omega (arith, ap (λ e. sum (values_of e)) blocks);
-    most = omega (arith, order, most);
-    blocks = omega (arith, ap (λ e. sum_by (min 1) (values_of e)) blocks);
-    rooms = omega (arith, least, ap (λ e. sum_by taken_bytes (values_of e)) chunks);
-  };
-  settled = IsSettled-new (state_of (placed account context sizes region b)) blocks chunks least (omega (arith, order, most)) (omega (arith, least)) narrow;
-  shelved = IsShelved-none (state_of (placed account context sizes region b)) chunks;
-}
+  module _ (sp mp tp : Space) (below : s.account < accounts sp) (free : region_at sp s.keeper ≡ None) (took : Changes sp mp s.keeper (Some (unwritten s.account s.ledger.init)))
+      (total : s.ledger.total ≡ s.ledger.init)
+      (holds : (account : ℕ) → held mp account ≡ held sp account + (if s.account == account then s.ledger.init else 0))
+      (wrote : Changes mp tp s.keeper (overwritten (region_at mp s.keeper) 200 (map Some (block_bytes s.context s.ledger.init)))) where
+    Moves-new : Moves (nothing s.account s.context) (footprint s) sp tp
+    Moves-new =
+        let place : Addr = record { region = s.keeper; offset = 200 } in
+        Moves-taken (nothing s.account s.context) (footprint s) sp mp tp place s.ledger.init (block_bytes s.context s.ledger.init) (Agrees-nothing s.account s.context sp below) free took wrote
+        (omega (arith, length-block_bytes s.context s.ledger.init, large)) holds (IsSound-settled s s.keeper s.ledger.init IsSettled-new) refl refl (omega (arith, total)) (keeper_owned s) none_else
+        (λ b bytes marked. elim (mark_cases s b bytes marked) [
+          | block len first owned is ↦
+              let it = only_keeper b.region len owned in
+              inl (same_addr_from b place it.0 (first ∙ ap (start_of s) it.0 ∙ keeper_start s), ap (block_bytes s.context) (sym it.1) ∙ is)
+          | header chunk differs found is ↦ let none = no_chunk s chunks (behind b) in absurd (cc)
+          | link chunk found is ↦ let none = no_chunk s chunks b in absurd (cc)
+        ])
 
-pub returns-clause-kept : goal.returns-clause-kept
-returns-clause-kept c =
-    let r = c.in_ok-at.at.region in
-    let b : Books = c.unplaced.result in
-    let is : c.deref_mut-2.result.now ≡ with_keeper r (placed c.args.account c.args.context c.args.sizes 0 b) =
-    c.deref_mut-2.ensures.value ∙ ap (with_keeper r) (c.deref_mut.ensures.value ∙ c.in-Ok.ensures.ok ∙ c.unplaced.ensures.rest) in
-    subst (λ (x : Books). IsKept (with_active r x)) (sym is)
-    (kept c.args.account c.args.context r c.args.sizes b c.unplaced.ensures.blocks c.unplaced.ensures.chunks c.requires.least c.requires.order c.requires.most c.requires.whole_init c.requires.whole_max (search (rules, c.take.type_inv)))
-
-pub returns-clause-ledger : goal.returns-clause-ledger
+pub returns : goal.returns
 unfolding created
-returns-clause-ledger c =
+returns c =
     let r = c.in_ok-at.at.region in
+    let sizes = c.args.sizes in
     let b : Books = c.unplaced.result in
-    let is : c.deref_mut-2.result.now ≡ with_keeper r (placed c.args.account c.args.context c.args.sizes 0 b) =
-    c.deref_mut-2.ensures.value ∙ ap (with_keeper r) (c.deref_mut.ensures.value ∙ c.in-Ok.ensures.ok ∙ c.unplaced.ensures.rest) in
-    ap (λ (x : Books). (state_of (with_active r x)).ledger) is
-
-pub returns-clause-moves : goal.returns-clause-moves
-returns-clause-moves c =
-    let r = c.in_ok-at.at.region in
-    let b : Books = c.unplaced.result in
-    let init : ℕ = c.args.sizes.init in
-    let is : c.deref_mut-2.result.now ≡ with_keeper r (placed c.args.account c.args.context c.args.sizes 0 b) =
-    c.deref_mut-2.ensures.value ∙ ap (with_keeper r) (c.deref_mut.ensures.value ∙ c.in-Ok.ensures.ok ∙ c.unplaced.ensures.rest) in
-    let wrote : Changes c.take.new.self c.write.new.self r (overwritten (region_at c.take.new.self r) 200 (map Some (block_bytes c.args.context init))) =
-    subst (λ xs. Changes c.take.new.self c.write.new.self r (overwritten (region_at c.take.new.self r) 200 (map Some xs))) c.block_header.ensures c.write.ensures.changes in
-    subst (λ (x : Books). Moves (nothing c.args.account c.args.context) (footprint (state_of (with_active r x))) c.args.space.now c.write.new.self) (sym is)
-    (Moves-new (state_of (placed c.args.account c.args.context c.args.sizes r b)) c.unplaced.ensures.blocks c.unplaced.ensures.chunks c.requires.least (omega (arith, c.requires.order, c.requires.most)) (omega (arith, c.requires.least)) (search (rules, c.take.type_inv)) c.args.space.now c.take.new.self c.write.new.self c.requires.account c.in_ok-at.ensures.fresh c.in_ok-at.ensures.changes refl c.in_ok-at.ensures.held wrote)
+    let large = c.requires.least in
+    let narrow : r < 2 ^ 32 = search (rules, c.take.type_inv) in
+    let n : Books = new_books c.args.account c.args.context sizes r b in
+    let blocks = c.unplaced.ensures.blocks in
+    let chunks = c.unplaced.ensures.chunks in
+    let small : sizes.init ≤ 8388608 = omega (arith, c.requires.order, c.requires.most) in
+    let is : c.deref_mut-2.result.now ≡ record (new_books c.args.account c.args.context sizes 0 b) { keeper = r } =
+    c.deref_mut-2.ensures.value ∙ ap (λ (x : Books). record x { keeper = r }) (c.deref_mut.ensures.value ∙ c.in-Ok.ensures.ok ∙ c.unplaced.ensures.rest) in
+    let kept : IsKept n = record {
+      counted = record {
+        sizes = (large, c.requires.order, c.requires.most, c.requires.whole_init, c.requires.whole_max);
+        next = (large, c.requires.order, c.requires.whole_init);
+        limit = refl;
+        filled = omega (arith, large);
+        keeper = ap (λ e. lookup (λ n. r == n) e) blocks;
+        total = omega (arith, ap (λ e. sum (values_of e)) blocks);
+        most = omega (arith, small);
+        blocks = omega (arith, ap (λ e. sum_by (min 1) (values_of e)) blocks);
+        rooms = omega (arith, large, ap (λ e. sum_by taken_bytes (values_of e)) chunks);
+      };
+      settled = IsSettled-new (state_of n) blocks chunks large small (omega (arith, large)) narrow;
+      shelved = IsShelved-none (state_of n) chunks;
+    } in
+    record {
+      kept = rw is kept;
+      ledger = rw is refl;
+      account = rw is refl;
+      context = rw is refl;
+      live = λ at. rw (is, chunks) refl;
+      moves = rw is (Moves-new (state_of n) blocks chunks large small (omega (arith, large)) narrow c.args.space.now c.take.new.self c.write.new.self c.requires.account c.in_ok-at.ensures.fresh c.in_ok-at.ensures.changes refl c.in_ok-at.ensures.held
+          (rw c.block_header.ensures at c.write.ensures.changes));
+      place = λ at. rw (is, chunks) refl;
+      asked = search rules;
+      no_space = search rules;
+      no_other = search rules;
+      err = search rules;
+    }

@@ -1,49 +1,49 @@
-use Rattle.std.proofs.Common.{◌≡◌, ◌-◌, ap, ◌∙◌, refl, arith, Some}
-use Rattle.alloc_set.proofs.Places.{place-put}
+use Rattle.std.proofs.Common.{◌≡◌, ◌-◌, ap, ◌∙◌, sym, subst, arith, Some, option_and_then}
 use Rattle.alloc_set.specs.Ledger.{cut_off, class_bytes}
-use Rattle.alloc_set.specs.Kept.{state_of}
-use Rattle.alloc_set.proofs.KeptCut.{IsKept-live, live-without}
+use Rattle.alloc_set.specs.State.{chunk_at, live_size}
+use Rattle.alloc_set.specs.Kept.{state_of, taken_bytes, is_free, IsSettled, IsShelved}
 use Rattle.alloc_set.specs.declared.books.Books.{Books}
+use Rattle.alloc_set.specs.declared.books.Block.{Block}
+use Rattle.alloc_set.specs.declared.chunk.Chunk.{Chunk}
 use Rattle.alloc_set.specs.declared.chunk.Chunk.TheVariants.{Live}
-use Rattle.alloc_set.proofs.Stays.{LeavesLive-put}
+use Rattle.alloc_set.proofs.Counted.{IsCounted-chunks}
+use Rattle.alloc_set.proofs.Places.{place-put, PutsLive-chunk, LeavesLive-put}
+use Rattle.alloc_set.proofs.Shelved.{IsShelved-taken, IsTaken-none}
 use Rattle.alloc_set.proofs.books.Books.cut.Goals as goal
 
-pub returns-clause-kept : goal.returns-clause-kept
-returns-clause-kept c =
-    let b = c.args.self.now in
-    let n = c.carve.new.self in
-    let rest = c.carve.ensures.rest in
-    IsKept-live b n c.args.class c.carve.result (Live c.args.class c.args.size) c.requires.kept c.carve.ensures.carves c.carve.ensures.active
-    (ap (λ (x : Books). x.sizes) rest) (ap (λ (x : Books). x.next) rest) (ap (λ (x : Books). x.limit) rest) (ap (λ (x : Books). x.count) rest) (ap (λ (x : Books). x.idle) rest)
-    (c.carve.ensures.unique c.requires.kept.shelved.unique) (ap (λ (x : Books). x.shelves) rest) c.args.size refl c.carve.ensures.sums
-
-pub returns-clause-ledger : goal.returns-clause-ledger
+pub returns : goal.returns
 unfolding cut_off
-returns-clause-ledger c =
+returns c =
     let b = c.args.self.now in
     let n = c.carve.new.self in
-    let rest = c.carve.ensures.rest in
-    let room : n.active.room ≡ b.active.room - class_bytes c.args.class = omega (arith, c.carve.ensures.carves.room) in
-    ap (λ (x : Books). (state_of x).ledger) rest ∙ ap (λ r. record (state_of b).ledger { room = r }) room
-
-pub returns-clause-fresh : goal.returns-clause-fresh
-returns-clause-fresh c =
-    let b = c.args.self.now in
-    let n = c.carve.new.self in
-    let rest = c.carve.ensures.rest in
-    live-without b n c.args.class c.carve.result (Live c.args.class c.args.size) c.requires.kept c.carve.ensures.carves c.carve.ensures.active
-    (ap (λ (x : Books). x.sizes) rest) (ap (λ (x : Books). x.next) rest) (ap (λ (x : Books). x.limit) rest) (ap (λ (x : Books). x.count) rest) (ap (λ (x : Books). x.idle) rest)
-    (c.carve.ensures.unique c.requires.kept.shelved.unique)
-
-pub returns-clause-stays : goal.returns-clause-stays
-returns-clause-stays c =
-    let b = c.args.self.now in
-    let n = c.carve.new.self in
-    let rest = c.carve.ensures.rest in
-    LeavesLive-put (state_of b) (state_of n) c.carve.result (Some (Live c.args.class c.args.size)) c.carve.ensures.carves.chunks
-    (live-without b n c.args.class c.carve.result (Live c.args.class c.args.size) c.requires.kept c.carve.ensures.carves c.carve.ensures.active
-    (ap (λ (x : Books). x.sizes) rest) (ap (λ (x : Books). x.next) rest) (ap (λ (x : Books). x.limit) rest) (ap (λ (x : Books). x.count) rest) (ap (λ (x : Books). x.idle) rest)
-    (c.carve.ensures.unique c.requires.kept.shelved.unique))
-
-pub returns-clause-place : goal.returns-clause-place
-returns-clause-place c = place-put (state_of c.args.self.now) (state_of c.carve.new.self) c.carve.result (Some (Live c.args.class c.args.size)) c.carve.ensures.carves.chunks
+    let s = state_of b in
+    let t = state_of n in
+    let at = c.carve.result in
+    let it : Chunk = Live c.args.class c.args.size in
+    let done = c.carve.ensures in
+    let kept = c.requires.kept in
+    let none = ap (λ o. option_and_then live_size o) done.free in
+    let shelves = sym (ap (λ (x : Books). x.shelves) done.rest) in
+    let rest : n ≡ record b { active = n.active; chunks = n.chunks; shelves = n.shelves } = done.rest ∙ ap (λ s. record b { active = n.active; chunks = n.chunks; shelves = s }) shelves in
+    let room : n.active.room ≡ b.active.room - class_bytes c.args.class = omega (arith, done.room) in
+    record {
+      kept = record {
+        counted = IsCounted-chunks b n rest kept.counted (omega (arith, kept.counted.filled, done.room, ap (λ (x : Block). x.size) done.active, kept.settled.active_room)) (omega (arith, kept.counted.rooms, done.room, done.sums taken_bytes));
+        settled = subst (λ (x : Block). IsSettled t x.region x.size) (sym done.active) done.settled;
+        shelved = subst (IsShelved t) shelves (IsShelved-taken s t b.shelves at (Some it) kept.shelved done.chunk done.unique (IsTaken-none (chunk_at s at) done.free) (λ k under. omega (arith, done.sums (is_free k))));
+      };
+      ledger = ap (λ (x : Books). (state_of x).ledger) done.rest ∙ ap (λ r. record s.ledger { room = r }) room;
+      fresh = none;
+      live = PutsLive-chunk s t at (Some it) done.chunk;
+      stays = LeavesLive-put s t at (Some it) done.chunk none;
+      moves = done.moves;
+      keeps = done.keeps;
+      place = place-put s t at (Some it) done.chunk;
+      chunk = done.chunk;
+      region = done.region;
+      offset = done.offset;
+      rest = done.rest;
+      active = done.active;
+      sums = done.sums taken_bytes;
+      asked = done.asked;
+    }

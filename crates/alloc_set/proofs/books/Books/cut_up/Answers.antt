@@ -1,13 +1,36 @@
-use Rattle.std.proofs.Common.{◌≡◌, ℕ, suc, ◌-◌, ◌<◌, ◌≤◌, ap, ◌∙◌, sym, subst, arith}
+use Rattle.std.proofs.Common.{◌≡◌, ℕ, suc, ◌+◌, ◌-◌, ◌*◌, ◌/◌, ◌%◌, ◌<◌, ◌≤◌, List, ap, ◌∙◌, sym, subst, arith, get_or, refl}
+use Rattle.std.proofs.Math.Nat.{add-zero, pow-succ', mod-eq_of_lt, div-eq_of_lt, div-eq_of_lt-le, mod-eq-sub-mod}
+use Rattle.std.proofs.lemmas.List.{set-get_or}
 use Rattle.addr_space.proofs.Steps.{Moves-more, Keeps-more, same_stays}
 use Rattle.alloc_set.specs.Ledger.{SetLedger, class_bytes, cut_rest, cut_up, with_free}
 use Rattle.alloc_set.specs.State.{footprint}
 use Rattle.alloc_set.specs.Kept.{state_of}
 use Rattle.alloc_set.specs.declared.books.Books.{Books}
 use Rattle.alloc_set.specs.declared.books.Block.{Block}
-use Rattle.alloc_set.proofs.Cuts.{class_bytes-suc, cut_rest-in, cut_up-in, cut_rest-out, cut_up-out, cut_rest-zero, cut_up-zero}
-use Rattle.alloc_set.proofs.Stays.{LeavesLive-more}
+use Rattle.alloc_set.proofs.Places.{LeavesLive-more}
 use Rattle.alloc_set.proofs.books.Books.cut_up.Goals as goal
+
+class_bytes-suc : (class : ℕ) → class_bytes (suc class) + 8 ≡ 2 * class_bytes class
+class_bytes-suc class = omega (arith, pow-succ' 2 class)
+
+-- a chunk of the class fits
+cut-in : (class room : ℕ) (free : List ℕ) → class_bytes class ≤ room → room < class_bytes (suc class)
+    → (cut_rest (suc class) room ≡ cut_rest class (room - class_bytes class)) × (cut_up (suc class) room free ≡ cut_up class (room - class_bytes class) (with_free free class 1))
+unfolding cut_rest cut_up
+cut-in class room free fits little =
+    let less : room - class_bytes class < class_bytes class = omega (arith, class_bytes-suc class) in
+    let twice : room < (1 + 1) * class_bytes class = omega (arith, class_bytes-suc class) in
+    let once : 1 * class_bytes class ≤ room = omega arith in
+    let rest : room % class_bytes class ≡ room - class_bytes class = mod-eq-sub-mod fits ∙ mod-eq_of_lt less in
+    let one : room / class_bytes class ≡ 1 = div-eq_of_lt-le {k = 1} (class_bytes class) once twice in
+    (rw rest refl, rw (rest, one) refl)
+
+-- none fits
+cut-out : (class room : ℕ) (free : List ℕ) → room < class_bytes class → (cut_rest (suc class) room ≡ cut_rest class room) × (cut_up (suc class) room free ≡ cut_up class room free)
+unfolding cut_rest cut_up
+cut-out class room free little =
+    let same : with_free free class 0 ≡ free = rw (add-zero (get_or free class 0)) (set-get_or free class 0) in
+    (rw (mod-eq_of_lt little) refl, rw (mod-eq_of_lt little, div-eq_of_lt little, same) refl)
 
 pub loop-class-preserved-then-self-class_size : goal.loop-class-preserved-then-self-class_size
 loop-class-preserved-then-self-class_size c =
@@ -19,7 +42,6 @@ loop-class-preserved-then-self-class_size c =
     let up : suc class ≡ c.loop-class.class = omega (arith, c.loop-class-test.true) in
     let fits : class_bytes class ≤ m.active.room = omega (arith, c.class_size.ensures.value, c.if-self-class_size.true) in
     let little : m.active.room < class_bytes (suc class) = subst (λ k. m.active.room < class_bytes k) (sym up) kept.little in
-    let rest = c.cut_free.ensures.rest in
     let room : n.active.room ≡ m.active.room - class_bytes class = ap (λ (l : SetLedger). l.room) c.cut_free.ensures.ledger in
     let free : (state_of n).ledger.free ≡ with_free (state_of m).ledger.free class 1 = ap (λ (l : SetLedger). l.free) c.cut_free.ensures.ledger in
     let active : m.active ≡ record b.active { room = m.active.room } = kept.cut.active in
@@ -27,12 +49,7 @@ loop-class-preserved-then-self-class_size c =
       last = omega (arith, kept.last);
       cut = record {
         kept = c.cut_free.ensures.kept;
-        ledger = ap (λ (x : Books). record (state_of x).ledger { room = n.active.room; free = (state_of n).ledger.free }) rest ∙ ap (λ (l : SetLedger). record l { room = n.active.room; free = (state_of n).ledger.free }) kept.cut.ledger;
-        account = ap (λ (x : Books). x.account) rest ∙ kept.cut.account;
-        context = ap (λ (x : Books). x.context) rest ∙ kept.cut.context;
-        limit = ap (λ (x : Books). x.limit) rest ∙ kept.cut.limit;
-        keeper = ap (λ (x : Books). x.keeper) rest ∙ kept.cut.keeper;
-        blocks = ap (λ (x : Books). x.blocks) rest ∙ kept.cut.blocks;
+        rest = c.cut_free.ensures.rest ∙ ap (λ (x : Books). record x { active = n.active; chunks = n.chunks; shelves = n.shelves }) kept.cut.rest;
         active = c.cut_free.ensures.active ∙ ap (λ (x : Block). record x { room = n.active.room }) active;
         less = omega (arith, room, kept.cut.less);
         others = λ at differs. c.cut_free.ensures.others at (λ e. differs (e ∙ ap (λ (x : Block). x.region) active)) ∙ kept.cut.others at differs;
@@ -41,8 +58,8 @@ loop-class-preserved-then-self-class_size c =
         stays = LeavesLive-more (state_of b) (state_of m) (state_of n) kept.cut.stays c.cut_free.ensures.stays;
       };
       little = omega (arith, room, little, class_bytes-suc class);
-      room = ap (cut_rest class) room ∙ sym (cut_rest-in class m.active.room fits little) ∙ ap (λ k. cut_rest k m.active.room) up ∙ kept.room;
-      free = ap (λ r. cut_up class r (state_of n).ledger.free) room ∙ ap (cut_up class (m.active.room - class_bytes class)) free ∙ sym (cut_up-in class m.active.room (state_of m).ledger.free fits little) ∙ ap (λ k. cut_up k m.active.room (state_of m).ledger.free) up ∙ kept.free;
+      room = ap (cut_rest class) room ∙ sym (cut-in class m.active.room (state_of m).ledger.free fits little).0 ∙ ap (λ k. cut_rest k m.active.room) up ∙ kept.room;
+      free = ap (λ r. cut_up class r (state_of n).ledger.free) room ∙ ap (cut_up class (m.active.room - class_bytes class)) free ∙ sym (cut-in class m.active.room (state_of m).ledger.free fits little).1 ∙ ap (λ k. cut_up k m.active.room (state_of m).ledger.free) up ∙ kept.free;
       moves = Moves-more (footprint (state_of b)) (footprint (state_of m)) (footprint (state_of n)) c.args.space.now c.loop-class.space c.cut_free.new.space kept.moves c.cut_free.ensures.moves;
       keeps = Keeps-more (footprint (state_of b)) (footprint (state_of m)) (footprint (state_of n)) c.args.space.now c.loop-class.space c.cut_free.new.space (same_stays (footprint (state_of b)) (footprint (state_of m)) kept.cut.live) kept.keeps c.cut_free.ensures.keeps;
       asked = c.cut_free.ensures.asked ∙ kept.asked;
@@ -60,19 +77,17 @@ loop-class-preserved c =
       last = omega (arith, kept.last);
       cut = kept.cut;
       little = little;
-      room = sym (cut_rest-out class m.active.room little) ∙ ap (λ k. cut_rest k m.active.room) up ∙ kept.room;
-      free = sym (cut_up-out class m.active.room (state_of m).ledger.free little) ∙ ap (λ k. cut_up k m.active.room (state_of m).ledger.free) up ∙ kept.free;
+      room = sym (cut-out class m.active.room (state_of m).ledger.free little).0 ∙ ap (λ k. cut_rest k m.active.room) up ∙ kept.room;
+      free = sym (cut-out class m.active.room (state_of m).ledger.free little).1 ∙ ap (λ k. cut_up k m.active.room (state_of m).ledger.free) up ∙ kept.free;
       moves = kept.moves;
       keeps = kept.keeps;
       asked = kept.asked;
     }
 
 pub returns-clause-room : goal.returns-clause-room
-returns-clause-room c =
-    let zero : c.loop-class.class ≡ 0 = omega (arith, c.loop-class-test.false) in
-    sym (cut_rest-zero c.loop-class.self.active.room) ∙ ap (λ k. cut_rest k c.loop-class.self.active.room) (sym zero) ∙ c.loop-class.invariant.room
+unfolding cut_rest
+returns-clause-room c = let zero : c.loop-class.class ≡ 0 = omega (arith, c.loop-class-test.false) in rw zero at c.loop-class.invariant.room
 
 pub returns-clause-free : goal.returns-clause-free
-returns-clause-free c =
-    let zero : c.loop-class.class ≡ 0 = omega (arith, c.loop-class-test.false) in
-    sym (cut_up-zero c.loop-class.self.active.room (state_of c.loop-class.self).ledger.free) ∙ ap (λ k. cut_up k c.loop-class.self.active.room (state_of c.loop-class.self).ledger.free) (sym zero) ∙ c.loop-class.invariant.free
+unfolding cut_up
+returns-clause-free c = let zero : c.loop-class.class ≡ 0 = omega (arith, c.loop-class-test.false) in rw zero at c.loop-class.invariant.free

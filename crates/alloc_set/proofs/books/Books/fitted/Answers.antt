@@ -1,8 +1,38 @@
-use Rattle.std.proofs.Common.{ℕ, ◌-◌, ◌<◌, ◌∙◌, sym, arith, inl, inr}
+use Rattle.std.proofs.Common.{◌≡◌, ℕ, zero, suc, ◌-◌, ◌/◌, ◌<◌, ◌≤◌, ◌∙◌, sym, arith, inl, inr, Some, None, refl}
 use Rattle.std.proofs.lemmas.Bool.{cases_lt}
+use Rattle.std.proofs.lemmas.Bool.Decides.{nat_tests}
 use Rattle.addr_space.specs.Space.{held}
-use Rattle.alloc_set.proofs.Halving.{halved-fits, halved-stop, halved-go}
+use Rattle.alloc_set.specs.Ledger.{halved_by, halved}
 use Rattle.alloc_set.proofs.books.Books.fitted.Goals as goal
+
+-- any number of times that is enough gives the same
+halved_by-enough : (f g left need size : ℕ) → size ≤ f → size ≤ g → halved_by f left need size ≡ halved_by g left need size
+unfolding halved_by
+halved_by-enough zero zero left need size f_enough g_enough = refl
+halved_by-enough zero (suc g) left need size f_enough g_enough = grind (arith, nat_tests)
+halved_by-enough (suc f) zero left need size f_enough g_enough = grind (arith, nat_tests)
+halved_by-enough (suc f) (suc g) left need size f_enough g_enough =
+    elim (cases_lt 1048576 size) [
+      | inl large ↦ let next = halved_by-enough f g left need (size / 2) (omega arith) (omega arith) in grind (arith, nat_tests)
+      | inr small ↦ grind (arith, nat_tests)
+    ]
+
+-- a size that fits stays, one that doesn't is halved while it is large, and then it isn't to be had
+halved-fits : (left need size : ℕ) → size ≤ left → halved left need size ≡ Some size
+unfolding halved halved_by
+halved-fits left need zero fits = grind (arith, nat_tests)
+halved-fits left need (suc size) fits = grind (arith, nat_tests)
+
+halved-go : (left need size : ℕ) → left < size → 1048576 < size → need ≤ size / 2 → halved left need size ≡ halved left need (size / 2)
+unfolding halved halved_by
+halved-go left need size over large enough =
+    let once : halved_by (suc size) left need size ≡ halved_by size left need (size / 2) = grind (arith, nat_tests) in
+    halved_by-enough size (suc size) left need size (omega arith) (omega arith) ∙ once ∙ halved_by-enough size (size / 2) left need (size / 2) (omega arith) (omega arith)
+
+halved-stop : (left need size : ℕ) → left < size → size ≤ 1048576 → halved left need size ≡ None
+unfolding halved halved_by
+halved-stop left need zero over small = grind (arith, nat_tests)
+halved-stop left need (suc size) over small = grind (arith, nat_tests)
 
 pub loop-size-preserved : goal.loop-size-preserved
 loop-size-preserved c =
@@ -28,4 +58,4 @@ pub returns-after-loop-size-clause-some : goal.returns-after-loop-size-clause-so
 returns-after-loop-size-clause-some c = λ fits. sym c.loop-size.invariant.same ∙ halved-fits _ c.args.need c.loop-size.size fits
 
 pub returns-after-loop-size-clause-none : goal.returns-after-loop-size-clause-none
-returns-after-loop-size-clause-none c = λ over. sym c.loop-size.invariant.same ∙ halved-stop _ c.args.need c.loop-size.size over (inl c.loop-size-test.false)
+returns-after-loop-size-clause-none c = λ over. sym c.loop-size.invariant.same ∙ halved-stop _ c.args.need c.loop-size.size over c.loop-size-test.false

@@ -1,65 +1,53 @@
-use Rattle.std.proofs.Common.{◌≡◌, ◌-◌, ◌==◌, Some, min, refl, sym, ap, arith}
+use Rattle.std.proofs.Common.{◌≡◌, ℕ, ◌-◌, ◌==◌, Some, None, min, refl, sym, ap, ◌∙◌, arith, rules}
 use Rattle.std.specs.Map.{lookup}
+use Rattle.addr_space.specs.declared.Addr.{Addr}
+use Rattle.chunk_header.proofs.Wrote.{Moves-gone, Keeps-give}
 use Rattle.alloc_set.specs.Ledger.{without_own}
-use Rattle.alloc_set.specs.Kept.{state_of}
-use Rattle.alloc_set.proofs.Given.{Gives, IsSettled-given, Moves-given, noted, lookup_less, gone_now, others_left}
-use Rattle.alloc_set.proofs.Shelved.{IsShelved-same}
+use Rattle.alloc_set.specs.State.{region_of, footprint}
+use Rattle.alloc_set.specs.Kept.{state_of, IsSettled}
 use Rattle.alloc_set.specs.declared.books.Books.{Books}
+use Rattle.alloc_set.proofs.Altered.{Alters-blocks, old_or_fresh, IsSettled-altered, new_marks}
+use Rattle.alloc_set.proofs.Counted.{IsCounted-blocks}
+use Rattle.alloc_set.proofs.Regions.{noted, region_now, regions_else, keeper_else}
+use Rattle.alloc_set.proofs.Settled.{IsSound-settled}
 use Rattle.alloc_set.proofs.books.Books.give_block.Goals as goal
-
-now : goal.After-give → Books
-now c = record c.args.self.now { blocks = c.strike.new.blocks; total = c.args.self.now.total - c.from.result; count = c.args.self.now.count - 1 }
 
 -- the block's size was noted
 was : (c : goal.After-give) → lookup (λ n. c.args.number == n) c.args.self.now.blocks.entries ≡ Some c.args.size
-was c = noted (state_of c.args.self.now) c.args.number c.args.size c.requires.owned (λ e. c.requires.not_keeper (sym e))
+was c = sym (noted (state_of c.args.self.now) c.args.number c.requires.not_keeper) ∙ c.requires.owned
 
-gives : (c : goal.After-give) → Gives (state_of c.args.self.now) (state_of (now c)) c.args.number c.args.size
-unfolding now
-gives c = record {
-  account = refl;
-  context = refl;
-  keeper = refl;
-  chunks = refl;
-  room = refl;
-  total = omega (arith, c.from.ensures, c.requires.counted);
-  owned = c.requires.owned;
-  gone = gone_now (state_of c.args.self.now) (state_of (now c)) c.args.number refl refl c.strike.ensures.at (λ e. c.requires.not_keeper (sym e));
-  others = others_left (state_of c.args.self.now) (state_of (now c)) c.args.number refl refl c.strike.ensures.at;
-  empty = c.requires.empty;
-}
-
-pub returns-clause-kept : goal.returns-clause-kept
-unfolding now
-returns-clause-kept c =
+pub returns : goal.returns
+unfolding without_own
+returns c =
     let b = c.args.self.now in
+    let s = state_of b in
+    let number = c.args.number in
+    let size = c.args.size in
+    let n : Books = record b { blocks = c.strike.new.blocks; total = b.total - c.from.result; count = b.count - 1 } in
+    let t = state_of n in
     let kept = c.requires.kept in
-    let least = (kept.settled.small c.args.number c.args.size c.requires.owned).1 in
     let bytes = rw (was c) at (c.strike.ensures.sums (λ x. x)) in
     let ones = rw (was c) at (c.strike.ensures.sums (min 1)) in
+    let place : Addr = record { region = number; offset = 0 } in
+    let none : region_of t number ≡ None = region_now s t number None refl refl c.requires.not_keeper c.strike.ensures.at in
+    let others = regions_else s t number None refl refl c.requires.not_keeper c.strike.ensures.at in
+    let gone : (other len : ℕ) → other ≡ number → region_of t other ≡ Some len → ⊥ = λ other len same owned. let clash = sym (ap (region_of t) same ∙ none) ∙ owned in absurd (cc) in
+    let alters = Alters-blocks s t number place refl refl refl refl others (λ at chunk found region. let empty = c.requires.empty at region in absurd (cc)) in
+    let settled : IsSettled t b.active.region b.active.size =
+    IsSettled-altered s t (λ k. k ≡ number) place None b.active.region b.active.size kept.settled alters (others b.active.region (λ e. c.requires.not_active (sym e))) (omega arith) (λ other len new has. absurd (gone other len new has)) tt tt in
+    let sound = IsSound-settled t b.active.region b.active.size settled in
     record {
-      counted = record {
-        sizes = kept.counted.sizes;
-        next = kept.counted.next;
-        limit = kept.counted.limit;
-        filled = kept.counted.filled;
-        keeper = lookup_less c.args.number b.keeper b.blocks.entries c.strike.new.blocks.entries c.strike.ensures.at kept.counted.keeper;
-        total = omega (arith, kept.counted.total, c.from.ensures, bytes);
-        most = omega (arith, kept.counted.most);
-        blocks = omega (arith, kept.counted.blocks, ones, least);
-        rooms = omega (arith, c.requires.counted, c.from.ensures);
+      kept = record {
+        counted = IsCounted-blocks b n kept.counted refl kept.counted.filled (keeper_else s t number None refl refl c.requires.not_keeper c.strike.ensures.at ∙ kept.counted.keeper) (omega (arith, kept.counted.total, c.from.ensures, bytes)) (omega (arith, kept.counted.most))
+            (omega (arith, kept.counted.blocks, ones, (kept.settled.small number size c.requires.owned).1)) (omega (arith, c.requires.counted, c.from.ensures));
+        settled = settled;
+        shelved = record { eleven = kept.shelved.eleven; chain = kept.shelved.chain; counted = kept.shelved.counted; unique = kept.shelved.unique };
       };
-      settled = IsSettled-given (state_of b) (state_of (now c)) b.active.region b.active.size c.args.number c.args.size kept.settled (gives c) c.requires.not_active;
-      shelved = IsShelved-same (state_of b) (state_of (now c)) b.shelves refl kept.shelved;
+      ledger = ap (λ n. record s.ledger { total = b.total - n; blocks = b.count - 1 }) c.from.ensures;
+      rest = refl;
+      len = omega (arith, c.strike.ensures.len (rw (was c) refl));
+      moves = Moves-gone (footprint s) (footprint t) c.args.space.now c.give.new.self number size c.requires.agrees sound refl refl (omega (arith, c.from.ensures, c.requires.counted)) c.give.ensures.changes c.requires.owned none others
+          (λ at word marked. old_or_fresh s t (λ k. k ≡ number) place at word (new_marks s t (λ k. k ≡ number) place None b.active.region b.active.size kept.settled alters at word marked) (λ len new owned. gone at.region len new owned)) c.give.ensures.held;
+      keeps = Keeps-give (footprint s) (footprint t) c.args.space.now c.give.new.self number sound none c.give.ensures.changes;
+      asked = search rules;
     }
-
-pub returns-clause-ledger : goal.returns-clause-ledger
-unfolding without_own
-returns-clause-ledger c = ap (λ n. record (state_of c.args.self.now).ledger { total = c.args.self.now.total - n; blocks = c.args.self.now.count - 1 }) c.from.ensures
-
-pub returns-clause-moves : goal.returns-clause-moves
-unfolding now
-returns-clause-moves c =
-    let b = c.args.self.now in
-    Moves-given (state_of b) (state_of (now c)) b.active.region b.active.size c.args.number c.args.size c.requires.kept.settled (gives c) c.requires.not_active
-    c.args.space.now c.give.new.self c.requires.agrees c.give.ensures.changes c.give.ensures.held

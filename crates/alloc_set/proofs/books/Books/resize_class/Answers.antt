@@ -4,8 +4,7 @@ use Rattle.alloc_set.specs.Ledger.{Class, class_size, in_place, resize_class}
 use Rattle.alloc_set.specs.State.{live_size}
 use Rattle.alloc_set.specs.Kept.{state_of}
 use Rattle.alloc_set.proofs.Refits.{resize_class-stays}
-use Rattle.alloc_set.proofs.InPlace.{Reallocates-in_place}
-use Rattle.alloc_set.proofs.Places.{Refits-put}
+use Rattle.alloc_set.proofs.Places.{Reallocates-in_place, Refits-put}
 use Rattle.alloc_set.proofs.books.Books.resize_class.Goals as goal
 
 pub returns-then-size-class_size-clause-ok : goal.returns-then-size-class_size-clause-ok

@@ -1,71 +1,59 @@
-use Rattle.std.proofs.Common.{◌≡◌, map, Some, None, ap, subst, refl, arith, option_and_then}
-use Rattle.alloc_set.proofs.Places.{place-put}
+use Rattle.std.proofs.Common.{◌≡◌, ◌+◌, ◌-◌, ◌≤◌, ◌⊎◌, map, Some, None, refl, ap, arith, rules, option_and_then}
 use Rattle.addr_space.specs.declared.Addr.{Addr}
 use Rattle.addr_space.specs.Space.{Changes, region_at, overwritten}
 use Rattle.chunk_header.specs.Header.{header_bytes}
-use Rattle.alloc_set.specs.State.{chunk_at, header_of, live_size}
-use Rattle.alloc_set.specs.Kept.{state_of, is_free, taken_bytes}
-use Rattle.alloc_set.specs.Steps.{SameBlocks}
-use Rattle.alloc_set.proofs.Owned.{IsSettled-owned, Moves-owned}
-use Rattle.alloc_set.proofs.Shelved.{IsShelved-taken}
-use Rattle.alloc_set.proofs.KeptCut.{IsTaken-none}
+use Rattle.alloc_set.specs.State.{chunk_at, start_of, capacity_of, live_size, header_of}
+use Rattle.alloc_set.specs.Kept.{state_of, is_free, taken_bytes, IsPlaced}
 use Rattle.alloc_set.specs.declared.books.Books.{Books}
+use Rattle.alloc_set.specs.declared.chunk.Chunk.{Chunk}
 use Rattle.alloc_set.specs.declared.chunk.Chunk.TheVariants.{Own}
-use Rattle.alloc_set.proofs.Stays.{LeavesLive-put}
+use Rattle.alloc_set.proofs.Counted.{IsCounted-chunks, SameBlocks-chunks}
+use Rattle.alloc_set.proofs.Headed.{IsSettled-headed, Moves-headed, Keeps-headed}
+use Rattle.alloc_set.proofs.Places.{place-put, PutsLive-chunk, LeavesLive-put}
+use Rattle.alloc_set.proofs.Regions.{other_start}
+use Rattle.alloc_set.proofs.Shelved.{IsShelved-taken, IsTaken-none}
 use Rattle.alloc_set.proofs.books.Books.settle.Goals as goal
 
-same : (b n : Books) → n.account ≡ b.account → n.context ≡ b.context → n.keeper ≡ b.keeper → n.blocks ≡ b.blocks → n.sizes ≡ b.sizes → n.total ≡ b.total → SameBlocks (state_of b) (state_of n)
-same b n account context keeper blocks sizes total = record {
-  account = account;
-  context = context;
-  keeper = keeper;
-  blocks = ap (λ m. m.entries) blocks;
-  init = ap (λ s. s.init) sizes;
-  total = total;
-}
-
-pub returns-clause-kept : goal.returns-clause-kept
-returns-clause-kept c =
+pub returns : goal.returns
+returns c =
     let b = c.args.self.now in
     let n : Books = record b { chunks = c.put.new.chunks } in
+    let s = state_of b in
+    let t = state_of n in
+    let active = b.active in
     let at : Addr = record { region = c.args.region; offset = 48 } in
+    let room = c.args.room in
+    let it : Chunk = Own c.args.size room in
     let kept = c.requires.kept in
-    let was : chunk_at (state_of b) at ≡ None = c.requires.empty at refl in
+    let was : chunk_at s at ≡ None = c.requires.empty at refl in
+    let none = ap (λ o. option_and_then live_size o) was in
+    let same = SameBlocks-chunks b n refl in
+    let puts = c.put.ensures.at in
+    let start = other_start s at.region c.requires.not_keeper in
+    let placed : IsPlaced t active.region active.size at it = record {
+      len = room + 48;
+      owned = c.requires.owned;
+      first = omega (arith, start);
+      last = omega arith;
+      whole = refl;
+      below = λ e. absurd (c.requires.not_active e);
+      sized = c.requires.fits;
+      alone = (c.requires.not_active, c.requires.not_keeper, refl, c.requires.owned);
+    } in
+    let apart : (other : Addr) (there : Chunk) → chunk_at s other ≡ Some there → other.region ≡ at.region → (other.offset + capacity_of there + 8 ≤ 48) ⊎ (48 + room + 8 ≤ other.offset) = λ other there found region. let empty = c.requires.empty other region in absurd (cc) in
+    let wrote : Changes c.args.space.now c.write.new.self at.region (overwritten (region_at c.args.space.now at.region) 40 (map Some (header_bytes (header_of it (40 - start_of s at.region))))) = rw (start, ← c.bytes.ensures) c.write.ensures.changes in
     record {
-      counted = record {
-        sizes = kept.counted.sizes;
-        next = kept.counted.next;
-        limit = kept.counted.limit;
-        filled = kept.counted.filled;
-        keeper = kept.counted.keeper;
-        total = kept.counted.total;
-        most = kept.counted.most;
-        blocks = kept.counted.blocks;
-        rooms = let sums = rw was at (c.put.ensures.sums taken_bytes) in omega (arith, c.requires.counted, sums);
+      kept = record {
+        counted = IsCounted-chunks b n refl kept.counted kept.counted.filled (let sums = rw was at (c.put.ensures.sums taken_bytes) in omega (arith, c.requires.counted, sums));
+        settled = IsSettled-headed s t active.region active.size at it kept.settled same (omega arith) puts refl placed apart;
+        shelved = IsShelved-taken s t b.shelves at (Some it) kept.shelved puts c.put.ensures.unique (IsTaken-none (chunk_at s at) was) (λ k under. let sums = rw was at (c.put.ensures.sums (is_free k)) in omega (arith, sums));
       };
-      settled = IsSettled-owned (state_of b) (state_of n) b.active.region b.active.size c.args.region c.args.size c.args.room at kept.settled (same b n refl refl refl refl refl refl) refl refl refl c.put.ensures.at c.requires.owned c.requires.not_keeper c.requires.not_active c.requires.empty c.requires.fits;
-      shelved = IsShelved-taken (state_of b) (state_of n) b.shelves at (Some (Own c.args.size c.args.room)) kept.shelved c.put.ensures.at (c.put.ensures.unique kept.shelved.unique) (IsTaken-none (chunk_at (state_of b) at) was)
-          (λ k under. let sums = rw was at (c.put.ensures.sums (is_free k)) in omega (arith, sums));
+      ledger = refl;
+      fresh = none;
+      live = PutsLive-chunk s t at (Some it) puts;
+      stays = LeavesLive-put s t at (Some it) puts none;
+      moves = Moves-headed s t active.region active.size at it kept.settled same (omega arith) puts refl placed apart c.args.space.now c.write.new.self c.requires.agrees wrote;
+      keeps = Keeps-headed s t active.region active.size at it kept.settled same (omega arith) puts refl placed apart c.args.space.now c.write.new.self c.requires.agrees wrote;
+      place = place-put s t at (Some it) puts;
+      asked = search rules;
     }
-
-pub returns-clause-moves : goal.returns-clause-moves
-returns-clause-moves c =
-    let b = c.args.self.now in
-    let n : Books = record b { chunks = c.put.new.chunks } in
-    let at : Addr = record { region = c.args.region; offset = 48 } in
-    let wrote : Changes c.args.space.now c.write.new.self c.args.region (overwritten (region_at c.args.space.now c.args.region) 40 (map Some (header_bytes (header_of (Own c.args.size c.args.room) 40)))) =
-    subst (λ x. Changes c.args.space.now c.write.new.self c.args.region (overwritten (region_at c.args.space.now c.args.region) 40 (map Some x))) c.bytes.ensures c.write.ensures.changes in
-    Moves-owned (state_of b) (state_of n) b.active.region b.active.size c.args.region c.args.size c.args.room at c.requires.kept.settled (same b n refl refl refl refl refl refl) refl refl refl c.put.ensures.at c.requires.owned c.requires.not_keeper c.requires.not_active c.requires.empty c.requires.fits c.args.space.now c.write.new.self c.requires.agrees wrote
-
-pub returns-clause-stays : goal.returns-clause-stays
-returns-clause-stays c =
-    let b = c.args.self.now in
-    let n : Books = record b { chunks = c.put.new.chunks } in
-    let at : Addr = record { region = c.args.region; offset = 48 } in
-    LeavesLive-put (state_of b) (state_of n) at (Some (Own c.args.size c.args.room)) c.put.ensures.at (ap (λ o. option_and_then live_size o) (c.requires.empty at refl))
-
-pub returns-clause-place : goal.returns-clause-place
-returns-clause-place c =
-    let b = c.args.self.now in
-    let n : Books = record b { chunks = c.put.new.chunks } in
-    place-put (state_of b) (state_of n) (record { region = c.args.region; offset = 48 }) (Some (Own c.args.size c.args.room)) c.put.ensures.at

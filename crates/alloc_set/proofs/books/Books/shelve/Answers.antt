@@ -1,81 +1,61 @@
-use Rattle.std.proofs.Common.{◌≡◌, ◌+◌, length, map, Some, set, refl, ap, ◌∙◌, subst, arith}
+use Rattle.std.proofs.Common.{◌≡◌, ℕ, ◌+◌, ◌≤◌, length, map, Some, set, sum_by, refl, ap, ◌∙◌, subst, sym, arith, rules, inl, inr}
+use Rattle.std.specs.Map.{values_of}
+use Rattle.std.proofs.lemmas.List.{map-set}
 use Rattle.addr_space.specs.Space.{region_at, overwritten, Changes}
+use Rattle.alloc_set.specs.Ledger.{class_size}
 use Rattle.alloc_set.specs.State.{chunk_at, link_bytes}
-use Rattle.alloc_set.specs.Kept.{state_of, taken_bytes, shelf_at}
-use Rattle.alloc_set.specs.Listed.{IsUnique}
-use Rattle.alloc_set.proofs.Shelved.{count-few}
-use Rattle.alloc_set.proofs.Links.{length-link_bytes}
-use Rattle.alloc_set.proofs.KeptShelved.{IsInside-shelved, IsKept-shelved, ledger_now, place_now, live_now, others_now, Moves-shelved, Keeps-shelved}
+use Rattle.alloc_set.specs.Kept.{state_of, taken_bytes, is_free, shelf_at}
+use Rattle.alloc_set.specs.Steps.{PutsChunk}
 use Rattle.alloc_set.specs.declared.books.Books.{Books}
-use Rattle.alloc_set.specs.declared.chunk.Chunk.TheVariants.{Live}
+use Rattle.alloc_set.specs.declared.chunk.Chunk.{Chunk}
+use Rattle.alloc_set.specs.declared.chunk.Chunk.TheVariants.{Live, Free}
+use Rattle.alloc_set.specs.declared.chunk.Shelf.{Shelf}
+use Rattle.alloc_set.proofs.Altered.{put_cases}
+use Rattle.alloc_set.proofs.Counted.{IsCounted-chunks, SameBlocks-chunks}
+use Rattle.alloc_set.proofs.Flipped.{IsSettled-flipped, Moves-linked, Keeps-linked}
+use Rattle.alloc_set.proofs.Settled.{length-link_bytes}
+use Rattle.alloc_set.proofs.Places.{PutsPlace-chunk, PutsLive-chunk}
+use Rattle.alloc_set.proofs.Shelved.{count_is, IsShelved-freed, taken-live}
+use Rattle.alloc_set.proofs.ClassSizes.{class_size-least}
 use Rattle.alloc_set.proofs.books.Books.shelve.Goals as goal
-use Rattle.alloc_set.proofs.books.Books.shelve.Goals.{After-put}
 
 pub write-requires : goal.write-requires
 write-requires c =
+    let placed = c.requires.kept.settled.placed c.args.at (Live c.args.class c.requires.live.0) c.requires.live.1 in
+    let has = c.requires.agrees.regions c.args.at.region placed.len placed.owned in
+    let len = ap length c.link_bytes.ensures ∙ length-link_bytes (shelf_at c.args.self.now.shelves c.args.class).first in
+    record { live = rw has.1 refl; end_in_region = rw has.1 (omega (arith, len, has.3, placed.last, class_size-least c.args.class)) }
+
+pub returns : goal.returns
+returns c =
     let b = c.args.self.now in
-    let len = ap length c.link_bytes.ensures ∙ length-link_bytes (shelf_at b.shelves c.args.class).first in
-    IsInside-shelved b c.args.class c.requires.live.0 c.args.at c.requires.kept c.requires.live.1 c.args.space.now c.requires.agrees _ len
-
-pub overflow_add-self : goal.overflow_add-self
-overflow_add-self c = omega (arith, count-few c.args.self.now c.args.class c.requires.kept (omega (arith, c.requires.class)))
-
-now : After-put → Books
-now c =
-    let b = c.args.self.now in
-    record b { chunks = c.put.new.chunks; shelves = set b.shelves c.args.class (record { first = Some c.args.at; count = (shelf_at b.shelves c.args.class).count + 1 }) }
-
-was : (c : After-put) → chunk_at (state_of c.args.self.now) c.args.at ≡ Some (Live c.args.class c.requires.live.0)
-was c = c.requires.live.1
-
-unique : (c : After-put) → IsUnique c.put.new.chunks.entries
-unique c = c.put.ensures.unique c.requires.kept.shelved.unique
-
--- what was written
-wrote : (c : After-put) → Changes c.args.space.now c.write.new.self c.args.at.region (overwritten (region_at c.args.space.now c.args.at.region) c.args.at.offset (map Some (link_bytes (shelf_at c.args.self.now.shelves c.args.class).first)))
-wrote c = subst (λ xs. Changes c.args.space.now c.write.new.self c.args.at.region (overwritten (region_at c.args.space.now c.args.at.region) c.args.at.offset (map Some xs))) c.link_bytes.ensures c.write.ensures.changes
-
-pub returns-clause-kept : goal.returns-clause-kept
-unfolding now
-returns-clause-kept c =
-    let d = (goal.at.returns-clause-kept c).After-put in
-    IsKept-shelved d.args.self.now (now d) d.args.class d.requires.live.0 d.args.at d.requires.kept (was d) refl refl d.put.ensures.at (λ f. rw (was d) at (d.put.ensures.sums f)) (unique d)
-
-pub returns-clause-ledger : goal.returns-clause-ledger
-unfolding now
-returns-clause-ledger c =
-    let d = (goal.at.returns-clause-ledger c).After-put in
-    ledger_now d.args.self.now (now d) d.args.class d.requires.live.0 d.args.at d.requires.kept (was d) refl refl d.put.ensures.at (λ f. rw (was d) at (d.put.ensures.sums f)) (unique d)
-
-pub returns-clause-place : goal.returns-clause-place
-unfolding now
-returns-clause-place c =
-    let d = (goal.at.returns-clause-place c).After-put in
-    place_now d.args.self.now (now d) d.args.class d.requires.live.0 d.args.at d.requires.kept (was d) refl refl d.put.ensures.at (λ f. rw (was d) at (d.put.ensures.sums f)) (unique d)
-
-pub returns-clause-live : goal.returns-clause-live
-unfolding now
-returns-clause-live c =
-    let d = (goal.at.returns-clause-live c).After-put in
-    live_now d.args.self.now (now d) d.args.class d.requires.live.0 d.args.at d.requires.kept (was d) refl refl d.put.ensures.at (λ f. rw (was d) at (d.put.ensures.sums f)) (unique d)
-
-pub returns-clause-others : goal.returns-clause-others
-unfolding now
-returns-clause-others c =
-    let d = (goal.at.returns-clause-others c).After-put in
-    others_now d.args.self.now (now d) d.args.class d.requires.live.0 d.args.at d.requires.kept (was d) refl refl d.put.ensures.at (λ f. rw (was d) at (d.put.ensures.sums f)) (unique d)
-
-pub returns-clause-moves : goal.returns-clause-moves
-unfolding now
-returns-clause-moves c =
-    let d = (goal.at.returns-clause-moves c).After-put in
-    Moves-shelved d.args.self.now (now d) d.args.class d.requires.live.0 d.args.at d.requires.kept (was d) refl refl d.put.ensures.at (λ f. rw (was d) at (d.put.ensures.sums f)) (unique d) d.args.space.now d.write.new.self d.requires.agrees (wrote d)
-
-pub returns-clause-keeps : goal.returns-clause-keeps
-unfolding now
-returns-clause-keeps c =
-    let d = (goal.at.returns-clause-keeps c).After-put in
-    Keeps-shelved d.args.self.now (now d) d.args.class d.requires.live.0 d.args.at d.requires.kept (was d) refl refl d.put.ensures.at (λ f. rw (was d) at (d.put.ensures.sums f)) (unique d) d.args.space.now d.write.new.self d.requires.agrees (wrote d)
-
-pub returns-clause-sums : goal.returns-clause-sums
-returns-clause-sums c = let sums = rw (was (goal.at.returns-clause-sums c).After-put) at (c.put.ensures.sums taken_bytes) in omega (arith, sums)
+    let at = c.args.at in
+    let class : ℕ = c.args.class in
+    let size : ℕ = c.requires.live.0 in
+    let shelf = shelf_at b.shelves class in
+    let new : Shelf = record { first = Some at; count = shelf.count + 1 } in
+    let n : Books = record b { chunks = c.put.new.chunks; shelves = set b.shelves class new } in
+    let kept = c.requires.kept in
+    let was : chunk_at (state_of b) at ≡ Some (Live class size) = c.requires.live.1 in
+    let now : Chunk = Free class shelf.first in
+    let puts : PutsChunk (state_of b) (state_of n) at (Some now) = c.put.ensures.at in
+    let sums : (f : Chunk → ℕ) → sum_by f (values_of n.chunks.entries) + f (Live class size) ≡ sum_by f (values_of b.chunks.entries) + f now = λ f. rw was at (c.put.ensures.sums f) in
+    let sized : (class ≤ 10) × (size ≤ class_size class) = (kept.settled.placed at (Live class size) was).sized in
+    let same = SameBlocks-chunks b n refl in
+    let wrote = subst (λ xs. Changes c.args.space.now c.write.new.self at.region (overwritten (region_at c.args.space.now at.region) at.offset (map Some xs))) c.link_bytes.ensures c.write.ensures.changes in
+    record {
+      kept = record {
+        counted = IsCounted-chunks b n refl kept.counted kept.counted.filled (omega (arith, kept.counted.rooms, sums taken_bytes));
+        settled = IsSettled-flipped (state_of b) (state_of n) b.active.region b.active.size at (Live class size) now kept.settled same refl was puts refl sized.0 tt (λ dist. refl);
+        shelved = IsShelved-freed (state_of b) (state_of n) b.shelves at (Some now) kept.shelved puts c.put.ensures.unique class (omega (arith, sized.0)) (taken-live (chunk_at (state_of b) at) class size was) refl (λ k under. omega (arith, sums (is_free k)));
+      };
+      ledger = ap (λ f. record (state_of b).ledger { free = f }) (map-set (λ (s : Shelf). s.count) b.shelves class new ∙ ap (λ x. set (map (λ (s : Shelf). s.count) b.shelves) class (x + 1)) (sym (count_is b class kept (omega (arith, sized.0)))));
+      live = PutsLive-chunk (state_of b) (state_of n) at (Some now) puts;
+      moves = Moves-linked (state_of b) (state_of n) b.active.region b.active.size at (Live class size) now kept.settled same refl was puts refl sized.0 tt (λ dist. refl) size (link_bytes shelf.first) refl refl c.args.space.now c.write.new.self c.requires.agrees wrote;
+      keeps = Keeps-linked (state_of b) (state_of n) b.active.region b.active.size at (Live class size) now kept.settled same refl was puts refl sized.0 tt (λ dist. refl) size (link_bytes shelf.first) refl refl c.args.space.now c.write.new.self c.requires.agrees wrote;
+      place = PutsPlace-chunk (state_of b) (state_of n) at (Some now) puts;
+      others = λ other differs. elim (put_cases (state_of b) (state_of n) at (Some now) puts other) [ inl here ↦ absurd (differs here.0) | inr there ↦ there.1 ];
+      sums = omega (arith, sums taken_bytes);
+      rest = refl;
+      asked = search rules;
+    }

@@ -1,125 +1,195 @@
-use Rattle.std.proofs.Common.{◌≡◌, ℕ, ◌+◌, ◌-◌, ◌≤◌, ◌==◌, if◌then◌else◌, Some, Err, false, refl, ap, ◌∙◌, arith, inl, inr, length}
+use Rattle.std.proofs.Common.{◌≡◌, ◌≢◌, ℕ, ◌+◌, ◌-◌, ◌<◌, ◌≤◌, ◌⊎◌, ◌↔◌, ◌==◌, List, length, min, Some, Err, refl, sym, ap, ◌∙◌, arith, rules, inl, inr, None, slice_index, slice_index_or, map}
 use Rattle.std.proofs.lemmas.Result.{err_from_is_err_and}
-use Rattle.alloc_set.proofs.Places.{PutsPlace-chunk}
 use Rattle.std.specs.Map.{lookup}
-use Rattle.std.proofs.lemmas.Bool.{cases_lt}
+use Rattle.std.proofs.lemmas.Bool.{cases_lt, cases_eq}
 use Rattle.std.proofs.lemmas.Bool.Decides.{nat_tests}
+use Rattle.addr_space.specs.Space.{IsOverLimit, held, raised, raised_by, Space, region_at, byte_at, bytes_of, overwritten, resized}
+use Rattle.addr_space.specs.Footprint.{HasRegion, counted}
 use Rattle.addr_space.specs.declared.Addr.{Addr}
-use Rattle.addr_space.specs.Space.{Space, held, region_at, raised, raised_by}
-use Rattle.addr_space.specs.Footprint.{HasRegion, Agrees}
+use Rattle.addr_space.proofs.Addresses.{same_addr_from}
+use Rattle.addr_space.proofs.Options.{one_value}
+use Rattle.addr_space.proofs.Steps.{Moves-one}
 use Rattle.chunk_header.specs.declared.CtxError.TheVariants.{NoSpace}
-use Rattle.alloc_set.specs.State.{chunk_at, footprint}
-use Rattle.alloc_set.specs.Kept.{state_of, IsAlone, IsKept}
-use Rattle.alloc_set.specs.Steps.{PutsChunk}
-use Rattle.alloc_set.proofs.Stretched.{Stretches, Moves-stretched, Keeps-stretched}
-use Rattle.alloc_set.proofs.KeptResized.{noted, sum-least, over_limit, not_over, with_others, Stretches-noted, IsKept-stretched}
+use Rattle.chunk_header.specs.Header.{header_bytes, block_bytes}
+use Rattle.chunk_header.proofs.Words.{length-header_bytes}
+use Rattle.chunk_header.proofs.Wrote.{share-owned}
+use Rattle.alloc_set.specs.State.{chunk_at, region_of, start_of, capacity_of, header_of, link_of, mark_of, footprint}
+use Rattle.alloc_set.specs.Kept.{state_of, taken_bytes, is_free, IsPlaced, IsSettled}
 use Rattle.alloc_set.specs.declared.books.Books.{Books}
 use Rattle.alloc_set.specs.declared.chunk.Chunk.TheVariants.{Own}
+use Rattle.alloc_set.specs.declared.chunk.Chunk.{Chunk}
+use Rattle.alloc_set.proofs.Counted.{IsCounted-blocks}
+use Rattle.alloc_set.proofs.Shelved.{IsShelved-taken, taken-own}
+use Rattle.alloc_set.proofs.Places.{PutsPlace-chunk, PutsLive-chunk}
+use Rattle.alloc_set.proofs.Regions.{noted, sum-least, region_now, regions_else, keeper_else, other_start}
+use Rattle.alloc_set.proofs.Settled.{chunks_apart, live_there, mark_from_chunk, IsSound-settled}
+use Rattle.alloc_set.proofs.Altered.{Alters, old, new_block, new_header, new_link, put_cases, IsSettled-altered, new_marks}
 use Rattle.alloc_set.proofs.books.Books.stretch.Goals as goal
+use Rattle.alloc_set.proofs.books.Books.stretch.Goals.{Start}
 
-alone : (b : Books) (at : Addr) (n old : ℕ) → IsKept b → chunk_at (state_of b) at ≡ Some (Own n old) → IsAlone (state_of b) b.active.region at (Own n old)
-alone b at n old kept was = (kept.settled.placed at (Own n old) was).alone
+-- whether a region with another length is over the limit
+over_limit : (s : Space) (number account len n : ℕ) → HasRegion s number account len → IsOverLimit s (region_at s number) n ↔ (s.limit < held s account - len + n)
+over_limit s number account len n has = rw (has.1, has.2, has.3) (λ over. over, λ over. over)
 
--- the block in the space
-target : (b : Books) (sp : Space) (at : Addr) (n old : ℕ) → IsKept b → Agrees (footprint (state_of b)) sp → chunk_at (state_of b) at ≡ Some (Own n old) → HasRegion sp at.region b.account (old + 48)
-target b sp at n old kept agrees was = agrees.regions at.region (old + 48) (alone b at n old kept was).3
+is_placed : (c : Start) → IsPlaced (state_of c.args.self.now) c.args.self.now.active.region c.args.self.now.active.size c.args.at (Own c.requires.live.0 c.args.old)
+is_placed c = c.requires.kept.settled.placed c.args.at (Own c.requires.live.0 c.args.old) c.requires.live.1
 
--- the block is not the keeper's, and counts in the total
-within : (b : Books) (at : Addr) (n old : ℕ) → IsKept b → chunk_at (state_of b) at ≡ Some (Own n old) → old + 48 ≤ b.total
-within b at n old kept was =
-    let is = alone b at n old kept was in
-    omega (arith, sum-least b.blocks.entries at.region (old + 48) (noted (state_of b) at.region (old + 48) is.1 is.3), kept.counted.total)
+-- the block in the space and in the books
+in_space : (c : Start) → HasRegion c.args.space.now c.args.at.region c.args.self.now.account (c.args.old + 48)
+in_space c = c.requires.agrees.regions c.args.at.region (c.args.old + 48) (is_placed c).alone.3
+
+noted_at : (c : Start) → lookup (λ n. c.args.at.region == n) c.args.self.now.blocks.entries ≡ Some (c.args.old + 48)
+noted_at c = sym (noted (state_of c.args.self.now) c.args.at.region (is_placed c).alone.1) ∙ (is_placed c).alone.3
+
+within : (c : Start) → c.args.old + 48 ≤ c.args.self.now.total
+within c = omega (arith, sum-least c.args.self.now.blocks.entries c.args.at.region (c.args.old + 48) (noted_at c), c.requires.kept.counted.total)
 
 pub resize_block-requires-clause-region : goal.resize_block-requires-clause-region
-resize_block-requires-clause-region c =
-    let it = target c.args.self.now c.args.space.now c.args.at c.requires.live.0 c.args.old c.requires.kept c.requires.agrees c.requires.live.1 in
-    rw it.1 refl
+resize_block-requires-clause-region c = rw (in_space (goal.at.resize_block-requires-clause-region c).Start).1 refl
 
 pub returns-in_err-resize_block-clause-no_space : goal.returns-in_err-resize_block-clause-no_space
 returns-in_err-resize_block-clause-no_space c = λ e.
-    let it = target c.args.self.now c.args.space.now c.args.at c.requires.live.0 c.args.old c.requires.kept c.requires.agrees c.requires.live.1 in
     let is : c.in_err-resize_block.field-0.0 ≡ NoSpace = let p = err_from_is_err_and c.from_residual.result c.from_residual.ensures.1 in cc in
-    over_limit c.args.space.now (region_at c.args.space.now c.args.at.region) it.0 c.args.self.now.account (c.args.old + 48) (c.args.room + 48) it.1 it.2 it.3 (c.in_err-resize_block.ensures.no_space.0 (ap Err is))
+    (over_limit c.args.space.now c.args.at.region c.args.self.now.account (c.args.old + 48) (c.args.room + 48) (in_space (goal.at.returns-in_err-resize_block-clause-no_space c).Start)).0 (c.in_err-resize_block.ensures.no_space.0 (ap Err is))
 
 pub note_again-requires : goal.note_again-requires
-note_again-requires c =
-    let b = c.args.self.now in
-    let is = alone b c.args.at c.requires.live.0 c.args.old c.requires.kept c.requires.live.1 in
-    rw (noted (state_of b) c.args.at.region (c.args.old + 48) is.1 is.3) refl
+note_again-requires c = rw (noted_at (goal.at.note_again-requires c).Start) refl
 
 pub overflow_sub-self : goal.overflow_sub-self
-overflow_sub-self c = omega (arith, within c.args.self.now c.args.at c.requires.live.0 c.args.old c.requires.kept c.requires.live.1, c.from.ensures)
+overflow_sub-self c = omega (arith, within (goal.at.overflow_sub-self c).Start, c.from.ensures)
 
--- what the books note
-stretches : (b m : Books) (at : Addr) (n old size room gave got : ℕ) → IsKept b → m ≡ with_others b m → chunk_at (state_of b) at ≡ Some (Own n old) → gave ≡ old → got ≡ room → m.total ≡ b.total - gave + got
-    → ((other : ℕ) → lookup (λ k. other == k) m.blocks.entries ≡ (if at.region == other then Some (room + 48) else lookup (λ k. other == k) b.blocks.entries))
-    → PutsChunk (state_of b) (state_of m) at (Some (Own size room))
-    → Stretches (state_of b) (state_of m) at old size room
-stretches b m at n old size room gave got kept rest was gave_is got_is total changed puts =
-    Stretches-noted b m n old size room at kept rest was (omega (arith, within b at n old kept was)) changed puts
-
-pub returns-clause-kept : goal.returns-clause-kept
-returns-clause-kept c =
+pub returns : goal.returns
+unfolding counted
+returns c =
+    let d = (goal.at.returns c).Start in
     let b = c.args.self.now in
+    let s = state_of b in
+    let sp = c.args.space.now in
+    let tp = c.resize_block.new.space in
+    let at = c.args.at in
+    let old_room = c.args.old in
+    let room = c.args.room in
+    let size = c.args.size in
+    let m : Books = record b { blocks = c.note_again.new.blocks; chunks = c.put.new.chunks; total = b.total - c.from.result + c.from-2.result } in
+    let t = state_of m in
+    let active = b.active in
     let n = c.requires.live.0 in
-    let m : Books = record b { blocks = c.note_again.new.blocks; chunks = c.put.new.chunks; total = b.total - c.from.result + c.from-2.result } in
-    let was : chunk_at (state_of b) c.args.at ≡ Some (Own n c.args.old) = c.requires.live.1 in
-    let is = alone b c.args.at n c.args.old c.requires.kept was in
-    let before = noted (state_of b) c.args.at.region (c.args.old + 48) is.1 is.3 in
-    let test : (c.args.at.region == b.keeper) ≡ false = grind (arith, nat_tests, is.1) in
-    let free = c.note_again.ensures.at b.keeper ∙ ap (λ x. if x then Some (c.args.room + 48) else lookup (λ k. b.keeper == k) b.blocks.entries) test ∙ c.requires.kept.counted.keeper in
-    IsKept-stretched b m n c.args.old c.args.size c.args.room c.args.at c.requires.kept refl was c.requires.fits c.requires.most
-    (stretches b m c.args.at n c.args.old c.args.size c.args.room c.from.result c.from-2.result c.requires.kept refl was c.from.ensures c.from-2.ensures refl c.note_again.ensures.at c.put.ensures.at)
-    (λ f. rw was at (c.put.ensures.sums f)) (c.put.ensures.unique c.requires.kept.shelved.unique) (λ f. rw before at (c.note_again.ensures.sums f)) free
-    (omega (arith, c.if-self-gt-MOST.false, c.from-2.ensures, c.requires.most))
-
-pub returns-clause-moves : goal.returns-clause-moves
-returns-clause-moves c =
-    let b = c.args.self.now in
-    let n = c.requires.live.0 in
-    let m : Books = record b { blocks = c.note_again.new.blocks; chunks = c.put.new.chunks; total = b.total - c.from.result + c.from-2.result } in
-    let was : chunk_at (state_of b) c.args.at ≡ Some (Own n c.args.old) = c.requires.live.1 in
-    Moves-stretched (state_of b) (state_of m) b.active.region b.active.size n c.args.old c.args.size c.args.room c.args.at c.requires.kept.settled was
-    (stretches b m c.args.at n c.args.old c.args.size c.args.room c.from.result c.from-2.result c.requires.kept refl was c.from.ensures c.from-2.ensures refl c.note_again.ensures.at c.put.ensures.at)
-    c.requires.fits c.requires.most c.args.space.now c.resize_block.new.space c.requires.agrees c.in_ok-resize_block.ensures.changes c.in_ok-resize_block.ensures.held
-
-pub returns-clause-keeps : goal.returns-clause-keeps
-returns-clause-keeps c =
-    let b = c.args.self.now in
-    let n = c.requires.live.0 in
-    let m : Books = record b { blocks = c.note_again.new.blocks; chunks = c.put.new.chunks; total = b.total - c.from.result + c.from-2.result } in
-    let was : chunk_at (state_of b) c.args.at ≡ Some (Own n c.args.old) = c.requires.live.1 in
-    Keeps-stretched (state_of b) (state_of m) b.active.region b.active.size n c.args.old c.args.size c.args.room c.args.at c.requires.kept.settled was
-    (stretches b m c.args.at n c.args.old c.args.size c.args.room c.from.result c.from-2.result c.requires.kept refl was c.from.ensures c.from-2.ensures refl c.note_again.ensures.at c.put.ensures.at)
-    c.requires.fits c.requires.most c.args.space.now c.resize_block.new.space c.requires.agrees c.in_ok-resize_block.ensures.changes c.in_ok-resize_block.ensures.held
-
-pub returns-clause-ledger : goal.returns-clause-ledger
-returns-clause-ledger c =
-    let b = c.args.self.now in
-    let total : b.total - c.from.result + c.from-2.result ≡ b.total - (c.args.old + 48) + (c.args.room + 48) = omega (arith, within b c.args.at c.requires.live.0 c.args.old c.requires.kept c.requires.live.1, c.from.ensures, c.from-2.ensures) in
-    ap (λ n. record (state_of b).ledger { total = n }) total
-
-pub returns-clause-within : goal.returns-clause-within
-returns-clause-within c =
-    let b = c.args.self.now in
-    let it = target b c.args.space.now c.args.at c.requires.live.0 c.args.old c.requires.kept c.requires.agrees c.requires.live.1 in
-    elim (cases_lt c.args.space.now.limit (held c.args.space.now b.account - (c.args.old + 48) + (c.args.room + 48))) [
-      | inl over ↦
-          let clash = c.in_ok-resize_block.ensures.no_space.1 (not_over c.args.space.now (region_at c.args.space.now c.args.at.region) it.0 b.account (c.args.old + 48) (c.args.room + 48) it.1 it.2 it.3 over) in
-          absurd (cc)
-      | inr fits ↦ fits
-    ]
-
-pub returns-clause-place : goal.returns-clause-place
-returns-clause-place c =
-    let b = c.args.self.now in
-    let m : Books = record b { blocks = c.note_again.new.blocks; chunks = c.put.new.chunks; total = b.total - c.from.result + c.from-2.result } in
-    PutsPlace-chunk (state_of b) (state_of m) c.args.at (Some (Own c.args.size c.args.room)) c.put.ensures.at
-
-pub returns-clause-asked : goal.returns-clause-asked
-returns-clause-asked c =
-    let b = c.args.self.now in
-    let s = c.args.space.now in
-    let it = target b s c.args.at c.requires.live.0 c.args.old c.requires.kept c.requires.agrees c.requires.live.1 in
-    let more : c.args.room + 48 - length it.0.bytes ≡ c.args.room - c.args.old = omega (arith, it.3) in
-    c.in_ok-resize_block.ensures.taken ∙ ap (λ o. raised_by s.taken o (c.args.room + 48)) it.1 ∙ ap (λ a. raised s.taken a (c.args.room + 48 - length it.0.bytes)) it.2 ∙ ap (raised s.taken b.account) more
+    let now : Chunk = Own size room in
+    let kept = c.requires.kept in
+    let settled = kept.settled in
+    let place = is_placed d in
+    let alone = place.alone in
+    let noted = c.note_again.ensures.at in
+    let puts = c.put.ensures.at in
+    let was : chunk_at s at ≡ Some (Own n old_room) = c.requires.live.1 in
+    let bytes = rw (noted_at d) at (c.note_again.ensures.sums (λ x. x)) in
+    let ones = rw (noted_at d) at (c.note_again.ensures.sums (min 1)) in
+    let most = c.requires.most in
+    let done = c.in_ok-resize_block.ensures in
+    let total : m.total + old_room ≡ b.total + room = omega (arith, within d, c.from.ensures, c.from-2.ensures) in
+    let owned : region_of t at.region ≡ Some (room + 48) = region_now s t at.region (Some (room + 48)) refl refl alone.1 noted in
+    let others = regions_else s t at.region (Some (room + 48)) refl refl alone.1 noted in
+    let start = other_start s at.region alone.1 in
+    -- no other chunk is in that block
+    let lonely : (other : Addr) (chunk : Chunk) → chunk_at s other ≡ Some chunk → other ≢ at → other.region ≢ at.region = λ other chunk found differs region.
+    let there = settled.placed other chunk found in
+    let len : there.len ≡ old_room + 48 = one_value (region_of s at.region) there.len (old_room + 48) (ap (region_of s) (sym region) ∙ there.owned) alone.3 in
+    elim (chunks_apart s active.region active.size settled other at chunk (Own n old_room) found was differs region) [
+      | inl front ↦ omega (arith, front, there.first, alone.2)
+      | inr back ↦ omega (arith, back, there.last, alone.2, len)
+    ] in
+    let alters : Alters s t (λ k. k ≡ at.region) at (Some now) = record {
+      account = refl;
+      context = refl;
+      keeper = refl;
+      is_fresh = λ number. cases_eq number at.region;
+      regions = others;
+      found = λ other chunk found. elim (put_cases s t at (Some now) puts other) [
+        | inl here ↦ inr (here.0, sym here.1 ∙ found)
+        | inr there ↦ let stood = sym there.1 ∙ found in inl (stood, lonely other chunk stood there.0)
+      ];
+    } in
+    let placed : IsPlaced t active.region active.size at now = record {
+      len = room + 48;
+      owned = owned;
+      first = omega (arith, alone.2, start);
+      last = omega (arith, alone.2);
+      whole = place.whole;
+      below = λ e. absurd (alone.0 e);
+      sized = c.requires.fits;
+      alone = (alone.0, alone.1, alone.2, owned);
+    } in
+    let settled_now : IsSettled t active.region active.size =
+    IsSettled-altered s t (λ k. k ≡ at.region) at (Some now) active.region active.size settled alters (others active.region (λ e. alone.0 (sym e))) (omega arith)
+    (λ number len new has.
+    let is : len ≡ room + 48 = one_value (region_of t at.region) len (room + 48) (ap (region_of t) (sym new) ∙ has) owned in
+    (omega (arith, is, most), omega (arith, is, ap (start_of s) new, start), omega (arith, new, (settled.small at.region (old_room + 48) alone.3).2)))
+    placed (λ other chunk found differs region. absurd (lonely other chunk found differs region)) in
+    let sound = IsSound-settled t active.region active.size settled_now in
+    let word = block_bytes b.context (room + 48) in
+    -- the marks are that of the block and old ones, of which the chunk's header alone is in the block
+    let marks : (a : Addr) (bytes : List ℕ) → mark_of t a ≡ Some bytes → ((a ≡ record { region = at.region; offset = 0 }) × (word ≡ bytes)) ⊎ ((a.region ≡ at.region → (a.offset ≡ 40) × (length bytes ≡ 8)) × (mark_of s a ≡ Some bytes)) =
+    λ a bytes marked. elim (new_marks s t (λ k. k ≡ at.region) at (Some now) active.region active.size settled alters a bytes marked) [
+      | old stays mark ↦ inr ((λ e. absurd (stays e)), mark)
+      | new_block len new first has is ↦
+          let one : len ≡ room + 48 = one_value (region_of t at.region) len (room + 48) (ap (region_of t) (sym new) ∙ has) owned in
+          inl (same_addr_from a (record { region = at.region; offset = 0 }) new (first ∙ ap (start_of s) new ∙ start), ap (block_bytes b.context) (sym one) ∙ is)
+      | new_header it differs here is bytes_are ↦
+          let one : now ≡ it = cc in
+          let dist : ℕ = a.offset - start_of s a.region in
+          inr (
+            (λ e. (omega (arith, ap (λ (x : Addr). x.offset) here, alone.2), ap length (sym bytes_are) ∙ length-header_bytes (header_of it dist))),
+            mark_from_chunk s a (Own n old_room) differs (ap (chunk_at s) here ∙ was) ∙ ap Some (ap (λ x. header_bytes (header_of x dist)) one ∙ bytes_are),
+          )
+      | new_link it here is has ↦ let one : now ≡ it = cc in let clash : None ≡ Some bytes = ap link_of one ∙ has in absurd (cc)
+    ] in
+    let target = in_space d in
+    let changed = done.changes.changed ∙ ap (λ r. overwritten (resized r (room + 48)) 0 (map Some word)) target.1 in
+    let there : HasRegion tp at.region b.account (room + 48) = (_, changed, target.2, sym (ap (λ r. length (bytes_of r)) changed) ∙ done.length) in
+    -- what stands behind the header of the block, as far as both lengths go
+    let byte_same : (k : ℕ) → 8 ≤ k → k < room + 48 → k < old_room + 48 → byte_at tp at.region k ≡ byte_at sp at.region k = λ k behind below short. done.stays k behind below (omega (arith, short, target.3, ap (λ r. length (bytes_of r)) target.1)) in
+    let more : room + 48 - length target.0.bytes ≡ room - old_room = omega (arith, target.3) in
+    record {
+      kept = record {
+        counted = IsCounted-blocks b m kept.counted refl kept.counted.filled (keeper_else s t at.region (Some (room + 48)) refl refl alone.1 noted ∙ kept.counted.keeper) (omega (arith, kept.counted.total, total, bytes)) (omega (arith, c.if-self-gt-MOST.false, c.from-2.ensures, most))
+            (omega (arith, kept.counted.blocks, ones)) (let sums = rw was at (c.put.ensures.sums taken_bytes) in omega (arith, kept.counted.rooms, sums, total));
+        settled = settled_now;
+        shelved = IsShelved-taken s t b.shelves at (Some now) kept.shelved puts c.put.ensures.unique (taken-own (chunk_at s at) n old_room was) (λ k under. let sums = rw was at (c.put.ensures.sums (is_free k)) in omega (arith, sums));
+      };
+      ledger = let is : m.total ≡ b.total - (old_room + 48) + (room + 48) = omega (arith, within d, c.from.ensures, c.from-2.ensures) in ap (λ n. record s.ledger { total = n }) is;
+      place = PutsPlace-chunk s t at (Some now) puts;
+      asked = done.taken ∙ ap (λ o. raised_by sp.taken o (room + 48)) target.1 ∙ ap (λ a. raised sp.taken a (room + 48 - length target.0.bytes)) target.2 ∙ ap (raised sp.taken b.account) more;
+      live = PutsLive-chunk s t at (Some now) puts;
+      moves = Moves-one (footprint s) (footprint t) sp tp at.region (room + 48) there.0 c.requires.agrees sound refl refl (record { changed = there.1; others = done.changes.others; limit = done.changes.limit; accounts = done.changes.accounts })
+          there.2 there.3 (λ none. let has = alone.3 in absurd (cc)) owned others
+          (λ a bytes marked region k below. elim (marks a bytes marked) [
+            | inl new ↦ ap (λ (x : Addr). byte_at tp x.region (x.offset + k)) new.0 ∙ done.word k (omega (arith, below, ap length new.1)) ∙ ap (λ xs. Some (slice_index xs k)) new.1
+            | inr mark ↦
+                let ends = mark.0 region in
+                rw region (byte_same (a.offset + k) (omega (arith, ends.0)) (omega (arith, ends.0, ends.1, below)) (omega (arith, ends.0, ends.1, below))) ∙ c.requires.agrees.marks a bytes mark.1 k below
+          ])
+          (λ a bytes marked differs. elim (marks a bytes marked) [
+            | inl new ↦ absurd (differs (ap (λ (x : Addr). x.region) new.0))
+            | inr mark ↦ mark.1
+          ])
+          (λ account. grind (arith, nat_tests, total, share-owned sp b.account at.region (old_room + 48) account target, share-owned tp b.account at.region (room + 48) account there, done.held account));
+      keeps = λ a k j i live again below short.
+          let it = live_there s active.region active.size settled a k live in
+          let after = live_there t active.region active.size settled_now a j again in
+          elim (put_cases s t at (Some now) puts a) [
+            | inl here ↦
+                let one : it.0 ≡ Own n old_room = one_value (chunk_at s at) it.0 (Own n old_room) (ap (chunk_at s) (sym here.0) ∙ it.1) was in
+                let two : after.0 ≡ now = one_value (chunk_at t a) after.0 now after.1 here.1 in
+                let offset : a.offset ≡ 48 = ap (λ (x : Addr). x.offset) here.0 ∙ alone.2 in
+                rw (ap (λ (x : Addr). x.region) here.0) (byte_same (a.offset + i) (omega (arith, offset)) (omega (arith, offset, short, after.3, ap capacity_of two)) (omega (arith, offset, below, it.3, ap capacity_of one)))
+            | inr there ↦ ap (λ r. slice_index_or (bytes_of r) (a.offset + i) None) (done.changes.others a.region (lonely a it.0 it.1 there.0))
+          ];
+      within = elim (cases_lt sp.limit (held sp b.account - (old_room + 48) + (room + 48))) [
+        | inl over ↦ let clash = done.no_space.1 ((over_limit sp at.region b.account (old_room + 48) (room + 48) target).1 over) in absurd (cc)
+        | inr fits ↦ fits
+      ];
+      no_space = search rules;
+      no_other = search rules;
+      err = search rules;
+      err_space = search rules;
+    }

@@ -1,60 +1,54 @@
-use Rattle.std.proofs.Common.{◌≡◌, refl, sym, ◌∙◌, arith, Some, None}
-use Rattle.alloc_set.proofs.Places.{PutsPlace-chunk}
-use Rattle.alloc_set.specs.State.{chunk_at}
-use Rattle.alloc_set.specs.Kept.{state_of, taken_bytes, is_free}
-use Rattle.alloc_set.specs.Steps.{SameBlocks}
-use Rattle.alloc_set.proofs.Shelved.{IsShelved-taken, IsTaken}
-use Rattle.alloc_set.proofs.Unlisted.{IsSettled-unlisted, Moves-unlisted, empty-unlisted}
+use Rattle.std.proofs.Common.{◌≡◌, ◌≢◌, ◌+◌, refl, sym, ap, ◌∙◌, arith, Some, None, inl, inr}
+use Rattle.addr_space.proofs.Addresses.{same_addr_from}
+use Rattle.addr_space.proofs.Options.{option_cases, one_value}
+use Rattle.alloc_set.specs.State.{chunk_at, region_of}
+use Rattle.alloc_set.specs.Kept.{state_of, taken_bytes, is_free, IsSettled}
 use Rattle.alloc_set.specs.declared.books.Books.{Books}
-use Rattle.alloc_set.specs.declared.chunk.Chunk.TheVariants.{Free, Own}
+use Rattle.alloc_set.specs.declared.chunk.Chunk.TheVariants.{Own}
+use Rattle.alloc_set.proofs.Altered.{Puts-chunk, put_cases, old_or_fresh, IsSettled-altered, Moves-altered}
+use Rattle.alloc_set.proofs.Counted.{IsCounted-chunks, SameBlocks-chunks}
+use Rattle.alloc_set.proofs.Places.{PutsPlace-chunk, PutsLive-chunk}
+use Rattle.alloc_set.proofs.Settled.{IsSound-settled}
+use Rattle.alloc_set.proofs.Shelved.{IsShelved-taken, taken-own}
 use Rattle.alloc_set.proofs.books.Books.unlist.Goals as goal
 
-now : goal.After-forget → Books
-now c = record c.args.self.now { chunks = c.forget.new.chunks }
-
-same : (c : goal.After-forget) → SameBlocks (state_of c.args.self.now) (state_of (now c))
-unfolding now
-same c = record { account = refl; context = refl; keeper = refl; blocks = refl; init = refl; total = refl }
-
-pub returns-clause-kept : goal.returns-clause-kept
-unfolding now
-returns-clause-kept c =
+pub returns : goal.returns
+returns c =
     let b = c.args.self.now in
+    let n : Books = record b { chunks = c.forget.new.chunks } in
+    let s = state_of b in
+    let t = state_of n in
+    let at = c.args.at in
+    let room = c.args.room in
     let kept = c.requires.kept in
     let size = c.requires.own.0 in
-    let was : chunk_at (state_of b) c.args.at ≡ Some (Own size c.args.room) = c.requires.own.1 in
-    let taken : IsTaken (chunk_at (state_of b) c.args.at) = λ class next free.
-    let clash : Some (Own size c.args.room) ≡ Some (Free class next) = sym was ∙ free in
-    absurd (cc) in
+    let was : chunk_at s at ≡ Some (Own size room) = c.requires.own.1 in
+    let puts = c.forget.ensures.at in
+    let alters = Puts-chunk s t at None (SameBlocks-chunks b n refl) puts in
+    let bytes = rw was at (c.forget.ensures.sums taken_bytes) in
+    let settled : IsSettled t b.active.region b.active.size = IsSettled-altered s t (λ _. ⊥) at None b.active.region b.active.size kept.settled alters refl (omega arith) (λ number len new has. absurd new) tt tt in
     record {
-      counted = record {
-        sizes = kept.counted.sizes;
-        next = kept.counted.next;
-        limit = kept.counted.limit;
-        filled = kept.counted.filled;
-        keeper = kept.counted.keeper;
-        total = kept.counted.total;
-        most = kept.counted.most;
-        blocks = kept.counted.blocks;
-        rooms = omega (arith, kept.counted.rooms, c.forget.ensures.sums taken_bytes);
+      kept = record {
+        counted = IsCounted-chunks b n refl kept.counted kept.counted.filled (omega (arith, kept.counted.rooms, bytes));
+        settled = settled;
+        shelved = IsShelved-taken s t b.shelves at None kept.shelved puts c.forget.ensures.unique (taken-own (chunk_at s at) size room was) (λ k under. let sums = rw was at (c.forget.ensures.sums (is_free k)) in omega (arith, sums));
       };
-      settled = IsSettled-unlisted (state_of b) (state_of (now c)) b.active.region b.active.size c.args.at kept.settled (same c) refl c.forget.ensures.at;
-      shelved = IsShelved-taken (state_of b) (state_of (now c)) b.shelves c.args.at None kept.shelved c.forget.ensures.at c.forget.ensures.unique taken
-          (λ k under. let sums = rw was at (c.forget.ensures.sums (is_free k)) in omega (arith, sums));
+      rest = refl;
+      -- the chunk had its block for itself
+      empty = λ other region. elim (put_cases s t at None puts other) [
+        | inl here ↦ here.1
+        | inr there ↦ elim (option_cases (chunk_at s other)) [
+          | inl none ↦ there.1 ∙ none
+          | inr some ↦
+              let it = kept.settled.placed other some.0 some.1 in
+              let here = kept.settled.placed at (Own size room) was in
+              let len : it.len ≡ room + 48 = one_value (region_of s at.region) it.len (room + 48) (ap (region_of s) (sym region) ∙ it.owned) here.alone.3 in
+              let differs : other.offset ≢ at.offset = λ e. there.0 (same_addr_from other at region e) in
+              absurd (omega (arith, kept.settled.apart at other (Own size room) some.0 was some.1 (sym region) (omega (arith, differs, it.first, here.alone.2)), it.last, len))
+        ]
+      ];
+      counted = omega (arith, kept.counted.rooms, bytes);
+      live = PutsLive-chunk s t at None puts;
+      place = PutsPlace-chunk s t at None puts;
+      moves = Moves-altered s t (λ _. ⊥) at None b.active.region b.active.size kept.settled alters (IsSound-settled t b.active.region b.active.size settled) refl (λ number. refl) (λ a word new. old_or_fresh s t (λ _. ⊥) at a word new (λ len fresh. absurd fresh));
     }
-
-pub returns-clause-empty : goal.returns-clause-empty
-unfolding now
-returns-clause-empty c =
-    let b = c.args.self.now in
-    empty-unlisted (state_of b) (state_of (now c)) b.active.region b.active.size c.args.at c.requires.kept.settled (same c) refl c.forget.ensures.at c.requires.own.0 c.args.room c.requires.own.1
-
-pub returns-clause-moves : goal.returns-clause-moves
-unfolding now
-returns-clause-moves c = λ sp agrees.
-    let b = c.args.self.now in
-    Moves-unlisted (state_of b) (state_of (now c)) b.active.region b.active.size c.args.at c.requires.kept.settled (same c) refl c.forget.ensures.at sp agrees
-
-pub returns-clause-place : goal.returns-clause-place
-unfolding now
-returns-clause-place c = PutsPlace-chunk (state_of c.args.self.now) (state_of (now c)) c.args.at None c.forget.ensures.at
