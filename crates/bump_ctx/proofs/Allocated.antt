@@ -1,11 +1,11 @@
 -- Requests that are served in steps.
-use Rattle.std.proofs.Common.{◌≡◌, ℕ, Some, Ok, true, false, Bool, Option, option_map, if◌then◌else◌, refl, sym, ap, subst, ◌∙◌}
+use Rattle.std.proofs.Common.{◌≡◌, ℕ, Some, Ok, refl, sym, ap, subst, ◌∙◌, arith}
 use Rattle.addr_space.specs.declared.Addr.{Addr}
 use Rattle.addr_space.specs.Space.{Space, Asks, raised}
 use Rattle.addr_space.specs.Footprint.{Moves, Keeps}
-use Rattle.addr_space.specs.Live.{same_addr, PutsAt}
+use Rattle.addr_space.specs.Live.{PutsAt}
 use Rattle.addr_space.proofs.Steps.{Moves-more, Keeps-more}
-use Rattle.ctx_blocks.specs.Layout.{Layout, chunk_at, footprint}
+use Rattle.ctx_blocks.specs.Layout.{Layout, footprint}
 use Rattle.ctx_blocks.specs.Steps.{PutsChunk}
 use Rattle.ctx_blocks.specs.declared.parts.Chunk.{Chunk}
 use Rattle.bump_ctx.specs.Ledger.{BumpLedger, BumpTaken, Anywhere, served}
@@ -14,14 +14,9 @@ use Rattle.bump_ctx.specs.Steps.{Allocates}
 use Rattle.bump_ctx.specs.declared.books.Books.{Books}
 use Rattle.ctx_blocks.proofs.Changed.{stays_live}
 
-choose : (b : Bool) (chunk : Chunk) (other : Option Chunk) → option_map (λ (c : Chunk). Anywhere) (if b then Some chunk else other) ≡ (if b then Some Anywhere else option_map (λ (c : Chunk). Anywhere) other)
-choose true chunk other = refl
-choose false chunk other = refl
-
 -- a chunk that is put has a place
 pub place_put : (l m : Layout) (at : Addr) (chunk : Chunk) → PutsChunk l m at (Some chunk) → PutsAt (place_in l) (place_in m) at (Some Anywhere)
-place_put l m at chunk puts other =
-    ap (option_map (λ (c : Chunk). Anywhere)) (puts other) ∙ choose (same_addr at other) chunk (chunk_at l other)
+place_put l m at chunk puts other = rw (puts other) (grind arith)
 
 -- after a step that left the chunks, and asked so many bytes
 pub allocates_more : (b m n : Books) (s t u : Space) (size : ℕ) (at : Addr) (l : BumpLedger) (asked : ℕ) → m.blocks.chunks ≡ b.blocks.chunks → m.blocks.account ≡ b.blocks.account → Moves (footprint b.blocks) (footprint m.blocks) s t → Keeps (footprint b.blocks) (footprint m.blocks) s t → Asks b.blocks.account asked s t

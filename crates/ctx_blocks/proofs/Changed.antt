@@ -1,14 +1,13 @@
 -- Lemmas on layouts in which one block or one chunk is another one, or is there no more.
-use Rattle.std.proofs.Common.{◌≡◌, ◌≢◌, ℕ, if◌then◌else◌, List, Option, Some, None, true, false, option_map, refl, ap, ◌∙◌, arith, inl, inr, Bool}
+use Rattle.std.proofs.Common.{◌≡◌, ◌≢◌, ℕ, List, Option, Some, None, option_map, refl, ap, ◌∙◌, arith, inl, inr}
 use Rattle.std.proofs.lemmas.Bool.{cases_eq}
 use Rattle.addr_space.specs.declared.Addr.{Addr}
-use Rattle.addr_space.specs.Live.{same_addr, SameLive, StaysLive, PutsLive}
+use Rattle.addr_space.specs.Live.{SameLive, StaysLive, PutsLive}
 use Rattle.ctx_blocks.specs.Layout.{Layout, block_at, chunk_at, keeper_alone, footprint}
 use Rattle.ctx_blocks.specs.Kept.{HasSize}
 use Rattle.ctx_blocks.specs.Steps.{PutsBlock, DropsBlock, PutsChunk}
 use Rattle.ctx_blocks.specs.declared.parts.Block.{Block}
 use Rattle.ctx_blocks.specs.declared.parts.Chunk.{Chunk}
-use Rattle.ctx_blocks.proofs.Laid.{put_cases}
 
 module _ (l m : Layout) (number : ℕ) (block : Block) (puts : PutsBlock l m number block) where
   -- the block that was put is there
@@ -22,9 +21,7 @@ module _ (l m : Layout) (number : ℕ) (block : Block) (puts : PutsBlock l m num
   -- blocks keep their sizes, where the block that was put has that of the one before
   pub size_put : ((old : Block) → block_at l number ≡ Some old → block.size ≡ old.size) → (k bytes : ℕ) → HasSize l k bytes → HasSize m k bytes
   size_put same k bytes has = elim (cases_eq number k) [
-    | inl e ↦
-        let is : block_at l number ≡ Some has.block = rw e has.is in
-        record { block = block; is = rw (← e) put_here; size = same has.block is ∙ has.size }
+    | inl e ↦ record { block = block; is = rw (← e) put_here; size = same has.block (rw e has.is) ∙ has.size }
     | inr ne ↦ record { block = has.block; is = put_other k ne ∙ has.is; size = has.size }
   ]
 
@@ -38,24 +35,15 @@ module _ (l m : Layout) (number : ℕ) (drops : DropsBlock l m number) where
 
 -- a chunk in another region stays
 pub chunk_apart : (l m : Layout) (at : Addr) (chunk : Option Chunk) → PutsChunk l m at chunk → (other : Addr) → other.region ≢ at.region → chunk_at m other ≡ chunk_at l other
-chunk_apart l m at chunk puts other differs =
-    elim (put_cases l m at chunk puts other) [
-      | inl here ↦ absurd (differs (ap (λ (x : Addr). x.region) here.0))
-      | inr there ↦ there.1
-    ]
+chunk_apart l m at chunk puts other differs = grind (arith, puts other)
 
 -- the size of a live chunk
 abbrev pub size_of : Option Chunk → Option ℕ
 size_of chunk = option_map (λ c. c.size) chunk
 
-choose : (b : Bool) (chunk other : Option Chunk) → size_of (if b then chunk else other) ≡ (if b then size_of chunk else size_of other)
-choose true chunk other = refl
-choose false chunk other = refl
-
 -- a live chunk is put or taken away
 pub live_put : (l m : Layout) (at : Addr) (chunk : Option Chunk) → PutsChunk l m at chunk → PutsLive (footprint l) (footprint m) at (size_of chunk)
-live_put l m at chunk puts other =
-    ap size_of (puts other) ∙ choose (same_addr at other) chunk (chunk_at l other)
+live_put l m at chunk puts other = rw (puts other) (grind arith)
 
 -- none was live where there was no chunk
 pub fresh_put : (l : Layout) (at : Addr) → chunk_at l at ≡ None → (footprint l).live at ≡ None

@@ -1,11 +1,8 @@
 -- Lemmas on a context whose chunks are forgotten and whose last blocks go.
-use Rattle.std.proofs.Common.{◌≡◌, ℕ, ◌+◌, ◌-◌, ◌≤◌, ◌==◌, List, [], ◌∷◌, length, take, Some, None, true, if◌then◌else◌, refl, sym, ap, ◌∙◌, arith, sum_by, option_map}
-use Rattle.std.specs.Map.{lookup, values_of}
-use Rattle.std.proofs.lemmas.Bool.Decides.{nat_tests}
+use Rattle.std.proofs.Common.{◌≡◌, ℕ, ◌+◌, ◌-◌, ◌≤◌, ◌==◌, List, [], ◌∷◌, length, take, Some, refl, ap, ◌∙◌, arith}
+use Rattle.std.specs.Map.{lookup}
 use Rattle.std.proofs.lemmas.List.{take-take}
-use Rattle.addr_space.specs.declared.Addr.{Addr}
-use Rattle.addr_space.specs.Live.{same_addr}
-use Rattle.ctx_blocks.specs.Layout.{Layout, block_at, chunk_at, footprint}
+use Rattle.ctx_blocks.specs.Layout.{Layout, footprint}
 use Rattle.ctx_blocks.specs.Kept.{IsLaid, IsFirst}
 use Rattle.ctx_blocks.specs.Steps.{SameContext, with_block}
 use Rattle.ctx_blocks.specs.declared.parts.Block.{Block}
@@ -16,13 +13,11 @@ use Rattle.ctx_blocks.proofs.Lessened.{Lessens}
 
 pub Lessens-cleared : (l m : Layout) → IsLaid l → SameContext l m → m.blocks ≡ l.blocks → m.chunks ≡ [] → Lessens l m
 Lessens-cleared l m laid same blocks chunks =
-    let none : (at : Addr) → chunk_at m at ≡ None = λ at. ap (λ es. lookup (same_addr at) es) chunks in
-    let still : (number : ℕ) → block_at m number ≡ block_at l number = λ number. ap (λ es. lookup (λ n. number == n) es) blocks in
     record {
       same = same;
-      chunk = λ at c found. let gone = none at in absurd (cc);
-      block = λ number b has. let had = sym (still number) ∙ has in (b, had, refl, laid.filled number b had);
-      under = λ at c found. let gone = none at in absurd (cc);
+      chunk = λ at c found. let gone = rw chunks at found in absurd (cc);
+      block = λ number b has. let had = rw blocks at has in (b, had, refl, laid.filled number b had);
+      under = λ at c found. let gone = rw chunks at found in absurd (cc);
     }
 
 -- the first block is there
@@ -39,20 +34,13 @@ take-less all now new is less len =
 -- the keeper alone
 pub first_only : (keeper number : ℕ) (blocks : List (ℕ × Block)) → IsFirst keeper number blocks → (b : Block) × (take 1 blocks ≡ (keeper, b) ∷ []) × (lookup (λ n. keeper == n) blocks ≡ Some b)
 first_only keeper number [] first = absurd first
-first_only keeper number (e ∷ es) first =
-    let test : (keeper == e.0) ≡ true = grind (arith, nat_tests, first.0) in
-    (e.1, ap (λ k. (k, e.1) ∷ []) first.0, ap (λ b. if b then Some e.1 else lookup (λ n. keeper == n) es) test)
+first_only keeper number (e ∷ es) first = (e.1, ap (λ k. (k, e.1) ∷ []) first.0, grind arith)
 
 pub put_only : (keeper : ℕ) (old new : Block) → with_block ((keeper, old) ∷ []) keeper new ≡ (keeper, new) ∷ []
-put_only keeper old new =
-    let test : (keeper == keeper) ≡ true = grind (arith, nat_tests) in
-    ap (λ b. if b then (keeper, new) ∷ [] else (keeper, old) ∷ (keeper, new) ∷ []) test
+put_only keeper old new = grind arith
 
 -- a context without blocks has nothing
 pub Moves-nothing : (l : Layout) (account context : ℕ) → l.blocks ≡ [] → account ≡ l.account → context ≡ l.context → (s : Space) → Agrees (footprint l) s → Moves (footprint l) (nothing account context) s s
 Moves-nothing l account context blocks same_account same_context s agrees =
-    let f : Block → ℕ = λ b. b.size in
     Moves-still (footprint l) (nothing account context) s agrees (Agrees-nothing account context s (omega (arith, agrees.account, same_account))).sound same_account same_context
-    (sym (ap (λ es. sum_by f (values_of es)) blocks))
-    (λ number. sym (ap (λ es. option_map (λ b. b.size) (lookup (λ n. number == n) es)) blocks))
-    (λ at bytes marked. absurd (cc))
+    (rw blocks refl) (λ number. rw blocks refl) (λ at bytes marked. absurd (cc))

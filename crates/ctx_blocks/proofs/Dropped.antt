@@ -1,74 +1,52 @@
 -- Lemmas on a block that goes.
-use Rattle.std.proofs.Common.{◌≡◌, ◌≢◌, ℕ, ◌+◌, ◌==◌, if◌then◌else◌, List, [], ◌∷◌, ◌++◌, length, Bool, true, false, Some, None, refl, sym, ap, ◌∙◌, arith, inl, inr}
+use Rattle.std.proofs.Common.{◌≡◌, ◌≢◌, ℕ, ◌+◌, ◌==◌, if◌then◌else◌, List, [], ◌∷◌, ◌++◌, Bool, true, Some, None, refl, ◌∙◌, arith}
 use Rattle.std.specs.Map.{lookup}
 use Rattle.addr_space.specs.declared.Addr.{Addr}
 use Rattle.addr_space.specs.Space.{Space, IsRegion, Changes, region_at, share, held}
 use Rattle.addr_space.specs.Footprint.{Agrees, Moves, Keeps}
-use Rattle.ctx_blocks.specs.Layout.{Layout, block_at, chunk_at, total, count_in, footprint}
+use Rattle.ctx_blocks.specs.Layout.{Layout, block_at, chunk_at, total, footprint}
 use Rattle.ctx_blocks.specs.Kept.{IsLaid, IsCounted}
 use Rattle.ctx_blocks.specs.Steps.{SameContext}
 use Rattle.ctx_blocks.specs.declared.parts.Block.{Block}
-use Rattle.ctx_blocks.proofs.Laid.{block_cases, region_is, from_live}
+use Rattle.ctx_blocks.proofs.Laid.{region_is, from_live}
 use Rattle.ctx_blocks.proofs.Lessened.{Lessens, Moves-given}
 
 -- a block's region is live in the space, and counts for the account
 pub IsRegion-owned : (l : Layout) (s : Space) (number : ℕ) (block : Block) → Agrees (footprint l) s → block_at l number ≡ Some block → IsRegion s (record { region = number; offset = 0 })
-IsRegion-owned l s number block agrees owned =
-    let target = agrees.regions number block.size (region_is l number block owned) in
-    record { live = rw target.1 refl; start = refl }
+IsRegion-owned l s number block agrees owned = record { live = rw (agrees.regions number block.size (region_is l number block owned)).1 refl; start = refl }
 
 share-owned : (l : Layout) (s : Space) (number : ℕ) (block : Block) → Agrees (footprint l) s → block_at l number ≡ Some block → (account : ℕ) → share account (region_at s number) ≡ (if l.account == account then block.size else 0)
 unfolding share
 share-owned l s number block agrees owned account =
     let target = agrees.regions number block.size (region_is l number block owned) in
-    ap (share account) target.1 ∙ ap (λ a. if a == account then length target.0.bytes else 0) target.2 ∙ ap (λ n. if l.account == account then n else 0) target.3
+    rw (target.1, target.2, target.3) refl
 
 module _ (l m : Layout) (laid : IsLaid l) (same : SameContext l m) (chunks : m.chunks ≡ l.chunks) (number : ℕ) (old : Block) (owned : block_at l number ≡ Some old) (empty : (at : Addr) → at.region ≡ number → chunk_at l at ≡ None)
     (blocks : (other : ℕ) → block_at m other ≡ (if number == other then None else block_at l other)) where
-  chunk_same : (at : Addr) → chunk_at m at ≡ chunk_at l at
-  chunk_same at = rw chunks refl
-
   was_there : (other : ℕ) (b : Block) → block_at m other ≡ Some b → block_at l other ≡ Some b
-  was_there other b has =
-      elim (block_cases l m number None blocks other) [
-        | inl here ↦ let none = here.1 in absurd (cc)
-        | inr there ↦ sym there.1 ∙ has
-      ]
-
-  is_gone : block_at m number ≡ None
-  is_gone =
-      elim (block_cases l m number None blocks number) [
-        | inl here ↦ here.1
-        | inr there ↦ absurd (there.0 refl)
-      ]
+  was_there other b has = grind (arith, blocks other)
 
   others_now : (other : ℕ) → other ≢ number → block_at m other ≡ block_at l other
-  others_now other differs =
-      elim (block_cases l m number None blocks other) [
-        | inl here ↦ absurd (differs here.0)
-        | inr there ↦ there.1
-      ]
+  others_now other differs = grind (arith, blocks other)
 
   pub Lessens-dropped : Lessens l m
   Lessens-dropped = record {
     same = same;
-    chunk = λ at c found. let had = sym (chunk_same at) ∙ found in (c, had, refl, refl, (laid.placed at c had).sized.fits);
+    chunk = λ at c found. let had = rw chunks at found in (c, had, refl, refl, (laid.placed at c had).sized.fits);
     block = λ other b has. let had = was_there other b has in (b, had, refl, laid.filled other b had);
     under = λ at c found.
-        let had = sym (chunk_same at) ∙ found in
+        let had = rw chunks at found in
         let placed = laid.placed at c had in
         let differs : at.region ≢ number = λ e. let none = empty at e in absurd (cc) in
         (placed.block, placed.block, placed.owned, others_now at.region differs ∙ placed.owned, omega arith);
   }
 
   pub IsCounted-dropped : IsCounted l → IsCounted m
-  IsCounted-dropped counted other b has =
-      let counts : count_in m other ≡ count_in l other = rw chunks refl in
-      counted other b (was_there other b has) ∙ sym counts
+  IsCounted-dropped counted other b has = rw chunks (counted other b (was_there other b has))
 
   pub Moves-dropped : (s t : Space) → Agrees (footprint l) s → total m + old.size ≡ total l → Changes s t number None → ((account : ℕ) → held t account + share account (region_at s number) ≡ held s account) → Moves (footprint l) (footprint m) s t
   Moves-dropped s t agrees totals changes holds =
-      Moves-given l m laid Lessens-dropped s t number old agrees changes owned is_gone others_now totals
+      Moves-given l m laid Lessens-dropped s t number old agrees changes owned (grind (arith, blocks number)) others_now totals
       (λ account. omega (arith, holds account, share-owned l s number old agrees owned account))
 
   pub Keeps-dropped : (s t : Space) → Changes s t number None → Keeps (footprint l) (footprint m) s t
@@ -77,11 +55,7 @@ module _ (l m : Layout) (laid : IsLaid l) (same : SameContext l m) (chunks : m.c
       let differs : b.region ≢ number = λ e. let none = empty b e in let some = it.1 in absurd (cc) in
       rw (changes.others b.region differs) refl
 
-last_step : {K X : Type 0} (test : K → Bool) (e : K × X) (es more : List (K × X)) (x : X) (b : Bool) → (if b then Some e.1 else lookup test es) ≡ None → (lookup test es ≡ None → lookup test more ≡ Some x) → (if b then Some e.1 else lookup test more) ≡ Some x
-last_step test e es more x true none rest = absurd (cc)
-last_step test e es more x false none rest = rest none
-
 -- the last entry is found where none before it is
-pub lookup-last : {K X : Type 0} (test : K → Bool) (es : List (K × X)) (k : K) (x : X) → lookup test es ≡ None → test k ≡ true → lookup test (es ++ (k, x) ∷ []) ≡ Some x
-lookup-last test [] k x none passes = ap (λ b. if b then Some x else None) passes
-lookup-last test (e ∷ es) k x none passes = last_step test e es (es ++ (k, x) ∷ []) x (test e.0) none (λ before. lookup-last test es k x before passes)
+pub lookup-last : {X : Type 0} (test : ℕ → Bool) (es : List (ℕ × X)) (k : ℕ) (x : X) → lookup test es ≡ None → test k ≡ true → lookup test (es ++ (k, x) ∷ []) ≡ Some x
+lookup-last test [] k x none passes = grind arith
+lookup-last test (e ∷ es) k x none passes = grind (arith, lookup-last test es k x)

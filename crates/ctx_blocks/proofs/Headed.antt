@@ -1,13 +1,9 @@
 -- Lemmas on the headers by which live chunks lead to their context.
 use Rattle.std.proofs.Common.{◌≡◌, ℕ, ◌+◌, ◌-◌, ◌%◌, ◌^◌, ◌<◌, ◌⊎◌, if◌then◌else◌, Bool, true, false, refl, ap, ◌∙◌, arith, inl, inr, Some}
-use Rattle.std.specs.Map.{lookup}
-use Rattle.std.proofs.lemmas.Bool.{cases_eq}
-use Rattle.std.proofs.lemmas.Bool.Decides.{nat_tests}
 use Rattle.addr_space.specs.declared.Addr.{Addr}
 use Rattle.chunk_header.specs.declared.Kind.{Kind}
-use Rattle.chunk_header.specs.declared.Kind.TheVariants.{AllocSet, Slab, Generation, Bump, Aligned}
+use Rattle.chunk_header.specs.declared.Kind.TheVariants.{Slab, Generation}
 use Rattle.chunk_header.specs.Header.{IsPackable, IsLeading, IsHeaded, AllHeaded, AllOfKind, space_of, TakesSpace}
-use Rattle.addr_space.specs.Live.{same_addr}
 use Rattle.ctx_blocks.specs.Layout.{Layout, start_of, gap_of, header_room, header_of, footprint, chunk_at, block_at}
 use Rattle.ctx_blocks.specs.Kept.{IsLaid, IsSized}
 use Rattle.ctx_blocks.specs.declared.parts.Chunk.{Chunk}
@@ -22,24 +18,14 @@ value_small false room (inl clash) = absurd (cc)
 value_small false room (inr fits) = fits
 
 pub start_whole : (l : Layout) (number : ℕ) → start_of l number % 8 ≡ 0
-start_whole l number =
-    elim (cases_eq l.keeper number) [
-      | inl same ↦ grind (arith, nat_tests)
-      | inr differs ↦ grind (arith, nat_tests)
-    ]
+start_whole l number = grind arith
 
 pub packable : (kind : Kind) (gap dist : ℕ) (chunk : Chunk) → IsSized gap chunk → dist < 2 ^ 32 → dist % 8 ≡ 0 → IsPackable (header_of kind chunk dist)
 packable kind gap dist chunk sized below whole = record { value = value_small chunk.own chunk.room sized.value; dist = below; whole = whole }
 
 pub leading : (kind : Kind) (chunk : Chunk) (dist : ℕ) → (kind ≡ Slab) ⊎ (kind ≡ Generation) → (gap_of kind ≡ 8) × IsLeading (header_of kind chunk dist)
-leading AllocSet chunk dist (inl clash) = absurd (cc)
-leading AllocSet chunk dist (inr clash) = absurd (cc)
-leading Slab chunk dist is = (refl, tt)
-leading Generation chunk dist is = (refl, tt)
-leading Bump chunk dist (inl clash) = absurd (cc)
-leading Bump chunk dist (inr clash) = absurd (cc)
-leading Aligned chunk dist (inl clash) = absurd (cc)
-leading Aligned chunk dist (inr clash) = absurd (cc)
+leading kind chunk dist (inl slab) = rw slab (refl, tt)
+leading kind chunk dist (inr generation) = rw generation (refl, tt)
 
 -- what a header says that its chunk takes
 space-shared : (kind : Kind) (chunk : Chunk) (dist size : ℕ) → (kind ≡ Slab) ⊎ (kind ≡ Generation) → chunk.own ≡ false → space_of (header_of kind chunk dist) size ≡ chunk.room + 8
@@ -56,13 +42,11 @@ module _ (l : Layout) (laid : IsLaid l) (is : (l.kind ≡ Slab) ⊎ (l.kind ≡ 
   abbrev pub headed_by : IsHeaded (footprint l) at
   headed_by =
       let placed = laid.placed at chunk there in
-      let start = start_of l at.region in
-      let dist : ℕ = at.offset - 8 - start in
+      let dist : ℕ = at.offset - 8 - start_of l at.region in
       let filled = laid.filled at.region placed.block placed.owned in
       let leads = leading l.kind chunk dist is in
       let place : Addr = record { region = at.region; offset = at.offset - 8 } in
       let back : at.offset - 8 + 8 ≡ at.offset = omega (arith, placed.first, leads.0) in
-      let found = ap (λ o. lookup (same_addr (record { region = at.region; offset = o })) l.chunks) back ∙ there in
       record {
         header = header_of l.kind chunk dist;
         size = placed.block.size;
@@ -70,7 +54,7 @@ module _ (l : Layout) (laid : IsLaid l) (is : (l.kind ≡ Slab) ⊎ (l.kind ≡ 
         leading = leads.1;
         behind = omega (arith, placed.first, leads.0);
         large = omega (arith, placed.first, leads.0, placed.last);
-        word = mark_from_chunk l place chunk (λ e. omega (arith, e, placed.first, leads.0)) found leads.0;
+        word = mark_from_chunk l place chunk (λ e. omega (arith, e, placed.first, leads.0)) (rw back there) leads.0;
         block = mark_from_block l (record { region = at.region; offset = at.offset - 8 - dist }) placed.block (omega (arith, placed.first, leads.0)) placed.owned (omega (arith, placed.first, placed.last));
       }
 

@@ -1,7 +1,6 @@
 -- Lemmas on where blocks and chunks are.
-use Rattle.std.proofs.Common.{◌≡◌, ◌≢◌, ℕ, ◌+◌, ◌-◌, ◌≤◌, ◌⊎◌, ◌==◌, nat_le, if◌then◌else◌, List, length, Option, Some, None, true, false, refl, sym, ap, ◌∙◌, arith, inl, inr, option_map, option_and_then}
+use Rattle.std.proofs.Common.{◌≡◌, ◌≢◌, ℕ, ◌+◌, ◌-◌, ◌≤◌, ◌⊎◌, ◌==◌, if◌then◌else◌, List, length, Option, Some, None, refl, sym, ap, ◌∙◌, arith, inl, inr, option_map}
 use Rattle.std.proofs.lemmas.Bool.{cases_eq, cases_lt}
-use Rattle.std.proofs.lemmas.Bool.Decides.{nat_tests}
 use Rattle.addr_space.specs.declared.Addr.{Addr}
 use Rattle.addr_space.specs.Footprint.{IsSound}
 use Rattle.chunk_header.specs.declared.Kind.{Kind}
@@ -43,37 +42,26 @@ gap_cases Generation = inr refl
 gap_cases Bump = inl refl
 gap_cases Aligned = inr refl
 
-word_cases : (kind : Kind) (chunk : Chunk) (dist : ℕ) (bytes : List ℕ) → chunk_word kind chunk dist ≡ Some bytes → (gap_of kind ≡ 8) × (header_bytes (header_of kind chunk dist) ≡ bytes)
-word_cases AllocSet chunk dist bytes e = (refl, cc)
-word_cases Slab chunk dist bytes e = (refl, cc)
-word_cases Generation chunk dist bytes e = (refl, cc)
-word_cases Bump chunk dist bytes e = absurd (cc)
-word_cases Aligned chunk dist bytes e = (refl, cc)
+-- and a chunk has one where it has 8 bytes
+has_word : (kind : Kind) (chunk : Chunk) (dist : ℕ) → (chunk_word kind chunk dist ≡ None) ⊎ ((gap_of kind ≡ 8) × (chunk_word kind chunk dist ≡ Some (header_bytes (header_of kind chunk dist))))
+has_word AllocSet chunk dist = inr (refl, refl)
+has_word Slab chunk dist = inr (refl, refl)
+has_word Generation chunk dist = inr (refl, refl)
+has_word Bump chunk dist = inl refl
+has_word Aligned chunk dist = inr (refl, refl)
 
-pub word_is : (kind : Kind) (chunk : Chunk) (dist : ℕ) → gap_of kind ≡ 8 → chunk_word kind chunk dist ≡ Some (header_bytes (header_of kind chunk dist))
-word_is AllocSet chunk dist e = refl
-word_is Slab chunk dist e = refl
-word_is Generation chunk dist e = refl
+word_cases : (kind : Kind) (chunk : Chunk) (dist : ℕ) (bytes : List ℕ) → chunk_word kind chunk dist ≡ Some bytes → (gap_of kind ≡ 8) × (header_bytes (header_of kind chunk dist) ≡ bytes)
+word_cases kind chunk dist bytes e = elim (has_word kind chunk dist) [
+  | inl none ↦ absurd (cc)
+  | inr some ↦ (some.0, cc)
+]
+
+word_is : (kind : Kind) (chunk : Chunk) (dist : ℕ) → gap_of kind ≡ 8 → chunk_word kind chunk dist ≡ Some (header_bytes (header_of kind chunk dist))
 word_is Bump chunk dist e = absurd (omega (arith, e))
-word_is Aligned chunk dist e = refl
+word_is kind chunk dist e = refl
 
 block_word_cases : (context start : ℕ) (block : Block) (bytes : List ℕ) → block_word context start block ≡ Some bytes → (start + 40 ≤ block.size) × (block_bytes context block.size ≡ bytes)
-block_word_cases context start block bytes e =
-    elim (cases_lt block.size (start + 40)) [
-      | inl over ↦
-          let test : nat_le (start + 40) block.size ≡ false = grind (arith, nat_tests) in
-          let none = sym (ap (λ b. if b then Some (block_bytes context block.size) else None) test) ∙ e in
-          absurd (cc)
-      | inr fits ↦
-          let test : nat_le (start + 40) block.size ≡ true = grind (arith, nat_tests) in
-          let some = sym (ap (λ b. if b then Some (block_bytes context block.size) else None) test) ∙ e in
-          (fits, cc)
-    ]
-
-pub block_word_is : (context start : ℕ) (block : Block) → start + 40 ≤ block.size → block_word context start block ≡ Some (block_bytes context block.size)
-block_word_is context start block fits =
-    let test : nat_le (start + 40) block.size ≡ true = grind (arith, nat_tests) in
-    ap (λ b. if b then Some (block_bytes context block.size) else None) test
+block_word_cases context start block bytes e = grind arith
 
 -- where the chunk is whose header is at a place
 abbrev pub behind : Addr → Addr
@@ -85,17 +73,13 @@ pub mark_cases : (l : Layout) (at : Addr) (bytes : List ℕ) → mark_of l at �
     ⊎ ((chunk : Chunk) × (at.offset ≢ start_of l at.region) × (chunk_at l (behind at) ≡ Some chunk) × (header_room l ≡ 8) × (header_bytes (header_of l.kind chunk (at.offset - start_of l at.region)) ≡ bytes))
 unfolding mark_of
 mark_cases l at bytes marked =
-    let block : Option (List ℕ) = option_and_then (block_word l.context (start_of l at.region)) (block_at l at.region) in
-    let other : Option (List ℕ) = option_and_then (λ chunk. chunk_word l.kind chunk (at.offset - start_of l at.region)) (chunk_at l (behind at)) in
     elim (cases_eq at.offset (start_of l at.region)) [
       | inl same ↦
-          let test : (at.offset == start_of l at.region) ≡ true = grind (arith, nat_tests) in
-          let it = from_then (block_word l.context (start_of l at.region)) (block_at l at.region) bytes (sym (ap (λ b. if b then block else other) test) ∙ marked) in
+          let it = from_then (block_word l.context (start_of l at.region)) (block_at l at.region) bytes (grind (arith, marked, same)) in
           let word = block_word_cases l.context (start_of l at.region) it.0 bytes it.2 in
           inl (it.0, same, it.1, word.0, word.1)
       | inr differs ↦
-          let test : (at.offset == start_of l at.region) ≡ false = grind (arith, nat_tests) in
-          let it = from_then (λ (chunk : Chunk). chunk_word l.kind chunk (at.offset - start_of l at.region)) (chunk_at l (behind at)) bytes (sym (ap (λ b. if b then block else other) test) ∙ marked) in
+          let it = from_then (λ (chunk : Chunk). chunk_word l.kind chunk (at.offset - start_of l at.region)) (chunk_at l (behind at)) bytes (grind (arith, marked, differs)) in
           let word = word_cases l.kind it.0 (at.offset - start_of l at.region) bytes it.2 in
           inr (it.0, differs, it.1, word.0, word.1)
     ]
@@ -103,35 +87,15 @@ mark_cases l at bytes marked =
 -- a mark, from what stands at its place
 pub mark_from_block : (l : Layout) (at : Addr) (block : Block) → at.offset ≡ start_of l at.region → block_at l at.region ≡ Some block → start_of l at.region + 40 ≤ block.size → mark_of l at ≡ Some (block_bytes l.context block.size)
 unfolding mark_of
-mark_from_block l at block first owned fits =
-    let test : (at.offset == start_of l at.region) ≡ true = grind (arith, nat_tests) in
-    let word : Option (List ℕ) = option_and_then (block_word l.context (start_of l at.region)) (block_at l at.region) in
-    let other : Option (List ℕ) = option_and_then (λ chunk. chunk_word l.kind chunk (at.offset - start_of l at.region)) (chunk_at l (behind at)) in
-    ap (λ b. if b then word else other) test ∙ ap (option_and_then (block_word l.context (start_of l at.region))) owned ∙ block_word_is l.context (start_of l at.region) block fits
+mark_from_block l at block first owned fits = grind arith
 
 pub mark_from_chunk : (l : Layout) (at : Addr) (chunk : Chunk) → at.offset ≢ start_of l at.region → chunk_at l (behind at) ≡ Some chunk → header_room l ≡ 8 → mark_of l at ≡ Some (header_bytes (header_of l.kind chunk (at.offset - start_of l at.region)))
 unfolding mark_of
-mark_from_chunk l at chunk differs found gap =
-    let test : (at.offset == start_of l at.region) ≡ false = grind (arith, nat_tests) in
-    let word : Option (List ℕ) = option_and_then (block_word l.context (start_of l at.region)) (block_at l at.region) in
-    let other : Option (List ℕ) = option_and_then (λ chunk. chunk_word l.kind chunk (at.offset - start_of l at.region)) (chunk_at l (behind at)) in
-    ap (λ b. if b then word else other) test ∙ ap (option_and_then (λ (c : Chunk). chunk_word l.kind c (at.offset - start_of l at.region))) found ∙ word_is l.kind chunk (at.offset - start_of l at.region) gap
+mark_from_chunk l at chunk differs found gap = grind (arith, word_is l.kind chunk (at.offset - start_of l at.region) gap)
 
 -- what stands at an address after one chunk was put
 pub put_cases : (l m : Layout) (at : Addr) (chunk : Option Chunk) → PutsChunk l m at chunk → (other : Addr) → ((other ≡ at) × (chunk_at m other ≡ chunk)) ⊎ ((other ≢ at) × (chunk_at m other ≡ chunk_at l other))
 put_cases l m at chunk puts other = put_at-cases (chunk_at l) (chunk_at m) at chunk puts other
-
--- the block in a region after one block was put
-pub block_cases : (l m : Layout) (number : ℕ) (block : Option Block) → ((other : ℕ) → block_at m other ≡ (if number == other then block else block_at l other)) → (other : ℕ) → ((other ≡ number) × (block_at m other ≡ block)) ⊎ ((other ≢ number) × (block_at m other ≡ block_at l other))
-block_cases l m number block puts other =
-    elim (cases_eq number other) [
-      | inl same ↦
-          let test : (number == other) ≡ true = grind (arith, nat_tests) in
-          inl (sym same, puts other ∙ ap (λ b. if b then block else block_at l other) test)
-      | inr differs ↦
-          let test : (number == other) ≡ false = grind (arith, nat_tests) in
-          inr ((λ e. differs (sym e)), puts other ∙ ap (λ b. if b then block else block_at l other) test)
-    ]
 
 module _ (l : Layout) (laid : IsLaid l) where
   -- chunks at two addresses have place for a header between them

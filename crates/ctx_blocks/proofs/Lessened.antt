@@ -4,9 +4,9 @@ use Rattle.addr_space.specs.declared.Addr.{Addr}
 use Rattle.addr_space.specs.Space.{Space, Changes, held}
 use Rattle.addr_space.specs.Footprint.{Agrees, Moves, counted}
 use Rattle.addr_space.proofs.Steps.{Moves-still, Moves-give}
-use Rattle.chunk_header.specs.Header.{header_bytes, block_bytes}
+use Rattle.chunk_header.specs.Header.{header_bytes}
 use Rattle.ctx_blocks.specs.Layout.{Layout, block_at, chunk_at, start_of, gap_of, header_room, header_of, whole_of, total, mark_of, footprint}
-use Rattle.ctx_blocks.specs.Kept.{IsFilled, IsLaid}
+use Rattle.ctx_blocks.specs.Kept.{IsFilled, IsLaid, IsPlaced}
 use Rattle.ctx_blocks.specs.Steps.{SameContext, MovesStill}
 use Rattle.ctx_blocks.specs.declared.parts.Block.{Block}
 use Rattle.ctx_blocks.specs.declared.parts.Chunk.{Chunk}
@@ -20,22 +20,48 @@ pub record Lessens (l m : Layout) : Type 0 where
   pub block : (number : ℕ) (b : Block) → block_at m number ≡ Some b → (w : Block) × (block_at l number ≡ Some w) × (w.size ≡ b.size) × IsFilled (whole_of l number b.size) b
   pub under : (at : Addr) (c : Chunk) → chunk_at m at ≡ Some c → (w : Block) × (b : Block) × (block_at l at.region ≡ Some w) × (block_at m at.region ≡ Some b) × (b.room ≤ w.room)
 
--- the start of a block and the bytes of a header stay
-pub start_same : (l m : Layout) → SameContext l m → (number : ℕ) → start_of m number ≡ start_of l number
-start_same l m same number = rw same.keeper refl
+module _ (l m : Layout) (same : SameContext l m) where
+  -- the start of a block and the bytes of a header stay
+  pub start_same : (number : ℕ) → start_of m number ≡ start_of l number
+  start_same number = ap (λ k. if k == number then 200 else 0) same.keeper
 
-pub gap_same : (l m : Layout) → SameContext l m → header_room m ≡ header_room l
-gap_same l m same = ap gap_of same.kind
+  pub gap_same : header_room m ≡ header_room l
+  gap_same = ap gap_of same.kind
+
+  -- a chunk whose block stays is where it was
+  pub placed_same : (at : Addr) (c : Chunk) (was : IsPlaced l at c) → block_at m at.region ≡ Some was.block → IsPlaced m at c
+  placed_same at c was owned = record {
+    block = was.block;
+    owned = owned;
+    first = omega (arith, was.first, start_same at.region, gap_same);
+    last = was.last;
+    whole = was.whole;
+    sized = rw same.kind was.sized;
+  }
+
+  -- a mark was one, where its block was there with its size, or its chunk with its room
+  pub mark_same : (at : Addr) (bytes : List ℕ)
+      → ((b : Block) → block_at m at.region ≡ Some b → (w : Block) × (block_at l at.region ≡ Some w) × (w.size ≡ b.size))
+      → ((c : Chunk) → chunk_at m (behind at) ≡ Some c → (w : Chunk) × (chunk_at l (behind at) ≡ Some w) × (w.room ≡ c.room) × (w.own ≡ c.own))
+      → mark_of m at ≡ Some bytes → mark_of l at ≡ Some bytes
+  mark_same at bytes blocks chunks marked =
+      let start = start_same at.region in
+      elim (mark_cases m at bytes marked) [
+        | inl block ↦
+            let it = blocks block.0 block.2 in
+            mark_from_block l at it.0 (block.1 ∙ start) it.1 (omega (arith, start, block.3, it.2)) ∙ ap Some (rw (it.2, ← same.context) block.4)
+        | inr other ↦
+            let it = chunks other.0 other.2 in
+            let header : header_of l.kind it.0 (at.offset - start_of l at.region) ≡ header_of m.kind other.0 (at.offset - start_of m at.region) = rw (same.kind, it.2, it.3, start) refl in
+            mark_from_chunk l at it.0 (λ e. other.1 (e ∙ sym start)) it.1 (sym gap_same ∙ other.3) ∙ ap Some (ap header_bytes header ∙ other.4)
+      ]
 
 module _ (l m : Layout) (laid : IsLaid l) (less : Lessens l m) where
   pub IsLaid-lessened : IsLaid m
   IsLaid-lessened =
       let gap = gap_same l m less.same in
       record {
-        filled = λ number b owned.
-            let filled = (less.block number b owned).3 in
-            let start = start_same l m less.same number in
-            record { small = filled.small; even = filled.even; within = omega (arith, filled.within, start) };
+        filled = λ number b owned. rw less.same.keeper ((less.block number b owned).3);
         placed = λ at c found.
             let it = less.chunk at c found in
             let under = less.under at c found in
@@ -51,14 +77,7 @@ module _ (l m : Layout) (laid : IsLaid l) (less : Lessens l m) where
               first = omega (arith, was.first, start_same l m less.same at.region, gap);
               last = omega (arith, was.last, size, room, under.4, it.2);
               whole = was.whole;
-              sized = record {
-                some = omega (arith, was.sized.some, gap, it.2);
-                fits = it.4;
-                value = elim was.sized.value [
-                  | inl own ↦ inl (sym it.3 ∙ own)
-                  | inr small ↦ inr (omega (arith, small, it.2))
-                ];
-              };
+              sized = record { some = omega (arith, was.sized.some, gap, it.2); fits = it.4; value = let value = was.sized.value in grind (arith, it.2, it.3) };
             };
         apart = λ a b first second at_a at_b region below.
             let one = less.chunk a first at_a in
@@ -67,22 +86,9 @@ module _ (l m : Layout) (laid : IsLaid l) (less : Lessens l m) where
       }
 
   -- each mark was one
-  pub mark-lessened : (at : Addr) (bytes : List ℕ) → mark_of m at ≡ Some bytes → mark_of l at ≡ Some bytes
-  mark-lessened at bytes marked =
-      let start = start_same l m less.same at.region in
-      elim (mark_cases m at bytes marked) [
-        | inl block ↦
-            let it = less.block at.region block.0 block.2 in
-            mark_from_block l at it.0 (block.1 ∙ start) it.1 (omega (arith, start, block.3, it.2))
-            ∙ ap Some (ap (block_bytes l.context) it.2 ∙ ap (λ x. block_bytes x block.0.size) (sym less.same.context) ∙ block.4)
-        | inr other ↦
-            let it = less.chunk (behind at) other.0 other.2 in
-            let header : header_of l.kind it.0 (at.offset - start_of l at.region) ≡ header_of m.kind other.0 (at.offset - start_of m at.region) =
-            ap (λ o. header_of l.kind it.0 (at.offset - o)) (sym start) ∙ ap (λ k. header_of k it.0 (at.offset - start_of m at.region)) (sym less.same.kind)
-            ∙ ap (λ o. record { kind = m.kind; own = o; value = if o then 0 else it.0.room; dist = at.offset - start_of m at.region }) it.3
-            ∙ ap (λ r. record { kind = m.kind; own = other.0.own; value = if other.0.own then 0 else r; dist = at.offset - start_of m at.region }) it.2 in
-            mark_from_chunk l at it.0 (λ e. other.1 (e ∙ sym start)) it.1 (sym (gap_same l m less.same) ∙ other.3) ∙ ap Some (ap header_bytes header ∙ other.4)
-      ]
+  mark-lessened : (at : Addr) (bytes : List ℕ) → mark_of m at ≡ Some bytes → mark_of l at ≡ Some bytes
+  mark-lessened at bytes =
+      mark_same l m less.same at bytes (λ b has. let it = less.block at.region b has in (it.0, it.1, it.2)) (λ c found. let it = less.chunk (behind at) c found in (it.0, it.1, it.2, it.3))
 
   -- the books alone change
   pub MovesStill-lessened : ((number : ℕ) → (footprint m).region number ≡ (footprint l).region number) → total m ≡ total l → MovesStill l m
@@ -99,7 +105,4 @@ module _ (l m : Layout) (laid : IsLaid l) (less : Lessens l m) where
   Moves-given s t number block agrees changes owned gone others totals holds =
       Moves-give (footprint l) (footprint m) s t number block.size agrees (IsSound-laid m IsLaid-lessened) less.same.account less.same.context changes
       (region_is l number block owned) (rw gone refl) (λ other differs. rw (others other differs) refl) mark-lessened
-      (λ account.
-      let counts : counted (footprint m) account ≡ (if l.account == account then total m else 0) = ap (λ a. if a == account then total m else 0) less.same.account in
-      let before : counted (footprint l) account ≡ (if l.account == account then total m + block.size else 0) = ap (λ n. if l.account == account then n else 0) (sym totals) in
-      grind (arith, holds account, counts, before))
+      (λ account. let same = less.same.account in grind (arith, holds account))

@@ -1,5 +1,3 @@
-pub mod Entries
-pub mod Found
 pub mod Laid
 pub mod Changed
 pub mod Counts
@@ -8,7 +6,6 @@ pub mod Headed
 pub mod New
 pub mod Lessened
 pub mod Totals
-pub mod Numbers
 pub mod Refilled
 pub mod Spared
 pub mod Held
@@ -20,3 +17,6 @@ pub mod Summed
 pub mod Numbered
 pub mod Among
 pub mod Places
+pub mod Put
+pub mod Keeps
+pub mod Taken

@@ -1,5 +1,5 @@
 -- Lemmas on sums over the blocks that are added up one by one.
-use Rattle.std.proofs.Common.{◌≡◌, ℕ, ◌+◌, List, ◌∷◌, length, drop, get_or, slice_get, Some, ap, ◌∙◌, arith, sum_by}
+use Rattle.std.proofs.Common.{◌≡◌, ℕ, ◌+◌, ◌≤◌, List, length, drop, slice_get, Some, arith, sum_by}
 use Rattle.std.specs.Map.{values_of}
 use Rattle.std.proofs.lemmas.List.{drop_more, drop_all}
 use Rattle.std.proofs.lemmas.List.Sums.{sum_by-cons}
@@ -10,13 +10,20 @@ use Rattle.ctx_blocks.specs.declared.parts.Block.{Block}
 abbrev pub rest_of : (Block → ℕ) → List (ℕ × Block) → ℕ → ℕ
 rest_of f blocks i = sum_by f (values_of (drop i blocks))
 
-pub rest_of-more : (f : Block → ℕ) (blocks : List (ℕ × Block)) (i number : ℕ) (block : Block) → slice_get blocks i ≡ Some (number, block) → rest_of f blocks i ≡ f block + rest_of f blocks (i + 1)
-rest_of-more f blocks i number block found =
-    let e : ℕ × Block = (number, block) in
-    let more : drop i blocks ≡ get_or blocks i e ∷ drop (i + 1) blocks = drop_more blocks i e (slice_get_within blocks i e found) in
-    let is : drop i blocks ≡ e ∷ drop (i + 1) blocks = more ∙ ap (λ x. x ∷ drop (i + 1) blocks) (get_or_from_slice_get blocks i e e found) in
-    let sums : rest_of f blocks i ≡ sum_by f (block ∷ values_of (drop (i + 1) blocks)) = ap (λ es. sum_by f (values_of es)) is in
-    omega (arith, sums, sum_by-cons f block (values_of (drop (i + 1) blocks)))
+-- what was summed up to an index, where no block has more than its bytes
+pub record Summed (f : Block → ℕ) (blocks : List (ℕ × Block)) (i sum total : ℕ) : Type 0 where
+  pub all : sum + rest_of f blocks i ≡ sum_by f (values_of blocks)
+  pub most : sum + rest_of (λ b. b.size) blocks i ≤ total
 
-pub rest_of-all : (f : Block → ℕ) (blocks : List (ℕ × Block)) → rest_of f blocks (length blocks) ≡ 0
-rest_of-all f blocks = ap (λ es. sum_by f (values_of es)) (drop_all (length blocks) blocks (omega arith))
+rest_more : (f : Block → ℕ) (blocks : List (ℕ × Block)) (i : ℕ) (e : ℕ × Block) → slice_get blocks i ≡ Some e → rest_of f blocks i ≡ f e.1 + rest_of f blocks (i + 1)
+rest_more f blocks i e found =
+    rw (drop_more blocks i e (slice_get_within blocks i e found), get_or_from_slice_get blocks i e e found) (omega (arith, sum_by-cons f e.1 (values_of (drop (i + 1) blocks))))
+
+pub summed-more : (f : Block → ℕ) (blocks : List (ℕ × Block)) (i sum total : ℕ) (e : ℕ × Block) → slice_get blocks i ≡ Some e → f e.1 ≤ e.1.size → Summed f blocks i sum total → (sum + f e.1 ≤ total) × Summed f blocks (i + 1) (sum + f e.1) total
+summed-more f blocks i sum total e found within sums =
+    let more = rest_more f blocks i e found in
+    let sizes = rest_more (λ b. b.size) blocks i e found in
+    (omega (arith, sums.most), record { all = omega (arith, sums.all); most = omega (arith, sums.most) })
+
+pub summed-all : (f : Block → ℕ) (blocks : List (ℕ × Block)) (i sum total : ℕ) → length blocks ≤ i → Summed f blocks i sum total → sum ≡ sum_by f (values_of blocks)
+summed-all f blocks i sum total past sums = let all = rw (drop_all i blocks past) at sums.all in omega arith

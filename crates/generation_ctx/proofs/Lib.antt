@@ -4,13 +4,12 @@ pub mod Alone
 pub mod Steps
 pub mod Ledgers
 pub mod Kept
+pub mod Added
 pub mod Resets
 pub mod Refilled
 pub mod Forgotten
-pub mod Addrs
 pub mod Owned
 pub mod Sizes
 pub mod Resizes
-pub mod Fitting
 pub mod Places
 pub mod Rows

@@ -1,11 +1,9 @@
 -- The books of a context with the keeper alone.
-use Rattle.std.proofs.Common.{◌≡◌, [], ◌∷◌, Some, None, option_map, refl, arith, ap, ◌∙◌, sym}
+use Rattle.std.proofs.Common.{◌≡◌, [], Some, None, refl, arith}
 use Rattle.chunk_header.specs.declared.Kind.TheVariants.{Generation}
-use Rattle.ctx_blocks.specs.Layout.{block_at, chunk_at, whole_block, keeper_alone}
-use Rattle.std.specs.Map.{values_of}
-use Rattle.generation_ctx.specs.Ledger.{created, whole}
-use Rattle.generation_ctx.specs.State.{number_of}
-use Rattle.generation_ctx.proofs.Numbers.{number_is}
+use Rattle.ctx_blocks.specs.Layout.{block_at, whole_block, keeper_alone}
+use Rattle.generation_ctx.specs.Ledger.{created}
+use Rattle.ctx_blocks.proofs.Places.{number_is}
 use Rattle.chunk_header.specs.Growth.{AreSizes}
 use Rattle.generation_ctx.specs.Kept.{ledger_of, IsKept}
 use Rattle.generation_ctx.specs.declared.books.Books.{Books}
@@ -26,13 +24,9 @@ module _ (n : Books) (kind : n.blocks.kind ≡ Generation) (one : n.blocks.first
     bytes = n.sizes.init;
     current = record { block = whole_block 1 200 n.sizes.init; is = at_current; size = refl };
     spare = rw spare tt;
-    alone = λ at chunk is own. (let gone : chunk_at n.blocks at ≡ None = rw none refl in let clash : Some chunk ≡ None = sym is ∙ gone in absurd (cc));
+    alone = λ at chunk is own. (let gone = rw none at is in absurd (cc));
   }
 
   pub ledger_alone : n.next ≡ n.sizes.init → ledger_of n ≡ created n.sizes.init n.sizes.max
   unfolding created
-  ledger_alone next =
-      let current : number_of n.blocks n.current ≡ 1 = number_is n.blocks n.current (whole_block 1 200 n.sizes.init) at_current in
-      let none : option_map (number_of n.blocks) n.spare ≡ None = ap (option_map (number_of n.blocks)) spare in
-      let values : values_of n.blocks.blocks ≡ whole 1 n.sizes.init ∷ [] = ap values_of only in
-      cc
+  ledger_alone next = rw (number_is n.blocks n.current (whole_block 1 200 n.sizes.init) at_current, next, last, spare, only) refl

@@ -1,5 +1,5 @@
 -- Lemmas on how many free chunks there may be.
-use Rattle.std.proofs.Common.{◌≡◌, ◌==◌, if◌then◌else◌, Bool, true, false, ℕ, ◌+◌, ◌*◌, ◌^◌, ◌≤◌, List, [], ◌∷◌, length, sum_by, ap, arith}
+use Rattle.std.proofs.Common.{◌≡◌, ℕ, ◌*◌, ◌^◌, ◌≤◌, List, [], ◌∷◌, length, sum_by, arith}
 use Rattle.std.proofs.lemmas.List.Sums.{sum_by-cons}
 use Rattle.std.proofs.Math.Nat.{mul-le-mul_right}
 use Rattle.slab_ctx.specs.Lives.{is_empty, free_in, free_chunks, per_block, stride}
@@ -14,22 +14,16 @@ free-most per [] few = omega arith
 free-most per (x ∷ xs) few = omega (arith, sum_by-cons (free_in per) x xs, free-most per xs few)
 
 -- no more than all blocks are empty
-one-most : (t : Bool) → (if t then 1 else 0) ≤ 1
-one-most true = omega arith
-one-most false = omega arith
-
 empty-most : (xs : List ℕ) → sum_by is_empty xs ≤ length xs
 empty-most [] = omega arith
-empty-most (x ∷ xs) = omega (arith, sum_by-cons is_empty x xs, one-most (x == 0), empty-most xs)
+empty-most (x ∷ xs) = grind (arith, sum_by-cons is_empty x xs, empty-most xs)
 
 -- they have place in their blocks
 bytes-most : (per f : ℕ) (xs : List ℕ) → per * f ≤ 8152 → sum_by (free_in per) xs * f ≤ 8152 * length xs
 bytes-most per f [] fit = omega arith
 bytes-most per f (x ∷ xs) fit =
-    let less : free_in per x ≤ per = omega arith in
-    let one = mul-le-mul_right f less in
-    let both : (free_in per x + sum_by (free_in per) xs) * f ≡ free_in per x * f + sum_by (free_in per) xs * f = omega arith in
-    omega (arith, ap (λ n. n * f) (sum_by-cons (free_in per) x xs), both, one, fit, bytes-most per f xs fit)
+    let one : free_in per x * f ≤ per * f = mul-le-mul_right f (omega arith) in
+    rw (sum_by-cons (free_in per) x xs) (omega (arith, bytes-most per f xs fit))
 
 module _ (b : Books) (few : ℕ) (kept : IsKeptBut b few) where
   pub free-is : b.free ≡ sum_by (free_in (per_block b.slots.size)) (lives_of b.slots.blocks)
@@ -45,8 +39,7 @@ module _ (b : Books) (few : ℕ) (kept : IsKeptBut b few) where
   bytes-small =
       let size = b.slots.size in
       let most = bytes-most (per_block size) (stride size) (lives_of b.slots.blocks) (per_block-fits size (per_block size) (omega arith)) in
-      let turned : stride size * b.free ≡ b.free * stride size = omega arith in
-      omega (arith, turned, ap (λ n. n * stride size) free-is, most, kept.bytes, kept.most)
+      rw free-is (omega (arith, kept.bytes, kept.most))
 
   pub empty-small : b.empty ≤ 2 ^ 60
   empty-small = omega (arith, kept.empty, empty-most (lives_of b.slots.blocks), kept.bytes, kept.most)

@@ -1,8 +1,7 @@
 -- Lemmas on what a Slab has in a space with its free chunks.
-use Rattle.std.proofs.Common.{◌≡◌, ◌≢◌, ℕ, ◌+◌, ◌-◌, ◌/◌, ◌%◌, ◌<◌, ◌≤◌, ◌==◌, if◌then◌else◌, Bool, true, false, List, Option, Some, None, refl, sym, ap, ◌∙◌, inl, inr, arith}
+use Rattle.std.proofs.Common.{◌≡◌, ◌≢◌, ℕ, ◌+◌, ◌-◌, ◌/◌, ◌%◌, ◌≤◌, true, List, Option, Some, None, sym, ap, ◌∙◌, inl, inr, arith}
 use Rattle.std.specs.Global.{Vec}
 use Rattle.std.proofs.Math.Nat.{mod-eq-sub-div-mul, div-mul-le_self}
-use Rattle.std.proofs.lemmas.Bool.Decides.{nat_tests}
 use Rattle.addr_space.specs.declared.Addr.{Addr}
 use Rattle.addr_space.specs.Space.{Space}
 use Rattle.addr_space.specs.Footprint.{Footprint, IsSound, Agrees, Moves, nothing, counted}
@@ -12,10 +11,10 @@ use Rattle.ctx_blocks.specs.Layout.{Layout, block_at, chunk_at, front_of, start_
 use Rattle.ctx_blocks.specs.declared.parts.Block.{Block}
 use Rattle.ctx_blocks.specs.declared.parts.Chunk.{Chunk}
 use Rattle.slab_ctx.specs.Lives.{stride}
-use Rattle.slab_ctx.specs.State.{is_slot, free_slot, free_block, free_at}
+use Rattle.slab_ctx.specs.State.{is_slot, free_at}
 use Rattle.slab_ctx.specs.Slots.{IsSlot, IsSlotted}
 use Rattle.slab_ctx.proofs.Numbers.{stride-least, stride-some, slots_apart}
-use Rattle.addr_space.proofs.Options.{none_or_some}
+use Rattle.addr_space.proofs.Options.{none_or_some, option_cases}
 use Rattle.addr_space.proofs.Addresses.{same_addr_from}
 use Rattle.ctx_blocks.proofs.Laid.{region_is, from_live}
 use Rattle.slab_ctx.proofs.Places.{start-is, slot-least}
@@ -29,19 +28,10 @@ slot-from : (size offset : ℕ) → 1 ≤ size → is_slot size offset ≡ true 
 slot-from size offset some test =
     let f = stride size in
     let wide : 16 ≤ f = stride-some size some in
-    let first : 48 ≤ offset = grind (arith, nat_tests) in
-    let whole : (offset - 48) % f ≡ 0 = grind (arith, nat_tests) in
-    let last : offset + (f - 8) ≤ 8192 = grind (arith, nat_tests) in
-    let positive : 0 < f = omega arith in
+    let first : 48 ≤ offset = grind arith in
+    let whole : (offset - 48) % f ≡ 0 = grind arith in
+    let last : offset + (f - 8) ≤ 8192 = grind arith in
     (record { slot = (offset - 48) / f; at_slot = omega (arith, whole, first, mod-eq-sub-div-mul (offset - 48) f, div-mul-le_self (offset - 48) f) }, last)
-
-from_slot : (size offset : ℕ) (slot : Option Chunk) (n : ℕ) → free_slot size offset slot ≡ Some n → (slot ≡ None) × (is_slot size offset ≡ true) × (n ≡ size)
-from_slot size offset None n is = let it = by (is_slot size offset) is in (refl, it.0, it.1)
-  where
-    by : (t : Bool) → (if t then Some size else None) ≡ Some n → (t ≡ true) × (n ≡ size)
-    by true is = (refl, cc)
-    by false is = absurd (cc)
-from_slot size offset (Some chunk) n is = absurd (cc)
 
 -- what a free chunk is
 record IsFreeAt (l : Layout) (size : ℕ) (at : Addr) (n : ℕ) : Type 0 where
@@ -52,18 +42,14 @@ record IsFreeAt (l : Layout) (size : ℕ) (at : Addr) (n : ℕ) : Type 0 where
   slot : is_slot size at.offset ≡ true
   is : n ≡ size
 
-from_block : (l : Layout) (size : ℕ) (at : Addr) (n : ℕ) → at.region ≢ l.keeper → (block : Option Block) → block_at l at.region ≡ block → free_block size at.offset block (chunk_at l at) ≡ Some n → IsFreeAt l size at n
-from_block l size at n differs None found is = absurd (cc)
-from_block l size at n differs (Some block) found is =
-    let it = from_slot size at.offset (chunk_at l at) n is in
-    record { not_keeper = differs; block = block; found = found; none = it.0; slot = it.1; is = it.2 }
-
 from_free : (l : Layout) (size : ℕ) (at : Addr) (n : ℕ) → free_at size l at ≡ Some n → IsFreeAt l size at n
-from_free l size at n is = by (l.keeper == at.region) (λ test. grind (arith, nat_tests)) is
-  where
-    by : (t : Bool) → (t ≡ false → l.keeper ≢ at.region) → (if t then None else free_block size at.offset (block_at l at.region) (chunk_at l at)) ≡ Some n → IsFreeAt l size at n
-    by true differs is = absurd (cc)
-    by false differs is = from_block l size at n (λ e. differs refl (sym e)) (block_at l at.region) refl is
+from_free l size at n is = elim (option_cases (block_at l at.region)) [
+  | inl none ↦ absurd (grind (arith, is, none))
+  | inr block ↦ elim (option_cases (chunk_at l at)) [
+    | inl none ↦ record { not_keeper = λ e. grind (arith, is, e); block = block.0; found = block.1; none = none; slot = grind (arith, is, block.1, none); is = grind (arith, is, block.1, none) }
+    | inr chunk ↦ absurd (grind (arith, is, block.1, chunk.1))
+  ]
+]
 
 module _ (l : Layout) (size : ℕ) (s : List (ℕ × Vec ℕ)) (slotted : IsSlotted l size s) where
   -- free chunks lie in their blocks and apart from live ones
@@ -108,63 +94,44 @@ module _ (l : Layout) (size : ℕ) (s : List (ℕ × Vec ℕ)) (slotted : IsSlot
 
 -- a space has the blocks of a context that it agrees with
 pub Agrees-plain : (size : ℕ) (l : Layout) (sp : Space) → Agrees (full size l) sp → Agrees (footprint_of l) sp
-Agrees-plain size l sp agrees =
-    record {
-      sound = record {
-        live_inside = agrees.sound.live_inside;
-        free_inside = λ at n free. absurd (cc);
-        mark_inside = agrees.sound.mark_inside;
-        live_apart = agrees.sound.live_apart;
-        free_apart = λ a b m n live free. absurd (cc);
-        mark_apart = agrees.sound.mark_apart;
-        live_behind = agrees.sound.live_behind;
-        free_behind = λ at n free. absurd (cc);
-        small = agrees.sound.small;
-      };
-      account = agrees.account;
-      regions = agrees.regions;
-      marks = agrees.marks;
-    }
+Agrees-plain size l sp agrees = record {
+  sound = record {
+    live_inside = agrees.sound.live_inside;
+    free_inside = λ at n free. absurd (cc);
+    mark_inside = agrees.sound.mark_inside;
+    live_apart = agrees.sound.live_apart;
+    free_apart = λ a b m n live free. absurd (cc);
+    mark_apart = agrees.sound.mark_apart;
+    live_behind = agrees.sound.live_behind;
+    free_behind = λ at n free. absurd (cc);
+    small = agrees.sound.small;
+  };
+  account = agrees.account;
+  regions = agrees.regions;
+  marks = agrees.marks;
+}
 
--- the steps, with the free chunks
-pub Moves-full : (size now : ℕ) (l m : Layout) (t : List (ℕ × Vec ℕ)) (sp sq : Space) → now ≡ size → IsSlotted m now t → Moves (footprint_of l) (footprint_of m) sp sq → Moves (full size l) (full now m) sp sq
+-- the steps, with other free chunks
+Moves-free : (f g : Footprint) (before after : Addr → Option ℕ) (sp sq : Space) → Agrees (record g { free = after }) sq → Moves f g sp sq → Moves (record f { free = before }) (record g { free = after }) sp sq
 unfolding counted
-Moves-full size now l m t sp sq same slotted moves =
-    record {
-      agrees = Agrees-full m now t slotted sq moves.agrees;
-      account = moves.account;
-      context = moves.context;
-      outside = moves.outside;
-      accounts = moves.accounts;
-      limit = moves.limit;
-      held = moves.held;
-    }
+Moves-free f g before after sp sq agrees moves = record {
+  agrees = agrees;
+  account = moves.account;
+  context = moves.context;
+  outside = moves.outside;
+  accounts = moves.accounts;
+  limit = moves.limit;
+  held = moves.held;
+}
+
+pub Moves-full : (size now : ℕ) (l m : Layout) (t : List (ℕ × Vec ℕ)) (sp sq : Space) → now ≡ size → IsSlotted m now t → Moves (footprint_of l) (footprint_of m) sp sq → Moves (full size l) (full now m) sp sq
+Moves-full size now l m t sp sq same slotted moves = Moves-free (footprint_of l) (footprint_of m) (free_at size l) (free_at now m) sp sq (Agrees-full m now t slotted sq moves.agrees) moves
 
 pub Moves-made : (size account context : ℕ) (m : Layout) (t : List (ℕ × Vec ℕ)) (sp sq : Space) → IsSlotted m size t → Moves (nothing account context) (footprint_of m) sp sq → Moves (nothing account context) (full size m) sp sq
-unfolding counted
-Moves-made size account context m t sp sq slotted moves =
-    record {
-      agrees = Agrees-full m size t slotted sq moves.agrees;
-      account = moves.account;
-      context = moves.context;
-      outside = moves.outside;
-      accounts = moves.accounts;
-      limit = moves.limit;
-      held = moves.held;
-    }
+Moves-made size account context m t sp sq slotted moves = Moves-free (nothing account context) (footprint_of m) (λ at. None) (free_at size m) sp sq (Agrees-full m size t slotted sq moves.agrees) moves
 
 pub Moves-gone : (size account context : ℕ) (l : Layout) (sp sq : Space) → Moves (footprint_of l) (nothing account context) sp sq → Moves (full size l) (nothing account context) sp sq
-unfolding counted
-Moves-gone size account context l sp sq moves =
-    record {
-      agrees = moves.agrees;
-      account = moves.account;
-      context = moves.context;
-      outside = moves.outside;
-      accounts = moves.accounts;
-      limit = moves.limit;
-      held = moves.held;
-    }
+Moves-gone size account context l sp sq moves = Moves-free (footprint_of l) (nothing account context) (free_at size l) (λ at. None) sp sq moves.agrees moves
 
 -- live chunks have headers, free ones count for nothing there
 abbrev IsHeaded-full : (size : ℕ) (l : Layout) (at : Addr) → IsHeaded (footprint_of l) at → IsHeaded (full size l) at

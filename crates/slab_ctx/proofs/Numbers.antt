@@ -1,7 +1,7 @@
 -- Lemmas on the bytes of a chunk with its header, and on how many a block has.
 use Rattle.std.proofs.Common.{◌≡◌, ◌≢◌, ℕ, ◌+◌, ◌*◌, ◌%◌, ◌<◌, ◌≤◌, ◌⊎◌, sym, ap, ◌∙◌, inl, inr, arith}
 use Rattle.std.proofs.Math.Nat.{le-div_iff_mul-le, mul-le-mul_right}
-use Rattle.std.proofs.lemmas.Bool.{cases_lt, cases_eq}
+use Rattle.std.proofs.lemmas.Bool.{cases_order}
 use Rattle.chunk_header.specs.Growth.{up8}
 use Rattle.slab_ctx.specs.Lives.{stride, per_block}
 use Rattle.slab_ctx.specs.Slots.{IsSlot}
@@ -47,19 +47,15 @@ per_block-some size small = per_block-most size 1 (omega (arith, stride-most siz
 
 -- a slot ends where the next one begins, or before
 slot-before : (f a b : ℕ) → a < b → a * f + f ≤ b * f
-slot-before f a b before =
-    let more = mul-le-mul_right f before in
-    omega (arith, more)
+slot-before f a b before = let more = mul-le-mul_right f before in omega arith
 
 -- two slots have no byte in common, with their headers
 pub slots_apart : (size a b : ℕ) → IsSlot size a → IsSlot size b → a ≢ b → (a + stride size ≤ b) ⊎ (b + stride size ≤ a)
 slots_apart size a b first second differs =
-    elim (cases_lt first.slot second.slot) [
-      | inl less ↦ inl (omega (arith, first.at_slot, second.at_slot, slot-before (stride size) first.slot second.slot less))
-      | inr not ↦ elim (cases_eq first.slot second.slot) [
-        | inl same ↦ absurd (differs (first.at_slot ∙ ap (λ n. 48 + n * stride size) same ∙ sym second.at_slot))
-        | inr other ↦
-            let less : second.slot < first.slot = omega arith in
-            inr (omega (arith, first.at_slot, second.at_slot, slot-before (stride size) second.slot first.slot less))
+    elim (cases_order first.slot second.slot) [
+      | inl same ↦ absurd (differs (first.at_slot ∙ ap (λ n. 48 + n * stride size) same ∙ sym second.at_slot))
+      | inr other ↦ elim other [
+        | inl less ↦ inl (omega (arith, first.at_slot, second.at_slot, slot-before (stride size) first.slot second.slot less))
+        | inr more ↦ inr (omega (arith, first.at_slot, second.at_slot, slot-before (stride size) second.slot first.slot more))
       ]
     ]

@@ -1,7 +1,6 @@
 -- Lemmas on where the chunks of a Slab may stand.
-use Rattle.std.proofs.Common.{◌≡◌, ◌≢◌, ℕ, ◌+◌, ◌-◌, ◌*◌, ◌/◌, ◌%◌, ◌<◌, ◌≤◌, ◌⊎◌, ◌==◌, if◌then◌else◌, false, length, Some, slice_index, sym, ap, ◌∙◌, inl, inr, arith, List}
+use Rattle.std.proofs.Common.{◌≡◌, ◌≢◌, ℕ, ◌+◌, ◌-◌, ◌*◌, ◌/◌, ◌%◌, ◌<◌, ◌≤◌, ◌⊎◌, length, Some, slice_index, sym, ap, ◌∙◌, arith, List}
 use Rattle.std.specs.Global.{Vec}
-use Rattle.std.proofs.lemmas.Bool.Decides.{nat_tests}
 use Rattle.std.proofs.Math.Nat.{mul_assoc}
 use Rattle.addr_space.specs.declared.Addr.{Addr}
 use Rattle.ctx_blocks.specs.Layout.{Layout, block_at, chunk_at, gap_of, header_room, start_of}
@@ -11,14 +10,13 @@ use Rattle.slab_ctx.specs.Lives.{stride, per_block}
 use Rattle.slab_ctx.specs.Slots.{IsSlot, IsFree, IsFilled, IsSlotted, stack_at, at_offset}
 use Rattle.slab_ctx.proofs.Numbers.{stride-some, stride-whole, per_block-most, per_block-fits, slots_apart}
 use Rattle.addr_space.proofs.Options.{none_or_some}
+use Rattle.addr_space.proofs.Addresses.{same_addr_from}
 
 -- slots begin at multiples of 8
 pub slot-whole : (size offset : ℕ) → IsSlot size offset → offset % 8 ≡ 0
 slot-whole size offset is =
-    let q = stride size / 8 in
-    let eighths : stride size ≡ q * 8 = omega (arith, stride-whole size) in
-    let more : is.slot * stride size ≡ is.slot * q * 8 = ap (λ n. is.slot * n) eighths ∙ sym (mul_assoc is.slot q 8) in
-    omega (arith, is.at_slot, more)
+    let eighths : stride size ≡ stride size / 8 * 8 = omega (arith, stride-whole size) in
+    omega (arith, is.at_slot, ap (λ n. is.slot * n) eighths ∙ sym (mul_assoc is.slot (stride size / 8) 8))
 
 -- they begin behind the headers
 pub slot-least : (size offset : ℕ) → IsSlot size offset → 48 ≤ offset
@@ -31,9 +29,7 @@ module _ (l : Layout) (size : ℕ) (s : List (ℕ × Vec ℕ)) (slotted : IsSlot
 
   -- nothing stands before the header of a block
   pub start-is : (number : ℕ) → number ≢ l.keeper → start_of l number ≡ 0
-  start-is number differs =
-      let test : (l.keeper == number) ≡ false = grind (arith, nat_tests) in
-      ap (λ b. if b then 200 else 0) test
+  start-is number differs = grind arith
 
   module _ (number : ℕ) (differs : number ≢ l.keeper) (b : Block) (found : block_at l number ≡ Some b) where
     was : IsFilled l size number b (stack_at s number)
@@ -54,17 +50,14 @@ module _ (l : Layout) (size : ℕ) (s : List (ℕ × Vec ℕ)) (slotted : IsSlot
     pub room-left : b.freed ≡ 0 → b.live < per_block size → stride size ≤ b.room
     room-left freed free =
         let fits = per_block-fits size (b.live + 1) (omega arith) in
-        let count : b.live + b.freed ≡ b.live = omega (arith, freed) in
-        let rest : b.live * stride size + b.room ≡ 8152 = ap (λ n. n * stride size + b.room) (sym count) ∙ was.rest in
-        omega (arith, fits, rest)
+        let rest = rw freed at was.rest in
+        omega arith
 
     -- a free chunk is clear of each live one
     pub clear-of : (offset room : ℕ) → room ≡ stride size - 8 → IsFree l size number b offset → (other : Addr) (c : Chunk) → chunk_at l other ≡ Some c → other.region ≡ number → (other.offset + c.room + header_room l ≤ offset) ⊎ (offset + room + header_room l ≤ other.offset)
     clear-of offset room room_is free other c has region =
         let some = stride-some size slotted.least in
         let c_room : c.room ≡ stride size - 8 = ap (λ (x : Chunk). x.room) (slotted.chunk other c has) in
-        let differ : other.offset ≢ offset = λ e. none_or_some (chunk_at l other) c (ap (λ r. chunk_at l (at_offset r other.offset)) region ∙ ap (λ o. chunk_at l (at_offset number o)) e ∙ free.free) has in
-        elim (slots_apart size other.offset offset (slotted.slot other c has) free.slot differ) [
-          | inl before ↦ inl (omega (arith, before, c_room, gap-is, some))
-          | inr behind ↦ inr (omega (arith, behind, room_is, gap-is, some))
-        ]
+        let differ : other.offset ≢ offset = λ e. none_or_some (chunk_at l other) c (ap (chunk_at l) (same_addr_from other (at_offset number offset) region e) ∙ free.free) has in
+        let apart = slots_apart size other.offset offset (slotted.slot other c has) free.slot differ in
+        grind (arith, gap-is)

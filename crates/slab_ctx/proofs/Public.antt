@@ -1,15 +1,14 @@
 -- Lemmas on what callers of a Slab see.
-use Rattle.std.proofs.Common.{◌≡◌, ℕ, ◌≤◌, if◌then◌else◌, Option, Some, None, IfSome, IsSome, IfOk, OnOk, Result, Ok, Err, option_map, true, false, length, refl, sym, ap, ◌∙◌, inl, inr}
+use Rattle.std.proofs.Common.{◌≡◌, ℕ, ◌≤◌, Option, Some, None, IfSome, IsSome, IfOk, OnOk, Result, Ok, Err, true, length, refl, sym, ◌∙◌, inl, inr}
 use Rattle.std.proofs.lemmas.List.{length-map}
 use Rattle.addr_space.specs.declared.Addr.{Addr}
 use Rattle.addr_space.specs.Space.{Space}
-use Rattle.addr_space.specs.Live.{same_addr, MovesAt, MovesLive}
+use Rattle.addr_space.specs.Live.{MovesAt, MovesLive}
 use Rattle.addr_space.proofs.Addresses.{same_addr-cases}
-use Rattle.ctx_blocks.specs.Layout.{Layout, chunk_at}
-use Rattle.ctx_blocks.specs.declared.parts.Chunk.{Chunk}
+use Rattle.ctx_blocks.specs.Layout.{Layout}
 use Rattle.ctx_blocks.proofs.Laid.{from_live}
 use Rattle.slab_ctx.specs.State.{others, live_of, numbered_of, lives_of, blocks_of, place_at, footprint}
-use Rattle.slab_ctx.specs.Slots.{chunk_of, HasSlots}
+use Rattle.slab_ctx.specs.Slots.{HasSlots}
 use Rattle.slab_ctx.specs.Calls.{Resizes}
 use Rattle.slab_ctx.specs.Kept.{state_of}
 use Rattle.slab_ctx.specs.declared.books.Books.{Books}
@@ -26,14 +25,11 @@ some_is None some = absurd (cc)
 some_is (Some a) some = (a, refl)
 
 -- what is moved to where it is stays there
-pub moves_stay : {A : Type 0} (f : Addr → Option A) (from to : Addr) (a : A) → to ≡ from → f from ≡ Some a → MovesAt f f from to a
-moves_stay f from to a same is other = elim (same_addr-cases to other) [
-  | inl here ↦
-      ap f (sym here.0 ∙ same) ∙ is ∙ sym (ap (λ t. if t then Some a else (if same_addr from other then None else f other)) here.1)
-  | inr there ↦
-      let not : same_addr from other ≡ false = ap (λ (x : Addr). same_addr x other) (sym same) ∙ there.1 in
-      sym (ap (λ t. if t then Some a else (if same_addr from other then None else f other)) there.1 ∙ ap (λ t. if t then None else f other) not)
-]
+moves_stay : {A : Type 0} (f : Addr → Option A) (from to : Addr) (a : A) → to ≡ from → f from ≡ Some a → MovesAt f f from to a
+moves_stay f from to a same is other = rw same (elim (same_addr-cases from other) [
+  | inl here ↦ rw (here.1, ← here.0) is
+  | inr there ↦ rw there.1 refl
+])
 
 -- a chunk that has its size stays
 pub resizes_same : (b : Books) (s : Space) (from to : Addr) (place size : ℕ) → to ≡ from → size ≡ b.slots.size → size ≤ 1073741823 → place_at (state_of b) from ≡ Some place → Resizes (state_of b) (state_of b) place size from to s s
@@ -56,13 +52,8 @@ both_ok (Ok a) all p q = all a p q
 both_ok (Err e) all p q = p
 
 -- a live chunk has the size of all of them
-pub size_is : (b : Books) (at : Addr) (chunk : Chunk) → HasSlots b.slots → chunk_at b.slots.blocks at ≡ Some chunk → (footprint (state_of b)).live at ≡ Some b.slots.size
-size_is b at chunk slots there =
-    let is : chunk ≡ chunk_of b.slots.size = slots.chunk at chunk there in
-    ap (option_map (λ (x : Chunk). x.size)) there ∙ ap (λ (x : Chunk). Some x.size) is
-
 pub live_stays : (b : Books) (from to : Addr) (size : ℕ) → to ≡ from → size ≡ b.slots.size → HasSlots b.slots → IsSome ((footprint (state_of b)).live from) → MovesLive (footprint (state_of b)) (footprint (state_of b)) from to size
 live_stays b from to size same is slots live =
     let some = some_is ((footprint (state_of b)).live from) live in
     let had = from_live b.slots.blocks from some.0 some.1 in
-    moves_stay (footprint (state_of b)).live from to size same (size_is b from had.0 slots had.1 ∙ ap Some (sym is))
+    moves_stay (footprint (state_of b)).live from to size same (rw (had.1, slots.chunk from had.0 had.1, is) refl)

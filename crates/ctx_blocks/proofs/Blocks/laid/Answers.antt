@@ -2,13 +2,13 @@ use Rattle.ctx_blocks.proofs.Laid.{chunks_clear}
 use Rattle.ctx_blocks.proofs.Counts.{none_in, some_in}
 use Rattle.ctx_blocks.specs.Kept.{layout_of}
 use Rattle.ctx_blocks.specs.declared.books.Books.{Books}
-use Rattle.ctx_blocks.proofs.Numbers.{one_number}
+use Rattle.ctx_blocks.proofs.Numbered.{region_by_number}
 use Rattle.ctx_blocks.proofs.Blocks.laid.Goals as goal
 
 pub returns-clause-numbers : goal.returns-clause-numbers
 returns-clause-numbers c =
     let b : Books = c.self.inside.books in
-    rw (← c.self.view_is) (λ a other first second. one_number b.first_number b.last_number b.blocks.entries a other first second c.self.invariant.numbered)
+    rw (← c.self.view_is) (λ a other first second. region_by_number b.first_number b.last_number a other b.blocks.entries first second c.self.invariant.numbered)
 
 pub returns-clause-filled : goal.returns-clause-filled
 returns-clause-filled c = rw (← c.self.view_is) c.self.invariant.laid.filled

@@ -1,9 +1,6 @@
-use Rattle.std.proofs.Common.{◌≡◌, Some, None, false, ap, ◌∙◌, arith, inl, inr}
-use Rattle.std.specs.Map.{lookup}
-use Rattle.addr_space.specs.Live.{same_addr}
-use Rattle.ctx_blocks.specs.Layout.{Layout, block_at, chunk_at, gap_of, header_room}
+use Rattle.std.proofs.Common.{◌≡◌, Some, None, ap, arith, refl}
+use Rattle.ctx_blocks.specs.Layout.{block_at, chunk_at, gap_of, header_room}
 use Rattle.ctx_blocks.specs.declared.parts.Block.{Block}
-use Rattle.ctx_blocks.proofs.Laid.{put_cases}
 use Rattle.ctx_blocks.proofs.New.{keeper_is}
 use Rattle.ctx_blocks.proofs.tests.a_chunk_is_placed.Given.{Over}
 use Rattle.ctx_blocks.proofs.tests.a_chunk_is_placed.Goals as goal
@@ -15,10 +12,7 @@ first = record { number = 0; size = 1024; room = 784; live = 0; freed = 0 }
 
 owned : (g : Over) (c : After-keeper-number g) → block_at c.in_ok-blocks.blocks c.keeper-number.result ≡ Some first
 unfolding first
-owned g c =
-    let l : Layout = c.in_ok-blocks.blocks in
-    let it : block_at l l.keeper ≡ Some first = keeper_is l first c.in_ok-blocks.ensures.blocks c.in_ok-blocks.ensures.chunks in
-    ap (block_at l) c.keeper-number.ensures ∙ it
+owned g c = rw c.keeper-number.ensures (keeper_is c.in_ok-blocks.blocks first c.in_ok-blocks.ensures.blocks c.in_ok-blocks.ensures.chunks)
 
 gap : (g : Over) (c : After-keeper-number g) → header_room c.in_ok-blocks.blocks ≡ 8
 gap g c = ap gap_of c.in_ok-blocks.ensures.kind
@@ -32,11 +26,5 @@ cut-at-requires-clause-block g c =
 pub place-requires-clause-clear : goal.place-requires-clause-clear
 unfolding first
 place-requires-clause-clear g c = λ other it found region.
-    let before : chunk_at c.in_ok-blocks.blocks other ≡ None = ap (λ es. lookup (same_addr other) es) c.in_ok-blocks.ensures.chunks in
-    elim (put_cases c.cut-at.new.self c.remove.new.self c.cut-at.result None c.remove.ensures.chunk other) [
-      | inl gone ↦ let none = gone.1 in absurd (cc)
-      | inr kept ↦ elim (put_cases c.in_ok-blocks.blocks c.cut-at.new.self c.cut-at.result (Some (record { size = 20; room = 24; own = false })) c.cut-at.ensures.chunk other) [
-        | inl cut ↦ absurd (kept.0 cut.0)
-        | inr old ↦ let none = kept.1 ∙ old.1 ∙ before in absurd (cc)
-      ]
-    ]
+    (let before : chunk_at c.in_ok-blocks.blocks other ≡ None = rw c.in_ok-blocks.ensures.chunks refl in
+    absurd (grind (arith, c.remove.ensures.chunk other, c.cut-at.ensures.chunk other, before, found)))

@@ -1,15 +1,13 @@
-use Rattle.std.proofs.Common.{◌≡◌, ℕ, ◌+◌, ◌-◌, length, Some, IsSome, false, refl, sym, ap, ◌∙◌, subst, arith}
+use Rattle.std.proofs.Common.{◌≡◌, length, Some, IsSome, false, refl, sym, ap, subst, arith}
 use Rattle.addr_space.specs.declared.Addr.{Addr}
 use Rattle.addr_space.specs.Footprint.{WritesInside}
 use Rattle.addr_space.proofs.Apart.{Moves-inside}
 use Rattle.addr_space.proofs.Carried.{IsInside-live}
 use Rattle.addr_space.proofs.Written.{HasBytes-written}
-use Rattle.ctx_blocks.specs.Layout.{Layout, block_at, chunk_at, gap_of, header_room, footprint}
-use Rattle.ctx_blocks.specs.Steps.{PutsBlock, PutsChunk}
+use Rattle.ctx_blocks.specs.Layout.{Layout, block_at, gap_of, header_room, footprint}
+use Rattle.ctx_blocks.specs.Steps.{PutsChunk}
 use Rattle.ctx_blocks.specs.declared.parts.Block.{Block}
 use Rattle.ctx_blocks.specs.declared.parts.Chunk.{Chunk}
-use Rattle.ctx_blocks.proofs.Changed.{put_here}
-use Rattle.ctx_blocks.proofs.Laid.{live_is}
 use Rattle.ctx_blocks.proofs.New.{keeper_is}
 use Rattle.ctx_blocks.proofs.tests.written.Goals as goal
 use Rattle.ctx_blocks.proofs.tests.written.Goals.{After-keeper-number, After-write}
@@ -24,10 +22,7 @@ cut = record { size = 5; room = 8; own = false }
 
 owned : (c : After-keeper-number) → block_at c.in_ok-blocks.blocks c.keeper-number.result ≡ Some first
 unfolding first
-owned c =
-    let l : Layout = c.in_ok-blocks.blocks in
-    let it : block_at l l.keeper ≡ Some first = keeper_is l first c.in_ok-blocks.ensures.blocks c.in_ok-blocks.ensures.chunks in
-    ap (block_at l) c.keeper-number.ensures ∙ it
+owned c = rw c.keeper-number.ensures (keeper_is c.in_ok-blocks.blocks first c.in_ok-blocks.ensures.blocks c.in_ok-blocks.ensures.chunks)
 
 gap : (c : After-keeper-number) → header_room c.in_ok-blocks.blocks ≡ 8
 gap c = ap gap_of c.in_ok-blocks.ensures.kind
@@ -40,9 +35,7 @@ cut-at-requires-clause-block c =
 
 live : (l m : Layout) (at : Addr) → PutsChunk l m at (Some cut) → (footprint m).live at ≡ Some 5
 unfolding cut
-live l m at puts =
-    let found : chunk_at m at ≡ Some cut = grind (arith, puts at) in
-    live_is m at cut found
+live l m at puts = grind (arith, puts at)
 
 pub write-requires : goal.write-requires
 unfolding cut
@@ -68,10 +61,8 @@ pub returns-clause-block : goal.returns-clause-block
 unfolding first
 returns-clause-block c =
     let now = (goal.at.returns-clause-block c).After-keeper-number in
-    let less : ℕ → Block = λ n. record { number = 1; size = 1024; room = 784 - (n + 8); live = 1; freed = 0 } in
-    let l : Layout = c.in_ok-blocks.blocks in
-    let put : PutsBlock l c.cut-at.new.self c.keeper-number.result (less (header_room l)) = c.cut-at.ensures.block first (owned now) in
-    ap (block_at c.cut-at.new.self) c.cut-at.ensures.region ∙ put_here l c.cut-at.new.self c.keeper-number.result (less (header_room l)) put ∙ ap (λ n. Some (less n)) (gap now)
+    let put = c.cut-at.ensures.block first (owned now) in
+    rw c.cut-at.ensures.region (grind (arith, put.at c.keeper-number.result, gap now))
 
 pub returns-clause-known : goal.returns-clause-known
 returns-clause-known c = λ k below.

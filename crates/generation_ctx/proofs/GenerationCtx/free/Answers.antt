@@ -1,7 +1,8 @@
 use Rattle.std.proofs.Common.{None, refl, ap, ◌∙◌}
 use Rattle.addr_space.specs.Footprint.{Agrees}
 use Rattle.ctx_blocks.specs.Layout.{chunk_at, footprint as blocks_footprint}
-use Rattle.generation_ctx.proofs.Places.{chunk_there, places_put, numbers_among}
+use Rattle.ctx_blocks.proofs.Places.{places_put, numbers_among}
+use Rattle.generation_ctx.proofs.Places.{chunk_there, place}
 use Rattle.generation_ctx.specs.Kept.{state_of}
 use Rattle.generation_ctx.proofs.GenerationCtx.free.Goals as goal
 
@@ -15,7 +16,7 @@ returns-clause-place c =
     let m = c.free.new.self.blocks in
     let f = c.free.ensures.frees in
     let agrees : Agrees (blocks_footprint l) c.args.space.now = rw (← (ap state_of c.deref_mut.ensures.value ∙ c.self.view_is)) at c.requires.agrees in
-    rw (← (ap state_of c.deref_mut.ensures.value ∙ c.self.view_is)) (places_put l m c.args.space.now c.free.new.space agrees f.moves (numbers_among l m f.among) c.args.at None None f.chunk refl)
+    rw (← (ap state_of c.deref_mut.ensures.value ∙ c.self.view_is)) (places_put place l m c.args.space.now c.free.new.space agrees f.moves.agrees (numbers_among l m f.among) c.args.at None None f.chunk refl)
 
 pub returns-clause-moves : goal.returns-clause-moves
 returns-clause-moves c = rw (← (ap state_of c.deref_mut.ensures.value ∙ c.self.view_is)) c.free.ensures.frees.moves

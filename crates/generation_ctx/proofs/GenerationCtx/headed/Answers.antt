@@ -1,8 +1,9 @@
 use Rattle.std.proofs.Common.{◌≡◌, ◌+◌, ap, subst, ◌∙◌}
 use Rattle.chunk_header.specs.Header.{TakesSpace}
-use Rattle.ctx_blocks.specs.Layout.{footprint}
+use Rattle.ctx_blocks.specs.Layout.{footprint, chunk_at}
 use Rattle.generation_ctx.specs.Ledger.{GenerationPlace}
-use Rattle.generation_ctx.proofs.Places.{placed}
+use Rattle.addr_space.proofs.Options.{from_map}
+use Rattle.generation_ctx.specs.State.{place_in}
 use Rattle.generation_ctx.specs.Kept.{state_of}
 use Rattle.generation_ctx.proofs.GenerationCtx.headed.Goals as goal
 
@@ -15,6 +16,6 @@ returns-clause-kinds c = rw (← (ap state_of c.deref.ensures ∙ c.self.view_is
 pub returns-clause-spaces : goal.returns-clause-spaces
 returns-clause-spaces c = rw (← (ap state_of c.deref.ensures ∙ c.self.view_is)) (λ at place there.
     (let l = c.deref.result.now.blocks in
-    let it = placed l at place there in
+    let it = from_map (place_in l at.region) (chunk_at l at) place there in
     let room : it.0.room + 8 ≡ place.room + 8 = ap (λ (p : GenerationPlace). p.room + 8) it.2 in
     subst (TakesSpace (footprint l) at) room (c.headed.ensures.spaces at it.0 it.1)))

@@ -1,5 +1,5 @@
 use Rattle.std.proofs.Common.{◌≡◌, ◌∙◌, ℕ, Some, IsSome, option_map, ap, sym, subst, arith}
-use Rattle.addr_space.specs.Footprint.{Footprint, Agrees}
+use Rattle.addr_space.specs.Footprint.{Agrees}
 use Rattle.addr_space.proofs.Options.{if_ok, on_ok, on_err, either_way, both_err}
 use Rattle.addr_space.proofs.Steps.{Moves-same, KeepsBut-same}
 use Rattle.ctx_blocks.specs.declared.parts.Chunk.{Chunk}
@@ -20,8 +20,6 @@ pub returns-clause-resized : goal.returns-clause-resized
 returns-clause-resized c =
     let l = c.deref_mut.result.now.blocks in
     let m = c.realloc.new.self.blocks in
-    let s = c.args.space.now in
-    let t = c.realloc.new.space in
     let agrees : Agrees (blocks_footprint l) c.args.space.now = rw (← (ap state_of c.deref_mut.ensures.value ∙ c.self.view_is)) at c.requires.agrees in
     rw (← (ap state_of c.deref_mut.ensures.value ∙ c.self.view_is)) (if_ok c.realloc.result (λ to had.
     (let there : places l c.args.at ≡ Some (place_in l c.args.at.region had.old) = ap (option_map (place_in l c.args.at.region)) had.was in
@@ -29,7 +27,7 @@ returns-clause-resized c =
       answer = had.answer;
       is = had.step;
       ledger = had.ledger;
-      place = places_move l m s t agrees had.moves had.numbers c.args.at to (record { size = c.args.size; room = had.answer.place.room; own = had.answer.place.own }) had.answer.place had.chunk (ap (λ (n : ℕ). record { block = n; room = had.answer.place.room; own = had.answer.place.own }) had.number);
+      place = places_move l m _ _ agrees had.moves.agrees had.numbers c.args.at to _ had.answer.place had.chunk (ap (λ (n : ℕ). record { block = n; room = had.answer.place.room; own = had.answer.place.own }) had.number);
       asked = had.asked;
       stays = had.stays;
     }))) c.realloc.ensures.ok)
@@ -38,27 +36,19 @@ pub returns-clause-fresh : goal.returns-clause-fresh
 returns-clause-fresh c = rw (← (ap state_of c.deref_mut.ensures.value ∙ c.self.view_is)) (if_ok c.realloc.result (λ to had ne. fresh_put c.deref_mut.result.now.blocks to (had.fresh ne)) c.realloc.ensures.ok)
 
 pub returns-clause-live : goal.returns-clause-live
-returns-clause-live c = rw (← (ap state_of c.deref_mut.ensures.value ∙ c.self.view_is)) (if_ok c.realloc.result (λ to had. moves_map (λ (x : Chunk). x.size) (chunk_at c.deref_mut.result.now.blocks) (chunk_at c.realloc.new.self.blocks) c.args.at to (record { size = c.args.size; room = had.answer.place.room; own = had.answer.place.own }) had.chunk) c.realloc.ensures.ok)
+returns-clause-live c = rw (← (ap state_of c.deref_mut.ensures.value ∙ c.self.view_is)) (if_ok c.realloc.result (λ to had. moves_map (λ (x : Chunk). x.size) (chunk_at c.deref_mut.result.now.blocks) (chunk_at c.realloc.new.self.blocks) c.args.at to _ had.chunk) c.realloc.ensures.ok)
 
 pub returns-clause-known : goal.returns-clause-known
 returns-clause-known c = if_ok c.realloc.result (λ to had k below. subst IsSome (sym (had.bytes k below)) (c.requires.known k (omega (arith, below)))) c.realloc.ensures.ok
 
 pub returns-clause-moves : goal.returns-clause-moves
 returns-clause-moves c =
-    let b = c.deref_mut.result.now in
-    let n = c.realloc.new.self in
-    let s = c.args.space.now in
-    let t = c.realloc.new.space in
-    let f : Footprint = footprint (state_of b) in
-    let g : Footprint = footprint (state_of n) in
     rw (← (ap state_of c.deref_mut.ensures.value ∙ c.self.view_is)) (either_way c.realloc.result
     (on_ok c.realloc.result (λ at had. had.moves) c.realloc.ensures.ok)
-    (both_err c.realloc.result (λ same same_space. Moves-same f g s t (rw (← (ap state_of c.deref_mut.ensures.value ∙ c.self.view_is)) at c.requires.agrees) (ap footprint same) same_space) c.realloc.ensures.err c.realloc.ensures.err_space))
+    (both_err c.realloc.result (λ same same_space. Moves-same _ _ _ _ (rw (← (ap state_of c.deref_mut.ensures.value ∙ c.self.view_is)) at c.requires.agrees) (ap footprint same) same_space) c.realloc.ensures.err c.realloc.ensures.err_space))
 
 pub returns-clause-keeps : goal.returns-clause-keeps
 returns-clause-keeps c =
-    let f : Footprint = footprint (state_of c.deref_mut.result.now) in
-    let g : Footprint = footprint (state_of c.realloc.new.self) in
     rw (← (ap state_of c.deref_mut.ensures.value ∙ c.self.view_is)) (either_way c.realloc.result
     (on_ok c.realloc.result (λ at had. had.keeps) c.realloc.ensures.ok)
-    (on_err c.realloc.result (λ same_space. KeepsBut-same c.args.at f g c.args.space.now c.realloc.new.space same_space) c.realloc.ensures.err_space))
+    (on_err c.realloc.result (λ same_space. KeepsBut-same _ (footprint (state_of c.deref_mut.result.now)) (footprint (state_of c.realloc.new.self)) _ _ same_space) c.realloc.ensures.err_space))

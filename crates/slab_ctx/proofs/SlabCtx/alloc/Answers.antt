@@ -1,10 +1,8 @@
 use Rattle.std.proofs.Common.{Some, ap, ◌∙◌}
-use Rattle.addr_space.specs.Footprint.{Footprint}
 use Rattle.addr_space.proofs.Options.{if_ok, on_ok, on_err, either_way, both_err}
 use Rattle.addr_space.proofs.Steps.{Moves-same, Keeps-same}
 use Rattle.ctx_blocks.proofs.Places.{places_put}
 use Rattle.slab_ctx.specs.Kept.{state_of}
-use Rattle.slab_ctx.specs.Slots.{chunk_of}
 use Rattle.slab_ctx.specs.State.{footprint, place}
 use Rattle.slab_ctx.proofs.Full.{Agrees-plain}
 use Rattle.slab_ctx.proofs.SlabCtx.alloc.Goals as goal
@@ -15,31 +13,23 @@ returns-clause-taken c =
     let n = c.alloc.new.self in
     let l = b.slots.blocks in
     let m = n.slots.blocks in
-    let s = c.args.space.now in
-    let t = c.alloc.new.space in
-    let agrees = Agrees-plain b.slots.size l s (rw (← (ap state_of c.deref_mut.ensures.value ∙ c.self.view_is)) at c.requires) in
+    let agrees = Agrees-plain b.slots.size l c.args.space.now (rw (← (ap state_of c.deref_mut.ensures.value ∙ c.self.view_is)) at c.requires) in
     rw (← (ap state_of c.deref_mut.ensures.value ∙ c.self.view_is)) (if_ok c.alloc.result (λ at had. record {
       answer = had.answer;
       is = had.is;
       ledger = had.does.ledger;
-      place = places_put place l m s t agrees (Agrees-plain n.slots.size m t had.does.moves.agrees) had.does.numbers at (Some (chunk_of b.slots.size)) (Some had.answer.place) had.does.chunk (ap Some had.does.number);
+      place = places_put place l m _ _ agrees (Agrees-plain n.slots.size m _ had.does.moves.agrees) had.does.numbers at _ (Some had.answer.place) had.does.chunk (ap Some had.does.number);
       asked = had.does.asked;
     }) c.alloc.ensures.ok)
 
 pub returns-clause-moves : goal.returns-clause-moves
 returns-clause-moves c =
-    let f : Footprint = footprint (state_of c.deref_mut.result.now) in
-    let g : Footprint = footprint (state_of c.alloc.new.self) in
-    let s = c.args.space.now in
-    let t = c.alloc.new.space in
     rw (← (ap state_of c.deref_mut.ensures.value ∙ c.self.view_is)) (either_way c.alloc.result
     (on_ok c.alloc.result (λ at had. had.does.moves) c.alloc.ensures.ok)
-    (both_err c.alloc.result (λ same same_space. Moves-same f g s t (rw (← (ap state_of c.deref_mut.ensures.value ∙ c.self.view_is)) at c.requires) (ap footprint same) same_space) c.alloc.ensures.err_state c.alloc.ensures.err_space))
+    (both_err c.alloc.result (λ same same_space. Moves-same _ _ _ _ (rw (← (ap state_of c.deref_mut.ensures.value ∙ c.self.view_is)) at c.requires) (ap footprint same) same_space) c.alloc.ensures.err_state c.alloc.ensures.err_space))
 
 pub returns-clause-keeps : goal.returns-clause-keeps
 returns-clause-keeps c =
-    let f : Footprint = footprint (state_of c.deref_mut.result.now) in
-    let g : Footprint = footprint (state_of c.alloc.new.self) in
     rw (← (ap state_of c.deref_mut.ensures.value ∙ c.self.view_is)) (either_way c.alloc.result
     (on_ok c.alloc.result (λ at had. had.does.keeps) c.alloc.ensures.ok)
-    (on_err c.alloc.result (λ same_space. Keeps-same f g c.args.space.now c.alloc.new.space same_space) c.alloc.ensures.err_space))
+    (on_err c.alloc.result (λ same_space. Keeps-same (footprint (state_of c.deref_mut.result.now)) (footprint (state_of c.alloc.new.self)) _ _ same_space) c.alloc.ensures.err_space))

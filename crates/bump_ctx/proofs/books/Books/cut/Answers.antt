@@ -23,7 +23,7 @@ returns c =
     let put = c.cut.ensures.chunk in
     let puts = c.cut.ensures.block old is in
     record {
-      kept = kept_same b c.cut.new.self b.newest old new kept c.cut.ensures.same puts is refl;
+      kept = kept_same b c.cut.new.self b.newest new kept c.cut.ensures.same puts old is refl;
       answer = served (cut_off (ledger_of b) c.args.room) 0;
       is = refl;
       ledger = ledger_cut b c.cut.new.self old new c.args.room puts is refl (omega (arith, gap, room, c.requires.room));

@@ -1,6 +1,5 @@
-use Rattle.std.proofs.Common.{◌≡◌, ℕ, ◌+◌, ◌-◌, Err, Some, true, refl, ap, sym, ◌∙◌, arith}
+use Rattle.std.proofs.Common.{◌≡◌, ◌+◌, ◌-◌, Err, Some, true, refl, ap, sym, ◌∙◌, arith}
 use Rattle.std.proofs.lemmas.Result.{err_from_is_err_and}
-use Rattle.addr_space.specs.Space.{held}
 use Rattle.addr_space.proofs.Steps.{Moves-more, Keeps-more}
 use Rattle.chunk_header.specs.declared.CtxError.TheVariants.{NoSpace}
 use Rattle.ctx_blocks.specs.Layout.{block_at, header_room, gap_of, footprint}
@@ -9,13 +8,14 @@ use Rattle.bump_ctx.specs.Kept.{ledger_of}
 use Rattle.ctx_blocks.proofs.Changed.{put_here, live_put, fresh_put, same_live, puts_same, stays_live}
 use Rattle.ctx_blocks.specs.Steps.{PutsChunk}
 use Rattle.ctx_blocks.specs.declared.parts.Chunk.{Chunk}
-use Rattle.bump_ctx.specs.Ledger.{served, with_own}
+use Rattle.bump_ctx.specs.Ledger.{served, with_own, take_own}
 use Rattle.bump_ctx.proofs.Allocated.{place_put}
 use Rattle.bump_ctx.proofs.Kepts.{kept_more, kept_same}
-use Rattle.bump_ctx.proofs.Ledgers.{ledger_own, take_own-had, take_own-none}
+use Rattle.bump_ctx.proofs.Ledgers.{ledger_own}
 use Rattle.bump_ctx.proofs.books.Books.take_own.Goals as goal
 
 pub returns-clause-ok : goal.returns-clause-ok
+unfolding take_own
 returns-clause-ok c =
     let b = c.args.self.now in
     let m = c.add.new.self in
@@ -24,7 +24,6 @@ returns-clause-ok c =
     let e = c.in_ok-number.ensures in
     let number = c.in_ok-number.number in
     let room = c.granted-room.result in
-    let left : ℕ = s.limit - held s b.blocks.account in
     let gap : header_room m ≡ 0 = ap gap_of (e.same.kind ∙ c.requires.kept.kind) in
     let first : Block = record { number = b.blocks.last_number + 1; size = room + 40; room = room + 40 - 40; live = 0; freed = 0 } in
     let last : Block = record first { room = first.room - (header_room m + room); live = 0 + 1 } in
@@ -33,14 +32,11 @@ returns-clause-ok c =
     let chunk : Chunk = record { size = c.args.size; room = room; own = true } in
     let put : PutsChunk b.blocks n c.cut.result (Some chunk) = puts_same b.blocks m n c.cut.result (Some chunk) e.chunks c.cut.ensures.chunk in
     let none : last.room ≡ 0 = omega (arith, gap) in
-    let kept = kept_more b m number first c.requires.kept e.same e.block e.fresh in
-    let step = take_own-had (ledger_of b) left (room + 40) e.fits in
-    let ledger = ledger_own b m n number first last c.requires.kept e.block again e.fresh refl none e.total in
     rw (← c.granted-room.ensures.value) (record {
-      kept = kept_same (record b { blocks = m }) n number first last kept c.cut.ensures.same again here refl;
+      kept = kept_same (record b { blocks = m }) n _ _ (kept_more b m _ _ c.requires.kept e.same e.block e.fresh) c.cut.ensures.same again first here refl;
       answer = served (with_own (ledger_of b) (room + 40)) (room + 40);
-      is = step;
-      ledger = ledger;
+      is = grind (arith, e.fits);
+      ledger = ledger_own b m n _ _ _ c.requires.kept e.block again e.fresh refl none e.total;
       place = place_put b.blocks n c.cut.result chunk put;
       asked = c.cut.ensures.asked ∙ e.asked;
       fresh = sym (same_live b.blocks m e.chunks c.cut.result) ∙ fresh_put m c.cut.result c.cut.ensures.fresh;
@@ -50,9 +46,8 @@ returns-clause-ok c =
     })
 
 pub returns-in_err-number-clause-no_space : goal.returns-in_err-number-clause-no_space
+unfolding take_own
 returns-in_err-number-clause-no_space c = λ e.
-    let b = c.args.self.now in
-    let left : ℕ = c.args.space.now.limit - held c.args.space.now b.blocks.account in
-    let it : c.in_err-number.field-0.0 ≡ NoSpace = let p = err_from_is_err_and c.from_residual.result c.from_residual.ensures.1 in cc in
+    (let it : c.in_err-number.field-0.0 ≡ NoSpace = let p = err_from_is_err_and c.from_residual.result c.from_residual.ensures.1 in cc in
     let over = c.in_err-number.ensures.no_space (ap Err it) in
-    rw (← c.granted-room.ensures.value) (take_own-none (ledger_of b) left (c.granted-room.result + 40) over)
+    rw (← c.granted-room.ensures.value) (grind arith))

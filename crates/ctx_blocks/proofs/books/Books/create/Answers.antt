@@ -1,13 +1,10 @@
-use Rattle.std.proofs.Common.{◌≡◌, ◌∷◌, [], ◌-◌, map, Some, ap, ◌∙◌, sym, subst, refl, arith}
-use Rattle.addr_space.specs.Space.{Changes, region_at, overwritten}
-use Rattle.addr_space.specs.Footprint.{Moves, nothing}
-use Rattle.chunk_header.specs.Header.{block_bytes}
-use Rattle.ctx_blocks.specs.Layout.{Layout, footprint}
+use Rattle.std.proofs.Common.{◌≡◌, ◌∷◌, [], ◌-◌, ap, ◌∙◌, refl, arith}
+use Rattle.ctx_blocks.specs.Layout.{Layout}
 use Rattle.ctx_blocks.specs.Kept.{layout_of, IsFilled}
 use Rattle.ctx_blocks.specs.Steps.{with_block}
 use Rattle.ctx_blocks.specs.declared.parts.Block.{Block}
 use Rattle.ctx_blocks.specs.declared.books.Books.{Books}
-use Rattle.ctx_blocks.proofs.New.{IsLaid-new, IsCounted-new, total_one, Moves-new, Moves-bare}
+use Rattle.ctx_blocks.proofs.New.{IsKept-new, Moves-new, Moves-bare}
 use Rattle.ctx_blocks.proofs.books.Books.create.Goals as goal
 use Rattle.ctx_blocks.proofs.books.Books.create.Goals.{After-from, then-size-ge240, else-size-ge240}
 
@@ -44,30 +41,16 @@ filled c = record {
 
 pub returns-clause-kept : goal.returns-clause-kept
 unfolding books block
-returns-clause-kept c =
-    let l = layout_of (books c) in
-    record {
-      laid = IsLaid-new l (block c) (one c) c.none.ensures (filled c);
-      counted = IsCounted-new l (block c) (one c) c.none.ensures refl;
-      first = rw (one c) (refl, refl);
-      numbered = rw (one c) (omega arith, omega arith, tt);
-      total = c.from.ensures ∙ sym (total_one l (block c) (one c) c.none.ensures);
-      most = omega (arith, c.from.ensures, c.requires.most);
-      unique = rw c.none.ensures tt;
-    }
+returns-clause-kept c = IsKept-new (books c) (block c) (one c) c.none.ensures (filled c) refl refl refl c.from.ensures
 
 pub returns-clause-moves : goal.returns-clause-moves
 unfolding books block
 returns-clause-moves c =
     let l : Layout = layout_of (books c) in
-    let number = c.in_ok-at.at.region in
     elim c.if-size-ge240.branch [
       | then-size-ge240 w ↦
-          let wrote : Changes c.take.new.self w.write.new.self number (overwritten (region_at c.take.new.self number) 200 (map Some (block_bytes c.args.context c.args.size))) =
-          subst (λ b. Changes c.take.new.self w.write.new.self number (overwritten (region_at c.take.new.self number) 200 (map Some b))) w.block_header.ensures w.write.ensures.changes in
-          subst (λ s. Moves (nothing c.args.account c.args.context) (footprint l) c.args.space.now s) (sym w.space-is)
-          (Moves-new l (block c) (one c) c.none.ensures (filled c) c.args.space.now c.take.new.self c.requires.account c.in_ok-at.ensures.fresh c.in_ok-at.ensures.changes c.in_ok-at.ensures.held w.write.new.self w.if-size-ge240.true wrote)
+          let wrote = rw w.block_header.ensures at w.write.ensures.changes in
+          rw w.space-is (Moves-new l (block c) (one c) c.none.ensures (filled c) c.args.space.now c.take.new.self c.requires.account c.in_ok-at.ensures.fresh c.in_ok-at.ensures.changes c.in_ok-at.ensures.held w.write.new.self w.if-size-ge240.true wrote)
       | else-size-ge240 w ↦
-          subst (λ s. Moves (nothing c.args.account c.args.context) (footprint l) c.args.space.now s) (sym w.space-is)
-          (Moves-bare l (block c) (one c) c.none.ensures (filled c) c.args.space.now c.take.new.self c.requires.account c.in_ok-at.ensures.fresh c.in_ok-at.ensures.changes c.in_ok-at.ensures.held w.if-size-ge240.false)
+          rw w.space-is (Moves-bare l (block c) (one c) c.none.ensures (filled c) c.args.space.now c.take.new.self c.requires.account c.in_ok-at.ensures.fresh c.in_ok-at.ensures.changes c.in_ok-at.ensures.held w.if-size-ge240.false)
     ]

@@ -1,8 +1,5 @@
-use Rattle.std.proofs.Common.{◌≡◌, ◌+◌, ◌-◌, ◌==◌, true, Some, None, ap, ◌∙◌, refl, arith}
-use Rattle.std.specs.Map.{lookup}
-use Rattle.std.proofs.lemmas.Bool.Decides.{nat_tests}
+use Rattle.std.proofs.Common.{◌≡◌, ◌+◌, ◌-◌, ◌==◌, Some, None, refl, arith}
 use Rattle.addr_space.specs.declared.Addr.{Addr}
-use Rattle.addr_space.specs.Live.{same_addr}
 use Rattle.ctx_blocks.specs.Layout.{block_at, chunk_at, total}
 use Rattle.ctx_blocks.specs.Kept.{layout_of}
 use Rattle.ctx_blocks.specs.Steps.{SameContext}
@@ -15,9 +12,7 @@ use Rattle.ctx_blocks.proofs.books.Books.drop_last.Goals.{In-Some, After-give}
 
 -- the last block is the one that was popped
 owned : (c : In-Some) → block_at (layout_of c.args.self.now) c.in-Some.number ≡ Some c.in-Some.block
-owned c =
-    let test : (c.in-Some.number == c.in-Some.number) ≡ true = grind (arith, nat_tests) in
-    ap (λ es. lookup (λ n. c.in-Some.number == n) es) c.in-Some.ensures.entries ∙ lookup-last (λ n. c.in-Some.number == n) c.pop.new.self.entries c.in-Some.number c.in-Some.block c.in-Some.ensures.updates.1 test
+owned c = rw c.in-Some.ensures.entries (lookup-last (λ n. c.in-Some.number == n) c.pop.new.self.entries c.in-Some.number c.in-Some.block c.in-Some.ensures.updates.1 (grind arith))
 
 pub give-requires : goal.give-requires
 give-requires c = IsRegion-owned (layout_of c.args.self.now) c.args.space.now c.in-Some.number c.in-Some.block c.requires.agrees (owned (goal.at.give-requires c).In-Some)
@@ -31,7 +26,7 @@ same c = record { kind = refl; account = refl; context = refl; keeper = refl; fi
 
 -- no chunk is in the block
 empty : (c : After-give) (at : Addr) → at.region ≡ c.in-Some.number → chunk_at (layout_of c.args.self.now) at ≡ None
-empty c at region = ap (λ es. lookup (same_addr at) es) c.requires.none
+empty c at region = rw c.requires.none refl
 
 totals : (c : After-give) → total (layout_of (now c)) + c.in-Some.block.size ≡ total (layout_of c.args.self.now)
 unfolding now

@@ -1,11 +1,5 @@
-use Rattle.std.proofs.Common.{◌≡◌, ◌+◌, ◌≤◌}
-use Rattle.ctx_blocks.specs.Layout.{all_freed}
-use Rattle.ctx_blocks.specs.Kept.{layout_of}
-use Rattle.ctx_blocks.proofs.Summed.{rest_of}
+use Rattle.ctx_blocks.proofs.Summed.{Summed}
 use Rattle.ctx_blocks.proofs.books.Books.freed.Given as goal
 
 abbrev pub invariant-loop-i : goal.invariant-loop-i
-invariant-loop-i l = record {
-  freed : l.sum + rest_of (λ b. b.freed) l.self.blocks.entries l.i ≡ all_freed (layout_of l.self);
-  most : l.sum + rest_of (λ b. b.size) l.self.blocks.entries l.i ≤ l.self.total;
-}
+invariant-loop-i l = Summed (λ b. b.freed) l.self.blocks.entries l.i l.sum l.self.total

@@ -1,16 +1,15 @@
-use Rattle.std.proofs.Common.{◌≡◌, ◌+◌, ◌-◌, None, ap, sym, subst, ◌∙◌, refl, arith}
+use Rattle.std.proofs.Common.{◌≡◌, ◌+◌, ◌-◌, None, refl, arith}
 use Rattle.addr_space.specs.declared.Addr.{Addr}
-use Rattle.ctx_blocks.specs.Layout.{block_at, chunk_at, total}
-use Rattle.ctx_blocks.specs.Kept.{layout_of, IsFirst, AreRising}
+use Rattle.ctx_blocks.specs.Layout.{chunk_at, total}
+use Rattle.ctx_blocks.specs.Kept.{layout_of}
 use Rattle.ctx_blocks.specs.Steps.{SameContext}
 use Rattle.ctx_blocks.specs.declared.parts.Block.{Block}
 use Rattle.ctx_blocks.specs.declared.books.Books.{Books}
-use Rattle.addr_space.proofs.Options.{one_value}
 use Rattle.ctx_blocks.proofs.Counts.{none_in}
 use Rattle.ctx_blocks.proofs.Totals.{sum-dropped, total-dropped, IsFirst-dropped}
 use Rattle.ctx_blocks.proofs.Lessened.{IsLaid-lessened}
 use Rattle.ctx_blocks.proofs.Dropped.{IsRegion-owned, Lessens-dropped, IsCounted-dropped, Moves-dropped, Keeps-dropped}
-use Rattle.ctx_blocks.proofs.Numbers.{AreRising-dropped}
+use Rattle.ctx_blocks.proofs.Numbered.{rising_drop}
 use Rattle.ctx_blocks.proofs.books.Books.give.Goals as goal
 use Rattle.ctx_blocks.proofs.books.Books.give.Goals.{After-give}
 
@@ -29,9 +28,7 @@ same c = record { kind = refl; account = refl; context = refl; keeper = refl; fi
 
 -- no chunk is in the block
 empty : (c : After-give) (at : Addr) → at.region ≡ c.args.number → chunk_at (layout_of c.args.self.now) at ≡ None
-empty c at region =
-    let l = layout_of c.args.self.now in
-    none_in l c.requires.kept.counted c.args.number c.requires.block.0 at c.requires.block.1 c.requires.block.2 region
+empty c at = none_in (layout_of c.args.self.now) c.requires.kept.counted c.args.number c.requires.block.0 at c.requires.block.1 c.requires.block.2
 
 totals : (c : After-give) → total (layout_of (now c)) + c.owned-size.result.size ≡ total (layout_of c.args.self.now)
 unfolding now
@@ -40,14 +37,14 @@ totals c = total-dropped (layout_of c.args.self.now) (layout_of (now c)) c.args.
 pub returns-clause-kept : goal.returns-clause-kept
 unfolding now
 returns-clause-kept c =
-    let b = c.args.self.now in
+    let b : Books = c.args.self.now in
     let l = layout_of b in
     let kept = c.requires.kept in
     record {
       laid = IsLaid-lessened l (layout_of (now c)) kept.laid (Lessens-dropped l (layout_of (now c)) kept.laid (same c) refl c.args.number c.owned-size.result c.owned-size.ensures (empty c) c.shift_remove.ensures.updates.0);
       counted = IsCounted-dropped l (layout_of (now c)) kept.laid (same c) refl c.args.number c.owned-size.result c.owned-size.ensures (empty c) c.shift_remove.ensures.updates.0 kept.counted;
-      first = subst (IsFirst b.keeper b.first_number) (sym c.shift_remove.ensures.entries) (IsFirst-dropped b.keeper b.first_number b.blocks.entries c.args.number c.requires.not_keeper kept.first);
-      numbered = subst (AreRising b.first_number b.last_number) (sym c.shift_remove.ensures.entries) (AreRising-dropped b.first_number b.last_number b.blocks.entries c.args.number kept.numbered);
+      first = rw c.shift_remove.ensures.entries (IsFirst-dropped b.keeper b.first_number b.blocks.entries c.args.number c.requires.not_keeper kept.first);
+      numbered = rw c.shift_remove.ensures.entries (rising_drop b.first_number b.last_number c.args.number b.blocks.entries kept.numbered);
       total = omega (arith, kept.total, totals c, c.from.ensures);
       most = omega (arith, kept.most);
       unique = kept.unique;
@@ -55,20 +52,16 @@ returns-clause-kept c =
 
 pub returns-clause-total : goal.returns-clause-total
 unfolding now
-returns-clause-total c = λ b owned.
-    let it : b ≡ c.owned-size.result = one_value (block_at (layout_of c.args.self.now) c.args.number) b c.owned-size.result owned c.owned-size.ensures in
-    ap (λ (x : Block). total (layout_of (now c)) + x.size) it ∙ totals c
+returns-clause-total c = λ b owned. total-dropped (layout_of c.args.self.now) (layout_of (now c)) c.args.number b c.shift_remove.ensures.entries owned
 
 pub returns-clause-moves : goal.returns-clause-moves
 unfolding now
 returns-clause-moves c =
-    let l = layout_of c.args.self.now in
-    Moves-dropped l (layout_of (now c)) c.requires.kept.laid (same c) refl c.args.number c.owned-size.result c.owned-size.ensures (empty c) c.shift_remove.ensures.updates.0
+    Moves-dropped (layout_of c.args.self.now) (layout_of (now c)) c.requires.kept.laid (same c) refl c.args.number c.owned-size.result c.owned-size.ensures (empty c) c.shift_remove.ensures.updates.0
     c.args.space.now c.give.new.self c.requires.agrees (totals c) c.give.ensures.changes c.give.ensures.held
 
 pub returns-clause-keeps : goal.returns-clause-keeps
 unfolding now
 returns-clause-keeps c =
-    let l = layout_of c.args.self.now in
-    Keeps-dropped l (layout_of (now c)) c.requires.kept.laid (same c) refl c.args.number c.owned-size.result c.owned-size.ensures (empty c) c.shift_remove.ensures.updates.0
+    Keeps-dropped (layout_of c.args.self.now) (layout_of (now c)) c.requires.kept.laid (same c) refl c.args.number c.owned-size.result c.owned-size.ensures (empty c) c.shift_remove.ensures.updates.0
     c.args.space.now c.give.new.self c.give.ensures.changes

@@ -1,30 +1,22 @@
-use Rattle.std.proofs.Common.{◌≡◌, length, ap, ◌∙◌, arith}
+use Rattle.std.proofs.Common.{◌+◌, ◌≤◌, arith}
 use Rattle.ctx_blocks.specs.declared.parts.Block.{Block}
-use Rattle.ctx_blocks.proofs.Summed.{rest_of, rest_of-more, rest_of-all}
+use Rattle.ctx_blocks.proofs.Summed.{Summed, summed-more, summed-all}
 use Rattle.ctx_blocks.proofs.books.Books.rooms.Goals as goal
+use Rattle.ctx_blocks.proofs.books.Books.rooms.Goals.{After-at}
+
+more : (c : After-at) → (c.loop-i.sum + c.at.result.1.room ≤ c.args.self.now.total) × Summed (λ b. b.room) c.args.self.now.blocks.entries (c.loop-i.i + 1) (c.loop-i.sum + c.at.result.1.room) c.args.self.now.total
+more c =
+    let filled = c.requires.laid.filled c.at.result.0 c.at.result.1 c.at.ensures.block in
+    summed-more (λ b. b.room) c.args.self.now.blocks.entries c.loop-i.i c.loop-i.sum c.args.self.now.total c.at.result c.at.ensures.entry (omega (arith, filled.within)) c.loop-i.invariant
 
 pub overflow_add-sum : goal.overflow_add-sum
-overflow_add-sum c =
-    let filled = c.requires.laid.filled c.at.result.0 c.at.result.1 c.at.ensures.block in
-    let sizes = rest_of-more (λ (b : Block). b.size) c.args.self.now.blocks.entries c.loop-i.i c.at.result.0 c.at.result.1 c.at.ensures.entry in
-    omega (arith, filled.within, sizes, c.loop-i.invariant.most, c.requires.most, c.from-sum.ensures)
+overflow_add-sum c = let it = (more (goal.at.overflow_add-sum c).After-at).0 in omega (arith, c.requires.most, c.from-sum.ensures)
 
 pub loop-i-init : goal.loop-i-init
-loop-i-init c = record { rooms = omega arith; most = omega (arith, c.requires.total) }
+loop-i-init c = record { all = omega arith; most = omega (arith, c.requires.total) }
 
 pub loop-i-preserved : goal.loop-i-preserved
-loop-i-preserved c =
-    let filled = c.requires.laid.filled c.at.result.0 c.at.result.1 c.at.ensures.block in
-    let rooms = rest_of-more (λ (b : Block). b.room) c.args.self.now.blocks.entries c.loop-i.i c.at.result.0 c.at.result.1 c.at.ensures.entry in
-    let sizes = rest_of-more (λ (b : Block). b.size) c.args.self.now.blocks.entries c.loop-i.i c.at.result.0 c.at.result.1 c.at.ensures.entry in
-    record {
-      rooms = omega (arith, rooms, c.loop-i.invariant.rooms, c.from-sum.ensures);
-      most = omega (arith, filled.within, sizes, c.loop-i.invariant.most, c.from-sum.ensures);
-    }
+loop-i-preserved c = rw c.from-sum.ensures ((more (goal.at.loop-i-preserved c).After-at).1)
 
 pub returns : goal.returns
-returns c =
-    let blocks = c.args.self.now.blocks.entries in
-    let end : c.loop-i.i ≡ length blocks = omega (arith, c.loop-i-test.false, c.loop-i.auto.i-end, c.len-i-end.ensures) in
-    let none : rest_of (λ (b : Block). b.room) blocks c.loop-i.i ≡ 0 = ap (rest_of (λ (b : Block). b.room) blocks) end ∙ rest_of-all (λ (b : Block). b.room) blocks in
-    omega (arith, c.loop-i.invariant.rooms, none)
+returns c = summed-all (λ (b : Block). b.room) c.args.self.now.blocks.entries c.loop-i.i c.loop-i.sum c.args.self.now.total (omega arith) c.loop-i.invariant

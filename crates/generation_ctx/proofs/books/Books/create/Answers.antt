@@ -3,17 +3,18 @@ use Rattle.chunk_header.specs.Growth.{AreSizes}
 use Rattle.generation_ctx.specs.declared.books.Books.{Books}
 use Rattle.generation_ctx.proofs.Resets.{kept_alone, ledger_alone}
 use Rattle.generation_ctx.proofs.books.Books.create.Goals as goal
+use Rattle.generation_ctx.proofs.books.Books.create.Goals.{In_ok-blocks}
+
+sized : (c : In_ok-blocks) → AreSizes c.args.sizes.init c.args.sizes.max c.args.sizes.init
+sized c = record { least = c.requires.least; order = c.requires.order; most = c.requires.most; whole_init = c.requires.whole_init; whole_max = c.requires.whole_max; next_least = c.requires.least; next_most = c.requires.order; next_whole = c.requires.whole_init }
 
 pub returns-clause-kept : goal.returns-clause-kept
 returns-clause-kept c =
     let e = c.in_ok-blocks.ensures in
-    let n : Books = record { sizes = c.args.sizes; next = c.args.sizes.init; current = c.keeper-current.result; spare = None; blocks = c.in_ok-blocks.blocks } in
-    let sized : AreSizes c.args.sizes.init c.args.sizes.max c.args.sizes.init = record { least = c.requires.least; order = c.requires.order; most = c.requires.most; whole_init = c.requires.whole_init; whole_max = c.requires.whole_max; next_least = c.requires.least; next_most = c.requires.order; next_whole = c.requires.whole_init } in
-    kept_alone n e.kind e.numbers.0 e.numbers.1 sized e.blocks c.keeper-current.ensures refl e.chunks
+    kept_alone _ e.kind e.numbers.0 e.numbers.1 (sized (goal.at.returns-clause-kept c).In_ok-blocks) e.blocks c.keeper-current.ensures refl e.chunks
 
 pub returns-clause-ledger : goal.returns-clause-ledger
 returns-clause-ledger c =
     let e = c.in_ok-blocks.ensures in
     let n : Books = record { sizes = c.args.sizes; next = c.args.sizes.init; current = c.keeper-current.result; spare = None; blocks = c.in_ok-blocks.blocks } in
-    let sized : AreSizes c.args.sizes.init c.args.sizes.max c.args.sizes.init = record { least = c.requires.least; order = c.requires.order; most = c.requires.most; whole_init = c.requires.whole_init; whole_max = c.requires.whole_max; next_least = c.requires.least; next_most = c.requires.order; next_whole = c.requires.whole_init } in
-    ledger_alone n e.kind e.numbers.0 e.numbers.1 sized e.blocks c.keeper-current.ensures refl refl
+    ledger_alone n e.kind e.numbers.0 e.numbers.1 (sized (goal.at.returns-clause-ledger c).In_ok-blocks) e.blocks c.keeper-current.ensures refl refl

@@ -1,13 +1,10 @@
-use Rattle.std.proofs.Common.{◌≡◌, ◌≢◌, ℕ, ◌+◌, ◌<◌, false, Option, Some, None, IsSome, Err, Result, ap, sym, ◌∙◌, arith, subst, option_map}
+use Rattle.std.proofs.Common.{Option, ◌≡◌, ◌≢◌, ℕ, ◌+◌, ◌<◌, false, Some, IsSome, Err, Result, ap, sym, ◌∙◌, arith, subst}
 use Rattle.std.proofs.lemmas.Result.{err_from_is_err_and}
-use Rattle.addr_space.specs.declared.Addr.{Addr}
 use Rattle.addr_space.specs.Space.{held, byte_at}
-use Rattle.addr_space.proofs.Options.{one_value}
 use Rattle.addr_space.proofs.Steps.{Moves-more}
 use Rattle.chunk_header.specs.declared.CtxError.{CtxError}
 use Rattle.chunk_header.specs.declared.CtxError.TheVariants.{NoSpace}
-use Rattle.ctx_blocks.specs.Layout.{block_at, chunk_at, footprint}
-use Rattle.ctx_blocks.specs.declared.parts.Block.{Block}
+use Rattle.ctx_blocks.specs.Layout.{Layout, chunk_at, footprint}
 use Rattle.ctx_blocks.specs.declared.parts.Chunk.{Chunk}
 use Rattle.ctx_blocks.proofs.Laid.{live_is}
 use Rattle.ctx_blocks.proofs.Changed.{fresh_put}
@@ -15,30 +12,32 @@ use Rattle.ctx_blocks.proofs.Among.{numbers_left}
 use Rattle.generation_ctx.specs.Ledger.{GenerationPlace, GenerationTaken, give, moved}
 use Rattle.generation_ctx.specs.State.{number_of, place_in}
 use Rattle.generation_ctx.specs.Kept.{ledger_of}
-use Rattle.generation_ctx.proofs.Addrs.{stays, put_there}
-use Rattle.generation_ctx.proofs.Numbers.{number_in}
+use Rattle.addr_space.specs.declared.Addr.{Addr}
+use Rattle.ctx_blocks.specs.Steps.{PutsChunk}
+use Rattle.ctx_blocks.proofs.Put.{chunk_here}
+use Rattle.ctx_blocks.proofs.Places.{number_stays, numbers_among}
 use Rattle.generation_ctx.proofs.Ledgers.{resize-moves}
 use Rattle.generation_ctx.proofs.Resizes.{puts_move}
 use Rattle.generation_ctx.proofs.books.Books.relocate.Goals as goal
 use Rattle.generation_ctx.proofs.books.Books.relocate.Goals.{In_ok-to}
 
+-- another chunk stays
+stays : (l m : Layout) (at other : Addr) (chunk : Option Chunk) → PutsChunk l m at chunk → other ≢ at → chunk_at m other ≡ chunk_at l other
+stays l m at other chunk puts ne = grind (arith, puts other, ne)
+
 -- the new chunk is another one
 apart : (c : In_ok-to) → c.in_ok-to.to ≢ c.args.at
-apart c = λ e.
-    (let is : chunk_at c.args.self.now.blocks c.in_ok-to.to ≡ Some c.requires.chunk.0 = rw e c.requires.chunk.1 in
-    let clash : Some c.requires.chunk.0 ≡ None = sym is ∙ c.in_ok-to.ensures.ok.does.fresh in
-    absurd (cc))
+apart c = λ e. (let none = rw e at c.in_ok-to.ensures.ok.does.fresh in let some = c.requires.chunk.1 in absurd (cc))
 
 -- the old one is still there
 still : (c : In_ok-to) → chunk_at c.take.new.self.blocks c.args.at ≡ Some c.requires.chunk.0
-still c = stays c.args.self.now.blocks c.take.new.self.blocks c.in_ok-to.to c.args.at _ c.in_ok-to.ensures.ok.does.chunk (apart c) ∙ c.requires.chunk.1
+still c = stays c.args.self.now.blocks c.take.new.self.blocks c.in_ok-to.to c.args.at _ c.in_ok-to.ensures.ok.does.chunk (λ e. apart c (sym e)) ∙ c.requires.chunk.1
 
 -- with its bytes
 kept_bytes : (c : In_ok-to) (k : ℕ) → k < c.args.keep → byte_at c.take.new.space c.args.at.region (c.args.at.offset + k) ≡ byte_at c.args.space.now c.args.at.region (c.args.at.offset + k)
 kept_bytes c k below =
-    let chunk = c.requires.chunk.0 in
-    let short : k < chunk.size = omega (arith, below, c.requires.chunk.2) in
-    c.in_ok-to.ensures.ok.does.keeps c.args.at chunk.size chunk.size k (live_is c.args.self.now.blocks c.args.at chunk c.requires.chunk.1) (live_is c.take.new.self.blocks c.args.at chunk (still c)) short short
+    let short : k < c.requires.chunk.0.size = omega (arith, below, c.requires.chunk.2) in
+    c.in_ok-to.ensures.ok.does.keeps c.args.at _ _ k (live_is c.args.self.now.blocks c.args.at _ c.requires.chunk.1) (live_is c.take.new.self.blocks c.args.at _ (still c)) short short
 
 pub carry-requires-clause-known : goal.carry-requires-clause-known
 carry-requires-clause-known c = λ k below. subst IsSome (sym (kept_bytes (goal.at.carry-requires-clause-known c).In_ok-to k below)) (c.requires.known k below)
@@ -50,58 +49,47 @@ returns-clause-ok c =
     let m = c.take.new.self.blocks in
     let n = c.free.new.self.blocks in
     let s = c.args.space.now in
-    let t = c.take.new.space in
-    let v = c.carry.new.space in
-    let u = c.free.new.space in
     let at = c.args.at in
     let to = c.in_ok-to.to in
     let size = c.args.size in
     let q = c.requires.chunk in
-    let served = c.in_ok-to.ensures.ok in
-    let answer = served.answer in
-    let ok = served.does in
+    let answer = c.in_ok-to.ensures.ok.answer in
+    let ok = c.in_ok-to.ensures.ok.does in
     let f = c.free.ensures.frees in
     let new : Chunk = record { size = size; room = answer.place.room; own = answer.place.own } in
-    let in_m : chunk_at m to ≡ Some new = put_there b m to (Some new) ok.chunk in
-    let in_n : chunk_at n to ≡ Some new = stays m n at to None f.chunk (λ e. apart it (sym e)) ∙ in_m in
+    let in_m : chunk_at m to ≡ Some new = chunk_here b m to (Some new) ok.chunk in
+    let in_n : chunk_at n to ≡ Some new = stays m n at to _ f.chunk (apart it) ∙ in_m in
     let place : GenerationPlace = place_in b at.region q.0 in
-    let same : number_of m at.region ≡ number_of b at.region = number_in b m s t at q.0 q.1 (still it) c.requires.agrees ok.moves ok.numbers in
-    let freed : ledger_of c.free.new.self ≡ give answer.ledger place = c.free.ensures.ledger q.0 (still it) ∙ ap (λ (k : ℕ). give (ledger_of c.take.new.self) (record place { block = k })) same ∙ ap (λ l. give l place) ok.ledger in
+    let same : number_of m at.region ≡ number_of b at.region = number_stays b m _ _ at _ q.1 (still it) c.requires.agrees ok.moves.agrees ok.numbers in
     record {
       kept = f.kept;
       old = q.0;
       was = q.1;
       answer = record { ledger = give answer.ledger place; place = answer.place; asked = answer.asked; stays = false };
-      step = resize-moves (ledger_of c.args.self.now) (held s b.account) s.limit size place c.requires.size q.3 ∙ ap (λ (r : Result GenerationTaken CtxError). moved r place) served.is;
-      ledger = freed;
+      step = resize-moves _ (held s b.account) _ size place c.requires.size q.3 ∙ ap (λ (r : Result GenerationTaken CtxError). moved r place) c.in_ok-to.ensures.ok.is;
+      ledger = c.free.ensures.ledger q.0 (still it) ∙ ap (λ (k : ℕ). give (ledger_of c.take.new.self) (record place { block = k })) same ∙ ap (λ l. give l place) ok.ledger;
       fresh = λ ne. ok.fresh;
-      chunk = puts_move (chunk_at b) (chunk_at m) (chunk_at n) at to new (apart it) ok.chunk f.chunk;
-      number = number_in m n v u to new in_m in_n c.carry.ensures.moves.agrees f.moves (λ r x y p w. (let g = f.among r y w in sym g.2 ∙ ap (λ (z : Block). z.number) (one_value (block_at m r) g.0 x g.1 p))) ∙ ok.number;
+      chunk = puts_move (chunk_at b) (chunk_at m) (chunk_at n) _ _ _ (apart it) ok.chunk f.chunk;
+      number = number_stays m n _ _ to _ in_m in_n c.carry.ensures.moves.agrees f.moves.agrees (numbers_among m n f.among) ∙ ok.number;
       numbers = numbers_left b m n ok.numbers f.among;
       asked = c.free.ensures.asked ∙ c.carry.ensures.asked ∙ ok.asked;
       stays = (λ e. absurd (apart it e), λ e. absurd (cc));
       bytes = λ k below.
           (let short : k < size = omega (arith, below, c.requires.keep) in
           f.keeps to size size k (live_is m to new in_m) (live_is n to new in_n) short short ∙ c.carry.ensures.copied k below ∙ kept_bytes it k below);
-      moves = Moves-more (footprint b) (footprint m) (footprint n) s t u ok.moves (Moves-more (footprint m) (footprint m) (footprint n) t v u c.carry.ensures.moves f.moves);
+      moves = Moves-more (footprint b) (footprint m) (footprint n) _ _ _ ok.moves (Moves-more (footprint m) (footprint m) (footprint n) _ _ _ c.carry.ensures.moves f.moves);
       keeps = λ other p q k ne live again below short.
-          (let ne_to : to ≢ other = λ e.
-          (let none : (footprint b).live other ≡ None = subst (λ (x : Addr). (footprint b).live x ≡ None) e (fresh_put b to ok.fresh) in
-          let clash : Some p ≡ None = sym live ∙ none in
-          absurd (cc)) in
-          let middle : (footprint m).live other ≡ Some p = ap (λ (o : Option Chunk). option_map (λ (x : Chunk). x.size) o) (stays b m to other (Some new) ok.chunk ne_to) ∙ live in
-          f.keeps other p q k middle again below short ∙ c.carry.ensures.keeps other p p k (λ e. ne_to (sym e)) middle middle below below ∙ ok.keeps other p p k live middle below below);
+          (let ne_to : other ≢ to = λ e. (let none = fresh_put b to ok.fresh in let some = rw e at live in absurd (cc)) in
+          let middle : (footprint m).live other ≡ Some p = rw (stays b m to other (Some new) ok.chunk ne_to) live in
+          f.keeps other p q k middle again below short ∙ c.carry.ensures.keeps other p p k ne_to middle middle below below ∙ ok.keeps other p p k live middle below below);
     }
 
 pub returns-in_err-to-clause-no_space : goal.returns-in_err-to-clause-no_space
 returns-in_err-to-clause-no_space c = λ e chunk is.
     (let b = c.args.self.now in
-    let s = c.args.space.now in
     let q = c.requires.chunk in
-    let same : Some q.0 ≡ Some chunk = sym q.1 ∙ is in
-    let room : q.0.room ≡ chunk.room = cc in
-    let little : chunk.room < c.args.size = omega (arith, room, q.3) in
+    let little : chunk.room < c.args.size = grind (arith, q.1, is, q.3) in
     let it : c.in_err-to.field-0.0 ≡ NoSpace = let p = err_from_is_err_and c.from_residual.result c.from_residual.ensures.1 in cc in
     let place = place_in b.blocks c.args.at.region chunk in
-    resize-moves (ledger_of b) (held s b.blocks.account) s.limit c.args.size place c.requires.size little
+    resize-moves _ (held c.args.space.now b.blocks.account) _ _ place c.requires.size little
     ∙ ap (λ (r : Result GenerationTaken CtxError). moved r place) (c.in_err-to.ensures.no_space (ap Err it)))

@@ -1,31 +1,27 @@
-use Rattle.std.proofs.Common.{◌≡◌, ◌∙◌, None, refl, ap}
+use Rattle.std.proofs.Common.{◌≡◌, ◌∙◌, None, refl}
 use Rattle.generation_ctx.specs.Ledger.{reset}
 use Rattle.generation_ctx.specs.declared.books.Books.{Books}
-use Rattle.ctx_blocks.proofs.Changed.{alone_as}
 use Rattle.ctx_blocks.specs.Layout.{keeper_alone}
 use Rattle.generation_ctx.proofs.Resets.{kept_alone, ledger_alone}
 use Rattle.generation_ctx.proofs.books.Books.reset.Goals as goal
+use Rattle.generation_ctx.proofs.books.Books.reset.Goals.{After-keeper-self}
 use Rattle.chunk_header.proofs.Doubling.{AreSizes-first}
+
+only : (c : After-keeper-self) → c.reset.new.self.blocks ≡ keeper_alone c.reset.new.self.keeper 1 c.args.self.now.sizes.init
+only c =
+    let keeper = c.requires.kept.keeper in
+    rw c.reset.ensures.same.keeper (c.reset.ensures.blocks keeper.block keeper.is ∙ rw (c.requires.kept.numbered.first, keeper.size) refl)
 
 pub returns-clause-kept : goal.returns-clause-kept
 returns-clause-kept c =
-    let b = c.args.self.now in
-    let m = c.reset.new.self in
     let e = c.reset.ensures in
-    let keeper = c.requires.kept.keeper in
-    let n : Books = record { sizes = b.sizes; next = b.sizes.init; current = c.keeper-self.result; spare = None; blocks = m } in
-    let first = c.requires.kept.numbered.first in
-    let only : m.blocks ≡ keeper_alone m.keeper 1 b.sizes.init = alone_as m.blocks b.blocks.keeper m.keeper 1 keeper.block.size b.sizes.init (e.blocks keeper.block keeper.is ∙ ap (λ k. keeper_alone b.blocks.keeper k keeper.block.size) first) e.same.keeper keeper.size in
-    kept_alone n (e.same.kind ∙ c.requires.kept.kind) (e.same.first_number ∙ first) (e.last ∙ first) (AreSizes-first b.sizes.init b.sizes.max b.next c.requires.kept.sizes) only c.keeper-self.ensures refl e.chunks
+    let kept = c.requires.kept in
+    kept_alone _ (e.same.kind ∙ kept.kind) (e.same.first_number ∙ kept.numbered.first) (e.last ∙ kept.numbered.first) (AreSizes-first _ _ _ kept.sizes) (only (goal.at.returns-clause-kept c).After-keeper-self) c.keeper-self.ensures refl e.chunks
 
 pub returns-clause-ledger : goal.returns-clause-ledger
 unfolding reset
 returns-clause-ledger c =
-    let b = c.args.self.now in
-    let m = c.reset.new.self in
     let e = c.reset.ensures in
-    let keeper = c.requires.kept.keeper in
-    let n : Books = record { sizes = b.sizes; next = b.sizes.init; current = c.keeper-self.result; spare = None; blocks = m } in
-    let first = c.requires.kept.numbered.first in
-    let only : m.blocks ≡ keeper_alone m.keeper 1 b.sizes.init = alone_as m.blocks b.blocks.keeper m.keeper 1 keeper.block.size b.sizes.init (e.blocks keeper.block keeper.is ∙ ap (λ k. keeper_alone b.blocks.keeper k keeper.block.size) first) e.same.keeper keeper.size in
-    ledger_alone n (e.same.kind ∙ c.requires.kept.kind) (e.same.first_number ∙ first) (e.last ∙ first) (AreSizes-first b.sizes.init b.sizes.max b.next c.requires.kept.sizes) only c.keeper-self.ensures refl refl
+    let kept = c.requires.kept in
+    let n : Books = record { sizes = c.args.self.now.sizes; next = c.args.self.now.sizes.init; current = c.keeper-self.result; spare = None; blocks = c.reset.new.self } in
+    ledger_alone n (e.same.kind ∙ kept.kind) (e.same.first_number ∙ kept.numbered.first) (e.last ∙ kept.numbered.first) (AreSizes-first _ _ _ kept.sizes) (only (goal.at.returns-clause-ledger c).After-keeper-self) c.keeper-self.ensures refl refl

@@ -1,4 +1,4 @@
-use Rattle.std.proofs.Common.{◌∙◌, Option, ℕ, ap, sym, subst}
+use Rattle.std.proofs.Common.{◌∙◌, subst, sym, refl}
 use Rattle.generation_ctx.specs.Ledger.{turned, stopped}
 use Rattle.generation_ctx.specs.State.{number_of}
 use Rattle.generation_ctx.specs.Kept.{ledger_of, IsKept}
@@ -9,20 +9,12 @@ use Rattle.generation_ctx.proofs.Numbers.{seated}
 use Rattle.generation_ctx.proofs.books.Books.turn_to.Goals as goal
 
 pub stop-requires-clause-kept : goal.stop-requires-clause-kept
-stop-requires-clause-kept c =
-    let b = c.args.self.now in
-    let block = c.requires.block in
-    subst IsKept (sym c.seat.ensures) (kept_seated b c.args.number block.0 c.requires.kept block.1 block.2)
+stop-requires-clause-kept c = let block = c.requires.block in subst IsKept (sym c.seat.ensures) (kept_seated c.args.self.now c.args.number block.0 c.requires.kept block.1 block.2)
 
 pub returns-clause-rearranges : goal.returns-clause-rearranges
 unfolding turned
 returns-clause-rearranges c =
     let b = c.args.self.now in
-    let n = c.stop.new.self in
-    let s = c.args.space.now in
-    let t = c.stop.new.space in
     let block = c.requires.block in
-    let r = subst (λ (x : Books). Rearranges x n s t (stopped (ledger_of x) (number_of x.blocks b.current))) c.seat.ensures c.stop.ensures.rearranges in
-    let spare = seated b.blocks b.current c.args.number b.spare block.0 c.requires.kept.numbered block.1 c.requires.kept.spare in
-    let ledger = ap (λ (o : Option ℕ). stopped (record (ledger_of b) { current = number_of b.blocks c.args.number; spare = o }) (number_of b.blocks b.current)) spare in
-    record { kept = r.kept; ledger_is = r.ledger_is ∙ ledger; chunks = r.chunks; account = r.account; moves = r.moves; keeps = r.keeps }
+    let r = subst (λ (x : Books). Rearranges x c.stop.new.self c.args.space.now c.stop.new.space (stopped (ledger_of x) (number_of x.blocks b.current))) c.seat.ensures c.stop.ensures.rearranges in
+    record { kept = r.kept; ledger_is = r.ledger_is ∙ rw (seated b.blocks b.current c.args.number b.spare block.0 c.requires.kept.numbered block.1 c.requires.kept.spare) refl; chunks = r.chunks; account = r.account; moves = r.moves; keeps = r.keeps }

@@ -1,11 +1,9 @@
-use Rattle.std.proofs.Common.{refl, ap, ◌∙◌}
+use Rattle.std.proofs.Common.{refl}
 use Rattle.slab_ctx.specs.Ledger.{created}
 use Rattle.slab_ctx.specs.Lives.{per_block}
 use Rattle.slab_ctx.proofs.Ordered.{order-none}
-use Rattle.slab_ctx.specs.State.{blocks_of}
 use Rattle.slab_ctx.proofs.Full.{Moves-made}
 use Rattle.slab_ctx.proofs.KeptSteps.{kept-none}
-use Rattle.slab_ctx.proofs.Listed.{blocks-none}
 use Rattle.slab_ctx.proofs.books.Books.create.Goals as goal
 
 pub returns-clause-kept : goal.returns-clause-kept
@@ -14,12 +12,7 @@ returns-clause-kept c = kept-none (record { slots = c.in_ok-slots.slots; empty =
 
 pub returns-clause-ledger : goal.returns-clause-ledger
 unfolding created
-returns-clause-ledger c =
-    let s = c.in_ok-slots.slots in
-    let e = c.in_ok-slots.ensures in
-    ap (λ n. record { size = n; count = s.blocks.last_number; blocks = blocks_of s.blocks }) e.size
-    ∙ ap (λ n. record { size = c.args.size; count = n; blocks = blocks_of s.blocks }) e.numbers.1
-    ∙ ap (λ xs. record { size = c.args.size; count = 0; blocks = xs }) (blocks-none s.blocks e.blocks)
+returns-clause-ledger c = rw (c.in_ok-slots.ensures.size, c.in_ok-slots.ensures.numbers.1, c.in_ok-slots.ensures.blocks) refl
 
 pub returns-clause-moves : goal.returns-clause-moves
 returns-clause-moves c =

@@ -1,5 +1,5 @@
 use Rattle.std.proofs.Common.{◌≡◌, ◌+◌, ap, subst, arith}
-use Rattle.chunk_header.specs.Header.{AllOfKind, TakesSpace}
+use Rattle.chunk_header.specs.Header.{AllOfKind}
 use Rattle.chunk_header.specs.declared.Kind.TheVariants.{Slab}
 use Rattle.ctx_blocks.specs.Layout.{footprint as footprint_of}
 use Rattle.ctx_blocks.specs.declared.parts.Chunk.{Chunk}
@@ -23,5 +23,4 @@ returns-clause-spaces c = λ at size live.
     let had = from_live s.blocks at size live in
     let is = c.requires.slots.chunk at had.0 had.1 in
     let room : had.0.room + 8 ≡ stride s.size = omega (arith, ap (λ (x : Chunk). x.room) is, stride-least s.size) in
-    let takes = c.headed.ensures.shared at had.0 had.1 (ap (λ (x : Chunk). x.own) is) in
-    TakesSpace-full s.size s.blocks at (stride s.size) (subst (TakesSpace (footprint_of s.blocks) at) room takes)
+    TakesSpace-full s.size s.blocks at (stride s.size) (rw room at (c.headed.ensures.shared at had.0 had.1 (ap (λ (x : Chunk). x.own) is)))

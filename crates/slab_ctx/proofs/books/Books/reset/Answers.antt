@@ -1,11 +1,9 @@
-use Rattle.std.proofs.Common.{refl, ap, ◌∙◌}
+use Rattle.std.proofs.Common.{refl}
 use Rattle.slab_ctx.specs.Ledger.{created, reset}
 use Rattle.slab_ctx.specs.Lives.{per_block}
 use Rattle.slab_ctx.proofs.Ordered.{order-none}
-use Rattle.slab_ctx.specs.State.{blocks_of}
 use Rattle.slab_ctx.proofs.Full.{Agrees-plain, Moves-full}
 use Rattle.slab_ctx.proofs.KeptSteps.{kept-none}
-use Rattle.slab_ctx.proofs.Listed.{blocks-none}
 use Rattle.slab_ctx.proofs.books.Books.reset.Goals as goal
 
 pub reset-requires-clause-agrees : goal.reset-requires-clause-agrees
@@ -17,11 +15,7 @@ returns-clause-kept c = kept-none (record { slots = c.reset.new.self; empty = 0;
 
 pub returns-clause-ledger : goal.returns-clause-ledger
 unfolding created reset
-returns-clause-ledger c =
-    let m = c.reset.new.self.blocks in
-    ap (λ n. record { size = n; count = m.last_number; blocks = blocks_of m }) c.reset.ensures.size
-    ∙ ap (λ n. record { size = c.args.self.now.slots.size; count = n; blocks = blocks_of m }) c.reset.ensures.last
-    ∙ ap (λ xs. record { size = c.args.self.now.slots.size; count = 0; blocks = xs }) (blocks-none m c.reset.ensures.blocks)
+returns-clause-ledger c = rw (c.reset.ensures.size, c.reset.ensures.last, c.reset.ensures.blocks) refl
 
 pub returns-clause-moves : goal.returns-clause-moves
 returns-clause-moves c =

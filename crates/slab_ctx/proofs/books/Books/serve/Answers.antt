@@ -1,17 +1,13 @@
-use Rattle.std.proofs.Common.{◌≡◌, ◌+◌, ◌-◌, ◌++◌, ℕ, [], ◌∷◌, if◌then◌else◌, Some, Err, option_map, ap, sym, subst, ◌∙◌, arith}
-use Rattle.std.specs.Map.{lookup}
+use Rattle.std.proofs.Common.{◌≡◌, ◌+◌, ◌-◌, ◌++◌, ℕ, [], ◌∷◌, Some, Err, option_map, ap, ◌∙◌, arith}
 use Rattle.std.proofs.lemmas.Result.{err_from_is_err_and}
-use Rattle.addr_space.specs.declared.Addr.{Addr}
 use Rattle.addr_space.specs.Space.{held}
-use Rattle.addr_space.specs.Live.{same_addr}
 use Rattle.addr_space.proofs.Steps.{Moves-more, Keeps-more}
 use Rattle.chunk_header.specs.declared.CtxError.TheVariants.{NoSpace}
-use Rattle.ctx_blocks.specs.Layout.{chunk_at, footprint as footprint_of}
-use Rattle.ctx_blocks.specs.Steps.{PutsChunk}
+use Rattle.ctx_blocks.specs.Layout.{footprint as footprint_of}
 use Rattle.ctx_blocks.specs.declared.parts.Block.{Block}
 use Rattle.ctx_blocks.proofs.Places.{number_is, numbers_among}
 use Rattle.ctx_blocks.proofs.Among.{numbers_stay}
-use Rattle.ctx_blocks.proofs.Changed.{size_of}
+use Rattle.ctx_blocks.proofs.Changed.{puts_same, stays_live}
 use Rattle.slab_ctx.specs.Ledger.{SlabBlock, SlabLedger, per_block, serving, with_live}
 use Rattle.slab_ctx.specs.State.{blocks_of, others}
 use Rattle.slab_ctx.specs.Slots.{chunk_of}
@@ -63,34 +59,29 @@ pub returns-clause-ok : goal.returns-clause-ok
 returns-clause-ok c =
     let b = c.args.self.now in
     let l = b.slots.blocks in
-    let d = c.add.new.self in
-    let k = d.slots.blocks in
+    let k = c.add.new.self.slots.blocks in
     let n = c.take-2.new.self in
     let m = n.slots.blocks in
-    let at = c.take-2.result in
-    let size = b.slots.size in
     let e = c.in_ok-number.ensures in
     let t = c.take-2.ensures in
-    let left : ℕ = c.args.space.now.limit - held c.args.space.now l.account in
     let next : ℕ = l.last_number + 1 in
     let block : Block = record { number = next; size = 8192; room = 8152; live = 0; freed = 0 } in
-    let stay : (other : Addr) → chunk_at k other ≡ chunk_at l other = λ other. ap (λ cs. lookup (same_addr other) cs) e.chunks in
-    let blocks : blocks_of m ≡ blocks_of l ++ record { number = next; live = 1 } ∷ [] = t.blocks block e.block ∙ ap (λ xs. with_live xs next 1) e.blocks ∙ live-last 1 l.last_number next (others l.blocks) (omega arith) c.requires.kept.listed.rising in
+    let last = live-last 1 l.last_number next (others l.blocks) (omega arith) c.requires.kept.listed.rising in
     let sizes = t.size ∙ c.add.ensures.size in
     let moves = Moves-more (footprint_of l) (footprint_of k) (footprint_of m) c.args.space.now c.add.new.space c.take-2.new.space e.moves t.moves in
     record {
       answer = more (ledger_of b);
-      is = serve-none (ledger_of b) left (serving (per_block size) (blocks_of l)) c.in_default.ensures.serving e.fits;
+      is = serve-none (ledger_of b) (c.args.space.now.limit - held c.args.space.now l.account) (serving (per_block b.slots.size) (blocks_of l)) c.in_default.ensures.serving e.fits;
       does = record {
         kept = t.kept;
-        ledger = ledger-parts n size next (blocks_of l ++ record { number = next; live = 1 } ∷ []) sizes (t.last ∙ e.last) blocks;
-        fresh = sym (stay at) ∙ t.fresh;
-        chunk = λ other. subst (λ z. PutsChunk k m at (Some (chunk_of z))) c.add.ensures.size t.chunk other ∙ ap (λ o. if same_addr at other then Some (chunk_of size) else o) (stay other);
+        ledger = ledger-parts n b.slots.size next (blocks_of l ++ record { number = next; live = 1 } ∷ []) sizes (t.last ∙ e.last) (t.blocks block e.block ∙ rw e.blocks last);
+        fresh = rw (← e.chunks) t.fresh;
+        chunk = rw (← c.add.ensures.size) (puts_same l k m c.take-2.result (Some (chunk_of c.add.new.self.slots.size)) e.chunks t.chunk);
         number = t.number ∙ number_is k c.in_ok-number.number block e.block;
         numbers = numbers_stay l k m e.among t.among;
         asked = t.asked ∙ e.asked;
-        moves = Moves-full size n.slots.size l m n.slots.stacks.entries c.args.space.now c.take-2.new.space sizes t.kept.slots moves;
-        keeps = Keeps-more (footprint_of l) (footprint_of k) (footprint_of m) c.args.space.now c.add.new.space c.take-2.new.space (λ other x live. ap size_of (stay other) ∙ live) e.keeps t.keeps;
+        moves = Moves-full b.slots.size n.slots.size l m n.slots.stacks.entries c.args.space.now c.take-2.new.space sizes t.kept.slots moves;
+        keeps = Keeps-more (footprint_of l) (footprint_of k) (footprint_of m) c.args.space.now c.add.new.space c.take-2.new.space (stays_live l k e.chunks) e.keeps t.keeps;
       };
     }
 

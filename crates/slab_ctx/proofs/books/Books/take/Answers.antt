@@ -1,5 +1,4 @@
-use Rattle.std.proofs.Common.{◌<◌, ◌+◌, ◌-◌, sym, ap, ◌∙◌, subst, arith}
-use Rattle.ctx_blocks.specs.declared.parts.Block.{Block}
+use Rattle.std.proofs.Common.{refl, ◌<◌, ◌+◌, ◌-◌, ap, ◌∙◌, arith}
 use Rattle.ctx_blocks.specs.Layout.{block_at}
 use Rattle.slab_ctx.specs.Lives.{per_block}
 use Rattle.slab_ctx.specs.declared.books.Books.{Books}
@@ -7,25 +6,20 @@ use Rattle.addr_space.proofs.Options.{one_value}
 use Rattle.ctx_blocks.specs.Numbered.{number_of}
 use Rattle.ctx_blocks.proofs.Places.{number_put}
 use Rattle.ctx_blocks.proofs.Among.{among_put}
-use Rattle.slab_ctx.specs.Order.{rank_from}
 use Rattle.slab_ctx.proofs.Ordered.{order-put, has-rank}
 use Rattle.slab_ctx.proofs.Numbers.{per_block-few}
-use Rattle.slab_ctx.proofs.Freed.{is_empty-some}
 use Rattle.slab_ctx.proofs.KeptSteps.{empty-least, free-least, kept-changed, blocks-counted}
 use Rattle.slab_ctx.proofs.books.Books.take.Goals as goal
+use Rattle.slab_ctx.proofs.books.Books.take.Goals.{After-owned-block}
+
+under : (c : After-owned-block) → c.owned-block.result.live < per_block c.args.self.now.slots.size
+under c = rw (one_value (block_at c.args.self.now.slots.blocks c.args.number) c.owned-block.result c.requires.block.0 c.owned-block.ensures c.requires.block.1) c.requires.block.2
 
 pub overflow_add-live : goal.overflow_add-live
-overflow_add-live c =
-    let b = c.args.self.now in
-    let is = one_value (block_at b.slots.blocks c.args.number) c.owned-block.result c.requires.block.0 c.owned-block.ensures c.requires.block.1 in
-    let under : c.owned-block.result.live < per_block b.slots.size = subst (λ (x : Block). x.live < per_block b.slots.size) (sym is) c.requires.block.2 in
-    omega (arith, under, per_block-few b.slots.size c.requires.kept.slots.least)
+overflow_add-live c = omega (arith, under (goal.at.overflow_add-live c).After-owned-block, per_block-few c.args.self.now.slots.size c.requires.kept.slots.least)
 
 pub take-requires-clause-free : goal.take-requires-clause-free
-take-requires-clause-free c =
-    let b = c.args.self.now in
-    let is = one_value (block_at b.slots.blocks c.args.number) c.owned-block.result c.requires.block.0 c.owned-block.ensures c.requires.block.1 in
-    subst (λ (x : Block). x.live < per_block b.slots.size) (sym is) c.requires.block.2
+take-requires-clause-free c = under (goal.at.take-requires-clause-free c).After-owned-block
 
 pub put-requires-clause-room : goal.put-requires-clause-room
 put-requires-clause-room c = λ none.
@@ -44,18 +38,15 @@ returns-clause-kept c =
     let b = c.args.self.now in
     let block = c.owned-block.result in
     let found = c.owned-block.ensures in
-    let is = one_value (block_at b.slots.blocks c.args.number) block c.requires.block.0 found c.requires.block.1 in
-    let under : block.live < per_block b.slots.size = subst (λ (x : Block). x.live < per_block b.slots.size) (sym is) c.requires.block.2 in
     let counts = c.take.ensures.block block found in
     let n : Books = record { slots = c.take.new.self; empty = b.empty - c.one_if_empty.result; free = b.free - 1; ranks = c.put.new.self } in
     let empty = empty-least b 0 c.args.number c.requires.kept c.requires.not_keeper block found in
     let free = free-least b 0 c.args.number c.requires.kept c.requires.not_keeper block found in
     kept-changed b n 0 c.args.number c.requires.kept c.take.ensures.slots c.take.ensures.size c.take.ensures.same c.requires.not_keeper block found (block.live + 1) counts 0 c.take.ensures.last
-    (omega (arith, empty, c.one_if_empty.ensures, is_empty-some (block.live + 1) (omega arith)))
-    (omega (arith, free, under))
+    (grind (arith, empty, c.one_if_empty.ensures))
+    (omega (arith, free, under (goal.at.returns-clause-kept c).After-owned-block))
     (order-put b.ranks c.put.new.self b.slots.blocks c.take.new.self.blocks (per_block b.slots.size) (per_block c.take.new.self.size) c.args.number c.requires.kept.order c.put.ensures.ranked (ap per_block c.take.ensures.size) c.take.ensures.same.keeper counts.block c.rank.result c.requires.not_keeper counts.puts.at
-    (c.rank.ensures ∙ ap (λ z. rank_from z block.number (block.live + 1)) c.per_block.ensures.value ∙ ap (λ v. rank_from (per_block b.slots.size) block.number v) (sym counts.count) ∙ ap (λ k. rank_from (per_block b.slots.size) k counts.block.live) (sym (counts.same_number block found)))
-    c.put.ensures.at)
+    (c.rank.ensures ∙ rw (c.per_block.ensures.value, counts.count, counts.same_number block found) refl) c.put.ensures.at)
 
 pub returns-clause-blocks : goal.returns-clause-blocks
 returns-clause-blocks c = λ block found.
@@ -65,16 +56,12 @@ returns-clause-blocks c = λ block found.
 
 pub returns-clause-number : goal.returns-clause-number
 returns-clause-number c =
-    let l = c.args.self.now.slots.blocks in
-    let m = c.take.new.self.blocks in
-    let block = c.requires.block.0 in
     let found = c.requires.block.1 in
-    let counts = c.take.ensures.block block found in
-    ap (number_of m) c.take.ensures.region ∙ number_put l m c.args.number block counts.block found counts.puts (counts.same_number block found) c.args.number
+    let counts = c.take.ensures.block _ found in
+    ap (number_of c.take.new.self.blocks) c.take.ensures.region ∙ number_put _ _ _ _ _ found counts.puts (counts.same_number _ found) c.args.number
 
 pub returns-clause-among : goal.returns-clause-among
 returns-clause-among c =
-    let block = c.requires.block.0 in
     let found = c.requires.block.1 in
-    let counts = c.take.ensures.block block found in
-    among_put c.args.self.now.slots.blocks c.take.new.self.blocks c.args.number block counts.block found counts.puts (counts.same_number block found)
+    let counts = c.take.ensures.block _ found in
+    among_put _ _ _ _ _ found counts.puts (counts.same_number _ found)

@@ -1,5 +1,3 @@
-use Rattle.std.proofs.Common.{subst}
-use Rattle.slab_ctx.specs.Tree.{Leads}
 use Rattle.slab_ctx.proofs.Placed.{entry-at, least-own}
 use Rattle.slab_ctx.proofs.ranks.Ranks.least.Goals as goal
 
@@ -9,4 +7,4 @@ returns-clause-there c = least-own c.args.self.now c.requires.ranked c.least.res
 pub returns-clause-least : goal.returns-clause-least
 returns-clause-least c = λ key rank found.
     let it = entry-at c.args.self.now c.requires.ranked key rank found in
-    subst (λ o. Leads c.least.result o) it.2 (c.least.ensures.least it.0 it.1)
+    rw it.2 at (c.least.ensures.least it.0 it.1)

@@ -1,5 +1,4 @@
-use Rattle.std.proofs.Common.{◌==◌, if◌then◌else◌, Some, length, sym, ap, ◌∙◌, arith}
-use Rattle.slab_ctx.specs.Ranks.{entry_of, entry_in}
+use Rattle.std.proofs.Common.{length, sym, ◌∙◌, arith}
 use Rattle.slab_ctx.proofs.Placed.{entry-inserted, few-put}
 use Rattle.slab_ctx.proofs.ranks.Ranks.put.Goals as goal
 
@@ -15,8 +14,6 @@ returns-clause-ranked c =
       few = omega (arith, few, c.set.ensures.places);
       leaf = λ p within.
           c.set.ensures.leaves p
-          ∙ ap (λ o. if place == p then Some (entry_of (c.args.key, c.args.rank)) else o) (c.requires.ranked.leaf p (omega (arith, within, c.set.ensures.places)))
-          ∙ sym (entry-inserted es c.args.key c.args.rank place p c.in-Ok.ensures.index)
-          ∙ sym (ap (λ xs. entry_in xs p) c.in-Ok.ensures.entries);
+          ∙ rw (c.requires.ranked.leaf p (omega (arith, within, c.set.ensures.places)), c.in-Ok.ensures.entries) (sym (entry-inserted es c.args.key c.args.rank place p c.in-Ok.ensures.index));
       distinct = c.insert_full.ensures.unique;
     }

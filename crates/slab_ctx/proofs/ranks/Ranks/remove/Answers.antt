@@ -1,7 +1,6 @@
-use Rattle.std.proofs.Common.{◌≡◌, ◌+◌, ◌<◌, ◌==◌, if◌then◌else◌, None, length, sym, ap, ◌∙◌, arith}
-use Rattle.slab_ctx.specs.Tree.{leaf}
-use Rattle.slab_ctx.specs.Ranks.{entry_in}
-use Rattle.slab_ctx.proofs.Placed.{entry-removed, position-within}
+use Rattle.std.proofs.Common.{◌≡◌, ◌+◌, ◌<◌, ◌==◌, length, sym, ◌∙◌, arith}
+use Rattle.indexmap.proofs.MapLemmas.{Found-position}
+use Rattle.slab_ctx.proofs.Placed.{entry-removed}
 use Rattle.slab_ctx.proofs.ranks.Ranks.remove.Goals as goal
 
 pub returns-clause-ranked : goal.returns-clause-ranked
@@ -14,16 +13,13 @@ returns-clause-ranked c =
     let long : length fs + 1 ≡ length es = c.in-Some.ensures.len in
     let is_last : last ≡ length fs = c.len-last.ensures.len in
     let found = sym c.in-Some.ensures.index in
-    let inside = position-within (λ n. c.args.key == n) es place found in
+    let inside = (Found-position (λ n. c.args.key == n) es place found).within in
     let under : last < r.tree.places = omega (arith, long, is_last, c.requires.ranked.few) in
     record {
       tree = c.close.ensures.tree;
       few = omega (arith, long, c.close.ensures.places, c.requires.ranked.few);
       leaf = λ p within.
           c.close.ensures.leaves p
-          ∙ ap (λ a. if last == p then None else (if place == p then a else leaf r.tree p)) (c.requires.ranked.leaf last under)
-          ∙ ap (λ b. if last == p then None else (if place == p then entry_in es last else b)) (c.requires.ranked.leaf p (omega (arith, within, c.close.ensures.places)))
-          ∙ ap (λ n. if n == p then None else (if place == p then entry_in es n else entry_in es p)) is_last
-          ∙ entry-removed es fs (λ n. c.args.key == n) place found c.in-Some.ensures.entries long (omega (arith, inside, long)) p;
+          ∙ rw (c.requires.ranked.leaf last under, c.requires.ranked.leaf p (omega (arith, within, c.close.ensures.places)), is_last) (entry-removed es fs (λ n. c.args.key == n) place found c.in-Some.ensures.entries long (omega (arith, inside, long)) p);
       distinct = c.swap_remove_full.ensures.unique;
     }

@@ -1,6 +1,4 @@
-use Rattle.std.proofs.Common.{ap, sym, ◌∙◌, arith}
-use Rattle.std.specs.Map.{lookup}
-use Rattle.addr_space.specs.Live.{same_addr}
+use Rattle.std.proofs.Common.{refl, arith}
 use Rattle.slab_ctx.proofs.Slotted.{IsSlotted-drop}
 use Rattle.slab_ctx.proofs.slots.Slots.give.Goals as goal
 
@@ -10,10 +8,7 @@ returns-clause-slots c =
     let m = c.give.new.self in
     let slotted = c.requires.slots in
     IsSlotted-drop l m c.args.self.now.size c.args.self.now.stacks.entries c.close.new.stacks.entries c.args.number slotted c.give.ensures.same c.requires.not_keeper
-    (λ at apart. ap (λ cs. lookup (same_addr at) cs) c.give.ensures.chunks)
-    c.close.ensures
-    (λ at chunk region found. let was = sym (ap (λ cs. lookup (same_addr at) cs) c.give.ensures.chunks) ∙ found in (slotted.chunk at chunk was, slotted.slot at chunk was))
-    c.give.ensures.block
+    (λ at apart. rw c.give.ensures.chunks refl) c.close.ensures (λ at chunk region found. let was = rw c.give.ensures.chunks at found in (slotted.chunk at chunk was, slotted.slot at chunk was)) c.give.ensures.block
 
 pub returns-clause-total : goal.returns-clause-total
 returns-clause-total c =

@@ -1,13 +1,10 @@
-use Rattle.std.proofs.Common.{◌≡◌, ◌+◌, ◌-◌, Some, false, ap, sym, subst, ◌∙◌, refl, arith}
+use Rattle.std.proofs.Common.{◌+◌, ◌-◌, ap, ◌∙◌, refl, arith}
 use Rattle.addr_space.specs.declared.Addr.{Addr}
 use Rattle.ctx_blocks.specs.declared.parts.Block.{Block}
-use Rattle.ctx_blocks.specs.Layout.{block_at}
-use Rattle.ctx_blocks.specs.Steps.{PutsChunk}
-use Rattle.addr_space.proofs.Options.{one_value}
 use Rattle.slab_ctx.specs.Slots.{IsFree}
 use Rattle.slab_ctx.proofs.Numbers.{stride-least}
 use Rattle.slab_ctx.proofs.Places.{gap-is, start-is, slot-least, slot-whole, last-free, depth-few, clear-of}
-use Rattle.slab_ctx.proofs.Taken.{IsSlotted-placed}
+use Rattle.slab_ctx.proofs.Taken.{counted, IsSlotted-placed}
 use Rattle.slab_ctx.proofs.slots.Slots.reuse.Goals as goal
 
 pub offset_at-requires : goal.offset_at-requires
@@ -16,9 +13,7 @@ offset_at-requires c =
 
 free_at : (c : goal.After-place-arg-2-1) → IsFree c.args.self.now.blocks c.args.self.now.size c.args.number c.requires.block.0 c.from.result
 free_at c =
-    let is = c.from.ensures ∙ c.offset_at.ensures in
-    subst (IsFree c.args.self.now.blocks c.args.self.now.size c.args.number c.requires.block.0) (sym is)
-    (last-free c.args.self.now.blocks c.args.self.now.size c.args.self.now.stacks.entries c.requires.slots c.args.number c.requires.not_keeper c.requires.block.0 c.requires.block.1 c.args.depth c.requires.block.2)
+    rw (c.from.ensures ∙ c.offset_at.ensures) (last-free c.args.self.now.blocks c.args.self.now.size c.args.self.now.stacks.entries c.requires.slots c.args.number c.requires.not_keeper c.requires.block.0 c.requires.block.1 c.args.depth c.requires.block.2)
 
 pub place-requires-clause-block : goal.place-requires-clause-block
 place-requires-clause-block c =
@@ -45,23 +40,13 @@ place-requires-clause-clear c =
 
 pub returns-clause-slots : goal.returns-clause-slots
 returns-clause-slots c =
-    let l = c.args.self.now.blocks in
-    let m = c.place.new.self in
-    let size = c.args.self.now.size in
     let at : Addr = record { region = c.args.number; offset = c.from.result } in
     let b = c.requires.block.0 in
     let found = c.requires.block.1 in
     let now : Block = record b { live = b.live + 1; freed = b.freed - 1 } in
-    let puts = subst (λ r. PutsChunk l m at (Some (record { size = size; room = r - 8; own = false }))) c.stride-room.ensures.value c.place.ensures.chunk in
-    let depth : b.freed - 1 ≡ c.args.depth = omega (arith, c.requires.block.2) in
-    IsSlotted-placed l m size c.args.self.now.stacks.entries at c.requires.slots c.place.ensures.same c.requires.not_keeper b found puts
-    now c.args.depth refl refl refl depth c.requires.block.2 (c.from.ensures ∙ c.offset_at.ensures) (c.place.ensures.block b found)
+    IsSlotted-placed c.args.self.now.blocks c.place.new.self c.args.self.now.size c.args.self.now.stacks.entries at c.requires.slots c.place.ensures.same c.requires.not_keeper b found (rw c.stride-room.ensures.value at c.place.ensures.chunk)
+    now refl refl (c.place.ensures.block b found) c.args.depth refl (omega (arith, c.requires.block.2)) c.requires.block.2 (c.from.ensures ∙ c.offset_at.ensures)
 
 pub returns-clause-block : goal.returns-clause-block
-returns-clause-block c = λ b found. record {
-  block = record b { live = b.live + 1; freed = b.freed - 1 };
-  puts = c.place.ensures.block b found;
-  count = refl;
-  same_number = λ old is. ap (λ (x : Block). x.number) (one_value (block_at c.args.self.now.blocks c.args.number) b old found is);
-  bytes = (c.requires.slots.filled c.args.number b c.requires.not_keeper found).bytes;
-}
+returns-clause-block c = λ b found.
+    counted c.args.self.now.blocks c.place.new.self c.args.self.now.size c.args.self.now.stacks.entries c.args.number b (record b { live = b.live + 1; freed = b.freed - 1 }) c.requires.slots c.requires.not_keeper found (c.place.ensures.block b found) refl refl

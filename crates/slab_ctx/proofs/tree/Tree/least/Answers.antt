@@ -1,18 +1,15 @@
-use Rattle.std.proofs.Common.{◌≡◌, ◌<◌, None, sym, subst, IfSome, ℕ, ◌≤◌, Some, arith}
+use Rattle.std.proofs.Common.{◌≤◌, None, arith}
 use Rattle.std.proofs.lemmas.List.{get_or_read}
-use Rattle.slab_ctx.specs.Tree.{Leads, leaf}
 use Rattle.slab_ctx.proofs.Trees.{first-leads, first-there}
 use Rattle.slab_ctx.proofs.tree.Tree.least.Goals as goal
 
 pub returns-clause-least : goal.returns-clause-least
 returns-clause-least c = λ p within.
     let t = c.args.self.now in
-    let is = get_or_read t.nodes.items 1 c.index.result.now (omega (arith, c.requires.tree.long, within)) c.index.ensures None in
-    subst (λ o. Leads o (leaf t p)) (sym is) (first-leads t c.requires.tree p within)
+    rw (get_or_read t.nodes.items 1 c.index.result.now (omega (arith, c.requires.tree.long, within)) c.index.ensures None) (first-leads t c.requires.tree p within)
 
 pub returns-clause-there : goal.returns-clause-there
 returns-clause-there c =
     let t = c.args.self.now in
     let some : 1 ≤ t.places = omega (arith, c.if-self-eq0.false) in
-    let is = get_or_read t.nodes.items 1 c.index.result.now (omega (arith, c.requires.tree.long, some)) c.index.ensures None in
-    subst (λ o. IfSome o (λ e. (p : ℕ) × (p < t.places) × (leaf t p ≡ Some e))) (sym is) (first-there t c.requires.tree some)
+    rw (get_or_read t.nodes.items 1 c.index.result.now (omega (arith, c.requires.tree.long, some)) c.index.ensures None) (first-there t c.requires.tree some)
