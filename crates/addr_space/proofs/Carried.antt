@@ -1,11 +1,11 @@
 -- Lemmas on known bytes that are copied into a live chunk.
-use Rattle.std.proofs.Common.{◌≡◌, ℕ, ◌+◌, ◌<◌, ◌≤◌, List, length, map, get_or, drop, Option, Some, None, IsSome, unwrap_or, refl, sym, ap, ◌∙◌, subst, arith}
-use Rattle.std.proofs.lemmas.List.{length-map, get_or-map, get_or-take, get_or-drop}
+use Rattle.std.proofs.Common.{◌≡◌, ℕ, ◌+◌, ◌<◌, ◌≤◌, List, length, map, get_or, Option, Some, None, IsSome, unwrap_or, refl, sym, ap, ◌∙◌, arith, rules}
+use Rattle.std.proofs.lemmas.List.{places, length-map, get_or-map}
 use Rattle.addr_space.specs.declared.Addr.{Addr}
 use Rattle.addr_space.specs.Space.{Space, region_at, bytes_of, byte_at, part, overwritten, Changes, IsInside, IsKnown}
 use Rattle.addr_space.specs.Footprint.{Footprint, Agrees, Moves, KeepsBut, WritesInside, HasRegion}
 use Rattle.addr_space.specs.Live.{HasBytesOf}
-use Rattle.addr_space.proofs.Bytes.{known-part, length-part}
+use Rattle.addr_space.proofs.Bytes.{known-part}
 use Rattle.addr_space.proofs.Written.{HasBytes-written}
 use Rattle.addr_space.proofs.Apart.{Moves-inside, KeepsBut-inside}
 
@@ -17,44 +17,28 @@ known_byte (Some x) is = refl
 module _ (f : Footprint) (s t : Space) (from to : Addr) (n size : ℕ) (agrees : Agrees f s) (live : f.live to ≡ Some size) (fits : n ≤ size)
     (known : IsKnown s from n) (inside : from.offset + n ≤ length (bytes_of (region_at s from.region)))
     (changes : Changes s t to.region (overwritten (region_at s to.region) to.offset (part (bytes_of (region_at s from.region)) from.offset n))) where
-  source : List (Option ℕ)
+  abbrev source : List (Option ℕ)
   source = bytes_of (region_at s from.region)
 
-  bytes : List ℕ
+  abbrev bytes : List ℕ
   bytes = map (λ o. unwrap_or o 0) (part source from.offset n)
 
   len : length bytes ≡ n
-  unfolding bytes source
-  len = length-map (part (bytes_of (region_at s from.region)) from.offset n) (λ o. unwrap_or o 0) ∙ length-part (bytes_of (region_at s from.region)) from.offset n inside
+  len = search (rules, places, length-map)
 
   byte_is : (k : ℕ) → k < n → byte_at s from.region (from.offset + k) ≡ Some (get_or bytes k 0)
-  unfolding bytes source
   byte_is k below =
-      let xs : List (Option ℕ) = bytes_of (region_at s from.region) in
-      let short : k < length (part xs from.offset n) = omega (arith, length-part xs from.offset n inside) in
-      let there : get_or (part xs from.offset n) k None ≡ get_or xs (from.offset + k) None = get_or-take n (drop from.offset xs) k None below ∙ get_or-drop from.offset xs k None in
-      let now : get_or (map (λ (o : Option ℕ). unwrap_or o 0) (part xs from.offset n)) k 0 ≡ unwrap_or (get_or xs (from.offset + k) None) 0 =
-      get_or-map (λ (o : Option ℕ). unwrap_or o 0) (part xs from.offset n) k None 0 short ∙ ap (λ (o : Option ℕ). unwrap_or o 0) there in
-      known_byte (get_or xs (from.offset + k) None) (known k below) ∙ ap Some (sym now)
+      let now : get_or bytes k 0 ≡ unwrap_or (get_or source (from.offset + k) None) 0 = grind (arith, places, length-map, get_or-map) in
+      known_byte (get_or source (from.offset + k) None) (known k below) ∙ ap Some (sym now)
 
   part_is : map Some bytes ≡ part source from.offset n
-  unfolding source
-  part_is =
-      known-part (bytes_of (region_at s from.region)) bytes from.offset (omega (arith, len, inside)) (λ k below. byte_is k (omega (arith, len, below)))
-      ∙ ap (part (bytes_of (region_at s from.region)) from.offset) len
+  part_is = known-part source bytes from.offset (omega (arith, len)) (λ k below. byte_is k (omega (arith, len))) ∙ ap (part source from.offset) len
 
   writes : Changes s t to.region (overwritten (region_at s to.region) to.offset (map Some bytes))
-  unfolding source
-  writes = subst (λ x. Changes s t to.region (overwritten (region_at s to.region) to.offset x)) (sym part_is) changes
+  writes = rw part_is changes
 
   within : WritesInside f s t to to size bytes
-  within = record {
-    live = live;
-    region = refl;
-    first = omega arith;
-    last = omega (arith, len, fits);
-    writes = writes;
-  }
+  within = record { live = live; region = refl; first = omega arith; last = omega (arith, len); writes = writes }
 
   pub Moves-carried : Moves f f s t
   Moves-carried = Moves-inside f s t to to size bytes agrees within

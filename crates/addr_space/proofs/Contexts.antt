@@ -1,8 +1,8 @@
 -- The laws of a list of contexts that share a space.
-use Rattle.std.proofs.Common.{◌≡◌, ◌≢◌, ℕ, ◌+◌, ◌-◌, ◌^◌, ◌<◌, ◌≤◌, ◌==◌, ◌++◌, nat_lt, if◌then◌else◌, List, [], ◌∷◌, length, get_or, set, take, drop, sum_by, Some, refl, sym, ap, ◌∙◌, inl, inr, arith}
+use Rattle.std.proofs.Common.{◌≡◌, ◌≢◌, ℕ, ◌+◌, ◌^◌, ◌<◌, ◌≤◌, ◌==◌, ◌++◌, nat_lt, if◌then◌else◌, List, [], ◌∷◌, length, get_or, set, take, drop, sum_by, Some, refl, sym, ap, ◌∙◌, inl, inr, arith}
 use Rattle.std.proofs.lemmas.Bool.{cases_lt}
 use Rattle.std.proofs.lemmas.Bool.Decides.{nat_tests}
-use Rattle.std.proofs.lemmas.List.{length-append, length-take, length-drop, get_or-set_same, get_or-set_other, set-get_or, get_or_append_left, get_or-append_right, get_or-take, get_or-drop, drop_more}
+use Rattle.std.proofs.lemmas.List.{places, length-append, length-take, length-drop, get_or-set_same, get_or-set_other, set-get_or, get_or_append_left, drop_more, length-set, length_push, get_or_push, take-set, drop-set-lt}
 use Rattle.std.proofs.lemmas.List.Sums.{sum_by-cons, sum_by-append, sum_by-set, sum_by-take-drop}
 use Rattle.addr_space.specs.declared.Addr.{Addr}
 use Rattle.addr_space.specs.Space.{Region, Space, region_at, bytes_of, held, share, taken, risen, accounts, Asks, IsInside}
@@ -10,7 +10,7 @@ use Rattle.addr_space.specs.Footprint.{Footprint, Agrees, Moves, Keeps, AreDisjo
 use Rattle.addr_space.specs.Contexts.{AreAmong, IsHeldBy, without, counted_by}
 use Rattle.addr_space.proofs.Options.{option_cases, one_value}
 use Rattle.addr_space.proofs.Asked.{raised-set}
-use Rattle.addr_space.proofs.Apart.{Agrees-other, Keeps-other, AreDisjoint-other, AreDisjoint-sym, AllAgree-set}
+use Rattle.addr_space.proofs.Apart.{Keeps-other, AreDisjoint-other, AllAgree-put, AllAgree-set}
 use Rattle.addr_space.proofs.Steps.{none_counted}
 
 -- a context that has nothing is apart from each one
@@ -75,49 +75,13 @@ AllAgree-none s = record {
   disjoint = λ j k first second differ. absurd (omega (arith, first));
 }
 
-module _ (fs : List Footprint) (last : Footprint) where
-  -- the contexts of a list with one more
-  one_of : (k : ℕ) → k < length fs → context_at (fs ++ last ∷ []) k ≡ context_at fs k
-  one_of k below = get_or_append_left fs (last ∷ []) (nothing 0 0) k below
-
-  last_of : context_at (fs ++ last ∷ []) (length fs) ≡ last
-  last_of =
-      let gap : length fs - length fs ≡ 0 = omega arith in
-      get_or-append_right fs (last ∷ []) (length fs) (length fs) (nothing 0 0) refl (omega arith) ∙ ap (λ k. get_or (last ∷ []) k (nothing 0 0)) gap
-
-  one_more : length (fs ++ last ∷ []) ≡ length fs + 1
-  one_more = length-append fs (last ∷ [])
-
-  -- one that agrees and is apart from all joins
-  pub AllAgree-more : (s : Space) → Agrees last s → ((k : ℕ) → k < length fs → AreDisjoint last (context_at fs k)) → AllAgree fs s → AllAgree (fs ++ last ∷ []) s
-  AllAgree-more s agrees apart all = record {
-    agree = λ k below. elim (cases_lt k (length fs)) [
-      | inl before ↦ rw (one_of k before) (all.agree k before)
-      | inr after ↦ let same : k ≡ length fs = omega (arith, below, one_more) in rw (same, last_of) agrees
-    ];
-    disjoint = λ i j first second differ. elim (cases_lt i (length fs)) [
-      | inl before_i ↦ elim (cases_lt j (length fs)) [
-        | inl before_j ↦ rw (one_of i before_i, one_of j before_j) (all.disjoint i j before_i before_j differ)
-        | inr after_j ↦
-            let same : j ≡ length fs = omega (arith, second, one_more) in
-            rw (one_of i before_i, same, last_of) (AreDisjoint-sym last (context_at fs i) (apart i before_i))
-      ]
-      | inr after_i ↦
-          let same_i : i ≡ length fs = omega (arith, first, one_more) in
-          elim (cases_lt j (length fs)) [
-            | inl before_j ↦ rw (same_i, last_of, one_of j before_j) (apart j before_j)
-            | inr after_j ↦ let same_j : j ≡ length fs = omega (arith, second, one_more) in absurd (differ (same_i ∙ sym same_j))
-          ]
-    ];
-  }
-
 -- a context joins when it is made
 pub AllAgree-joins : (fs : List Footprint) (account context : ℕ) (g : Footprint) (s t : Space) → Moves (nothing account context) g s t → AllAgree fs s → AllAgree (fs ++ g ∷ []) t
 AllAgree-joins fs account context g s t moves all =
-    AllAgree-more fs g t moves.agrees (λ k below. AreDisjoint-fresh account context g (context_at fs k) s t moves (all.agree k below)) (record {
-      agree = λ k below. Agrees-other (nothing account context) g (context_at fs k) s t moves (AreDisjoint-nothing account context (context_at fs k)) (all.agree k below);
-      disjoint = all.disjoint;
-    })
+    AllAgree-put fs (fs ++ g ∷ []) (nothing account context) g (length fs) s t moves all (λ k below differs. AreDisjoint-nothing account context (context_at fs k)) (λ k below. elim (cases_lt k (length fs)) [
+      | inl before ↦ inr (before, omega arith, get_or_append_left fs (g ∷ []) (nothing 0 0) k before)
+      | inr after ↦ let same : k ≡ length fs = omega (arith, below, length_push fs g) in inl (same, get_or_push fs g (nothing 0 0) k (sym same))
+    ])
 
 -- the list stays where the context stays what it is
 pub AllAgree-unchanged : (fs : List Footprint) (k : ℕ) (s t : Space) → k < length fs → Moves (context_at fs k) (context_at fs k) s t → AllAgree fs s → AllAgree fs t
@@ -134,19 +98,7 @@ module _ (fs : List Footprint) (k : ℕ) (below : k < length fs) where
   length-without : length (without fs k) + 1 ≡ length fs
   length-without = simp (length-append, length-take, length-drop) (omega arith)
 
-  front : length (take k fs) ≡ k
-  front = simp length-take (omega arith)
-
   -- where the contexts that stay stood
-  before : (j : ℕ) → j < k → context_at (without fs k) j ≡ context_at fs j
-  before j short =
-      get_or_append_left (take k fs) (drop (k + 1) fs) (nothing 0 0) j (omega (arith, front)) ∙ get_or-take k fs j (nothing 0 0) short
-
-  behind : (j : ℕ) → k ≤ j → context_at (without fs k) j ≡ context_at fs (j + 1)
-  behind j from =
-      let there : k + 1 + (j - k) ≡ j + 1 = omega arith in
-      get_or-append_right (take k fs) (drop (k + 1) fs) k j (nothing 0 0) front from ∙ get_or-drop (k + 1) fs (j - k) (nothing 0 0) ∙ ap (context_at fs) there
-
   stood : ℕ → ℕ
   stood j = if nat_lt j k then j else j + 1
 
@@ -155,10 +107,7 @@ module _ (fs : List Footprint) (k : ℕ) (below : k < length fs) where
   AreAmong-without = record {
     place = stood;
     within = λ j inside. let n = length-without in grind (arith, nat_tests);
-    same = λ j inside. elim (cases_lt j k) [
-      | inl short ↦ let is : stood j ≡ j = grind (arith, nat_tests) in before j short ∙ ap (context_at fs) (sym is)
-      | inr from ↦ let is : stood j ≡ j + 1 = grind (arith, nat_tests) in behind j from ∙ ap (context_at fs) (sym is)
-    ];
+    same = λ j inside. grind (arith, nat_tests, places);
     differ = λ i j first second differ same. differ (grind (arith, nat_tests));
   }
 
@@ -173,18 +122,10 @@ module _ (fs : List Footprint) (k : ℕ) (below : k < length fs) where
 -- it leaves when it is discarded
 pub AllAgree-leaves : (fs : List Footprint) (k account context : ℕ) (s t : Space) → k < length fs → Moves (context_at fs k) (nothing account context) s t → AllAgree fs s → AllAgree (without fs k) t
 AllAgree-leaves fs k account context s t below moves all =
-    let others : (j : ℕ) → j < length fs → j ≢ k → Agrees (context_at fs j) t = λ j inside differ.
-    Agrees-other (context_at fs k) (nothing account context) (context_at fs j) s t moves (all.disjoint k j below inside (λ e. differ (sym e))) (all.agree j inside) in
-    let among = AreAmong-without fs k below in
-    let still : AllAgree (without fs k) s = AllAgree-among (without fs k) fs s among all in
-    let long = length-without fs k below in
-    record {
-      agree = λ j inside. elim (cases_lt j k) [
-        | inl short ↦ rw (before fs k below j short) (others j (omega arith) (omega arith))
-        | inr from ↦ rw (behind fs k below j from) (others (j + 1) (omega (arith, long)) (omega arith))
-      ];
-      disjoint = still.disjoint;
-    }
+    let gone : List Footprint = set fs k (nothing account context) in
+    let inside : k < length gone = rw length-set below in
+    let same : without gone k ≡ without fs k = rw (take-set, drop-set-lt (k + 1) fs k (nothing account context) (omega arith)) refl in
+    rw same at (AllAgree-among (without gone k) gone t (AreAmong-without gone k inside) (AllAgree-set fs k (nothing account context) s t below moves all))
 
 -- nothing is counted of what has nothing
 pub counted-nothing : (account context other : ℕ) → counted (nothing account context) other ≡ 0
@@ -223,12 +164,3 @@ counted-own f account same = grind (arith, nat_tests)
 pub counted-other : (f : Footprint) (account : ℕ) → f.account ≢ account → counted f account ≡ 0
 unfolding counted
 counted-other f account differs = grind (arith, nat_tests)
-
--- what the contexts of a list count, one by one
-pub counted_by-cons : (f : Footprint) (fs : List Footprint) (account : ℕ) → counted_by (f ∷ fs) account ≡ counted f account + counted_by fs account
-unfolding counted_by
-counted_by-cons f fs account = sum_by-cons (λ x. counted x account) f fs
-
-pub counted_by-nil : (account : ℕ) → counted_by [] account ≡ 0
-unfolding counted_by
-counted_by-nil account = refl

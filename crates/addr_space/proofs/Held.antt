@@ -11,25 +11,15 @@ use Rattle.addr_space.specs.declared.Account.{Account}
 use Rattle.addr_space.proofs.Asked.{raised-set}
 
 module _ {X : Type 0} (f : Option X → ℕ) (nothing : f None ≡ 0) where
-  -- lists that agree everywhere have one sum
-  sum_by-same : (xs ys : List (Option X)) → ((k : ℕ) → get_or ys k None ≡ get_or xs k None) → sum_by f ys ≡ sum_by f xs
-  sum_by-same [] [] same = refl
-  sum_by-same (x ∷ xs) [] same =
-      omega (arith, nothing, sum_by-cons f x xs, ap f (same 0), sum_by-same xs [] (λ k. same (suc k)))
-  sum_by-same [] (y ∷ ys) same =
-      omega (arith, nothing, sum_by-cons f y ys, ap f (same 0), sum_by-same [] ys (λ k. same (suc k)))
-  sum_by-same (x ∷ xs) (y ∷ ys) same =
-      omega (arith, sum_by-cons f x xs, sum_by-cons f y ys, ap f (same 0), sum_by-same xs ys (λ k. same (suc k)))
-
   -- lists that agree everywhere but at one place have sums that differ by what stands there
   pub sum_by-changed : (xs ys : List (Option X)) (n : ℕ) → ((k : ℕ) → k ≢ n → get_or ys k None ≡ get_or xs k None) → sum_by f ys + f (get_or xs n None) ≡ sum_by f xs + f (get_or ys n None)
   sum_by-changed [] [] n same = refl
   sum_by-changed (x ∷ xs) [] zero same =
-      omega (arith, nothing, sum_by-cons f x xs, sum_by-same xs [] (λ k. same (suc k) (omega arith)))
+      omega (arith, nothing, sum_by-cons f x xs, ap f (same 1 (omega arith)), sum_by-changed xs [] 0 (λ k h. same (suc k) (omega arith)))
   sum_by-changed [] (y ∷ ys) zero same =
-      omega (arith, nothing, sum_by-cons f y ys, sum_by-same [] ys (λ k. same (suc k) (omega arith)))
+      omega (arith, nothing, sum_by-cons f y ys, ap f (same 1 (omega arith)), sum_by-changed [] ys 0 (λ k h. same (suc k) (omega arith)))
   sum_by-changed (x ∷ xs) (y ∷ ys) zero same =
-      omega (arith, sum_by-cons f x xs, sum_by-cons f y ys, sum_by-same xs ys (λ k. same (suc k) (omega arith)))
+      omega (arith, sum_by-cons f x xs, sum_by-cons f y ys, ap f (same 1 (omega arith)), sum_by-changed xs ys 0 (λ k h. same (suc k) (omega arith)))
   sum_by-changed (x ∷ xs) [] (suc n) same =
       omega (arith, nothing, sum_by-cons f x xs, ap f (same 0 (omega arith)), sum_by-changed xs [] n (λ k h. same (suc k) (omega (arith, h))))
   sum_by-changed [] (y ∷ ys) (suc n) same =

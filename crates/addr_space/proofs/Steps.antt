@@ -1,50 +1,25 @@
 -- Steps of a context over a space, for the allocators.
-use Rattle.std.proofs.Common.{◌≡◌, ◌≢◌, ℕ, ◌+◌, ◌==◌, if◌then◌else◌, List, length, get_or, Option, Some, None, refl, sym, ap, ◌∙◌, inl, inr, arith, ◌<◌, Bool, true, false}
+use Rattle.std.proofs.Common.{◌≡◌, ◌≢◌, ℕ, ◌+◌, ◌==◌, if◌then◌else◌, List, length, Option, Some, None, refl, sym, ap, ◌∙◌, inl, inr, arith, ◌<◌, Bool, true, false, rules}
 use Rattle.std.proofs.lemmas.Bool.{cases_eq}
 use Rattle.addr_space.specs.declared.Addr.{Addr}
-use Rattle.addr_space.specs.Space.{Region, Space, region_at, bytes_of, byte_at, Changes, HasBytes, held, accounts}
+use Rattle.addr_space.specs.Space.{Region, Space, region_at, byte_at, Changes, HasBytes, held, accounts}
 use Rattle.addr_space.specs.Footprint.{Footprint, IsSound, Agrees, Moves, Keeps, KeepsBut, counted, nothing}
 use Rattle.addr_space.specs.Live.{SameLive, StaysLive}
 
 -- a context that has nothing agrees with each space that has its account, and counts nothing
 pub Agrees-nothing : (account context : ℕ) (s : Space) → account < accounts s → Agrees (nothing account context) s
 Agrees-nothing account context s below = record {
-  sound = record {
-    live_inside = λ at n live. absurd (cc);
-    free_inside = λ at n free. absurd (cc);
-    mark_inside = λ at bytes marked. absurd (cc);
-    live_apart = λ a b m n live other differ. absurd (cc);
-    free_apart = λ a b m n live free. absurd (cc);
-    mark_apart = λ a b m bytes live marked. absurd (cc);
-    live_behind = λ at n live. absurd (cc);
-    free_behind = λ at n free. absurd (cc);
-    small = λ number len owned. absurd (cc);
-  };
+  sound = search rules;
   account = below;
-  regions = λ number len owned. absurd (cc);
-  marks = λ at bytes marked. absurd (cc);
+  regions = search rules;
+  marks = search rules;
 }
 
 pub none_counted : (b : Bool) → ◌≡◌ {A = ℕ} (if b then 0 else 0) 0
 none_counted true = refl
 none_counted false = refl
 
--- nothing happens
-pub Moves-none : (f : Footprint) (s : Space) → Agrees f s → Moves f f s s
-Moves-none f s agrees = record {
-  agrees = agrees;
-  account = refl;
-  context = refl;
-  outside = λ number region. (λ out. out, λ out. out);
-  accounts = refl;
-  limit = refl;
-  held = λ account. refl;
-}
-
 -- a refused call leaves the context and the space as they were
-pub Moves-same : (f g : Footprint) (s t : Space) → Agrees f s → g ≡ f → t ≡ s → Moves f g s t
-Moves-same f g s t agrees same still = rw (same, still) (Moves-none f s agrees)
-
 pub Keeps-same : (f g : Footprint) (s t : Space) → t ≡ s → Keeps f g s t
 Keeps-same f g s t still at m n k live again below short = ap (λ space. byte_at space at.region (at.offset + k)) still
 
@@ -108,13 +83,54 @@ Moves-still f g s agrees sound account context total regions marks = record {
   };
   account = account;
   context = context;
-  outside = λ number region. (
-    λ out. (out.0, regions number ∙ out.1),
-    λ out. (out.0, sym (regions number) ∙ out.1),
-  );
+  outside = λ number region. rw (regions number) ((λ out. out), (λ out. out));
   accounts = refl;
   limit = refl;
   held = λ a. ap (λ n. held s a + n) (sym (ap (λ x. if x == a then g.total else 0) account ∙ ap (λ n. if f.account == a then n else 0) total));
+}
+
+-- nothing happens
+pub Moves-none : (f : Footprint) (s : Space) → Agrees f s → Moves f f s s
+Moves-none f s agrees = Moves-still f f s agrees agrees.sound refl refl refl (λ number. refl) agrees.marks
+
+-- a refused call leaves the context and the space as they were
+pub Moves-same : (f g : Footprint) (s t : Space) → Agrees f s → g ≡ f → t ≡ s → Moves f g s t
+Moves-same f g s t agrees same still = rw (same, still) (Moves-none f s agrees)
+
+-- one region changes, and what the context has of it
+pub Moves-changed : (f g : Footprint) (s t : Space) (number : ℕ) (slot : Option Region) → Agrees f s → IsSound g → g.account ≡ f.account → g.context ≡ f.context
+    → Changes s t number slot → ((other : ℕ) → other ≢ number → g.region other ≡ f.region other)
+    → ((len : ℕ) → g.region number ≡ Some len → (region : Region) × (slot ≡ Some region) × (region.account ≡ g.account) × (length region.bytes ≡ len))
+    → ((region : Region) → (region_at s number ≡ Some region) × (f.region number ≡ None) → ⊥)
+    → ((region : Region) → (slot ≡ Some region) × (g.region number ≡ None) → ⊥)
+    → ((at : Addr) (bytes : List ℕ) → g.mark at ≡ Some bytes → at.region ≡ number → HasBytes t at bytes)
+    → ((at : Addr) (bytes : List ℕ) → g.mark at ≡ Some bytes → at.region ≢ number → f.mark at ≡ Some bytes)
+    → ((account : ℕ) → held t account + counted f account ≡ held s account + counted g account)
+    → Moves f g s t
+Moves-changed f g s t number slot agrees sound account context changes others owned was now here elsewhere holds = record {
+  agrees = record {
+    sound = sound;
+    account = omega (arith, agrees.account, changes.accounts);
+    regions = λ n m owns. elim (cases_eq n number) [
+      | inl same ↦ let it = owned m (rw same at owns) in rw (same, changes.changed) it
+      | inr differs ↦
+          let has = agrees.regions n m (sym (others n differs) ∙ owns) in
+          (has.0, changes.others n differs ∙ has.1, has.2 ∙ sym account, has.3)
+    ];
+    marks = λ at bytes marked. elim (cases_eq at.region number) [
+      | inl same ↦ here at bytes marked same
+      | inr differs ↦ λ k below. rw (changes.others at.region differs) (agrees.marks at bytes (elsewhere at bytes marked differs) k below)
+    ];
+  };
+  account = account;
+  context = context;
+  outside = λ n r. elim (cases_eq n number) [
+    | inl same ↦ rw (same, changes.changed) ((λ out. absurd (was r out)), (λ out. absurd (now r out)))
+    | inr differs ↦ rw (changes.others n differs, others n differs) ((λ out. out), (λ out. out))
+  ];
+  accounts = changes.accounts;
+  limit = changes.limit;
+  held = holds;
 }
 
 -- one region that the context owns now changes: it is new, or it is written in or resized
@@ -126,45 +142,9 @@ pub Moves-one : (f g : Footprint) (s t : Space) (number len : ℕ) (region : Reg
     → ((at : Addr) (bytes : List ℕ) → g.mark at ≡ Some bytes → at.region ≢ number → f.mark at ≡ Some bytes)
     → ((account : ℕ) → held t account + counted f account ≡ held s account + counted g account)
     → Moves f g s t
-Moves-one f g s t number len region agrees sound account context changes owner length_is fresh owned others here elsewhere holds = record {
-  agrees = record {
-    sound = sound;
-    account = omega (arith, agrees.account, changes.accounts);
-    regions = λ n m owns. elim (cases_eq n number) [
-      | inl same ↦
-          let one : Some len ≡ Some m = sym owned ∙ ap g.region (sym same) ∙ owns in
-          let it : len ≡ m = cc in
-          (region, ap (region_at t) same ∙ changes.changed, owner ∙ sym account, length_is ∙ it)
-      | inr differs ↦
-          let has = agrees.regions n m (sym (others n differs) ∙ owns) in
-          (has.0, changes.others n differs ∙ has.1, has.2 ∙ sym account, has.3)
-    ];
-    marks = λ at bytes marked. elim (cases_eq at.region number) [
-      | inl same ↦ here at bytes marked same
-      | inr differs ↦ λ k below. ap (λ r. get_or (bytes_of r) (at.offset + k) None) (changes.others at.region differs) ∙ agrees.marks at bytes (elsewhere at bytes marked differs) k below
-    ];
-  };
-  account = account;
-  context = context;
-  outside = λ n r. (
-    λ out. elim (cases_eq n number) [
-      | inl same ↦
-          let none : region_at s number ≡ None = fresh (sym (ap f.region same) ∙ out.1) in
-          let some : region_at s number ≡ Some r = sym (ap (region_at s) same) ∙ out.0 in
-          absurd (cc)
-      | inr differs ↦ (changes.others n differs ∙ out.0, others n differs ∙ out.1)
-    ],
-    λ out. elim (cases_eq n number) [
-      | inl same ↦
-          let none : g.region number ≡ None = sym (ap g.region same) ∙ out.1 in
-          absurd (cc)
-      | inr differs ↦ (sym (changes.others n differs) ∙ out.0, sym (others n differs) ∙ out.1)
-    ],
-  );
-  accounts = changes.accounts;
-  limit = changes.limit;
-  held = holds;
-}
+Moves-one f g s t number len region agrees sound account context changes owner length_is fresh owned others here elsewhere holds =
+    Moves-changed f g s t number (Some region) agrees sound account context changes others (λ m owns. (region, refl, cc, cc))
+    (λ r out. let none = fresh out.1 in cc) (λ r out. cc) here elsewhere holds
 
 -- a region of the context is given back
 pub Moves-give : (f g : Footprint) (s t : Space) (number len : ℕ) → Agrees f s → IsSound g → g.account ≡ f.account → g.context ≡ f.context
@@ -172,36 +152,7 @@ pub Moves-give : (f g : Footprint) (s t : Space) (number len : ℕ) → Agrees f
     → ((at : Addr) (bytes : List ℕ) → g.mark at ≡ Some bytes → f.mark at ≡ Some bytes)
     → ((account : ℕ) → held t account + counted f account ≡ held s account + counted g account)
     → Moves f g s t
-Moves-give f g s t number len agrees sound account context changes owned gone others marks holds = record {
-  agrees = record {
-    sound = sound;
-    account = omega (arith, agrees.account, changes.accounts);
-    regions = λ n m owns. elim (cases_eq n number) [
-      | inl same ↦ let none : g.region n ≡ None = ap g.region same ∙ gone in absurd (cc)
-      | inr differs ↦
-          let has = agrees.regions n m (sym (others n differs) ∙ owns) in
-          (has.0, changes.others n differs ∙ has.1, has.2 ∙ sym account, has.3)
-    ];
-    marks = λ at bytes marked k below.
-        let differs : at.region ≢ number = λ same.
-        let within = sound.mark_inside at bytes marked in
-        let clash = sym (ap g.region same) ∙ within.1 in
-        absurd (cc) in
-        ap (λ r. get_or (bytes_of r) (at.offset + k) None) (changes.others at.region differs) ∙ agrees.marks at bytes (marks at bytes marked) k below;
-  };
-  account = account;
-  context = context;
-  outside = λ n r. (
-    λ out. elim (cases_eq n number) [
-      | inl same ↦ let clash = sym (ap f.region same) ∙ out.1 in absurd (cc)
-      | inr differs ↦ (changes.others n differs ∙ out.0, others n differs ∙ out.1)
-    ],
-    λ out. elim (cases_eq n number) [
-      | inl same ↦ let clash = sym (ap (region_at t) same) ∙ out.0 in let none = changes.changed in absurd (cc)
-      | inr differs ↦ (sym (changes.others n differs) ∙ out.0, sym (others n differs) ∙ out.1)
-    ],
-  );
-  accounts = changes.accounts;
-  limit = changes.limit;
-  held = holds;
-}
+Moves-give f g s t number len agrees sound account context changes owned gone others marks holds =
+    Moves-changed f g s t number None agrees sound account context changes others (λ m owns. absurd (cc)) (λ r out. cc) (λ r out. cc)
+    (λ at bytes marked same. let within = sound.mark_inside at bytes marked in let clash = ap g.region same in absurd (cc))
+    (λ at bytes marked differs. marks at bytes marked) holds

@@ -1,44 +1,41 @@
 -- Why a call is refused: the ledger refuses, but for want of memory.
-use Rattle.std.proofs.Common.{◌≡◌, ◌⊎◌, ◌<◌, ◌≤◌, ℕ, Option, Some, None, IfSome, Result, Ok, Err, IfErr, sym, ap, ◌∙◌, inl, inr, arith}
+use Rattle.std.proofs.Common.{◌≡◌, ◌⊎◌, ◌<◌, ◌≤◌, ℕ, IfSome, Result, Ok, Err, IfErr, ap, inl, inr, arith}
 use Rattle.std.proofs.lemmas.Bool.{cases_lt}
 use Rattle.std.proofs.lemmas.Bool.Decides.{nat_tests}
+use Rattle.addr_space.specs.declared.Addr.{Addr}
+use Rattle.addr_space.specs.Space.{Space}
 use Rattle.chunk_header.specs.declared.CtxError.{CtxError}
 use Rattle.chunk_header.specs.declared.CtxError.TheVariants.{TooBig, NoSpace, WrongSize, Unsupported, Memory}
 use Rattle.alloc_set.specs.Ledger as set
+use Rattle.alloc_set.specs.State as set_state
 use Rattle.slab_ctx.specs.Ledger as slab
+use Rattle.slab_ctx.specs.State as slab_state
 use Rattle.generation_ctx.specs.Ledger as generation
+use Rattle.generation_ctx.specs.State as generation_state
 use Rattle.bump_ctx.specs.Ledger as bump
+use Rattle.bump_ctx.specs.State as bump_state
 use Rattle.chunk_header.specs.Answers.{Taken, Resized}
-use Rattle.any_ctx.specs.Ledgers.{Ledger, Place, taken_as, resized_as}
+use Rattle.any_ctx.specs.Ledgers.{Ledger, Place, InSet, InSlab, InGeneration, InBump, taken_as, resized_as}
+use Rattle.any_ctx.specs.Contexts.{place_at}
+use Rattle.any_ctx.specs.Calls.{take_in, resize_in}
+use Rattle.any_ctx.specs.declared.any.AnyCtx.{AnyCtx}
+use Rattle.any_ctx.specs.declared.any.AnyCtx.TheVariants.{AllocSet, Slab, Generation, Bump}
+use Rattle.any_ctx.proofs.Steps.{each_some}
 
 -- too great a request
-pub take_big-set : (l : set.SetLedger) (left size : ℕ) → 1073741823 < size → set.take l left size ≡ Err TooBig
-unfolding set.take
-take_big-set l left size big = grind (arith, nat_tests, big)
+pub take_big : (a : AnyCtx) (s : Space) (size : ℕ) → 1073741823 < size → take_in a s size ≡ Err TooBig
+unfolding set.take slab.take generation.take bump.take
+take_big (AllocSet a) s size big = grind (arith, nat_tests, big)
+take_big (Slab a) s size big = grind (arith, nat_tests, big)
+take_big (Generation a) s size big = grind (arith, nat_tests, big)
+take_big (Bump a) s size big = grind (arith, nat_tests, big)
 
-pub take_big-slab : (l : slab.SlabLedger) (left size : ℕ) → 1073741823 < size → slab.take l left size ≡ Err TooBig
-unfolding slab.take
-take_big-slab l left size big = grind (arith, nat_tests, big)
-
-pub take_big-generation : (l : generation.GenerationLedger) (left size : ℕ) → 1073741823 < size → generation.take l left size ≡ Err TooBig
-unfolding generation.take
-take_big-generation l left size big = grind (arith, nat_tests, big)
-
-pub take_big-bump : (l : bump.BumpLedger) (left size : ℕ) → 1073741823 < size → bump.take l left size ≡ Err TooBig
-unfolding bump.take
-take_big-bump l left size big = grind (arith, nat_tests, big)
-
-pub resize_big-set : (l : set.SetLedger) (held limit : ℕ) (place : set.SetPlace) (size : ℕ) → 1073741823 < size → set.resize l held limit place size ≡ Err TooBig
-unfolding set.resize
-resize_big-set l held limit place size big = grind (arith, nat_tests, big)
-
-pub resize_big-slab : (l : slab.SlabLedger) (held limit place size : ℕ) → 1073741823 < size → slab.resize l held limit place size ≡ Err TooBig
-unfolding slab.resize
-resize_big-slab l held limit place size big = grind (arith, nat_tests, big)
-
-pub resize_big-generation : (l : generation.GenerationLedger) (held limit : ℕ) (place : generation.GenerationPlace) (size : ℕ) → 1073741823 < size → generation.resize l held limit place size ≡ Err TooBig
-unfolding generation.resize
-resize_big-generation l held limit place size big = grind (arith, nat_tests, big)
+pub resize_big : (a : AnyCtx) (s : Space) (at : Addr) (size : ℕ) → 1073741823 < size → IfSome (place_at a at) (λ p. resize_in a s p size ≡ Err TooBig)
+unfolding set.resize slab.resize generation.resize bump.refusal
+resize_big (AllocSet a) s at size big = each_some _ InSet (set_state.place_at a at) (λ was. grind (arith, nat_tests, big))
+resize_big (Slab a) s at size big = each_some _ InSlab (slab_state.place_at a at) (λ was. grind (arith, nat_tests, big))
+resize_big (Generation a) s at size big = each_some _ InGeneration (generation_state.place_at a at) (λ was. grind (arith, nat_tests, big))
+resize_big (Bump a) s at size big = each_some _ InBump (bump_state.place_at a at) (λ was. grind (arith, nat_tests, big))
 
 -- why a Bump gives no chunk another size
 pub refusal_cases : (size : ℕ) → ((1073741823 < size) × (bump.refusal size ≡ TooBig)) ⊎ ((size ≤ 1073741823) × (bump.refusal size ≡ Unsupported))
@@ -50,70 +47,24 @@ refusal_cases size =
     ]
 
 -- each refusal but want of memory is the ledger's
-abbrev pub Refuses : {A X : Type 0} → Result A CtxError → Result X CtxError → Type 0
-Refuses r step = IfErr r (λ e. (e ≡ Memory) ⊎ (step ≡ Err e))
-
-pub refuses : {A X : Type 0} (r : Result A CtxError) (step : Result X CtxError) → (r ≡ Err TooBig → step ≡ Err TooBig) → (r ≡ Err NoSpace → step ≡ Err NoSpace) → IfErr r (λ e. (e ≡ TooBig) ⊎ ((e ≡ NoSpace) ⊎ (e ≡ Memory))) → Refuses r step
-refuses (Ok a) step big none other = other
-refuses (Err e) step big none other = elim other [
-  | inl is ↦ inr (big (ap Err is) ∙ ap Err (sym is))
-  | inr rest ↦ elim rest [
-    | inl is ↦ inr (none (ap Err is) ∙ ap Err (sym is))
-    | inr is ↦ inl is
-  ]
-]
-
--- the same, where the ledger's step is that of a place
-abbrev pub RefusesAt : {A X P : Type 0} → Result A CtxError → Option P → (P → Result X CtxError) → Type 0
-RefusesAt r place step = IfErr r (λ e. (e ≡ Memory) ⊎ IfSome place (λ p. step p ≡ Err e))
-
-pub if_some_err : {X P : Type 0} (place : Option P) (step : P → Result X CtxError) (e f : CtxError) → e ≡ f → IfSome place (λ p. step p ≡ Err f) → IfSome place (λ p. step p ≡ Err e)
-if_some_err None step e f same holds = holds
-if_some_err (Some p) step e f same holds = holds ∙ ap Err (sym same)
-
-pub refuses_at : {A X P : Type 0} (r : Result A CtxError) (place : Option P) (step : P → Result X CtxError) → (r ≡ Err TooBig → IfSome place (λ p. step p ≡ Err TooBig)) → (r ≡ Err NoSpace → IfSome place (λ p. step p ≡ Err NoSpace)) → IfErr r (λ e. (e ≡ TooBig) ⊎ ((e ≡ NoSpace) ⊎ (e ≡ Memory))) → RefusesAt r place step
-refuses_at (Ok a) place step big none other = other
-refuses_at (Err e) place step big none other = elim other [
-  | inl is ↦ inr (if_some_err place step e TooBig is (big (ap Err is)))
-  | inr rest ↦ elim rest [
-    | inl is ↦ inr (if_some_err place step e NoSpace is (none (ap Err is)))
-    | inr is ↦ inl is
-  ]
-]
+pub refuses : {A : Type 0} (P : CtxError → Type 0) (r : Result A CtxError) → (r ≡ Err TooBig → P TooBig) → (r ≡ Err NoSpace → P NoSpace) → IfErr r (λ e. (e ≡ TooBig) ⊎ ((e ≡ NoSpace) ⊎ (e ≡ Memory))) → IfErr r (λ e. (e ≡ Memory) ⊎ P e)
+refuses P (Ok a) big none other = other
+refuses P (Err e) big none (inl is) = inr (rw is (big (ap Err is)))
+refuses P (Err e) big none (inr (inl is)) = inr (rw is (none (ap Err is)))
+refuses P (Err e) big none (inr (inr is)) = inl is
 
 -- the refusals of a Slab
-pub refuses-slab : {A X : Type 0} (r : Result A CtxError) (step : Result X CtxError) → (r ≡ Err TooBig → step ≡ Err TooBig) → (r ≡ Err WrongSize → step ≡ Err WrongSize) → (r ≡ Err NoSpace → step ≡ Err NoSpace) → IfErr r (λ e. (e ≡ TooBig) ⊎ ((e ≡ WrongSize) ⊎ ((e ≡ NoSpace) ⊎ (e ≡ Memory)))) → Refuses r step
-refuses-slab (Ok a) step big wrong none other = other
-refuses-slab (Err e) step big wrong none other = elim other [
-  | inl is ↦ inr (big (ap Err is) ∙ ap Err (sym is))
-  | inr rest ↦ elim rest [
-    | inl is ↦ inr (wrong (ap Err is) ∙ ap Err (sym is))
-    | inr more ↦ elim more [
-      | inl is ↦ inr (none (ap Err is) ∙ ap Err (sym is))
-      | inr is ↦ inl is
-    ]
-  ]
-]
+pub refuses_size : {A : Type 0} (P : CtxError → Type 0) (r : Result A CtxError) → (r ≡ Err TooBig → P TooBig) → (r ≡ Err WrongSize → P WrongSize) → (r ≡ Err NoSpace → P NoSpace) → IfErr r (λ e. (e ≡ TooBig) ⊎ ((e ≡ WrongSize) ⊎ ((e ≡ NoSpace) ⊎ (e ≡ Memory)))) → IfErr r (λ e. (e ≡ Memory) ⊎ P e)
+refuses_size P (Ok a) big wrong none other = other
+refuses_size P (Err e) big wrong none (inl is) = inr (rw is (big (ap Err is)))
+refuses_size P (Err e) big wrong none (inr (inl is)) = inr (rw is (wrong (ap Err is)))
+refuses_size P (Err e) big wrong none (inr (inr (inl is))) = inr (rw is (none (ap Err is)))
+refuses_size P (Err e) big wrong none (inr (inr (inr is))) = inl is
 
-pub refuses_at-slab : {A X P : Type 0} (r : Result A CtxError) (place : Option P) (step : P → Result X CtxError) → (r ≡ Err TooBig → IfSome place (λ p. step p ≡ Err TooBig)) → (r ≡ Err Unsupported → IfSome place (λ p. step p ≡ Err Unsupported)) → IfErr r (λ e. (e ≡ TooBig) ⊎ (e ≡ Unsupported)) → RefusesAt r place step
-refuses_at-slab (Ok a) place step big other refused = refused
-refuses_at-slab (Err e) place step big other refused = elim refused [
-  | inl is ↦ inr (if_some_err place step e TooBig is (big (ap Err is)))
-  | inr is ↦ inr (if_some_err place step e Unsupported is (other (ap Err is)))
-]
-
--- neither of two other refusals is one of these
-pub not_wrong : {A : Type 0} (r : Result A CtxError) → IfErr r (λ e. (e ≡ TooBig) ⊎ ((e ≡ NoSpace) ⊎ (e ≡ Memory))) → r ≡ Err WrongSize → ⊥
-not_wrong (Ok a) other is = cc
-not_wrong (Err e) (inl x) is = cc
-not_wrong (Err e) (inr (inl x)) is = cc
-not_wrong (Err e) (inr (inr x)) is = cc
-
-pub not_unsupported : {A : Type 0} (r : Result A CtxError) → IfErr r (λ e. (e ≡ TooBig) ⊎ ((e ≡ NoSpace) ⊎ (e ≡ Memory))) → r ≡ Err Unsupported → ⊥
-not_unsupported (Ok a) other is = cc
-not_unsupported (Err e) (inl x) is = cc
-not_unsupported (Err e) (inr (inl x)) is = cc
-not_unsupported (Err e) (inr (inr x)) is = cc
+pub refuses_resize : {A : Type 0} (P : CtxError → Type 0) (r : Result A CtxError) → (r ≡ Err TooBig → P TooBig) → (r ≡ Err Unsupported → P Unsupported) → IfErr r (λ e. (e ≡ TooBig) ⊎ (e ≡ Unsupported)) → IfErr r (λ e. (e ≡ Memory) ⊎ P e)
+refuses_resize P (Ok a) big other refused = refused
+refuses_resize P (Err e) big other (inl is) = inr (rw is (big (ap Err is)))
+refuses_resize P (Err e) big other (inr is) = inr (rw is (other (ap Err is)))
 
 -- a refusal of a ledger of any kind is that of its kind
 pub taken_err : {L P : Type 0} (ledger : L → Ledger) (place : P → Place) (r : Result (Taken L P) CtxError) (e : CtxError) → taken_as ledger place r ≡ Err e → r ≡ Err e
@@ -123,6 +74,3 @@ taken_err ledger place (Err f) e is = cc
 pub resized_err : {L P : Type 0} (ledger : L → Ledger) (place : P → Place) (r : Result (Resized L P) CtxError) (e : CtxError) → resized_as ledger place r ≡ Err e → r ≡ Err e
 resized_err ledger place (Ok t) e is = absurd (cc)
 resized_err ledger place (Err f) e is = cc
-
-pub one_error : {A : Type 0} (r : Result A CtxError) (e f : CtxError) → r ≡ Err e → r ≡ Err f → e ≡ f
-one_error r e f is there = let both : Err e ≡ Err f = sym is ∙ there in cc

@@ -1,4 +1,3 @@
 -- Lemmas for this crate, and for its callers.
 pub mod Bytes
 pub mod Cells
-pub mod Kept

@@ -82,7 +82,11 @@ impl RawBlock {
     pub fn renewed(self) -> RawBlock
         ensures { result ≡ replicate (length self) None }
     {
-        let RawBlock { cells, len, known: _ } = self;
+        let RawBlock {
+            cells,
+            len,
+            known: _,
+        } = self;
         RawBlock {
             cells,
             len,

@@ -1,8 +1,12 @@
-use Rattle.std.proofs.Common.{◌∙◌, ap, map, replicate, ◌≡◌, rules}
-use Rattle.addr_space.proofs.Bytes.{map-replicate}
+use Rattle.std.proofs.Common.{◌∙◌, ap, map, replicate, ◌≡◌, ℕ, zero, suc, ◌∷◌, refl, rules}
 use Rattle.addr_space.specs.declared.Account.{Account}
 use Rattle.addr_space.specs.Sound.{no_account}
 use Rattle.addr_space.proofs.Space.new.Goals as goal
+
+-- a function of each of many equal things
+map-replicate : {A B : Type 0} (f : A → B) (n : ℕ) (x : A) → map f (replicate n x) ≡ replicate n (f x)
+map-replicate f zero x = refl
+map-replicate f (suc n) x = ap (λ xs. f x ∷ xs) (map-replicate f n x)
 
 pub returns-clause-taken : goal.returns-clause-taken
 returns-clause-taken c =

@@ -1,4 +1,9 @@
-use Rattle.std.proofs.Common.{◌≡◌, ◌≢◌, ℕ, Result, Ok, Err, refl, sym, subst}
+use Rattle.std.proofs.Common.{◌≡◌, ◌≢◌, ℕ, Result, Ok, Err, Some, refl, sym, subst, arith}
+use Rattle.std.proofs.lemmas.Bool.Decides.{nat_tests}
+use Rattle.addr_space.specs.declared.Addr.{Addr}
+use Rattle.addr_space.specs.Space.{Space}
+use Rattle.addr_space.specs.Footprint.{Footprint, Agrees}
+use Rattle.chunk_header.specs.Header.{IsHeaded, IsMarked}
 use Rattle.chunk_header.specs.Answers.{Taken}
 use Rattle.chunk_header.specs.declared.CtxError.{CtxError}
 use Rattle.any_ctx.specs.Ledgers.{Ledger, OfSet, OfSlab, OfGeneration, OfBump, Place, taken_as, take, IsBump}
@@ -6,7 +11,7 @@ use Rattle.any_ctx.specs.Kinds.{created}
 use Rattle.any_ctx.specs.Contexts.{footprint, ledger}
 use Rattle.any_ctx.specs.declared.any.CtxKind.{CtxKind}
 use Rattle.any_ctx.specs.declared.any.CtxKind.TheVariants.{Default, Small, Error, Abort, Slab, Generation, Bump}
-use Rattle.any_ctx.proofs.Taken.{live-taken}
+use Rattle.any_ctx.proofs.tests.told.Goals.{After-headed}
 use Rattle.any_ctx.proofs.tests.told.Goals as goal
 
 -- a ledger stays one of its kind
@@ -35,14 +40,16 @@ headed-requires c = λ bump.
     let before = same_bump (ledger c.in_ok-context.context) _ c.args.size had.answer had.is (subst IsBump had.ledger bump) in
     not_bump c.args.kind c.requires.marked (subst IsBump c.in_ok-context.ensures.ledger before)
 
-pub owner_of-requires : goal.owner_of-requires
-owner_of-requires c =
+-- the chunk that was taken is marked
+is_marked : (c : After-headed) → (marked : (f : Footprint) (s : Space) (at : Addr) → Agrees f s → IsHeaded f at → IsMarked s at f.context) → (context : ℕ) × IsMarked c.alloc.new.space c.in_ok-at.at context
+is_marked c marked =
     let g = footprint c.alloc.new.self in
-    let live = live-taken (footprint c.in_ok-context.context) g c.in_ok-at.at c.args.size c.in_ok-at.ensures.live in
-    (g.context, c.marked.ensures g c.alloc.new.space c.in_ok-at.at c.in_ok-at.ensures.moves.agrees (c.headed.ensures.headed c.in_ok-at.at c.args.size live))
+    let puts = c.in_ok-at.ensures.live c.in_ok-at.at in
+    let live : g.live c.in_ok-at.at ≡ Some c.args.size = grind (arith, nat_tests) in
+    (g.context, marked g c.alloc.new.space c.in_ok-at.at c.in_ok-at.ensures.moves.agrees (c.headed.ensures.headed c.in_ok-at.at c.args.size live))
+
+pub owner_of-requires : goal.owner_of-requires
+owner_of-requires c = is_marked (goal.at.owner_of-requires c).After-headed c.marked.ensures
 
 pub chunk_space-requires : goal.chunk_space-requires
-chunk_space-requires c =
-    let g = footprint c.alloc.new.self in
-    let live = live-taken (footprint c.in_ok-context.context) g c.in_ok-at.at c.args.size c.in_ok-at.ensures.live in
-    (g.context, c.marked.ensures g c.alloc.new.space c.in_ok-at.at c.in_ok-at.ensures.moves.agrees (c.headed.ensures.headed c.in_ok-at.at c.args.size live))
+chunk_space-requires c = is_marked (goal.at.chunk_space-requires c).After-headed c.marked.ensures
