@@ -1,6 +1,6 @@
 //! The commands of a script.
-use crate::kinds::{ContextKind, ReferenceClass};
 use crate::hex_bytes::HexBytes;
+use crate::kinds::{ContextKind, ReferenceClass};
 use pgs_step::{Mode, Name};
 
 /// What a line of a script asks for.

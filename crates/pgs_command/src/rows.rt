@@ -8,9 +8,9 @@ ghost use Rattle.pgs_command.specs.Values.{name_of, number_of, bytes_of, length_
 ghost use Rattle.pgs_command.specs.declared.commands.Command.TheVariants.{Rollback, RollbackTo, Put, Show, Portal};
 
 use crate::commands::Command;
+use crate::hex_bytes::HexBytes;
 use crate::kinds::ContextKind;
 use crate::picks::by_word;
-use crate::hex_bytes::HexBytes;
 use crate::values::{read_number, read_plain_kind};
 use crate::words::{Words, split_word};
 
