@@ -7,8 +7,8 @@ ghost use Rattle.alloc_set.specs.declared.chunk.Chunk.{Chunk};
 ghost use Rattle.addr_space.specs.Footprint.{Agrees, Moves, Keeps, nothing};
 ghost use Rattle.alloc_set.specs.Ledger.{Class, Own as OwnPlace, class_bytes, class_size, cut_off, with_free, stats, with_own, cut_rest, cut_up, halved, block_size, reused, created, take_class, class_of, take_own, own_size, take};
 ghost use Rattle.chunk_header.specs.Growth.{grown};
-ghost use Rattle.addr_space.specs.Live.{PutsAt};
-ghost use Rattle.alloc_set.specs.Kept.{new_books};
+ghost use Rattle.addr_space.specs.Live.{PutsAt, PutsLive, SameLive};
+ghost use Rattle.alloc_set.specs.Kept.{new_books, state_of, taken_bytes, IsSettled, IsShelved, IsCounted, IsKept};
 ghost use Rattle.alloc_set.specs.Listed.{IsUnique};
 ghost use Rattle.alloc_set.specs.State.{start_of, chunk_at, place_at, region_of, mark_of, footprint};
 ghost use Rattle.addr_space.specs.Space.{Space, held, accounts, Asks};
@@ -84,9 +84,7 @@ pub const MOST: u64 = 1 << 56;
 const LARGE: u32 = 1_048_576;
 
 impl Books {
-    ghost use Rattle.alloc_set.specs.Kept.{state_of, taken_bytes, IsSettled, IsShelved, IsCounted, IsKept};
     ghost use Rattle.alloc_set.specs.Steps.{PutsChunk};
-    ghost use Rattle.addr_space.specs.Live.{PutsLive, SameLive};
     ghost use Rattle.alloc_set.specs.Live.{LeavesLive};
     ghost use Rattle.alloc_set.specs.Cut.{CutsUp, Renews, Allocates};
 
@@ -123,8 +121,7 @@ impl Books {
         }
     }
 
-    // The books of a new context, whose keeper was taken. Room for them is made first, since a block that was taken
-    // can't be given back without a trace.
+    // The books of a new context, whose keeper was taken. Room for them comes first: a block that was taken leaves a trace.
     pub fn create(
         alloc: Global,
         space: &mut Space,

@@ -5,7 +5,7 @@ ghost use Rattle.addr_space.specs.declared.Addr.{Addr};
 ghost use Rattle.alloc_set.specs.declared.chunk.Chunk.{Chunk};
 ghost use Rattle.addr_space.specs.Footprint.{Agrees, Moves, Keeps, nothing};
 ghost use Rattle.alloc_set.specs.Ledger.{without_own, give};
-ghost use Rattle.addr_space.specs.Live.{PutsAt};
+ghost use Rattle.addr_space.specs.Live.{PutsAt, PutsLive, SameLive};
 ghost use Rattle.alloc_set.specs.State.{chunk_at, place_at, region_of, emptied, footprint};
 ghost use Rattle.addr_space.specs.Space.{Space};
 
@@ -27,7 +27,6 @@ fn strike(blocks: &mut IndexMap<u32, u32>, number: u32)
 
 impl Books {
     ghost use Rattle.alloc_set.specs.Kept.{state_of, taken_bytes, IsCleared, IsKept};
-    ghost use Rattle.addr_space.specs.Live.{PutsLive, SameLive};
     ghost use Rattle.alloc_set.specs.Steps.{PutsChunk};
 
     // The class of a live chunk, as its header says, or nothing where it has its block for itself.

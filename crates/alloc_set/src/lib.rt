@@ -3,7 +3,7 @@
 
 ghost use Rattle.std.specs.Prelude.{◌≡◌, ◌≢◌, ℕ, ◌+◌, ◌-◌, ◌%◌, ◌^◌, ◌<◌, ◌≤◌, ◌↔◌, ◌⊎◌, Ok, Err, None, Some, IfOk, IfErr, OnOk, OnErr, IsSome, IfSome, min, ◌==◌, if◌then◌else◌};
 ghost use Rattle.addr_space.specs.declared.Addr.{Addr};
-ghost use Rattle.alloc_set.specs.Ledger.{stats};
+ghost use Rattle.alloc_set.specs.Ledger.{SetPlace, created, take, give, reset, chunk_bytes, stats};
 
 mod books;
 mod chunk;
@@ -45,7 +45,6 @@ impl AllocSet {
     ghost use Rattle.addr_space.specs.Live.{PutsAt, PutsLive, MovesLive, HasBytesOf};
     ghost use Rattle.chunk_header.specs.Header.{AllHeaded, AllOfKind, TakesSpace};
     ghost use Rattle.alloc_set.specs.State.{place_at, footprint};
-    ghost use Rattle.alloc_set.specs.Ledger.{SetPlace, created, take, give, reset, chunk_bytes};
     ghost use Rattle.alloc_set.specs.Calls.{Takes, Resizes, resize_in};
 
     /// A context with one block, for an account of the space: `AllocSetContextCreate` of PostgreSQL's aset.c.
@@ -195,8 +194,7 @@ impl AllocSet {
         self.books.realloc(space, at, keep, size)
     }
 
-    /// Frees all chunks: `AllocSetReset`. All blocks but the first go back to the space, and the ledger is that of
-    /// a new context. It takes no memory.
+    /// Frees all chunks: `AllocSetReset`. All blocks but the first go back, as in a new context. It takes no memory.
     pub fn reset(&mut self, space: &mut Space)
         requires agrees { Agrees (footprint self.old) space.old }
         ensures ledger { self.new.ledger ≡ reset self.old.ledger }
@@ -208,8 +206,7 @@ impl AllocSet {
         self.books.reset(space);
     }
 
-    /// Frees all chunks, and gives all blocks, the first too, back to the space: `AllocSetDelete`. It takes no
-    /// memory.
+    /// Frees all chunks, and gives all blocks, the first too, back: `AllocSetDelete`. It takes no memory.
     pub fn discard(self, space: &mut Space)
         requires agrees { Agrees (footprint self) space.old }
         ensures moves { Moves (footprint self) (nothing self.account self.context) space.old space.new }
