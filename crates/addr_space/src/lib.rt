@@ -121,6 +121,9 @@ const SPARE: usize = 8192;
 ///
 /// Regions never overlap. The number of a region may be used again once the region was given back. An account stands
 /// for a session: what it holds is the sum of `mem_allocated` of its memory contexts.
+///
+/// The memory of up to 100 regions of 8,192 bytes that were given back is kept for the next ones of that size. It counts
+/// for no account.
 #[derive(Drop)]
 pub struct Space {
     alloc: Global,
