@@ -29,6 +29,20 @@ fn a_region_grows_and_goes(rt: HostRuntime) -> Result<(), Fail> {
 }
 
 #[test]
+fn the_memory_of_a_region_serves_again(rt: HostRuntime) -> Result<(), Fail> {
+    let mut space = Space::new(rt.alloc(), 2, 8192)?;
+    let first = space.take(0, 8192)?;
+    space.write(first, &[7, 9]);
+    space.give(first);
+    let again = space.take(1, 8192)?;
+    space.write(again, &[5]);
+    assert_eq!(rt; space.held(0), 0);
+    assert_eq!(rt; space.held(1), 8192);
+    assert_eq!(rt; space.taken(0), 8192);
+    Ok(())
+}
+
+#[test]
 fn bytes_are_copied(rt: HostRuntime) -> Result<(), Fail> {
     let mut space = Space::new(rt.alloc(), 1, 2000)?;
     let at = space.take(0, 8)?;
