@@ -12,11 +12,11 @@ use Rattle.ctx_blocks.specs.Steps.{SameContext}
 use Rattle.ctx_blocks.specs.declared.parts.Block.{Block}
 use Rattle.addr_space.proofs.Options.{option_cases}
 use Rattle.chunk_header.proofs.Words.{length-block_bytes}
+use Rattle.chunk_header.proofs.Wrote.{Moves-taken}
 use Rattle.ctx_blocks.proofs.Laid.{mark_cases, region_is, behind, IsSound-laid}
 use Rattle.ctx_blocks.proofs.Counts.{none_placed}
 use Rattle.ctx_blocks.proofs.Totals.{keeper_owned}
 use Rattle.ctx_blocks.proofs.Put.{block_was, IsCounted-put}
-use Rattle.ctx_blocks.proofs.Taken.{Moves-taken}
 use Rattle.ctx_blocks.proofs.Lessened.{start_same, placed_same, mark_same}
 
 -- a region that is not live is no block of the context
@@ -65,12 +65,12 @@ module _ (l m : Layout) (number k size : ℕ) (laid : IsLaid l) (same : SameCont
 
   -- the marks are the old ones and that of the block
   marks_added : (b : Addr) (bytes : List ℕ) → mark_of m b ≡ Some bytes
-      → ((b ≡ record { region = number; offset = 0 }) × (bytes ≡ block_bytes l.context size)) ⊎ ((b.region ≢ number) × (mark_of l b ≡ Some bytes))
+      → ((b ≡ record { region = number; offset = 0 }) × (block_bytes l.context size ≡ bytes)) ⊎ ((b.region ≢ number) × (mark_of l b ≡ Some bytes))
   marks_added b bytes marked =
       elim (cases_eq b.region number) [
         | inl here ↦ elim (mark_cases m b bytes marked) [
           | inl it ↦ elim (block_was l m number (empty_block k size) blocks b.region it.0 it.2) [
-            | inl new ↦ inl (same_addr_from b (record { region = number; offset = 0 }) here (it.1 ∙ rw here number_start), sym it.4 ∙ rw (new.1, same.context) refl)
+            | inl new ↦ inl (same_addr_from b (record { region = number; offset = 0 }) here (it.1 ∙ rw here number_start), rw (new.1, same.context) at it.4)
             | inr old ↦ absurd (old.0 here)
           ]
           | inr other ↦
@@ -86,5 +86,5 @@ module _ (l m : Layout) (number k size : ℕ) (laid : IsLaid l) (same : SameCont
       → Changes mp tp number (overwritten (region_at mp number) 0 (map Some (block_bytes l.context size))) → Moves (footprint l) (footprint m) sp tp
   Moves-added totals sp mp tp agrees free took holds wrote =
       let now : block_at m number ≡ Some (empty_block k size) = grind (arith, blocks number) in
-      Moves-taken (footprint l) (footprint m) sp mp tp number size 0 (block_bytes l.context size) agrees (IsSound-laid m IsLaid-added) same.account same.context totals
-      free took holds (omega (arith, length-block_bytes l.context size)) wrote (region_is m number (empty_block k size) now) (λ other differs. rw (others_now other differs) refl) marks_added
+      Moves-taken (footprint l) (footprint m) sp mp tp (record { region = number; offset = 0 }) size (block_bytes l.context size) agrees free took wrote (omega (arith, length-block_bytes l.context size)) holds
+      (IsSound-laid m IsLaid-added) same.account same.context totals (region_is m number (empty_block k size) now) (λ other differs. rw (others_now other differs) refl) marks_added

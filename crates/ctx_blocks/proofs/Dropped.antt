@@ -8,18 +8,13 @@ use Rattle.ctx_blocks.specs.Layout.{Layout, block_at, chunk_at, total, footprint
 use Rattle.ctx_blocks.specs.Kept.{IsLaid, IsCounted}
 use Rattle.ctx_blocks.specs.Steps.{SameContext}
 use Rattle.ctx_blocks.specs.declared.parts.Block.{Block}
-use Rattle.ctx_blocks.proofs.Laid.{region_is, from_live}
-use Rattle.ctx_blocks.proofs.Lessened.{Lessens, Moves-given}
+use Rattle.chunk_header.proofs.Wrote.{Moves-gone, Keeps-give}
+use Rattle.ctx_blocks.proofs.Laid.{region_is, IsSound-laid}
+use Rattle.ctx_blocks.proofs.Lessened.{Lessens, IsLaid-lessened, mark-lessened}
 
 -- a block's region is live in the space, and counts for the account
 pub IsRegion-owned : (l : Layout) (s : Space) (number : ℕ) (block : Block) → Agrees (footprint l) s → block_at l number ≡ Some block → IsRegion s (record { region = number; offset = 0 })
 IsRegion-owned l s number block agrees owned = record { live = rw (agrees.regions number block.size (region_is l number block owned)).1 refl; start = refl }
-
-share-owned : (l : Layout) (s : Space) (number : ℕ) (block : Block) → Agrees (footprint l) s → block_at l number ≡ Some block → (account : ℕ) → share account (region_at s number) ≡ (if l.account == account then block.size else 0)
-unfolding share
-share-owned l s number block agrees owned account =
-    let target = agrees.regions number block.size (region_is l number block owned) in
-    rw (target.1, target.2, target.3) refl
 
 module _ (l m : Layout) (laid : IsLaid l) (same : SameContext l m) (chunks : m.chunks ≡ l.chunks) (number : ℕ) (old : Block) (owned : block_at l number ≡ Some old) (empty : (at : Addr) → at.region ≡ number → chunk_at l at ≡ None)
     (blocks : (other : ℕ) → block_at m other ≡ (if number == other then None else block_at l other)) where
@@ -41,19 +36,19 @@ module _ (l m : Layout) (laid : IsLaid l) (same : SameContext l m) (chunks : m.c
         (placed.block, placed.block, placed.owned, others_now at.region differs ∙ placed.owned, omega arith);
   }
 
+  gone : (footprint m).region number ≡ None
+  gone = rw (blocks number) (grind arith)
+
   pub IsCounted-dropped : IsCounted l → IsCounted m
   IsCounted-dropped counted other b has = rw chunks (counted other b (was_there other b has))
 
   pub Moves-dropped : (s t : Space) → Agrees (footprint l) s → total m + old.size ≡ total l → Changes s t number None → ((account : ℕ) → held t account + share account (region_at s number) ≡ held s account) → Moves (footprint l) (footprint m) s t
   Moves-dropped s t agrees totals changes holds =
-      Moves-given l m laid Lessens-dropped s t number old agrees changes owned (grind (arith, blocks number)) others_now totals
-      (λ account. omega (arith, holds account, share-owned l s number old agrees owned account))
+      Moves-gone (footprint l) (footprint m) s t number old.size agrees (IsSound-laid m (IsLaid-lessened l m laid Lessens-dropped)) same.account same.context totals changes (region_is l number old owned) gone
+      (λ other differs. rw (others_now other differs) refl) (mark-lessened l m laid Lessens-dropped) holds
 
   pub Keeps-dropped : (s t : Space) → Changes s t number None → Keeps (footprint l) (footprint m) s t
-  Keeps-dropped s t changes b p n k live again below short =
-      let it = from_live l b p live in
-      let differs : b.region ≢ number = λ e. let none = empty b e in let some = it.1 in absurd (cc) in
-      rw (changes.others b.region differs) refl
+  Keeps-dropped s t changes = Keeps-give (footprint l) (footprint m) s t number (IsSound-laid m (IsLaid-lessened l m laid Lessens-dropped)) gone changes
 
 -- the last entry is found where none before it is
 pub lookup-last : {X : Type 0} (test : ℕ → Bool) (es : List (ℕ × X)) (k : ℕ) (x : X) → lookup test es ≡ None → test k ≡ true → lookup test (es ++ (k, x) ∷ []) ≡ Some x

@@ -1,12 +1,11 @@
 -- Lemmas on a chunk that is noted in a block.
-use Rattle.std.proofs.Common.{◌≡◌, ℕ, ◌+◌, ◌-◌, ◌<◌, ◌≤◌, ◌⊎◌, ◌==◌, if◌then◌else◌, List, length, Some, None, refl, sym, ap, ◌∙◌, arith, inl, inr, map}
+use Rattle.std.proofs.Common.{◌≡◌, ℕ, ◌+◌, ◌-◌, ◌≤◌, ◌⊎◌, ◌==◌, if◌then◌else◌, List, length, Some, None, refl, sym, ap, ◌∙◌, arith, inl, inr, map}
 use Rattle.std.proofs.lemmas.Bool.{cases_eq}
 use Rattle.addr_space.specs.declared.Addr.{Addr}
-use Rattle.addr_space.specs.Space.{Space, region_at, byte_at, bytes_of, overwritten, Changes}
-use Rattle.addr_space.specs.Footprint.{Agrees, Moves, Keeps, HasRegion, counted}
+use Rattle.addr_space.specs.Space.{Space, region_at, bytes_of, overwritten, Changes}
+use Rattle.addr_space.specs.Footprint.{Agrees, Moves, Keeps}
 use Rattle.addr_space.proofs.Addresses.{same_addr_from, same_addr-cases}
-use Rattle.addr_space.proofs.Written.{HasRegion-written, byte_at-apart, HasBytes-written, held-written}
-use Rattle.addr_space.proofs.Steps.{Moves-one, Moves-still}
+use Rattle.addr_space.proofs.Steps.{Moves-still}
 use Rattle.chunk_header.specs.Header.{header_bytes}
 use Rattle.ctx_blocks.specs.Layout.{Layout, block_at, chunk_at, start_of, header_room, header_of, total, count_in, mark_of, footprint}
 use Rattle.ctx_blocks.specs.Kept.{IsLaid, IsPlaced, IsCounted}
@@ -16,6 +15,7 @@ use Rattle.ctx_blocks.specs.declared.parts.Block.{Block}
 use Rattle.ctx_blocks.specs.declared.parts.Chunk.{Chunk}
 use Rattle.addr_space.proofs.Options.{option_cases, one_value}
 use Rattle.chunk_header.proofs.Words.{length-header_bytes}
+use Rattle.chunk_header.proofs.Wrote.{Moves-written, Keeps-written}
 use Rattle.ctx_blocks.proofs.Laid.{mark_cases, mark_within, from_live, region_is, behind, IsSound-laid}
 use Rattle.ctx_blocks.proofs.Counts.{one_in}
 use Rattle.ctx_blocks.proofs.Put.{block_was, chunk_was, IsCounted-put, regions-put, sizes-put}
@@ -152,63 +152,35 @@ module _ (l m : Layout) (at : Addr) (chunk : Chunk) (block : Block) (laid : IsLa
       abbrev word : List ℕ
       word = header_bytes (header_of l.kind chunk (at.offset - 8 - start_of l at.region))
 
-      target : HasRegion sp at.region l.account holds.old.size
-      target = agrees.regions at.region holds.old.size (region_is l at.region holds.old holds.owned)
-
       len : length word ≡ 8
       len = length-header_bytes (header_of l.kind chunk (at.offset - 8 - start_of l at.region))
 
-      fits : place.offset + length word ≤ length target.0.bytes
-      fits = omega (arith, target.3, len, holds.first, holds.last, holds.size, gap)
+      owned : (footprint l).region at.region ≡ Some holds.old.size
+      owned = region_is l at.region holds.old holds.owned
 
-      -- what stands before the header or behind it is as it was
-      bytes_same : (number k : ℕ) → (number ≡ at.region → (k + 8 < at.offset) ⊎ (at.offset ≤ k)) → byte_at tp number k ≡ byte_at sp number k
-      bytes_same number k apart =
-          byte_at-apart sp tp place word target.0 target.1 fits writes number k
-          (λ e. elim (apart e) [
-            | inl before ↦ inl (omega arith)
-            | inr after ↦ inr (omega (arith, len, holds.first, gap))
-          ])
-
-      -- an old mark isn't where the header is
-      mark_clear : (b : Addr) (bytes : List ℕ) → mark_of l b ≡ Some bytes → b.region ≡ at.region → (b.offset + 16 ≤ at.offset) ⊎ (at.offset ≤ b.offset)
-      mark_clear b bytes marked region =
-          elim (mark_cases l b bytes marked) [
-            | inl it ↦ inl (omega (arith, it.1, ap (start_of l) region, holds.first, gap))
-            | inr other ↦ elim (holds.clear (behind b) other.0 other.2 region) [
-              | inl before ↦ inl (omega (arith, before, gap))
-              | inr after ↦ inr (omega (arith, after, gap))
-            ]
-          ]
+      fits : place.offset + length word ≤ holds.old.size
+      fits = omega (arith, len, holds.first, holds.last, holds.size, gap)
 
       pub Moves-held : Moves (footprint l) (footprint m) sp tp
-      unfolding counted
       Moves-held =
-          let there = HasRegion-written sp tp place word target.0 target.1 fits writes at.region l.account holds.old.size target in
-          let owned = region_is l at.region holds.old holds.owned in
-          Moves-one (footprint l) (footprint m) sp tp at.region holds.old.size there.0 agrees (IsSound-laid m IsLaid-held) same.account same.context
-          (record { changed = there.1; others = writes.others; limit = writes.limit; accounts = writes.accounts })
-          there.2 there.3 (λ none. absurd (cc)) (regions_held at.region ∙ owned) (λ other differs. regions_held other)
-          (λ b bytes marked region. elim (marks_now b bytes marked) [
-            | inl new ↦ rw (new.1, new.2) (HasBytes-written sp tp place word target.0 target.1 fits writes)
-            | inr old ↦ λ k below.
-                (let eight = (mark_within l laid b bytes old).3 in
-                bytes_same b.region (b.offset + k) (λ e. elim (mark_clear b bytes old region) [
-                  | inl before ↦ inl (omega arith)
-                  | inr after ↦ inr (omega arith)
-                ]) ∙ agrees.marks b bytes old k below)
+          Moves-written (footprint l) (footprint m) sp tp place holds.old.size word agrees owned fits writes (IsSound-laid m IsLaid-held) same.account same.context totals regions_held
+          (λ b bytes marked. elim (marks_now b bytes marked) [
+            | inl new ↦ inl (new.1, sym new.2)
+            | inr old ↦ inr (
+              old,
+              λ region.
+                  let eight = (mark_within l laid b bytes old).3 in
+                  elim (mark_cases l b bytes old) [
+                    | inl it ↦ inl (omega (arith, it.1, ap (start_of l) region, holds.first, gap, eight))
+                    | inr other ↦ grind (arith, holds.clear (behind b) other.0 other.2 region, holds.first, gap, len, eight)
+                  ],
+            )
           ])
-          (λ b bytes marked differs. elim (marks_now b bytes marked) [
-            | inl new ↦ absurd (differs (rw new.1 refl))
-            | inr old ↦ old
-          ])
-          (λ account. let one = same.account in grind (arith, held-written sp tp place word target.0 target.1 fits writes account, totals))
 
+      -- the chunks are apart from it
       pub Keeps-held : Keeps (footprint l) (footprint m) sp tp
-      Keeps-held b p n k live again below short =
+      Keeps-held =
+          Keeps-written (footprint l) (footprint m) sp tp place holds.old.size word agrees owned fits writes
+          (λ b p n live again region.
           let it = from_live l b p live in
-          let fits = (laid.placed b it.0 it.1).sized.fits in
-          bytes_same b.region (b.offset + k) (λ e. elim (holds.clear b it.0 it.1 e) [
-            | inl before ↦ inl (omega (arith, before, gap, fits, it.2, below))
-            | inr after ↦ inr (omega (arith, after))
-          ])
+          grind (arith, holds.clear b it.0 it.1 region, (laid.placed b it.0 it.1).sized.fits, it.2, holds.first, gap, len))

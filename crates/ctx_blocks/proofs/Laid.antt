@@ -1,18 +1,17 @@
 -- Lemmas on where blocks and chunks are.
-use Rattle.std.proofs.Common.{◌≡◌, ◌≢◌, ℕ, ◌+◌, ◌-◌, ◌≤◌, ◌⊎◌, ◌==◌, if◌then◌else◌, List, length, Option, Some, None, refl, sym, ap, ◌∙◌, arith, inl, inr, option_map}
+use Rattle.std.proofs.Common.{◌≡◌, ◌≢◌, ℕ, ◌+◌, ◌-◌, ◌≤◌, ◌⊎◌, List, length, Option, Some, None, refl, sym, ap, ◌∙◌, arith, inl, inr, option_map}
 use Rattle.std.proofs.lemmas.Bool.{cases_eq, cases_lt}
 use Rattle.addr_space.specs.declared.Addr.{Addr}
 use Rattle.addr_space.specs.Footprint.{IsSound}
 use Rattle.chunk_header.specs.declared.Kind.{Kind}
-use Rattle.chunk_header.specs.declared.Kind.TheVariants.{AllocSet, Slab, Generation, Bump, Aligned}
+use Rattle.chunk_header.specs.declared.Kind.TheVariants.{Bump}
 use Rattle.chunk_header.specs.Header.{header_bytes, block_bytes}
 use Rattle.ctx_blocks.specs.Layout.{Layout, block_at, chunk_at, start_of, gap_of, header_room, header_of, chunk_word, block_word, mark_of, front_of, footprint}
 use Rattle.ctx_blocks.specs.Kept.{IsLaid, IsClear}
-use Rattle.ctx_blocks.specs.Steps.{PutsChunk}
 use Rattle.ctx_blocks.specs.declared.parts.Block.{Block}
 use Rattle.ctx_blocks.specs.declared.parts.Chunk.{Chunk}
 use Rattle.addr_space.proofs.Options.{from_then, from_map}
-use Rattle.addr_space.proofs.Addresses.{same_addr_from, put_at-cases}
+use Rattle.addr_space.proofs.Addresses.{same_addr_from}
 use Rattle.chunk_header.proofs.Words.{length-header_bytes, length-block_bytes}
 
 -- the length of a region of the context
@@ -36,19 +35,13 @@ from_live l at size live = from_map (λ (c : Chunk). c.size) (chunk_at l at) siz
 
 -- a kind has headers of 8 bytes, or none
 pub gap_cases : (kind : Kind) → (gap_of kind ≡ 0) ⊎ (gap_of kind ≡ 8)
-gap_cases AllocSet = inr refl
-gap_cases Slab = inr refl
-gap_cases Generation = inr refl
 gap_cases Bump = inl refl
-gap_cases Aligned = inr refl
+gap_cases kind = inr refl
 
 -- and a chunk has one where it has 8 bytes
 has_word : (kind : Kind) (chunk : Chunk) (dist : ℕ) → (chunk_word kind chunk dist ≡ None) ⊎ ((gap_of kind ≡ 8) × (chunk_word kind chunk dist ≡ Some (header_bytes (header_of kind chunk dist))))
-has_word AllocSet chunk dist = inr (refl, refl)
-has_word Slab chunk dist = inr (refl, refl)
-has_word Generation chunk dist = inr (refl, refl)
 has_word Bump chunk dist = inl refl
-has_word Aligned chunk dist = inr (refl, refl)
+has_word kind chunk dist = inr (refl, refl)
 
 word_cases : (kind : Kind) (chunk : Chunk) (dist : ℕ) (bytes : List ℕ) → chunk_word kind chunk dist ≡ Some bytes → (gap_of kind ≡ 8) × (header_bytes (header_of kind chunk dist) ≡ bytes)
 word_cases kind chunk dist bytes e = elim (has_word kind chunk dist) [
@@ -93,10 +86,6 @@ pub mark_from_chunk : (l : Layout) (at : Addr) (chunk : Chunk) → at.offset ≢
 unfolding mark_of
 mark_from_chunk l at chunk differs found gap = grind (arith, word_is l.kind chunk (at.offset - start_of l at.region) gap)
 
--- what stands at an address after one chunk was put
-pub put_cases : (l m : Layout) (at : Addr) (chunk : Option Chunk) → PutsChunk l m at chunk → (other : Addr) → ((other ≡ at) × (chunk_at m other ≡ chunk)) ⊎ ((other ≢ at) × (chunk_at m other ≡ chunk_at l other))
-put_cases l m at chunk puts other = put_at-cases (chunk_at l) (chunk_at m) at chunk puts other
-
 module _ (l : Layout) (laid : IsLaid l) where
   -- chunks at two addresses have place for a header between them
   pub chunks_clear : (a b : Addr) (first second : Chunk) → chunk_at l a ≡ Some first → chunk_at l b ≡ Some second → a ≢ b → IsClear (header_room l) a first b second
@@ -109,22 +98,6 @@ module _ (l : Layout) (laid : IsLaid l) where
         ]
       ]
 
-  -- a chunk is apart from every mark
-  pub mark_apart : (a b : Addr) (chunk : Chunk) (bytes : List ℕ) → chunk_at l a ≡ Some chunk → mark_of l b ≡ Some bytes → a.region ≡ b.region → (a.offset + chunk.room ≤ b.offset) ⊎ (b.offset + length bytes ≤ a.offset)
-  mark_apart a b chunk bytes found marked region =
-      let placed = laid.placed a chunk found in
-      elim (mark_cases l b bytes marked) [
-        | inl block ↦
-            let len : length bytes ≡ 8 = ap length (sym block.4) ∙ length-block_bytes l.context block.0.size in
-            inr (omega (arith, placed.first, ap (start_of l) region, block.1))
-        | inr other ↦
-            let len : length bytes ≡ 8 = ap length (sym other.4) ∙ length-header_bytes (header_of l.kind other.0 (b.offset - start_of l b.region)) in
-            elim (cases_lt a.offset (b.offset + 8)) [
-              | inl below ↦ inl (omega (arith, laid.apart a (behind b) chunk other.0 found other.2 region below, other.3))
-              | inr above ↦ inr (omega arith)
-            ]
-      ]
-
   -- a mark is in its block
   pub mark_within : (at : Addr) (bytes : List ℕ) → mark_of l at ≡ Some bytes → (block : Block) × (block_at l at.region ≡ Some block) × (at.offset + 8 + block.room ≤ block.size) × (length bytes ≡ 8)
   mark_within at bytes marked =
@@ -134,6 +107,19 @@ module _ (l : Layout) (laid : IsLaid l) where
         | inr other ↦
             let there = laid.placed (behind at) other.0 other.2 in
             (there.block, there.owned, omega (arith, there.last), ap length (sym other.4) ∙ length-header_bytes (header_of l.kind other.0 (at.offset - start_of l at.region)))
+      ]
+
+  -- a chunk is apart from every mark
+  pub mark_apart : (a b : Addr) (chunk : Chunk) (bytes : List ℕ) → chunk_at l a ≡ Some chunk → mark_of l b ≡ Some bytes → a.region ≡ b.region → (a.offset + chunk.room ≤ b.offset) ⊎ (b.offset + length bytes ≤ a.offset)
+  mark_apart a b chunk bytes found marked region =
+      let placed = laid.placed a chunk found in
+      let len = (mark_within b bytes marked).3 in
+      elim (mark_cases l b bytes marked) [
+        | inl block ↦ inr (omega (arith, placed.first, ap (start_of l) region, block.1))
+        | inr other ↦ elim (cases_lt a.offset (b.offset + 8)) [
+          | inl below ↦ inl (omega (arith, laid.apart a (behind b) chunk other.0 found other.2 region below, other.3))
+          | inr above ↦ inr (omega arith)
+        ]
       ]
 
   -- the footprint is sound

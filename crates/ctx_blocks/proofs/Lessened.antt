@@ -1,9 +1,7 @@
 -- Lemmas on steps after which a context has no more chunks and blocks than before.
-use Rattle.std.proofs.Common.{◌≡◌, ◌≢◌, ℕ, ◌+◌, ◌-◌, ◌≤◌, ◌==◌, if◌then◌else◌, List, Some, None, refl, sym, ap, ◌∙◌, arith, inl, inr}
+use Rattle.std.proofs.Common.{◌≡◌, ℕ, ◌-◌, ◌≤◌, ◌==◌, if◌then◌else◌, List, Some, refl, sym, ap, ◌∙◌, arith, inl, inr}
 use Rattle.addr_space.specs.declared.Addr.{Addr}
-use Rattle.addr_space.specs.Space.{Space, Changes, held}
-use Rattle.addr_space.specs.Footprint.{Agrees, Moves, counted}
-use Rattle.addr_space.proofs.Steps.{Moves-still, Moves-give}
+use Rattle.addr_space.proofs.Steps.{Moves-still}
 use Rattle.chunk_header.specs.Header.{header_bytes}
 use Rattle.ctx_blocks.specs.Layout.{Layout, block_at, chunk_at, start_of, gap_of, header_room, header_of, whole_of, total, mark_of, footprint}
 use Rattle.ctx_blocks.specs.Kept.{IsFilled, IsLaid, IsPlaced}
@@ -11,7 +9,7 @@ use Rattle.ctx_blocks.specs.Steps.{SameContext, MovesStill}
 use Rattle.ctx_blocks.specs.declared.parts.Block.{Block}
 use Rattle.ctx_blocks.specs.declared.parts.Chunk.{Chunk}
 use Rattle.addr_space.proofs.Options.{one_value}
-use Rattle.ctx_blocks.proofs.Laid.{mark_cases, mark_from_block, mark_from_chunk, region_is, behind, IsSound-laid}
+use Rattle.ctx_blocks.proofs.Laid.{mark_cases, mark_from_block, mark_from_chunk, behind, IsSound-laid}
 
 -- each chunk and each block was there, with the same bytes; a block in which chunks are has no more room
 pub record Lessens (l m : Layout) : Type 0 where
@@ -86,7 +84,7 @@ module _ (l m : Layout) (laid : IsLaid l) (less : Lessens l m) where
       }
 
   -- each mark was one
-  mark-lessened : (at : Addr) (bytes : List ℕ) → mark_of m at ≡ Some bytes → mark_of l at ≡ Some bytes
+  pub mark-lessened : (at : Addr) (bytes : List ℕ) → mark_of m at ≡ Some bytes → mark_of l at ≡ Some bytes
   mark-lessened at bytes =
       mark_same l m less.same at bytes (λ b has. let it = less.block at.region b has in (it.0, it.1, it.2)) (λ c found. let it = less.chunk (behind at) c found in (it.0, it.1, it.2, it.3))
 
@@ -95,14 +93,3 @@ module _ (l m : Layout) (laid : IsLaid l) (less : Lessens l m) where
   MovesStill-lessened regions totals s agrees =
       Moves-still (footprint l) (footprint m) s agrees (IsSound-laid m IsLaid-lessened) less.same.account less.same.context totals regions
       (λ at bytes marked. agrees.marks at bytes (mark-lessened at bytes marked))
-
-  -- a region is given back
-  pub Moves-given : (s t : Space) (number : ℕ) (block : Block) → Agrees (footprint l) s → Changes s t number None → block_at l number ≡ Some block → block_at m number ≡ None
-      → ((other : ℕ) → other ≢ number → block_at m other ≡ block_at l other) → total m + block.size ≡ total l
-      → ((account : ℕ) → held t account + (if l.account == account then block.size else 0) ≡ held s account)
-      → Moves (footprint l) (footprint m) s t
-  unfolding counted
-  Moves-given s t number block agrees changes owned gone others totals holds =
-      Moves-give (footprint l) (footprint m) s t number block.size agrees (IsSound-laid m IsLaid-lessened) less.same.account less.same.context changes
-      (region_is l number block owned) (rw gone refl) (λ other differs. rw (others other differs) refl) mark-lessened
-      (λ account. let same = less.same.account in grind (arith, holds account))

@@ -19,4 +19,3 @@ pub mod Among
 pub mod Places
 pub mod Put
 pub mod Keeps
-pub mod Taken

@@ -9,12 +9,12 @@ use Rattle.addr_space.proofs.Addresses.{same_addr_from}
 use Rattle.addr_space.proofs.Steps.{Moves-one, Agrees-nothing}
 use Rattle.chunk_header.specs.Header.{block_bytes}
 use Rattle.chunk_header.proofs.Words.{length-block_bytes}
+use Rattle.chunk_header.proofs.Wrote.{Moves-taken}
 use Rattle.ctx_blocks.specs.Layout.{Layout, block_at, start_of, total, footprint}
 use Rattle.ctx_blocks.specs.Kept.{layout_of, IsFilled, IsLaid, IsCounted, IsKept}
 use Rattle.ctx_blocks.specs.declared.parts.Block.{Block}
 use Rattle.ctx_blocks.specs.declared.books.Books.{Books}
 use Rattle.ctx_blocks.proofs.Laid.{mark_cases, region_is, IsSound-laid}
-use Rattle.ctx_blocks.proofs.Taken.{Moves-taken}
 
 -- the region of the keeper has 200 bytes before its block
 pub keeper_start : (l : Layout) → start_of l l.keeper ≡ 200
@@ -46,13 +46,13 @@ module _ (l : Layout) (block : Block) (blocks : l.blocks ≡ (l.keeper, block) �
     others other differs = rw blocks (grind arith)
 
     -- its header is the only mark
-    one_mark : (b : Addr) (bytes : List ℕ) → (footprint l).mark b ≡ Some bytes → (b ≡ record { region = l.keeper; offset = 200 }) × (240 ≤ block.size) × (bytes ≡ block_bytes l.context block.size)
+    one_mark : (b : Addr) (bytes : List ℕ) → (footprint l).mark b ≡ Some bytes → (b ≡ record { region = l.keeper; offset = 200 }) × (240 ≤ block.size) × (block_bytes l.context block.size ≡ bytes)
     one_mark b bytes marked =
         elim (mark_cases l b bytes marked) [
           | inl had ↦
               let is = only_keeper b.region had.0 had.2 in
               let start : start_of l b.region ≡ 200 = rw is.0 (keeper_start l) in
-              (same_addr_from b (record { region = l.keeper; offset = 200 }) is.0 (had.1 ∙ start), omega (arith, had.3, start, ap (λ (x : Block). x.size) is.1), sym had.4 ∙ ap (λ (x : Block). block_bytes l.context x.size) is.1)
+              (same_addr_from b (record { region = l.keeper; offset = 200 }) is.0 (had.1 ∙ start), omega (arith, had.3, start, ap (λ (x : Block). x.size) is.1), rw is.1 at had.4)
           | inr other ↦ let none = rw chunks at other.2 in absurd (cc)
         ]
 
@@ -70,8 +70,8 @@ module _ (l : Layout) (block : Block) (blocks : l.blocks ≡ (l.keeper, block) �
 
       pub Moves-new : (tp : Space) → 240 ≤ block.size → Changes mp tp l.keeper (overwritten (region_at mp l.keeper) 200 (map Some (block_bytes l.context block.size))) → Moves (nothing l.account l.context) (footprint l) sp tp
       Moves-new tp large wrote =
-          Moves-taken (nothing l.account l.context) (footprint l) sp mp tp l.keeper block.size 200 (block_bytes l.context block.size) (Agrees-nothing l.account l.context sp below) (IsSound-laid l IsLaid-new) refl refl
-          (omega (arith, total_one)) free took holds (omega (arith, length-block_bytes l.context block.size)) wrote (region_is l l.keeper block keeper_is) others
+          Moves-taken (nothing l.account l.context) (footprint l) sp mp tp (record { region = l.keeper; offset = 200 }) block.size (block_bytes l.context block.size) (Agrees-nothing l.account l.context sp below)
+          free took wrote (omega (arith, length-block_bytes l.context block.size)) holds (IsSound-laid l IsLaid-new) refl refl (omega (arith, total_one)) (region_is l l.keeper block keeper_is) others
           (λ b bytes marked. let it = one_mark b bytes marked in inl (it.0, it.2))
 
 -- all that is kept where the keeper is alone

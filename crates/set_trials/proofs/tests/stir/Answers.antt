@@ -1,11 +1,11 @@
-use Rattle.std.proofs.Common.{◌≡◌, ◌≢◌, ℕ, ◌+◌, Option, Some, None, IsSome, if◌then◌else◌, sym, ap, ◌∙◌, subst, inl, inr}
+use Rattle.std.proofs.Common.{◌≡◌, ◌≢◌, ℕ, ◌+◌, Option, Some, None, IsSome, sym, ap, ◌∙◌, subst, inl, inr}
 use Rattle.addr_space.specs.declared.Addr.{Addr}
 use Rattle.addr_space.specs.Space.{Space, IsKnown}
 use Rattle.addr_space.specs.Footprint.{Footprint, Agrees, Moves, Keeps, AreDisjoint}
 use Rattle.addr_space.proofs.Apart.{Agrees-other, Keeps-other, AreDisjoint-other, AreDisjoint-sym}
 use Rattle.alloc_set.specs.State.{SetState, footprint}
 use Rattle.addr_space.specs.Live.{PutsLive}
-use Rattle.addr_space.proofs.Addresses.{same_addr-cases}
+use Rattle.addr_space.proofs.Addresses.{put_at-cases}
 use Rattle.set_trials.proofs.tests.stir.Goals as goal
 use Rattle.set_trials.proofs.tests.stir.Goals.{After-free, After-reset}
 
@@ -41,11 +41,7 @@ other f g h s t at stands moves =
 
 -- what a call puts elsewhere leaves a chunk
 stays : (s t : SetState) (put at : Addr) (slot : Option ℕ) → PutsLive (footprint s) (footprint t) put slot → put ≢ at → (footprint t).live at ≡ (footprint s).live at
-stays s t put at slot puts differs =
-    elim (same_addr-cases put at) [
-      | inl same ↦ absurd (differs same.0)
-      | inr apart ↦ puts at ∙ ap (λ b. if b then slot else (footprint s).live at) apart.1
-    ]
+stays s t put at slot puts differs = elim (put_at-cases (footprint s).live (footprint t).live put slot puts at) [ inl here ↦ absurd (differs (sym here.0)) | inr there ↦ there.1 ]
 
 -- a chunk that was not live is another one
 fresh_differs : (s : SetState) (put at : Addr) (n : ℕ) → (footprint s).live put ≡ None → (footprint s).live at ≡ Some n → put ≢ at
@@ -81,14 +77,8 @@ after_reset c begun =
     let more = other f g h c.free.new.space c.alloc-3.new.space c.args.at begun c.alloc-3.ensures.moves in
     other f h (footprint c.reset.new.self) c.alloc-3.new.space c.reset.new.space c.args.at more c.reset.ensures.moves
 
-pub returns-clause-agrees : goal.returns-clause-agrees
-returns-clause-agrees c = (after_reset c (after_free (goal.at.returns-clause-agrees c).After-free)).agrees
-
-pub returns-clause-disjoint : goal.returns-clause-disjoint
-returns-clause-disjoint c = (after_reset c (after_free (goal.at.returns-clause-disjoint c).After-free)).disjoint
-
-pub returns-clause-live : goal.returns-clause-live
-returns-clause-live c = (after_reset c (after_free (goal.at.returns-clause-live c).After-free)).live
-
-pub returns-clause-known : goal.returns-clause-known
-returns-clause-known c = (after_reset c (after_free (goal.at.returns-clause-known c).After-free)).known
+pub returns : goal.returns
+returns c =
+    let d = goal.at.returns c in
+    let it = after_reset d.After-reset (after_free d.After-free) in
+    record { agrees = it.agrees; others = it.others; disjoint = it.disjoint; live = it.live; known = it.known }

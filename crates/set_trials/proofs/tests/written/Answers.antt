@@ -1,13 +1,11 @@
-use Rattle.std.proofs.Common.{◌≡◌, ℕ, length, Option, Some, IsSome, if◌then◌else◌, refl, sym, ap, ◌∙◌, subst, arith, inl, inr}
+use Rattle.std.proofs.Common.{◌≡◌, length, Some, IsSome, refl, sym, subst, arith}
 use Rattle.addr_space.specs.Space.{Space}
 use Rattle.addr_space.specs.Footprint.{Footprint, Agrees, Moves, AreDisjoint, WritesInside, nothing}
 use Rattle.addr_space.proofs.Apart.{Agrees-other, AreDisjoint-other, Moves-inside}
 use Rattle.addr_space.proofs.Written.{HasBytes-written}
 use Rattle.addr_space.proofs.Carried.{IsInside-live}
-use Rattle.alloc_set.specs.State.{SetState, footprint}
-use Rattle.addr_space.specs.Live.{PutsLive}
-use Rattle.addr_space.proofs.Addresses.{same_addr-cases}
-use Rattle.addr_space.specs.declared.Addr.{Addr}
+use Rattle.alloc_set.specs.State.{footprint}
+use Rattle.chunk_header.proofs.Put.{put-here}
 use Rattle.set_trials.proofs.tests.written.Goals as goal
 use Rattle.set_trials.proofs.tests.written.Goals.{After-write}
 
@@ -24,14 +22,6 @@ move f h g s t disjoint others moves = record {
   disjoint = AreDisjoint-other f h g s t moves disjoint others;
 }
 
--- what was put stands there
-put_live : (s t : SetState) (at : Addr) (slot : Option ℕ) → PutsLive (footprint s) (footprint t) at slot → (footprint t).live at ≡ slot
-put_live s t at slot puts =
-    elim (same_addr-cases at at) [
-      | inl same ↦ puts at ∙ ap (λ b. if b then slot else (footprint s).live at) same.1
-      | inr differs ↦ absurd (differs.0 refl)
-    ]
-
 len : (c : After-write) → length c.args.bytes.now ≡ 8
 len c = omega arith
 
@@ -45,7 +35,7 @@ before c =
 
 writes : (c : After-write) → WritesInside (footprint c.alloc.new.self) c.alloc.new.space c.write.new.self c.in_ok-at.at c.in_ok-at.at 8 c.args.bytes.now
 writes c = record {
-  live = put_live c.in_ok-set.set c.alloc.new.self c.in_ok-at.at (Some 8) c.in_ok-at.ensures.live;
+  live = put-here (footprint c.in_ok-set.set).live (footprint c.alloc.new.self).live c.in_ok-at.at (Some 8) c.in_ok-at.ensures.live;
   region = refl;
   first = omega arith;
   last = omega (arith, len c);
@@ -62,22 +52,21 @@ after c =
 pub write-requires : goal.write-requires
 write-requires c =
     IsInside-live (footprint c.alloc.new.self) c.alloc.new.space c.in_ok-at.at 8 (length c.args.bytes.now) c.alloc.ensures.moves.agrees
-    (put_live c.in_ok-set.set c.alloc.new.self c.in_ok-at.at (Some 8) c.in_ok-at.ensures.live) (omega arith)
+    (put-here (footprint c.in_ok-set.set).live (footprint c.alloc.new.self).live c.in_ok-at.at (Some 8) c.in_ok-at.ensures.live) (omega arith)
 
-pub returns-clause-agrees : goal.returns-clause-agrees
-returns-clause-agrees c = (after c).agrees
-
-pub returns-clause-others : goal.returns-clause-others
-returns-clause-others c = (after c).others
-
-pub returns-clause-disjoint : goal.returns-clause-disjoint
-returns-clause-disjoint c = (after c).disjoint
-
-pub returns-clause-known : goal.returns-clause-known
-returns-clause-known c = λ k below.
+pub returns : goal.returns
+returns c =
     let at = c.in_ok-at.at in
-    let was = before c in
-    let within = was.agrees.sound.live_inside at 8 (writes c).live in
+    let now = (goal.at.returns c).After-write in
+    let it = after now in
+    let was = before now in
+    let within = was.agrees.sound.live_inside at 8 (writes now).live in
     let has = was.agrees.regions at.region within.0 within.1 in
-    let bytes = HasBytes-written c.alloc.new.space c.write.new.self at c.args.bytes.now has.0 has.1 (omega (arith, within.2, has.3, len c)) c.write.ensures.changes in
-    subst IsSome (sym (bytes k (omega (arith, below, len c)))) refl
+    let bytes = HasBytes-written c.alloc.new.space c.write.new.self at c.args.bytes.now has.0 has.1 (omega (arith, within.2, has.3, len now)) c.write.ensures.changes in
+    record {
+      agrees = it.agrees;
+      others = it.others;
+      disjoint = it.disjoint;
+      live = (writes now).live;
+      known = λ k below. subst IsSome (sym (bytes k (omega (arith, below, len now)))) refl;
+    }

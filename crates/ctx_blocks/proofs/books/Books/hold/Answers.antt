@@ -45,17 +45,15 @@ returns-clause-fresh c = place_free (layout_of c.args.self.now) c.args.at c.args
 pub returns-clause-moves : goal.returns-clause-moves
 unfolding now
 returns-clause-moves c =
-    let l = layout_of c.args.self.now in
-    elim (gap_cases l.kind) [
-      | inl none ↦ rw (c.head.ensures.none none) (Moves-bare l (layout_of (now c)) c.args.at c.args.chunk c.args.block c.requires.kept.laid c.requires.holds (same c) c.put.ensures.at c.change.ensures.at (totals c) c.args.space.now c.requires.agrees none)
-      | inr some ↦ Moves-held l (layout_of (now c)) c.args.at c.args.chunk c.args.block c.requires.kept.laid c.requires.holds (same c) c.put.ensures.at c.change.ensures.at (totals c) c.args.space.now c.requires.agrees some c.head.new.space (c.head.ensures.some some)
+    elim (gap_cases c.args.self.now.kind) [
+      | inl none ↦ rw (c.head.ensures.none none) (Moves-bare _ _ _ _ _ c.requires.kept.laid c.requires.holds (same c) c.put.ensures.at c.change.ensures.at (totals c) _ c.requires.agrees none)
+      | inr some ↦ Moves-held _ _ _ _ _ c.requires.kept.laid c.requires.holds (same c) c.put.ensures.at c.change.ensures.at (totals c) _ c.requires.agrees some _ (c.head.ensures.some some)
     ]
 
 pub returns-clause-keeps : goal.returns-clause-keeps
 unfolding now
 returns-clause-keeps c =
-    let l = layout_of c.args.self.now in
-    elim (gap_cases l.kind) [
+    elim (gap_cases c.args.self.now.kind) [
       | inl none ↦ rw (c.head.ensures.none none) (λ at p q k live again below short. refl)
-      | inr some ↦ Keeps-held l (layout_of (now c)) c.args.at c.args.chunk c.args.block c.requires.kept.laid c.requires.holds (same c) c.put.ensures.at c.change.ensures.at (totals c) c.args.space.now c.requires.agrees some c.head.new.space (c.head.ensures.some some)
+      | inr some ↦ Keeps-held _ _ _ _ _ c.requires.kept.laid c.requires.holds (same c) c.put.ensures.at c.change.ensures.at (totals c) _ c.requires.agrees some _ (c.head.ensures.some some)
     ]

@@ -2,6 +2,7 @@ use Rattle.std.proofs.Common.{Option, ◌≡◌, ◌≢◌, ℕ, ◌+◌, ◌<�
 use Rattle.std.proofs.lemmas.Result.{err_from_is_err_and}
 use Rattle.addr_space.specs.Space.{held, byte_at}
 use Rattle.addr_space.proofs.Steps.{Moves-more}
+use Rattle.chunk_header.proofs.Put.{MovesAt-from}
 use Rattle.chunk_header.specs.declared.CtxError.{CtxError}
 use Rattle.chunk_header.specs.declared.CtxError.TheVariants.{NoSpace}
 use Rattle.ctx_blocks.specs.Layout.{Layout, chunk_at, footprint}
@@ -17,7 +18,6 @@ use Rattle.ctx_blocks.specs.Steps.{PutsChunk}
 use Rattle.ctx_blocks.proofs.Put.{chunk_here}
 use Rattle.ctx_blocks.proofs.Places.{number_stays, numbers_among}
 use Rattle.generation_ctx.proofs.Ledgers.{resize-moves}
-use Rattle.generation_ctx.proofs.Resizes.{puts_move}
 use Rattle.generation_ctx.proofs.books.Books.relocate.Goals as goal
 use Rattle.generation_ctx.proofs.books.Books.relocate.Goals.{In_ok-to}
 
@@ -69,7 +69,7 @@ returns-clause-ok c =
       step = resize-moves _ (held s b.account) _ size place c.requires.size q.3 ∙ ap (λ (r : Result GenerationTaken CtxError). moved r place) c.in_ok-to.ensures.ok.is;
       ledger = c.free.ensures.ledger q.0 (still it) ∙ ap (λ (k : ℕ). give (ledger_of c.take.new.self) (record place { block = k })) same ∙ ap (λ l. give l place) ok.ledger;
       fresh = λ ne. ok.fresh;
-      chunk = puts_move (chunk_at b) (chunk_at m) (chunk_at n) _ _ _ (apart it) ok.chunk f.chunk;
+      chunk = MovesAt-from (chunk_at b) (chunk_at m) (chunk_at n) _ _ _ (apart it) ok.chunk f.chunk;
       number = number_stays m n _ _ to _ in_m in_n c.carry.ensures.moves.agrees f.moves.agrees (numbers_among m n f.among) ∙ ok.number;
       numbers = numbers_left b m n ok.numbers f.among;
       asked = c.free.ensures.asked ∙ c.carry.ensures.asked ∙ ok.asked;

@@ -1,4 +1,5 @@
 use Rattle.std.proofs.Common.{true, refl, arith}
+use Rattle.chunk_header.proofs.Put.{MovesAt-same}
 use Rattle.ctx_blocks.specs.Layout.{chunk_at}
 use Rattle.ctx_blocks.proofs.Among.{among_same}
 use Rattle.ctx_blocks.proofs.Places.{numbers_among}
@@ -6,7 +7,6 @@ use Rattle.generation_ctx.specs.Ledger.{resize}
 use Rattle.generation_ctx.specs.State.{place_in}
 use Rattle.generation_ctx.specs.Kept.{ledger_of}
 use Rattle.generation_ctx.proofs.Sizes.{kept_sized}
-use Rattle.generation_ctx.proofs.Resizes.{puts_stay}
 use Rattle.generation_ctx.proofs.books.Books.set_size.Goals as goal
 
 pub returns : goal.returns
@@ -26,7 +26,7 @@ returns c =
       step = grind (arith, c.requires.size, q.2);
       ledger = rw (e.last, e.blocks) refl;
       fresh = λ ne. absurd (ne refl);
-      chunk = puts_stay (chunk_at b.blocks) (chunk_at m) at _ puts;
+      chunk = MovesAt-same (chunk_at b.blocks) (chunk_at m) (chunk_at m) at _ puts;
       number = rw e.blocks refl;
       numbers = numbers_among b.blocks m (among_same b.blocks m e.blocks);
       asked = refl;

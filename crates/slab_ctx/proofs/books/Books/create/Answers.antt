@@ -15,6 +15,4 @@ unfolding created
 returns-clause-ledger c = rw (c.in_ok-slots.ensures.size, c.in_ok-slots.ensures.numbers.1, c.in_ok-slots.ensures.blocks) refl
 
 pub returns-clause-moves : goal.returns-clause-moves
-returns-clause-moves c =
-    let s = c.in_ok-slots.slots in
-    Moves-made s.size c.args.account c.args.context s.blocks s.stacks.entries c.args.space.now c.create.new.space c.in_ok-slots.ensures.slots c.in_ok-slots.ensures.moves
+returns-clause-moves c = Moves-made _ c.args.account c.args.context c.in_ok-slots.slots.blocks _ _ _ c.in_ok-slots.ensures.slots c.in_ok-slots.ensures.moves

@@ -30,9 +30,8 @@ overflow_sub-live c = let had = c.remove-was.ensures.block in grind (arith, c.re
 
 pub put-requires-clause-room : goal.put-requires-clause-room
 put-requires-clause-room c = λ none.
-    let b = c.args.self.now in
     let had = c.remove-was.ensures.block in
-    absurd (has-rank b.ranks b.slots.blocks (per_block b.slots.size) c.requires.kept.order c.args.at.region c.remove-was.ensures.not_keeper had.0 had.1 none)
+    absurd (has-rank _ _ _ c.requires.kept.order c.args.at.region c.remove-was.ensures.not_keeper had.0 had.1 none)
 
 -- the block is there with one live chunk fewer
 there : (c : After-remove-was) → block_at c.remove-was.new.self.blocks c.args.at.region ≡ Some c.remove-was.ensures.block.3.block

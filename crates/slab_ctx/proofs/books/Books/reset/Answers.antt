@@ -18,9 +18,4 @@ unfolding created reset
 returns-clause-ledger c = rw (c.reset.ensures.size, c.reset.ensures.last, c.reset.ensures.blocks) refl
 
 pub returns-clause-moves : goal.returns-clause-moves
-returns-clause-moves c =
-    let l = c.args.self.now.slots.blocks in
-    let m = c.reset.new.self.blocks in
-    let size = c.args.self.now.slots.size in
-    let slots = c.reset.ensures.slots in
-    Moves-full size c.reset.new.self.size l m c.reset.new.self.stacks.entries c.args.space.now c.reset.new.space c.reset.ensures.size slots c.reset.ensures.moves
+returns-clause-moves c = Moves-full _ _ c.args.self.now.slots.blocks c.reset.new.self.blocks _ _ _ c.reset.ensures.size c.reset.ensures.slots c.reset.ensures.moves

@@ -22,9 +22,7 @@ pub take-requires-clause-free : goal.take-requires-clause-free
 take-requires-clause-free c = under (goal.at.take-requires-clause-free c).After-owned-block
 
 pub put-requires-clause-room : goal.put-requires-clause-room
-put-requires-clause-room c = λ none.
-    let b = c.args.self.now in
-    absurd (has-rank b.ranks b.slots.blocks (per_block b.slots.size) c.requires.kept.order c.args.number c.requires.not_keeper c.requires.block.0 c.requires.block.1 none)
+put-requires-clause-room c = λ none. absurd (has-rank _ _ _ c.requires.kept.order c.args.number c.requires.not_keeper c.requires.block.0 c.requires.block.1 none)
 
 pub overflow_sub-self : goal.overflow_sub-self
 overflow_sub-self c = omega (arith, c.one_if_empty.ensures, empty-least c.args.self.now 0 c.args.number c.requires.kept c.requires.not_keeper c.owned-block.result c.owned-block.ensures)

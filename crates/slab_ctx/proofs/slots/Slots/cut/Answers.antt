@@ -14,16 +14,15 @@ cut-requires-clause-whole c = omega (arith, c.stride-room.ensures.value, c.strid
 
 pub returns-clause-slots : goal.returns-clause-slots
 returns-clause-slots c =
-    let l = c.args.self.now.blocks in
     let slotted = c.requires.slots in
     let b = c.requires.block.0 in
     let found = c.requires.block.1 in
     let region = c.cut.ensures.region in
-    let gap = gap-is l c.args.self.now.size c.args.self.now.stacks.entries slotted in
-    let now : Block = record b { room = b.room - (header_room l + (c.stride-room.result - 8)); live = b.live + 1 } in
-    IsSlotted-cut l c.cut.new.self c.args.self.now.size c.args.self.now.stacks.entries c.cut.result slotted c.cut.ensures.same (λ e. c.requires.not_keeper (sym region ∙ e)) b (rw region found) (rw c.stride-room.ensures.value at c.cut.ensures.chunk)
+    let gap = gap-is _ _ _ slotted in
+    let now : Block = record b { room = b.room - (header_room c.args.self.now.blocks + (c.stride-room.result - 8)); live = b.live + 1 } in
+    IsSlotted-cut _ _ _ _ c.cut.result slotted c.cut.ensures.same (λ e. c.requires.not_keeper (sym region ∙ e)) b (rw region found) (rw c.stride-room.ensures.value at c.cut.ensures.chunk)
     now refl refl (rw region (c.cut.ensures.block b found)) (omega (arith, gap, c.stride-room.ensures.value, c.stride-room.ensures.least, c.requires.block.2)) refl (omega (arith, c.cut.ensures.offset b found, gap))
 
 pub returns-clause-block : goal.returns-clause-block
 returns-clause-block c = λ b found.
-    counted c.args.self.now.blocks c.cut.new.self c.args.self.now.size c.args.self.now.stacks.entries c.args.number b (record b { room = b.room - (header_room c.args.self.now.blocks + (c.stride-room.result - 8)); live = b.live + 1 }) c.requires.slots c.requires.not_keeper found (c.cut.ensures.block b found) refl refl
+    counted _ _ _ _ c.args.number b (record b { room = b.room - (header_room c.args.self.now.blocks + (c.stride-room.result - 8)); live = b.live + 1 }) c.requires.slots c.requires.not_keeper found (c.cut.ensures.block b found) refl refl

@@ -4,10 +4,8 @@ use Rattle.slab_ctx.proofs.slots.Slots.give.Goals as goal
 
 pub returns-clause-slots : goal.returns-clause-slots
 returns-clause-slots c =
-    let l = c.args.self.now.blocks in
-    let m = c.give.new.self in
     let slotted = c.requires.slots in
-    IsSlotted-drop l m c.args.self.now.size c.args.self.now.stacks.entries c.close.new.stacks.entries c.args.number slotted c.give.ensures.same c.requires.not_keeper
+    IsSlotted-drop _ _ _ _ c.close.new.stacks.entries c.args.number slotted c.give.ensures.same c.requires.not_keeper
     (λ at apart. rw c.give.ensures.chunks refl) c.close.ensures (λ at chunk region found. let was = rw c.give.ensures.chunks at found in (slotted.chunk at chunk was, slotted.slot at chunk was)) c.give.ensures.block
 
 pub returns-clause-total : goal.returns-clause-total

@@ -14,14 +14,13 @@ overflow_cast-at c =
 
 pub push-requires : goal.push-requires
 push-requires c =
-    let l = c.args.self.now.blocks in
     let chunk = c.requires.chunk.0 in
     let has = c.requires.chunk.1 in
     let b = c.remove-block.result in
     let found = c.remove-block.ensures.was in
     let differs = c.requires.slots.owned c.args.at chunk has in
     let filled = c.requires.slots.filled c.args.at.region b differs found in
-    omega (arith, chunks-few l c.args.self.now.size c.args.self.now.stacks.entries c.requires.slots c.args.at.region differs b found, filled.long, c.laid.ensures.some c.args.at chunk b has found)
+    omega (arith, chunks-few _ _ _ c.requires.slots c.args.at.region differs b found, filled.long, c.laid.ensures.some c.args.at chunk b has found)
 
 pub returns-clause-slots : goal.returns-clause-slots
 returns-clause-slots c =
@@ -33,18 +32,17 @@ returns-clause-slots c =
     let found = c.remove-block.ensures.was in
     let placed = c.laid.ensures.placed at chunk has in
     let last = rw (one_value (block_at l at.region) placed.block b placed.owned found) at placed.last in
-    IsSlotted-removed l c.remove-block.new.self c.args.self.now.size c.args.self.now.stacks.entries at c.requires.slots c.remove-block.ensures.same (c.requires.slots.owned at chunk has) b found c.remove-block.ensures.chunk
+    IsSlotted-removed _ _ _ _ at c.requires.slots c.remove-block.ensures.same (c.requires.slots.owned at chunk has) b found c.remove-block.ensures.chunk
     c.push.new.stacks.entries (grind (arith, c.push.ensures at.region)) (λ other apart. grind (arith, c.push.ensures other)) chunk has last (c.laid.ensures.some at chunk b has found)
     (record b { live = b.live - 1; freed = b.freed + 1 }) refl refl refl refl (c.remove-block.ensures.block b found)
 
 pub returns-clause-block : goal.returns-clause-block
 returns-clause-block c =
-    let l = c.args.self.now.blocks in
     let b = c.remove-block.result in
     let found = c.remove-block.ensures.was in
     let has = c.requires.chunk.1 in (
       b,
       found,
       c.laid.ensures.some c.args.at c.requires.chunk.0 b has found,
-      counted l c.remove-block.new.self c.args.self.now.size c.args.self.now.stacks.entries c.args.at.region b (record b { live = b.live - 1; freed = b.freed + 1 }) c.requires.slots (c.requires.slots.owned c.args.at c.requires.chunk.0 has) found (c.remove-block.ensures.block b found) refl refl,
+      counted _ _ _ _ c.args.at.region b (record b { live = b.live - 1; freed = b.freed + 1 }) c.requires.slots (c.requires.slots.owned c.args.at c.requires.chunk.0 has) found (c.remove-block.ensures.block b found) refl refl,
     )

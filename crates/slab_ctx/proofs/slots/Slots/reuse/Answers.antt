@@ -8,12 +8,11 @@ use Rattle.slab_ctx.proofs.Taken.{counted, IsSlotted-placed}
 use Rattle.slab_ctx.proofs.slots.Slots.reuse.Goals as goal
 
 pub offset_at-requires : goal.offset_at-requires
-offset_at-requires c =
-    depth-few c.args.self.now.blocks c.args.self.now.size c.args.self.now.stacks.entries c.requires.slots c.args.number c.requires.not_keeper c.requires.block.0 c.requires.block.1 c.args.depth c.requires.block.2
+offset_at-requires c = depth-few _ _ _ c.requires.slots c.args.number c.requires.not_keeper c.requires.block.0 c.requires.block.1 c.args.depth c.requires.block.2
 
 free_at : (c : goal.After-place-arg-2-1) → IsFree c.args.self.now.blocks c.args.self.now.size c.args.number c.requires.block.0 c.from.result
 free_at c =
-    rw (c.from.ensures ∙ c.offset_at.ensures) (last-free c.args.self.now.blocks c.args.self.now.size c.args.self.now.stacks.entries c.requires.slots c.args.number c.requires.not_keeper c.requires.block.0 c.requires.block.1 c.args.depth c.requires.block.2)
+    rw (c.from.ensures ∙ c.offset_at.ensures) (last-free _ _ _ c.requires.slots c.args.number c.requires.not_keeper c.requires.block.0 c.requires.block.1 c.args.depth c.requires.block.2)
 
 pub place-requires-clause-block : goal.place-requires-clause-block
 place-requires-clause-block c =
@@ -22,10 +21,7 @@ place-requires-clause-block c =
 
 pub place-requires-clause-first : goal.place-requires-clause-first
 place-requires-clause-first c =
-    let l = c.args.self.now.blocks in
-    let size = c.args.self.now.size in
-    let s = c.args.self.now.stacks.entries in
-    omega (arith, start-is l size s c.requires.slots c.args.number c.requires.not_keeper, gap-is l size s c.requires.slots, slot-least size c.from.result (free_at c).slot)
+    omega (arith, start-is _ _ _ c.requires.slots c.args.number c.requires.not_keeper, gap-is _ _ _ c.requires.slots, slot-least _ c.from.result (free_at c).slot)
 
 pub place-requires-clause-whole : goal.place-requires-clause-whole
 place-requires-clause-whole c = slot-whole c.args.self.now.size c.from.result (free_at c).slot
@@ -35,8 +31,7 @@ place-requires-clause-fits c = omega (arith, c.stride-room.ensures.value, stride
 
 pub place-requires-clause-clear : goal.place-requires-clause-clear
 place-requires-clause-clear c =
-    clear-of c.args.self.now.blocks c.args.self.now.size c.args.self.now.stacks.entries c.requires.slots c.args.number c.requires.not_keeper c.requires.block.0 c.requires.block.1
-    c.from.result (c.stride-room.result - 8) (ap (λ n. n - 8) c.stride-room.ensures.value) (free_at c)
+    clear-of _ _ _ c.requires.slots c.args.number c.requires.not_keeper c.requires.block.0 c.requires.block.1 c.from.result (c.stride-room.result - 8) (ap (λ n. n - 8) c.stride-room.ensures.value) (free_at c)
 
 pub returns-clause-slots : goal.returns-clause-slots
 returns-clause-slots c =
@@ -44,9 +39,9 @@ returns-clause-slots c =
     let b = c.requires.block.0 in
     let found = c.requires.block.1 in
     let now : Block = record b { live = b.live + 1; freed = b.freed - 1 } in
-    IsSlotted-placed c.args.self.now.blocks c.place.new.self c.args.self.now.size c.args.self.now.stacks.entries at c.requires.slots c.place.ensures.same c.requires.not_keeper b found (rw c.stride-room.ensures.value at c.place.ensures.chunk)
+    IsSlotted-placed _ _ _ _ at c.requires.slots c.place.ensures.same c.requires.not_keeper b found (rw c.stride-room.ensures.value at c.place.ensures.chunk)
     now refl refl (c.place.ensures.block b found) c.args.depth refl (omega (arith, c.requires.block.2)) c.requires.block.2 (c.from.ensures ∙ c.offset_at.ensures)
 
 pub returns-clause-block : goal.returns-clause-block
 returns-clause-block c = λ b found.
-    counted c.args.self.now.blocks c.place.new.self c.args.self.now.size c.args.self.now.stacks.entries c.args.number b (record b { live = b.live + 1; freed = b.freed - 1 }) c.requires.slots c.requires.not_keeper found (c.place.ensures.block b found) refl refl
+    counted _ _ _ _ c.args.number b (record b { live = b.live + 1; freed = b.freed - 1 }) c.requires.slots c.requires.not_keeper found (c.place.ensures.block b found) refl refl
