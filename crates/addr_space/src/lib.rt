@@ -111,8 +111,9 @@ fn admit(regions: &mut Slab<Region>, region: Region) -> Option<u32>
     Some(number)
 }
 
-/// How many regions that were given back are kept for the next ones, as PostgreSQL's aset.c keeps `MAX_FREE_CONTEXTS`.
-const MOST_SPARE: usize = 100;
+/// How many regions that were given back are kept for the next ones, as PostgreSQL's aset.c keeps `MAX_FREE_CONTEXTS`:
+/// more than a session has levels, so that a deep stack of savepoints finds its memory again.
+const MOST_SPARE: usize = 1024;
 
 /// The bytes of a region that is kept so: the first block of most contexts.
 const SPARE: usize = 8192;
@@ -122,7 +123,7 @@ const SPARE: usize = 8192;
 /// Regions never overlap. The number of a region may be used again once the region was given back. An account stands
 /// for a session: what it holds is the sum of `mem_allocated` of its memory contexts.
 ///
-/// The memory of up to 100 regions of 8,192 bytes that were given back is kept for the next ones of that size. It counts
+/// The memory of up to 1,024 regions of 8,192 bytes that were given back is kept for the next ones of that size. It counts
 /// for no account.
 #[derive(Drop)]
 pub struct Space {

@@ -135,6 +135,7 @@ impl<T> LinkedForest<T> {
     }
 
     /// Takes a node without children out, and answers its data.
+    #[inline(always)]
     pub fn remove(&mut self, id: NodeId) -> T
         requires placed { IsPlaced self.old id }
         requires leaf { children id.number self.old.forest ≡ Empty }

@@ -280,6 +280,7 @@ fn sweep_portal<H: ResetHook, E: Emit>(
 }
 
 /// What becomes of a portal, the first of this many last ones, where the level of this number ends so.
+#[inline(never)]
 fn settle_portal<H: ResetHook, E: Emit>(
     store: &mut Store<H>,
     portal: Portal,
