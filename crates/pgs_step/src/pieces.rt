@@ -1,5 +1,5 @@
 //! The pieces that a line of text is made of: words and numbers.
-ghost use Rattle.std.specs.Prelude.{◌≡◌, ℕ, ◌+◌, ◌/◌, ◌%◌, ◌≤◌, ◌<◌, [], ◌∷◌, ◌++◌, length, codes, decimal};
+ghost use Rattle.std.specs.Prelude.{◌≡◌, true, ℕ, ◌+◌, ◌/◌, ◌%◌, ◌≤◌, ◌<◌, [], ◌∷◌, ◌++◌, length, codes, decimal};
 ghost use Rattle.arrayvec.specs.ArrayVec.{array_vec_len};
 
 use crate::names::Name;
@@ -10,66 +10,62 @@ use itoa::Buffer;
 static PAIRS: [u8; 200] =
     *b"00010203040506070809101112131415161718192021222324252627282930313233343536373839404142434445464748495051525354555657585960616263646566676869707172737475767778798081828384858687888990919293949596979899";
 
-/// A word and a name behind it.
-pub fn put_name<const N: usize>(out: &mut ArrayVec<u8, N>, word: &[u8], name: &Name)
-    requires { array_vec_len out.old + length word.now + 32 ≤ N }
-    ensures text { out.new.items ≡ out.old.items ++ (word.now ++ name.now) }
-    ensures short { array_vec_len out.new ≤ array_vec_len out.old + length word.now + 32 }
+/// True. The compiler learns by it that there is the room that the caller has shown, so that what is
+/// written behind it isn't looked at once more for each byte.
+#[inline(always)]
+pub fn has_room<const N: usize>(out: &ArrayVec<u8, N>, bytes: usize) -> bool
+    requires { array_vec_len out.now + bytes ≤ N }
+    ensures { result ≡ true }
 {
-    put(out, word);
-    put(out, name.as_slice());
+    out.len() <= N - bytes
 }
 
 /// A word, a name and a number behind it.
-pub fn put_named<const N: usize>(out: &mut ArrayVec<u8, N>, word: &[u8], name: &Name, n: u32)
-    requires { array_vec_len out.old + length word.now + 53 ≤ N }
+#[inline(never)]
+pub fn put_named<const W: usize, const N: usize>(
+    out: &mut ArrayVec<u8, N>,
+    word: &[u8; W],
+    name: &Name,
+    n: u32,
+)
+    requires { array_vec_len out.old + W + 53 ≤ N }
     ensures text { out.new.items ≡ out.old.items ++ (word.now ++ name.now ++ codes " " ++ decimal n) }
-    ensures short { array_vec_len out.new ≤ array_vec_len out.old + length word.now + 53 }
+    ensures short { array_vec_len out.new ≤ array_vec_len out.old + W + 53 }
 {
-    put_name(out, word, name);
-    put_behind(out, b' ', n as u64);
+    put_word(out, word);
+    put(out, name.as_slice());
+    put_counted(out, b" ", n as u64);
 }
 
 /// Two words, each with a number behind it.
-pub fn put_both<const N: usize>(out: &mut ArrayVec<u8, N>, word: &[u8], n: u64, next: &[u8], m: u64)
-    requires { array_vec_len out.old + length word.now + length next.now + 40 ≤ N }
+#[inline(never)]
+pub fn put_both<const W: usize, const X: usize, const N: usize>(
+    out: &mut ArrayVec<u8, N>,
+    word: &[u8; W],
+    n: u64,
+    next: &[u8; X],
+    m: u64,
+)
+    requires { array_vec_len out.old + W + X + 40 ≤ N }
     ensures text { out.new.items ≡ out.old.items ++ (word.now ++ decimal n ++ next.now ++ decimal m) }
-    ensures short { array_vec_len out.new ≤ array_vec_len out.old + length word.now + length next.now + 40 }
+    ensures short { array_vec_len out.new ≤ array_vec_len out.old + W + X + 40 }
 {
     put_counted(out, word, n);
     put_counted(out, next, m);
 }
 
-/// A byte and a number behind it.
-#[inline(always)]
-pub fn put_behind<const N: usize>(out: &mut ArrayVec<u8, N>, byte: u8, n: u64)
-    requires { array_vec_len out.old + 21 ≤ N }
-    ensures text { out.new.items ≡ out.old.items ++ ((byte ∷ []) ++ decimal n) }
-    ensures short { array_vec_len out.new ≤ array_vec_len out.old + 21 }
-{
-    out.push(byte);
-    put_number(out, n);
-}
-
-/// Two bytes and a number behind them.
-#[inline(always)]
-pub fn put_behind_two<const N: usize>(out: &mut ArrayVec<u8, N>, first: u8, second: u8, n: u64)
-    requires { array_vec_len out.old + 22 ≤ N }
-    ensures text { out.new.items ≡ out.old.items ++ ((first ∷ second ∷ []) ++ decimal n) }
-    ensures short { array_vec_len out.new ≤ array_vec_len out.old + 22 }
-{
-    out.push(first);
-    put_behind(out, second, n);
-}
-
 /// A word and a number behind it.
 #[inline(always)]
-pub fn put_counted<const N: usize>(out: &mut ArrayVec<u8, N>, word: &[u8], n: u64)
-    requires { array_vec_len out.old + length word.now + 20 ≤ N }
+pub fn put_counted<const W: usize, const N: usize>(
+    out: &mut ArrayVec<u8, N>,
+    word: &[u8; W],
+    n: u64,
+)
+    requires { array_vec_len out.old + W + 20 ≤ N }
     ensures text { out.new.items ≡ out.old.items ++ (word.now ++ decimal n) }
-    ensures short { array_vec_len out.new ≤ array_vec_len out.old + length word.now + 20 }
+    ensures short { array_vec_len out.new ≤ array_vec_len out.old + W + 20 }
 {
-    put(out, word);
+    put_word(out, word);
     put_number(out, n);
 }
 
@@ -87,9 +83,37 @@ pub fn put_number<const N: usize>(out: &mut ArrayVec<u8, N>, n: u64)
     }
 }
 
+/// The digits of a small number, written without a call.
+#[inline(always)]
+pub fn put_small<const N: usize>(out: &mut ArrayVec<u8, N>, n: u8)
+    requires { array_vec_len out.old + 4 ≤ N }
+    ensures text { out.new.items ≡ out.old.items ++ decimal n }
+    ensures short { array_vec_len out.new ≤ array_vec_len out.old + 4 }
+{
+    if n < 10 {
+        put_digit(out, n as u64);
+    } else {
+        put_up_to_four(out, n as u64);
+    }
+}
+
 /// The digits of a number.
 #[inline(never)]
 fn put_long_number<const N: usize>(out: &mut ArrayVec<u8, N>, n: u64)
+    requires { array_vec_len out.old + 20 ≤ N }
+    ensures text { out.new.items ≡ out.old.items ++ decimal n }
+    ensures short { array_vec_len out.new ≤ array_vec_len out.old + 20 }
+{
+    if n < 10_000 && has_room(out, 20) {
+        put_up_to_four(out, n);
+    } else {
+        put_longer_number(out, n);
+    }
+}
+
+/// The digits of a number, which mostly has more than four.
+#[inline(never)]
+fn put_longer_number<const N: usize>(out: &mut ArrayVec<u8, N>, n: u64)
     requires { array_vec_len out.old + 20 ≤ N }
     ensures text { out.new.items ≡ out.old.items ++ decimal n }
     ensures short { array_vec_len out.new ≤ array_vec_len out.old + 20 }
@@ -156,7 +180,21 @@ fn put_digit<const N: usize>(out: &mut ArrayVec<u8, N>, n: u64)
     out.push(b'0' + n as u8);
 }
 
-/// A word.
+/// A word whose length is known where it is written.
+#[inline(always)]
+pub fn put_word<const W: usize, const N: usize>(out: &mut ArrayVec<u8, N>, word: &[u8; W])
+    requires { array_vec_len out.old + W ≤ N }
+    ensures text { out.new.items ≡ out.old.items ++ word.now }
+    ensures len { array_vec_len out.new ≡ array_vec_len out.old + W }
+{
+    if has_room(out, W) {
+        for i in 0..W {
+            out.push(word[i]);
+        }
+    }
+}
+
+/// Some bytes.
 #[inline(always)]
 pub fn put<const N: usize>(out: &mut ArrayVec<u8, N>, piece: &[u8])
     requires { array_vec_len out.old + length piece.now ≤ N }

@@ -5,60 +5,53 @@ ghost use Rattle.pgs_step.specs.Text.{blocks_text, counters_text, stat_text};
 
 use crate::counters::{DEEPEST, Depth, MemoryCounters, SessionCounts};
 use crate::names::Name;
-use crate::pieces::{put, put_both, put_counted, put_name, put_number};
+use crate::pieces::{put, put_both, put_counted, put_number, put_word};
 use arrayvec::ArrayVec;
 
 /// The spaces before the deepest line of a report.
 static SPACES: [u8; 2 * DEEPEST as usize] = [b' '; 2 * DEEPEST as usize];
 
 /// "cK NAME: T total in B blocks; F free (C chunks); U used", with two spaces before it for each level.
+#[inline(never)]
 pub fn put_context_stats<const N: usize>(
     out: &mut ArrayVec<u8, N>,
     depth: Depth,
     context: u64,
     name: &Name,
-    counters: MemoryCounters,
+    counters: &MemoryCounters,
 )
     requires { array_vec_len out.old + 450 ≤ N }
-    ensures text { out.new.items ≡ out.old.items ++ (replicate (2 * depth) 32 ++ codes "c" ++ decimal context ++ codes " " ++ name.now ++ codes ": " ++ counters_text (codes " total") counters) }
+    ensures text { out.new.items ≡ out.old.items ++ (replicate (2 * depth) 32 ++ codes "c" ++ decimal context ++ codes " " ++ name.now ++ codes ": " ++ counters_text (codes " total") counters.now) }
     ensures short { array_vec_len out.new ≤ array_vec_len out.old + 450 }
 {
     put_context(out, depth, context, name);
-    put(out, b": ");
+    put_word(out, b": ");
     put_counters(out, b" total", counters);
 }
 
 /// "Grand total: T bytes in B blocks; F free (C chunks); U used"
-pub fn put_grand_total<const N: usize>(out: &mut ArrayVec<u8, N>, counters: MemoryCounters)
+#[inline(never)]
+pub fn put_grand_total<const N: usize>(out: &mut ArrayVec<u8, N>, counters: &MemoryCounters)
     requires { array_vec_len out.old + 200 ≤ N }
-    ensures text { out.new.items ≡ out.old.items ++ (codes "Grand total: " ++ counters_text (codes " bytes") counters) }
+    ensures text { out.new.items ≡ out.old.items ++ (codes "Grand total: " ++ counters_text (codes " bytes") counters.now) }
     ensures short { array_vec_len out.new ≤ array_vec_len out.old + 200 }
 {
-    put(out, b"Grand total: ");
+    put_word(out, b"Grand total: ");
     put_counters(out, b" bytes", counters);
 }
 
 /// "stat pins A files B descriptors C locks D snapshots E plans F refs G owners H contexts I"
-pub fn put_stat<const N: usize>(out: &mut ArrayVec<u8, N>, counts: SessionCounts)
+#[inline(never)]
+pub fn put_stat<const N: usize>(out: &mut ArrayVec<u8, N>, counts: &SessionCounts)
     requires { array_vec_len out.old + 300 ≤ N }
-    ensures text { out.new.items ≡ out.old.items ++ stat_text counts }
+    ensures text { out.new.items ≡ out.old.items ++ stat_text counts.now }
     ensures short { array_vec_len out.new ≤ array_vec_len out.old + 300 }
 {
     put_both(out, b"stat pins ", counts.pins, b" files ", counts.files);
-    put_both(
-        out,
-        b" descriptors ",
-        counts.descriptors,
-        b" locks ",
-        counts.locks,
-    );
-    put_both(
-        out,
-        b" snapshots ",
-        counts.snapshots,
-        b" plans ",
-        counts.plans,
-    );
+    let (descriptors, locks) = (counts.descriptors, counts.locks);
+    put_both(out, b" descriptors ", descriptors, b" locks ", locks);
+    let (snapshots, plans) = (counts.snapshots, counts.plans);
+    put_both(out, b" snapshots ", snapshots, b" plans ", plans);
     put_both(out, b" refs ", counts.refs, b" owners ", counts.owners);
     put_counted(out, b" contexts ", counts.contexts);
 }
@@ -71,7 +64,8 @@ fn put_context<const N: usize>(out: &mut ArrayVec<u8, N>, depth: Depth, context:
 {
     put_spaces(out, depth);
     put_counted(out, b"c", context);
-    put_name(out, b" ", name);
+    put_word(out, b" ");
+    put(out, name.as_slice());
 }
 
 /// Two spaces for each level.
@@ -84,9 +78,9 @@ fn put_spaces<const N: usize>(out: &mut ArrayVec<u8, N>, depth: Depth)
 }
 
 /// "T UNIT in B blocks; F free (C chunks); U used"
-fn put_counters<const N: usize>(out: &mut ArrayVec<u8, N>, unit: &[u8], counters: MemoryCounters)
+fn put_counters<const N: usize>(out: &mut ArrayVec<u8, N>, unit: &[u8], counters: &MemoryCounters)
     requires { (array_vec_len out.old + 180 ≤ N) × (length unit.now ≤ 10) }
-    ensures text { out.new.items ≡ out.old.items ++ counters_text unit.now counters }
+    ensures text { out.new.items ≡ out.old.items ++ counters_text unit.now counters.now }
     ensures short { array_vec_len out.new ≤ array_vec_len out.old + 180 }
 {
     put_number(out, counters.total);
@@ -95,13 +89,13 @@ fn put_counters<const N: usize>(out: &mut ArrayVec<u8, N>, unit: &[u8], counters
 }
 
 /// " in B blocks; F free (C chunks); U used"
-fn put_blocks<const N: usize>(out: &mut ArrayVec<u8, N>, counters: MemoryCounters)
+fn put_blocks<const N: usize>(out: &mut ArrayVec<u8, N>, counters: &MemoryCounters)
     requires { array_vec_len out.old + 140 ≤ N }
-    ensures text { out.new.items ≡ out.old.items ++ blocks_text counters }
+    ensures text { out.new.items ≡ out.old.items ++ blocks_text counters.now }
     ensures short { array_vec_len out.new ≤ array_vec_len out.old + 140 }
 {
     let used = counters.total.saturating_sub(counters.free);
     put_both(out, b" in ", counters.blocks, b" blocks; ", counters.free);
     put_both(out, b" free (", counters.chunks, b" chunks); ", used);
-    put(out, b" used");
+    put_word(out, b" used");
 }

@@ -12,9 +12,7 @@ use crate::events::{Event, What};
 use crate::ids::{Item, KindId};
 use crate::lock_modes::Mode;
 use crate::names::Name;
-use crate::pieces::{
-    put, put_behind, put_behind_two, put_both, put_counted, put_name, put_named, put_number,
-};
+use crate::pieces::{has_room, put, put_both, put_counted, put_named, put_small, put_word};
 use crate::report_texts::{put_context_stats, put_grand_total, put_stat};
 use arrayvec::ArrayVec;
 
@@ -52,11 +50,13 @@ pub fn append_text<const N: usize>(
     ensures text { out.new.items ≡ out.old.items ++ text_of names.now (record { session = session; what = what.now }) }
     ensures short { array_vec_len out.new ≤ array_vec_len out.old + 512 }
 {
-    if has_text(what, names) {
-        put_number(out, session as u64);
-        out.push(b' ');
-        put_what(out, what, names);
-        out.push(b'\n');
+    if has_room(out, 512) {
+        if has_text(what, names) {
+            put_small(out, session);
+            out.push(b' ');
+            put_what(out, what, names);
+            out.push(b'\n');
+        }
     }
 }
 
@@ -65,7 +65,13 @@ pub fn append_text<const N: usize>(
 fn has_text(what: &What, names: &[Name]) -> bool
     ensures { result ≡ is_some (what_text names.now what.now) }
 {
-    match *what {
+    if !matches!(
+        what,
+        What::Acquire { .. } | What::Release { .. } | What::NotClosed { .. }
+    ) {
+        return true;
+    }
+    match what {
         What::Acquire { item, .. } | What::Release { item, .. } | What::NotClosed { item, .. } => {
             has_name(item.kind, names)
         }
@@ -112,16 +118,11 @@ fn put_what<const N: usize>(out: &mut ArrayVec<u8, N>, what: &What, names: &[Nam
         What::OwnerIn { owner, parent } => put_both(out, b"owner o", *owner, b" in o", *parent),
         What::MoveOwner { owner, parent } => put_both(out, b"owner o", *owner, b" to o", *parent),
         What::OwnerGone(owner) => put_owner_gone(out, *owner),
-        What::Acquire { item, owner } => put_said(out, b"acquire ", *item, *owner, names),
-        What::Release { item, owner } => put_said(out, b"release ", *item, *owner, names),
+        What::Acquire { item, owner } => put_said(out, b"acquire ", item, *owner, names),
+        What::Release { item, owner } => put_said(out, b"release ", item, *owner, names),
         What::NotClosed { item, owner } => {
-            put_said(
-                out,
-                b"warning resource was not closed: ",
-                *item,
-                *owner,
-                names,
-            )
+            let word = b"warning resource was not closed: ";
+            put_said(out, word, item, *owner, names)
         }
         What::AcquireLock {
             object,
@@ -149,29 +150,24 @@ fn put_what<const N: usize>(out: &mut ArrayVec<u8, N>, what: &What, names: &[Nam
         What::Fetched { portal, rows } => put_named(out, b"fetched ", portal, *rows),
         What::Bytes { chunk, at, bytes } => put_bytes(out, chunk, *at, bytes),
         What::Buffer { buffer, sessions } => {
-            put_both(
-                out,
-                b"buffer ",
-                *buffer as u64,
-                b" pinned by ",
-                *sessions as u64,
-            )
+            let (buffer, sessions) = (*buffer as u64, *sessions as u64);
+            put_both(out, b"buffer ", buffer, b" pinned by ", sessions)
         }
-        What::Stat(counts) => put_stat(out, *counts),
+        What::Stat(counts) => put_stat(out, counts),
         What::ContextStats {
             depth,
             context,
             name,
             counters,
-        } => { put_context_stats(out, *depth, *context, name, *counters) }
-        What::GrandTotal(counters) => put_grand_total(out, *counters),
+        } => { put_context_stats(out, *depth, *context, name, counters) }
+        What::GrandTotal(counters) => put_grand_total(out, counters),
         What::AlreadyInTransaction => {
-            put(out, b"warning there is already a transaction in progress")
+            put_word(out, b"warning there is already a transaction in progress")
         }
-        What::NotInTransaction => put(out, b"warning there is no transaction in progress"),
-        What::Ok => put(out, b"ok"),
-        What::Error(error) => put_error_line(out, *error),
-        What::Exit => put(out, b"exit"),
+        What::NotInTransaction => put_word(out, b"warning there is no transaction in progress"),
+        What::Ok => put_word(out, b"ok"),
+        What::Error(error) => put_error_line(out, error),
+        What::Exit => put_word(out, b"exit"),
     }
 }
 
@@ -182,21 +178,24 @@ fn put_create<const N: usize>(out: &mut ArrayVec<u8, N>, context: u64, name: &Na
     ensures short { array_vec_len out.new ≤ array_vec_len out.old + 200 }
 {
     put_counted(out, b"create c", context);
-    put_name(out, b" ", name);
+    put_word(out, b" ");
+    put(out, name.as_slice());
     put_counted(out, b" in c", parent);
 }
 
 /// "row NAME R V"
+#[inline(never)]
 fn put_row<const N: usize>(out: &mut ArrayVec<u8, N>, portal: &Name, row: u32, value: u32)
     requires { array_vec_len out.old + 200 ≤ N }
     ensures text { out.new.items ≡ out.old.items ++ (codes "row " ++ portal.now ++ codes " " ++ decimal row ++ codes " " ++ decimal value) }
     ensures short { array_vec_len out.new ≤ array_vec_len out.old + 200 }
 {
     put_named(out, b"row ", portal, row);
-    put_behind(out, b' ', value as u64);
+    put_counted(out, b" ", value as u64);
 }
 
 /// "bytes CHUNK N HEX"
+#[inline(never)]
 fn put_bytes<const N: usize>(out: &mut ArrayVec<u8, N>, chunk: &Name, at: u32, bytes: &ChunkBytes)
     requires { array_vec_len out.old + 400 ≤ N }
     ensures text { out.new.items ≡ out.old.items ++ (codes "bytes " ++ chunk.now ++ codes " " ++ decimal at ++ codes " " ++ encode_lower bytes.now) }
@@ -222,18 +221,18 @@ fn put_hex<const N: usize>(out: &mut ArrayVec<u8, N>, bytes: &ChunkBytes)
 
 /// "KIND KEY #S oK" behind a word, where the kind has a name.
 #[inline(always)]
-fn put_said<const N: usize>(
+fn put_said<const W: usize, const N: usize>(
     out: &mut ArrayVec<u8, N>,
-    word: &[u8],
-    item: Item,
+    word: &[u8; W],
+    item: &Item,
     owner: u64,
     names: &[Name],
 )
-    requires { (array_vec_len out.old + 300 ≤ N) × (length word.now ≤ 40) }
-    ensures text { IfSome (item_text names.now word.now item owner) (λ text. out.new.items ≡ out.old.items ++ text) }
+    requires { (array_vec_len out.old + 300 ≤ N) × (W ≤ 40) }
+    ensures text { IfSome (item_text names.now word.now item.now owner) (λ text. out.new.items ≡ out.old.items ++ text) }
     ensures short { array_vec_len out.new ≤ array_vec_len out.old + 200 }
 {
-    put(out, word);
+    put_word(out, word);
     put_kind(out, item.kind, names);
     put_item(out, item, owner);
 }
@@ -252,72 +251,73 @@ fn put_kind<const N: usize>(out: &mut ArrayVec<u8, N>, kind: KindId, names: &[Na
         return;
     }
     match kind.0 {
-        1 => put(out, b"buffer pin"),
-        2 => put(out, b"relcache reference"),
-        3 => put(out, b"catcache reference"),
-        4 => put(out, b"catcache list reference"),
-        5 => put(out, b"plan reference"),
-        6 => put(out, b"tuple descriptor reference"),
-        7 => put(out, b"snapshot reference"),
-        8 => put(out, b"file"),
+        1 => put_word(out, b"buffer pin"),
+        2 => put_word(out, b"relcache reference"),
+        3 => put_word(out, b"catcache reference"),
+        4 => put_word(out, b"catcache list reference"),
+        5 => put_word(out, b"plan reference"),
+        6 => put_word(out, b"tuple descriptor reference"),
+        7 => put_word(out, b"snapshot reference"),
+        8 => put_word(out, b"file"),
         _ => {}
     }
 }
 
 /// "KEY #S oK" behind a kind's name, with a space before it.
-fn put_item<const N: usize>(out: &mut ArrayVec<u8, N>, item: Item, owner: u64)
+fn put_item<const N: usize>(out: &mut ArrayVec<u8, N>, item: &Item, owner: u64)
     requires { array_vec_len out.old + 80 ≤ N }
-    ensures text { out.new.items ≡ out.old.items ++ (codes " " ++ decimal item.key ++ codes " #" ++ decimal item.serial ++ by_owner owner) }
+    ensures text { out.new.items ≡ out.old.items ++ (codes " " ++ decimal item.now.key ++ codes " #" ++ decimal item.now.serial ++ by_owner owner) }
     ensures short { array_vec_len out.new ≤ array_vec_len out.old + 80 }
 {
-    put_behind(out, b' ', item.key as u64);
-    put_behind_two(out, b' ', b'#', item.serial);
-    put_owner(out, owner);
+    put_counted(out, b" ", item.key as u64);
+    put_counted(out, b" #", item.serial);
+    put_counted(out, b" o", owner);
 }
 
 #[tactic(auto, unfolding(crate::specs::Text::error_text))]
-fn put_error<const N: usize>(out: &mut ArrayVec<u8, N>, error: Error)
+fn put_error<const N: usize>(out: &mut ArrayVec<u8, N>, error: &Error)
     requires { array_vec_len out.old + 100 ≤ N }
-    ensures text { out.new.items ≡ out.old.items ++ error_text error }
+    ensures text { out.new.items ≡ out.old.items ++ error_text error.now }
     ensures short { array_vec_len out.new ≤ array_vec_len out.old + 100 }
 {
     match error {
-        Error::SyntaxError => put(out, b"42601 syntax error"),
-        Error::NoSuchSession => put(out, b"08003 no such session"),
-        Error::TransactionAborted => put(out, b"25P02 transaction is aborted"),
-        Error::NoTransactionBlock => put(out, b"25P01 no transaction block"),
-        Error::NoSuchSavepoint => put(out, b"3B001 no such savepoint"),
-        Error::NoSuchName => put(out, b"42704 no such name"),
-        Error::NameTaken => put(out, b"42710 name is taken"),
-        Error::ContextProtected => put(out, b"42501 context is protected"),
-        Error::ContextInUse => put(out, b"55006 context is in use"),
-        Error::ContextCycle => put(out, b"42P17 cycle of contexts"),
-        Error::TooBig => put(out, b"54000 request is too big"),
-        Error::OutOfSpace => put(out, b"53200 out of space"),
-        Error::Injected(call) => put_counted(out, b"53200 out of memory at call ", call),
-        Error::WrongChunkSize => put(out, b"22023 wrong chunk size"),
-        Error::Unsupported => put(out, b"0A000 not supported by this kind"),
-        Error::OutsideChunk => put(out, b"22003 outside the chunk's bytes"),
-        Error::NoSuchBuffer => put(out, b"22023 no such buffer"),
-        Error::NotHeld => put(out, b"55000 not held by this owner"),
-        Error::LockHeld { session, mode } => put_lock_held(out, session, mode),
-        Error::KindLimit => put(out, b"53400 limit of the kind is reached"),
-        Error::LimitReached => put(out, b"54000 limit is reached"),
-        Error::NoSuchPortal => put(out, b"34000 no such portal"),
-        Error::PortalTaken => put(out, b"42P03 portal is there"),
-        Error::PortalFailed => put(out, b"55000 portal has failed"),
-        Error::BadRow(row) => put_counted(out, b"22012 bad row ", row as u64),
-        Error::Raised => put(out, b"P0001 raised"),
-        Error::NoMemory(call) => put_counted(out, b"53200 no memory at call ", call),
+        Error::SyntaxError => put_word(out, b"42601 syntax error"),
+        Error::NoSuchSession => put_word(out, b"08003 no such session"),
+        Error::TransactionAborted => put_word(out, b"25P02 transaction is aborted"),
+        Error::NoTransactionBlock => put_word(out, b"25P01 no transaction block"),
+        Error::NoSuchSavepoint => put_word(out, b"3B001 no such savepoint"),
+        Error::NoSuchName => put_word(out, b"42704 no such name"),
+        Error::NameTaken => put_word(out, b"42710 name is taken"),
+        Error::ContextProtected => put_word(out, b"42501 context is protected"),
+        Error::ContextInUse => put_word(out, b"55006 context is in use"),
+        Error::ContextCycle => put_word(out, b"42P17 cycle of contexts"),
+        Error::TooBig => put_word(out, b"54000 request is too big"),
+        Error::OutOfSpace => put_word(out, b"53200 out of space"),
+        Error::Injected(call) => put_counted(out, b"53200 out of memory at call ", *call),
+        Error::WrongChunkSize => put_word(out, b"22023 wrong chunk size"),
+        Error::Unsupported => put_word(out, b"0A000 not supported by this kind"),
+        Error::OutsideChunk => put_word(out, b"22003 outside the chunk's bytes"),
+        Error::NoSuchBuffer => put_word(out, b"22023 no such buffer"),
+        Error::NotHeld => put_word(out, b"55000 not held by this owner"),
+        Error::LockHeld { session, mode } => put_lock_held(out, *session, *mode),
+        Error::KindLimit => put_word(out, b"53400 limit of the kind is reached"),
+        Error::LimitReached => put_word(out, b"54000 limit is reached"),
+        Error::NoSuchPortal => put_word(out, b"34000 no such portal"),
+        Error::PortalTaken => put_word(out, b"42P03 portal is there"),
+        Error::PortalFailed => put_word(out, b"55000 portal has failed"),
+        Error::BadRow(row) => put_counted(out, b"22012 bad row ", *row as u64),
+        Error::Raised => put_word(out, b"P0001 raised"),
+        Error::NoMemory(call) => put_counted(out, b"53200 no memory at call ", *call),
     }
 }
 
-fn put_error_line<const N: usize>(out: &mut ArrayVec<u8, N>, error: Error)
+#[inline(never)]
+fn put_error_line<const N: usize>(out: &mut ArrayVec<u8, N>, error: &Error)
     requires { array_vec_len out.old + 110 ≤ N }
-    ensures text { out.new.items ≡ out.old.items ++ (codes "ERROR " ++ error_text error) }
+    ensures text { out.new.items ≡ out.old.items ++ (codes "ERROR " ++ error_text error.now) }
     ensures short { array_vec_len out.new ≤ array_vec_len out.old + 110 }
 {
-    put(out, b"ERROR ");
+    put_word(out, b"ERROR ");
     put_error(out, error);
 }
 
@@ -328,7 +328,7 @@ fn put_lock_held<const N: usize>(out: &mut ArrayVec<u8, N>, session: u8, mode: M
     ensures short { array_vec_len out.new ≤ array_vec_len out.old + 100 }
 {
     put_counted(out, b"55P03 lock is held by session ", session as u64);
-    put(out, b" as ");
+    put_word(out, b" as ");
     put(out, mode.name());
 }
 
@@ -339,20 +339,22 @@ fn put_owner_gone<const N: usize>(out: &mut ArrayVec<u8, N>, owner: u64)
     ensures short { array_vec_len out.new ≤ array_vec_len out.old + 40 }
 {
     put_counted(out, b"owner o", owner);
-    put(out, b" gone");
+    put_word(out, b" gone");
 }
 
 /// "acquire lock N MODE oK"
+#[inline(never)]
 fn put_acquire_lock<const N: usize>(out: &mut ArrayVec<u8, N>, object: u32, mode: Mode, owner: u64)
     requires { array_vec_len out.old + 200 ≤ N }
     ensures text { out.new.items ≡ out.old.items ++ (lock_text (codes "acquire lock ") object mode ++ by_owner owner) }
     ensures short { array_vec_len out.new ≤ array_vec_len out.old + 200 }
 {
     put_lock(out, b"acquire lock ", object, mode);
-    put_owner(out, owner);
+    put_counted(out, b" o", owner);
 }
 
 /// "pass lock N MODE xC oK to oJ"
+#[inline(never)]
 fn put_pass_lock<const N: usize>(
     out: &mut ArrayVec<u8, N>,
     object: u32,
@@ -366,45 +368,41 @@ fn put_pass_lock<const N: usize>(
     ensures short { array_vec_len out.new ≤ array_vec_len out.old + 300 }
 {
     put_lock_counts(out, b"pass lock ", object, mode, count, from);
-    put(out, b" to");
-    put_owner(out, to);
+    put_word(out, b" to");
+    put_counted(out, b" o", to);
 }
 
 /// A word, a lock, how many counts of it, and their owner.
-fn put_lock_counts<const N: usize>(
+#[inline(never)]
+fn put_lock_counts<const W: usize, const N: usize>(
     out: &mut ArrayVec<u8, N>,
-    word: &[u8],
+    word: &[u8; W],
     object: u32,
     mode: Mode,
     count: u64,
     owner: u64,
 )
-    requires { (array_vec_len out.old + 200 ≤ N) × (length word.now ≤ 40) }
+    requires { (array_vec_len out.old + 200 ≤ N) × (W ≤ 40) }
     ensures text { out.new.items ≡ out.old.items ++ lock_counts word.now object mode count owner }
     ensures short { array_vec_len out.new ≤ array_vec_len out.old + 200 }
 {
     put_lock(out, word, object, mode);
     put_counted(out, b" x", count);
-    put_owner(out, owner);
+    put_counted(out, b" o", owner);
 }
 
 /// A word and a lock behind it.
-fn put_lock<const N: usize>(out: &mut ArrayVec<u8, N>, word: &[u8], object: u32, mode: Mode)
-    requires { (array_vec_len out.old + 100 ≤ N) × (length word.now ≤ 40) }
+fn put_lock<const W: usize, const N: usize>(
+    out: &mut ArrayVec<u8, N>,
+    word: &[u8; W],
+    object: u32,
+    mode: Mode,
+)
+    requires { (array_vec_len out.old + 100 ≤ N) × (W ≤ 40) }
     ensures text { out.new.items ≡ out.old.items ++ lock_text word.now object mode }
     ensures short { array_vec_len out.new ≤ array_vec_len out.old + 100 }
 {
     put_counted(out, word, object as u64);
     out.push(b' ');
     put(out, mode.name());
-}
-
-/// " oK" of an owner.
-#[inline(always)]
-fn put_owner<const N: usize>(out: &mut ArrayVec<u8, N>, owner: u64)
-    requires { array_vec_len out.old + 22 ≤ N }
-    ensures text { out.new.items ≡ out.old.items ++ by_owner owner }
-    ensures short { array_vec_len out.new ≤ array_vec_len out.old + 22 }
-{
-    put_behind_two(out, b' ', b'o', owner);
 }

@@ -35,8 +35,8 @@ returns-in-GrandTotal-clause-text g c = rw c.in-GrandTotal.is c.put_grand_total.
 
 pub returns-in-AlreadyInTransaction-clause-text : goal.returns-in-AlreadyInTransaction-clause-text
 unfolding what_text
-returns-in-AlreadyInTransaction-clause-text g c = rw c.in-AlreadyInTransaction.is c.put.ensures.text
+returns-in-AlreadyInTransaction-clause-text g c = rw c.in-AlreadyInTransaction.is c.put_word.ensures.text
 
 pub returns-in-NotInTransaction-clause-text : goal.returns-in-NotInTransaction-clause-text
 unfolding what_text
-returns-in-NotInTransaction-clause-text g c = rw c.in-NotInTransaction.is c.put-in-NotInTransaction.ensures.text
+returns-in-NotInTransaction-clause-text g c = rw c.in-NotInTransaction.is c.put_word-in-NotInTransaction.ensures.text

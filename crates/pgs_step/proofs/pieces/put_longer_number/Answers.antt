@@ -1,6 +1,6 @@
 use Rattle.std.proofs.Common.{arith}
 use Rattle.pgs_step.proofs.DigitLemmas.{hundreds_told}
-use Rattle.pgs_step.proofs.pieces.put_long_number.Goals as goal
+use Rattle.pgs_step.proofs.pieces.put_longer_number.Goals as goal
 
 pub returns-then-n-lt1000000-clause-text : goal.returns-then-n-lt1000000-clause-text
 returns-then-n-lt1000000-clause-text g c =
