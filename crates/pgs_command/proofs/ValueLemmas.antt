@@ -1,11 +1,13 @@
 -- What a word stands for.
-use Rattle.std.proofs.Common.{◌≡◌, ℕ, ◌<◌, ◌≤◌, ◌^◌, ◌/◌, Bool, true, false, List, length, Option, Some, None, IsSome, refl, sym, ◌∙◌, ap, arith}
+use Rattle.std.proofs.Common.{◌≡◌, ℕ, ◌<◌, ◌≤◌, ◌^◌, ◌/◌, Bool, true, false, List, length, Option, Some, None, IsSome, refl, sym, ◌∙◌, ap, subst, get_or, arith}
 use Rattle.std.specs.Prelude.{nat_le, ◌&&◌, if◌then◌else◌, IfSome, ◌↔◌}
 use Rattle.std.specs.List.{list_all}
 use Rattle.std.proofs.lemmas.Bool.{and_parts}
 use Rattle.std.proofs.lemmas.Bool.Decides.{nat_tests}
-use Rattle.std.proofs.lemmas.Str.Parse.{IsNumeralModel, numerals_by_value, tells_digits}
-use Rattle.std.proofs.lemmas.Fmt.{digits_value-decimal}
+use Rattle.std.proofs.lemmas.Str.Parse.{IsNumeralModel, numerals_by_value, tells_digits, digit_at}
+use Rattle.std.proofs.lemmas.Fmt.{digits_value-decimal, decimal_is_IsNumeral}
+use Rattle.std.specs.Int.{IsInRange}
+use Rattle.std.proofs.lemmas.List.Folds.{list_all_at}
 use Rattle.std.specs.Fmt.{decimal}
 use Rattle.std.specs.Str.Parse.{AllDigits, digits_value}
 use lib.Pointwise.{bytes_decides}
@@ -51,6 +53,18 @@ pub name_of-is : (word : List ℕ) (r : Option (List ℕ)) → (IsSome r ↔ IsN
 unfolding name_of
 name_of-is word r s v = named word (test word) r (λ h. tests word (s.0 h)) (λ h. s.1 (tested word h)) v
 
+-- a name has no space
+pub name_of-space : (word : List ℕ) (i : ℕ) → i < length word → get_or word i 0 ≡ 32 → name_of word ≡ None
+unfolding name_of
+name_of-space word i at e =
+    let letters : list_all is_name_byte word ≡ false = list_all_at is_name_byte word i 0 at (ap is_name_byte e) in
+    no_name (nat_le 1 (length word)) (nat_le (length word) 32) (list_all is_name_byte word) word letters
+  where
+    no_name : (some short letters : Bool) (word : List ℕ) → letters ≡ false → (if some && (short && letters) then Some word else None) ≡ None
+    no_name true true letters word h = rw h refl
+    no_name true false letters word h = refl
+    no_name false short letters word h = refl
+
 -- ---- numbers
 
 model : IsNumeralModel (AllDigits 10) (digits_value 10)
@@ -81,6 +95,16 @@ unfolding number_between
 number_between-none least most word h =
     not_chosen (is_text word (decimal (digits_value 10 word))) (nat_le least (digits_value 10 word)) (nat_le (digits_value 10 word) most) (digits_value 10 word)
     (λ t l m. h (digits_value 10 word) (grind (arith, nat_tests)) (grind (arith, nat_tests)) (is_text-means word (decimal (digits_value 10 word)) t))
+
+-- a number has no space
+digit_bytes : (b : ℕ) → IsInRange 48 57 b → b ≡ 32 → ⊥
+digit_bytes b h e = grind (arith, nat_tests)
+
+pub number_between-space : (least most : ℕ) (word : List ℕ) → most < 2 ^ 64 → (i : ℕ) → i < length word → get_or word i 0 ≡ 32 → number_between least most word ≡ None
+number_between-space least most word small i at e =
+    number_between-none least most word (λ n low high written.
+    let all : AllDigits 10 word = subst (AllDigits 10) (sym written) (decimal_is_IsNumeral n (omega arith)).0.1 in
+    digit_bytes (get_or word i 0) (digit_at word i all at) e)
 
 -- a number below the range is none
 pub number_between-low : (least most : ℕ) (word : List ℕ) (n : ℕ) → word ≡ decimal n → n < least → n < 2 ^ 64 → number_between least most word ≡ None

@@ -112,6 +112,18 @@ query_rows =
     ∷ row (codes "endportal") (one name_of EndPortal)
     ∷ []
 
+-- the lines of one word
+abbrev pub alone_rows : List Row
+alone_rows =
+    row (codes "begin") (none Begin)
+    ∷ row (codes "commit") (none Commit)
+    ∷ row (codes "rollback") (none Rollback)
+    ∷ row (codes "raise") (none Raise)
+    ∷ row (codes "report") (none Report)
+    ∷ row (codes "stat") (none Stat)
+    ∷ row (codes "pop") (none Pop)
+    ∷ []
+
 -- what the first row makes of a line that begins with its word and has the form of the row
 abbrev pub look_up : List Row → List ℕ → Reading
 look_up [] word words = None

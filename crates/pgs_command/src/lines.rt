@@ -1,7 +1,7 @@
 //! Whole lines.
 ghost use Rattle.std.specs.Prelude.{◌≡◌, ℕ, Bool, List, IfOk, IfErr, IfSome};
 ghost use Rattle.pgs_io.specs.Lines.{IsKept};
-ghost use Rattle.pgs_command.specs.Lines.{prefix_of, session_of, is_comment, short_command, said, read_line};
+ghost use Rattle.pgs_command.specs.Lines.{prefix_of, session_of, text_of, is_comment, short_command, said, read_line};
 ghost use Rattle.pgs_command.specs.Ranges.{IsSession, IsInRange};
 
 use crate::commands::Command;
@@ -89,10 +89,17 @@ fn read_short(line: &[u8]) -> Option<Command<'_>>
     if is_comment(line) {
         return Some(Command::Nothing);
     }
+    read_command(text_of(line))
+}
+
+/// What stands behind the prefix.
+fn text_of(line: &[u8]) -> &[u8]
+    ensures { result.now ≡ text_of line.now }
+{
     if prefix(line).is_some() {
-        read_command(&line[3..])
+        &line[3..]
     } else {
-        read_command(line)
+        line
     }
 }
 

@@ -1,8 +1,8 @@
 //! The commands, by the first words of their lines.
-ghost use Rattle.std.specs.Prelude.{◌≡◌, None, Some, codes, IfSome};
+ghost use Rattle.std.specs.Prelude.{◌≡◌, [], None, Some, codes, IfSome};
 ghost use Rattle.std.specs.Option.{option_or, option_map, option_copied};
 ghost use Rattle.pgs_command.specs.Words.{words_of, words_in, alone, only, behind};
-ghost use Rattle.pgs_command.specs.Table.{look_up, table, transaction_rows, context_rows, chunk_rows, resource_rows, query_rows, none, one, three, four, with_kind, portal, portal_with_bad, command_of};
+ghost use Rattle.pgs_command.specs.Table.{look_up, table, transaction_rows, context_rows, chunk_rows, resource_rows, query_rows, alone_rows, none, one, three, four, with_kind, portal, portal_with_bad, command_of};
 ghost use Rattle.pgs_command.specs.Ranges.{IsInRange};
 ghost use Rattle.pgs_command.specs.Values.{name_of, number_of, bytes_of, length_of, count_of, kind_of};
 ghost use Rattle.pgs_command.specs.declared.commands.Command.TheVariants.{Rollback, RollbackTo, Put, Show, Portal};
@@ -10,7 +10,7 @@ ghost use Rattle.pgs_command.specs.declared.commands.Command.TheVariants.{Rollba
 use crate::commands::Command;
 use crate::hex_bytes::HexBytes;
 use crate::kinds::ContextKind;
-use crate::picks::by_word;
+use crate::picks::{by_word, is_word};
 use crate::values::{read_number, read_plain_kind};
 use crate::words::{Words, split_word};
 
@@ -38,7 +38,7 @@ fn read_rollback(mut words: Words<'_>) -> Option<Command<'_>>
     match words.next() {
         None => Some(Command::Rollback),
         Some(word) => {
-            if word == b"to".as_slice() {
+            if is_word(word, b"to".as_slice()) {
                 Some(Command::RollbackTo(words.only_name()?))
             } else {
                 None
@@ -80,7 +80,7 @@ fn read_kind(mut words: Words<'_>) -> Option<ContextKind>
     ensures { result ≡ kind_of words.entry }
 {
     let word = words.next()?;
-    if word == b"slab".as_slice() {
+    if is_word(word, b"slab".as_slice()) {
         let size = words.number(1, 1024)?;
         words.end(ContextKind::Slab(size))
     } else {
@@ -198,7 +198,24 @@ fn read_bad(mut words: Words<'_>) -> Option<Option<u32>>
     }
 }
 
+/// The command of a line of one word, where it is in the table.
+#[inline(always)]
+fn read_alone(word: &[u8]) -> Option<Command<'_>>
+    ensures { result ≡ look_up alone_rows word.now [] }
+{
+    by_word! { word;
+        b"begin" => Some(Command::Begin),
+        b"commit" => Some(Command::Commit),
+        b"rollback" => Some(Command::Rollback),
+        b"raise" => Some(Command::Raise),
+        b"report" => Some(Command::Report),
+        b"stat" => Some(Command::Stat),
+        b"pop" => Some(Command::Pop),
+    }
+}
+
 /// The command of a line's words, the first of which is `word`, where it is in the table.
+#[inline(never)]
 fn read_listed<'a>(word: &[u8], rest: Option<&'a [u8]>) -> Option<Command<'a>>
     ensures { result ≡ look_up table word.now (words_in (option_copied rest.entry)) }
 {
@@ -223,5 +240,8 @@ pub(crate) fn read_command(text: &[u8]) -> Option<Command<'_>>
     ensures in_range { IfSome result (λ command. IsInRange command) }
 {
     let (word, rest) = split_word(text);
-    read_listed(word, rest)
+    match rest {
+        None => read_alone(word),
+        Some(_) => read_listed(word, rest),
+    }
 }

@@ -4,7 +4,7 @@ ghost use Rattle.pgs_step.specs.Mode.{mode_name};
 ghost use Rattle.pgs_command.specs.Values.{name_of, number_between, class_of, mode_of, plain_kind};
 
 use crate::kinds::{ContextKind, ReferenceClass};
-use crate::picks::by_word;
+use crate::picks::{by_word, is_word};
 use pgs_io::number;
 use pgs_step::{Mode, Name};
 

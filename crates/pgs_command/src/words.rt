@@ -79,19 +79,25 @@ impl<'a> Words<'a> {
     }
 
     /// The one word that is left, a name.
-    pub(crate) fn only_name(mut self) -> Option<Name>
+    pub(crate) fn only_name(self) -> Option<Name>
         ensures { result ≡ only name_of self.entry }
     {
-        let name = self.name()?;
-        self.end(name)
+        // A text with a second word has a space, and is no name.
+        match self.text {
+            Some(text) => read_name(text),
+            None => None,
+        }
     }
 
     /// The one word that is left, a number.
-    pub(crate) fn only_number(mut self) -> Option<u32>
+    pub(crate) fn only_number(self) -> Option<u32>
         ensures { result ≡ only number_of self.entry }
     {
-        let number = self.number(0, u32::MAX)?;
-        self.end(number)
+        // A text with a second word has a space, and is no number.
+        match self.text {
+            Some(text) => read_number(text, 0, u32::MAX),
+            None => None,
+        }
     }
 
     /// The two words that are left, a name and a number.

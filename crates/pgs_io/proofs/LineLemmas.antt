@@ -66,6 +66,10 @@ take-append-room n xs ys k fits e =
     take-min : (ys : List ℕ) (m : ℕ) → take (min (length ys) m) ys ≡ take m ys
     take-min ys m = ⊎_elim (λ h. ap (λ k. take k ys) (omega arith)) (λ h. ap (λ k. take k ys) (omega arith) ∙ take_all (length ys) ys (omega arith) ∙ sym (take_all m ys h)) (cases_lt m (length ys))
 
+-- what is put behind the first a of a list, read again
+pub take-put : (a n : ℕ) (xs ys post : List ℕ) → length (take a xs ++ ys) ≡ n → take n (take a xs ++ (ys ++ post)) ≡ take a xs ++ ys
+take-put a n xs ys post e = ap (take n) (sym (append_assoc (take a xs) ys post)) ∙ take_at (take a xs ++ ys) post n e
+
 -- more of a line goes into the buffer as far as there is room
 take-take_append : (n : ℕ) (xs ys : List ℕ) → take n (take n xs ++ ys) ≡ take n (xs ++ ys)
 take-take_append n xs ys =

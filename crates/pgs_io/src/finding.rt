@@ -10,5 +10,12 @@ pub(crate) fn first_of(bytes: &[u8], byte: u8) -> Option<usize>
     ensures there { IfSome result (λ at. slice_index bytes.now at ≡ byte) }
     ensures absent { IfNone result (All (λ b. b ≢ byte) bytes.now) }
 {
-    bytes.iter().position(|b| *b == byte)
+    let mut at = 0;
+    while at < bytes.len() {
+        if bytes[at] == byte {
+            return Some(at);
+        }
+        at += 1;
+    }
+    None
 }

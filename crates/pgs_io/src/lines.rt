@@ -2,7 +2,6 @@
 ghost use Rattle.std.specs.Prelude.{◌≡◌, ◌<◌, ◌≤◌, ◌+◌, ◌↔◌, [], ◌∷◌, ◌++◌, length, take, IsTrue};
 ghost use Rattle.std.specs.Bool.{OnTrue, OnFalse};
 
-use arrayvec::ArrayVec;
 use std::marker::Model;
 
 /// The most bytes that a line may have.
@@ -11,15 +10,18 @@ pub(crate) const LINE_BYTES: usize = 512;
 /// At most 512 bytes: a line, or the front of a longer one.
 #[derive(Drop)]
 pub struct LineBuf {
-    bytes: ArrayVec<u8, LINE_BYTES>,
+    bytes: [u8; LINE_BYTES],
+    length: usize,
 }
 
 impl Model for LineBuf {
-    ghost use Rattle.std.specs.Prelude.{List, ℕ};
+    ghost use Rattle.std.specs.Prelude.{List, ℕ, ◌≤◌, take};
 
     ghost Value = { List ℕ };
 
-    ghost view = { λ b. b.bytes.items };
+    ghost view = { λ b. take b.length b.bytes };
+
+    ghost invariant = { λ b. b.length ≤ 512 };
 }
 
 impl LineBuf {
@@ -28,7 +30,8 @@ impl LineBuf {
         ensures { result ≡ [] }
     {
         LineBuf {
-            bytes: ArrayVec::new(),
+            bytes: [0; LINE_BYTES],
+            length: 0,
         }
     }
 
@@ -39,7 +42,12 @@ impl LineBuf {
         ensures appended { OnTrue result (self.new ≡ self.old ++ byte ∷ []) }
         ensures unchanged { OnFalse result (self.new ≡ self.old) }
     {
-        self.bytes.try_push(byte).is_ok()
+        if self.length == LINE_BYTES {
+            return false;
+        }
+        self.bytes[self.length] = byte;
+        self.length += 1;
+        true
     }
 
     /// Appends as many of the bytes as there is room for, and answers whether that were all.
@@ -47,8 +55,10 @@ impl LineBuf {
         ensures fits { IsTrue result ↔ (length self.old + length bytes.now ≤ 512) }
         ensures appended { self.new ≡ take 512 (self.old ++ bytes.now) }
     {
-        let count = bytes.len().min(self.bytes.remaining_capacity());
-        let _ = self.bytes.try_extend_from_slice(&bytes[..count]);
+        let count = bytes.len().min(LINE_BYTES - self.length);
+        let end = self.length + count;
+        self.bytes[self.length..end].copy_from_slice(&bytes[..count]);
+        self.length = end;
         count == bytes.len()
     }
 
@@ -57,13 +67,13 @@ impl LineBuf {
         ensures bytes { result.now ≡ self.now }
         ensures fits { length result.now ≤ 512 }
     {
-        self.bytes.as_slice()
+        &self.bytes[..self.length]
     }
 
     /// Empties the buffer.
     pub fn clear(&mut self)
         ensures { self.new ≡ [] }
     {
-        self.bytes.clear();
+        self.length = 0;
     }
 }

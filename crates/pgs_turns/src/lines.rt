@@ -19,6 +19,7 @@ pub struct Said<'a> {
 /// What a line asks for.
 ///
 /// `kept` are the first 512 bytes of the line, and `long` says whether it has more.
+#[inline(never)]
 pub fn read_line(kept: &[u8], long: bool) -> Said<'_>
     ensures read { (line : List ℕ) → IsKept line kept.now long → result ≡ said_in (read_line line) }
     ensures session { IsSession result.session }

@@ -6,8 +6,8 @@ use Rattle.pgs_command.proofs.ValueLemmas.{is_text-means}
 use Rattle.pgs_command.proofs.TableLemmas.{or_none}
 use Rattle.pgs_command.proofs.rows.read_transaction.Goals as goal
 
-pub returns-then-eq-3 : goal.returns-then-eq-3
-returns-then-eq-3 c =
+pub returns-then-is_word-3 : goal.returns-then-is_word-3
+returns-then-is_word-3 c =
     let words = words_in (option_copied c.args.rest) in
     let word : c.args.word.now ≡ codes "rollback" = is_text-means c.args.word.now (codes "rollback") (search rules) in
     subst (λ w. c.read_rollback.result ≡ look_up transaction_rows w words) (sym word) (c.read_rollback.ensures ∙ rw c.new-words.ensures (simp or_none))
