@@ -87,7 +87,7 @@ impl<'a, K: Sink> Printer<'a, K> {
         ensures bytes { TakesBytes K.written K.faults self.old [] self.new }
         ensures room { self.new.failed ≡ false → array_vec_len self.new.gathered + LINE ≤ GATHERED }
     {
-        if self.gathered.remaining_capacity() < LINE {
+        if self.gathered.len() > GATHERED - LINE {
             self.flush();
         }
     }
