@@ -18,8 +18,7 @@ pub trait Tells<X> {
 
 /// What stands at each address where a chunk was cut.
 ///
-/// It takes no memory and owns none: it says what the clauses of its owner tell. The code reads a chunk's header and a
-/// free chunk's link in the space.
+/// It takes no memory and owns none: it says what its owner's clauses tell. The code reads headers and links in the space.
 pub struct Chunks {
     marker: PhantomData<()>,
     pub ghost entries: { List (Addr × Chunk) },

@@ -27,7 +27,6 @@ fn strike(blocks: &mut IndexMap<u32, u32>, number: u32)
 
 impl Books {
     ghost use Rattle.alloc_set.specs.Kept.{state_of, taken_bytes, IsCleared, IsKept};
-    ghost use Rattle.alloc_set.specs.Steps.{PutsChunk};
 
     // The class of a live chunk, as its header says, or nothing where it has its block for itself.
     #[inline]
@@ -196,14 +195,16 @@ impl Books {
         self.give_blocks(space);
     }
 
-    // Gives all back.
+    // Gives all back. Where the keeper is alone, it goes as it is.
     pub fn discard(&mut self, space: &mut Space)
         requires kept { IsKept self.old }
         requires agrees { Agrees (footprint (state_of self.old)) space.old }
         ensures moves { Moves (footprint (state_of self.old)) (nothing self.old.account self.old.context) space.old space.new }
         ensures asked { space.new.taken ≡ space.old.taken }
     {
-        self.reset(space);
+        if self.blocks.len() != 0 {
+            self.reset(space);
+        }
         space.give(Addr {
             region: self.keeper,
             offset: 0,
