@@ -21,6 +21,7 @@ pub enum Locks {
 }
 
 /// Does to the locks of an owner what is to happen to them.
+#[inline(always)]
 pub fn do_locks<R: Release, E: Emit>(locks: Locks, table: &mut R, out: &mut E)
     requires fit { R.IsFit table.old }
     ensures steps { (events : List What) × R.does table.old (steps_of_locks locks) events table.new × E.emits out.old events out.new }

@@ -220,6 +220,7 @@ impl Owners {
     /// `top` says that the owner is the topmost one. Its call for the phase of locks then releases all locks
     /// of the session at once; else locks go to the parent at commit and are released at abort. At commit
     /// each item's release stands behind its warning. It takes no memory.
+    #[inline(always)]
     pub fn release<R: Release, E: Emit>(
         &mut self,
         owner: OwnerId,

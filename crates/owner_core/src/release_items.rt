@@ -11,8 +11,34 @@ use crate::table::Release;
 use owner_items::Items;
 use pgs_step::{Emit, Item, Phase, What};
 
-/// Releases an owner's items of a phase, in their order.
+/// Releases an owner's items of a phase, in their order: at once where it has none.
+#[inline(always)]
 pub fn release_items<R: Release, E: Emit>(
+    items: &mut Items,
+    owner: u64,
+    phase: Phase,
+    commit: bool,
+    table: &mut R,
+    out: &mut E,
+)
+    requires fit { R.IsFit table.old }
+    requires kinds { All (λ item. IsKind (R.kind_table table.old) item.kind) items.old.items }
+    requires counted { (kind : Kind) (key : ℕ) → uses kind key items.old.items ≤ R.counted table.old kind key }
+    ensures items { items.new.items ≡ items_left (R.kind_table table.old) phase items.old.items }
+    ensures steps { (events : List What) × R.does table.old (releases_of commit owner (release_order (R.kind_table table.old) phase items.old.items)) events table.new × E.emits out.old events out.new }
+    ensures fit { R.IsFit table.new }
+    ensures kinds { R.kind_table table.new ≡ R.kind_table table.old }
+    ensures counted { (kind : Kind) (key : ℕ) → R.counted table.new kind key + uses kind key items.old.items ≡ R.counted table.old kind key + uses kind key items.new.items }
+{
+    if items.len() == 0 {
+        return;
+    }
+    release_each(items, owner, phase, commit, table, out);
+}
+
+/// Releases an owner's items of a phase, one behind the other.
+#[inline(never)]
+fn release_each<R: Release, E: Emit>(
     items: &mut Items,
     owner: u64,
     phase: Phase,

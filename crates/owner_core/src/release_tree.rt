@@ -69,6 +69,7 @@ fn locks_of_top(nodes: &LinkedForest<Node>, id: NodeId, how: How) -> Locks
 }
 
 /// Releases a phase of one owner.
+#[inline(always)]
 fn release_own<R: Release, E: Emit>(
     node: &mut Node,
     number: u64,
@@ -109,6 +110,7 @@ fn release_own<R: Release, E: Emit>(
 }
 
 /// Releases a phase of the owner at a node.
+#[inline(always)]
 fn release_one<R: Release, E: Emit>(
     nodes: &mut LinkedForest<Node>,
     id: NodeId,
@@ -136,6 +138,7 @@ fn release_one<R: Release, E: Emit>(
 }
 
 /// Releases a phase of the owner at a node and of all below it: each behind what is below it.
+#[inline(always)]
 pub fn release_tree<R: Release, E: Emit>(
     nodes: &mut LinkedForest<Node>,
     owner: NodeId,

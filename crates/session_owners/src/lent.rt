@@ -51,14 +51,17 @@ impl<'a, K: ExtKind, P: PlanContexts> Release for Lent<'a, K, P> {
         }
     }
 
+    #[inline(never)]
     fn release_owner<E: Emit>(&mut self, owner: OwnerId, out: &mut E) {
         self.locks.release_owner(self.shared, owner, out);
     }
 
+    #[inline(never)]
     fn pass_owner<E: Emit>(&mut self, from: OwnerId, to: OwnerId, out: &mut E) {
         self.locks.pass_owner(from, to, out);
     }
 
+    #[inline(never)]
     fn release_all<E: Emit>(&mut self, top: OwnerId, out: &mut E) {
         self.locks.release_all(self.shared, top, out);
     }

@@ -473,6 +473,7 @@ impl Resources {
     }
 
     /// Releases a phase of the owner and of all below it.
+    #[inline(always)]
     fn release_phase<K: ExtKind, P: PlanContexts, E: Emit>(
         &mut self,
         owner: OwnerId,

@@ -6,8 +6,8 @@ use Rattle.owner_items.specs.ItemList.{uses}
 use Rattle.owner_items.specs.Next.{release_order, items_left}
 use Rattle.owner_core.specs.Steps.{release_of}
 use Rattle.owner_core.proofs.ItemLemmas.{uses_taken, uses_own, left_all, releases_more}
-use Rattle.owner_core.proofs.release_items.release_items.Goals as goal
-use Rattle.owner_core.proofs.release_items.release_items.Given as given
+use Rattle.owner_core.proofs.release_items.release_each.Goals as goal
+use Rattle.owner_core.proofs.release_items.release_each.Given as given
 
 pub loop-item-init : goal.loop-item-init
 loop-item-init g c = record {

@@ -6,7 +6,7 @@ use Rattle.owner_kinds.specs.KindTable.{IsKind}
 use Rattle.owner_items.specs.ItemList.{uses}
 use Rattle.owner_items.specs.Next.{release_order, items_left}
 use Rattle.owner_core.specs.Steps.{Step, releases_of}
-use Rattle.owner_core.proofs.release_items.release_items.Given as goal
+use Rattle.owner_core.proofs.release_items.release_each.Given as goal
 
 abbrev pub invariant-loop-item : goal.invariant-loop-item
 invariant-loop-item g l = record {
