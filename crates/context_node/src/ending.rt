@@ -1,5 +1,5 @@
 //! What happens when a context is reset or goes.
-ghost use Rattle.std.specs.Prelude.{◌≡◌, ◌++◌, ◌≤◌, ℕ, List, [], length, true};
+ghost use Rattle.std.specs.Prelude.{◌≡◌, ◌++◌, ◌≤◌, ℕ, List, [], length, true, false};
 ghost use Rattle.std.specs.HashMap.{get};
 ghost use Rattle.reset_callbacks.specs.Hook.{AreDistinct};
 ghost use Rattle.reset_callbacks.specs.ShelfState.{held};
@@ -39,6 +39,7 @@ pub fn run_all<H: ResetHook, E: Emit>(
 }
 
 /// Takes all chunks of a context out, and their names out of the map.
+#[inline(always)]
 pub fn forget_all(chunks: &mut LinkedForest<Entry>, names: &mut HashMap<Name, ChunkId>)
     requires flat { AreFlat chunks.old.forest }
     requires once { Once chunks.old.forest }
@@ -56,10 +57,19 @@ pub fn forget_all(chunks: &mut LinkedForest<Entry>, names: &mut HashMap<Name, Ch
 }
 
 /// Takes the name of a context that goes out of the map, unless the context is protected.
+#[inline(always)]
 pub fn forget_context(names: &mut HashMap<Name, CtxId>, protected: bool, name: &Name)
     ensures { (w : List ℕ) → get same names.new w ≡ without_context protected name.now (get same names.old) w }
 {
     if !protected {
-        let _ = names.remove(name);
+        strike(names, name);
     }
+}
+
+/// Takes a name out of the map.
+#[inline(never)]
+fn strike(names: &mut HashMap<Name, CtxId>, name: &Name)
+    ensures { (w : List ℕ) → get same names.new w ≡ without_context false name.now (get same names.old) w }
+{
+    let _ = names.remove(name);
 }

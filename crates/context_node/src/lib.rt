@@ -11,7 +11,6 @@ mod zeros;
 
 pub use chunk_id::ChunkId;
 pub use chunk_names::{enter_chunk, room_for_chunk};
-pub use ending::forget_context;
 pub use entry::Entry;
 pub use making::{NewContext, enter_context, give_back, make_node, own_name, room_for_name};
 pub use node::Node;

@@ -1,5 +1,5 @@
 //! One memory context.
-ghost use Rattle.std.specs.Prelude.{◌≡◌, [], ◌≢◌, ◌⊎◌, ◌∷◌, true, false, Some, OnOk, OnErr, IfOk, IfErr, unwrap_or, nat_lt, ◌||◌, ◌+◌, ◌++◌, ◌≤◌, length};
+ghost use Rattle.std.specs.Prelude.{◌≡◌, [], ◌≢◌, ◌⊎◌, ◌∷◌, true, false, Some, OnOk, OnErr, IfOk, IfErr, unwrap_or, nat_lt, ◌||◌, ◌+◌, ◌++◌, ◌≤◌, ℕ, List, length};
 ghost use Rattle.std.specs.HashMap.{get};
 ghost use Rattle.addr_space.specs.Footprint.{Agrees};
 ghost use Rattle.any_ctx.specs.Contexts.{footprint, ledger, place_at};
@@ -14,11 +14,11 @@ ghost use Rattle.reset_callbacks.specs.ShelfState.{held as on_shelf};
 ghost use Rattle.context_rules.specs.Ends.{callbacks};
 ghost use Rattle.context_node.specs.Soundness.{same, IsSoundContext};
 ghost use Rattle.context_node.specs.Chunking.{Took, Freed, Written, Refitted};
-ghost use Rattle.context_node.specs.Ending.{Cleared, Gone};
+ghost use Rattle.context_node.specs.Ending.{Cleared, Gone, without_context};
 ghost use Rattle.forest.specs.Forest.{at, has};
 
 use crate::chunk_id::ChunkId;
-use crate::ending::{forget_all, run_all};
+use crate::ending::{forget_all, forget_context, run_all};
 use crate::entry::Entry;
 use crate::zeros::write_zeros;
 use addr_space::{Addr, Space};
@@ -26,7 +26,7 @@ use any_ctx::{AnyCtx, CtxKind};
 use chunk_header::{CtxError, Stats};
 use context_rules::TreeError;
 use forest::{LinkedForest, NodeId};
-use pgs_step::{Emit, Name, What};
+use pgs_step::{CtxId, Emit, Name, What};
 use reset_callbacks::{Pending, ResetHook, Shelf};
 use std::collections::HashMap;
 use std::marker::Model;
@@ -84,6 +84,14 @@ impl<H: ResetHook> Node<H> {
         ensures { result ≡ self.now.used }
     {
         self.used
+    }
+
+    /// Takes its name out of the map, unless it is protected.
+    #[inline(always)]
+    pub fn forget_name(&self, names: &mut HashMap<Name, CtxId>)
+        ensures { (w : List ℕ) → get same names.new w ≡ without_context self.now.protected self.now.name (get same names.old) w }
+    {
+        forget_context(names, self.protected, &self.name);
     }
 
     /// What it holds, as its allocator counts.

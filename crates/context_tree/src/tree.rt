@@ -1,5 +1,5 @@
 //! The memory contexts of a session.
-ghost use Rattle.std.specs.Prelude.{◌≡◌, ◌≢◌, ◌⊎◌, ℕ, ◌<◌, ◌+◌, ◌≤◌, ◌^◌, ◌==◌, if◌then◌else◌, List, [], map, length, true, false, Some, None, IfOk, IfErr, IfSome, IsSome, OnOk, OnErr};
+ghost use Rattle.std.specs.Prelude.{◌≡◌, ◌≢◌, ◌⊎◌, ℕ, ◌<◌, ◌+◌, ◌≤◌, ◌^◌, ◌==◌, ◌∷◌, if◌then◌else◌, List, [], map, length, true, false, Some, None, IfOk, IfErr, IfSome, IsSome, OnOk, OnErr};
 ghost use Rattle.std.specs.Option.{option_map};
 ghost use Rattle.addr_space.specs.Space.{Space, accounts, held, Asks, HasBytes, Changes, region_at, overwritten};
 ghost use Rattle.pgs_step.specs.Name.{IsName};
@@ -24,8 +24,8 @@ use addr_space::{Addr, Space};
 use any_ctx::CtxKind;
 use chunk_header::CtxError;
 use context_node::{
-    ChunkId, Entry, NewContext, Node, enter_chunk, enter_context, forget_context, own_name,
-    room_for_chunk, room_for_name,
+    ChunkId, Entry, NewContext, Node, enter_chunk, enter_context, own_name, room_for_chunk,
+    room_for_name,
 };
 use context_rules::TreeError;
 use forest::{LinkedForest, NodeId};
@@ -749,10 +749,11 @@ impl<H: ResetHook> ContextTree<H> {
         ensures did { Did (gone at.number (stands_for self.old space.old)) self.old self.new space.old space.new shelf.old shelf.new }
         ensures emits { E.emits out.old (gone at.number (stands_for self.old space.old)).events out.new }
     {
-        let node = self.nodes.remove(node_at(at));
-        forget_context(&mut self.names, node.is_protected(), &node.name());
+        let id = node_at(at);
+        self.nodes.get(id).forget_name(&mut self.names);
+        let node = self.nodes.remove(id);
         node.end(space, shelf, &mut self.chunk_names, at.number, out);
-        out.emit(What::Delete(at.number));
+        tell_deleted(at.number, out);
     }
 
     /// Whether the current context is below this one.
@@ -926,4 +927,12 @@ fn node_at(id: CtxId) -> NodeId
         number: id.number,
         slot: id.slot,
     }
+}
+
+/// Says that a context is gone.
+#[inline(never)]
+fn tell_deleted<E: Emit>(number: u64, out: &mut E)
+    ensures { E.emits out.old (What.Delete number ∷ []) out.new }
+{
+    out.emit(What::Delete(number));
 }
