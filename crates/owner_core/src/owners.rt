@@ -3,7 +3,7 @@ ghost use Rattle.std.specs.Prelude.{◌≡◌, ◌↔◌, ◌≢◌, ℕ, ◌+�
 ghost use Rattle.std.specs.Option.{option_map, ok_or};
 ghost use Rattle.pgs_step.specs.declared.ids.KindId.{KindId as Kind};
 ghost use Rattle.pgs_step.specs.declared.events.What.{What};
-ghost use Rattle.forest.specs.Forest.{Empty, has, at, size, parent_of, is_above, removed, moved};
+ghost use Rattle.forest.specs.Forest.{Empty, has, at, children, size, parent_of, is_above, removed, moved};
 ghost use Rattle.owner_kinds.specs.KindTable.{IsKind};
 ghost use Rattle.owner_items.specs.ItemList.{is_of};
 ghost use Rattle.owner_core.specs.Owners.{OwnerTable, owners_of, IsLive, items_of, has_begun, spare_of, created, entered, remembered, forgotten, held, subtree_of, AllAt, HoldsNothing};
@@ -213,6 +213,17 @@ impl Owners {
             owner: owner.number,
             parent: parent.number,
         });
+    }
+
+    /// Whether the owner holds nothing and no owner is below it.
+    #[inline(always)]
+    pub fn is_bare(&self, owner: OwnerId) -> bool
+        requires live { IsLive self.now owner }
+        ensures items { result ≡ true → items_of owner.number (owners_of self.now) ≡ [] }
+        ensures below { result ≡ true → children owner.number (owners_of self.now) ≡ Empty }
+    {
+        let node = node_at(owner);
+        self.nodes.first_child(node).is_none() && self.nodes.get(node).items.len() == 0
     }
 
     /// Releases a phase of the owner and of all below it: `ResourceOwnerRelease`.

@@ -1,4 +1,5 @@
 pub mod Balances
+pub mod Bare
 pub mod Names
 pub mod Counts
 pub mod Kept

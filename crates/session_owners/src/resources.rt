@@ -467,6 +467,11 @@ impl Resources {
         ensures fit { PlansFit (P.MayGo place.new) self.new.plans.standing }
         ensures left { AreLeft self.old.plans.standing self.new.plans.standing }
     {
+        if self.owners.is_bare(owner) {
+            // Its locks are all that it can have.
+            self.release_phase(owner, Phase::Locks, commit, top, place, commons, out);
+            return;
+        }
         self.release_phase(owner, Phase::BeforeLocks, commit, top, place, commons, out);
         self.release_phase(owner, Phase::Locks, commit, top, place, commons, out);
         self.release_phase(owner, Phase::AfterLocks, commit, top, place, commons, out);
