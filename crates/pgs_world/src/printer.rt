@@ -68,7 +68,8 @@ impl<'a, K: Sink> Printer<'a, K> {
         self.errors
     }
 
-    /// Hands all that is gathered to the sink.
+    /// Hands all that is gathered to the sink. Most events don't come so far.
+    #[inline(never)]
     pub(crate) fn flush(&mut self)
         ensures bytes { TakesBytes K.written K.faults self.old [] self.new }
         ensures emptied { self.new.failed ≡ false → self.new.gathered.items ≡ [] }
