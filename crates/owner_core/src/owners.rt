@@ -221,6 +221,7 @@ impl Owners {
         requires live { IsLive self.now owner }
         ensures items { result ≡ true → items_of owner.number (owners_of self.now) ≡ [] }
         ensures below { result ≡ true → children owner.number (owners_of self.now) ≡ Empty }
+        ensures whole { items_of owner.number (owners_of self.now) ≡ [] → children owner.number (owners_of self.now) ≡ Empty → result ≡ true }
     {
         let node = node_at(owner);
         self.nodes.first_child(node).is_none() && self.nodes.get(node).items.len() == 0
