@@ -4,10 +4,10 @@ use Rattle.std.specs.Prelude.{codes, option_map}
 use Rattle.chunk_header.specs.declared.CtxError.TheVariants.{TooBig, NoSpace, WrongSize, Unsupported}
 use Rattle.chunk_header.specs.declared.Stats.{Stats}
 use Rattle.chunk_header.specs.Growth.{up8, granted, grown, doubled}
-use Rattle.alloc_set.specs.Ledger as set
-use Rattle.slab_ctx.specs.Ledger as slab
-use Rattle.generation_ctx.specs.Ledger as generation
-use Rattle.bump_ctx.specs.Ledger as bump
+use Rattle.any_ctx.specs.SetLedger as set
+use Rattle.any_ctx.specs.SlabLedger as slab
+use Rattle.any_ctx.specs.GenerationLedger as generation
+use Rattle.any_ctx.specs.BumpLedger as bump
 use Rattle.any_ctx.specs.Ledgers.{stats}
 use Rattle.any_ctx.specs.declared.any.CtxKind.TheVariants.{Default, Small, Slab, Generation, Bump}
 use Rattle.pgs_step.specs.declared.events.What.{What}

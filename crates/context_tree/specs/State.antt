@@ -14,7 +14,7 @@ use Rattle.context_rules.specs.Ends.{waiting}
 use Rattle.context_rules.specs.declared.errors.TreeError.{TreeError}
 use Rattle.context_node.specs.declared.entry.Entry.{Entry}
 use Rattle.context_node.specs.Kept.{Kept}
-use Rattle.context_node.specs.State.{context_of}
+pub use Rattle.context_node.specs.State.{context_of}
 
 -- the contexts as the tree keeps them, by their numbers; where each lies; the account that they count for; the current
 -- context; and the number that the next one gets

@@ -5,6 +5,7 @@ mod making;
 mod reporting;
 mod tree;
 
+pub use context_node::own_name;
 pub use tree::ContextTree;
 
 #[cfg(test)]

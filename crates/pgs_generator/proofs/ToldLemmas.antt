@@ -4,7 +4,7 @@ use Rattle.std.proofs.lemmas.List.{take_all}
 use Rattle.std.specs.Io.KnownBytes.{append_known}
 use Rattle.session_rules.specs.Modes.{made_script, summary}
 use Rattle.session_rules.specs.Transcript.{Course, course_by, ended, errors_in, transcript_by}
-use Rattle.session_items.specs.Answers.{Fits}
+use Rattle.pgs_turns.specs.Turns.{Fits}
 use Rattle.pgs_turns.specs.Courses.{IsOver}
 use Rattle.pgs_turns.specs.Transcript.{Setting, course_of, transcript}
 use Rattle.pgs_turns.specs.World.{Run, setting_of}

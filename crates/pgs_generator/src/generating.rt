@@ -14,9 +14,8 @@ use crate::lines::{LINES, made_command};
 use crate::telling::summary;
 use owner_kinds::ExtKind;
 use pgs_io::{Sink, put_all};
-use pgs_turns::{exit_all, take_turn};
+use pgs_turns::{Session, Shared, exit_all, take_turn};
 use reset_callbacks::ResetHook;
-use session_core::{Session, Shared};
 
 /// What a run of the script that is made did.
 #[derive(Clone, Copy, Debug, PartialEq, Eq)]

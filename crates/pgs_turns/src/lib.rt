@@ -6,5 +6,6 @@ mod sessions;
 mod transcript;
 
 pub use lines::{Said, is_comment, read_line};
+pub use session_core::{Calls, Session, Shared};
 pub use sessions::{end_unheard, exit_all, start_sessions, take_turn};
 pub use transcript::Transcript;

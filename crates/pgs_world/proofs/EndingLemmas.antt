@@ -11,7 +11,7 @@ use Rattle.pgs_step.specs.declared.events.Event.{Event}
 use Rattle.owner_kinds.specs.Kind.{Kind}
 use Rattle.reset_callbacks.specs.ShelfState.{ShelfState}
 use Rattle.session_rules.specs.Transcript.{Course, errors_in, text_of_transcript}
-use Rattle.session_items.specs.Answers.{Fits}
+use Rattle.pgs_turns.specs.Turns.{Fits}
 use Rattle.pgs_turns.specs.Transcript.{Setting, course_of, kinds_after, names_of, shelf_after, text_in, transcript, EndsAt}
 use Rattle.pgs_turns.specs.Hooks.{HooksAreTold}
 use Rattle.pgs_turns.proofs.CourseLemmas.{course_of-stopped}

@@ -5,7 +5,7 @@ use Rattle.pgs_io.specs.Faults.{HasRisen}
 use Rattle.pgs_step.specs.declared.events.Event.{Event}
 use Rattle.session_rules.specs.Modes.{made_script, summary}
 use Rattle.session_rules.specs.Transcript.{Course, course_by, ended, errors_in, transcript_by}
-use Rattle.session_items.specs.Answers.{Fits}
+use Rattle.pgs_turns.specs.Turns.{Fits}
 use Rattle.pgs_turns.specs.Courses.{IsOver, TakesLines}
 use Rattle.pgs_turns.specs.Hooks.{HooksAreTold}
 use Rattle.pgs_turns.specs.Transcript.{Setting, course_of, kinds_after, shelf_after, transcript, EndsAt}

@@ -33,7 +33,7 @@ pub fn end_portal<H: ResetHook, K: ExtKind, E: Emit>(
     match portal_named(store, &name) {
         None => Err(Error::NoSuchPortal),
         Some(_) => {
-            session_ends::end_portal(
+            session_items::end_portal(
                 store,
                 &name,
                 shared.space,

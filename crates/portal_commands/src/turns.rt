@@ -28,8 +28,7 @@ use exec_core::ScanStep;
 use owner_kinds::ExtKind;
 use pgs_step::{CtxId, Emit, Error, KindId, Name, OwnerId, What};
 use reset_callbacks::ResetHook;
-use session_ends::release_item;
-use session_items::{Shared, call_error, hold_pin};
+use session_items::{Shared, call_error, hold_pin, release_item};
 use session_portals::{fail_portal, first_step, next_step, portal_named};
 use session_store::Store;
 

@@ -17,8 +17,7 @@ use crate::session::Session;
 use owner_kinds::ExtKind;
 use pgs_step::{Emit, Error, What};
 use reset_callbacks::ResetHook;
-use session_ends::{abort, clean_up, close, commit_top, roll_back, subcommit};
-use session_items::Shared;
+use session_items::{Shared, abort, clean_up, close, commit_top, roll_back, subcommit};
 
 impl<H: ResetHook> Session<H> {
     /// Level 1 commits, and the session is in no transaction then: `CommitTransaction`.

@@ -23,7 +23,7 @@ use Rattle.snap_table.specs.declared.active.Active.{Active}
 use Rattle.snap_table.specs.Snapshots.{kept_below, lowered, pops}
 use Rattle.plan_store.specs.Plans.{Plans}
 use Rattle.plan_store.specs.declared.plan.Plan.{Plan}
-use Rattle.context_rules.specs.Contexts.{Contexts}
+use Rattle.session_tables.specs.Hosting.{Contexts}
 use Rattle.reset_callbacks.specs.ShelfState.{ShelfState}
 use Rattle.session_rules.specs.State.{StandingPlan, buffer_pin, file_kind, last_of, plan_reference}
 use Rattle.session_rules.specs.Lookup.{plan_changed}

@@ -11,3 +11,4 @@ pub mod LockActs
 pub mod OwnPins
 pub mod Stack
 pub mod Stat
+pub mod Plans

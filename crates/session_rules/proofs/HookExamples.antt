@@ -1,7 +1,7 @@
 -- The words on hooks, computed in two short scripts.
 use Rattle.std.proofs.Common.{◌≡◌, [], ◌∷◌, codes, Some, None, refl}
 use Rattle.pgs_command.specs.declared.commands.Command.TheVariants as command
-use Rattle.alloc_set.specs.Ledger.{created, stats}
+use Rattle.any_ctx.specs.SetLedger.{created, stats}
 use Rattle.session_rules.specs.State.{opening}
 use Rattle.session_rules.specs.World.{Moment}
 use Rattle.session_rules.specs.Ends.{exited, recovered}

@@ -7,7 +7,7 @@ use Rattle.pgs_command.specs.Table.{command_of}
 use Rattle.pgs_command.specs.Words.{words_of}
 use Rattle.pgs_command.specs.Values.{number_between, name_of, kind_of}
 use Rattle.chunk_header.specs.Growth.{up8, grown, doubled}
-use Rattle.alloc_set.specs.Ledger as set
+use Rattle.any_ctx.specs.SetLedger as set
 use Rattle.context_rules.specs.Names.{is_reserved}
 use Rattle.session_rules.specs.State.{opening}
 use Rattle.session_rules.specs.World.{Options}

@@ -9,10 +9,10 @@ use Rattle.pgs_command.specs.Table.{command_of}
 use Rattle.pgs_command.specs.Words.{words_of}
 use Rattle.pgs_command.specs.Values.{number_between, name_of, kind_of, bytes_of}
 use Rattle.chunk_header.specs.Growth.{up8, granted, grown, doubled}
-use Rattle.alloc_set.specs.Ledger as set
-use Rattle.slab_ctx.specs.Ledger as slab
-use Rattle.generation_ctx.specs.Ledger as generation
-use Rattle.bump_ctx.specs.Ledger as bump
+use Rattle.any_ctx.specs.SetLedger as set
+use Rattle.any_ctx.specs.SlabLedger as slab
+use Rattle.any_ctx.specs.GenerationLedger as generation
+use Rattle.any_ctx.specs.BumpLedger as bump
 use Rattle.context_rules.specs.Names.{is_reserved}
 use Rattle.session_rules.specs.State.{opening}
 use Rattle.session_rules.specs.Commands.{elements_of}

@@ -10,7 +10,7 @@ use Rattle.pgs_command.specs.Values.{number_between, name_of, mode_of}
 use Rattle.owner_kinds.specs.KindTable.{row_of}
 use Rattle.lock_shared.specs.ModeTable.{conflicts}
 use Rattle.chunk_header.specs.Growth.{up8, grown, doubled}
-use Rattle.alloc_set.specs.Ledger as set
+use Rattle.any_ctx.specs.SetLedger as set
 use Rattle.session_rules.specs.State.{opening}
 use Rattle.session_rules.specs.Commands.{elements_of}
 use Rattle.session_rules.specs.Does.{does, does_all}

@@ -10,13 +10,13 @@ use Rattle.forest.proofs.Mapped.{mapped-has}
 use Rattle.forest.proofs.Trees.{has_children}
 use Rattle.pgs_step.specs.declared.ids.CtxId.{CtxId}
 use Rattle.reset_callbacks.specs.ShelfState.{ShelfState}
-use Rattle.context_node.specs.State.{context_of}
+use Rattle.context_tree.specs.State.{context_of}
 use Rattle.context_rules.specs.Ends.{Ended}
 use Rattle.context_tree.specs.Calls.{Did, DidNothing}
 use Rattle.context_tree.specs.State.{TreeState, Agrees, IsLive, Moves, StaysPut, place_of, stands_for}
 use Rattle.plan_store.specs.declared.plan.Plan.{Plan}
 use Rattle.session_owners.specs.ResourceState.{ResourceState, OwnerTree, owners_of, plan_state}
-use Rattle.session_tables.specs.Placing.{contexts_of}
+use Rattle.session_owners.specs.Fitting.{contexts_of}
 use Rattle.subxact_stack.specs.Levels.{level_at}
 use Rattle.subxact_stack.specs.declared.levels.Level.{Level}
 use Rattle.session_rules.specs.World.{Around}

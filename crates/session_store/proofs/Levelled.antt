@@ -16,7 +16,7 @@ use Rattle.any_ctx.specs.declared.any.CtxKind.TheVariants as kind
 use Rattle.context_tree.specs.State.{TreeState, IsLive, stands_for}
 use Rattle.session_owners.specs.ResourceState as owners
 use Rattle.session_owners.specs.ResourceState.{ResourceState, OwnerTree, Roomy, owners_of, plans_of}
-use Rattle.session_tables.specs.Placing.{contexts_of}
+use Rattle.session_owners.specs.Fitting.{contexts_of}
 use Rattle.subxact_stack.specs.declared.levels.Level.{Level}
 use Rattle.portal_store.specs.declared.portal.Portal.{Portal}
 use Rattle.subxact_stack.specs.Levels.{level_at, new_level}

@@ -17,7 +17,7 @@ use Rattle.context_tree.specs.State.{TreeState, stands_for}
 use Rattle.session_owners.specs.ResourceState as ids
 use Rattle.plan_store.specs.Plans.{Plans}
 use Rattle.session_owners.specs.ResourceState.{Owner, ResourceState, OwnerTree, Roomy, owners_of, plan_state, plans_of}
-use Rattle.session_tables.specs.Placing.{AreLeft, contexts_of}
+use Rattle.session_owners.specs.Fitting.{AreLeft, contexts_of}
 use Rattle.owner_core.specs.Released.{own_released}
 use Rattle.owner_kinds.specs.KindTable.{KindTable}
 use Rattle.subxact_stack.specs.Levels.{level_at}

@@ -6,7 +6,7 @@ use Rattle.forest.specs.Forest.{has}
 use Rattle.context_tree.specs.State.{TreeState, IsLive}
 use Rattle.session_owners.specs.ResourceState as owners
 use Rattle.session_owners.specs.ResourceState.{ResourceState}
-use Rattle.session_tables.specs.Placing.{contexts_of}
+use Rattle.session_owners.specs.Fitting.{contexts_of}
 use Rattle.subxact_stack.specs.declared.levels.Level.{Level}
 use Rattle.exec_core.specs.Turn.{IsScan}
 use Rattle.portal_store.specs.declared.portal.Portal.{Portal}

@@ -26,9 +26,8 @@ ghost use Rattle.session_store.specs.Calls.{Acted, IsSilent, Keeps, Refused, Sta
 use crate::store::Store;
 use addr_space::Space;
 use any_ctx::CtxKind;
-use context_node::own_name;
 use context_rules::TreeError;
-use context_tree::ContextTree;
+use context_tree::{ContextTree, own_name};
 use owner_core::OwnerError;
 use pgs_step::{CtxId, Emit, Name, OwnerId, What};
 use reset_callbacks::ResetHook;

@@ -1,6 +1,6 @@
 -- What a session has of contexts beside its tables, with the hooks of the run.
 use Rattle.std.specs.Prelude.{◌≡◌}
-use Rattle.context_rules.specs.Contexts.{Contexts}
+pub use Rattle.context_rules.specs.Contexts.{Contexts}
 use Rattle.reset_callbacks.specs.ShelfState.{ShelfState}
 use Rattle.session_rules.specs.World.{Scene}
 

@@ -16,8 +16,7 @@ ghost use Rattle.session_items.specs.Performed.{now, HasRoom, IsBetweenSteps, Pe
 use owner_kinds::ExtKind;
 use pgs_step::{Emit, Error, KindId, OwnerId};
 use reset_callbacks::ResetHook;
-use session_ends::drop_plan;
-use session_items::{Shared, call_error, enlarge, give_back, owner_of_level};
+use session_items::{Shared, call_error, drop_plan, enlarge, give_back, owner_of_level};
 use session_store::Store;
 
 /// `plan`: a plan of this number is made, with a context of its own below that for caches: `CreateCachedPlan`.

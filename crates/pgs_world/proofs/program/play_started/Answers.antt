@@ -1,7 +1,7 @@
 use Rattle.std.proofs.Common.{◌≡◌, ℕ, ◌^◌, ◌<◌, List, length, Option, Some, sym, ◌∙◌, ap, subst, arith, ◌⊎◌}
 use Rattle.pgs_step.specs.declared.events.Event.{Event}
 use Rattle.session_rules.specs.Transcript.{errors_in}
-use Rattle.session_items.specs.Answers.{Fits}
+use Rattle.pgs_turns.specs.Turns.{Fits}
 use Rattle.pgs_turns.specs.Transcript.{Setting, course_of, EndsAt, names_of, transcript}
 use Rattle.pgs_turns.specs.Courses.{IsOver}
 use Rattle.pgs_turns.specs.World.{HaveDescriptors, Run, run_of, setting_of}

@@ -1,4 +1,4 @@
-use Rattle.session_core.proofs.Opened.{none_held}
+use Rattle.pgs_turns.proofs.SessionLemmas.{none_held}
 use Rattle.pgs_world.proofs.tests.play.Goals as goal
 
 pub run-outcome-requires-clause-empty : goal.run-outcome-requires-clause-empty

@@ -5,7 +5,7 @@ use Rattle.std.specs.Option.{option_and_then, option_map}
 use Rattle.pgs_step.specs.declared.ids.OwnerId.{OwnerId}
 use Rattle.plan_store.specs.Plans.{Plans}
 use Rattle.session_owners.specs.ResourceState as owners
-use Rattle.session_tables.specs.Placing.{contexts_of}
+use Rattle.session_owners.specs.Fitting.{contexts_of}
 use Rattle.subxact_stack.specs.declared.levels.Level.{Level}
 use Rattle.session_rules.specs.Elements.{OfLevel}
 use Rattle.session_rules.specs.Making.{new_owner_made}
