@@ -1,6 +1,6 @@
 -- Rows that are tried one behind another.
 use Rattle.std.proofs.Common.{◌≡◌, ℕ, Bool, true, false, List, [], ◌∷◌, ◌++◌, Option, Some, None, refl, sym, ◌∙◌, ap, cond}
-use Rattle.std.specs.Option.{option_or}
+use Rattle.std.specs.Option.{option_or, is_some}
 use Rattle.pgs_command.specs.Words.{is_text, words_of}
 use Rattle.pgs_command.specs.Table.{Row, look_up, table, transaction_rows, context_rows, chunk_rows, resource_rows, query_rows, alone_rows, command_of}
 use Rattle.pgs_command.specs.declared.commands.Command.{Command}
@@ -8,6 +8,14 @@ use Rattle.pgs_command.specs.declared.commands.Command.{Command}
 pub or_none : {A : Type 0} (o : Option A) → option_or o None ≡ o
 or_none None = refl
 or_none (Some x) = refl
+
+pub or_first : {A : Type 0} (o p : Option A) → is_some o ≡ true → o ≡ option_or o p
+or_first None p e = absurd (cc)
+or_first (Some x) p e = refl
+
+pub is_none : {A : Type 0} (o : Option A) → is_some o ≡ false → None ≡ o
+is_none None e = refl
+is_none (Some x) e = absurd (cc)
 
 or_assoc : {A : Type 0} (o p q : Option A) → option_or (option_or o p) q ≡ option_or o (option_or p q)
 or_assoc None p q = refl

@@ -13,7 +13,7 @@ mod words;
 pub use commands::Command;
 pub use hex_bytes::HexBytes;
 pub use kinds::{ContextKind, ReferenceClass};
-pub use lines::{BadLine, Line, parse_command, parse_line, parse_session};
+pub use lines::{BadLine, Line, parse_command, parse_command_into, parse_line, parse_session};
 
 #[cfg(test)]
 mod tests;

@@ -45,10 +45,22 @@ pub fn parse_command(kept: &[u8], long: bool) -> Option<Command<'_>>
     ensures read { (line : List ℕ) → IsKept line kept.now long → said (session_of line) result ≡ read_line line }
     ensures in_range { IfSome result IsInRange }
 {
+    let mut command = None;
+    parse_command_into(kept, long, &mut command);
+    command
+}
+
+/// Writes the command of a line into its place: what `parse_command` answers, which is moved nowhere.
+#[inline(always)]
+pub fn parse_command_into<'a>(kept: &'a [u8], long: bool, command: &mut Option<Command<'a>>)
+    ensures read { (line : List ℕ) → IsKept line kept.now long → said (session_of line) command.new ≡ read_line line }
+    ensures in_range { IfSome command.new IsInRange }
+{
     if long {
-        return None;
+        *command = None;
+    } else {
+        read_short(kept, command);
     }
-    read_short(kept)
 }
 
 /// The session that a line names, of which these are the first 512 bytes: 1 where it has no prefix.
@@ -81,15 +93,16 @@ fn prefix(line: &[u8]) -> Option<u8>
     }
 }
 
-/// The command of a line of at most 512 bytes.
-fn read_short(line: &[u8]) -> Option<Command<'_>>
-    ensures value { result ≡ short_command line.now }
-    ensures in_range { IfSome result (λ command. IsInRange command) }
+/// Writes the command of a line of at most 512 bytes.
+fn read_short<'a>(line: &'a [u8], command: &mut Option<Command<'a>>)
+    ensures value { command.new ≡ short_command line.now }
+    ensures in_range { IfSome command.new (λ command. IsInRange command) }
 {
     if is_comment(line) {
-        return Some(Command::Nothing);
+        *command = Some(Command::Nothing);
+    } else {
+        read_command(text_of(line), command);
     }
-    read_command(text_of(line))
 }
 
 /// What stands behind the prefix.

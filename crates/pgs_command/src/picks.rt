@@ -14,7 +14,52 @@ macro_rules! by_word {
     }};
 }
 
+/// Writes the value beside the text that the word is, and `None` where it is none of them.
+macro_rules! write_by_word {
+    ($word:expr, $place:expr; $($text:literal => $value:expr),* $(,)?) => {{
+        $(
+            if is_word($word, $text.as_slice()) {
+                *$place = Some($value);
+                return;
+            }
+        )*
+        *$place = None;
+    }};
+}
+
+/// Writes what stands beside the text that the word is, and `None` where it is none of them.
+///
+/// That is a value of the parts that are read from the words behind it, and `None` where they aren't such parts.
+/// Where no parts are named it is what writes for itself.
+macro_rules! write_by_words {
+    ($word:expr, $place:expr; $($text:literal $(, $parts:pat in $read:expr)? => $written:expr),* $(,)?) => {{
+        $(
+            if is_word($word, $text.as_slice()) {
+                write_parts! { $place; $written $(, $parts in $read)? }
+                return;
+            }
+        )*
+        *$place = None;
+    }};
+}
+
+/// Writes a value of the parts that are read, and `None` where there are none. Without parts it writes for itself.
+macro_rules! write_parts {
+    ($place:expr; $value:expr, $parts:pat in $read:expr) => {
+        match $read {
+            Some($parts) => *$place = Some($value),
+            None => *$place = None,
+        }
+    };
+    ($place:expr; $written:expr) => {
+        $written;
+    };
+}
+
 pub(crate) use by_word;
+pub(crate) use write_by_word;
+pub(crate) use write_by_words;
+pub(crate) use write_parts;
 
 /// Whether the word is the text.
 ///

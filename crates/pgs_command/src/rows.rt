@@ -10,57 +10,53 @@ ghost use Rattle.pgs_command.specs.declared.commands.Command.TheVariants.{Rollba
 use crate::commands::Command;
 use crate::hex_bytes::HexBytes;
 use crate::kinds::ContextKind;
-use crate::picks::{by_word, is_word};
+use crate::picks::{is_word, write_by_word, write_by_words, write_parts};
 use crate::values::{read_number, read_plain_kind};
 use crate::words::{Words, split_word};
 
-/// The commands of transactions.
-fn read_transaction<'a>(word: &[u8], rest: Option<&'a [u8]>) -> Option<Command<'a>>
-    ensures { result ≡ look_up transaction_rows word.now (words_in (option_copied rest.entry)) }
+/// Writes the command of a transaction, where the line is one.
+fn read_transaction<'a>(word: &[u8], rest: Option<&'a [u8]>, command: &mut Option<Command<'a>>)
+    ensures { command.new ≡ look_up transaction_rows word.now (words_in (option_copied rest.entry)) }
 {
     let words = Words::new(rest);
-    by_word! { word;
-        b"begin" => words.end(Command::Begin),
-        b"commit" => words.end(Command::Commit),
-        b"rollback" => read_rollback(words),
-        b"savepoint" => Some(Command::Savepoint(words.only_name()?)),
-        b"release" => Some(Command::Release(words.only_name()?)),
-        b"raise" => words.end(Command::Raise),
-        b"report" => words.end(Command::Report),
-        b"stat" => words.end(Command::Stat),
+    write_by_words! { word, command;
+        b"begin", () in words.end(()) => Command::Begin,
+        b"commit", () in words.end(()) => Command::Commit,
+        b"rollback" => read_rollback(words, command),
+        b"savepoint", name in words.only_name() => Command::Savepoint(name),
+        b"release", name in words.only_name() => Command::Release(name),
+        b"raise", () in words.end(()) => Command::Raise,
+        b"report", () in words.end(()) => Command::Report,
+        b"stat", () in words.end(()) => Command::Stat,
     }
 }
 
-/// `rollback` and `rollback to NAME`.
-fn read_rollback(mut words: Words<'_>) -> Option<Command<'_>>
-    ensures { result ≡ option_or (none Rollback words.entry) (behind (codes "to") (one name_of RollbackTo) words.entry) }
+/// Writes what `rollback` and `rollback to NAME` ask for.
+fn read_rollback<'a>(mut words: Words<'a>, command: &mut Option<Command<'a>>)
+    ensures { command.new ≡ option_or (none Rollback words.entry) (behind (codes "to") (one name_of RollbackTo) words.entry) }
 {
     match words.next() {
-        None => Some(Command::Rollback),
-        Some(word) => {
-            if is_word(word, b"to".as_slice()) {
-                Some(Command::RollbackTo(words.only_name()?))
-            } else {
-                None
-            }
-        }
+        None => *command = Some(Command::Rollback),
+        Some(word) => write_by_words! { word, command;
+            b"to", name in words.only_name() => Command::RollbackTo(name),
+        },
     }
 }
 
-/// The commands of memory contexts.
-fn read_context<'a>(word: &[u8], rest: Option<&'a [u8]>) -> Option<Command<'a>>
-    ensures { result ≡ look_up context_rows word.now (words_in (option_copied rest.entry)) }
+/// Writes the command of a memory context, where the line is one.
+fn read_context<'a>(word: &[u8], rest: Option<&'a [u8]>, command: &mut Option<Command<'a>>)
+    ensures { command.new ≡ look_up context_rows word.now (words_in (option_copied rest.entry)) }
 {
     let words = Words::new(rest);
-    by_word! { word;
-        b"context" => read_new_context(words),
-        b"switch" => Some(Command::Switch(words.only_name()?)),
-        b"onreset" => Some(Command::OnReset(words.only_name()?)),
-        b"reset" => Some(Command::Reset(words.only_name()?)),
-        b"resetonly" => Some(Command::ResetOnly(words.only_name()?)),
-        b"delete" => Some(Command::Delete(words.only_name()?)),
-        b"deletechildren" => Some(Command::DeleteChildren(words.only_name()?)),
-        b"reparent" => { let (name, parent) = words.two_names()?; Some(Command::Reparent { name, parent }) },
+    write_by_words! { word, command;
+        b"context" => *command = read_new_context(words),
+        b"switch", name in words.only_name() => Command::Switch(name),
+        b"onreset", name in words.only_name() => Command::OnReset(name),
+        b"reset", name in words.only_name() => Command::Reset(name),
+        b"resetonly", name in words.only_name() => Command::ResetOnly(name),
+        b"delete", name in words.only_name() => Command::Delete(name),
+        b"deletechildren", name in words.only_name() => Command::DeleteChildren(name),
+        b"reparent", (name, parent) in words.two_names() => Command::Reparent { name, parent },
     }
 }
 
@@ -89,18 +85,18 @@ fn read_kind(mut words: Words<'_>) -> Option<ContextKind>
     }
 }
 
-/// The commands of chunks.
-fn read_chunk<'a>(word: &[u8], rest: Option<&'a [u8]>) -> Option<Command<'a>>
-    ensures { result ≡ look_up chunk_rows word.now (words_in (option_copied rest.entry)) }
+/// Writes the command of a chunk, where the line is one.
+fn read_chunk<'a>(word: &[u8], rest: Option<&'a [u8]>, command: &mut Option<Command<'a>>)
+    ensures { command.new ≡ look_up chunk_rows word.now (words_in (option_copied rest.entry)) }
 {
     let words = Words::new(rest);
-    by_word! { word;
-        b"alloc" => { let (chunk, size) = words.name_and_number(0, u32::MAX)?; Some(Command::Alloc { chunk, size }) },
-        b"alloc0" => { let (chunk, size) = words.name_and_number(0, u32::MAX)?; Some(Command::AllocZeroed { chunk, size }) },
-        b"realloc" => { let (chunk, size) = words.name_and_number(0, u32::MAX)?; Some(Command::Realloc { chunk, size }) },
-        b"free" => Some(Command::Free(words.only_name()?)),
-        b"put" => read_put(words),
-        b"show" => read_show(words),
+    write_by_words! { word, command;
+        b"alloc", (chunk, size) in words.name_and_number(0, u32::MAX) => Command::Alloc { chunk, size },
+        b"alloc0", (chunk, size) in words.name_and_number(0, u32::MAX) => Command::AllocZeroed { chunk, size },
+        b"realloc", (chunk, size) in words.name_and_number(0, u32::MAX) => Command::Realloc { chunk, size },
+        b"free", name in words.only_name() => Command::Free(name),
+        b"put" => *command = read_put(words),
+        b"show" => *command = read_show(words),
     }
 }
 
@@ -128,44 +124,44 @@ fn read_show(mut words: Words<'_>) -> Option<Command<'_>>
     })
 }
 
-/// The commands of buffers, files, locks, references and extension kinds.
-fn read_resource<'a>(word: &[u8], rest: Option<&'a [u8]>) -> Option<Command<'a>>
-    ensures { result ≡ look_up resource_rows word.now (words_in (option_copied rest.entry)) }
+/// Writes the command of a buffer, a file, a lock, a reference or an extension kind, where the line is one.
+fn read_resource<'a>(word: &[u8], rest: Option<&'a [u8]>, command: &mut Option<Command<'a>>)
+    ensures { command.new ≡ look_up resource_rows word.now (words_in (option_copied rest.entry)) }
 {
     let words = Words::new(rest);
-    by_word! { word;
-        b"pin" => Some(Command::Pin(words.only_number()?)),
-        b"unpin" => Some(Command::Unpin(words.only_number()?)),
-        b"buffer" => Some(Command::Buffer(words.only_number()?)),
-        b"open" => Some(Command::Open(words.only_number()?)),
-        b"touch" => Some(Command::Touch(words.only_number()?)),
-        b"close" => Some(Command::Close(words.only_number()?)),
-        b"lock" => { let (object, mode) = words.number_and_mode()?; Some(Command::Lock { object, mode }) },
-        b"unlock" => { let (object, mode) = words.number_and_mode()?; Some(Command::Unlock { object, mode }) },
-        b"ref" => { let (class, key) = words.class_and_number()?; Some(Command::Reference { class, key }) },
-        b"unref" => { let (class, key) = words.class_and_number()?; Some(Command::Unreference { class, key }) },
-        b"acquire" => { let (kind, key) = words.name_and_number(0, u32::MAX)?; Some(Command::Acquire { kind, key }) },
-        b"drop" => { let (kind, key) = words.name_and_number(0, u32::MAX)?; Some(Command::Drop { kind, key }) },
+    write_by_words! { word, command;
+        b"pin", number in words.only_number() => Command::Pin(number),
+        b"unpin", number in words.only_number() => Command::Unpin(number),
+        b"buffer", number in words.only_number() => Command::Buffer(number),
+        b"open", number in words.only_number() => Command::Open(number),
+        b"touch", number in words.only_number() => Command::Touch(number),
+        b"close", number in words.only_number() => Command::Close(number),
+        b"lock", (object, mode) in words.number_and_mode() => Command::Lock { object, mode },
+        b"unlock", (object, mode) in words.number_and_mode() => Command::Unlock { object, mode },
+        b"ref", (class, key) in words.class_and_number() => Command::Reference { class, key },
+        b"unref", (class, key) in words.class_and_number() => Command::Unreference { class, key },
+        b"acquire", (kind, key) in words.name_and_number(0, u32::MAX) => Command::Acquire { kind, key },
+        b"drop", (kind, key) in words.name_and_number(0, u32::MAX) => Command::Drop { kind, key },
     }
 }
 
-/// The commands of snapshots, plans and portals.
-fn read_query<'a>(word: &[u8], rest: Option<&'a [u8]>) -> Option<Command<'a>>
-    ensures { result ≡ look_up query_rows word.now (words_in (option_copied rest.entry)) }
+/// Writes the command of a snapshot, a plan or a portal, where the line is one.
+fn read_query<'a>(word: &[u8], rest: Option<&'a [u8]>, command: &mut Option<Command<'a>>)
+    ensures { command.new ≡ look_up query_rows word.now (words_in (option_copied rest.entry)) }
 {
     let words = Words::new(rest);
-    by_word! { word;
-        b"snapshot" => Some(Command::Snapshot(words.only_number()?)),
-        b"unsnapshot" => Some(Command::Unsnapshot(words.only_number()?)),
-        b"push" => Some(Command::Push(words.only_number()?)),
-        b"pop" => words.end(Command::Pop),
-        b"plan" => Some(Command::Plan(words.only_number()?)),
-        b"planref" => Some(Command::PlanReference(words.only_number()?)),
-        b"planunref" => Some(Command::PlanUnreference(words.only_number()?)),
-        b"plandrop" => Some(Command::PlanDrop(words.only_number()?)),
-        b"portal" => read_portal(words),
-        b"fetch" => { let (name, count) = words.name_and_number(1, 1_000_000)?; Some(Command::Fetch { name, count }) },
-        b"endportal" => Some(Command::EndPortal(words.only_name()?)),
+    write_by_words! { word, command;
+        b"snapshot", number in words.only_number() => Command::Snapshot(number),
+        b"unsnapshot", number in words.only_number() => Command::Unsnapshot(number),
+        b"push", number in words.only_number() => Command::Push(number),
+        b"pop", () in words.end(()) => Command::Pop,
+        b"plan", number in words.only_number() => Command::Plan(number),
+        b"planref", number in words.only_number() => Command::PlanReference(number),
+        b"planunref", number in words.only_number() => Command::PlanUnreference(number),
+        b"plandrop", number in words.only_number() => Command::PlanDrop(number),
+        b"portal" => *command = read_portal(words),
+        b"fetch", (name, count) in words.name_and_number(1, 1_000_000) => Command::Fetch { name, count },
+        b"endportal", name in words.only_name() => Command::EndPortal(name),
     }
 }
 
@@ -198,50 +194,54 @@ fn read_bad(mut words: Words<'_>) -> Option<Option<u32>>
     }
 }
 
-/// The command of a line of one word, where it is in the table.
+/// Writes the command of a line of one word, where it is in the table.
 #[inline(always)]
-fn read_alone(word: &[u8]) -> Option<Command<'_>>
-    ensures { result ≡ look_up alone_rows word.now [] }
+fn read_alone(word: &[u8], command: &mut Option<Command<'_>>)
+    ensures { command.new ≡ look_up alone_rows word.now [] }
 {
-    by_word! { word;
-        b"begin" => Some(Command::Begin),
-        b"commit" => Some(Command::Commit),
-        b"rollback" => Some(Command::Rollback),
-        b"raise" => Some(Command::Raise),
-        b"report" => Some(Command::Report),
-        b"stat" => Some(Command::Stat),
-        b"pop" => Some(Command::Pop),
+    write_by_word! { word, command;
+        b"begin" => Command::Begin,
+        b"commit" => Command::Commit,
+        b"rollback" => Command::Rollback,
+        b"raise" => Command::Raise,
+        b"report" => Command::Report,
+        b"stat" => Command::Stat,
+        b"pop" => Command::Pop,
     }
 }
 
-/// The command of a line's words, the first of which is `word`, where it is in the table.
+/// Writes the command of a line's words, the first of which is `word`, where it is in the table.
 #[inline(never)]
-fn read_listed<'a>(word: &[u8], rest: Option<&'a [u8]>) -> Option<Command<'a>>
-    ensures { result ≡ look_up table word.now (words_in (option_copied rest.entry)) }
+fn read_listed<'a>(word: &[u8], rest: Option<&'a [u8]>, command: &mut Option<Command<'a>>)
+    ensures { command.new ≡ look_up table word.now (words_in (option_copied rest.entry)) }
 {
-    if let Some(command) = read_transaction(word, rest) {
-        return Some(command);
+    read_transaction(word, rest, command);
+    if command.is_some() {
+        return;
     }
-    if let Some(command) = read_context(word, rest) {
-        return Some(command);
+    read_context(word, rest, command);
+    if command.is_some() {
+        return;
     }
-    if let Some(command) = read_chunk(word, rest) {
-        return Some(command);
+    read_chunk(word, rest, command);
+    if command.is_some() {
+        return;
     }
-    if let Some(command) = read_resource(word, rest) {
-        return Some(command);
+    read_resource(word, rest, command);
+    if command.is_some() {
+        return;
     }
-    read_query(word, rest)
+    read_query(word, rest, command);
 }
 
-/// The command of a text, where it is in the table.
-pub(crate) fn read_command(text: &[u8]) -> Option<Command<'_>>
-    ensures value { result ≡ command_of (words_of text.now) }
-    ensures in_range { IfSome result (λ command. IsInRange command) }
+/// Writes the command of a text, where it is in the table.
+pub(crate) fn read_command<'a>(text: &'a [u8], command: &mut Option<Command<'a>>)
+    ensures value { command.new ≡ command_of (words_of text.now) }
+    ensures in_range { IfSome command.new (λ command. IsInRange command) }
 {
     let (word, rest) = split_word(text);
     match rest {
-        None => read_alone(word),
-        Some(_) => read_listed(word, rest),
+        None => read_alone(word, command),
+        Some(_) => read_listed(word, rest, command),
     }
 }

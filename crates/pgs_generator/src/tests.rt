@@ -1,5 +1,5 @@
 use crate::lines::{LINES, made_command};
-use pgs_turns::read_line;
+use pgs_turns::{Said, read_line};
 use std::test::Fail;
 
 /// The lines of rounds 1, 2 and 3.
@@ -48,7 +48,8 @@ const ROUNDS: &[&[u8]] = &[
 #[test]
 fn lines_of_three_rounds(rt: HostRuntime) -> Result<(), Fail> {
     for place in 0..3 * LINES {
-        let read = read_line(ROUNDS[place as usize], false);
+        let mut read = Said::unread();
+        read_line(ROUNDS[place as usize], false, &mut read);
         let made = made_command(place / LINES + 1, place % LINES);
         assert_eq!(rt; made.session, read.session, "line {place}");
         assert_eq!(rt; made.command, read.command, "line {place}");

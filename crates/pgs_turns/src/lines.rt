@@ -1,11 +1,11 @@
 //! What the lines of a script ask for.
-ghost use Rattle.std.specs.Prelude.{◌≡◌, ℕ, List, IfSome};
+ghost use Rattle.std.specs.Prelude.{◌≡◌, ℕ, List, None, IfSome};
 ghost use Rattle.pgs_io.specs.Lines.{IsKept};
 ghost use Rattle.pgs_command.specs.Lines.{is_comment, read_line};
 ghost use Rattle.pgs_command.specs.Ranges.{IsInRange, IsSession};
 ghost use Rattle.pgs_turns.specs.Script.{said_in};
 
-use pgs_command::{Command, parse_command, parse_session};
+use pgs_command::{Command, parse_command_into, parse_session};
 
 /// What a line asks for.
 #[derive(Drop)]
@@ -16,19 +16,29 @@ pub struct Said<'a> {
     pub command: Option<Command<'a>>,
 }
 
-/// What a line asks for.
+impl<'a> Said<'a> {
+    /// What stands where a line is to be read: a bad line of session 1.
+    pub fn unread() -> Said<'a>
+        ensures { result ≡ record { session = 1; command = None } }
+    {
+        Said {
+            session: 1,
+            command: None,
+        }
+    }
+}
+
+/// Writes what a line asks for into its place.
 ///
 /// `kept` are the first 512 bytes of the line, and `long` says whether it has more.
 #[inline(never)]
-pub fn read_line(kept: &[u8], long: bool) -> Said<'_>
-    ensures read { (line : List ℕ) → IsKept line kept.now long → result ≡ said_in (read_line line) }
-    ensures session { IsSession result.session }
-    ensures in_range { IfSome result.command IsInRange }
+pub fn read_line<'a>(kept: &'a [u8], long: bool, said: &mut Said<'a>)
+    ensures read { (line : List ℕ) → IsKept line kept.now long → said.new ≡ said_in (read_line line) }
+    ensures session { IsSession said.new.session }
+    ensures in_range { IfSome said.new.command IsInRange }
 {
-    Said {
-        session: parse_session(kept),
-        command: parse_command(kept, long),
-    }
+    said.session = parse_session(kept);
+    parse_command_into(kept, long, &mut said.command);
 }
 
 /// Whether the line is an empty one or a comment, which asks for nothing. Of the line these are the first bytes.

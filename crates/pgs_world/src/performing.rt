@@ -14,9 +14,8 @@ ghost use Rattle.pgs_world.specs.Loop.{Performs, is_wanted_in, IsLineEnd, OnSour
 use crate::printer::Printer;
 use owner_kinds::ExtKind;
 use pgs_io::{Buffered, LineBuf, LineReader, Next, Sink, Source};
-use pgs_turns::{is_comment, read_line, take_turn};
+use pgs_turns::{Said, Session, Shared, is_comment, read_line, take_turn};
 use reset_callbacks::ResetHook;
-use session_core::{Session, Shared};
 
 /// The most bytes that a script has.
 pub(crate) const MOST_BYTES: u64 = 1 << 24;
@@ -176,7 +175,8 @@ fn perform_said<K: Sink, H: ResetHook, X: ExtKind>(
     ensures standing { AreStanding 0 (run_of sessions.new shared.new) }
     ensures end { IfSome result (λ end. IsLineEnd end printer.new.failed) }
 {
-    let said = read_line(kept, long);
+    let mut said = Said::unread();
+    read_line(kept, long, &mut said);
     let wanted = take_turn(sessions, &said, shared, printer);
     if wanted {
         return Some(End::Wanted);

@@ -10,4 +10,4 @@ pub returns-then-is_word-3 : goal.returns-then-is_word-3
 returns-then-is_word-3 c =
     let words = words_in (option_copied c.args.rest) in
     let word : c.args.word.now ≡ codes "rollback" = is_text-means c.args.word.now (codes "rollback") (search rules) in
-    subst (λ w. c.read_rollback.result ≡ look_up transaction_rows w words) (sym word) (c.read_rollback.ensures ∙ rw c.new-words.ensures (simp or_none))
+    subst (λ w. c.before.read_rollback.new.command ≡ look_up transaction_rows w words) (sym word) (c.before.read_rollback.ensures ∙ rw c.before.new-words.ensures (simp or_none))

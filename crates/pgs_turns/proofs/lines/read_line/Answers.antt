@@ -12,6 +12,6 @@ told session (Some command) = refl
 
 pub returns-clause-read : goal.returns-clause-read
 returns-clause-read c line k =
-    ap (λ (session : ℕ). record { session = session; command = c.parse_command.result }) (c.parse_session.ensures.read line c.args.long k)
-    ∙ told _ c.parse_command.result
-    ∙ ap said_in (c.parse_command.ensures.read line k)
+    ap (λ (session : ℕ). record { session = session; command = c.parse_command_into.new.command }) (c.parse_session-said.ensures.read line c.args.long k)
+    ∙ told _ c.parse_command_into.new.command
+    ∙ ap said_in (c.parse_command_into.ensures.read line k)

@@ -1,8 +1,0 @@
-use Rattle.pgs_command.proofs.LineLemmas.{read_line-long, read_line-short}
-use Rattle.pgs_command.proofs.lines.parse_command.Goals as goal
-
-pub returns-then-long-clause-read : goal.returns-then-long-clause-read
-returns-then-long-clause-read c line k = read_line-long line c.args.kept.now c.args.long k c.if-long.true
-
-pub returns-clause-read : goal.returns-clause-read
-returns-clause-read c line k = read_line-short line c.args.kept.now c.args.long _ k c.if-long.false c.read_short.ensures.value
