@@ -1,5 +1,6 @@
 //! Names that a script gives to contexts, chunks, savepoints and portals.
-ghost use Rattle.std.specs.Prelude.{◌≡◌, ◌↔◌, IsSome, IfSome, IsTrue};
+ghost use Rattle.std.specs.Prelude.{◌≡◌, ◌==◌, ◌↔◌, IsSome, IfSome, IsTrue};
+ghost use lib.Pointwise.{pointwise};
 ghost use Rattle.std.specs.List.{list_all};
 ghost use Rattle.pgs_step.specs.Name.{IsName, is_name_byte};
 
@@ -75,7 +76,7 @@ impl PartialEq for Name {
         ensures value { result ≡ pointwise ◌==◌ self.now other.now }
         ensures same { IsTrue result ↔ (self.now ≡ other.now) }
     {
-        self.as_slice() == other.as_slice()
+        are_same(self.as_slice(), other.as_slice())
     }
 }
 
@@ -98,6 +99,24 @@ impl Hash for Name {
     fn hash<H: Hasher>(&self, state: &mut H) {
         state.write(self.as_slice());
     }
+}
+
+/// Whether the bytes are the same ones, by a loop, since names are short and a comparison of slices is made for long ones.
+#[inline]
+fn are_same(bytes: &[u8], others: &[u8]) -> bool
+    ensures { result ≡ pointwise ◌==◌ bytes.now others.now }
+{
+    if bytes.len() != others.len() {
+        return false;
+    }
+    let mut at = 0;
+    while at < others.len() {
+        if bytes[at] != others[at] {
+            return false;
+        }
+        at += 1;
+    }
+    true
 }
 
 fn is_name(word: &[u8]) -> bool

@@ -10,8 +10,7 @@ use itoa::Buffer;
 static PAIRS: [u8; 200] =
     *b"00010203040506070809101112131415161718192021222324252627282930313233343536373839404142434445464748495051525354555657585960616263646566676869707172737475767778798081828384858687888990919293949596979899";
 
-/// True. The compiler learns by it that there is the room that the caller has shown, so that what is
-/// written behind it isn't looked at once more for each byte.
+/// True. The compiler learns by it that there is the room that the caller has shown, and looks at it once.
 #[inline(always)]
 pub fn has_room<const N: usize>(out: &ArrayVec<u8, N>, bytes: usize) -> bool
     requires { array_vec_len out.now + bytes ≤ N }
@@ -80,20 +79,6 @@ pub fn put_number<const N: usize>(out: &mut ArrayVec<u8, N>, n: u64)
         put_digit(out, n);
     } else {
         put_long_number(out, n);
-    }
-}
-
-/// The digits of a small number, written without a call.
-#[inline(always)]
-pub fn put_small<const N: usize>(out: &mut ArrayVec<u8, N>, n: u8)
-    requires { array_vec_len out.old + 4 ≤ N }
-    ensures text { out.new.items ≡ out.old.items ++ decimal n }
-    ensures short { array_vec_len out.new ≤ array_vec_len out.old + 4 }
-{
-    if n < 10 {
-        put_digit(out, n as u64);
-    } else {
-        put_up_to_four(out, n as u64);
     }
 }
 

@@ -12,13 +12,11 @@ use crate::events::{Event, What};
 use crate::ids::{Item, KindId};
 use crate::lock_modes::Mode;
 use crate::names::Name;
-use crate::pieces::{has_room, put, put_both, put_counted, put_named, put_small, put_word};
+use crate::pieces::{has_room, put, put_both, put_counted, put_named, put_number, put_word};
 use crate::report_texts::{put_context_stats, put_grand_total, put_stat};
 use arrayvec::ArrayVec;
 
-/// Clears `out` and writes the event's line, with its newline, in a program without extension kinds.
-///
-/// The text of an event of a kind that isn't built in is empty.
+/// Clears `out` and writes the event's line, with its newline, in a program without extension kinds, whose events have no text.
 pub fn text(event: &Event, out: &mut ArrayVec<u8, 512>)
     ensures { out.new.items ≡ text_of [] event.now }
 {
@@ -40,6 +38,7 @@ pub fn text_with(event: &Event, names: &[Name], out: &mut ArrayVec<u8, 512>)
 ///
 /// `names` are those of the extension kinds: kind 16 + i has the name `names[i]`. Nothing is written of an
 /// event whose kind has no name.
+#[inline(always)]
 pub fn append_text<const N: usize>(
     session: u8,
     what: &What,
@@ -52,7 +51,7 @@ pub fn append_text<const N: usize>(
 {
     if has_room(out, 512) {
         if has_text(what, names) {
-            put_small(out, session);
+            put_number(out, session as u64);
             out.push(b' ');
             put_what(out, what, names);
             out.push(b'\n');
@@ -62,6 +61,7 @@ pub fn append_text<const N: usize>(
 
 /// Whether an event has a text: false where it names a kind without a name.
 #[tactic(auto, unfolding(crate::specs::Text::what_text))]
+#[inline(always)]
 fn has_text(what: &What, names: &[Name]) -> bool
     ensures { result ≡ is_some (what_text names.now what.now) }
 {
@@ -172,6 +172,7 @@ fn put_what<const N: usize>(out: &mut ArrayVec<u8, N>, what: &What, names: &[Nam
 }
 
 /// "create cK NAME in cJ"
+#[inline(always)]
 fn put_create<const N: usize>(out: &mut ArrayVec<u8, N>, context: u64, name: &Name, parent: u64)
     requires { array_vec_len out.old + 200 ≤ N }
     ensures text { out.new.items ≡ out.old.items ++ (codes "create c" ++ decimal context ++ codes " " ++ name.now ++ codes " in c" ++ decimal parent) }
@@ -333,6 +334,7 @@ fn put_lock_held<const N: usize>(out: &mut ArrayVec<u8, N>, session: u8, mode: M
 }
 
 /// "owner oK gone"
+#[inline(always)]
 fn put_owner_gone<const N: usize>(out: &mut ArrayVec<u8, N>, owner: u64)
     requires { array_vec_len out.old + 40 ≤ N }
     ensures text { out.new.items ≡ out.old.items ++ (codes "owner o" ++ decimal owner ++ codes " gone") }

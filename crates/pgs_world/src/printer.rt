@@ -2,12 +2,13 @@
 ghost use Rattle.std.specs.Prelude.{◌≡◌, ◌+◌, ◌≤◌, ◌-◌, ◌^◌, min, false, [], ◌∷◌, if◌then◌else◌};
 ghost use Rattle.arrayvec.specs.ArrayVec.{array_vec_len};
 ghost use Rattle.pgs_step.specs.Text.{text_of};
+ghost use Rattle.pgs_step.specs.declared.events.What.TheVariants as a_what;
 ghost use Rattle.pgs_world.specs.PrinterView.{TakesBytes, TakesEvents};
 ghost use Rattle.session_rules.specs.Transcript.{is_error};
 
 use arrayvec::ArrayVec;
 use pgs_io::{Sink, put_all};
-use pgs_step::{Emit, Name, What, append_text};
+use pgs_step::{Emit, Item, Name, What, append_text};
 use pgs_turns::Transcript;
 
 /// How many bytes are gathered before they are handed to the sink.
@@ -84,6 +85,7 @@ impl<'a, K: Sink> Printer<'a, K> {
     }
 
     /// Makes room for a line, where no write has failed.
+    #[inline(always)]
     fn make_room(&mut self)
         ensures bytes { TakesBytes K.written K.faults self.old [] self.new }
         ensures room { self.new.failed ≡ false → array_vec_len self.new.gathered + LINE ≤ GATHERED }
@@ -94,6 +96,7 @@ impl<'a, K: Sink> Printer<'a, K> {
     }
 
     /// Appends the line of what the session says where no write has failed.
+    #[inline(always)]
     fn append(&mut self, what: &What)
         requires { self.old.failed ≡ false → array_vec_len self.old.gathered + LINE ≤ GATHERED }
         ensures { TakesBytes K.written K.faults self.old (text_of self.old.names.now (record { session = self.old.session; what = what.now })) self.new }
@@ -104,6 +107,7 @@ impl<'a, K: Sink> Printer<'a, K> {
     }
 
     /// Gathers that line, which is handed on with what comes behind it.
+    #[inline(always)]
     fn gather(&mut self, what: &What)
         ensures { TakesBytes K.written K.faults self.old (text_of self.old.names.now (record { session = self.old.session; what = what.now })) self.new }
     {
@@ -116,11 +120,104 @@ impl<'a, K: Sink> Printer<'a, K> {
     fn print(&mut self, what: &What)
         ensures { TakesEvents K.written K.faults self.old (what.now ∷ []) self.new }
     {
+        self.print_here(what);
+    }
+
+    /// The same where it is called, so that the text of an event that is known there is all that is left of it.
+    #[inline(always)]
+    fn print_here(&mut self, what: &What)
+        ensures { TakesEvents K.written K.faults self.old (what.now ∷ []) self.new }
+    {
         self.count(what);
         self.gather(what);
     }
 
+    /// Prints that a command ended well.
+    #[inline(never)]
+    fn print_ok(&mut self)
+        ensures { TakesEvents K.written K.faults self.old (a_what.Ok ∷ []) self.new }
+    {
+        self.print_here(&What::Ok);
+    }
+
+    /// Prints that a level begins.
+    #[inline(never)]
+    fn print_begin(&mut self, level: u32)
+        ensures { TakesEvents K.written K.faults self.old (a_what.BeginLevel level ∷ []) self.new }
+    {
+        self.print_here(&What::BeginLevel(level));
+    }
+
+    /// Prints that a level begins to commit.
+    #[inline(never)]
+    fn print_commit(&mut self, level: u32)
+        ensures { TakesEvents K.written K.faults self.old (a_what.CommitLevel level ∷ []) self.new }
+    {
+        self.print_here(&What::CommitLevel(level));
+    }
+
+    /// Prints that a context was made.
+    #[inline(never)]
+    fn print_create(&mut self, context: u64, name: &Name, parent: u64)
+        ensures { TakesEvents K.written K.faults self.old (a_what.Create context name.now parent ∷ []) self.new }
+    {
+        self.print_here(&What::Create {
+            context,
+            name: *name,
+            parent,
+        });
+    }
+
+    /// Prints that a context is deleted.
+    #[inline(never)]
+    fn print_delete(&mut self, context: u64)
+        ensures { TakesEvents K.written K.faults self.old (a_what.Delete context ∷ []) self.new }
+    {
+        self.print_here(&What::Delete(context));
+    }
+
+    /// Prints that an owner without a parent was made.
+    #[inline(never)]
+    fn print_owner(&mut self, owner: u64)
+        ensures { TakesEvents K.written K.faults self.old (a_what.Owner owner ∷ []) self.new }
+    {
+        self.print_here(&What::Owner(owner));
+    }
+
+    /// Prints that an owner was made below another one.
+    #[inline(never)]
+    fn print_owner_in(&mut self, owner: u64, parent: u64)
+        ensures { TakesEvents K.written K.faults self.old (a_what.OwnerIn owner parent ∷ []) self.new }
+    {
+        self.print_here(&What::OwnerIn { owner, parent });
+    }
+
+    /// Prints that an owner was discarded.
+    #[inline(never)]
+    fn print_owner_gone(&mut self, owner: u64)
+        ensures { TakesEvents K.written K.faults self.old (a_what.OwnerGone owner ∷ []) self.new }
+    {
+        self.print_here(&What::OwnerGone(owner));
+    }
+
+    /// Prints that an owner remembers an item.
+    #[inline(never)]
+    fn print_acquire(&mut self, item: Item, owner: u64)
+        ensures { TakesEvents K.written K.faults self.old (a_what.Acquire item owner ∷ []) self.new }
+    {
+        self.print_here(&What::Acquire { item, owner });
+    }
+
+    /// Prints that an item of an owner was forgotten or released.
+    #[inline(never)]
+    fn print_release(&mut self, item: Item, owner: u64)
+        ensures { TakesEvents K.written K.faults self.old (a_what.Release item owner ∷ []) self.new }
+    {
+        self.print_here(&What::Release { item, owner });
+    }
+
     /// Counts the event where it is an ERROR event.
+    #[inline(always)]
     fn count(&mut self, what: &What)
         ensures { self.new ≡ record self.old { errors = min (self.old.errors + (if is_error what.now then 1 else 0)) (2 ^ 64 - 1) } }
     {
@@ -156,9 +253,27 @@ impl<'a, K: Sink> Emit for Printer<'a, K> {
 
     ghost emits = { TakesEvents K.written K.faults };
 
+    // Where an event is made, its kind is known, and of this only the arm of that kind is left: its parts are handed on, and the
+    // event itself, which is large, is never put together.
     #[inline(always)]
     fn emit(&mut self, what: What) {
-        self.print(&what);
+        match &what {
+            What::Ok => self.print_ok(),
+            What::BeginLevel(level) => self.print_begin(*level),
+            What::CommitLevel(level) => self.print_commit(*level),
+            What::Create {
+                context,
+                name,
+                parent,
+            } => self.print_create(*context, name, *parent),
+            What::Delete(context) => self.print_delete(*context),
+            What::Owner(owner) => self.print_owner(*owner),
+            What::OwnerIn { owner, parent } => self.print_owner_in(*owner, *parent),
+            What::OwnerGone(owner) => self.print_owner_gone(*owner),
+            What::Acquire { item, owner } => self.print_acquire(*item, *owner),
+            What::Release { item, owner } => self.print_release(*item, *owner),
+            _ => self.print(&what),
+        }
     }
 
     ghost emits_none = { TakesEvents-none K.written K.faults };
