@@ -1,3 +1,2 @@
-pub mod DigitLemmas
 pub mod KeptLemmas
-pub mod TextLemmas
+pub mod NameLemmas

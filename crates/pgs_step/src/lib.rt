@@ -1,5 +1,4 @@
-//! The plain types of the core: names, numbers, errors and events, what it is to emit events, and the
-//! line of text of each event.
+//! The plain types of the core: names, numbers, errors and events, and what it is to emit events.
 #![tactic(auto)]
 
 mod chunk_bytes;
@@ -11,13 +10,10 @@ mod events;
 mod ids;
 mod lock_modes;
 mod names;
-mod pieces;
-mod report_texts;
 mod steps;
-mod texts;
 
 pub use chunk_bytes::ChunkBytes;
-pub use counters::{Depth, MemoryCounters, SessionCounts};
+pub use counters::{DEEPEST, Depth, MemoryCounters, SessionCounts};
 pub use emitter::Emit;
 pub use errors::Error;
 pub use event_list::EventList;
@@ -26,4 +22,3 @@ pub use ids::{CtxId, Item, KindId, OwnerId, Phase};
 pub use lock_modes::Mode;
 pub use names::Name;
 pub use steps::Step;
-pub use texts::{append_text, text, text_with};

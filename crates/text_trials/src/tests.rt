@@ -2,8 +2,9 @@
 use arrayvec::ArrayVec;
 use pgs_step::{
     ChunkBytes, Depth, Emit, Error, Event, EventList, Item, KindId, MemoryCounters, Mode, Name,
-    SessionCounts, What, append_text, text, text_with,
+    SessionCounts, What,
 };
+use pgs_text::{append_text, text, text_with};
 use std::test::Fail;
 
 fn item(kind: u8, key: u32, serial: u64) -> Item {
