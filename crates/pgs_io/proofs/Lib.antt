@@ -3,3 +3,4 @@ pub mod LineLemmas
 pub mod NumberLemmas
 pub mod ReadingLemmas
 pub mod FindingLemmas
+mod PieceLemmas

@@ -1,0 +1,86 @@
+-- Pieces of eight bytes.
+use Rattle.std.proofs.Common.{◌≡◌, ◌≢◌, ℕ, ◌<◌, ◌+◌, Bool, true, false, ◌||◌, not, nat_eq, List, length, take, drop, get_or, refl, sym, subst, arith, zero, suc}
+use Rattle.std.specs.Prelude.{All, IsTrue}
+use Rattle.std.proofs.Math.Seq.{take-add}
+use Rattle.std.proofs.lemmas.Bool.Decides.{nat_tests}
+use Rattle.std.proofs.lemmas.List.Elements.{All-get_or, All-from_get_or, All-append}
+
+-- what holds at each of eight places holds at each place below eight
+pub below_eight : (P : ℕ → Type 0) → P 0 → P 1 → P 2 → P 3 → P 4 → P 5 → P 6 → P 7 → (k : ℕ) → k < 8 → P k
+below_eight P a b c d e f g h zero less = a
+below_eight P a b c d e f g h (suc zero) less = b
+below_eight P a b c d e f g h (suc (suc zero)) less = c
+below_eight P a b c d e f g h (suc (suc (suc zero))) less = d
+below_eight P a b c d e f g h (suc (suc (suc (suc zero)))) less = e
+below_eight P a b c d e f g h (suc (suc (suc (suc (suc zero))))) less = f
+below_eight P a b c d e f g h (suc (suc (suc (suc (suc (suc zero)))))) less = g
+below_eight P a b c d e f g h (suc (suc (suc (suc (suc (suc (suc zero))))))) less = h
+below_eight P a b c d e f g h (suc (suc (suc (suc (suc (suc (suc (suc n)))))))) less = absurd (omega arith)
+
+not_left : (a b : Bool) → IsTrue (not (a || b)) → IsTrue (not a)
+not_left false b h = refl
+not_left true b h = h
+
+not_right : (a b : Bool) → IsTrue (not (a || b)) → IsTrue (not b)
+not_right false b h = h
+not_right true false h = refl
+not_right true true h = h
+
+not_either : (a b : Bool) → IsTrue (not a) → IsTrue (not b) → IsTrue (not (a || b))
+not_either false b g h = h
+not_either true b g h = g
+
+is_other : (x byte : ℕ) → IsTrue (not (nat_eq x byte)) → x ≢ byte
+is_other x byte h = grind (arith, nat_tests)
+
+tests_other : (x byte : ℕ) → x ≢ byte → IsTrue (not (nat_eq x byte))
+tests_other x byte n = grind (arith, nat_tests)
+
+abbrev pub is_met : List ℕ → ℕ → ℕ → Bool
+is_met piece byte k = nat_eq (get_or piece k 0) byte
+
+-- no test of the eight is met
+abbrev pub none_met : List ℕ → ℕ → Bool
+none_met piece byte =
+    not ((((is_met piece byte 0 || is_met piece byte 1) || is_met piece byte 2) || is_met piece byte 3)
+    || (((is_met piece byte 4 || is_met piece byte 5) || is_met piece byte 6) || is_met piece byte 7))
+
+-- where no test is met, all eight are others
+pub All-none_met : (piece : List ℕ) (byte : ℕ) → length piece ≡ 8 → IsTrue (none_met piece byte) → All (λ b. b ≢ byte) piece
+All-none_met piece byte eight h =
+    let m = is_met piece byte in
+    let first : IsTrue (not (((m 0 || m 1) || m 2) || m 3)) = not_left (((m 0 || m 1) || m 2) || m 3) (((m 4 || m 5) || m 6) || m 7) h in
+    let last : IsTrue (not (((m 4 || m 5) || m 6) || m 7)) = not_right (((m 0 || m 1) || m 2) || m 3) (((m 4 || m 5) || m 6) || m 7) h in
+    let first_three : IsTrue (not ((m 0 || m 1) || m 2)) = not_left ((m 0 || m 1) || m 2) (m 3) first in
+    let last_three : IsTrue (not ((m 4 || m 5) || m 6)) = not_left ((m 4 || m 5) || m 6) (m 7) last in
+    let first_two : IsTrue (not (m 0 || m 1)) = not_left (m 0 || m 1) (m 2) first_three in
+    let last_two : IsTrue (not (m 4 || m 5)) = not_left (m 4 || m 5) (m 6) last_three in
+    let other = λ (k : ℕ). is_other (get_or piece k 0) byte in
+    All-from_get_or (λ b. b ≢ byte) piece 0
+    (λ k less. below_eight (λ i. get_or piece i 0 ≢ byte)
+    (other 0 (not_left (m 0) (m 1) first_two))
+    (other 1 (not_right (m 0) (m 1) first_two))
+    (other 2 (not_right (m 0 || m 1) (m 2) first_three))
+    (other 3 (not_right ((m 0 || m 1) || m 2) (m 3) first))
+    (other 4 (not_left (m 4) (m 5) last_two))
+    (other 5 (not_right (m 4) (m 5) last_two))
+    (other 6 (not_right (m 4 || m 5) (m 6) last_three))
+    (other 7 (not_right ((m 4 || m 5) || m 6) (m 7) last))
+    k (omega arith))
+
+-- where all eight are others, no test is met
+pub none_met-All : (piece : List ℕ) (byte : ℕ) → length piece ≡ 8 → All (λ b. b ≢ byte) piece → IsTrue (none_met piece byte)
+none_met-All piece byte eight all =
+    let m = is_met piece byte in
+    let other = λ (k : ℕ) (less : k < 8). tests_other (get_or piece k 0) byte (All-get_or (λ b. b ≢ byte) piece k 0 (omega arith) all) in
+    let first : IsTrue (not (((m 0 || m 1) || m 2) || m 3)) =
+    not_either ((m 0 || m 1) || m 2) (m 3) (not_either (m 0 || m 1) (m 2) (not_either (m 0) (m 1) (other 0 (omega arith)) (other 1 (omega arith))) (other 2 (omega arith))) (other 3 (omega arith)) in
+    let last : IsTrue (not (((m 4 || m 5) || m 6) || m 7)) =
+    not_either ((m 4 || m 5) || m 6) (m 7) (not_either (m 4 || m 5) (m 6) (not_either (m 4) (m 5) (other 4 (omega arith)) (other 5 (omega arith))) (other 6 (omega arith))) (other 7 (omega arith)) in
+    not_either (((m 0 || m 1) || m 2) || m 3) (((m 4 || m 5) || m 6) || m 7) first last
+
+-- bytes that are others, and behind them a piece of such
+pub All-piece : (xs : List ℕ) (at n byte : ℕ) → n ≡ 8 → All (λ b. b ≢ byte) (take at xs) → All (λ b. b ≢ byte) (take n (drop at xs)) → All (λ b. b ≢ byte) (take (at + 8) xs)
+All-piece xs at n byte e before here =
+    subst (λ k. All (λ b. b ≢ byte) (take (at + k) xs)) e
+    (subst (All (λ b. b ≢ byte)) (sym (take-add at n xs)) (All-append (λ b. b ≢ byte) (take at xs) (take n (drop at xs)) before here))
