@@ -22,6 +22,7 @@ use chunk_header::{
     BLOCK_HEADER, CHUNK_HEADER, CONTEXT_BYTES, CtxError, Header, Kind, LARGEST, Sizes, Stats,
     block_header, grown, up8,
 };
+use free_list::FreeList;
 use indexmap::IndexMap;
 use std::alloc::Global;
 
@@ -121,49 +122,27 @@ impl Books {
         }
     }
 
-    // The books of a new context, whose keeper was taken. Room for them comes first: a block that was taken leaves a trace.
-    pub fn create(
+    // The same in a box, which is one that a context left where there is one.
+    #[inline]
+    pub fn boxed(
         alloc: Global,
-        space: &mut Space,
+        boxes: &mut FreeList<Books>,
         account: u8,
         context: u32,
         sizes: Sizes,
-    ) -> Result<Box<Books>, CtxError>
-        requires account { account < accounts space.old }
+    ) -> Option<Box<Books>>
         requires least { 1024 ≤ sizes.init }
         requires order { sizes.init ≤ sizes.max }
-        requires most { sizes.max ≤ 8388608 }
-        requires whole_init { sizes.init % 8 ≡ 0 }
-        requires whole_max { sizes.max % 8 ≡ 0 }
-        ensures kept { IfOk result (λ b. IsKept b.value) }
-        ensures ledger { IfOk result (λ b. (state_of b.value).ledger ≡ created sizes.init sizes.max) }
-        ensures account { IfOk result (λ b. b.value.account ≡ account) }
-        ensures context { IfOk result (λ b. b.value.context ≡ context) }
-        ensures live { IfOk result (λ b. (at : Addr) → (footprint (state_of b.value)).live at ≡ None) }
-        ensures moves { IfOk result (λ b. Moves (nothing account context) (footprint (state_of b.value)) space.old space.new) }
-        ensures place { IfOk result (λ b. (at : Addr) → place_at (state_of b.value) at ≡ None) }
-        ensures asked { OnOk result (Asks account sizes.init space.old space.new) }
-        ensures no_space { (result ≡ Err CtxError.NoSpace) ↔ (space.old.limit < held space.old account + sizes.init) }
-        ensures no_other { IfErr result (λ e. (e ≡ CtxError.NoSpace) ⊎ (e ≡ CtxError.Memory)) }
-        ensures err { OnErr result (space.new ≡ space.old) }
+        ensures none { IfSome result (λ b. (b.value.blocks.entries ≡ []) × (b.value.chunks.entries ≡ [])) }
+        ensures rest { IfSome result (λ b. b.value ≡ new_books account context sizes 0 b.value) }
     {
-        if !space.fits(account, sizes.init) {
-            return Err(CtxError::NoSpace);
+        match boxes.next() {
+            Some(mut books) => {
+                *books = Books::unplaced(alloc, account, context, sizes);
+                Some(books)
+            }
+            None => Box::new(alloc, Books::unplaced(alloc, account, context, sizes)).ok(),
         }
-        let Ok(mut books) = Box::new(alloc, Books::unplaced(alloc, account, context, sizes)) else {
-            return Err(CtxError::Memory);
-        };
-        let at = space.take(account, sizes.init)?;
-        space.write(
-            Addr {
-                region: at.region,
-                offset: CONTEXT_BYTES,
-            },
-            &block_header(context, sizes.init),
-        );
-        books.keeper = at.region;
-        books.active.region = at.region;
-        Ok(books)
     }
 
     // How many bytes of a region stand before the header of its block.

@@ -15,9 +15,13 @@ mod resizing;
 
 use addr_space::{Addr, Space};
 use books::Books;
-use chunk_header::{CtxError, Kind, Sizes, Stats};
+use chunk_header::{CONTEXT_BYTES, CtxError, Kind, Sizes, Stats, block_header};
+use free_list::FreeList;
 use std::alloc::Global;
 use std::marker::Model;
+
+/// The boxes that contexts have left for the next ones.
+pub type SetBoxes = FreeList<Books>;
 
 /// A context whose chunks have a power of two of bytes, or a block for themselves.
 ///
@@ -53,6 +57,7 @@ impl AllocSet {
     /// `NoSpace` comes where the first block doesn't fit, and before `Memory`. A refused call changes nothing.
     pub fn create(
         alloc: Global,
+        boxes: &mut SetBoxes,
         space: &mut Space,
         account: u8,
         context: u32,
@@ -75,7 +80,22 @@ impl AllocSet {
         ensures no_other { IfErr result (λ e. (e ≡ CtxError.NoSpace) ⊎ (e ≡ CtxError.Memory)) }
         ensures err_space { OnErr result (space.new ≡ space.old) }
     {
-        let books = Books::create(alloc, space, account, context, sizes)?;
+        if !space.fits(account, sizes.init) {
+            return Err(CtxError::NoSpace);
+        }
+        let Some(mut books) = Books::boxed(alloc, boxes, account, context, sizes) else {
+            return Err(CtxError::Memory);
+        };
+        let at = space.take(account, sizes.init)?;
+        space.write(
+            Addr {
+                region: at.region,
+                offset: CONTEXT_BYTES,
+            },
+            &block_header(context, sizes.init),
+        );
+        books.keeper = at.region;
+        books.active.region = at.region;
         Ok(AllocSet { books })
     }
 
@@ -207,12 +227,13 @@ impl AllocSet {
     }
 
     /// Frees all chunks, and gives all blocks, the first too, back: `AllocSetDelete`. It takes no memory.
-    pub fn discard(self, space: &mut Space)
+    pub fn discard(self, space: &mut Space, boxes: &mut SetBoxes)
         requires agrees { Agrees (footprint self) space.old }
         ensures moves { Moves (footprint self) (nothing self.account self.context) space.old space.new }
         ensures asked { Asks self.account 0 space.old space.new }
     {
         let AllocSet { mut books } = self;
         books.discard(space);
+        boxes.keep(books);
     }
 }

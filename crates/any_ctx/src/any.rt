@@ -12,7 +12,7 @@ ghost use Rattle.any_ctx.specs.Calls.{take_in, Takes, IsWrongSize, resize_in, Re
 ghost use Rattle.alloc_set.specs.Ledger as set;
 
 use addr_space::{Addr, Space};
-use alloc_set::AllocSet;
+use alloc_set::{AllocSet, SetBoxes};
 use bump_ctx::BumpCtx;
 use chunk_header::{CtxError, Sizes, Stats};
 use generation_ctx::GenerationCtx;
@@ -60,6 +60,7 @@ pub enum AnyCtx {
 // An AllocSet whose blocks have these sizes.
 fn set_of(
     alloc: Global,
+    boxes: &mut SetBoxes,
     space: &mut Space,
     account: u8,
     context: u32,
@@ -82,7 +83,7 @@ fn set_of(
     ensures no_other { IfErr result (λ e. (e ≡ CtxError.NoSpace) ⊎ (e ≡ CtxError.Memory)) }
     ensures err_space { OnErr result (space.new ≡ space.old) }
 {
-    let set = AllocSet::create(alloc, space, account, context, sizes)?;
+    let set = AllocSet::create(alloc, boxes, space, account, context, sizes)?;
     Ok(AnyCtx::AllocSet(set))
 }
 
@@ -94,6 +95,7 @@ impl AnyCtx {
     /// refused call changes nothing.
     pub fn create(
         alloc: Global,
+        boxes: &mut SetBoxes,
         space: &mut Space,
         account: u8,
         context: u32,
@@ -125,10 +127,10 @@ impl AnyCtx {
             max: 32_768,
         };
         match kind {
-            CtxKind::Default => set_of(alloc, space, account, context, GREAT),
-            CtxKind::Small => set_of(alloc, space, account, context, small),
-            CtxKind::Error => set_of(alloc, space, account, context, error),
-            CtxKind::Abort => set_of(alloc, space, account, context, abort),
+            CtxKind::Default => set_of(alloc, boxes, space, account, context, GREAT),
+            CtxKind::Small => set_of(alloc, boxes, space, account, context, small),
+            CtxKind::Error => set_of(alloc, boxes, space, account, context, error),
+            CtxKind::Abort => set_of(alloc, boxes, space, account, context, abort),
             CtxKind::Slab(size) => Ok(AnyCtx::Slab(SlabCtx::create(
                 alloc, space, account, context, size,
             )?)),
@@ -247,13 +249,13 @@ impl AnyCtx {
     }
 
     /// Gives all blocks back: `MemoryContextDelete` of a context without children. It takes no memory.
-    pub fn discard(self, space: &mut Space)
+    pub fn discard(self, space: &mut Space, boxes: &mut SetBoxes)
         requires { Agrees (footprint self) space.old }
         ensures moves { Moves (footprint self) (nothing (footprint self).account (footprint self).context) space.old space.new }
         ensures asked { Asks (footprint self).account 0 space.old space.new }
     {
         match self {
-            AnyCtx::AllocSet(set) => set.discard(space),
+            AnyCtx::AllocSet(set) => set.discard(space, boxes),
             AnyCtx::Slab(slab) => slab.discard(space),
             AnyCtx::Generation(generation) => generation.discard(space),
             AnyCtx::Bump(bump) => bump.discard(space),

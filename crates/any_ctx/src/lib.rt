@@ -4,6 +4,7 @@
 mod any;
 mod marked;
 
+pub use alloc_set::SetBoxes;
 pub use any::{AnyCtx, CtxKind};
 pub use marked::{chunk_space, owner_of};
 

@@ -2,7 +2,7 @@
 ghost use Rattle.std.specs.Prelude.{◌≢◌};
 ghost use Rattle.any_ctx.specs.Kinds.{IsSlabSize};
 
-use crate::{AnyCtx, CtxKind, chunk_space, owner_of};
+use crate::{AnyCtx, CtxKind, SetBoxes, chunk_space, owner_of};
 use addr_space::{Addr, Space};
 use chunk_header::{CtxError, Stats, marked};
 use std::alloc::Global;
@@ -25,13 +25,13 @@ fn course(alloc: Global, kind: CtxKind, size: u64) -> Result<([Stats; 3], u64), 
     requires { IsSlabSize kind }
 {
     let mut space = Space::new(alloc, 1, 1_000_000)?;
-    let mut context = AnyCtx::create(alloc, &mut space, 0, 7, kind)?;
+    let mut context = AnyCtx::create(alloc, &mut SetBoxes::new(alloc), &mut space, 0, 7, kind)?;
     let new = context.stats();
     context.alloc(&mut space, size)?;
     let taken = context.stats();
     context.reset(&mut space);
     let emptied = context.stats();
-    context.discard(&mut space);
+    context.discard(&mut space, &mut SetBoxes::new(alloc));
     Ok(([new, taken, emptied], space.held(0)))
 }
 
@@ -64,7 +64,7 @@ fn told(alloc: Global, kind: CtxKind, size: u64) -> Result<(u32, u64), Fail>
     requires marked { kind ≢ CtxKind.Bump }
 {
     let mut space = Space::new(alloc, 1, 1_000_000)?;
-    let mut context = AnyCtx::create(alloc, &mut space, 0, 7, kind)?;
+    let mut context = AnyCtx::create(alloc, &mut SetBoxes::new(alloc), &mut space, 0, 7, kind)?;
     let at = context.alloc(&mut space, size)?;
     context.headed();
     marked();

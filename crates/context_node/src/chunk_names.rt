@@ -10,19 +10,21 @@ use pgs_step::Name;
 use std::collections::HashMap;
 
 /// Makes room for one more name, if the chunk has one. `Taken` comes where it stands.
+#[inline(always)]
 pub fn room_for_chunk(
     names: &mut HashMap<Name, ChunkId>,
     name: &Option<Name>,
 ) -> Result<(), TreeError>
     ensures names { (w : List ℕ) → get same names.new w ≡ get same names.old w }
-    ensures room { OnOk result (0 < spare names.new) }
+    ensures room { OnOk result (IsSome name.now → 0 < spare names.new) }
     ensures unnamed { OnOk result ((w : List ℕ) → name.now ≡ Some w → get same names.old w ≡ None) }
     ensures refused { IfErr result (λ e. (e ≡ TreeError.Memory) ⊎ ((e ≡ TreeError.Taken) × ((w : List ℕ) × (name.now ≡ Some w) × IsSome (get same names.old w)))) }
 {
-    if let Some(word) = name {
-        if names.contains_key(word) {
-            return Err(TreeError::Taken);
-        }
+    let Some(word) = name else {
+        return Ok(());
+    };
+    if names.contains_key(word) {
+        return Err(TreeError::Taken);
     }
     match names.reserve(1) {
         Ok(()) => Ok(()),
@@ -31,8 +33,9 @@ pub fn room_for_chunk(
 }
 
 /// Writes where the chunk of a name is, if it has one, in room that was made.
+#[inline(always)]
 pub fn enter_chunk(names: &mut HashMap<Name, ChunkId>, name: Option<Name>, id: ChunkId)
-    requires { 0 < spare names.old }
+    requires { IsSome name → 0 < spare names.old }
     ensures { (w : List ℕ) → get same names.new w ≡ entered name id (get same names.old) w }
 {
     if let Some(name) = name {

@@ -12,5 +12,5 @@ mod zeros;
 pub use chunk_id::ChunkId;
 pub use chunk_names::{enter_chunk, room_for_chunk};
 pub use entry::Entry;
-pub use making::{NewContext, enter_context, give_back, make_node, own_name, room_for_name};
-pub use node::Node;
+pub use making::{NewContext, enter_context, give_back, own_name, room_for_name};
+pub use node::{Node, told};

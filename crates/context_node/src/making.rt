@@ -1,24 +1,20 @@
 //! The making of a context.
-ghost use Rattle.std.specs.Prelude.{◌≡◌, ◌⊎◌, ℕ, ◌+◌, ◌<◌, List, false, true, None, IsSome, IfOk, IfErr, OnOk, OnErr};
+ghost use Rattle.std.specs.Prelude.{◌≡◌, ◌⊎◌, ℕ, ◌<◌, List, false, true, None, IsSome, IfErr, OnOk};
 ghost use Rattle.std.specs.HashMap.{get, spare};
-ghost use Rattle.addr_space.specs.Space.{accounts, held, Asks};
+ghost use Rattle.addr_space.specs.Space.{Asks};
 ghost use Rattle.addr_space.specs.Footprint.{Agrees, Moves, nothing};
 ghost use Rattle.any_ctx.specs.Contexts.{footprint};
-ghost use Rattle.any_ctx.specs.Kinds.{first_size, IsSlabSize};
 ghost use Rattle.context_rules.specs.Names as rules;
 ghost use Rattle.context_node.specs.Soundness.{same};
 ghost use Rattle.pgs_step.specs.Name.{IsName};
-ghost use Rattle.context_node.specs.Making.{Made, entered_context};
+ghost use Rattle.context_node.specs.Making.{entered_context};
 
-use crate::node::{Node, told};
+use crate::node::Node;
 use addr_space::Space;
-use any_ctx::{AnyCtx, CtxKind};
-use chunk_header::CtxError;
+use any_ctx::{CtxKind, SetBoxes};
 use context_rules::{TreeError, is_reserved};
-use forest::LinkedForest;
 use pgs_step::{CtxId, Name};
-use reset_callbacks::{Pending, ResetHook};
-use std::alloc::Global;
+use reset_callbacks::ResetHook;
 use std::collections::HashMap;
 
 /// A context to be made.
@@ -65,45 +61,14 @@ pub fn enter_context(names: &mut HashMap<Name, CtxId>, name: Name, protected: bo
     }
 }
 
-/// A context that holds nothing yet, with its first block or region, for the slot that it will get.
-pub fn make_node<H: ResetHook>(
-    alloc: Global,
-    space: &mut Space,
-    account: u8,
-    slot: u32,
-    new: &NewContext,
-) -> Result<Node<H>, TreeError>
-    requires account { account < accounts space.old }
-    requires slab { IsSlabSize new.now.kind }
-    ensures made { IfOk result (λ k. Made new.now k account slot space.old space.new) }
-    ensures refused { IfErr result (λ e. (e ≡ TreeError.Memory) ⊎ ((e ≡ TreeError.Ctx CtxError.NoSpace) × (space.old.limit < held space.old account + first_size new.now.kind))) }
-    ensures err_space { OnErr result (space.new ≡ space.old) }
-{
-    match AnyCtx::create(alloc, space, account, slot, new.kind) {
-        Ok(memory) => {
-            memory.counted();
-            Ok(Node {
-                name: new.name,
-                kind: new.kind,
-                protected: new.protected,
-                used: false,
-                memory,
-                chunks: LinkedForest::new(alloc),
-                callbacks: Pending::new(alloc),
-            })
-        }
-        Err(error) => Err(told(error)),
-    }
-}
-
 /// Gives the blocks of a context back, of which nothing was used. It takes no memory.
-pub fn give_back<H: ResetHook>(node: Node<H>, space: &mut Space)
+pub fn give_back<H: ResetHook>(node: Node<H>, space: &mut Space, boxes: &mut SetBoxes)
     requires { Agrees (footprint node.memory) space.old }
     ensures moves { Moves (footprint node.memory) (nothing (footprint node.memory).account (footprint node.memory).context) space.old space.new }
     ensures asked { Asks (footprint node.memory).account 0 space.old space.new }
 {
     let Node { memory, .. } = node;
-    memory.discard(space);
+    memory.discard(space, boxes);
 }
 
 /// The name of one of a session's own contexts.

@@ -13,6 +13,7 @@ ghost use Rattle.reset_callbacks.specs.Hook.{AreDistinct};
 ghost use Rattle.reset_callbacks.specs.ShelfState.{held as on_shelf};
 ghost use Rattle.context_rules.specs.Ends.{callbacks};
 ghost use Rattle.context_node.specs.Soundness.{same, IsSoundContext};
+ghost use Rattle.context_node.specs.Making.{made_with};
 ghost use Rattle.context_node.specs.Chunking.{Took, Freed, Written, Refitted};
 ghost use Rattle.context_node.specs.Ending.{Cleared, Gone, without_context};
 ghost use Rattle.forest.specs.Forest.{at, has};
@@ -20,14 +21,16 @@ ghost use Rattle.forest.specs.Forest.{at, has};
 use crate::chunk_id::ChunkId;
 use crate::ending::{forget_all, forget_context, run_all};
 use crate::entry::Entry;
+use crate::making::NewContext;
 use crate::zeros::write_zeros;
 use addr_space::{Addr, Space};
-use any_ctx::{AnyCtx, CtxKind};
+use any_ctx::{AnyCtx, CtxKind, SetBoxes};
 use chunk_header::{CtxError, Stats};
 use context_rules::TreeError;
 use forest::{LinkedForest, NodeId};
 use pgs_step::{CtxId, Emit, Name, What};
 use reset_callbacks::{Pending, ResetHook, Shelf};
+use std::alloc::Global;
 use std::collections::HashMap;
 use std::marker::Model;
 
@@ -65,6 +68,22 @@ impl<H: ResetHook> Model for Node<H> {
 }
 
 impl<H: ResetHook> Node<H> {
+    /// A context that holds nothing yet, over the memory that was taken for it.
+    #[inline(always)]
+    pub fn over(alloc: Global, memory: AnyCtx, new: &NewContext) -> Node<H>
+        ensures { result ≡ made_with new.now memory }
+    {
+        Node {
+            name: new.name,
+            kind: new.kind,
+            protected: new.protected,
+            used: false,
+            memory,
+            chunks: LinkedForest::new(alloc),
+            callbacks: Pending::new(alloc),
+        }
+    }
+
     /// Its name.
     pub fn name(&self) -> Name
         ensures { result ≡ self.now.name }
@@ -289,6 +308,7 @@ impl<H: ResetHook> Node<H> {
     pub fn end<E: Emit>(
         self,
         space: &mut Space,
+        boxes: &mut SetBoxes,
         shelf: &mut Shelf<H>,
         names: &mut HashMap<Name, ChunkId>,
         number: u64,
@@ -309,7 +329,7 @@ impl<H: ResetHook> Node<H> {
         } = self;
         run_all(&mut callbacks, shelf, number, out);
         forget_all(&mut chunks, names);
-        memory.discard(space);
+        memory.discard(space, boxes);
     }
 }
 

@@ -7,13 +7,11 @@ use Rattle.addr_space.specs.Footprint.{Footprint, nothing}
 use Rattle.addr_space.proofs.Steps.{Agrees-nothing, Moves-none, Moves-more}
 use Rattle.any_ctx.specs.Kinds.{first_size}
 use Rattle.any_ctx.specs.Contexts.{footprint}
+use Rattle.any_ctx.specs.declared.any.AnyCtx.{AnyCtx}
 use Rattle.any_ctx.specs.declared.any.CtxKind.{CtxKind}
 use Rattle.any_ctx.specs.declared.any.CtxKind.TheVariants.{Default, Small, Error, Abort, Slab, Generation, Bump}
 use Rattle.chunk_header.specs.declared.CtxError.TheVariants.{NoSpace}
 use Rattle.context_rules.specs.declared.errors.TreeError.TheVariants.{TooMany, Ctx}
-use Rattle.context_node.specs.declared.making.NewContext.{NewContext}
-use Rattle.context_node.specs.Kept.{Kept}
-use Rattle.context_node.specs.Making.{Made}
 use Rattle.context_tree.specs.Making.{CameBack, room_refusal}
 
 first_some : (kind : CtxKind) → 0 < first_size kind
@@ -39,11 +37,11 @@ has_room many held limit kind few fits =
 pub never_left : (account : ℕ) (s : Space) → account < accounts s → CameBack account s s
 never_left account s below = record { slot = 0; moves = Moves-none (nothing account 0) s (Agrees-nothing account 0 s below) }
 
-pub given_back : (new : NewContext) (k : Kept) (account slot : ℕ) (s t u : Space) → Made new k account slot s t
-    → foot.Moves (footprint k.memory) (nothing (footprint k.memory).account (footprint k.memory).context) t u → CameBack account s u
-given_back new k account slot s t u made gives = record {
+pub given_back : (m : AnyCtx) (account slot : ℕ) (s t u : Space) → foot.Moves (nothing account slot) (footprint m) s t
+    → foot.Moves (footprint m) (nothing (footprint m).account (footprint m).context) t u → CameBack account s u
+given_back m account slot s t u moves gives = record {
   slot = slot;
-  moves = Moves-more (nothing account slot) (footprint k.memory) (nothing account slot) s t u made.moves
-      (subst (λ (a : ℕ). foot.Moves (footprint k.memory) (nothing a slot) t u) made.moves.account
-      (subst (λ (c : ℕ). foot.Moves (footprint k.memory) (nothing (footprint k.memory).account c) t u) made.moves.context gives));
+  moves = Moves-more (nothing account slot) (footprint m) (nothing account slot) s t u moves
+      (subst (λ (a : ℕ). foot.Moves (footprint m) (nothing a slot) t u) moves.account
+      (subst (λ (c : ℕ). foot.Moves (footprint m) (nothing (footprint m).account c) t u) moves.context gives));
 }

@@ -11,7 +11,8 @@ ghost use Rattle.context_tree.specs.State.{no_contexts, Agrees as Agreeing, Move
 ghost use Rattle.context_tree.specs.Making.{bare, Grew, AsksInVain, CameBack, room_refusal, entered_at};
 
 use addr_space::Space;
-use context_node::{NewContext, Node, give_back, make_node};
+use any_ctx::{AnyCtx, SetBoxes};
+use context_node::{NewContext, Node, give_back, told};
 use context_rules::{MOST_CONTEXTS, TreeError};
 use forest::{LinkedForest, NodeId};
 use reset_callbacks::ResetHook;
@@ -45,6 +46,7 @@ pub fn grow<H: ResetHook>(
     nodes: &mut LinkedForest<Node<H>>,
     space: &mut Space,
     alloc: Global,
+    boxes: &mut SetBoxes,
     account: u8,
     parent: Option<NodeId>,
     new: &NewContext,
@@ -65,18 +67,26 @@ pub fn grow<H: ResetHook>(
     let Some(slot) = nodes.next_slot() else {
         return Err(TreeError::Memory);
     };
-    let node = make_node(alloc, space, account, slot, new)?;
-    match insert(nodes, parent, new.number, node) {
+    let memory = match AnyCtx::create(alloc, boxes, space, account, slot, new.kind) {
+        Ok(memory) => memory,
+        Err(error) => return Err(told(error)),
+    };
+    memory.counted();
+    match insert(nodes, parent, new.number, Node::over(alloc, memory, new)) {
         Ok(id) => Ok(id),
         Err(failed) => {
-            give_back(failed.value, space);
+            give_back(failed.value, space, boxes);
             Err(TreeError::Memory)
         }
     }
 }
 
 /// Gives back the blocks of all contexts, which were made for one account, the children of each before it.
-pub fn give_all_back<H: ResetHook>(nodes: &mut LinkedForest<Node<H>>, space: &mut Space)
+pub fn give_all_back<H: ResetHook>(
+    nodes: &mut LinkedForest<Node<H>>,
+    space: &mut Space,
+    boxes: &mut SetBoxes,
+)
     requires agrees { (account : ℕ) × Agreeing (bare account nodes.old.forest) space.old }
     requires each { (n : ℕ) (k : Kept) → at n nodes.old.forest ≡ Some k → IsSoundContext k }
     ensures moves { (account : ℕ) → Agreeing (bare account nodes.old.forest) space.old → AllMoves (bare account nodes.old.forest) (no_contexts account) space.old space.new }
@@ -85,6 +95,6 @@ pub fn give_all_back<H: ResetHook>(nodes: &mut LinkedForest<Node<H>>, space: &mu
     while let Some(root) = nodes.first() {
         let leaf = nodes.first_leaf(root);
         let node = nodes.remove(leaf);
-        give_back(node, space);
+        give_back(node, space, boxes);
     }
 }

@@ -21,7 +21,7 @@ ghost use Rattle.context_node.specs.declared.chunk_id.ChunkId.{ChunkId as Id};
 use crate::making::{give_all_back, grow};
 use crate::reporting::{context_at, report_all};
 use addr_space::{Addr, Space};
-use any_ctx::CtxKind;
+use any_ctx::{CtxKind, SetBoxes};
 use chunk_header::CtxError;
 use context_node::{
     ChunkId, Entry, NewContext, Node, enter_chunk, enter_context, own_name, room_for_chunk,
@@ -50,6 +50,7 @@ struct Own {
 #[derive(Drop)]
 pub struct ContextTree<H: ResetHook> {
     alloc: Global,
+    boxes: SetBoxes,
     nodes: LinkedForest<Node<H>>,
     names: HashMap<Name, CtxId>,
     chunk_names: HashMap<Name, ChunkId>,
@@ -156,6 +157,7 @@ impl<H: ResetHook> ContextTree<H> {
         ensures err_space { OnErr result (CameBack account space.old space.new) }
         ensures err_asked { IfErr result (λ e. AsksInVain e account 8192 space.old space.new) }
     {
+        let mut boxes = SetBoxes::new(alloc);
         let mut nodes = LinkedForest::new(alloc);
         let new = NewContext {
             number: 1,
@@ -163,9 +165,10 @@ impl<H: ResetHook> ContextTree<H> {
             kind: CtxKind::Default,
             protected: true,
         };
-        let top = context_at(grow(&mut nodes, space, alloc, account, None, &new)?);
+        let top = context_at(grow(&mut nodes, space, alloc, &mut boxes, account, None, &new)?);
         Ok(ContextTree {
             alloc,
+            boxes,
             nodes,
             names: HashMap::new(alloc),
             chunk_names: HashMap::new(alloc),
@@ -227,8 +230,12 @@ impl<H: ResetHook> ContextTree<H> {
         ensures moves { Moves self (no_contexts self.account) space.old space.new }
         ensures asked { (account : ℕ) → Asks account 0 space.old space.new }
     {
-        let ContextTree { mut nodes, .. } = self;
-        give_all_back(&mut nodes, space);
+        let ContextTree {
+            mut nodes,
+            mut boxes,
+            ..
+        } = self;
+        give_all_back(&mut nodes, space, &mut boxes);
     }
 
     /// Makes a context, the first child of another one: `MemoryContextCreate`. The numbers of contexts rise, and none is
@@ -309,6 +316,7 @@ impl<H: ResetHook> ContextTree<H> {
             &mut self.nodes,
             space,
             self.alloc,
+            &mut self.boxes,
             self.account,
             Some(node_at(parent)),
             &new,
@@ -368,6 +376,7 @@ impl<H: ResetHook> ContextTree<H> {
     ///
     /// `Taken` comes where its name stands, and then `Ctx` what the context's allocator answers; `Memory` may come in
     /// place of any of them.
+    #[inline(always)]
     pub fn alloc(
         &mut self,
         space: &mut Space,
@@ -752,7 +761,14 @@ impl<H: ResetHook> ContextTree<H> {
         let id = node_at(at);
         self.nodes.get(id).forget_name(&mut self.names);
         let node = self.nodes.remove(id);
-        node.end(space, shelf, &mut self.chunk_names, at.number, out);
+        node.end(
+            space,
+            &mut self.boxes,
+            shelf,
+            &mut self.chunk_names,
+            at.number,
+            out,
+        );
         tell_deleted(at.number, out);
     }
 

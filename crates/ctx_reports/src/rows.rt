@@ -6,7 +6,7 @@ ghost use Rattle.ctx_reports.specs.Numbers.{report, then, six};
 
 use crate::{Course, Pair, report_course, report_pair};
 use addr_space::Space;
-use any_ctx::{AnyCtx, CtxKind};
+use any_ctx::{AnyCtx, CtxKind, SetBoxes};
 use chunk_header::CtxError;
 use std::alloc::Global;
 
@@ -19,7 +19,7 @@ fn new_pair(alloc: Global, kind: CtxKind, size: u64) -> Result<Pair, CtxError>
     let Ok(mut space) = Space::new(alloc, 1, 1_000_000) else {
         return Err(CtxError::Memory);
     };
-    let mut context = AnyCtx::create(alloc, &mut space, 0, 7, kind)?;
+    let mut context = AnyCtx::create(alloc, &mut SetBoxes::new(alloc), &mut space, 0, 7, kind)?;
     let _ = context.stats();
     report_pair(&mut context, &mut space, size)
 }
@@ -40,7 +40,7 @@ fn new_course(
     let Ok(mut space) = Space::new(alloc, 1, 1_000_000) else {
         return Err(CtxError::Memory);
     };
-    let mut context = AnyCtx::create(alloc, &mut space, 0, 7, kind)?;
+    let mut context = AnyCtx::create(alloc, &mut SetBoxes::new(alloc), &mut space, 0, 7, kind)?;
     let _ = context.stats();
     report_course(&mut context, &mut space, first, second, third, other)
 }

@@ -6,7 +6,7 @@ ghost use Rattle.any_ctx.specs.Contexts.{footprint, ledger};
 ghost use Rattle.ctx_reports.specs.Alone.{AreBoth};
 
 use addr_space::Space;
-use any_ctx::{AnyCtx, CtxKind};
+use any_ctx::{AnyCtx, CtxKind, SetBoxes};
 use chunk_header::CtxError;
 use std::alloc::Global;
 
@@ -22,8 +22,9 @@ pub fn start(alloc: Global, space: &mut Space) -> Result<(AnyCtx, AnyCtx), CtxEr
     ensures limit { OnOk result (space.new.limit ≡ space.old.limit) }
     ensures asked { OnOk result (space.new.taken ≡ raised (raised space.old.taken 0 8192) 0 8192) }
 {
-    let first = AnyCtx::create(alloc, space, 0, 7, CtxKind::Default)?;
-    let second = AnyCtx::create(alloc, space, 0, 8, CtxKind::Generation)?;
+    let mut boxes = SetBoxes::new(alloc);
+    let first = AnyCtx::create(alloc, &mut boxes, space, 0, 7, CtxKind::Default)?;
+    let second = AnyCtx::create(alloc, &mut boxes, space, 0, 8, CtxKind::Generation)?;
     let _ = first.stats();
     let _ = second.stats();
     Ok((first, second))

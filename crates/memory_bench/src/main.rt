@@ -13,7 +13,7 @@ ghost use Rattle.memory_bench.specs.Held.{AreLive};
 ghost use Rattle.any_ctx.specs.Contexts.{footprint};
 
 use addr_space::{Addr, Space};
-use any_ctx::{AnyCtx, CtxKind};
+use any_ctx::{AnyCtx, CtxKind, SetBoxes};
 use anyhow::bail;
 use chunk_header::{CtxError, Stats};
 use std::alloc::Global;
@@ -200,7 +200,14 @@ impl Plan {
         let Ok(mut space) = Space::new(alloc, 1, u64::MAX) else {
             return Err(CtxError::Memory);
         };
-        let mut context = AnyCtx::create(alloc, &mut space, 0, 1, self.kind)?;
+        let mut context = AnyCtx::create(
+            alloc,
+            &mut SetBoxes::new(alloc),
+            &mut space,
+            0,
+            1,
+            self.kind,
+        )?;
         self.work(alloc, &mut context, &mut space)?;
         Ok(context.stats())
     }

@@ -45,6 +45,7 @@ impl<H: ResetHook> Store<H> {
     }
 
     /// Takes a chunk in a context, whose bytes aren't known: `MemoryContextAlloc`. The answers are those of `alloc`.
+    #[inline(always)]
     pub fn alloc_at(
         &mut self,
         space: &mut Space,

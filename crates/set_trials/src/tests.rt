@@ -6,7 +6,7 @@ ghost use Rattle.alloc_set.specs.State.{footprint};
 ghost use Rattle.alloc_set.specs.Ledger.{created};
 
 use addr_space::{Addr, Space};
-use alloc_set::AllocSet;
+use alloc_set::{AllocSet, SetBoxes};
 use chunk_header::{CtxError, Sizes, Stats};
 use std::alloc::Global;
 use std::test::Fail;
@@ -35,7 +35,14 @@ fn stats(numbers: [u64; 4]) -> Stats {
 #[test]
 fn chunks_of_a_context(rt: HostRuntime) -> Result<(), Fail> {
     let mut space = Space::new(rt.alloc(), 1, 100_000)?;
-    let mut set = AllocSet::create(rt.alloc(), &mut space, 0, 7, GREAT)?;
+    let mut set = AllocSet::create(
+        rt.alloc(),
+        &mut SetBoxes::new(rt.alloc()),
+        &mut space,
+        0,
+        7,
+        GREAT,
+    )?;
     assert_eq!(rt; set.stats(), stats([8192, 1, 7952, 0]));
     set.alloc(&mut space, 100)?;
     assert_eq!(rt; set.stats(), stats([8192, 1, 7816, 0]));
@@ -47,7 +54,14 @@ fn chunks_of_a_context(rt: HostRuntime) -> Result<(), Fail> {
 #[test]
 fn small_sizes(rt: HostRuntime) -> Result<(), Fail> {
     let mut space = Space::new(rt.alloc(), 1, 3100)?;
-    let mut set = AllocSet::create(rt.alloc(), &mut space, 0, 7, SMALL)?;
+    let mut set = AllocSet::create(
+        rt.alloc(),
+        &mut SetBoxes::new(rt.alloc()),
+        &mut space,
+        0,
+        7,
+        SMALL,
+    )?;
     set.alloc(&mut space, 1024)?;
     assert_eq!(rt; set.stats(), stats([3072, 2, 1760, 2]));
     set.alloc(&mut space, 256)?;
@@ -67,7 +81,7 @@ fn course(alloc: Global, sizes: Sizes, size: u64) -> Result<([Stats; 3], u64), F
     requires whole_max { sizes.max % 8 ≡ 0 }
 {
     let mut space = Space::new(alloc, 1, 100_000)?;
-    let mut set = AllocSet::create(alloc, &mut space, 0, 7, sizes)?;
+    let mut set = AllocSet::create(alloc, &mut SetBoxes::new(alloc), &mut space, 0, 7, sizes)?;
     let at = set.alloc(&mut space, size)?;
     let taken = set.stats();
     set.free(&mut space, at)?;
@@ -75,7 +89,7 @@ fn course(alloc: Global, sizes: Sizes, size: u64) -> Result<([Stats; 3], u64), F
     set.alloc(&mut space, size)?;
     set.reset(&mut space);
     let emptied = set.stats();
-    set.discard(&mut space);
+    set.discard(&mut space, &mut SetBoxes::new(alloc));
     Ok(([taken, freed, emptied], space.held(0)))
 }
 
@@ -184,8 +198,8 @@ fn written(
     ensures live { IfOk result (λ made. (footprint made.0).live made.2 ≡ Some 8) }
     ensures known { IfOk result (λ made. IsKnown space.new made.2 8) }
 {
-    let other = AllocSet::create(alloc, space, 0, 8, SMALL)?;
-    let mut set = AllocSet::create(alloc, space, 0, 7, SMALL)?;
+    let other = AllocSet::create(alloc, &mut SetBoxes::new(alloc), space, 0, 8, SMALL)?;
+    let mut set = AllocSet::create(alloc, &mut SetBoxes::new(alloc), space, 0, 7, SMALL)?;
     let at = set.alloc(space, 8)?;
     space.write(at, bytes);
     Ok((set, other, at))
@@ -220,7 +234,14 @@ fn own_block(space: &mut Space, set: &mut AllocSet) -> Result<(Stats, Stats), Ct
 #[test]
 fn an_own_block_goes_back(rt: HostRuntime) -> Result<(), Fail> {
     let mut space = Space::new(rt.alloc(), 1, 100_000)?;
-    let mut set = AllocSet::create(rt.alloc(), &mut space, 0, 7, SMALL)?;
+    let mut set = AllocSet::create(
+        rt.alloc(),
+        &mut SetBoxes::new(rt.alloc()),
+        &mut space,
+        0,
+        7,
+        SMALL,
+    )?;
     let said = own_block(&mut space, &mut set)?;
     assert_eq!(rt; said, (stats([3120, 2, 784, 0]), stats([1024, 1, 784, 0])));
     assert_eq!(rt; space.taken(0), 3120);
@@ -230,7 +251,14 @@ fn an_own_block_goes_back(rt: HostRuntime) -> Result<(), Fail> {
 #[test]
 fn an_own_block_is_resized(rt: HostRuntime) -> Result<(), Fail> {
     let mut space = Space::new(rt.alloc(), 1, 100_000)?;
-    let mut set = AllocSet::create(rt.alloc(), &mut space, 0, 7, GREAT)?;
+    let mut set = AllocSet::create(
+        rt.alloc(),
+        &mut SetBoxes::new(rt.alloc()),
+        &mut space,
+        0,
+        7,
+        GREAT,
+    )?;
     let at = set.alloc(&mut space, 9000)?;
     set.realloc(&mut space, at, 0, 20_000)?;
     assert_eq!(rt; set.stats(), stats([28240, 2, 7952, 0]));

@@ -1,6 +1,5 @@
 use Rattle.std.proofs.Common.{◌≡◌, Option, Some, None, Ok, IsSome, refl, sym, ap, ◌∙◌, subst}
 use Rattle.std.specs.Option.{IfSome}
-use Rattle.chunk_header.specs.declared.Stats.{Stats}
 use Rattle.forest.specs.Forest.{at}
 use Rattle.any_ctx.specs.Ledgers.{Place, give}
 use Rattle.any_ctx.specs.Contexts.{ledger, place_at}

@@ -1,7 +1,6 @@
 use Rattle.std.proofs.Common.{◌≡◌, ℕ, Option, Some, None, Err, IsSome, unwrap_or, refl, sym, ap, ◌∙◌, subst, inl, inr}
 use Rattle.std.specs.Option.{IfSome}
 use Rattle.addr_space.specs.Space.{held}
-use Rattle.chunk_header.specs.declared.Stats.{Stats}
 use Rattle.forest.specs.Forest.{at, changed}
 use Rattle.any_ctx.specs.Ledgers.{Place, InSlab, resize}
 use Rattle.any_ctx.specs.Contexts.{footprint, ledger, place_at}

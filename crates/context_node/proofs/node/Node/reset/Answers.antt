@@ -1,5 +1,4 @@
-use Rattle.std.proofs.Common.{◌∷◌, [], ◌++◌, ap, ◌∙◌}
-use Rattle.chunk_header.specs.declared.Stats.{Stats}
+use Rattle.std.proofs.Common.{◌∷◌, [], ◌++◌, ap}
 use Rattle.pgs_step.specs.declared.events.What.TheVariants.{Reset}
 use Rattle.context_rules.specs.Ends.{callbacks}
 use Rattle.context_node.specs.Kept.{Kept}

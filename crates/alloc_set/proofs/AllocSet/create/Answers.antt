@@ -17,7 +17,7 @@ use Rattle.alloc_set.specs.State.{SetState, region_of, start_of, footprint}
 use Rattle.alloc_set.proofs.Empty.{no_chunk, IsShelved-none, IsSettled-empty}
 use Rattle.alloc_set.proofs.Regions.{keeper_owned, keeper_start, noted}
 use Rattle.alloc_set.proofs.Settled.{block, header, link, behind, mark_cases, IsSound-settled}
-use Rattle.alloc_set.proofs.books.Books.create.Goals as goal
+use Rattle.alloc_set.proofs.AllocSet.create.Goals as goal
 
 -- a context that has its first block alone
 module _ (s : SetState) (blocks : s.blocks ≡ []) (chunks : s.chunks ≡ []) (large : 1024 ≤ s.ledger.init) (small : s.ledger.init ≤ 8388608) (room : s.ledger.room + 240 ≡ s.ledger.init) (narrow : s.keeper < 2 ^ 32) where
@@ -54,20 +54,19 @@ module _ (s : SetState) (blocks : s.blocks ≡ []) (chunks : s.chunks ≡ []) (l
           | link chunk found is ↦ let none = no_chunk s chunks b in absurd (cc)
         ])
 
-pub returns : goal.returns
-unfolding created
-returns c =
+pub invariant_of-result : goal.invariant_of-result
+invariant_of-result c =
     let r = c.in_ok-at.at.region in
     let sizes = c.args.sizes in
-    let b : Books = c.unplaced.result in
+    let b : Books = c.in-Some.books.value in
     let large = c.requires.least in
     let narrow : r < 2 ^ 32 = search (rules, c.take.type_inv) in
     let n : Books = new_books c.args.account c.args.context sizes r b in
-    let blocks = c.unplaced.ensures.blocks in
-    let chunks = c.unplaced.ensures.chunks in
+    let blocks = c.in-Some.ensures.none.0 in
+    let chunks = c.in-Some.ensures.none.1 in
     let small : sizes.init ≤ 8388608 = omega (arith, c.requires.order, c.requires.most) in
     let is : c.deref_mut-2.result.now ≡ record (new_books c.args.account c.args.context sizes 0 b) { keeper = r } =
-    c.deref_mut-2.ensures.value ∙ ap (λ (x : Books). record x { keeper = r }) (c.deref_mut.ensures.value ∙ c.in-Ok.ensures.ok ∙ c.unplaced.ensures.rest) in
+    c.deref_mut-2.ensures.value ∙ ap (λ (x : Books). record x { keeper = r }) (c.deref_mut.ensures.value ∙ c.in-Some.ensures.rest) in
     let kept : IsKept n = record {
       counted = record {
         sizes = (large, c.requires.order, c.requires.most, c.requires.whole_init, c.requires.whole_max);
@@ -83,17 +82,28 @@ returns c =
       settled = IsSettled-new (state_of n) blocks chunks large small (omega (arith, large)) narrow;
       shelved = IsShelved-none (state_of n) chunks;
     } in
-    record {
-      kept = rw is kept;
-      ledger = rw is refl;
-      account = rw is refl;
-      context = rw is refl;
-      live = λ at. rw (is, chunks) refl;
-      moves = rw is (Moves-new (state_of n) blocks chunks large small (omega (arith, large)) narrow c.args.space.now c.take.new.self c.write.new.self c.requires.account c.in_ok-at.ensures.fresh c.in_ok-at.ensures.changes refl c.in_ok-at.ensures.held
-          (rw c.block_header.ensures at c.write.ensures.changes));
-      place = λ at. rw (is, chunks) refl;
-      asked = search rules;
-      no_space = search rules;
-      no_other = search rules;
-      err = search rules;
-    }
+    rw is kept
+
+pub returns-clause-ledger : goal.returns-clause-ledger
+unfolding created
+returns-clause-ledger c =
+    let is : c.deref_mut-2.result.now ≡ record (new_books c.args.account c.args.context c.args.sizes 0 c.in-Some.books.value) { keeper = c.in_ok-at.at.region } =
+    c.deref_mut-2.ensures.value ∙ ap (λ (x : Books). record x { keeper = c.in_ok-at.at.region }) (c.deref_mut.ensures.value ∙ c.in-Some.ensures.rest) in
+    rw is refl
+
+pub returns-clause-moves : goal.returns-clause-moves
+unfolding created
+returns-clause-moves c =
+    let r = c.in_ok-at.at.region in
+    let sizes = c.args.sizes in
+    let b : Books = c.in-Some.books.value in
+    let large = c.requires.least in
+    let narrow : r < 2 ^ 32 = search (rules, c.take.type_inv) in
+    let n : Books = new_books c.args.account c.args.context sizes r b in
+    let blocks = c.in-Some.ensures.none.0 in
+    let chunks = c.in-Some.ensures.none.1 in
+    let small : sizes.init ≤ 8388608 = omega (arith, c.requires.order, c.requires.most) in
+    let is : c.deref_mut-2.result.now ≡ record (new_books c.args.account c.args.context sizes 0 b) { keeper = r } =
+    c.deref_mut-2.ensures.value ∙ ap (λ (x : Books). record x { keeper = r }) (c.deref_mut.ensures.value ∙ c.in-Some.ensures.rest) in
+    rw is (Moves-new (state_of n) blocks chunks large small (omega (arith, large)) narrow c.args.space.now c.take.new.self c.write.new.self c.requires.account c.in_ok-at.ensures.fresh c.in_ok-at.ensures.changes refl c.in_ok-at.ensures.held
+    (rw c.block_header.ensures at c.write.ensures.changes))
