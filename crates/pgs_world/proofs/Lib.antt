@@ -4,4 +4,3 @@ pub mod GeneratedLemmas
 pub mod HalfLines
 pub mod LoopLemmas
 pub mod StartedLemmas
-pub mod WorkedRows

@@ -6,6 +6,3 @@ mod printer;
 mod program;
 
 pub use program::{Outcome, run};
-
-#[cfg(test)]
-mod tests;

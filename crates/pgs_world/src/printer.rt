@@ -8,7 +8,8 @@ ghost use Rattle.session_rules.specs.Transcript.{is_error};
 
 use arrayvec::ArrayVec;
 use pgs_io::{Sink, put_all};
-use pgs_step::{Emit, Item, Name, What, append_text};
+use pgs_step::{Emit, Error, Item, Mode, Name, What};
+use pgs_text::append_text;
 use pgs_turns::Transcript;
 
 /// How many bytes are gathered before they are handed to the sink.
@@ -216,6 +217,116 @@ impl<'a, K: Sink> Printer<'a, K> {
         self.print_here(&What::Release { item, owner });
     }
 
+    /// Prints that a level begins to abort.
+    #[inline(never)]
+    fn print_abort(&mut self, level: u32)
+        ensures { TakesEvents K.written K.faults self.old (a_what.AbortLevel level ∷ []) self.new }
+    {
+        self.print_here(&What::AbortLevel(level));
+    }
+
+    /// Prints that an aborted level is cleaned up.
+    #[inline(never)]
+    fn print_cleanup(&mut self, level: u32)
+        ensures { TakesEvents K.written K.faults self.old (a_what.CleanupLevel level ∷ []) self.new }
+    {
+        self.print_here(&What::CleanupLevel(level));
+    }
+
+    /// Prints that a context was reset.
+    #[inline(never)]
+    fn print_reset(&mut self, context: u64)
+        ensures { TakesEvents K.written K.faults self.old (a_what.Reset context ∷ []) self.new }
+    {
+        self.print_here(&What::Reset(context));
+    }
+
+    /// Prints that an owner got another parent.
+    #[inline(never)]
+    fn print_owner_move(&mut self, owner: u64, parent: u64)
+        ensures { TakesEvents K.written K.faults self.old (a_what.MoveOwner owner parent ∷ []) self.new }
+    {
+        self.print_here(&What::MoveOwner { owner, parent });
+    }
+
+    /// Prints that an item was still remembered at commit.
+    #[inline(never)]
+    fn print_not_closed(&mut self, item: Item, owner: u64)
+        ensures { TakesEvents K.written K.faults self.old (a_what.NotClosed item owner ∷ []) self.new }
+    {
+        self.print_here(&What::NotClosed { item, owner });
+    }
+
+    /// Prints that an owner holds a lock once more.
+    #[inline(never)]
+    fn print_lock(&mut self, object: u32, mode: Mode, owner: u64)
+        ensures { TakesEvents K.written K.faults self.old (a_what.AcquireLock object mode owner ∷ []) self.new }
+    {
+        self.print_here(&What::AcquireLock {
+            object,
+            mode,
+            owner,
+        });
+    }
+
+    /// Prints that an owner holds a lock so many times fewer.
+    #[inline(never)]
+    fn print_unlock(&mut self, object: u32, mode: Mode, count: u64, owner: u64)
+        ensures { TakesEvents K.written K.faults self.old (a_what.ReleaseLock object mode count owner ∷ []) self.new }
+    {
+        self.print_here(&What::ReleaseLock {
+            object,
+            mode,
+            count,
+            owner,
+        });
+    }
+
+    /// Prints that an owner's counts of a lock went to its parent.
+    #[inline(never)]
+    fn print_pass_lock(&mut self, object: u32, mode: Mode, count: u64, from: u64, to: u64)
+        ensures { TakesEvents K.written K.faults self.old (a_what.PassLock object mode count from to ∷ []) self.new }
+    {
+        self.print_here(&What::PassLock {
+            object,
+            mode,
+            count,
+            from,
+            to,
+        });
+    }
+
+    /// Prints a row of a scan.
+    #[inline(never)]
+    fn print_row(&mut self, portal: &Name, row: u32, value: u32)
+        ensures { TakesEvents K.written K.faults self.old (a_what.Row portal.now row value ∷ []) self.new }
+    {
+        self.print_here(&What::Row {
+            portal: *portal,
+            row,
+            value,
+        });
+    }
+
+    /// Prints how many rows a fetch gave.
+    #[inline(never)]
+    fn print_fetched(&mut self, portal: &Name, rows: u32)
+        ensures { TakesEvents K.written K.faults self.old (a_what.Fetched portal.now rows ∷ []) self.new }
+    {
+        self.print_here(&What::Fetched {
+            portal: *portal,
+            rows,
+        });
+    }
+
+    /// Prints that a command failed.
+    #[inline(never)]
+    fn print_error(&mut self, error: Error)
+        ensures { TakesEvents K.written K.faults self.old (a_what.Error error ∷ []) self.new }
+    {
+        self.print(&What::Error(error));
+    }
+
     /// Counts the event where it is an ERROR event.
     #[inline(always)]
     fn count(&mut self, what: &What)
@@ -257,21 +368,47 @@ impl<'a, K: Sink> Emit for Printer<'a, K> {
     // event itself, which is large, is never put together.
     #[inline(always)]
     fn emit(&mut self, what: What) {
-        match &what {
+        match what {
             What::Ok => self.print_ok(),
-            What::BeginLevel(level) => self.print_begin(*level),
-            What::CommitLevel(level) => self.print_commit(*level),
+            What::BeginLevel(level) => self.print_begin(level),
+            What::CommitLevel(level) => self.print_commit(level),
+            What::AbortLevel(level) => self.print_abort(level),
+            What::CleanupLevel(level) => self.print_cleanup(level),
             What::Create {
                 context,
                 name,
                 parent,
-            } => self.print_create(*context, name, *parent),
-            What::Delete(context) => self.print_delete(*context),
-            What::Owner(owner) => self.print_owner(*owner),
-            What::OwnerIn { owner, parent } => self.print_owner_in(*owner, *parent),
-            What::OwnerGone(owner) => self.print_owner_gone(*owner),
-            What::Acquire { item, owner } => self.print_acquire(*item, *owner),
-            What::Release { item, owner } => self.print_release(*item, *owner),
+            } => self.print_create(context, &name, parent),
+            What::Reset(context) => self.print_reset(context),
+            What::Delete(context) => self.print_delete(context),
+            What::Owner(owner) => self.print_owner(owner),
+            What::OwnerIn { owner, parent } => self.print_owner_in(owner, parent),
+            What::MoveOwner { owner, parent } => self.print_owner_move(owner, parent),
+            What::OwnerGone(owner) => self.print_owner_gone(owner),
+            What::Acquire { item, owner } => self.print_acquire(item, owner),
+            What::Release { item, owner } => self.print_release(item, owner),
+            What::NotClosed { item, owner } => self.print_not_closed(item, owner),
+            What::AcquireLock {
+                object,
+                mode,
+                owner,
+            } => self.print_lock(object, mode, owner),
+            What::ReleaseLock {
+                object,
+                mode,
+                count,
+                owner,
+            } => self.print_unlock(object, mode, count, owner),
+            What::PassLock {
+                object,
+                mode,
+                count,
+                from,
+                to,
+            } => self.print_pass_lock(object, mode, count, from, to),
+            What::Row { portal, row, value } => self.print_row(&portal, row, value),
+            What::Fetched { portal, rows } => self.print_fetched(&portal, rows),
+            What::Error(error) => self.print_error(error),
             _ => self.print(&what),
         }
     }

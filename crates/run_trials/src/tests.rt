@@ -3,11 +3,11 @@ ghost use Rattle.std.specs.Prelude.{◌≤◌, IfOk};
 ghost use Rattle.reset_callbacks.specs.Hook.{AreDistinct};
 ghost use Rattle.reset_callbacks.specs.ShelfState.{held};
 
-use crate::{Outcome, run};
 use addr_space::Space;
 use owner_kinds::{CountedKind, KindShelf};
 use pgs_io::{MemSink, MemSource};
 use pgs_step::{Name, Phase};
+use pgs_world::{Outcome, run};
 use reset_callbacks::{CountedHook, Shelf};
 use std::alloc::{AllocError, Global};
 use std::test::Fail;
