@@ -244,6 +244,7 @@ pub fn forget_last(recalled: &mut Vec<OwnerLocks>, count: u64, owner: u64, objec
 }
 
 /// What is remembered of an owner's locks, which is forgotten.
+#[inline(always)]
 pub fn take_out(recalled: &mut Vec<OwnerLocks>, owner: u64) -> Option<OwnerLocks>
     ensures gone { MatchOption result ((o : ℕ) (m : Mode) → may_hold recalled.old.items o m owner ≡ false) (λ recall. (o : ℕ) (m : Mode) → may_hold recalled.old.items o m owner ≡ recalls recall o m) }
     ensures kept { (o : ℕ) (m : Mode) (w : ℕ) → (owner == w) ≡ false → may_hold recalled.new.items o m w ≡ may_hold recalled.old.items o m w }

@@ -80,7 +80,7 @@ impl<H: ResetHook> Session<H> {
         match command {
             Command::Nothing => Ok(()),
             Command::Begin => {
-                say(What::AlreadyInTransaction, out);
+                warn_inside(out);
                 Ok(())
             }
             Command::Commit => {
@@ -117,11 +117,11 @@ impl<H: ResetHook> Session<H> {
             Command::Nothing => Ok(()),
             Command::Begin => self.begin(None, shared, out),
             Command::Commit => {
-                say(What::NotInTransaction, out);
+                warn_outside(out);
                 Ok(())
             }
             Command::Rollback => {
-                say(What::NotInTransaction, out);
+                warn_outside(out);
                 Ok(())
             }
             Command::Savepoint(_) | Command::Release(_) | Command::RollbackTo(_) => {
@@ -244,10 +244,20 @@ impl<H: ResetHook> Session<H> {
     }
 }
 
-/// A warning, and the last word of a command that ended well.
-fn say<E: Emit>(warning: What, out: &mut E)
-    ensures { E.emits out.old (warning ∷ what.Ok ∷ []) out.new }
+/// The warning that a transaction is open already, and the last word.
+#[inline(never)]
+fn warn_inside<E: Emit>(out: &mut E)
+    ensures { E.emits out.old (what.AlreadyInTransaction ∷ what.Ok ∷ []) out.new }
 {
-    out.emit(warning);
+    out.emit(What::AlreadyInTransaction);
+    out.emit(What::Ok);
+}
+
+/// The warning that no transaction is open, and the last word.
+#[inline(never)]
+fn warn_outside<E: Emit>(out: &mut E)
+    ensures { E.emits out.old (what.NotInTransaction ∷ what.Ok ∷ []) out.new }
+{
+    out.emit(What::NotInTransaction);
     out.emit(What::Ok);
 }

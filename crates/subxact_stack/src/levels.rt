@@ -30,8 +30,8 @@ impl Level {
     fn is_named(&self, name: &Name) -> bool
         ensures { result ≡ is_named name.now self.now }
     {
-        match self.name {
-            Some(own) => own == *name,
+        match &self.name {
+            Some(own) => *own == *name,
             None => false,
         }
     }

@@ -1,5 +1,5 @@
-use Rattle.std.proofs.Common.{◌≡◌, ◌<◌, ◌+◌, ◌^◌, ℕ, List, ap, sym, subst, ◌∙◌, arith}
-use Rattle.lock_local.specs.Locks.{Lock, SessionLocks, total}
+use Rattle.std.proofs.Common.{◌≡◌, ◌+◌, List, ap, sym, subst, ◌∙◌, arith}
+use Rattle.lock_local.specs.Locks.{Lock, total}
 use Rattle.lock_local.specs.Counts.{HoldsOneMore, WholeOneMore}
 use Rattle.lock_local.specs.Recalled.{Recall, Covers}
 use Rattle.lock_local.proofs.ChangeLemmas.{agrees_by, fit_acquired, total-acquired}
