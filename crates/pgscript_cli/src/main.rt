@@ -23,7 +23,7 @@ use pgs_world::run;
 use reset_callbacks::{CountedHook, Shelf};
 use std::alloc::{AllocError, Global};
 use std::process::ExitCode;
-use std::{env, io};
+use std::{env, io, mem};
 
 /// How many accounts the space has: one for each session that a run may have.
 const ACCOUNTS: u8 = 64;
@@ -77,7 +77,10 @@ fn play<S: Source, K: Sink>(
         return ExitCode::from(NO_MEMORY);
     };
     let outcome = run(alloc, &words, src, out, &mut space, &mut shelf, &mut kinds);
-    ExitCode::from(outcome.status)
+    let status = outcome.status;
+    // Its memory goes with the process: giving back some thousand blocks one by one would take time for nothing.
+    mem::forget(space);
+    ExitCode::from(status)
 }
 
 /// All hooks, none of which has run.
