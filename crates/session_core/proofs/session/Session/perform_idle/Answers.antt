@@ -26,14 +26,14 @@ returns-in-Commit-clause-performed g c =
     as_elements most_steps _ _ _ _ _ _
     (of_command c.args.command.now command.Commit c.args.self.now c.args.shared.now.space.now _ c.in-Commit.is
     (in_none command.Commit _ commit_idle c.args.self.now c.args.shared.now.space.now (no_levels _ c.requires.none)))
-    (performed_more 0 most_steps _ _ _ _ _ (omega arith) (performed_warned what.NotInTransaction _ _ c.requires.between.keeps c.say.ensures))
+    (performed_more 0 most_steps _ _ _ _ _ (omega arith) (performed_warned what.NotInTransaction _ _ c.requires.between.keeps c.warn_outside.ensures))
 
 pub returns-in-Rollback-clause-performed : goal.returns-in-Rollback-clause-performed
 returns-in-Rollback-clause-performed g c =
     as_elements most_steps _ _ _ _ _ _
     (of_command c.args.command.now command.Rollback c.args.self.now c.args.shared.now.space.now _ c.in-Rollback.is
     (in_none command.Rollback _ rollback_idle c.args.self.now c.args.shared.now.space.now (no_levels _ c.requires.none)))
-    (performed_more 0 most_steps _ _ _ _ _ (omega arith) (performed_warned what.NotInTransaction _ _ c.requires.between.keeps c.say-in-Rollback.ensures))
+    (performed_more 0 most_steps _ _ _ _ _ (omega arith) (performed_warned what.NotInTransaction _ _ c.requires.between.keeps c.warn_outside-in-Rollback.ensures))
 
 pub begin-requires-clause-room : goal.begin-requires-clause-room
 begin-requires-clause-room g c = room_less 3 most_steps _ (omega arith) c.requires.room

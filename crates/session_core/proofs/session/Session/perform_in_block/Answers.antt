@@ -19,7 +19,7 @@ returns-in-Begin-clause-performed g c =
     as_elements most_steps _ _ _ _ _ _
     (of_command c.args.command.now command.Begin c.args.self.now c.args.shared.now.space.now _ c.in-Begin.is
     (in_block command.Begin begin_done begin_block c.args.self.now c.args.shared.now.space.now c.requires.block))
-    (performed_more 0 most_steps _ _ _ _ _ (omega arith) (performed_warned what.AlreadyInTransaction _ _ c.requires.between.keeps c.say.ensures))
+    (performed_more 0 most_steps _ _ _ _ _ (omega arith) (performed_warned what.AlreadyInTransaction _ _ c.requires.between.keeps c.warn_inside.ensures))
 
 pub returns-in-Commit-clause-performed : goal.returns-in-Commit-clause-performed
 returns-in-Commit-clause-performed g c =
