@@ -7,10 +7,16 @@ ghost use Rattle.forest.specs.Walk.{order_at};
 
 use crate::node::Node;
 use forest::{LinkedForest, NodeId};
+use owner_items::Items;
 use pgs_step::{Emit, What};
 
-/// Takes out an owner and all below it: each behind what is below it.
-pub fn discard_tree<E: Emit>(nodes: &mut LinkedForest<Node>, owner: NodeId, out: &mut E)
+/// Takes out an owner and all below it: each behind what is below it. Their rooms are left for others.
+pub fn discard_tree<E: Emit>(
+    nodes: &mut LinkedForest<Node>,
+    left: &mut Vec<Items>,
+    owner: NodeId,
+    out: &mut E,
+)
     requires { IsPlaced nodes.old owner }
     ensures rooms { nodes.new.forest ≡ removed owner.number nodes.old.forest }
     ensures none_new { (other : ℕ) → has other nodes.new.places ≡ true → has other nodes.old.places ≡ true }
@@ -20,10 +26,10 @@ pub fn discard_tree<E: Emit>(nodes: &mut LinkedForest<Node>, owner: NodeId, out:
     let mut current = nodes.first_leaf(owner);
     while current.number != owner.number {
         let next = nodes.following(current, owner);
-        let _ = nodes.remove(current);
+        nodes.remove(current).leave(left);
         out.emit(What::OwnerGone(current.number));
         current = next;
     }
-    let _ = nodes.remove(owner);
+    nodes.remove(owner).leave(left);
     out.emit(What::OwnerGone(owner.number));
 }

@@ -10,6 +10,9 @@ use pgs_step::{Item, KindId};
 use std::alloc::Global;
 use std::marker::Model;
 
+/// The rooms of how many owners are kept at most for the next ones.
+const MOST_LEFT: usize = 64;
+
 /// An owner: whether its release has begun, and its items.
 #[derive(Drop)]
 pub struct Node {
@@ -26,13 +29,30 @@ impl Model for Node {
 }
 
 impl Node {
-    /// An owner with no item.
-    pub fn new(alloc: Global) -> Node
+    /// An owner with no item, in the room that another one left, if there is any.
+    #[inline]
+    pub fn new(alloc: Global, left: &mut Vec<Items>) -> Node
         ensures { result.owner ≡ record { begun = false; items = [] } }
     {
-        Node {
-            begun: false,
-            items: Items::new(alloc),
+        match left.pop() {
+            Some(items) if items.len() == 0 => Node {
+                begun: false,
+                items,
+            },
+            _ => Node {
+                begun: false,
+                items: Items::new(alloc),
+            },
+        }
+    }
+
+    /// Leaves its room for another owner, where it has any and not too much is left already.
+    #[inline]
+    pub fn leave(self, left: &mut Vec<Items>) {
+        let Node { mut items, .. } = self;
+        items.renew();
+        if items.spare() > 0 && left.len() < MOST_LEFT {
+            let _ = left.push(items);
         }
     }
 

@@ -18,6 +18,7 @@ use crate::place::{insert, node_at};
 use crate::release_tree::{How, release_tree};
 use crate::table::Release;
 use forest::LinkedForest;
+use owner_items::Items;
 use pgs_step::{Emit, Item, KindId, OwnerId, Phase, What};
 use std::alloc::Global;
 use std::marker::Model;
@@ -32,6 +33,8 @@ pub const MOST_OWNERS: usize = 65_536;
 pub struct Owners {
     alloc: Global,
     nodes: LinkedForest<Node>,
+    /// The rooms that owners which are gone have left for the next ones.
+    left: Vec<Items>,
     next_owner: u64,
     next_serial: u64,
 }
@@ -59,6 +62,7 @@ impl Owners {
         Owners {
             alloc,
             nodes: LinkedForest::new(alloc),
+            left: Vec::new(alloc),
             next_owner: 1,
             next_serial: 1,
         }
@@ -95,7 +99,8 @@ impl Owners {
             return Err(OwnerError::TooMany);
         }
         let number = self.next_owner;
-        let Some(owner) = insert(&mut self.nodes, parent, number, Node::new(self.alloc)) else {
+        let node = Node::new(self.alloc, &mut self.left);
+        let Some(owner) = insert(&mut self.nodes, parent, number, node) else {
             return Err(OwnerError::Memory);
         };
         self.next_owner += 1;
@@ -270,7 +275,7 @@ impl Owners {
         ensures next_serial { self.new.next_serial ≡ self.old.next_serial }
         ensures emits { E.emits out.old (gone_events owner.number (owners_of self.old)) out.new }
     {
-        discard_tree(&mut self.nodes, node_at(owner), out);
+        discard_tree(&mut self.nodes, &mut self.left, node_at(owner), out);
     }
 
     /// How many owners live.

@@ -101,6 +101,16 @@ impl Held {
         Ok(())
     }
 
+    /// Forgets all items. The room that was made is there for the next ones.
+    pub fn renew(&mut self)
+        ensures held { IsHeld self.new }
+        ensures items { items_of self.new ≡ [] }
+    {
+        self.recent.clear();
+        self.table.renew(self.alloc);
+        self.order = None;
+    }
+
     // Makes room for the first items: those of the array, and in the table for a release that gathers them. An index isn't needed yet.
     fn begin(&mut self) -> Result<(), AllocError>
         requires held { IsHeld self.old }

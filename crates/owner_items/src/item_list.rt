@@ -11,6 +11,9 @@ use pgs_step::{Item, KindId, Phase};
 use std::alloc::{AllocError, Global};
 use std::marker::Model;
 
+/// For how many older items the room of an owner that goes is kept at most.
+const MOST_KEPT: usize = 64;
+
 /// The items that one owner remembers: an array of the newest 32 and a table of the others, as in PostgreSQL's
 /// `ResourceOwner`.
 ///
@@ -83,6 +86,19 @@ impl Items {
                 Ok(())
             }
         }
+    }
+
+    /// Forgets all items, for another owner. Room for up to 64 older ones is kept, and more is given back.
+    pub fn renew(&mut self)
+        ensures items { self.new.items ≡ [] }
+    {
+        if let Some(held) = &mut self.held {
+            if held.table.entries.capacity() <= MOST_KEPT {
+                held.renew();
+                return;
+            }
+        }
+        self.held = None;
     }
 
     /// Remembers an item, which is the newest then: `ResourceOwnerRemember`. It uses room that `enlarge` made.

@@ -46,6 +46,17 @@ impl Table {
         })
     }
 
+    /// Takes all entries out, and keeps the room for them. The index goes.
+    pub fn renew(&mut self, alloc: Global)
+        ensures table { IsTable self.new.entries.items self.new.live self.new.index.slots.items self.new.index.used }
+        ensures items { self.new.entries.items ≡ [] }
+        ensures capacity { vec_capacity self.new.entries ≡ vec_capacity self.old.entries }
+    {
+        self.entries.clear();
+        self.live = 0;
+        self.index = Index::new(alloc);
+    }
+
     /// Appends an item, which is the newest then.
     pub fn push(&mut self, item: Item)
         requires table { IsTable self.old.entries.items self.old.live self.old.index.slots.items self.old.index.used }

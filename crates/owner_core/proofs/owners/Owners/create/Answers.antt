@@ -46,7 +46,7 @@ invariant_of-self-2 g c =
     let parent : Option ℕ = option_map (λ p. p.number) c.args.parent in
     let few : size (tree_of forest) ≡ c.len.result = mapped-size (λ (r : Roomy). r.owner) forest ∙ sym c.len.ensures.value in (
       subst (λ (x : OwnerTree). IsSound x (c.self.inside.next_owner + 1) c.self.inside.next_serial)
-          (sym (ap (λ (x : Forest Roomy). tree_of x) c.in-Some.ensures.forest ∙ tree_entered parent c.self.inside.next_owner c.new.result forest c.new.ensures))
+          (sym (ap (λ (x : Forest Roomy). tree_of x) c.in-Some.ensures.forest ∙ tree_entered parent c.self.inside.next_owner c.new-node.result forest c.new-node.ensures))
           (sound_created parent (tree_of forest) _ _ c.self.invariant.0 (omega arith)),
       subst (λ (x : Forest ℕ). AreGiven (c.self.inside.next_owner + 1) x) (sym c.in-Some.ensures.places)
           (given_entered parent c.self.inside.next_owner _ c.self.inside.nodes.places c.self.invariant.1),
@@ -57,7 +57,7 @@ returns-clause-owners g c =
     let forest = c.self.inside.nodes.forest in
     let parent : Option ℕ = option_map (λ p. p.number) c.args.parent in
     ap (λ (x : Forest Roomy). tree_of x) c.in-Some.ensures.forest
-    ∙ tree_entered parent c.self.inside.next_owner c.new.result forest c.new.ensures
+    ∙ tree_entered parent c.self.inside.next_owner c.new-node.result forest c.new-node.ensures
     ∙ ap (λ (t : OwnerTable). created parent t.next_owner (owners_of t)) c.self.view_is
 
 pub returns-clause-fresh : goal.returns-clause-fresh
@@ -73,7 +73,7 @@ pub returns-clause-others : goal.returns-clause-others
 returns-clause-others g c other ne =
     let parent : Option ℕ = option_map (λ p. p.number) c.args.parent in
     ap (λ (x : Forest Roomy). option_map_or (λ (r : Roomy). r.spare) (at other x) 0) c.in-Some.ensures.forest
-    ∙ (spare_entered parent c.self.inside.next_owner other c.new.result c.self.inside.nodes.forest
+    ∙ (spare_entered parent c.self.inside.next_owner other c.new-node.result c.self.inside.nodes.forest
     (λ is. ne (is ∙ ap (λ (t : OwnerTable). t.next_owner) c.self.view_is))
     ∙ ap (λ (t : OwnerTable). spare_of other t) c.self.view_is)
 
