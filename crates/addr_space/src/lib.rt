@@ -69,29 +69,41 @@ fn within(limit: u64, held: u64, gave: u64, got: u64) -> Option<u64>
     }
 }
 
+// Regions that were given back, whose memory serves again.
+#[derive(Drop)]
+struct Spare {
+    large: Vec<Region>,
+    small: Vec<Region>,
+}
+
 // A region of `n` bytes for an account, none of which is known: one of those that are kept, where these have so many.
-fn new_region(
-    spare: &mut Vec<Region>,
-    alloc: Global,
-    account: u8,
-    n: u32,
-) -> Result<Region, AllocError>
+fn new_region(spare: &mut Spare, alloc: Global, account: u8, n: u32) -> Result<Region, AllocError>
     requires { 1 ≤ n }
     ensures account { IfOk result (λ r. r.account ≡ account) }
     ensures bytes { IfOk result (λ r. r.bytes ≡ replicate n None) }
 {
-    if n as usize != SPARE {
-        return Region::unwritten(alloc, account, n);
-    }
-    match spare.pop() {
-        Some(region) if region.len() == SPARE => Ok(region.renewed(account)),
+    let kept = match n as usize {
+        LARGE => spare.large.pop(),
+        SMALL => spare.small.pop(),
+        _ => None,
+    };
+    match kept {
+        Some(region) if region.len() == n as usize => Ok(region.renewed(account)),
         _ => Region::unwritten(alloc, account, n),
     }
 }
 
 // Keeps a region that was given back, where it is one of those that are kept and there is room.
-fn keep(spare: &mut Vec<Region>, region: Region) {
-    if region.len() == SPARE && spare.len() < spare.capacity() {
+fn keep(spare: &mut Spare, region: Region) {
+    match region.len() {
+        LARGE => keep_in(&mut spare.large, region),
+        SMALL => keep_in(&mut spare.small, region),
+        _ => {}
+    }
+}
+
+fn keep_in(spare: &mut Vec<Region>, region: Region) {
+    if spare.len() < spare.capacity() {
         spare.push_reserved(region);
     }
 }
@@ -111,26 +123,28 @@ fn admit(regions: &mut Slab<Region>, region: Region) -> Option<u32>
     Some(number)
 }
 
-/// How many regions that were given back are kept for the next ones, as PostgreSQL's aset.c keeps `MAX_FREE_CONTEXTS`:
-/// more than a session has levels, so that a deep stack of savepoints finds its memory again.
+/// How many regions of one length that were given back are kept for the next ones, as PostgreSQL's aset.c keeps
+/// `MAX_FREE_CONTEXTS`: more than a session has levels, so that a deep stack of savepoints finds its memory again.
 const MOST_SPARE: usize = 1024;
 
 /// The bytes of a region that is kept so: the first block of most contexts.
-const SPARE: usize = 8192;
+const LARGE: usize = 8192;
+
+/// Those of the first block of a small context, likewise.
+const SMALL: usize = 1024;
 
 /// A set of regions with their bytes, and what each account holds of them.
 ///
 /// Regions never overlap. The number of a region may be used again once the region was given back. An account stands
 /// for a session: what it holds is the sum of `mem_allocated` of its memory contexts.
 ///
-/// The memory of up to 1,024 regions of 8,192 bytes that were given back is kept for the next ones of that size. It counts
-/// for no account.
+/// The memory of up to 1,024 regions of 8,192 bytes, and of as many of 1,024 bytes, that were given back is kept for the
+/// next ones of that length. It counts for no account.
 #[derive(Drop)]
 pub struct Space {
     alloc: Global,
     regions: Slab<Region>,
-    // Regions that were given back, whose memory serves again.
-    spare: Vec<Region>,
+    spare: Spare,
     accounts: Vec<Account>,
     limit: u64,
 }
@@ -161,7 +175,10 @@ impl Space {
         Ok(Space {
             alloc,
             regions: Slab::new(alloc),
-            spare: Vec::with_capacity(alloc, MOST_SPARE)?,
+            spare: Spare {
+                large: Vec::with_capacity(alloc, MOST_SPARE)?,
+                small: Vec::with_capacity(alloc, MOST_SPARE)?,
+            },
             accounts: list,
             limit,
         })

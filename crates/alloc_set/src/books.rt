@@ -25,6 +25,7 @@ use chunk_header::{
 use free_list::FreeList;
 use indexmap::IndexMap;
 use std::alloc::Global;
+use std::mem;
 
 /// The block that chunks are cut off.
 #[derive(Clone, Copy)]
@@ -91,7 +92,8 @@ impl Books {
 
     // The books of a new context, as if its first block were the region 0.
     #[inline]
-    fn unplaced(alloc: Global, account: u8, context: u32, sizes: Sizes) -> Books
+    fn unplaced(blocks: IndexMap<u32, u32>, account: u8, context: u32, sizes: Sizes) -> Books
+        requires none { blocks.entries ≡ [] }
         requires least { 1024 ≤ sizes.init }
         requires order { sizes.init ≤ sizes.max }
         ensures blocks { result.blocks.entries ≡ [] }
@@ -110,7 +112,7 @@ impl Books {
                 size: sizes.init,
                 room: sizes.init - KEEPER_HEADERS,
             },
-            blocks: IndexMap::new(alloc),
+            blocks,
             chunks: Chunks::none(),
             shelves: [Shelf {
                 first: None,
@@ -136,13 +138,14 @@ impl Books {
         ensures none { IfSome result (λ b. (b.value.blocks.entries ≡ []) × (b.value.chunks.entries ≡ [])) }
         ensures rest { IfSome result (λ b. b.value ≡ new_books account context sizes 0 b.value) }
     {
-        match boxes.next() {
-            Some(mut books) => {
-                *books = Books::unplaced(alloc, account, context, sizes);
-                Some(books)
-            }
-            None => Box::new(alloc, Books::unplaced(alloc, account, context, sizes)).ok(),
-        }
+        let Some(mut books) = boxes.next() else {
+            let books = Books::unplaced(IndexMap::new(alloc), account, context, sizes);
+            return Box::new(alloc, books).ok();
+        };
+        books.blocks.clear();
+        let blocks = mem::replace(&mut books.blocks, IndexMap::new(alloc));
+        *books = Books::unplaced(blocks, account, context, sizes);
+        Some(books)
     }
 
     // How many bytes of a region stand before the header of its block.

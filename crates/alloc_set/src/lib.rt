@@ -129,8 +129,7 @@ impl AllocSet {
     /// Takes a chunk of `size` bytes, which may be 0, and answers its address: `AllocSetAlloc`. A chunk that was
     /// freed before has the bytes that stood there, but for the first 8, which may be others.
     ///
-    /// `TooBig`, where `size` is over 1,073,741,823, `NoSpace` and `Memory` are tried in this order. A refused call
-    /// changes nothing.
+    /// `TooBig`, where `size` is over 1,073,741,823, `NoSpace` and `Memory` are tried in this order. A refused call changes nothing.
     pub fn alloc(&mut self, space: &mut Space, size: u64) -> Result<Addr, CtxError>
         requires { Agrees (footprint self.old) space.old }
 
@@ -155,8 +154,7 @@ impl AllocSet {
 
     /// Frees a live chunk: `AllocSetFree`. The call never refuses, and takes no memory.
     ///
-    /// A chunk of a class is kept for a later request of that class. A block that the chunk had for itself
-    /// goes back to the space.
+    /// A chunk of a class is kept for a later request of that class. A block that the chunk had for itself goes back to the space.
     pub fn free(&mut self, space: &mut Space, at: Addr) -> Result<(), CtxError>
         requires agrees { Agrees (footprint self.old) space.old }
         requires live { IsSome ((footprint self.old).live at) }
@@ -175,9 +173,8 @@ impl AllocSet {
     /// Gives a live chunk a size of `size` bytes, which may be 0, and answers where it is now: `AllocSetRealloc`.
     /// `keep` is how many of its first bytes are known.
     ///
-    /// The chunk stays where its class has the size, or where it has a block for itself, which then gets another
-    /// length. Else a new chunk is taken, the known bytes that have room there are copied, and the old chunk is
-    /// freed.
+    /// The chunk stays where its class has the size, or where it has a block for itself, which then gets another length.
+    /// Else a new chunk is taken, the known bytes that have room there are copied, and the old chunk is freed.
     ///
     /// `TooBig`, where `size` is over 1,073,741,823, comes before `NoSpace`, and `Memory` may come in place of
     /// any other. A refused call changes nothing.
