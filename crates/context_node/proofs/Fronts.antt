@@ -1,22 +1,22 @@
 -- An entry in front of the others.
-use Rattle.std.proofs.Common.{◌≡◌, ℕ, true, false, Some, refl, sym, ap, subst}
+use Rattle.std.proofs.Common.{◌≡◌, ℕ, true, false, Some, refl, sym, ap, ◌∙◌, subst}
 use Rattle.std.proofs.lemmas.Bool.{eq-eqb}
-use Rattle.addr_space.specs.declared.Addr.{Addr}
 use Rattle.forest.specs.Forest.{Forest, Empty, Node, at, has, changed, removed}
 use Rattle.forest.proofs.Trees.{changed_absent, removed_absent}
 use Rattle.any_ctx.specs.declared.any.AnyCtx.{AnyCtx}
 use Rattle.context_node.specs.declared.entry.Entry.{Entry}
 use Rattle.context_node.specs.Kept.{Kept}
-use Rattle.context_node.proofs.Names.{one_at}
+use Rattle.context_node.proofs.Names.{at_here}
 
--- it is written
-pub entry_set : (n m : ℕ) (e x : Entry) (to : Addr) (all old : Forest Entry) → m ≡ n → has n old ≡ false → all ≡ Node n e Empty old → at m all ≡ Some x
-    → changed m (λ _. record x { at = to }) all ≡ Node n (record e { at = to }) Empty old
-entry_set n m e x to all old same fresh is h =
-    let go : at n (Node n e Empty old) ≡ Some x → changed n (λ _. record x { at = to }) (Node n e Empty old) ≡ Node n (record e { at = to }) Empty old =
-    λ q. rw (eq-eqb n n refl, changed_absent n (λ _. record x { at = to }) old fresh) (ap (λ (y : Entry). Node n (record y { at = to }) Empty old) (sym (one_at n e x Empty old q))) in
-    subst (λ (i : ℕ). at i all ≡ Some x → changed i (λ _. record x { at = to }) all ≡ Node n (record e { at = to }) Empty old) (sym same)
-    (subst (λ (f : Forest Entry). at n f ≡ Some x → changed n (λ _. record x { at = to }) f ≡ Node n (record e { at = to }) Empty old) (sym is) go) h
+-- it lies there
+pub front_at : (n m : ℕ) (e : Entry) (all old : Forest Entry) → m ≡ n → all ≡ Node n e Empty old → at m all ≡ Some e
+front_at n m e all old same is = ap (at m) is ∙ ap (λ (i : ℕ). at i (Node n e Empty old)) same ∙ at_here n e Empty old
+
+-- it changes
+pub front_changed : (n m : ℕ) (e y : Entry) (all old : Forest Entry) → m ≡ n → has n old ≡ false → all ≡ Node n e Empty old → changed m (λ _. y) all ≡ Node n y Empty old
+front_changed n m e y all old same fresh is =
+    let go : changed n (λ _. y) (Node n e Empty old) ≡ Node n y Empty old = rw (eq-eqb n n refl, changed_absent n (λ _. y) old fresh) refl in
+    subst (λ (i : ℕ). changed i (λ _. y) all ≡ Node n y Empty old) (sym same) (subst (λ (f : Forest Entry). changed n (λ _. y) f ≡ Node n y Empty old) (sym is) go)
 
 -- it is taken out
 pub front_removed : {A : Type 0} (n m : ℕ) (a : A) (all old : Forest A) → m ≡ n → has n old ≡ false → all ≡ Node n a Empty old → removed m all ≡ old

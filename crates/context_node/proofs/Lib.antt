@@ -13,4 +13,5 @@ pub mod Refitting
 pub mod Zeroing
 pub mod Handing
 pub mod Entries
+pub mod NamedParts
 pub mod Made

@@ -1,5 +1,5 @@
 -- A context once a chunk was taken in it.
-use Rattle.std.proofs.Common.{◌≡◌, ◌≢◌, ◌⊎◌, ℕ, ◌+◌, ◌<◌, true, false, List, ◌∷◌, length, map, Option, Some, IsSome, refl, sym, ap, ◌∙◌, subst, inl, inr, arith}
+use Rattle.std.proofs.Common.{◌≡◌, ◌≢◌, ◌⊎◌, ℕ, ◌+◌, ◌<◌, true, false, List, ◌∷◌, length, map, Option, Some, None, IsSome, refl, sym, ap, ◌∙◌, subst, inl, inr, arith}
 use Rattle.std.proofs.lemmas.Bool.{cases_eq, eq-eqb, ne_eqb}
 use Rattle.addr_space.specs.Space.{Space, byte_at, IsKnown}
 use Rattle.addr_space.specs.Footprint as foot
@@ -15,8 +15,8 @@ use Rattle.context_node.specs.declared.entry.Entry.{Entry}
 use Rattle.context_node.specs.Kept.{Kept}
 use Rattle.context_node.specs.Soundness.{AreFlat, IsSoundContext}
 use Rattle.context_node.specs.State.{chunk_of, entries, context_of}
-use Rattle.context_node.specs.Chunking.{Took, taken_entry}
-use Rattle.context_node.proofs.Names.{one_at}
+use Rattle.context_node.specs.Chunking.{Took, placed, taken_entry}
+use Rattle.context_node.proofs.Names.{at_here, one_at}
 use Rattle.context_node.proofs.Steps.{entries_same, chunk_same}
 use Rattle.context_node.proofs.Bytes.{in_live, bytes_same, bytes_are, known_has}
 
@@ -37,6 +37,24 @@ front_has n c a b old others all h =
       | inl same ↦ rw (eq-eqb n c same) refl
       | inr ne ↦ rw (ne_eqb n c ne) (all (rw (ne_eqb n c ne) at h))
     ]
+
+-- what has a place, with one more chunk in front
+pub placed_has : {A : Type 0} (n c slot : ℕ) (name : Option (List ℕ)) (a : A) (old : Forest A) (places : Forest ℕ) → (has c places ≡ true → has c old ≡ true)
+    → has c (placed name n slot places) ≡ true → has c (Node n a Empty old) ≡ true
+placed_has n c slot None a old places all h =
+    elim (cases_eq n c) [
+      | inl same ↦ rw (eq-eqb n c same) refl
+      | inr ne ↦ rw (ne_eqb n c ne) (all h)
+    ]
+placed_has n c slot (Some w) a old places all h = front_has n c a slot old places all h
+
+pub placed_other : (n c slot at_slot : ℕ) (name : Option (List ℕ)) (places : Forest ℕ) → c ≢ n → at c places ≡ Some at_slot → at c (placed name n slot places) ≡ Some at_slot
+placed_other n c slot at_slot None places ne h = h
+placed_other n c slot at_slot (Some w) places ne h = front_other n c slot at_slot places ne h
+
+-- a chunk with a name has the place where it is kept
+pub placed_here : (n slot : ℕ) (name : Option (List ℕ)) (w : List ℕ) (places : Forest ℕ) → name ≡ Some w → at n (placed name n slot places) ≡ Some slot
+placed_here n slot name w places is = ap (λ (o : Option (List ℕ)). at n (placed o n slot places)) is ∙ at_here n slot Empty places
 
 module _ (k l : Kept) (number slot : ℕ) (name : Option (List ℕ)) (size : ℕ) (known : List ℕ) (s t : Space) (took : Took k l number slot name size known s t) (sound : IsSoundContext k)
     (agrees : foot.Agrees (footprint k.memory) s) (fresh : has number k.chunks ≡ false) where
@@ -75,7 +93,7 @@ module _ (k l : Kept) (number slot : ℕ) (name : Option (List ℕ)) (size : ℕ
     flat = subst AreFlat (sym chunks_now) (refl, sound.flat);
     once = subst Once (sym chunks_now) (once_front number (taken_entry name took.at size (length known)) k.chunks sound.once fresh);
     numbers = λ c h.
-        ap (has c) chunks_now ∙ front_has number c (taken_entry name took.at size (length known)) slot k.chunks k.chunk_places (sound.numbers c) (ap (has c) (sym (ap (λ (x : Kept). x.chunk_places) took.now)) ∙ h);
+        ap (has c) chunks_now ∙ placed_has number c slot name (taken_entry name took.at size (length known)) k.chunks k.chunk_places (sound.numbers c) (ap (has c) (sym (ap (λ (x : Kept). x.chunk_places) took.now)) ∙ h);
     live = λ c e h. elim (entry_cases c e h) [
       | inl it ↦ rw (← it.1) live_new
       | inr it ↦ live_old c e it.1

@@ -1,5 +1,5 @@
 -- Zeros written in a space, and in a chunk that was just taken.
-use Rattle.std.proofs.Common.{◌≡◌, ◌≢◌, ℕ, ◌+◌, ◌≤◌, true, false, List, [], ◌++◌, length, map, replicate, Option, Some, refl, sym, ap, ◌∙◌, subst, inl, inr, arith}
+use Rattle.std.proofs.Common.{◌≡◌, ◌≢◌, ℕ, ◌+◌, ◌≤◌, true, List, [], ◌++◌, length, map, replicate, Option, Some, refl, sym, ap, ◌∙◌, inl, inr, arith}
 use Rattle.std.proofs.lemmas.List.{length-map, length-replicate, replicate-append-replicate, map-append}
 use Rattle.addr_space.specs.declared.Addr.{Addr}
 use Rattle.addr_space.specs.Space.{Region, Space, region_at, overwritten, Changes}
@@ -10,14 +10,12 @@ use Rattle.addr_space.proofs.Bytes.{overwritten-more}
 use Rattle.addr_space.proofs.Options.{none_or_some}
 use Rattle.addr_space.proofs.Steps.{Moves-more}
 use Rattle.addr_space.proofs.Written.{HasBytes-written}
-use Rattle.forest.specs.Forest.{Forest, Empty, Node, at, has, changed}
-use Rattle.forest.proofs.Trees.{changed_absent}
+use Rattle.forest.specs.Forest.{Empty, Node, at}
 use Rattle.any_ctx.specs.Contexts.{footprint}
 use Rattle.context_node.specs.declared.entry.Entry.{Entry}
 use Rattle.context_node.specs.Kept.{Kept}
-use Rattle.context_node.specs.Chunking.{Took, taken_entry}
+use Rattle.context_node.specs.Chunking.{Took, placed, taken_entry}
 use Rattle.context_node.proofs.Names.{at_here}
-use Rattle.std.proofs.lemmas.Bool.{eq-eqb}
 
 -- a piece more
 pub zeros_more : (init now new : Space) (a : Addr) (done step : ℕ) (piece : List ℕ) (target : Region) → region_at init a.region ≡ Some target → a.offset + done ≤ length target.bytes
@@ -44,12 +42,6 @@ zeros_more init now new a done step piece target found inside changes wrote is =
       limit = wrote.limit ∙ changes.limit;
       accounts = wrote.accounts ∙ changes.accounts;
     }
-
--- the first entry changes
-pub front_changed : (n m : ℕ) (e y : Entry) (all old : Forest Entry) → m ≡ n → has n old ≡ false → all ≡ Node n e Empty old → changed m (λ _. y) all ≡ Node n y Empty old
-front_changed n m e y all old same fresh is =
-    let go : changed n (λ _. y) (Node n e Empty old) ≡ Node n y Empty old = rw (eq-eqb n n refl, changed_absent n (λ _. y) old fresh) refl in
-    subst (λ (i : ℕ). changed i (λ _. y) all ≡ Node n y Empty old) (sym same) (subst (λ (f : Forest Entry). changed n (λ _. y) f ≡ Node n y Empty old) (sym is) go)
 
 module _ (k m : Kept) (number slot : ℕ) (name : Option (List ℕ)) (size : ℕ) (s u : Space) (took : Took k m number slot name size [] s u) where
   pub live_now : (footprint m.memory).live took.at ≡ Some size
@@ -96,7 +88,7 @@ module _ (k m : Kept) (number slot : ℕ) (name : Option (List ℕ)) (size : ℕ
             let ne : at ≢ took.at = λ same. none_or_some ((footprint k.memory).live took.at) i took.fresh (ap (footprint k.memory).live (sym same) ∙ live) in
             KeepsBut-inside (footprint m.memory) u t took.at took.at size (replicate size 0) took.moves.agrees inside at j j b ne again again short short ∙ took.keeps at i j b live again below short;
         now = ap (λ (x : Kept). record x { chunks = Node number (taken_entry name took.at size size) Empty k.chunks }) took.now
-            ∙ ap (λ (n : ℕ). record k { used = true; memory = m.memory; chunks = Node number (taken_entry name took.at size n) Empty k.chunks; chunk_places = Node number slot Empty k.chunk_places }) (sym (long k m number slot name size s u took));
+            ∙ ap (λ (n : ℕ). record k { used = true; memory = m.memory; chunks = Node number (taken_entry name took.at size n) Empty k.chunks; chunk_places = placed name number slot k.chunk_places }) (sym (long k m number slot name size s u took));
         total = took.total;
         fits = omega (arith, long k m number slot name size s u took);
         has = HasBytes-written u t took.at (replicate size 0) target.0 target.1 (omega (arith, long k m number slot name size s u took, w.2, target.3)) writes;

@@ -4,7 +4,7 @@ use Rattle.addr_space.specs.declared.Addr.{Addr}
 use Rattle.addr_space.specs.Space.{Space, Changes, HasBytes, IsKnown, region_at, overwritten}
 use Rattle.addr_space.specs.Footprint as foot
 use Rattle.addr_space.specs.Live.{PutsAt, PutsLive, MovesLive, HasBytesOf}
-use Rattle.forest.specs.Forest.{Empty, Node, at as entry_at, changed, removed}
+use Rattle.forest.specs.Forest.{Forest, Empty, Node, at as entry_at, changed, removed}
 use Rattle.any_ctx.specs.Ledgers.{Place, give, stats}
 use Rattle.any_ctx.specs.Contexts.{footprint, ledger, place_at}
 use Rattle.any_ctx.specs.Calls.{Takes, Resizes}
@@ -17,6 +17,11 @@ use Rattle.context_node.specs.Soundness.{same}
 abbrev pub taken_entry : Option (List ℕ) → Addr → ℕ → ℕ → Entry
 taken_entry name at size known = record { name = name; at = at; size = size; known = known }
 
+-- the places with that of one more chunk, if it has a name: it is kept in this slot then
+abbrev pub placed : Option (List ℕ) → ℕ → ℕ → Forest ℕ → Forest ℕ
+placed None number slot places = places
+placed (Some _) number slot places = Node number slot Empty places
+
 -- the context has a chunk more, whose entry has this number and slot, with these bytes known, and every other one keeps
 -- its bytes
 pub record Took (k l : Kept) (number slot : ℕ) (name : Option (List ℕ)) (size : ℕ) (known : List ℕ) (s t : Space) : Type 0 where
@@ -26,7 +31,7 @@ pub record Took (k l : Kept) (number slot : ℕ) (name : Option (List ℕ)) (siz
   pub live : PutsLive (footprint k.memory) (footprint l.memory) at (Some size)
   pub moves : foot.Moves (footprint k.memory) (footprint l.memory) s t
   pub keeps : foot.Keeps (footprint k.memory) (footprint l.memory) s t
-  pub now : l ≡ record k { used = true; memory = l.memory; chunks = Node number (taken_entry name at size (length known)) Empty k.chunks; chunk_places = Node number slot Empty k.chunk_places }
+  pub now : l ≡ record k { used = true; memory = l.memory; chunks = Node number (taken_entry name at size (length known)) Empty k.chunks; chunk_places = placed name number slot k.chunk_places }
   pub total : (footprint l.memory).total ≡ (stats (ledger l.memory)).total
   pub fits : length known ≤ size
   pub has : HasBytes t at known

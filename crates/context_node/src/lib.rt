@@ -1,8 +1,10 @@
 //! One memory context of a session: its allocator, its chunks with their names, and the hooks that wait on it.
 #![tactic(auto)]
 
+mod all_chunks;
 mod chunk_id;
 mod chunk_names;
+mod chunks;
 mod ending;
 mod entry;
 mod making;

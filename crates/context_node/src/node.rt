@@ -1,5 +1,5 @@
 //! One memory context.
-ghost use Rattle.std.specs.Prelude.{◌≡◌, [], ◌≢◌, ◌⊎◌, ◌∷◌, true, false, Some, OnOk, OnErr, IfOk, IfErr, unwrap_or, nat_lt, ◌||◌, ◌+◌, ◌++◌, ◌≤◌, ℕ, List, length};
+ghost use Rattle.std.specs.Prelude.{◌≡◌, [], ◌≢◌, ◌⊎◌, ◌∷◌, true, false, None, Some, OnOk, OnErr, IfOk, IfErr, unwrap_or, nat_lt, ◌||◌, ◌+◌, ◌++◌, ◌≤◌, ℕ, List, length};
 ghost use Rattle.std.specs.HashMap.{get};
 ghost use Rattle.addr_space.specs.Footprint.{Agrees};
 ghost use Rattle.any_ctx.specs.Contexts.{footprint, ledger, place_at};
@@ -14,12 +14,13 @@ ghost use Rattle.reset_callbacks.specs.ShelfState.{held as on_shelf};
 ghost use Rattle.context_rules.specs.Ends.{callbacks};
 ghost use Rattle.context_node.specs.Soundness.{same, IsSoundContext};
 ghost use Rattle.context_node.specs.Making.{made_with};
-ghost use Rattle.context_node.specs.Chunking.{Took, Freed, Written, Refitted};
+ghost use Rattle.context_node.specs.Chunking.{taken_entry, Took, Freed, Written, Refitted};
 ghost use Rattle.context_node.specs.Ending.{Cleared, Gone, without_context};
 ghost use Rattle.forest.specs.Forest.{at, has};
 
 use crate::chunk_id::ChunkId;
-use crate::ending::{forget_all, forget_context, run_all};
+use crate::chunks::Chunks;
+use crate::ending::{forget_context, run_all};
 use crate::entry::Entry;
 use crate::making::NewContext;
 use crate::zeros::write_zeros;
@@ -27,7 +28,7 @@ use addr_space::{Addr, Space};
 use any_ctx::{AnyCtx, CtxKind, SetBoxes};
 use chunk_header::{CtxError, Stats};
 use context_rules::TreeError;
-use forest::{LinkedForest, NodeId};
+use forest::NodeId;
 use pgs_step::{CtxId, Emit, Name, What};
 use reset_callbacks::{Pending, ResetHook, Shelf};
 use std::alloc::Global;
@@ -42,7 +43,7 @@ pub struct Node<H: ResetHook> {
     pub(crate) protected: bool,
     pub(crate) used: bool,
     pub(crate) memory: AnyCtx,
-    pub(crate) chunks: LinkedForest<Entry>,
+    pub(crate) chunks: Chunks,
     pub(crate) callbacks: Pending<H>,
 }
 
@@ -79,7 +80,7 @@ impl<H: ResetHook> Node<H> {
             protected: new.protected,
             used: false,
             memory,
-            chunks: LinkedForest::new(alloc),
+            chunks: Chunks::new(alloc),
             callbacks: Pending::new(alloc),
         }
     }
@@ -139,7 +140,8 @@ impl<H: ResetHook> Node<H> {
         *self.chunks.get(entry)
     }
 
-    /// Takes a chunk, whose bytes aren't known; its entry is the first one. `Ctx` comes with the allocator's refusal.
+    /// Takes a chunk, whose bytes aren't known; its entry is the first one. `Ctx` comes with the allocator's refusal. The
+    /// slot that is answered means nothing where the chunk has no name.
     pub fn alloc(
         &mut self,
         space: &mut Space,
@@ -156,29 +158,11 @@ impl<H: ResetHook> Node<H> {
         ensures err { OnErr result (self.new ≡ self.old) }
         ensures err_space { OnErr result (space.new ≡ space.old) }
     {
-        let nowhere = Addr {
-            region: 0,
-            offset: 0,
-        };
-        let entry = Entry {
-            name,
-            at: nowhere,
-            size,
-            known: 0,
-        };
-        let Ok(id) = self.chunks.insert_root(number, entry) else {
-            return Err(TreeError::Memory);
-        };
-        match self.memory.alloc(space, size) {
-            Ok(at) => {
-                self.chunks.get_mut(id).at = at;
-                self.used = true;
-                self.memory.counted();
-                Ok(id)
-            }
-            Err(error) => {
-                self.chunks.remove(id);
-                Err(told(error))
+        match name {
+            Some(word) => self.take_named(space, number, word, size),
+            None => {
+                self.take_nameless(space, number, size)?;
+                Ok(NodeId { number, slot: 0 })
             }
         }
     }
@@ -200,11 +184,79 @@ impl<H: ResetHook> Node<H> {
         ensures err { OnErr result (self.new ≡ self.old) }
         ensures err_space { OnErr result (space.new ≡ space.old) }
     {
-        let id = self.alloc(space, number, name, size)?;
-        let at = self.chunks.get(id).at;
-        write_zeros(space, at, size);
-        self.chunks.get_mut(id).known = size;
-        Ok(id)
+        match name {
+            Some(word) => {
+                let id = self.take_named(space, number, word, size)?;
+                let at = self.chunks.get(id).at;
+                write_zeros(space, at, size);
+                self.chunks.set(id, at, size, size);
+                Ok(id)
+            }
+            None => {
+                let at = self.take_nameless(space, number, size)?;
+                write_zeros(space, at, size);
+                self.chunks.set_nameless(number, &nameless(at, size, size));
+                Ok(NodeId { number, slot: 0 })
+            }
+        }
+    }
+
+    // Takes a chunk with a name.
+    fn take_named(
+        &mut self,
+        space: &mut Space,
+        number: u64,
+        word: Name,
+        size: u64,
+    ) -> Result<NodeId, TreeError>
+        requires agrees { Agrees (footprint self.old.memory) space.old }
+        requires fresh { has number self.old.chunks ≡ false }
+        requires unplaced { has number self.old.chunk_places ≡ false }
+        ensures number { IfOk result (λ id. id.number ≡ number) }
+        ensures took { IfOk result (λ id. Took self.old self.new number id.slot (Some word) size [] space.old space.new) }
+        ensures refused { IfErr result (λ e. (e ≡ TreeError.Memory) ⊎ (refusal (take_in self.old.memory space.old size) ≡ Some e)) }
+        ensures err { OnErr result (self.new ≡ self.old) }
+        ensures err_space { OnErr result (space.new ≡ space.old) }
+    {
+        let id = self.chunks.put(number, word, size)?;
+        match self.memory.alloc(space, size) {
+            Ok(at) => {
+                self.chunks.set(id, at, size, 0);
+                self.used = true;
+                self.memory.counted();
+                Ok(id)
+            }
+            Err(error) => {
+                self.chunks.remove(id);
+                Err(told(error))
+            }
+        }
+    }
+
+    // Takes a chunk without a name, and answers its address.
+    #[inline(always)]
+    fn take_nameless(
+        &mut self,
+        space: &mut Space,
+        number: u64,
+        size: u64,
+    ) -> Result<Addr, TreeError>
+        requires agrees { Agrees (footprint self.old.memory) space.old }
+        requires fresh { has number self.old.chunks ≡ false }
+        ensures took { IfOk result (λ at. (took : Took self.old self.new number 0 None size [] space.old space.new) × (took.at ≡ at)) }
+        ensures refused { IfErr result (λ e. (e ≡ TreeError.Memory) ⊎ (refusal (take_in self.old.memory space.old size) ≡ Some e)) }
+        ensures err { OnErr result (self.new ≡ self.old) }
+        ensures err_space { OnErr result (space.new ≡ space.old) }
+    {
+        match self.memory.alloc(space, size) {
+            Ok(at) => {
+                self.chunks.put_nameless(number, &nameless(at, size, 0));
+                self.used = true;
+                self.memory.counted();
+                Ok(at)
+            }
+            Err(error) => Err(told(error)),
+        }
     }
 
     /// Frees a chunk. `Ctx(Unsupported)` comes in a Bump.
@@ -250,7 +302,8 @@ impl<H: ResetHook> Node<H> {
             return Err(TreeError::Range);
         };
         space.write(at, bytes);
-        self.chunks.get_mut(entry).known = chunk.known.max(place + bytes.len() as u64);
+        let known = chunk.known.max(place + bytes.len() as u64);
+        self.chunks.set(entry, chunk.at, chunk.size, known);
         Ok(())
     }
 
@@ -269,10 +322,7 @@ impl<H: ResetHook> Node<H> {
         let chunk = self.entry(entry);
         match self.memory.realloc(space, chunk.at, chunk.known, size) {
             Ok(to) => {
-                let kept = self.chunks.get_mut(entry);
-                kept.at = to;
-                kept.size = size;
-                kept.known = chunk.known.min(size);
+                self.chunks.set(entry, to, size, chunk.known.min(size));
                 self.memory.counted();
                 Ok(())
             }
@@ -297,7 +347,7 @@ impl<H: ResetHook> Node<H> {
         ensures emits { E.emits out.old (callbacks number self.old.hooks ++ What.Reset number ∷ []) out.new }
     {
         run_all(&mut self.callbacks, shelf, number, out);
-        forget_all(&mut self.chunks, names);
+        self.chunks.forget(names);
         self.memory.reset(space);
         self.memory.counted();
         self.used = false;
@@ -328,7 +378,7 @@ impl<H: ResetHook> Node<H> {
             ..
         } = self;
         run_all(&mut callbacks, shelf, number, out);
-        forget_all(&mut chunks, names);
+        chunks.forget(names);
         memory.discard(space, boxes);
     }
 }
@@ -340,5 +390,18 @@ pub fn told(error: CtxError) -> TreeError
     match error {
         CtxError::Memory => TreeError::Memory,
         other => TreeError::Ctx(other),
+    }
+}
+
+// What a chunk without a name is.
+#[inline(always)]
+fn nameless(at: Addr, size: u64, known: u64) -> Entry
+    ensures { result ≡ taken_entry None at size known }
+{
+    Entry {
+        name: None,
+        at,
+        size,
+        known,
     }
 }

@@ -30,7 +30,7 @@ use Rattle.context_tree.proofs.Names.{find_found, find_nothing}
 use Rattle.context_tree.proofs.Steps.{Stepped, stands_by, moves_stepped}
 use Rattle.context_node.proofs.Sounds.{step_at, step_here, step_other}
 use Rattle.context_tree.proofs.Sounds.{sound_step}
-use Rattle.context_node.proofs.Taking.{entry_cases, front_other, chunks_now, sound_took, known_took, context_took}
+use Rattle.context_node.proofs.Taking.{entry_cases, front_other, placed_other, placed_here, chunks_now, sound_took, known_took, context_took}
 
 -- nothing happens
 pub tree_none : (a : TreeState) (s : Space) → Agrees a s → Moves a a s s
@@ -125,7 +125,7 @@ module _ (kept : Forest Kept) (places : Forest ℕ) (find_context : List ℕ →
                 listed = ap (at x.entry.number) (chunks_now k l next_entry entry_slot name size known s t took (sound.each n k here) agrees fresh)
                     ∙ front_other next_entry x.entry.number (taken_entry name took.at size (length known)) was.entry k.chunks ne listed;
                 entry_placed = ap (λ (y : Kept). at x.entry.number y.chunk_places) took.now
-                    ∙ front_other next_entry x.entry.number entry_slot x.entry.slot k.chunk_places ne (ap (λ (y : Kept). at x.entry.number y.chunk_places) (sym it) ∙ was.entry_placed);
+                    ∙ placed_other next_entry x.entry.number entry_slot x.entry.slot name k.chunk_places ne (ap (λ (y : Kept). at x.entry.number y.chunk_places) (sym it) ∙ was.entry_placed);
                 name = was.name;
               }
           | inr ne ↦ record {
@@ -147,7 +147,7 @@ module _ (kept : Forest Kept) (places : Forest ℕ) (find_context : List ℕ →
       stands = step_here n k l kept here n refl;
       placed = placed;
       listed = ap (at next_entry) (chunks_now k l next_entry entry_slot name size known s t took (sound.each n k here) agrees fresh) ∙ at_here next_entry (taken_entry name took.at size (length known)) Empty k.chunks;
-      entry_placed = ap (λ (y : Kept). at next_entry y.chunk_places) took.now ∙ at_here next_entry entry_slot Empty k.chunk_places;
+      entry_placed = ap (λ (y : Kept). at next_entry y.chunk_places) took.now ∙ placed_here next_entry entry_slot name word k.chunk_places is;
       name = is;
     }
 

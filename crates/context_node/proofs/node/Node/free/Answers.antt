@@ -4,18 +4,13 @@ use Rattle.forest.specs.Forest.{at}
 use Rattle.any_ctx.specs.Ledgers.{Place, give}
 use Rattle.any_ctx.specs.Contexts.{ledger, place_at}
 use Rattle.context_node.specs.Kept.{Kept}
-use Rattle.context_node.specs.Soundness.{AreFlat, IsSoundContext}
+use Rattle.context_node.specs.Soundness.{IsSoundContext}
 use Rattle.context_node.proofs.Fronts.{kept_back}
-use Rattle.context_node.proofs.Removals.{flat_leaf}
 use Rattle.context_node.proofs.node.Node.free.Goals as goal
 
 some_value : {A : Type 0} (o : Option A) → IsSome o → (x : A) × (o ≡ Some x)
 some_value None is = absurd (cc)
 some_value (Some x) is = (x, refl)
-
-pub remove-requires-clause-leaf : goal.remove-requires-clause-leaf
-remove-requires-clause-leaf g c =
-    flat_leaf c.args.entry.number c.self.inside.chunks.forest (subst (λ (x : Kept). AreFlat x.chunks) (sym c.self.view_is) c.requires.sound.flat)
 
 pub returns-clause-freed : goal.returns-clause-freed
 returns-clause-freed g c =

@@ -1,11 +1,11 @@
-use Rattle.std.proofs.Common.{◌≡◌, ℕ, length, map, Some, sym, ap, ◌∙◌, subst, arith}
+use Rattle.std.proofs.Common.{◌≡◌, ℕ, length, map, Some, refl, ap, ◌∙◌, subst, arith}
 use Rattle.addr_space.specs.declared.Addr.{Addr}
 use Rattle.addr_space.specs.Space.{Changes, region_at, overwritten}
 use Rattle.addr_space.proofs.Contexts.{ends_small, IsInside-live_part}
 use Rattle.forest.specs.Forest.{at, changed}
 use Rattle.any_ctx.specs.Contexts.{footprint}
-use Rattle.context_node.specs.declared.entry.Entry.{Entry}
 use Rattle.context_node.specs.Kept.{Kept}
+use Rattle.context_node.proofs.Fronts.{kept_back}
 use Rattle.context_node.proofs.node.Node.put.Goals as goal
 
 pub room_at-requires : goal.room_at-requires
@@ -32,14 +32,13 @@ returns-clause-written g c =
       hooks = c.self.inside.callbacks;
     } in
     let lists : at c.args.entry.number k.chunks ≡ Some c.entry-chunk.result = ap (λ (x : Kept). at c.args.entry.number x.chunks) c.self.view_is ∙ c.entry-chunk.ensures in
-    let one : Some c.get_mut.result.now ≡ Some c.entry-chunk.result = sym c.get_mut.ensures.value ∙ lists in
-    let it : c.get_mut.result.now ≡ c.entry-chunk.result = cc in
     rw (← c.self.view_is) (record {
       entry = c.entry-chunk.result;
       listed = lists;
       within = c.in-Some.ensures.0.0;
       fits = c.in-Some.ensures.0.1;
-      now = ap (λ (x : Entry). record k { chunks = changed c.args.entry.number (λ _. record x { known = c.max.result }) k.chunks }) it
-          ∙ ap (λ (m : ℕ). record k { chunks = changed c.args.entry.number (λ _. record c.entry-chunk.result { known = m }) k.chunks }) c.max.ensures;
+      now = kept_back k k.memory k.memory _ _ _ _ refl
+          (c.set.ensures.forest c.entry-chunk.result lists ∙ ap (λ (m : ℕ). changed c.args.entry.number (λ _. record c.entry-chunk.result { known = m }) k.chunks) c.max-known.ensures)
+          c.set.ensures.places;
       writes = subst (λ (a : Addr). Changes c.args.space.now c.write.new.self a.region (overwritten (region_at c.args.space.now a.region) a.offset (map Some c.args.bytes.now))) c.in-Some.ensures.1 c.write.ensures.changes;
     })

@@ -9,6 +9,7 @@ use Rattle.context_rules.specs.Refusals.{refusal}
 use Rattle.context_node.specs.declared.entry.Entry.{Entry}
 use Rattle.context_node.specs.Kept.{Kept}
 use Rattle.context_node.specs.Soundness.{IsSoundContext}
+use Rattle.context_node.proofs.Fronts.{kept_back}
 use Rattle.context_node.proofs.node.Node.realloc.Goals as goal
 
 some_value : {A : Type 0} (o : Option A) → IsSome o → (x : A) × (o ≡ Some x)
@@ -30,8 +31,6 @@ returns-in-Ok-clause-refitted g c =
     let sound : IsSoundContext k = subst IsSoundContext (sym c.self.view_is) c.requires.sound in
     let lists : at c.args.entry.number k.chunks ≡ Some c.entry-chunk.result = ap (λ (x : Kept). at c.args.entry.number x.chunks) c.self.view_is ∙ c.entry-chunk.ensures in
     let put : (place : Place) × (place_at k.memory c.entry-chunk.result.at ≡ Some place) = some_value _ (sound.placed c.args.entry.number c.entry-chunk.result lists) in
-    let one : Some c.get_mut-kept.result.now ≡ Some c.entry-chunk.result = sym c.get_mut-kept.ensures.value ∙ lists in
-    let it : c.get_mut-kept.result.now ≡ c.entry-chunk.result = cc in
     rw (← c.self.view_is) (record {
       entry = c.entry-chunk.result;
       listed = lists;
@@ -45,8 +44,9 @@ returns-in-Ok-clause-refitted g c =
       known = c.in-Ok.ensures.known;
       moves = c.in-Ok.ensures.moves;
       keeps = c.in-Ok.ensures.keeps;
-      now = ap (λ (x : Entry). record k { memory = c.realloc.new.self; chunks = changed c.args.entry.number (λ _. record x { at = c.in-Ok.to; size = c.args.size; known = c.min-kept.result }) k.chunks }) it
-          ∙ ap (λ (m : ℕ). record k { memory = c.realloc.new.self; chunks = changed c.args.entry.number (λ _. record c.entry-chunk.result { at = c.in-Ok.to; size = c.args.size; known = m }) k.chunks }) c.min-kept.ensures;
+      now = kept_back k c.realloc.new.self c.realloc.new.self _ _ _ _ refl
+          (c.set.ensures.forest c.entry-chunk.result lists ∙ ap (λ (m : ℕ). changed c.args.entry.number (λ _. record c.entry-chunk.result { at = c.in-Ok.to; size = c.args.size; known = m }) k.chunks) c.min.ensures)
+          c.set.ensures.places;
       total = c.counted.ensures;
     })
 

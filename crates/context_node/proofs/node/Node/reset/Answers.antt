@@ -18,13 +18,13 @@ returns-clause-cleared g c =
       hooks = c.self.inside.callbacks;
     } in
     rw (← c.self.view_is) (record {
-      now = kept_cleared k c.reset.new.self _ _ _ c.forget_all.ensures.none c.forget_all.ensures.nowhere c.run_all.ensures.none;
+      now = kept_cleared k c.reset.new.self _ _ _ c.forget.ensures.none c.forget.ensures.nowhere c.run_all.ensures.none;
       renewed = c.reset.ensures.ledger;
       moves = c.reset.ensures.moves;
       asked = c.reset.ensures.asked;
       total = c.counted.ensures;
       shelf = c.run_all.ensures.shelf;
-      names = c.forget_all.ensures.names;
+      names = c.forget.ensures.names;
     })
 
 pub returns-clause-emits : goal.returns-clause-emits

@@ -1,12 +1,15 @@
-use Rattle.std.proofs.Common.{◌≡◌, false, ap, ◌∙◌, arith}
+use Rattle.std.proofs.Common.{◌≡◌, false, Some, ap, ◌∙◌, arith}
 use Rattle.forest.specs.Forest.{has}
+use Rattle.context_node.specs.declared.entry.Entry.{Entry}
 use Rattle.context_node.specs.Kept.{Kept}
-use Rattle.context_node.proofs.Fronts.{entry_set, front_removed, kept_now, kept_back}
-use Rattle.context_node.proofs.node.Node.alloc.Goals as goal
+use Rattle.context_node.specs.Chunking.{taken_entry}
+use Rattle.context_node.proofs.Fronts.{front_at, front_changed, front_removed, kept_now, kept_back}
+use Rattle.context_node.proofs.node.Node.take_named.Goals as goal
 
-pub returns-in-Ok-alloc-clause-took : goal.returns-in-Ok-alloc-clause-took
-returns-in-Ok-alloc-clause-took g c =
+pub returns-in-Ok-clause-took : goal.returns-in-Ok-clause-took
+returns-in-Ok-clause-took g c =
     let fresh : has c.args.number c.self.inside.chunks.forest ≡ false = ap (λ (x : Kept). has c.args.number x.chunks) c.self.view_is ∙ c.requires.fresh in
+    let waiting : Entry = taken_entry (Some c.args.word) (record { region = 0; offset = 0 }) c.args.size 0 in
     let k : Kept = record {
       name = c.self.inside.name;
       kind = c.self.inside.kind;
@@ -18,15 +21,16 @@ returns-in-Ok-alloc-clause-took g c =
       hooks = c.self.inside.callbacks;
     } in
     rw (← c.self.view_is) (record {
-      at = c.in-Ok-alloc.at;
-      takes = c.in-Ok-alloc.ensures.taken;
-      fresh = c.in-Ok-alloc.ensures.fresh;
-      live = c.in-Ok-alloc.ensures.live;
-      moves = c.in-Ok-alloc.ensures.moves;
-      keeps = c.in-Ok-alloc.ensures.keeps;
+      at = c.in-Ok.at;
+      takes = c.in-Ok.ensures.taken;
+      fresh = c.in-Ok.ensures.fresh;
+      live = c.in-Ok.ensures.live;
+      moves = c.in-Ok.ensures.moves;
+      keeps = c.in-Ok.ensures.keeps;
       now = kept_now k c.alloc.new.self _ _ _ _
-          (entry_set c.args.number c.in-Ok.id.number _ c.get_mut.result.now c.in-Ok-alloc.at _ _ c.in-Ok.ensures.number fresh c.in-Ok.ensures.forest c.get_mut.ensures.value)
-          c.in-Ok.ensures.places;
+          (c.set.ensures.forest waiting (front_at c.args.number c.in_ok-id.id.number waiting _ _ c.in_ok-id.ensures.number c.in_ok-id.ensures.forest)
+          ∙ front_changed c.args.number c.in_ok-id.id.number waiting (taken_entry (Some c.args.word) c.in-Ok.at c.args.size 0) _ _ c.in_ok-id.ensures.number fresh c.in_ok-id.ensures.forest)
+          (c.set.ensures.places ∙ c.in_ok-id.ensures.places);
       total = c.counted.ensures;
       fits = omega arith;
       has = λ i below. absurd (omega (arith, below));
@@ -47,6 +51,6 @@ returns-in-Err-clause-err g c =
       hooks = c.self.inside.callbacks;
     } in
     kept_back k _ _ _ _ _ _ c.in-Err.ensures.err
-    (c.remove.ensures.forest ∙ front_removed c.args.number c.in-Ok.id.number _ _ _ c.in-Ok.ensures.number fresh c.in-Ok.ensures.forest)
-    (c.remove.ensures.places ∙ front_removed c.args.number c.in-Ok.id.number _ _ _ c.in-Ok.ensures.number unplaced c.in-Ok.ensures.places)
+    (c.remove.ensures.forest ∙ front_removed c.args.number c.in_ok-id.id.number _ _ _ c.in_ok-id.ensures.number fresh c.in_ok-id.ensures.forest)
+    (c.remove.ensures.places ∙ front_removed c.args.number c.in_ok-id.id.number _ _ _ c.in_ok-id.ensures.number unplaced c.in_ok-id.ensures.places)
     ∙ c.self.view_is

@@ -1,0 +1,10 @@
+use Rattle.std.proofs.Common.{sym, ap, ◌∙◌}
+use Rattle.forest.specs.Forest.{at}
+use Rattle.context_node.specs.KeptChunks.{KeptChunks}
+use Rattle.context_node.proofs.NamedParts.{kept_at}
+use Rattle.context_node.proofs.chunks.Chunks.get.Goals as goal
+
+pub returns : goal.returns
+returns c =
+    ap (λ (x : KeptChunks). at c.args.id.number x.forest) (sym c.self.view_is)
+    ∙ (kept_at c.self.inside.named.forest c.self.inside.named.places c.self.inside.all.entries c.self.invariant c.args.id.number c.get.result.now c.get.ensures).0

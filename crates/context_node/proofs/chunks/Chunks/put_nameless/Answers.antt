@@ -1,0 +1,10 @@
+use Rattle.std.proofs.Common.{ap, ◌∙◌}
+use Rattle.forest.specs.Forest.{has}
+use Rattle.context_node.specs.KeptChunks.{KeptChunks}
+use Rattle.context_node.proofs.NamedParts.{kept_nameless}
+use Rattle.context_node.proofs.chunks.Chunks.put_nameless.Goals as goal
+
+pub invariant_of-self : goal.invariant_of-self
+invariant_of-self c =
+    kept_nameless c.self.inside.named.forest c.self.inside.named.places c.self.inside.all.entries c.self.invariant c.args.number c.args.entry.now c.with.result.entries
+    (ap (λ (x : KeptChunks). has c.args.number x.forest) c.self.view_is ∙ c.requires.fresh) c.with.ensures c.requires.nameless
