@@ -49,8 +49,9 @@ use Rattle.session_items.proofs.Numbering.{keeps_rises}
 use Rattle.session_items.proofs.Standing.{empty_around, fitting, fitting_fits}
 use Rattle.session_items.proofs.Stepping.{grown}
 use Rattle.portal_commands.proofs.Listed.{keeps_alone, named_as}
+use Rattle.portal_commands.proofs.Places.{at_same}
 use Rattle.portal_commands.proofs.TurnLists.{is_bad_step}
-use Rattle.portal_commands.specs.Fetching.{Follows, IsFetching, IsPage, cost_of, part_of, scan_named}
+use Rattle.portal_commands.specs.Fetching.{Follows, IsAt, IsFetching, IsPage, cost_of, part_of, scan_named}
 
 -- the scan of the portal of a name, as the rules see it
 abbrev scan_in : Text → Scene → Option Scan
@@ -155,6 +156,17 @@ fetching_on name scan k es a b P r h done beside =
         (subst (λ (m : Moment). Beside (scene_in a around) m.scene) (done.answers.moment around (fitting (wants r) b.calls.count) (fitting_fits (wants r) b.calls.count))
         (beside (fitting (wants r) b.calls.count) (at_calls (scene_in a) a.calls.count a.calls.fail around) (h.between.stands around) h.working))
 
+-- nor is the portal at another place behind them
+pub at_on : (name : Text) (place : ℕ) (scan : Scan) (k : ℕ) (es : List Element) (a b : Now) (P : List What → Type 0) (r : Option Error) → IsFetching name scan a → Performed k es a b P r
+    → ((w : Option ℕ) (m : Moment) → Stands m.scene → IsWorking m.scene.session.levels → Beside m.scene (does_all w es m).moment.scene) → IsAt name place a.store → IsAt name place b.store
+unfolding session_of
+at_on name place scan k es a b P r h done beside at = at_same name place a.store b.store whole.portals at
+  where
+    whole : Beside (scene_in a empty_around) (scene_in b empty_around)
+    whole =
+        subst (λ (m : Moment). Beside (scene_in a empty_around) m.scene) (done.answers.moment empty_around (fitting (wants r) b.calls.count) (fitting_fits (wants r) b.calls.count))
+        (beside (fitting (wants r) b.calls.count) (at_calls (scene_in a) a.calls.count a.calls.fail empty_around) (h.between.stands empty_around) h.working)
+
 -- what a step does by itself is what the rules say of the portal
 part_is : (name : Text) (st : ScanStep) (s : Scene) (p : OpenPortal) → portal_named name s.session.portals ≡ Some p → p.name ≡ name → part_of name st s ≡ scan_part st p s
 part_is name step.Reset s p e n = ap (λ (o : Option OpenPortal). where_there (option_and_then (λ q. q.expr) o) context_cleared_alone s) e
@@ -203,6 +215,13 @@ fetching_follows name scan st a b P h f =
       serves = serves_still _ _ _ _ h.between.serves f.acted.balances;
       stands = λ around. let r = all around in r.stands;
     }) h.working all
+
+pub at_follows : (name : Text) (place : ℕ) (scan : Scan) (st : ScanStep) (a b : Now) (P : List What → Type 0) → IsFetching name scan a → Follows (part_of name st) a b P → IsAt name place a.store → IsAt name place b.store
+unfolding session_of
+at_follows name place scan st a b P h f at = at_same name place a.store b.store whole.portals at
+  where
+    whole : Beside (scene_in a empty_around) (scene_in b empty_around)
+    whole = subst (Beside (scene_in a empty_around)) (f.acted.leads empty_around) (part_besides name scan (levels_of a.store.levels) st (scene_in a empty_around) h.working (runs_in name scan a empty_around h))
 
 does_scan : (name : Text) (st : ScanStep) (w : Option ℕ) (m : Moment) → does w (element.Scans name st) m ≡ unfailing m (at_portal name (scanned st))
 unfolding does

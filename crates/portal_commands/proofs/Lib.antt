@@ -1,4 +1,5 @@
 pub mod Listed
+pub mod Places
 pub mod OnItsWay
 pub mod MakingSteps
 pub mod MemorySteps

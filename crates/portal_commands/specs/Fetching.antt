@@ -8,6 +8,7 @@ use Rattle.exec_core.specs.declared.steps.ScanStep.{ScanStep}
 use Rattle.exec_core.specs.declared.steps.ScanStep.TheVariants as step
 use Rattle.pgs_step.specs.declared.events.What.{What}
 use Rattle.pgs_step.specs.declared.events.What.TheVariants as what
+use Rattle.portal_store.specs.Portals.{place_named}
 use Rattle.session_rules.proofs.PortalWorks.{IsFetched}
 use Rattle.session_rules.proofs.StepsStand.{IsWorking}
 use Rattle.session_rules.specs.Elements as e
@@ -33,6 +34,10 @@ pub record IsFetching (name : Text) (scan : Scan) (n : Now) : Type 0 where
   pub working : IsWorking (levels_of n.store.levels)
   pub fetched : (around : Around) → IsFetched name (scene_in n around)
   pub is : scan_named name n.store ≡ Some scan
+
+-- the portal of a name is at this place among the store's
+abbrev pub IsAt : Text → ℕ → StoreState → Type 0
+IsAt name place store = place_named name store.portals ≡ Some place
 
 -- how many fallible calls a step makes
 abbrev pub cost_of : ScanStep → ℕ

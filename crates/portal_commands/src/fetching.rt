@@ -9,17 +9,17 @@ ghost use Rattle.session_rules.specs.Elements as e;
 ghost use Rattle.session_rules.specs.Elements.{Element};
 ghost use Rattle.session_rules.specs.Works.{fetch_steps, work_of};
 ghost use Rattle.session_store.specs.State.{levels_of, session_of};
-ghost use Rattle.portal_commands.specs.Fetching.{IsFetching};
+ghost use Rattle.portal_commands.specs.Fetching.{IsAt, IsFetching};
 ghost use Rattle.session_items.specs.Answers.{refusal_of};
 ghost use Rattle.session_items.specs.Performed.{now, HasRoom, IsBetweenSteps, Performed, most_work};
 
-use crate::turns::take_turn;
+use crate::turns::{FetchedPortal, take_turn};
 use owner_kinds::ExtKind;
 use pgs_step::{Emit, Error, Name, What};
 use portal_store::PortalState;
 use reset_callbacks::ResetHook;
 use session_items::Shared;
-use session_portals::{begin_fetch, portal_named};
+use session_portals::{begin_fetch, place_of, portal_at};
 use session_store::Store;
 
 /// `fetch`: at most so many rows are fetched from a portal: `PortalRunFetch`. The scan takes a turn for each row, and one more where it ends.
@@ -39,14 +39,18 @@ pub fn fetch<H: ResetHook, K: ExtKind, E: Emit>(
     requires room { HasRoom most_work (now store.old shared.old) }
     ensures performed { Performed most_work (work_of (command.Fetch name count) (session_of store.old shared.old.space.now)) (now store.old shared.old) (now store.new shared.new) (λ events. E.emits out.old events out.new) (refusal_of result) }
 {
-    let Some(portal) = portal_named(store, &name) else {
+    let Some(place) = place_of(store, &name) else {
         return Err(Error::NoSuchPortal);
+    };
+    let Some(portal) = portal_at(store, place) else {
+        unreachable!()
     };
     if let PortalState::Failed = portal.state {
         return Err(Error::PortalFailed);
     }
-    begin_fetch(store, &name);
-    let rows = match fetch_rows(store, &name, count, shared, out) {
+    begin_fetch(store, place);
+    let portal = FetchedPortal { name, place };
+    let rows = match fetch_rows(store, &portal, count, shared, out) {
         Ok(rows) => rows,
         Err(error) => return Err(error),
     };
@@ -57,19 +61,20 @@ pub fn fetch<H: ResetHook, K: ExtKind, E: Emit>(
 /// Fetches at most so many rows, and tells how many these were.
 fn fetch_rows<H: ResetHook, K: ExtKind, E: Emit>(
     store: &mut Store<H>,
-    name: &Name,
+    portal: &FetchedPortal,
     count: u32,
     shared: &mut Shared<'_, H, K>,
     out: &mut E,
 ) -> Result<u32, Error>
-    requires fetching { (scan : AScan) × IsFetching name.now scan (now store.old shared.old) }
+    requires fetching { (scan : AScan) × IsFetching portal.now.name scan (now store.old shared.old) }
+    requires place { IsAt portal.now.name portal.now.place store.old }
     requires room { HasRoom (3 * count) (now store.old shared.old) }
-    ensures fetched { IfOk result (λ rows. (scan : AScan) → IsFetching name.now scan (now store.old shared.old) → (done : List Element) × (fetch_steps name.now count scan 0 ≡ done ++ (e.Says (what.Fetched name.now rows) ∷ [])) × Performed (3 * count) done (now store.old shared.old) (now store.new shared.new) (λ events. E.emits out.old events out.new) None) }
-    ensures refused { IfErr result (λ error. (scan : AScan) → IsFetching name.now scan (now store.old shared.old) → Performed (3 * count) (fetch_steps name.now count scan 0) (now store.old shared.old) (now store.new shared.new) (λ events. E.emits out.old events out.new) (Some error)) }
+    ensures fetched { IfOk result (λ rows. (scan : AScan) → IsFetching portal.now.name scan (now store.old shared.old) → (done : List Element) × (fetch_steps portal.now.name count scan 0 ≡ done ++ (e.Says (what.Fetched portal.now.name rows) ∷ [])) × Performed (3 * count) done (now store.old shared.old) (now store.new shared.new) (λ events. E.emits out.old events out.new) None) }
+    ensures refused { IfErr result (λ error. (scan : AScan) → IsFetching portal.now.name scan (now store.old shared.old) → Performed (3 * count) (fetch_steps portal.now.name count scan 0) (now store.old shared.old) (now store.new shared.new) (λ events. E.emits out.old events out.new) (Some error)) }
 {
     let mut rows = 0;
     while rows < count {
-        match take_turn(store, name, shared, out) {
+        match take_turn(store, portal, shared, out) {
             Ok(true) => rows += 1,
             Ok(false) => return Ok(rows),
             Err(error) => return Err(error),

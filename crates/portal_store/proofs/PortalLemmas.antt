@@ -15,7 +15,7 @@ use Rattle.std.proofs.lemmas.List.Quantifiers.{position-Some, all_pairs_remove}
 use Rattle.portal_store.specs.declared.portal.Portal.{Portal}
 use Rattle.portal_store.specs.declared.portal.PortalState.TheVariants.{Failed}
 use Rattle.portal_store.specs.Portal.{to_parent, is_outer, kept_owner, sub_aborted, moved_owner}
-use Rattle.portal_store.specs.Portals.{has_name, portal_named, changed, without, names, IsPortals}
+use Rattle.portal_store.specs.Portals.{has_name, place_named, portal_named, changed, without, names, IsPortals}
 
 -- i is the place of the first portal of this name, x
 pub record IsPlaceOf (name : List ℕ) (portals : List Portal) (i : ℕ) (x : Portal) : Type 0 where
@@ -60,18 +60,36 @@ module _ (name : List ℕ) (portals view : List Portal) (i : ℕ) (x : Portal) (
   pub changed_at : (change : Portal → Portal) → slice_set portals i (change x) ≡ changed name change view
   changed_at change = changed_set name change portals i x (place_of name portals view i x same at_view here) ∙ ap (changed name change) same
 
-  pub named_at : portal_named name view ≡ Some x
-  named_at = sym (ap (portal_named name) same) ∙ named_here name portals i x (place_of name portals view i x same at_view here)
-
   pub name_at : x.name ≡ name
   name_at = let place = place_of name portals view i x same at_view here in name_is name x place.named
 
-  -- what is asked of the portal of the name is known there, and what is known there is told of it
-  pub asked_at : (P : Portal → Type 0) → IfSome (portal_named name view) P → P x
-  asked_at P asked = subst (λ (o : Option Portal). IfSome o P) named_at asked
+-- what is asked of the portal of a place is known of what is read there, and what is known of that is told of it
+module _ (portals view : List Portal) (i : ℕ) (x : Portal) (same : portals ≡ view) (within : i < length view) (here : x ≡ slice_index_or portals i x) where
+  read_at : slice_get view i ≡ Some x
+  read_at = slice_get_read view (length view) i x refl within (here ∙ ap (λ ps. slice_index_or ps i x) same)
 
-  pub told_at : (P : Portal → Type 0) → P x → IfSome (portal_named name view) P
-  told_at P told = subst (λ (o : Option Portal). IfSome o P) (sym named_at) told
+  pub asked_there : (P : Portal → Type 0) → IfSome (slice_get view i) P → P x
+  asked_there P asked = subst (λ (o : Option Portal). IfSome o P) read_at asked
+
+  pub told_there : (P : Portal → Type 0) → P x → IfSome (slice_get view i) P
+  told_there P told = subst (λ (o : Option Portal). IfSome o P) (sym read_at) told
+
+-- the place of a name is that of a portal, which is the one of the name
+placed : (name : List ℕ) (portals : List Portal) (i : ℕ) → place_named name portals ≡ Some i → (position_or_len (has_name name) portals ≡ i) × (i < length portals)
+placed name portals i at = (elim (nat_lt (position_or_len (has_name name) portals) (length portals)) as (λ b. nat_lt (position_or_len (has_name name) portals) (length portals) ≡ b → (position_or_len (has_name name) portals ≡ i) × (i < length portals)) [
+  | true ↦ λ found.
+      let is : Some (position_or_len (has_name name) portals) ≡ Some i = rw found at at in
+      let same : position_or_len (has_name name) portals ≡ i = cc is in
+      let below : position_or_len (has_name name) portals < length portals = grind (arith, nat_tests) in
+      (same, subst (λ n. n < length portals) same below)
+  | false ↦ λ missed. let none : None ≡ Some i = rw missed at at in absurd (cc none)
+]) refl
+
+pub place_within : (name : List ℕ) (portals : List Portal) (i : ℕ) → place_named name portals ≡ Some i → i < length portals
+place_within name portals i at = (placed name portals i at).1
+
+pub named_by_place : (name : List ℕ) (portals : List Portal) (i : ℕ) → place_named name portals ≡ Some i → portal_named name portals ≡ slice_get portals i
+named_by_place name portals i at = find_at (has_name name) portals ∙ ap (slice_get portals) (placed name portals i at).0
 
 -- a name without a place is no portal's
 pub named_nowhere : (name : List ℕ) (portals : List Portal) → position (has_name name) portals ≡ None → portal_named name portals ≡ None

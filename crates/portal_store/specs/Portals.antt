@@ -1,5 +1,5 @@
 -- Portals as a list, newest first.
-use Rattle.std.specs.Prelude.{◌≢◌, ℕ, ◌≤◌, ◌==◌, Bool, if◌then◌else◌, List, [], ◌∷◌, length, map, find, AllPairs, Option, None}
+use Rattle.std.specs.Prelude.{◌≢◌, ℕ, ◌≤◌, ◌==◌, Bool, if◌then◌else◌, List, [], ◌∷◌, length, map, find, position, AllPairs, Option, None}
 use lib.Pointwise.{pointwise}
 use Rattle.exec_core.specs.declared.scan.Scan.{Scan}
 use Rattle.portal_store.specs.declared.portal.Portal.{Portal}
@@ -16,6 +16,10 @@ has_name name portal = pointwise ◌==◌ portal.name name
 -- the portal of this name
 abbrev pub portal_named : List ℕ → List Portal → Option Portal
 portal_named name portals = find (has_name name) portals
+
+-- its place among them
+abbrev pub place_named : List ℕ → List Portal → Option ℕ
+place_named name portals = position (has_name name) portals
 
 -- the portals with the one of this name changed
 abbrev pub changed : List ℕ → (Portal → Portal) → List Portal → List Portal

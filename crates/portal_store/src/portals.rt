@@ -1,8 +1,8 @@
 //! The portals of a session.
-ghost use Rattle.std.specs.Prelude.{◌≡◌, ◌↔◌, ◌<◌, ◌≤◌, length, map, position, find, slice_get, slice_set, [], ◌∷◌, Some, OnOk, OnErr, IfOk, IfSome, IsSome, IsNone, IsTrue, is_some, option_copied, option_and_then};
+ghost use Rattle.std.specs.Prelude.{◌≡◌, ◌↔◌, ◌<◌, ◌≤◌, ℕ, List, length, map, slice_get, slice_set, [], ◌∷◌, Some, OnOk, OnErr, IfOk, IfSome, IsSome, IsNone, IsTrue, is_some, option_copied, option_and_then};
 ghost use Rattle.exec_core.specs.Turn.{IsScan, rest, taken};
 ghost use Rattle.portal_store.specs.Portal.{coming, to_parent, sub_aborted, moved_owner};
-ghost use Rattle.portal_store.specs.Portals.{has_name, portal_named, new_portal, changed, without, HasDistinctNames};
+ghost use Rattle.portal_store.specs.Portals.{place_named, portal_named, new_portal, changed, without, HasDistinctNames};
 
 use crate::portal::{Portal, PortalError, PortalState};
 use exec_core::{Scan, ScanStep};
@@ -92,18 +92,18 @@ impl Portals {
         self.portals[place] = portal;
     }
 
-    /// The next step of the scan of the portal of that name, which stands behind it then.
+    /// The next step of the scan of the portal of that place, which stands behind it then.
     ///
     /// Where a turn begins, one that was left in the middle begins anew.
-    pub fn step(&mut self, name: &Name, begins: bool) -> ScanStep
-        requires there { IsSome (portal_named name.now self.old) }
-        requires scan { IfSome (portal_named name.now self.old) (λ p. IsScan p.scan) }
-        ensures step { IfSome (portal_named name.now self.old) (λ p. coming begins p.scan ≡ result ∷ rest result (taken result p.scan)) }
-        ensures portals { self.new ≡ changed name.now (λ p. record p { scan = taken result p.scan }) self.old }
-        ensures scan { IfSome (portal_named name.now self.old) (λ p. IsScan (taken result p.scan)) }
+    #[inline]
+    pub fn step_at(&mut self, place: usize, begins: bool) -> ScanStep
+        requires there { place < length self.old }
+        requires scan { IfSome (slice_get self.old place) (λ p. IsScan p.scan) }
+        ensures step { IfSome (slice_get self.old place) (λ p. coming begins p.scan ≡ result ∷ rest result (taken result p.scan)) }
+        ensures portals { (name : List ℕ) → place_named name self.old ≡ Some place → self.new ≡ changed name (λ p. record p { scan = taken result p.scan }) self.old }
+        ensures scan { IfSome (slice_get self.old place) (λ p. IsScan (taken result p.scan)) }
         ensures distinct { HasDistinctNames self.old }
     {
-        let place = self.place(name);
         self.portals[place].step(begins)
     }
 
@@ -137,13 +137,12 @@ impl Portals {
         self.portals[place].owner = Some(owner);
     }
 
-    /// The portal of that name is active in the level of this number.
-    pub fn set_active(&mut self, name: &Name, active: u32)
-        requires { IsSome (portal_named name.now self.old) }
-        ensures portals { self.new ≡ changed name.now (λ p. record p { active = active }) self.old }
+    /// The portal of that place is active in the level of this number.
+    pub fn set_active_at(&mut self, place: usize, active: u32)
+        requires { place < length self.old }
+        ensures portals { (name : List ℕ) → place_named name self.old ≡ Some place → self.new ≡ changed name (λ p. record p { active = active }) self.old }
         ensures distinct { HasDistinctNames self.old }
     {
-        let place = self.place(name);
         self.portals[place].active = active;
     }
 
@@ -173,7 +172,15 @@ impl Portals {
         self.portals.is_empty()
     }
 
+    /// Where the portal of that name is, if there is one: 0 is the place of the newest.
+    pub fn place_of(&self, name: &Name) -> Option<usize>
+        ensures { result ≡ place_named name.now self.now }
+    {
+        self.portals.iter().position(|portal| portal.name == *name)
+    }
+
     /// The portal of that place, where 0 is the newest.
+    #[inline]
     pub fn at(&self, i: usize) -> Option<&Portal>
         ensures { option_copied result ≡ slice_get self.now i }
     {
@@ -206,7 +213,7 @@ impl Portals {
         ensures taken { result ≡ portal_named name.now self.old }
         ensures others { self.new ≡ without name.now self.old }
     {
-        let place = self.find(name)?;
+        let place = self.place_of(name)?;
         Some(self.portals.remove(place))
     }
 
@@ -217,20 +224,13 @@ impl Portals {
         self.get(name).is_some()
     }
 
-    /// Where the portal of that name is, if there is one.
-    fn find(&self, name: &Name) -> Option<usize>
-        ensures { result ≡ position (has_name name.now) self.now }
-    {
-        self.portals.iter().position(|portal| portal.name == *name)
-    }
-
     /// Where the portal of that name is, which is there.
     #[inline]
     fn place(&self, name: &Name) -> usize
         requires { IsSome (portal_named name.now self.now) }
-        ensures { position (has_name name.now) self.now ≡ Some result }
+        ensures { place_named name.now self.now ≡ Some result }
     {
-        match self.find(name) {
+        match self.place_of(name) {
             Some(place) => place,
             None => unreachable!(),
         }

@@ -35,19 +35,23 @@ fn equip(rt: &impl Abort, portals: &mut Portals, name: &Name) {
     portals.set_expr(name, CtxId { number: 8, slot: 7 });
     assert!(rt; portals.get(name).is_some());
     portals.set_owner(name, OWNER);
-    assert!(rt; portals.get(name).is_some());
-    portals.set_active(name, 2);
+    if let Some(place) = portals.place_of(name) {
+        assert!(rt; place < portals.len());
+        portals.set_active_at(place, 2);
+    }
     assert!(rt; portals.get(name).is_some());
     portals.set_state(name, PortalState::Failed);
 }
 
 /// The next step of the scan of a live portal, which stands before its first row.
 fn step(rt: &impl Abort, portals: &mut Portals, name: &Name, begins: bool) -> Option<ScanStep> {
-    let scan = portals.get(name)?.scan;
+    let place = portals.place_of(name)?;
+    assert!(rt; place < portals.len());
+    let scan = portals.at(place)?.scan;
     assert!(rt; scan.at == 0);
     assert!(rt; scan.rows > 0);
     assert!(rt; scan.stage <= 3);
-    Some(portals.step(name, begins))
+    Some(portals.step_at(place, begins))
 }
 
 /// What the newest portal is when a subtransaction of this level aborts, and the owner that moves.

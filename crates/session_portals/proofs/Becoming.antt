@@ -6,7 +6,7 @@ use Rattle.reset_callbacks.specs.ShelfState.{ShelfState}
 use Rattle.exec_core.specs.Turn.{new_scan}
 use Rattle.context_tree.specs.State.{TreeState}
 use Rattle.portal_store.specs.declared.portal.Portal.{Portal}
-use Rattle.portal_store.specs.Portals.{HasDistinctNames, changed, new_portal, portal_named}
+use Rattle.portal_store.specs.Portals.{HasDistinctNames, changed, new_portal, place_named, portal_named}
 use Rattle.subxact_stack.specs.declared.levels.Level.{Level}
 use Rattle.session_owners.specs.ResourceState.{ResourceState}
 use Rattle.session_owners.specs.Commons.{CommonState, seen_by}
@@ -86,6 +86,9 @@ module _ (tree : TreeState) (owners : ResourceState) (levels : List Level) (port
   pub portals_alone_after : (qs : List Portal) → PortalsAlone v (record { tree = tree; owners = owners; levels = levels; portals = qs })
   portals_alone_after qs =
       subst (λ (a : StoreState). PortalsAlone a (record { tree = tree; owners = owners; levels = levels; portals = qs })) is (record { tree = refl; owners = refl; levels = refl })
+
+  pub place_in : (name : List ℕ) (place : ℕ) → place_named name v.portals ≡ Some place → place_named name portals ≡ Some place
+  place_in name place at = subst (λ (a : StoreState). place_named name a.portals ≡ Some place) (sym is) at
 
   pub there_in : (name : List ℕ) → IsSome (portal_named name v.portals) → IsSome (portal_named name portals)
   there_in name there = subst (λ (a : StoreState). IsSome (portal_named name a.portals)) (sym is) there

@@ -4,5 +4,7 @@
 mod changing;
 mod making;
 
-pub use changing::{begin_fetch, fail_portal, first_step, next_step, portal_named, portal_ready};
+pub use changing::{
+    begin_fetch, fail_portal, place_of, portal_at, portal_named, portal_ready, step_at,
+};
 pub use making::{make_portal, make_portal_context, make_portal_owner, make_row_context};

@@ -5,24 +5,24 @@ use Rattle.portal_commands.proofs.turns.take_row.Goals as goal
 
 pub returns-in-Err : goal.returns-in-Err
 returns-in-Err g c = record {
-  performed = memory_injected (InRow c.args.name.now) 64 _ _ _ c.next.ensures.counted refl refl c.requires.fetching.1.between.keeps refl (g.met.E.Emit.emits_none c.args.out.now) c.in-Err.error c.in-Err.ensures.injected;
+  performed = memory_injected (InRow c.args.portal.now.name) 64 _ _ _ c.next.ensures.counted refl refl c.requires.fetching.1.between.keeps refl (g.met.E.Emit.emits_none c.args.out.now) c.in-Err.error c.in-Err.ensures.injected;
 }
 
 pub returns-in_default-row_context : goal.returns-in_default-row_context
 returns-in_default-row_context g c = record {
-  performed = memory_nowhere (InRow c.args.name.now) 64 _ _ _ c.next.ensures.counted c.in_default.ensures.goes (c.in_default-row_context.ensures.context c.args.shared.now.space.now) refl refl c.requires.fetching.1.between.keeps refl (g.met.E.Emit.emits_none c.args.out.now);
+  performed = memory_nowhere (InRow c.args.portal.now.name) 64 _ _ _ c.next.ensures.counted c.in_default.ensures.goes (c.in_default-row_context.ensures.context c.args.portal.now.name c.requires.place c.args.shared.now.space.now) refl refl c.requires.fetching.1.between.keeps refl (g.met.E.Emit.emits_none c.args.out.now);
 }
 
 pub alloc_at-requires-clause-stands : goal.alloc_at-requires-clause-stands
 alloc_at-requires-clause-stands g c = (c.args.shared.now.shelf.now, (c.args.shared.now.commons.now, c.requires.fetching.1.between.stands))
 
 pub alloc_at-requires-clause-live : goal.alloc_at-requires-clause-live
-alloc_at-requires-clause-live g c = c.in-Some.ensures.live c.args.shared.now.space.now c.args.shared.now.shelf.now c.args.shared.now.commons.now c.requires.fetching.1.between.stands
+alloc_at-requires-clause-live g c = c.in-Some.ensures.live c.args.portal.now.name c.requires.place c.args.shared.now.space.now c.args.shared.now.shelf.now c.args.shared.now.commons.now c.requires.fetching.1.between.stands
 
 pub returns-in-Err-alloc_at : goal.returns-in-Err-alloc_at
 returns-in-Err-alloc_at g c = record {
   performed =
-      memory_refused (InRow c.args.name.now) 64 _ _ _ c.next.ensures.counted c.in_default.ensures.goes c.in-Some.at.number (c.in-Some.ensures.context c.args.shared.now.space.now)
+      memory_refused (InRow c.args.portal.now.name) 64 _ _ _ c.next.ensures.counted c.in_default.ensures.goes c.in-Some.at.number (c.in-Some.ensures.context c.args.portal.now.name c.requires.place c.args.shared.now.space.now)
       (c.in-Err-alloc_at.ensures.refused c.args.shared.now.shelf.now c.args.shared.now.commons.now) (g.met.E.Emit.emits_none c.args.out.now) (c.alloc_at.ensures.alone c.args.shared.now.commons.now) c.in-Err-alloc_at.ensures.err_space
       _ _ c.in-Err-alloc_at.ensures.cause c.call_error.ensures.memory c.call_error.ensures.own;
 }
@@ -30,7 +30,7 @@ returns-in-Err-alloc_at g c = record {
 pub returns : goal.returns
 returns g c = record {
   performed =
-      memory_done (InRow c.args.name.now) 64 _ _ _ c.next.ensures.counted c.in_default.ensures.goes c.in-Some.at.number (c.in-Some.ensures.context c.args.shared.now.space.now)
+      memory_done (InRow c.args.portal.now.name) 64 _ _ _ c.next.ensures.counted c.in_default.ensures.goes c.in-Some.at.number (c.in-Some.ensures.context c.args.portal.now.name c.requires.place c.args.shared.now.space.now)
       c.in_default-alloc_at.ensures.served (c.in_default-alloc_at.ensures.acted c.args.shared.now.shelf.now c.args.shared.now.commons.now) (g.met.E.Emit.emits_none c.args.out.now)
       (c.alloc_at.ensures.alone c.args.shared.now.commons.now) c.in_default-alloc_at.ensures.asked;
 }

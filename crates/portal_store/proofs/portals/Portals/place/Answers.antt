@@ -3,4 +3,4 @@ use Rattle.portal_store.proofs.PortalLemmas.{not_nowhere}
 use Rattle.portal_store.proofs.portals.Portals.place.Goals as goal
 
 pub unreachable-requires : goal.unreachable-requires
-unreachable-requires c = absurd (not_nowhere c.args.name.now c.args.self.now c.requires (sym c.find.ensures ∙ c.in-None.is))
+unreachable-requires c = absurd (not_nowhere c.args.name.now c.args.self.now c.requires (sym c.place_of.ensures ∙ c.in-None.is))

@@ -4,13 +4,13 @@ use Rattle.portal_store.proofs.PortalLemmas.{IsPlaceOf, place_of, without_remove
 use Rattle.portal_store.proofs.portals.Portals.take_out.Goals as goal
 
 at_place : (c : goal.After-remove) → IsPlaceOf c.args.name.now c.self.inside.portals.items c.in_ok-place.place c.remove.result
-at_place c = place_of c.args.name.now c.self.inside.portals.items c.args.self.now c.in_ok-place.place c.remove.result c.self.view_is (sym c.find.ensures ∙ c.in_ok-place.was) c.remove.ensures.value
+at_place c = place_of c.args.name.now c.self.inside.portals.items c.args.self.now c.in_ok-place.place c.remove.result c.self.view_is (sym c.place_of.ensures ∙ c.in_ok-place.was) c.remove.ensures.value
 
 pub returns-in_err-place-clause-taken : goal.returns-in_err-place-clause-taken
-returns-in_err-place-clause-taken c = c.from_residual.ensures ∙ sym (named_nowhere c.args.name.now c.args.self.now (sym c.find.ensures ∙ c.in_err-place.was))
+returns-in_err-place-clause-taken c = c.from_residual.ensures ∙ sym (named_nowhere c.args.name.now c.args.self.now (sym c.place_of.ensures ∙ c.in_err-place.was))
 
 pub returns-in_err-place-clause-others : goal.returns-in_err-place-clause-others
-returns-in_err-place-clause-others c = sym (without_nowhere c.args.name.now c.args.self.now (named_nowhere c.args.name.now c.args.self.now (sym c.find.ensures ∙ c.in_err-place.was)))
+returns-in_err-place-clause-others c = sym (without_nowhere c.args.name.now c.args.self.now (named_nowhere c.args.name.now c.args.self.now (sym c.place_of.ensures ∙ c.in_err-place.was)))
 
 pub invariant_of-self : goal.invariant_of-self
 invariant_of-self c = rw c.remove.ensures.items (IsPortals_remove c.self.inside.portals.items c.in_ok-place.place (at_place c).within c.self.invariant)

@@ -1,0 +1,69 @@
+-- The place of a portal: it stays where no portal comes, goes or gets another name.
+use Rattle.std.proofs.Common.{◌≡◌, ℕ, ◌+◌, Bool, true, false, List, [], ◌∷◌, Option, Some, None, length, map, get_or, refl, sym, ap, ◌∙◌, arith}
+use Rattle.std.specs.Prelude.{cond, if◌then◌else◌, nat_lt, not, position}
+use Rattle.std.specs.List.{position_or_len}
+use Rattle.std.proofs.lemmas.List.{length-map}
+use Rattle.std.proofs.lemmas.Option.{slice_get-get_or}
+use Rattle.pgs_command.specs.Words.{is_text}
+use Rattle.portal_store.specs.declared.portal.Portal.{Portal}
+use Rattle.portal_store.specs.Portals as list
+use Rattle.portal_store.specs.Portals.{has_name, place_named}
+use Rattle.portal_store.proofs.PortalLemmas.{named_by_place, place_within}
+use Rattle.session_rules.specs.Acts.{portal_becomes}
+use Rattle.session_rules.specs.Elements.{Text}
+use Rattle.session_rules.specs.Lookup.{portal_changed}
+use Rattle.session_rules.specs.State.{OpenPortal}
+use Rattle.session_rules.specs.World.{Scene}
+use Rattle.session_store.specs.Calls.{Acted, IsSilent}
+use Rattle.session_store.specs.State.{StoreState, portal_state, portals_of, session_of}
+use Rattle.session_items.specs.Performed.{Now, scene_in}
+use Rattle.session_items.proofs.Standing.{empty_around}
+use Rattle.portal_commands.specs.Fetching.{IsAt}
+
+-- where a test that sees no change passes first
+module _ {X Y : Type 0} (p : X → Bool) (q : Y → Bool) (f : X → Y) (same : (x : X) → q (f x) ≡ p x) where
+  first_same : (xs : List X) → position_or_len q (map f xs) ≡ position_or_len p xs
+  first_same [] = refl
+  first_same (x ∷ xs) =
+      ap (λ (b : Bool). cond (not b) (1 + position_or_len q (map f xs)) 0) (same x)
+      ∙ ap (λ (n : ℕ). cond (not (p x)) (1 + n) 0) (first_same xs)
+
+  position_same : (xs : List X) → position q (map f xs) ≡ position p xs
+  position_same xs =
+      ap (λ (n : ℕ). cond (nat_lt n (length (map f xs))) (Some n) None) (first_same xs)
+      ∙ ap (λ (n : ℕ). cond (nat_lt (position_or_len p xs) n) (Some (position_or_len p xs)) None) (length-map xs f)
+
+-- the place as the rules see the portals
+abbrev place_in : Text → List OpenPortal → Option ℕ
+place_in name portals = position (λ (p : OpenPortal). is_text p.name name) portals
+
+place_as : (name : Text) (ps : List Portal) → place_in name (portals_of ps) ≡ place_named name ps
+place_as name ps = position_same (has_name name) (λ (p : OpenPortal). is_text p.name name) portal_state (λ p. refl) ps
+
+place_changed : (name : Text) (f : OpenPortal → OpenPortal) (ps : List OpenPortal) → ((p : OpenPortal) → (f p).name ≡ p.name) → place_in name (portal_changed name f ps) ≡ place_in name ps
+place_changed name f ps keeps =
+    position_same (λ (p : OpenPortal). is_text p.name name) (λ (p : OpenPortal). is_text p.name name) (λ p. if is_text p.name name then f p else p)
+    (λ p. ap (λ (t : Text). is_text t name) (kept p (is_text p.name name))) ps
+  where
+    kept : (p : OpenPortal) (b : Bool) → (if b then f p else p).name ≡ p.name
+    kept p true = keeps p
+    kept p false = refl
+
+-- it stays where the rules see the same portals
+pub at_same : (name : Text) (place : ℕ) (a b : StoreState) → portals_of b.portals ≡ portals_of a.portals → IsAt name place a → IsAt name place b
+at_same name place a b same at = sym (place_as name b.portals) ∙ ap (place_in name) same ∙ place_as name a.portals ∙ at
+
+-- or the portal of the name changed, which kept it
+pub at_becomes : (name : Text) (place : ℕ) (f : Scene → OpenPortal → OpenPortal) (a : Now) (st : StoreState) → ((s : Scene) (p : OpenPortal) → (f s p).name ≡ p.name)
+    → Acted (λ scene. portal_becomes name (f scene) scene) a.store st a.space a.space a.shelf a.shelf a.commons a.commons IsSilent → IsAt name place a.store → IsAt name place st
+unfolding session_of
+at_becomes name place f a st keeps acted at =
+    let is : portal_changed name (f (scene_in a empty_around)) (portals_of a.store.portals) ≡ portals_of st.portals = ap (λ (s : Scene). s.session.portals) (acted.leads empty_around) in
+    sym (place_as name st.portals) ∙ ap (place_in name) (sym is) ∙ place_changed name (f (scene_in a empty_around)) (portals_of a.store.portals) (keeps (scene_in a empty_around)) ∙ place_as name a.store.portals ∙ at
+
+-- there is a portal at a name's place
+pub at_there : (name : Text) (place : ℕ) (ps : List Portal) → place_named name ps ≡ Some place → list.portal_named name ps ≡ None → ⊥
+at_there name place [] at none = omega (arith, place_within name [] place at)
+at_there name place (p ∷ ps) at none =
+    let some : Some (get_or (p ∷ ps) place p) ≡ None = sym (slice_get-get_or (p ∷ ps) place p (place_within name (p ∷ ps) place at)) ∙ sym (named_by_place name (p ∷ ps) place at) ∙ none in
+    absurd (cc some)
