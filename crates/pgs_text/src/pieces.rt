@@ -101,7 +101,7 @@ pub fn put_small<const N: usize>(out: &mut ArrayVec<u8, N>, n: u8)
 }
 
 /// The digits of a number.
-#[inline(always)]
+#[inline]
 fn put_long_number<const N: usize>(out: &mut ArrayVec<u8, N>, n: u64)
     requires { array_vec_len out.old + 20 ≤ N }
     ensures text { out.new.items ≡ out.old.items ++ decimal n }
