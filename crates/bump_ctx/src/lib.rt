@@ -102,6 +102,7 @@ impl BumpCtx {
     ///
     /// `TooBig`, where `size` is over 1,073,741,823, `NoSpace` and `Memory` are tried in this order. A refused call
     /// changes nothing.
+    #[inline(never)]
     pub fn alloc(&mut self, space: &mut Space, size: u64) -> Result<Addr, CtxError>
         requires { Agrees (footprint self.old) space.old }
 
@@ -160,6 +161,7 @@ impl BumpCtx {
 
     /// Frees all chunks and gives every block but the first back: `BumpReset`. The ledger is that of a new context. It
     /// takes no memory.
+    #[inline(never)]
     pub fn reset(&mut self, space: &mut Space)
         requires agrees { Agrees (footprint self.old) space.old }
         ensures ledger { self.new.ledger ≡ reset self.old.ledger }
@@ -172,6 +174,7 @@ impl BumpCtx {
     }
 
     /// Gives all blocks back: `BumpDelete`. It takes no memory.
+    #[inline(never)]
     pub fn discard(self, space: &mut Space)
         requires agrees { Agrees (footprint self) space.old }
         ensures moves { Moves (footprint self) (nothing (footprint self).account (footprint self).context) space.old space.new }

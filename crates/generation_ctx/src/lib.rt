@@ -113,6 +113,7 @@ impl GenerationCtx {
     /// Takes a chunk of `size` bytes, which may be 0, and answers its address: `GenerationAlloc`.
     ///
     /// `TooBig`, `NoSpace` and `Memory` are tried in this order. A refused call changes nothing.
+    #[inline(never)]
     pub fn alloc(&mut self, space: &mut Space, size: u64) -> Result<Addr, CtxError>
         requires { Agrees (footprint self.old) space.old }
 
@@ -194,6 +195,7 @@ impl GenerationCtx {
 
     /// Frees all chunks and gives every block but the first back: the context is as it was created
     /// (`GenerationReset`). It takes no memory.
+    #[inline(never)]
     pub fn reset(&mut self, space: &mut Space)
         requires { Agrees (footprint self.old) space.old }
         ensures ledger { self.new.ledger ≡ reset self.old.ledger }
@@ -206,6 +208,7 @@ impl GenerationCtx {
     }
 
     /// Gives all blocks back: `GenerationDelete`. It takes no memory.
+    #[inline(never)]
     pub fn discard(self, space: &mut Space)
         requires { Agrees (footprint self) space.old }
         ensures moves { Moves (footprint self) (nothing (footprint self).account (footprint self).context) space.old space.new }

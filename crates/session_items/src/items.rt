@@ -213,6 +213,7 @@ pub fn owner_of_level<H: ResetHook>(store: &Store<H>) -> OwnerId
 }
 
 /// Makes room for one more item of an owner, whose release has not begun.
+#[inline]
 pub fn enlarge<H: ResetHook, K: ExtKind>(
     store: &mut Store<H>,
     owner: OwnerId,

@@ -115,6 +115,7 @@ impl SlabCtx {
     /// `SlabAlloc`.
     ///
     /// `TooBig`, `WrongSize`, `NoSpace` and `Memory` are tried in this order. A refused call changes nothing.
+    #[inline(never)]
     pub fn alloc(&mut self, space: &mut Space, size: u64) -> Result<Addr, CtxError>
         requires { Agrees (footprint self.old) space.old }
 
@@ -188,6 +189,7 @@ impl SlabCtx {
 
     /// Frees all chunks: all blocks go back to the space, and the context is as it was created (`SlabReset`). It takes
     /// no memory.
+    #[inline(never)]
     pub fn reset(&mut self, space: &mut Space)
         requires { Agrees (footprint self.old) space.old }
         ensures ledger { self.new.ledger ≡ reset self.old.ledger }
@@ -202,6 +204,7 @@ impl SlabCtx {
     }
 
     /// Gives all blocks and the first region back to the space: `SlabDelete`. It takes no memory.
+    #[inline(never)]
     pub fn discard(self, space: &mut Space)
         requires { Agrees (footprint self) space.old }
         ensures moves { Moves (footprint self) (nothing (footprint self).account (footprint self).context) space.old space.new }
