@@ -21,7 +21,8 @@ use std::alloc::{AllocError, Global};
 
 /// The items in two parts: the newest, up to 32, in an array, and those that are older in a table.
 ///
-/// The release of a phase gathers them in the table in the order of the release, until `enlarge` parts them.
+/// The release of a phase gathers them in the table in the order of the release, until `enlarge` parts them. Where the
+/// array has the only item, it is taken from there.
 #[derive(Drop)]
 pub(crate) struct Held {
     pub recent: ArrayVec<Item, 32>,
@@ -79,6 +80,7 @@ impl Held {
         self.recent.push(item);
     }
 
+    #[inline]
     pub fn enlarge(&mut self) -> Result<(), AllocError>
         requires { IsHeld self.old }
         ensures held { IsHeld self.new }
@@ -90,6 +92,19 @@ impl Held {
         if self.spare() > 0 {
             return Ok(());
         }
+        self.make_room()
+    }
+
+    // Makes room for the whole array, where it has none or the table hasn't.
+    #[inline(never)]
+    fn make_room(&mut self) -> Result<(), AllocError>
+        requires { IsHeld self.old }
+        ensures held { IsHeld self.new }
+        ensures ok { OnOk result (1 ≤ spare_of self.new) }
+        ensures spare { spare_of self.old ≤ spare_of self.new }
+        ensures items { items_of self.new ≡ items_of self.old }
+        ensures err { OnErr result (self.new ≡ self.old) }
+    {
         if self.order.is_none() && self.table.entries.capacity() == 0 {
             return self.begin();
         }
@@ -193,7 +208,40 @@ impl Held {
         Some(entry.item)
     }
 
+    #[inline]
     pub fn take_next<K: ExtKind>(&mut self, kinds: &KindShelf<K>, phase: Phase) -> Option<Item>
+        requires { IsHeld self.old }
+        ensures held { IsHeld self.new }
+        ensures next { MatchOption result (All (λ item. is_of_phase (table_of kinds.now) phase item ≡ false) (items_of self.old)) (λ item. IsNextOf (table_of kinds.now) phase (items_of self.old) item (items_of self.new)) }
+        ensures unchanged { IfNone result (self.new ≡ self.old) }
+    {
+        if let Some(item) = self.take_only(kinds, phase) {
+            return Some(item);
+        }
+        self.take_in_turn(kinds, phase)
+    }
+
+    // Takes the item of the array, where it is the only one and of this phase: nothing is to be put in order then.
+    #[inline]
+    fn take_only<K: ExtKind>(&mut self, kinds: &KindShelf<K>, phase: Phase) -> Option<Item>
+        requires { IsHeld self.old }
+        ensures held { IsHeld self.new }
+        ensures next { IfSome result (λ item. IsNextOf (table_of kinds.now) phase (items_of self.old) item (items_of self.new)) }
+        ensures unchanged { IfNone result (self.new ≡ self.old) }
+    {
+        if self.recent.len() != 1 || self.table.live != 0 {
+            return None;
+        }
+        let item = self.recent.as_slice()[0];
+        if rank_of(&item, kinds, phase) == 0 {
+            return None;
+        }
+        self.recent.clear();
+        Some(item)
+    }
+
+    // Takes the next item of those that are gathered in the order of this phase's release, or are so first.
+    fn take_in_turn<K: ExtKind>(&mut self, kinds: &KindShelf<K>, phase: Phase) -> Option<Item>
         requires { IsHeld self.old }
         ensures held { IsHeld self.new }
         ensures next { MatchOption result (All (λ item. is_of_phase (table_of kinds.now) phase item ≡ false) (items_of self.old)) (λ item. IsNextOf (table_of kinds.now) phase (items_of self.old) item (items_of self.new)) }
@@ -258,6 +306,7 @@ impl Held {
     }
 
     // The next item of this phase, as the order of its release has it.
+    #[inline]
     pub fn take_in_order<K: ExtKind>(&mut self, kinds: &KindShelf<K>, phase: Phase) -> Option<Item>
         requires held { IsHeld self.old }
         requires kinds { All (λ item. IsKind (table_of kinds.now) item.kind) (items_of self.old) }

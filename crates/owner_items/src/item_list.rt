@@ -70,6 +70,7 @@ impl Items {
     ///
     /// The error comes where memory is refused. It also comes where the table of the older items has to be
     /// made anew and has more than 2^40 of them, which no memory holds.
+    #[inline]
     pub fn enlarge(&mut self) -> Result<(), AllocError>
         ensures ok { OnOk result (1 ≤ self.new.spare) }
         ensures spare { self.old.spare ≤ self.new.spare }
@@ -134,8 +135,9 @@ impl Items {
     /// Takes the item that is released next in this phase, if any is left: of those with the lowest
     /// priority number the newest. It takes no memory.
     ///
-    /// The first call of a phase that finds an item sorts all items; the others take constant time. Then
-    /// nothing is spare until `enlarge`.
+    /// The first call of a phase that finds an item sorts all items, but where the array has the only one; the
+    /// others take constant time. After the sort nothing is spare until `enlarge`.
+    #[inline]
     pub fn take_next<K: ExtKind>(&mut self, kinds: &KindShelf<K>, phase: Phase) -> Option<Item>
         requires { All (λ item. IsKind (table_of kinds.now) item.kind) self.old.items }
         ensures none { IsNone result ↔ (release_order (table_of kinds.now) phase self.old.items ≡ []) }

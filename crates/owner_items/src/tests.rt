@@ -199,3 +199,17 @@ fn a_phase_without_items_changes_nothing(rt: HostRuntime) -> Result<(), Fail> {
     assert_eq!(rt; (items.spare(), items.len()), (spare, 33));
     Ok(())
 }
+
+#[test]
+fn an_only_item_is_taken_from_the_array(rt: HostRuntime) -> Result<(), Fail> {
+    let none: Vec<CountedKind> = Vec::new(rt.alloc());
+    let kinds = KindShelf::new(rt.alloc(), none)?;
+    let mut items = Items::new(rt.alloc());
+    items.enlarge()?;
+    items.remember(pin(7, 1));
+    assert_eq!(rt; items.take_next(&kinds, Phase::AfterLocks), None);
+    let only = items.take_next(&kinds, Phase::BeforeLocks).ok_or("none")?;
+    assert_eq!(rt; (only.serial, items.len(), items.spare()), (1, 0, 32));
+    assert_eq!(rt; items.take_next(&kinds, Phase::BeforeLocks), None);
+    Ok(())
+}
