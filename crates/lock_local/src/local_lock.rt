@@ -23,7 +23,7 @@ pub struct OwnerCount {
 /// How many owners a lock keeps in itself; more take memory. Nearly every lock has one, or for a while two.
 const OWNERS_INSIDE: usize = 2;
 
-/// The owners of a lock, each once, with their counts.
+/// The owners of a lock, with their counts.
 type Owners = SmallVec<OwnerCount, OWNERS_INSIDE>;
 
 /// A lock that the session holds, with its owners: PostgreSQL's `LOCALLOCK`.
@@ -223,7 +223,7 @@ fn hand_over(owners: &mut Owners, from: u64, to: u64, count: u64)
     requires held { 0 < count }
     ensures { owners.new.items ≡ added to count (filter (λ c. not (c.owner == from)) owners.old.items) }
 {
-    // That the owners fit is what the proof needs.
+    // It tells the proof that the owners fit in their room.
     let _fits = owners.len();
     take_off(owners, from);
     let _ = add(owners, to, count);
