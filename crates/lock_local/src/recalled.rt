@@ -162,6 +162,15 @@ impl OwnerLocks {
         }
     }
 
+    /// The same locks are remembered for another owner from now on.
+    #[inline]
+    fn set_owner(&mut self, owner: u64)
+        ensures owner { self.new.owner ≡ owner }
+        ensures recalls { (o : ℕ) (m : Mode) → recalls self.new o m ≡ recalls self.old o m }
+    {
+        self.owner = owner;
+    }
+
     /// The same locks are remembered for another owner.
     #[inline]
     fn renamed(self, owner: u64) -> OwnerLocks
@@ -264,8 +273,30 @@ pub fn take_out(recalled: &mut Vec<OwnerLocks>, owner: u64) -> Option<OwnerLocks
 pub fn hand_on(recalled: &mut Vec<OwnerLocks>, from: u64, to: u64)
     ensures kept { (o : ℕ) (m : Mode) (w : ℕ) → IsTrue (may_hold recalled.old.items o m w) → IsTrue (may_hold recalled.new.items o m (if from == w then to else w)) }
 {
+    match place_of(recalled.as_slice(), to) {
+        Some(_) => join(recalled, from, to),
+        None => rename(recalled, from, to),
+    }
+}
+
+/// The same where something may be remembered for the other one.
+fn join(recalled: &mut Vec<OwnerLocks>, from: u64, to: u64)
+    ensures kept { (o : ℕ) (m : Mode) (w : ℕ) → IsTrue (may_hold recalled.old.items o m w) → IsTrue (may_hold recalled.new.items o m (if from == w then to else w)) }
+{
     if let Some(recall) = take_out(recalled, from) {
         put_back(recalled, recall.renamed(to));
+    }
+}
+
+/// The same where nothing is: it stays at its place.
+#[inline]
+fn rename(recalled: &mut Vec<OwnerLocks>, from: u64, to: u64)
+    requires none { position (λ recall. recall.owner == to) recalled.old.items ≡ None }
+    ensures kept { (o : ℕ) (m : Mode) (w : ℕ) → IsTrue (may_hold recalled.old.items o m w) → IsTrue (may_hold recalled.new.items o m (if from == w then to else w)) }
+{
+    if let Some(at) = place_of(recalled.as_slice(), from) {
+        let recall = &mut recalled[at];
+        recall.set_owner(to);
     }
 }
 
