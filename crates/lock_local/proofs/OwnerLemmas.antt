@@ -4,7 +4,10 @@ use Rattle.std.specs.Prelude.{All, sum_by, remove, position, Option, Some, None,
 use Rattle.std.specs.List.{position_or_len}
 use Rattle.std.proofs.lemmas.Bool.{false≢true, eqb-true, eqb-false, eq-eqb, ne_eqb, ltb-true, ltb-false}
 use Rattle.std.proofs.lemmas.List.Elements.{All-nil, All-cons, All-head, All-tail, All-filter}
+use Rattle.std.proofs.lemmas.List.{length-set}
 use Rattle.std.proofs.lemmas.List.Sums.{sum_by-cons, passes_at_first, fails_before_first, sum_by-take-drop, sum_by-drop_more}
+use Rattle.smallvec.specs.SmallVec.{SmallVec, with_items}
+use Rattle.smallvec.proofs.SmallVecLemmas.{items-with_items}
 use Rattle.lock_local.specs.declared.local_lock.OwnerCount.{OwnerCount}
 use Rattle.lock_local.specs.Locks.{count_if}
 use Rattle.lock_local.specs.Changes.{added, lowered}
@@ -188,14 +191,24 @@ found owner ys xs r i d e s o = some_first owner xs i d (ap (position (is_owner 
 pub not_found : (owner : ℕ) (ys xs : List OwnerCount) (r : Option ℕ) (d : OwnerCount) → r ≡ position (is_owner owner) ys → ys ≡ xs → r ≡ None → (k : ℕ) → k < length xs → is_owner owner (get_or xs k d) ≡ false
 not_found owner ys xs r d e s o = none_first owner xs d (ap (position (is_owner owner)) (sym s) ∙ sym e ∙ o)
 
--- a write at the owner's entry, which was read
-pub added_over : (owner n : ℕ) (xs : List OwnerCount) (i : ℕ) (x : OwnerCount) → IsFirstOf owner xs i x → x ≡ get_or xs i x → set xs i (record { owner = x.owner; count = x.count + n }) ≡ added owner n xs
-added_over owner n xs i x f e = ap (λ (y : OwnerCount). set xs i (record { owner = y.owner; count = y.count + n })) e ∙ added_at owner n xs i x f
+-- an entry that is read where there is none
+abbrev pub no_count : OwnerCount
+no_count = record { owner = 0; count = 0 }
 
-pub lowered_over : (owner : ℕ) (xs : List OwnerCount) (i : ℕ) (x : OwnerCount) → IsFirstOf owner xs i x → x ≡ get_or xs i x → x.count ≢ 1 → set xs i (record { owner = x.owner; count = x.count - 1 }) ≡ lowered owner xs
-lowered_over owner xs i x f e more =
-    ap (λ (y : OwnerCount). set xs i (record { owner = y.owner; count = y.count - 1 })) e
-    ∙ lowered_kept owner xs i x f (λ one. more (ap (λ (y : OwnerCount). y.count) e ∙ one))
+-- a write at the owner's entry, through the slice of all entries
+pub added_over : (owner n : ℕ) (v : SmallVec OwnerCount) (zs : List OwnerCount) (i : ℕ) → IsFirstOf owner v.items i no_count → zs ≡ v.items
+    → (with_items v (set zs i (record { owner = (get_or zs i no_count).owner; count = (get_or zs i no_count).count + n }))).items ≡ added owner n v.items
+added_over owner n v zs i f e =
+    items-with_items v _ (length-set zs i _ ∙ ap length e)
+    ∙ ap (λ (l : List OwnerCount). set l i (record { owner = (get_or l i no_count).owner; count = (get_or l i no_count).count + n })) e
+    ∙ added_at owner n v.items i no_count f
+
+pub lowered_over : (owner : ℕ) (v : SmallVec OwnerCount) (zs : List OwnerCount) (i : ℕ) → IsFirstOf owner v.items i no_count → zs ≡ v.items → (get_or v.items i no_count).count ≢ 1
+    → (with_items v (set zs i (record { owner = (get_or zs i no_count).owner; count = (get_or zs i no_count).count - 1 }))).items ≡ lowered owner v.items
+lowered_over owner v zs i f e more =
+    items-with_items v _ (length-set zs i _ ∙ ap length e)
+    ∙ ap (λ (l : List OwnerCount). set l i (record { owner = (get_or l i no_count).owner; count = (get_or l i no_count).count - 1 })) e
+    ∙ lowered_kept owner v.items i no_count f more
 
 -- each entry within the sum
 pub sum_so_far : (owner : ℕ) (xs : List OwnerCount) (i : ℕ) (d : OwnerCount) → i < length xs → sum_by (count_if owner) (take i xs) + (get_or xs i d).count ≤ counts xs
@@ -226,8 +239,8 @@ few_handed from to n xs ys h s l e =
     few_added to n (others from xs) ys (All-filter (λ c. not (is_owner from c)) Counted xs h.0) (omega (arith, l)) (omega (arith, s, h.1, counts-others from xs)) e
 
 -- there is room for another entry once one has gone
-pub room_left : (owner : ℕ) (xs ys : List OwnerCount) (len len' cap cap' : ℕ) → len ≡ length xs → len ≤ cap → len' ≡ length ys → cap' ≡ cap → ys ≡ others owner xs → 0 < sum_by (count_if owner) xs → len' < cap'
-room_left owner xs ys len len' cap cap' a b d f e l = omega (arith, a, b, d, f, ap length e, others_lt owner xs l)
+pub room_left : (owner : ℕ) (xs ys : List OwnerCount) (n cap cap' : ℕ) → n ≡ length xs → n ≤ cap → cap' ≡ cap → ys ≡ others owner xs → 0 < sum_by (count_if owner) xs → length ys + 1 ≤ cap'
+room_left owner xs ys n cap cap' a b f e l = omega (arith, a, b, f, ap length e, others_lt owner xs l)
 
 pub handed_fits : (from n : ℕ) (xs ys : List OwnerCount) → counts xs ≤ 2 ^ 62 → n ≡ sum_by (count_if from) xs → ys ≡ others from xs → counts ys + n ≤ 2 ^ 62
 handed_fits from n xs ys f s e = omega (arith, f, s, ap counts e, counts-others from xs)

@@ -124,6 +124,27 @@ kept_pushed w xs y e h o m v =
     (λ old. absurd (false≢true (sym (may_none w xs o m e) ∙ old)))
     (λ n old. may_unpushed w xs y o m v h n ∙ old)
 
+-- what was remembered of one owner is remembered of another one, of which nothing was
+pub kept_renamed : (w v : ℕ) (xs : List Recall) (i : ℕ) (x y : Recall) → position (is_of w) xs ≡ Some i → position (is_of v) xs ≡ None → x ≡ get_or xs i x → y.owner ≡ v → ((o : ℕ) (m : Mode) → recalls y o m ≡ recalls x o m) → (o : ℕ) (m : Mode) (u : ℕ) → may_hold xs o m u ≡ true → may_hold (set xs i y) o m (cond (nat_eq w u) v u) ≡ true
+kept_renamed w v xs i x y e f r h k o m u old = by_test (nat_eq w u) refl
+  where
+    at : (i < length xs) × (is_of w (get_or xs i y) ≡ true) × ((n : ℕ) → n < i → is_of w (get_or xs n y) ≡ false)
+    at = position-Some (is_of w) xs i y e
+
+    there : may_hold (set xs i y) o m v ≡ recalls y o m
+    there = ap (told o m) (find_written (is_of v) xs i y y at.0 (eq-eqb y.owner v h) (λ n l. none_passes (is_of v) xs y f n (omega (arith, l, at.0))))
+
+    beside : nat_eq w u ≡ false → nat_eq v u ≡ false → may_hold (set xs i y) o m u ≡ true
+    beside n t = ap (told o m) (find_past (is_of u) xs i y y (apart_from w u (get_or xs i y).owner (eqb-true (get_or xs i y).owner w at.1) n) (apart_from v u y.owner h t)) ∙ old
+
+    by_other : nat_eq w u ≡ false → (t : Bool) → nat_eq v u ≡ t → may_hold (set xs i y) o m u ≡ true
+    by_other n true t = absurd (false≢true (sym (may_none v xs o m f) ∙ subst (λ (q : ℕ). may_hold xs o m q ≡ true) (sym (eqb-true v u t)) old))
+    by_other n false t = beside n t
+
+    by_test : (t : Bool) → nat_eq w u ≡ t → may_hold (set xs i y) o m (cond t v u) ≡ true
+    by_test true t = there ∙ k o m ∙ ap (λ (z : Recall). recalls z o m) r ∙ sym (may_first w xs i x o m e) ∙ subst (λ (q : ℕ). may_hold xs o m q ≡ true) (sym (eqb-true w u t)) old
+    by_test false t = by_other t (nat_eq v u) refl
+
 -- all but one lock is remembered as before
 pub but_one : (w : ℕ) (xs : List Recall) (i : ℕ) (x y : Recall) (same : ℕ → Mode → Bool) → position (is_of w) xs ≡ Some i → x ≡ get_or xs i x → y.owner ≡ w → ((o : ℕ) (m : Mode) → same o m ≡ false → recalls y o m ≡ recalls x o m) → (o : ℕ) (m : Mode) (v : ℕ) → (nat_eq w v ≡ true → same o m ≡ false) → may_hold (set xs i y) o m v ≡ may_hold xs o m v
 but_one w xs i x y same e r h k o m v = by_owner (λ (u : ℕ). (nat_eq w u ≡ true → same o m ≡ false) → may_hold (set xs i y) o m u ≡ may_hold xs o m u) w v

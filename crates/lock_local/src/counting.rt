@@ -37,7 +37,7 @@ pub fn count_up(
             lock.count_up(owner)?;
         }
         Err(at) => {
-            let lock = LocalLock::new(alloc, object, mode, owner)?;
+            let lock = LocalLock::new(alloc, object, mode, owner);
             locks.reserve(1)?;
             shared.grant(object, mode, session)?;
             put_in(locks, at, lock);

@@ -1,10 +1,12 @@
 //! A lock that the session holds.
-ghost use Rattle.std.specs.Prelude.{◌≡◌, ◌==◌, ◌<◌, ◌≤◌, ◌+◌, ◌^◌, not, filter, position, sum_by, All, vec_len, vec_capacity, IsOk, IfOk, OnOk, OnErr};
+ghost use Rattle.std.specs.Prelude.{◌≡◌, ◌==◌, ◌<◌, ◌≤◌, ◌+◌, ◌^◌, not, filter, position, sum_by, All, IsOk, OnOk, OnErr};
+ghost use Rattle.smallvec.specs.SmallVec.{HasRoomFor};
 ghost use Rattle.lock_shared.specs.Holdings.{same_lock};
 ghost use Rattle.lock_local.specs.Locks.{count_if, owner_count, lock_total, is_lock, has_owner, comes_before};
 ghost use Rattle.lock_local.specs.Changes.{added, lowered, new_lock, counted_up, counted_down, without, passed_lock};
 
 use pgs_step::Mode;
+use smallvec::SmallVec;
 use std::alloc::{AllocError, Global};
 use std::marker::Model;
 
@@ -12,18 +14,24 @@ use std::marker::Model;
 ///
 /// The owner stands as its number, which no other owner of the session ever has, while its slot is used
 /// again.
-#[derive(Clone, Copy, Debug)]
+#[derive(Clone, Copy, Debug, Default)]
 pub struct OwnerCount {
     pub owner: u64,
     pub count: u64,
 }
+
+/// How many owners a lock keeps in itself; more take memory. Nearly every lock has one, or for a while two.
+const OWNERS_INSIDE: usize = 2;
+
+/// The owners of a lock, with their counts.
+type Owners = SmallVec<OwnerCount, OWNERS_INSIDE>;
 
 /// A lock that the session holds, with its owners: PostgreSQL's `LOCALLOCK`.
 #[derive(Drop)]
 pub struct LocalLock {
     object: u32,
     mode: Mode,
-    owners: Vec<OwnerCount>,
+    owners: Owners,
 }
 
 impl Model for LocalLock {
@@ -38,18 +46,22 @@ impl Model for LocalLock {
 }
 
 impl LocalLock {
-    /// A lock that one owner holds once.
-    pub fn new(alloc: Global, object: u32, mode: Mode, owner: u64) -> Result<LocalLock, AllocError>
-        ensures { IfOk result (λ lock. lock ≡ new_lock object mode owner) }
+    /// A lock that one owner holds once. It takes no memory.
+    #[inline]
+    pub fn new(alloc: Global, object: u32, mode: Mode, owner: u64) -> LocalLock
+        ensures { result ≡ new_lock object mode owner }
     {
-        Ok(LocalLock {
+        let mut owners = SmallVec::new(alloc);
+        owners.push_reserved(OwnerCount { owner, count: 1 });
+        LocalLock {
             object,
             mode,
-            owners: vec![in alloc; OwnerCount { owner, count: 1 }]?,
-        })
+            owners,
+        }
     }
 
     /// The object that is locked.
+    #[inline]
     pub fn object(&self) -> u32
         ensures { result ≡ self.now.object }
     {
@@ -57,6 +69,7 @@ impl LocalLock {
     }
 
     /// The mode in which it is locked.
+    #[inline]
     pub fn mode(&self) -> Mode
         ensures { result ≡ self.now.mode }
     {
@@ -64,6 +77,7 @@ impl LocalLock {
     }
 
     /// Whether it is the lock on that object in that mode.
+    #[inline]
     pub fn is(&self, object: u32, mode: Mode) -> bool
         ensures { result ≡ is_lock object mode self.now }
     {
@@ -71,6 +85,7 @@ impl LocalLock {
     }
 
     /// Whether it comes before the lock on that object in that mode.
+    #[inline]
     pub fn comes_before(&self, object: u32, mode: Mode) -> bool
         ensures { result ≡ comes_before self.now.object self.now.mode object mode }
     {
@@ -78,6 +93,7 @@ impl LocalLock {
     }
 
     /// Whether some owner holds it.
+    #[inline]
     pub fn has_owner(&self) -> bool
         ensures { result ≡ has_owner self.now }
     {
@@ -117,6 +133,7 @@ impl LocalLock {
     }
 
     /// The owner holds it no more. The result is how often it did.
+    #[inline]
     pub fn give_up(&mut self, owner: u64) -> u64
         ensures count { result ≡ owner_count owner self.old }
         ensures after { self.new ≡ without owner self.old }
@@ -127,6 +144,7 @@ impl LocalLock {
     }
 
     /// What the owner `from` holds of it goes to the owner `to`. The result is how often that was.
+    #[inline]
     pub fn pass(&mut self, from: u64, to: u64) -> u64
         ensures count { result ≡ owner_count from self.old }
         ensures after { self.new ≡ passed_lock from to self.old }
@@ -169,11 +187,11 @@ fn place_of(owners: &[OwnerCount], owner: u64) -> Option<usize>
 }
 
 /// Raises the owner's count. Where there is room it takes no memory and doesn't fail.
-fn add(owners: &mut Vec<OwnerCount>, owner: u64, count: u64) -> Result<(), AllocError>
+fn add(owners: &mut Owners, owner: u64, count: u64) -> Result<(), AllocError>
     requires { sum_by (λ c. c.count) owners.old.items + count ≤ 2 ^ 62 }
     ensures ok { OnOk result (owners.new.items ≡ added owner count owners.old.items) }
     ensures err { OnErr result (owners.new.items ≡ owners.old.items) }
-    ensures room { vec_len owners.old < vec_capacity owners.old → IsOk result }
+    ensures room { HasRoomFor owners.old 1 → IsOk result }
 {
     match place_of(owners.as_slice(), owner) {
         Some(at) => owners[at].count += count,
@@ -183,7 +201,7 @@ fn add(owners: &mut Vec<OwnerCount>, owner: u64, count: u64) -> Result<(), Alloc
 }
 
 /// Lowers the owner's count by one, and takes a count of 1 off.
-fn lower(owners: &mut Vec<OwnerCount>, owner: u64)
+fn lower(owners: &mut Owners, owner: u64)
     requires counted { All (λ c. 1 ≤ c.count) owners.old.items }
     requires held { 0 < sum_by (count_if owner) owners.old.items }
     ensures { owners.new.items ≡ lowered owner owners.old.items }
@@ -198,20 +216,24 @@ fn lower(owners: &mut Vec<OwnerCount>, owner: u64)
 }
 
 /// Takes the count of `from` off and adds it to that of `to`. It takes no memory, since one entry goes.
-fn hand_over(owners: &mut Vec<OwnerCount>, from: u64, to: u64, count: u64)
+#[inline]
+fn hand_over(owners: &mut Owners, from: u64, to: u64, count: u64)
     requires fits { sum_by (λ c. c.count) owners.old.items ≤ 2 ^ 62 }
     requires count { count ≡ sum_by (count_if from) owners.old.items }
     requires held { 0 < count }
     ensures { owners.new.items ≡ added to count (filter (λ c. not (c.owner == from)) owners.old.items) }
 {
+    // It tells the proof that the owners fit in their room.
+    let _fits = owners.len();
     take_off(owners, from);
     let _ = add(owners, to, count);
 }
 
-/// Takes the owner's count off.
-fn take_off(owners: &mut Vec<OwnerCount>, owner: u64)
+/// Takes the owner's count off, and keeps the room.
+#[inline]
+fn take_off(owners: &mut Owners, owner: u64)
     ensures items { owners.new.items ≡ filter (λ c. not (c.owner == owner)) owners.old.items }
-    ensures capacity { vec_capacity owners.new ≡ vec_capacity owners.old }
+    ensures capacity { owners.new.capacity ≡ owners.old.capacity }
 {
     owners.retain(|each| each.owner != owner);
 }

@@ -82,6 +82,7 @@ impl OwnerLocks {
     }
 
     /// The owner's number.
+    #[inline]
     pub fn owner(&self) -> u64
         ensures { result ≡ self.now.owner }
     {
@@ -161,7 +162,17 @@ impl OwnerLocks {
         }
     }
 
+    /// The same locks are remembered for another owner from now on.
+    #[inline]
+    fn set_owner(&mut self, owner: u64)
+        ensures owner { self.new.owner ≡ owner }
+        ensures recalls { (o : ℕ) (m : Mode) → recalls self.new o m ≡ recalls self.old o m }
+    {
+        self.owner = owner;
+    }
+
     /// The same locks are remembered for another owner.
+    #[inline]
     fn renamed(self, owner: u64) -> OwnerLocks
         ensures owner { result.owner ≡ owner }
         ensures recalls { (o : ℕ) (m : Mode) → recalls result o m ≡ recalls self o m }
@@ -199,6 +210,7 @@ fn place_of_tag(tags: &[LockTag], object: u32, mode: Mode) -> Option<usize>
 }
 
 /// Where the owner stands.
+#[inline]
 fn place_of(recalled: &[OwnerLocks], owner: u64) -> Option<usize>
     ensures { result ≡ position (λ recall. recall.owner == owner) recalled.now }
 {
@@ -257,7 +269,18 @@ pub fn take_out(recalled: &mut Vec<OwnerLocks>, owner: u64) -> Option<OwnerLocks
 }
 
 /// What is remembered of one owner's locks is remembered for another one. It takes no memory.
+#[inline]
 pub fn hand_on(recalled: &mut Vec<OwnerLocks>, from: u64, to: u64)
+    ensures kept { (o : ℕ) (m : Mode) (w : ℕ) → IsTrue (may_hold recalled.old.items o m w) → IsTrue (may_hold recalled.new.items o m (if from == w then to else w)) }
+{
+    match place_of(recalled.as_slice(), to) {
+        Some(_) => join(recalled, from, to),
+        None => rename(recalled, from, to),
+    }
+}
+
+/// The same where something may be remembered for the other one.
+fn join(recalled: &mut Vec<OwnerLocks>, from: u64, to: u64)
     ensures kept { (o : ℕ) (m : Mode) (w : ℕ) → IsTrue (may_hold recalled.old.items o m w) → IsTrue (may_hold recalled.new.items o m (if from == w then to else w)) }
 {
     if let Some(recall) = take_out(recalled, from) {
@@ -265,7 +288,20 @@ pub fn hand_on(recalled: &mut Vec<OwnerLocks>, from: u64, to: u64)
     }
 }
 
+/// The same where nothing is: it stays at its place.
+#[inline]
+fn rename(recalled: &mut Vec<OwnerLocks>, from: u64, to: u64)
+    requires none { position (λ recall. recall.owner == to) recalled.old.items ≡ None }
+    ensures kept { (o : ℕ) (m : Mode) (w : ℕ) → IsTrue (may_hold recalled.old.items o m w) → IsTrue (may_hold recalled.new.items o m (if from == w then to else w)) }
+{
+    if let Some(at) = place_of(recalled.as_slice(), from) {
+        let recall = &mut recalled[at];
+        recall.set_owner(to);
+    }
+}
+
 /// Remembers the locks of an owner besides what is remembered for it, where there is room for another owner.
+#[inline]
 fn put_back(recalled: &mut Vec<OwnerLocks>, recall: OwnerLocks)
     requires room { vec_len recalled.old < vec_capacity recalled.old }
     ensures taken { (o : ℕ) (m : Mode) → IsTrue (recalls recall o m) → IsTrue (may_hold recalled.new.items o m recall.owner) }

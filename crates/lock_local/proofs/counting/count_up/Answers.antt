@@ -10,7 +10,7 @@ new : (c : goal.After-put_in) → c.put_in.new.locks.items ≡ insert c.args.loc
 new c =
     let a = c.put_in.ensures in
     let b = c.in_ok-reserve-in-Err.ensures.items in
-    let d = c.in_ok-lock-in-Err.ensures in
+    let d = c.new-lock.ensures in
     cc (a, b, d)
 
 missing : (c : goal.After-put_in) → WouldStandAt c.args.object c.args.mode c.args.locks.now.items c.in-Err.at no_lock

@@ -9,6 +9,6 @@ add-requires c = handed_fits c.args.from _ _ _ c.requires.fits c.requires.count 
 pub returns : goal.returns
 returns c =
     at_success c.add.result
-    (c.add.ensures.room (room_left c.args.from _ _ _ _ _ _ c.args.owners.now.ok.0 c.args.owners.now.ok.1 c.take_off.new.owners.ok.0 c.take_off.ensures.capacity c.take_off.ensures.items (omega (arith, c.requires.count, c.requires.held))))
+    (c.add.ensures.room (room_left c.args.from _ _ _ _ _ c.len-fits.ensures.value c.len-fits.ensures.fits c.take_off.ensures.capacity c.take_off.ensures.items (omega (arith, c.requires.count, c.requires.held))))
     c.add.ensures.ok
     ∙ ap (added c.args.to c.args.count) c.take_off.ensures.items
