@@ -87,7 +87,7 @@ impl Resources {
     /// Makes an owner below another one, or without a parent: PostgreSQL's `ResourceOwnerCreate`.
     ///
     /// `TooMany` comes where as many owners live as can, `Memory` where memory is refused.
-    #[inline]
+    #[inline(always)]
     pub fn make_owner<E: Emit>(
         &mut self,
         parent: Option<OwnerId>,
