@@ -7,12 +7,10 @@ use Rattle.alloc_set.specs.Ledger.{class_size, class_bytes, chunk_limit}
 use Rattle.alloc_set.specs.State.{SetState, chunk_at, region_of, start_of, capacity_of}
 use Rattle.alloc_set.specs.declared.chunk.Chunk.{Chunk}
 use Rattle.alloc_set.specs.declared.chunk.Chunk.TheVariants.{Live, Free, Own}
-use Rattle.alloc_set.specs.declared.chunk.Shelf.{Shelf}
+use Rattle.free_list.specs.declared.shelves.Shelf.{Shelf}
+use Rattle.free_list.specs.Shelves.{no_shelf}
 use Rattle.alloc_set.specs.declared.books.Books.{Books}
 use Rattle.alloc_set.specs.Listed.{IsUnique}
-
-abbrev pub no_shelf : Shelf
-no_shelf = record { first = None; count = 0 }
 
 -- the books of a new context whose first block is in a region, with the maps of others
 abbrev pub new_books : ℕ → ℕ → Sizes → ℕ → Books → Books

@@ -13,7 +13,7 @@ ghost use Rattle.alloc_set.specs.Listed.{IsUnique};
 ghost use Rattle.alloc_set.specs.State.{start_of, chunk_at, place_at, region_of, mark_of, footprint};
 ghost use Rattle.addr_space.specs.Space.{Space, held, accounts, Asks};
 
-use crate::chunk::{Chunk, Shelf};
+use crate::chunk::Chunk;
 use crate::chunks::{Chunks, put};
 use crate::classes::{chunk_limit, class_of, class_size};
 use crate::linking::{link_bytes, next_at};
@@ -22,10 +22,9 @@ use chunk_header::{
     BLOCK_HEADER, CHUNK_HEADER, CONTEXT_BYTES, CtxError, Header, Kind, LARGEST, Sizes, Stats,
     block_header, grown, up8,
 };
-use free_list::FreeList;
+use free_list::{FreeList, Shelf, Shelves};
 use indexmap::IndexMap;
 use std::alloc::Global;
-use std::mem;
 
 /// The block that chunks are cut off.
 #[derive(Clone, Copy)]
@@ -51,7 +50,7 @@ pub struct Books {
     // The size of each other region.
     pub blocks: IndexMap<u32, u32>,
     pub chunks: Chunks,
-    pub shelves: [Shelf; 11],
+    pub shelves: Shelves,
     // The bytes of all blocks, and how many they are.
     pub total: u64,
     pub count: u64,
@@ -90,38 +89,47 @@ impl Books {
     ghost use Rattle.alloc_set.specs.Live.{LeavesLive};
     ghost use Rattle.alloc_set.specs.Cut.{CutsUp, Renews, Allocates};
 
-    // The books of a new context, as if its first block were the region 0.
+    // Books that tell nothing yet.
     #[inline]
-    fn unplaced(blocks: IndexMap<u32, u32>, account: u8, context: u32, sizes: Sizes) -> Books
-        requires none { blocks.entries ≡ [] }
-        requires least { 1024 ≤ sizes.init }
-        requires order { sizes.init ≤ sizes.max }
-        ensures blocks { result.blocks.entries ≡ [] }
-        ensures chunks { result.chunks.entries ≡ [] }
-        ensures rest { result ≡ new_books account context sizes 0 result }
-    {
+    fn blank(alloc: Global, sizes: Sizes) -> Books {
         Books {
-            account,
-            context,
+            account: 0,
+            context: 0,
             sizes,
-            limit: chunk_limit(sizes.max),
-            next: sizes.init,
+            limit: 0,
+            next: 0,
             keeper: 0,
             active: Block {
                 region: 0,
-                size: sizes.init,
-                room: sizes.init - KEEPER_HEADERS,
+                size: 0,
+                room: 0,
             },
-            blocks,
+            blocks: IndexMap::new(alloc),
             chunks: Chunks::none(),
-            shelves: [Shelf {
-                first: None,
-                count: 0,
-            }; 11],
-            total: u64::from(sizes.init),
-            count: 1,
+            shelves: Shelves::none(),
+            total: 0,
+            count: 0,
             idle: 0,
         }
+    }
+
+    // Makes them the books of a new context, as if its first block were the region 0.
+    #[inline]
+    fn begin(&mut self, account: u8, context: u32, sizes: Sizes)
+        requires { (1024 ≤ sizes.init) × (sizes.init ≤ sizes.max) }
+        ensures blocks { self.new.blocks.entries ≡ [] }
+        ensures chunks { self.new.chunks.entries ≡ [] }
+        ensures rest { self.new ≡ new_books account context sizes 0 self.new }
+    {
+        self.account = account;
+        self.context = context;
+        self.sizes = sizes;
+        self.limit = chunk_limit(sizes.max);
+        self.keeper = 0;
+        self.blocks.clear();
+        self.total = u64::from(sizes.init);
+        self.count = 1;
+        self.clear();
     }
 
     // The same in a box, which is one that a context left where there is one.
@@ -139,12 +147,11 @@ impl Books {
         ensures rest { IfSome result (λ b. b.value ≡ new_books account context sizes 0 b.value) }
     {
         let Some(mut books) = boxes.next() else {
-            let books = Books::unplaced(IndexMap::new(alloc), account, context, sizes);
+            let mut books = Books::blank(alloc, sizes);
+            books.begin(account, context, sizes);
             return Box::new(alloc, books).ok();
         };
-        books.blocks.clear();
-        let blocks = mem::replace(&mut books.blocks, IndexMap::new(alloc));
-        *books = Books::unplaced(blocks, account, context, sizes);
+        books.begin(account, context, sizes);
         Some(books)
     }
 
@@ -260,7 +267,7 @@ impl Books {
         let mut free = u64::from(self.active.room) + self.idle;
         let mut chunks = 0;
         for class in 0..11u8 {
-            let count = self.shelves[class as usize].count;
+            let count = self.shelves.at(class).count;
             free += count * (u64::from(class_size(class)) + 8);
             chunks += count;
         }
@@ -423,14 +430,15 @@ impl Books {
         ensures moves { OnSome result (Moves (footprint (state_of self.old)) (footprint (state_of self.new)) space.now space.now) }
         ensures rest { self.new ≡ record self.old { chunks = self.new.chunks; shelves = self.new.shelves } }
     {
-        let shelf = self.shelves[class as usize];
+        let shelf = self.shelves.at(class);
         let Some(at) = shelf.first else {
             return None;
         };
-        self.shelves[class as usize] = Shelf {
+        let rest = Shelf {
             first: next_at(space, at),
             count: shelf.count - 1,
         };
+        self.shelves.set(class, rest);
         put(&mut self.chunks, at, Chunk::Live { class, size });
         Some(at)
     }
@@ -454,14 +462,15 @@ impl Books {
         ensures rest { self.new ≡ record self.old { chunks = self.new.chunks; shelves = self.new.shelves } }
         ensures asked { space.new.taken ≡ space.old.taken }
     {
-        let shelf = self.shelves[class as usize];
+        let shelf = self.shelves.at(class);
         let next = shelf.first;
         space.write(at, &link_bytes(next));
         put(&mut self.chunks, at, Chunk::Free { class, next });
-        self.shelves[class as usize] = Shelf {
+        let more = Shelf {
             first: Some(at),
             count: shelf.count + 1,
         };
+        self.shelves.set(class, more);
     }
 
     // Serves a request by a chunk of a class.

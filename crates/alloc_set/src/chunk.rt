@@ -11,10 +11,3 @@ pub enum Chunk {
     /// A live chunk that has its block for itself, and the bytes that it may have there.
     Own { size: u32, room: u32 },
 }
-
-/// The free chunks of a class: the first one, which names the next, and how many there are.
-#[derive(Clone, Copy)]
-pub struct Shelf {
-    pub first: Option<Addr>,
-    pub count: u64,
-}

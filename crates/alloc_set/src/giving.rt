@@ -10,7 +10,7 @@ ghost use Rattle.alloc_set.specs.State.{chunk_at, place_at, region_of, emptied, 
 ghost use Rattle.addr_space.specs.Space.{Space};
 
 use crate::books::{Block, Books, KEEPER_HEADERS, OWN_HEADERS};
-use crate::chunk::{Chunk, Shelf};
+use crate::chunk::Chunk;
 use crate::chunks::{Chunks, forget};
 use addr_space::{Addr, Space};
 use chunk_header::header_at;
@@ -134,12 +134,13 @@ impl Books {
     }
 
     // Takes all chunks off the books, and makes the keeper, with its whole room, the active block.
-    fn clear(&mut self)
-        requires kept { IsKept self.old }
-        ensures kept { IsKept self.new }
+    #[inline]
+    pub fn clear(&mut self)
+        requires least { 1024 ≤ self.old.sizes.init }
+        ensures kept { IsKept self.old → IsKept self.new }
         ensures cleared { IsCleared self.new }
         ensures rest { self.new ≡ record self.old { next = self.new.next; active = self.new.active; chunks = self.new.chunks; shelves = self.new.shelves; idle = self.new.idle } }
-        ensures moves { (sp : Space) → Agrees (footprint (state_of self.old)) sp → Moves (footprint (state_of self.old)) (footprint (state_of self.new)) sp sp }
+        ensures moves { IsKept self.old → (sp : Space) → Agrees (footprint (state_of self.old)) sp → Moves (footprint (state_of self.old)) (footprint (state_of self.new)) sp sp }
     {
         self.next = self.sizes.init;
         self.active = Block {
@@ -148,10 +149,7 @@ impl Books {
             room: self.sizes.init - KEEPER_HEADERS,
         };
         self.chunks = Chunks::none();
-        self.shelves = [Shelf {
-            first: None,
-            count: 0,
-        }; 11];
+        self.shelves.clear();
         self.idle = 0;
     }
 

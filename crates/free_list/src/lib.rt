@@ -1,8 +1,11 @@
-//! Boxes that are kept for the next that are needed.
+//! What is kept for the next that need it: the boxes of contexts, and the free chunks of one by class.
 #![tactic(auto)]
 
 ghost use Rattle.std.specs.Prelude.{◌≡◌, ◌⊎◌, ◌≤◌, ◌++◌, [], ◌∷◌, length, option_to_list, IsSome, IsNone, ◌↔◌};
 
+mod shelves;
+
+pub use shelves::{Shelf, Shelves};
 use std::alloc::Global;
 use std::marker::Model;
 

@@ -1,7 +1,7 @@
-use Rattle.std.proofs.Common.{◌-◌, None, replicate, sum_by, refl, ap, arith, rules, inr}
+use Rattle.std.proofs.Common.{◌-◌, None, sum_by, refl, ap, subst, sym, arith, rules, inr}
 use Rattle.std.specs.Map.{values_of}
 use Rattle.addr_space.specs.declared.Addr.{Addr}
-use Rattle.alloc_set.specs.Kept.{state_of, no_shelf, taken_bytes}
+use Rattle.alloc_set.specs.Kept.{state_of, taken_bytes, IsKept, IsSettled, IsShelved}
 use Rattle.alloc_set.specs.declared.books.Books.{Books}
 use Rattle.alloc_set.proofs.Altered.{old_or_fresh, Moves-altered}
 use Rattle.alloc_set.proofs.Empty.{no_chunk, IsShelved-none, IsSettled-empty}
@@ -11,37 +11,35 @@ use Rattle.alloc_set.proofs.books.Books.clear.Goals as goal
 pub returns : goal.returns
 returns c =
     let b = c.args.self.now in
-    let n : Books = record b { next = b.sizes.init; active = record { region = b.keeper; size = b.sizes.init; room = b.sizes.init - 240 }; chunks = c.none.result; shelves = replicate 11 no_shelf; idle = 0 } in
+    let n : Books = record b { next = b.sizes.init; active = record { region = b.keeper; size = b.sizes.init; room = b.sizes.init - 240 }; chunks = c.none.result; shelves = c.clear.new.self; idle = 0 } in
     let s = state_of b in
     let t = state_of n in
-    let was = c.requires.kept.counted in
-    let settled = c.requires.kept.settled in
-    let now = IsSettled-empty t c.none.ensures (omega (arith, was.sizes.0)) settled.small in
+    let settled_now : IsKept b → IsSettled t b.keeper b.sizes.init = λ kept. IsSettled-empty t c.none.ensures (omega (arith, c.requires)) kept.settled.small in
     let nowhere : Addr = record { region = 0; offset = 0 } in
     record {
-      kept = record {
+      kept = λ kept. record {
         counted = record {
-          sizes = was.sizes;
-          next = (was.sizes.0, was.sizes.1, was.sizes.3);
-          limit = was.limit;
-          filled = omega (arith, was.sizes.0);
-          keeper = was.keeper;
-          total = was.total;
-          most = was.most;
-          blocks = was.blocks;
-          rooms = omega (arith, was.sizes.0, was.total, ap (λ e. sum_by taken_bytes (values_of e)) c.none.ensures);
+          sizes = kept.counted.sizes;
+          next = (kept.counted.sizes.0, kept.counted.sizes.1, kept.counted.sizes.3);
+          limit = kept.counted.limit;
+          filled = omega (arith, kept.counted.sizes.0);
+          keeper = kept.counted.keeper;
+          total = kept.counted.total;
+          most = kept.counted.most;
+          blocks = kept.counted.blocks;
+          rooms = omega (arith, kept.counted.sizes.0, kept.counted.total, ap (λ e. sum_by taken_bytes (values_of e)) c.none.ensures);
         };
-        settled = now;
-        shelved = IsShelved-none t c.none.ensures;
+        settled = settled_now kept;
+        shelved = subst (IsShelved t) (sym c.clear.ensures) (IsShelved-none t c.none.ensures);
       };
       cleared = search rules;
       rest = refl;
-      moves = Moves-altered s t (λ _. ⊥) nowhere None b.active.region b.active.size settled (record {
+      moves = λ kept. Moves-altered s t (λ _. ⊥) nowhere None b.active.region b.active.size kept.settled (record {
         account = refl;
         context = refl;
         keeper = refl;
         is_fresh = λ number. inr (λ new. new);
         regions = λ number stays. refl;
         found = λ other chunk found. let none = no_chunk t c.none.ensures other in absurd (cc);
-      }) (IsSound-settled t b.keeper b.sizes.init now) refl (λ number. refl) (λ at bytes new. old_or_fresh s t (λ _. ⊥) nowhere at bytes new (λ len fresh. absurd fresh));
+      }) (IsSound-settled t b.keeper b.sizes.init (settled_now kept)) refl (λ number. refl) (λ at bytes new. old_or_fresh s t (λ _. ⊥) nowhere at bytes new (λ len fresh. absurd fresh));
     }

@@ -26,4 +26,4 @@ returns-clause-moves c =
     let b = c.args.self.now in
     let m = c.clear.new.self in
     let n = c.give_blocks.new.self in
-    Moves-more (footprint (state_of b)) (footprint (state_of m)) (footprint (state_of n)) c.args.space.now c.args.space.now c.give_blocks.new.space (c.clear.ensures.moves c.args.space.now c.requires.agrees) c.give_blocks.ensures.moves
+    Moves-more (footprint (state_of b)) (footprint (state_of m)) (footprint (state_of n)) c.args.space.now c.args.space.now c.give_blocks.new.space (c.clear.ensures.moves c.requires.kept c.args.space.now c.requires.agrees) c.give_blocks.ensures.moves

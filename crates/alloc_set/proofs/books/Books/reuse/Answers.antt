@@ -1,14 +1,14 @@
-use Rattle.std.proofs.Common.{◌≡◌, ℕ, suc, ◌-◌, ◌<◌, ap, ◌∙◌, sym, refl, arith, rules, Option, Some, set, option_and_then}
+use Rattle.std.proofs.Common.{◌≡◌, ℕ, suc, ◌-◌, ◌<◌, ap, ◌∙◌, sym, refl, arith, rules, Option, Some, map, set, subst, option_and_then}
 use Rattle.std.proofs.lemmas.List.{map-set}
 use Rattle.addr_space.specs.declared.Addr.{Addr}
 use Rattle.addr_space.specs.Space.{HasBytes}
 use Rattle.alloc_set.specs.Ledger.{reused}
 use Rattle.alloc_set.specs.Links.{IsLinkable}
 use Rattle.alloc_set.specs.State.{chunk_at, link_bytes, live_size}
-use Rattle.alloc_set.specs.Kept.{state_of, shelf_at, is_free, taken_bytes}
+use Rattle.alloc_set.specs.Kept.{state_of, shelf_at, is_free, taken_bytes, IsShelved}
 use Rattle.alloc_set.specs.declared.books.Books.{Books}
 use Rattle.alloc_set.specs.declared.chunk.Chunk.{Chunk}
-use Rattle.alloc_set.specs.declared.chunk.Shelf.{Shelf}
+use Rattle.free_list.specs.declared.shelves.Shelf.{Shelf}
 use Rattle.alloc_set.specs.declared.chunk.Chunk.TheVariants.{Live, Free}
 use Rattle.alloc_set.proofs.Settled.{mark_from_link}
 use Rattle.alloc_set.proofs.Counted.{IsCounted-chunks, SameBlocks-chunks}
@@ -23,7 +23,7 @@ returns-in_default-clause-empty c =
     let b = c.args.self.now in
     let below : c.args.class < 11 = omega (arith, c.requires.class) in
     let shelf = shelf_at b.shelves c.args.class in
-    count_is b c.args.class c.requires.kept below ∙ chain_empty (chunk_at (state_of b)) c.args.class shelf.count shelf.first (c.requires.kept.shelved.chain c.args.class below) c.in_default.is
+    count_is b c.args.class c.requires.kept below ∙ chain_empty (chunk_at (state_of b)) c.args.class shelf.count shelf.first (c.requires.kept.shelved.chain c.args.class below) (ap (λ (s : Shelf). s.first) (sym c.at-shelf.ensures) ∙ c.in_default.is)
 
 -- the first chunk of a shelf is free, and the space has its link
 first : (c : In-Some) → (next : Option Addr) × (chunk_at (state_of c.args.self.now) c.in-Some.at ≡ Some (Free c.args.class next)) × ((shelf_at c.args.self.now.shelves c.args.class).count ≡ suc ((shelf_at c.args.self.now.shelves c.args.class).count - 1))
@@ -33,7 +33,7 @@ first c =
     let kept = c.requires.kept in
     let at = c.in-Some.at in
     let shelf = shelf_at b.shelves c.args.class in
-    let it = chain_head (chunk_at (state_of b)) c.args.class shelf.count shelf.first at (kept.shelved.chain c.args.class (omega (arith, c.requires.class))) c.in-Some.is in (
+    let it = chain_head (chunk_at (state_of b)) c.args.class shelf.count shelf.first at (kept.shelved.chain c.args.class (omega (arith, c.requires.class))) (ap (λ (s : Shelf). s.first) (sym c.at-shelf.ensures) ∙ c.in-Some.is) in (
       it.0,
       it.2,
       omega (arith, it.3),
@@ -52,9 +52,10 @@ returns c =
     let kept = c.requires.kept in
     let class : ℕ = c.args.class in
     let below : class < 11 = omega (arith, c.requires.class) in
-    let shelf = shelf_at b.shelves class in
+    let shelf = c.at-shelf.result in
+    let is : shelf ≡ shelf_at b.shelves class = c.at-shelf.ensures in
     let new : Shelf = record { first = c.next_at.result; count = shelf.count - 1 } in
-    let n : Books = record b { chunks = c.put.new.chunks; shelves = set b.shelves class new } in
+    let n : Books = record b { chunks = c.put.new.chunks; shelves = c.set.new.self } in
     let old : Chunk = Free class c.next_at.result in
     let now : Chunk = Live class c.args.size in
     let it = first (goal.at.returns c).In-Some in
@@ -68,10 +69,10 @@ returns c =
       kept = record {
         counted = IsCounted-chunks b n refl kept.counted kept.counted.filled (let sums = rw was at (c.put.ensures.sums taken_bytes) in omega (arith, kept.counted.rooms, sums));
         settled = IsSettled-flipped (state_of b) (state_of n) b.active.region b.active.size at old now kept.settled same refl was c.put.ensures.at refl (c.requires.class, c.requires.size) tt (λ dist. refl);
-        shelved = IsShelved-popped (state_of b) (state_of n) b.shelves at (Some now) kept.shelved c.put.ensures.at c.put.ensures.unique class c.next_at.result (shelf.count - 1) below c.in-Some.is was it.2
-            (λ k under. let sums = rw was at (c.put.ensures.sums (is_free k)) in omega (arith, sums));
+        shelved = subst (IsShelved (state_of n)) (sym c.set.ensures) (IsShelved-popped (state_of b) (state_of n) b.shelves at (Some now) kept.shelved c.put.ensures.at c.put.ensures.unique class c.next_at.result (shelf.count - 1) below (ap (λ (s : Shelf). s.first) (sym is) ∙ c.in-Some.is) was (omega (arith, it.2, ap (λ (s : Shelf). s.count) is))
+            (λ k under. let sums = rw was at (c.put.ensures.sums (is_free k)) in omega (arith, sums)));
       };
-      ledger = ap (λ f. record (state_of b).ledger { free = f }) (map-set (λ (s : Shelf). s.count) b.shelves class new ∙ ap (λ x. set (state_of b).ledger.free class (x - 1)) (sym (count_is b class kept below)));
+      ledger = ap (λ f. record (state_of b).ledger { free = f }) (ap (map (λ (s : Shelf). s.count)) c.set.ensures ∙ map-set (λ (s : Shelf). s.count) b.shelves class new ∙ ap (λ x. set (state_of b).ledger.free class (x - 1)) (ap (λ (s : Shelf). s.count) is ∙ sym (count_is b class kept below)));
       fresh = none;
       live = PutsLive-chunk (state_of b) (state_of n) at (Some now) c.put.ensures.at;
       place = place-put (state_of b) (state_of n) at (Some now) c.put.ensures.at;

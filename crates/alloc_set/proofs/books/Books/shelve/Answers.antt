@@ -4,12 +4,12 @@ use Rattle.std.proofs.lemmas.List.{map-set}
 use Rattle.addr_space.specs.Space.{region_at, overwritten, Changes}
 use Rattle.alloc_set.specs.Ledger.{class_size}
 use Rattle.alloc_set.specs.State.{chunk_at, link_bytes}
-use Rattle.alloc_set.specs.Kept.{state_of, taken_bytes, is_free, shelf_at}
+use Rattle.alloc_set.specs.Kept.{state_of, taken_bytes, is_free, shelf_at, IsShelved}
 use Rattle.alloc_set.specs.Steps.{PutsChunk}
 use Rattle.alloc_set.specs.declared.books.Books.{Books}
 use Rattle.alloc_set.specs.declared.chunk.Chunk.{Chunk}
 use Rattle.alloc_set.specs.declared.chunk.Chunk.TheVariants.{Live, Free}
-use Rattle.alloc_set.specs.declared.chunk.Shelf.{Shelf}
+use Rattle.free_list.specs.declared.shelves.Shelf.{Shelf}
 use Rattle.alloc_set.proofs.Altered.{put_cases}
 use Rattle.alloc_set.proofs.Counted.{IsCounted-chunks, SameBlocks-chunks}
 use Rattle.alloc_set.proofs.Flipped.{IsSettled-flipped, Moves-linked, Keeps-linked}
@@ -23,7 +23,7 @@ pub write-requires : goal.write-requires
 write-requires c =
     let placed = c.requires.kept.settled.placed c.args.at (Live c.args.class c.requires.live.0) c.requires.live.1 in
     let has = c.requires.agrees.regions c.args.at.region placed.len placed.owned in
-    let len = ap length c.link_bytes.ensures ∙ length-link_bytes (shelf_at c.args.self.now.shelves c.args.class).first in
+    let len = ap length c.link_bytes.ensures ∙ length-link_bytes c.at-shelf.result.first in
     record { live = rw has.1 refl; end_in_region = rw has.1 (omega (arith, len, has.3, placed.last, class_size-least c.args.class)) }
 
 pub returns : goal.returns
@@ -32,9 +32,10 @@ returns c =
     let at = c.args.at in
     let class : ℕ = c.args.class in
     let size : ℕ = c.requires.live.0 in
-    let shelf = shelf_at b.shelves class in
+    let shelf = c.at-shelf.result in
+    let is : shelf ≡ shelf_at b.shelves class = c.at-shelf.ensures in
     let new : Shelf = record { first = Some at; count = shelf.count + 1 } in
-    let n : Books = record b { chunks = c.put.new.chunks; shelves = set b.shelves class new } in
+    let n : Books = record b { chunks = c.put.new.chunks; shelves = c.set.new.self } in
     let kept = c.requires.kept in
     let was : chunk_at (state_of b) at ≡ Some (Live class size) = c.requires.live.1 in
     let now : Chunk = Free class shelf.first in
@@ -47,9 +48,10 @@ returns c =
       kept = record {
         counted = IsCounted-chunks b n refl kept.counted kept.counted.filled (omega (arith, kept.counted.rooms, sums taken_bytes));
         settled = IsSettled-flipped (state_of b) (state_of n) b.active.region b.active.size at (Live class size) now kept.settled same refl was puts refl sized.0 tt (λ dist. refl);
-        shelved = IsShelved-freed (state_of b) (state_of n) b.shelves at (Some now) kept.shelved puts c.put.ensures.unique class (omega (arith, sized.0)) (taken-live (chunk_at (state_of b) at) class size was) refl (λ k under. omega (arith, sums (is_free k)));
+        shelved = subst (IsShelved (state_of n)) (sym c.set.ensures) (subst (λ (s : Shelf). IsShelved (state_of n) (set b.shelves class (record { first = Some at; count = s.count + 1 }))) (sym is)
+            (IsShelved-freed (state_of b) (state_of n) b.shelves at (Some now) kept.shelved puts c.put.ensures.unique class (omega (arith, sized.0)) (taken-live (chunk_at (state_of b) at) class size was) (ap (λ (s : Shelf). Some (Free class s.first)) is) (λ k under. omega (arith, sums (is_free k)))));
       };
-      ledger = ap (λ f. record (state_of b).ledger { free = f }) (map-set (λ (s : Shelf). s.count) b.shelves class new ∙ ap (λ x. set (map (λ (s : Shelf). s.count) b.shelves) class (x + 1)) (sym (count_is b class kept (omega (arith, sized.0)))));
+      ledger = ap (λ f. record (state_of b).ledger { free = f }) (ap (map (λ (s : Shelf). s.count)) c.set.ensures ∙ map-set (λ (s : Shelf). s.count) b.shelves class new ∙ ap (λ x. set (map (λ (s : Shelf). s.count) b.shelves) class (x + 1)) (ap (λ (s : Shelf). s.count) is ∙ sym (count_is b class kept (omega (arith, sized.0)))));
       live = PutsLive-chunk (state_of b) (state_of n) at (Some now) puts;
       moves = Moves-linked (state_of b) (state_of n) b.active.region b.active.size at (Live class size) now kept.settled same refl was puts refl sized.0 tt (λ dist. refl) size (link_bytes shelf.first) refl refl c.args.space.now c.write.new.self c.requires.agrees wrote;
       keeps = Keeps-linked (state_of b) (state_of n) b.active.region b.active.size at (Live class size) now kept.settled same refl was puts refl sized.0 tt (λ dist. refl) size (link_bytes shelf.first) refl refl c.args.space.now c.write.new.self c.requires.agrees wrote;

@@ -1,9 +1,9 @@
-use Rattle.std.proofs.Common.{◌≡◌, ℕ, ◌+◌, ◌*◌, ◌<◌, List, [], length, refl, ap, ◌∙◌, arith, drop, sum, get_or}
+use Rattle.std.proofs.Common.{◌≡◌, ℕ, ◌+◌, ◌*◌, ◌<◌, List, [], length, refl, sym, ap, ◌∙◌, arith, drop, sum, get_or}
 use Rattle.std.proofs.lemmas.List.{drop_more, drop_all, length-map}
 use Rattle.std.proofs.lemmas.List.Sums.{sum_by-cons}
 use Rattle.alloc_set.specs.Ledger.{class_size, class_bytes, free_bytes, stats}
 use Rattle.alloc_set.specs.Kept.{state_of, IsKept, shelf_at}
-use Rattle.alloc_set.specs.declared.chunk.Shelf.{Shelf}
+use Rattle.free_list.specs.declared.shelves.Shelf.{Shelf}
 use Rattle.alloc_set.specs.declared.books.Books.{Books}
 use Rattle.alloc_set.proofs.Shelved.{count_is, count-few, bytes_of}
 use Rattle.alloc_set.proofs.books.Books.stats.Goals as goal
@@ -21,15 +21,16 @@ loop-class-preserved c =
     let b = c.args.self.now in
     let class = c.loop-class.class in
     let below = c.loop-class-test.true in
-    let count : ℕ = (shelf_at b.shelves class).count in
+    let count : ℕ = c.at-count.result.count in
+    let is : count ≡ (shelf_at b.shelves class).count = ap (λ (s : Shelf). s.count) c.at-count.ensures in
     let size : c.from-in-loop-class.result ≡ class_size class = c.from-in-loop-class.ensures ∙ c.class_size.ensures.value in
     let part : count * (c.from-in-loop-class.result + 8) ≡ class_bytes class * count = ap (λ x. count * (x + 8)) size ∙ omega arith in
-    let both = rw (count_is b class c.requires below) at (from_class (state_of b).ledger.free class (omega (arith, eleven b c.requires, below))) in
+    let both = rw (count_is b class c.requires below ∙ sym is) at (from_class (state_of b).ledger.free class (omega (arith, eleven b c.requires, below))) in
     record {
       free = omega (arith, c.loop-class.invariant.free, both.0, part);
       chunks = omega (arith, c.loop-class.invariant.chunks, both.1);
-      most = omega (arith, c.loop-class.invariant.most, bytes_of b class c.from-in-loop-class.result c.requires below size, c.requires.counted.most);
-      few = omega (arith, c.loop-class.invariant.few, count-few b class c.requires below);
+      most = omega (arith, c.loop-class.invariant.most, rw (← is) at (bytes_of b class c.from-in-loop-class.result c.requires below size), c.requires.counted.most);
+      few = omega (arith, c.loop-class.invariant.few, rw (← is) at (count-few b class c.requires below));
     }
 
 pub returns : goal.returns

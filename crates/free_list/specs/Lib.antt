@@ -1,0 +1,2 @@
+-- What contracts cite: a shelf without chunks.
+pub mod Shelves
