@@ -7,6 +7,3 @@ mod tree;
 
 pub use context_node::own_name;
 pub use tree::ContextTree;
-
-#[cfg(test)]
-mod tests;
