@@ -10,8 +10,9 @@ use any_ctx::CtxKind;
 use chunk_header::CtxError;
 use context_node::own_name;
 use context_rules::TreeError;
-use pgs_step::{Depth, MemoryCounters, What};
+use pgs_step::{Depth, MemoryCounters, Name, What};
 use reset_callbacks::{CountedHook, Shelf};
+use std::alloc::{AllocError, Global};
 use std::test::Fail;
 
 /// A session in a transaction, without hooks.
@@ -80,17 +81,9 @@ fn reported(trial: &mut Trial, context: u64) -> Option<MemoryCounters>
     last_said(trial.events(), context)
 }
 
-#[test]
-fn a_report_has_a_line_for_each_context(rt: HostRuntime) -> Result<(), Fail> {
-    let mut trial = transaction(&rt)?;
-    let w = own_name(b"w");
-    let a = own_name(b"a");
-    trial.create(At::Top, w, CtxKind::Default)?;
-    trial.alloc(At::Named(w), a, 100)?;
-    trial.report();
-    trial.free(&a)?;
-    trial.report();
-    let mut wanted = Vec::new(rt.alloc());
+/// What is said of a context `w` that is made, of a report with a chunk in it, and of one without.
+fn two_reports(alloc: Global, w: Name) -> Result<Vec<What>, AllocError> {
+    let mut wanted = Vec::new(alloc);
     wanted.push(What::Create {
         context: 6,
         name: own_name(b"TopTransactionContext"),
@@ -112,6 +105,20 @@ fn a_report_has_a_line_for_each_context(rt: HostRuntime) -> Result<(), Fail> {
         wanted.push(unused(2, b"ErrorContext"))?;
         wanted.push(What::GrandTotal(counters(81_920, 7, all, chunks)))?;
     }
+    Ok(wanted)
+}
+
+#[test]
+fn a_report_has_a_line_for_each_context(rt: HostRuntime) -> Result<(), Fail> {
+    let mut trial = transaction(&rt)?;
+    let w = own_name(b"w");
+    let a = own_name(b"a");
+    trial.create(At::Top, w, CtxKind::Default)?;
+    trial.alloc(At::Named(w), a, 100)?;
+    trial.report();
+    trial.free(&a)?;
+    trial.report();
+    let wanted = two_reports(rt.alloc(), w)?;
     assert_eq!(rt; trial.events(), wanted.as_slice());
     Ok(())
 }
