@@ -6,6 +6,3 @@ mod steps;
 
 pub use scan::Scan;
 pub use steps::ScanStep;
-
-#[cfg(test)]
-mod tests;

@@ -5,6 +5,3 @@ mod descriptors;
 mod files;
 
 pub use files::{FileError, FileTable, MAX_FILES};
-
-#[cfg(test)]
-mod tests;

@@ -13,6 +13,3 @@ mod preorder;
 pub use arena::LinkedForest;
 pub use id::NodeId;
 pub use preorder::{Preorder, Visit};
-
-#[cfg(test)]
-mod tests;

@@ -14,6 +14,3 @@ pub use errors::LockError;
 pub use local_lock::OwnerCount;
 pub use lock_table::LockTable;
 pub use recalled::MAX_RESOWNER_LOCKS;
-
-#[cfg(test)]
-mod tests;

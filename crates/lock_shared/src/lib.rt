@@ -6,6 +6,3 @@ mod shared_locks;
 
 pub use mode_conflicts::conflicts;
 pub use shared_locks::{Holding, SharedLocks};
-
-#[cfg(test)]
-mod tests;

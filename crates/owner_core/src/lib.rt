@@ -18,6 +18,3 @@ mod table;
 pub use errors::OwnerError;
 pub use owners::{MOST_OWNERS, Owners};
 pub use table::Release;
-
-#[cfg(test)]
-mod tests;

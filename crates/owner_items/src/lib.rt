@@ -10,6 +10,3 @@ mod ranking;
 mod table;
 
 pub use item_list::Items;
-
-#[cfg(test)]
-mod tests;

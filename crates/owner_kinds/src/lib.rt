@@ -10,6 +10,3 @@ pub use counted_kind::CountedKind;
 pub use ext_kind::{ExtKind, KindError};
 pub use kind_row::KindRow;
 pub use kind_shelf::KindShelf;
-
-#[cfg(test)]
-mod tests;

@@ -7,6 +7,3 @@ mod shared;
 
 pub use pins::{PinError, PinTable};
 pub use shared::{BUFFERS, SharedPins};
-
-#[cfg(test)]
-mod tests;

@@ -6,6 +6,3 @@ mod store;
 
 pub use plan::{Plan, PlanError};
 pub use store::{PLANS, PlanStore};
-
-#[cfg(test)]
-mod tests;

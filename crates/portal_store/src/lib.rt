@@ -6,6 +6,3 @@ mod portals;
 
 pub use portal::{Portal, PortalError, PortalState};
 pub use portals::{MAX_PORTALS, Portals};
-
-#[cfg(test)]
-mod tests;

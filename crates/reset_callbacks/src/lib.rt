@@ -10,6 +10,3 @@ pub use counted_hook::CountedHook;
 pub use hook_shelf::Shelf;
 pub use pending_hooks::Pending;
 pub use reset_hook::ResetHook;
-
-#[cfg(test)]
-mod tests;

@@ -9,6 +9,3 @@ mod resources;
 pub use commons::Commons;
 pub use resources::Resources;
 pub use session_tables::PlanContexts;
-
-#[cfg(test)]
-mod tests;

@@ -8,6 +8,3 @@ mod tables;
 
 pub use place::PlanContexts;
 pub use tables::Tables;
-
-#[cfg(test)]
-mod tests;

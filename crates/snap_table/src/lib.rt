@@ -6,6 +6,3 @@ mod table;
 
 pub use active::{Active, SnapError};
 pub use table::SnapTable;
-
-#[cfg(test)]
-mod tests;

@@ -5,6 +5,3 @@
 mod levels;
 
 pub use levels::{Level, LevelError, Levels, MAX_DEPTH};
-
-#[cfg(test)]
-mod tests;

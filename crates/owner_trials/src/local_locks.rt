@@ -1,0 +1,158 @@
+//! Each call once, the rows of the error table, and passing and releasing by owners.
+use lock_local::{LockError, LockTable};
+use lock_shared::SharedLocks;
+use pgs_step::{EventList, Mode, OwnerId, What};
+use std::alloc::Global;
+use std::process::Abort;
+use std::test::Fail;
+
+const SHARE: Mode = Mode::AccessShareLock;
+
+const EXCLUSIVE: Mode = Mode::AccessExclusiveLock;
+
+const ONE: OwnerId = OwnerId { number: 1, slot: 0 };
+
+const TWO: OwnerId = OwnerId { number: 2, slot: 1 };
+
+fn release(object: u32, mode: Mode, count: u64, owner: u64) -> What {
+    What::ReleaseLock {
+        object,
+        mode,
+        count,
+        owner,
+    }
+}
+
+#[test]
+fn counts_are_passed_and_go_in_one_sum(rt: HostRuntime) -> Result<(), Fail> {
+    let mut shared = SharedLocks::new(rt.alloc());
+    let mut table = LockTable::new(rt.alloc(), 1);
+    let mut out = EventList::new(rt.alloc(), 10)?;
+    table.acquire(&mut shared, ONE, 5, SHARE, &mut out)?;
+    table.acquire(&mut shared, TWO, 5, SHARE, &mut out)?;
+    table.acquire(&mut shared, TWO, 5, SHARE, &mut out)?;
+    assert_eq!(rt; table.distinct(), 1);
+    table.pass_owner(TWO, ONE, &mut out);
+    assert_eq!(rt;
+        table.release(&mut shared, TWO, 5, SHARE, &mut out),
+        Err(LockError::NotHeld)
+    );
+    table.release_all(&mut shared, ONE, &mut out);
+    assert_eq!(rt; table.distinct(), 0);
+    assert_eq!(rt; shared.conflict(5, EXCLUSIVE, 2), None);
+    let pass = What::PassLock {
+        object: 5,
+        mode: SHARE,
+        count: 2,
+        from: 2,
+        to: 1,
+    };
+    assert_eq!(rt; out.events().len(), 5);
+    assert_eq!(rt;
+        out.events()[0],
+        What::AcquireLock {
+            object: 5,
+            mode: SHARE,
+            owner: 1
+        }
+    );
+    assert_eq!(rt; out.events()[3], pass);
+    assert_eq!(rt; out.events()[4], release(5, SHARE, 3, 1));
+    Ok(())
+}
+
+#[test]
+fn an_owner_releases_in_order(rt: HostRuntime) -> Result<(), Fail> {
+    let mut shared = SharedLocks::new(rt.alloc());
+    let mut table = LockTable::new(rt.alloc(), 1);
+    let mut out = EventList::new(rt.alloc(), 10)?;
+    table.acquire(&mut shared, TWO, 7, SHARE, &mut out)?;
+    table.acquire(&mut shared, TWO, 5, EXCLUSIVE, &mut out)?;
+    table.acquire(&mut shared, TWO, 5, SHARE, &mut out)?;
+    table.acquire(&mut shared, ONE, 5, SHARE, &mut out)?;
+    table.release_owner(&mut shared, TWO, &mut out);
+    assert_eq!(rt; table.distinct(), 1);
+    assert_eq!(rt; out.events().len(), 7);
+    assert_eq!(rt; out.events()[4], release(5, SHARE, 1, 2));
+    assert_eq!(rt; out.events()[5], release(5, EXCLUSIVE, 1, 2));
+    assert_eq!(rt; out.events()[6], release(7, SHARE, 1, 2));
+    assert_eq!(rt; shared.conflict(7, EXCLUSIVE, 2), None);
+    assert_eq!(rt; shared.conflict(5, EXCLUSIVE, 2), Some((1, SHARE)));
+    table.release(&mut shared, ONE, 5, SHARE, &mut out)?;
+    assert_eq!(rt; shared.conflict(5, EXCLUSIVE, 2), None);
+    Ok(())
+}
+
+#[test]
+fn another_session_conflicts(rt: HostRuntime) -> Result<(), Fail> {
+    let mut shared = SharedLocks::new(rt.alloc());
+    let mut first = LockTable::new(rt.alloc(), 1);
+    let mut second = LockTable::new(rt.alloc(), 2);
+    let mut out = EventList::new(rt.alloc(), 10)?;
+    first.acquire(&mut shared, ONE, 5, SHARE, &mut out)?;
+    first.acquire(&mut shared, ONE, 5, Mode::ShareLock, &mut out)?;
+    let refused = LockError::Conflict {
+        session: 1,
+        mode: SHARE,
+    };
+    assert_eq!(rt;
+        second.acquire(&mut shared, ONE, 5, EXCLUSIVE, &mut out),
+        Err(refused)
+    );
+    assert_eq!(rt; out.events().len(), 2);
+    first.acquire(&mut shared, ONE, 5, EXCLUSIVE, &mut out)?;
+    first.release_all(&mut shared, ONE, &mut out);
+    second.acquire(&mut shared, ONE, 5, EXCLUSIVE, &mut out)?;
+    assert_eq!(rt;
+        second.release(&mut shared, ONE, 6, EXCLUSIVE, &mut out),
+        Err(LockError::NotHeld)
+    );
+    Ok(())
+}
+
+#[test]
+fn refusals_are_told(rt: HostRuntime) -> Result<(), Fail> {
+    let refused = LockError::Conflict {
+        session: 1,
+        mode: SHARE,
+    };
+    let text = format!(in rt.alloc(); "{refused}")?;
+    assert_eq!(rt;
+        text.as_str(),
+        "lock is held by session 1 as AccessShareLock"
+    );
+    Ok(())
+}
+
+/// Releases all of an owner that holds the objects 1 to n, the last one taken first.
+fn released_in_order(rt: &impl Abort, alloc: Global, n: u32) -> Result<(), Fail> {
+    let mut shared = SharedLocks::new(alloc);
+    let mut table = LockTable::new(alloc, 1);
+    let mut out = EventList::new(alloc, 100)?;
+    for taken in 0..n {
+        table.acquire(&mut shared, TWO, n - taken, SHARE, &mut out)?;
+    }
+    table.release_owner(&mut shared, TWO, &mut out);
+    assert_eq!(rt; table.distinct(), 0);
+    let released: &[What] = out.events().get(n as usize..).ok_or("no release")?;
+    assert_eq!(rt; released.len(), n as usize);
+    for (place, event) in released.iter().enumerate() {
+        assert_eq!(rt; *event, release(place as u32 + 1, SHARE, 1, 2));
+    }
+    Ok(())
+}
+
+#[test]
+fn fifteen_locks(rt: HostRuntime) -> Result<(), Fail> {
+    released_in_order(&rt, rt.alloc(), 15)
+}
+
+#[test]
+fn sixteen_locks(rt: HostRuntime) -> Result<(), Fail> {
+    released_in_order(&rt, rt.alloc(), 16)
+}
+
+#[test]
+fn forty_locks(rt: HostRuntime) -> Result<(), Fail> {
+    released_in_order(&rt, rt.alloc(), 40)
+}
