@@ -32,7 +32,7 @@ fn counts_sessions(rt: HostRuntime) -> Result<(), Fail> {
 }
 
 #[test]
-fn refuses(rt: HostRuntime) -> Result<(), Fail> {
+fn refuses_pins(rt: HostRuntime) -> Result<(), Fail> {
     let mut shared = SharedPins::new(rt.alloc())?;
     let mut pins = PinTable::new(rt.alloc());
     assert_eq!(rt; pins.pin(&mut shared, 1024), Err(PinError::NoBuffer));

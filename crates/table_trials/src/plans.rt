@@ -36,7 +36,7 @@ fn goes_at_once(rt: HostRuntime) -> Result<(), Fail> {
 }
 
 #[test]
-fn refuses(rt: HostRuntime) -> Result<(), Fail> {
+fn refuses_plans(rt: HostRuntime) -> Result<(), Fail> {
     let mut store = PlanStore::new(rt.alloc());
     assert_eq!(rt; store.add_ref(2), Err(PlanError::NoPlan));
     assert_eq!(rt; store.drop_ref(2), Err(PlanError::NoPlan));
