@@ -74,6 +74,3 @@ impl Total {
         })
     }
 }
-
-#[cfg(test)]
-mod tests;

@@ -10,6 +10,3 @@ pub use names::is_reserved;
 
 /// The most contexts that live at a time.
 pub const MOST_CONTEXTS: usize = 65_536;
-
-#[cfg(test)]
-mod tests;

@@ -14,6 +14,3 @@ pub use commands::Command;
 pub use hex_bytes::HexBytes;
 pub use kinds::{ContextKind, ReferenceClass};
 pub use lines::{BadLine, Line, parse_command, parse_command_into, parse_line, parse_session};
-
-#[cfg(test)]
-mod tests;

@@ -8,6 +8,3 @@ mod pieces;
 mod telling;
 
 pub use generating::{Generated, generate};
-
-#[cfg(test)]
-mod tests;

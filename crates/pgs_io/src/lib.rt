@@ -17,6 +17,3 @@ pub use words::{next_token, number};
 /// A read or a write failed. The object that failed has counted it among its faults.
 #[derive(Clone, Copy, PartialEq, Eq, Debug)]
 pub struct Failed;
-
-#[cfg(test)]
-mod tests;

@@ -7,6 +7,3 @@ pub use options::{
     DEFAULT_DESCRIPTORS, DEFAULT_SESSIONS, DEFAULT_SPACE, MOST_HELD, Options, OptionsError,
     read_options,
 };
-
-#[cfg(test)]
-mod tests;

@@ -1,51 +1,24 @@
 //! What whole sessions say of portals.
 
+use crate::saying::{acquire, before_exit, create, item, level, name, owner_in, release, top};
 use pgs_command::Command;
-use pgs_step::{Error, Item, KindId, Mode, Name, What};
-use session_trials::outcome;
+use pgs_step::{Error, KindId, Mode, Name, What};
+use session_core::StartError;
+use session_trials::{Played, outcome};
+use std::alloc::Global;
 use std::test::Fail;
-
-fn name(word: &[u8]) -> Result<Name, Fail> {
-    Ok(Name::new(word).ok_or("no name")?)
-}
-
-fn create(context: u64, name: Name, parent: u64) -> What {
-    What::Create {
-        context,
-        name,
-        parent,
-    }
-}
-
-fn owner_in(owner: u64, parent: u64) -> What {
-    What::OwnerIn { owner, parent }
-}
-
-fn item(kind: KindId, key: u32, serial: u64) -> Item {
-    Item { kind, key, serial }
-}
-
-fn acquire(item: Item, owner: u64) -> What {
-    What::Acquire { item, owner }
-}
-
-fn release(item: Item, owner: u64) -> What {
-    What::Release { item, owner }
-}
 
 fn row(portal: Name, row: u32, value: u32) -> What {
     What::Row { portal, row, value }
 }
 
-#[test]
-fn a_portal_of_the_level_above_fails_in_a_savepoint(rt: HostRuntime) -> Result<(), Fail> {
-    let portal = name(b"p")?;
-    let savepoint = name(b"s")?;
-    let mode = Mode::AccessShareLock;
-    let top = name(b"TopTransactionContext")?;
-    let level_context = name(b"CurTransactionContext")?;
-    let portal_context = name(b"PortalContext")?;
-    let expr_context = name(b"ExprContext")?;
+/// A portal of the level above fails in a savepoint at the row that can't be read, and the block returns to the savepoint.
+fn fail_in_savepoint(
+    alloc: Global,
+    portal: Name,
+    savepoint: Name,
+    mode: Mode,
+) -> Result<Played, StartError> {
     let commands = [
         Command::Begin,
         Command::Lock { object: 9, mode },
@@ -63,13 +36,23 @@ fn a_portal_of_the_level_above_fails_in_a_savepoint(rt: HostRuntime) -> Result<(
         Command::RollbackTo(savepoint),
         Command::Rollback,
     ];
-    let played = outcome(rt.alloc(), 0, commands.as_slice())?;
+    outcome(alloc, 0, commands.as_slice())
+}
+
+#[test]
+fn a_portal_of_the_level_above_fails_in_a_savepoint(rt: HostRuntime) -> Result<(), Fail> {
+    let portal = name(b"p")?;
+    let savepoint = name(b"s")?;
+    let mode = Mode::AccessShareLock;
+    let portal_context = name(b"PortalContext")?;
+    let expr_context = name(b"ExprContext")?;
+    let played = fail_in_savepoint(rt.alloc(), portal, savepoint, mode)?;
     let relation = item(KindId::RELCACHE_REFERENCE, 40, 1);
     let snapshot = item(KindId::SNAPSHOT_REFERENCE, 40, 2);
     let page = item(KindId::BUFFER_PIN, 40, 3);
     let events = [
         What::BeginLevel(1),
-        create(6, top, 1),
+        create(6, top(), 1),
         What::Owner(1),
         What::Ok,
         What::AcquireLock {
@@ -90,7 +73,7 @@ fn a_portal_of_the_level_above_fails_in_a_savepoint(rt: HostRuntime) -> Result<(
         create(8, expr_context, 7),
         What::Ok,
         What::BeginLevel(2),
-        create(9, level_context, 6),
+        create(9, level(), 6),
         owner_in(3, 1),
         What::Ok,
         acquire(page, 2),
@@ -120,7 +103,7 @@ fn a_portal_of_the_level_above_fails_in_a_savepoint(rt: HostRuntime) -> Result<(
         What::OwnerGone(3),
         What::Delete(9),
         What::BeginLevel(2),
-        create(10, level_context, 6),
+        create(10, level(), 6),
         owner_in(4, 1),
         What::Ok,
         What::AbortLevel(2),
@@ -140,25 +123,14 @@ fn a_portal_of_the_level_above_fails_in_a_savepoint(rt: HostRuntime) -> Result<(
         What::OwnerGone(1),
         What::Delete(6),
         What::Ok,
-        What::Delete(5),
-        What::Delete(4),
-        What::Delete(3),
-        What::Delete(2),
-        What::Delete(1),
-        What::Exit,
     ];
-    assert_eq!(rt; played.out.events(), events.as_slice());
+    assert_eq!(rt; before_exit(&played), Some(events.as_slice()));
     assert_eq!(rt; (played.depth, played.held), (0, 0));
     Ok(())
 }
 
-#[test]
-fn a_portal_is_fetched_from_page_by_page_and_ends(rt: HostRuntime) -> Result<(), Fail> {
-    let portal = name(b"q")?;
-    let mode = Mode::AccessShareLock;
-    let top = name(b"TopTransactionContext")?;
-    let portal_context = name(b"PortalContext")?;
-    let expr_context = name(b"ExprContext")?;
+/// A portal is fetched from to its end and ended.
+fn fetch_two_pages(alloc: Global, portal: Name) -> Result<Played, StartError> {
     let commands = [
         Command::Begin,
         Command::Portal {
@@ -174,14 +146,23 @@ fn a_portal_is_fetched_from_page_by_page_and_ends(rt: HostRuntime) -> Result<(),
         Command::EndPortal(portal),
         Command::Commit,
     ];
-    let played = outcome(rt.alloc(), 0, commands.as_slice())?;
+    outcome(alloc, 0, commands.as_slice())
+}
+
+#[test]
+fn a_portal_is_fetched_from_page_by_page_and_ends(rt: HostRuntime) -> Result<(), Fail> {
+    let portal = name(b"q")?;
+    let mode = Mode::AccessShareLock;
+    let portal_context = name(b"PortalContext")?;
+    let expr_context = name(b"ExprContext")?;
+    let played = fetch_two_pages(rt.alloc(), portal)?;
     let relation = item(KindId::RELCACHE_REFERENCE, 3, 1);
     let snapshot = item(KindId::SNAPSHOT_REFERENCE, 3, 2);
     let page = item(KindId::BUFFER_PIN, 3, 3);
     let next_page = item(KindId::BUFFER_PIN, 4, 4);
     let events = [
         What::BeginLevel(1),
-        create(6, top, 1),
+        create(6, top(), 1),
         What::Owner(1),
         What::Ok,
         create(7, portal_context, 4),
@@ -247,27 +228,14 @@ fn a_portal_is_fetched_from_page_by_page_and_ends(rt: HostRuntime) -> Result<(),
         What::OwnerGone(1),
         What::Delete(6),
         What::Ok,
-        What::Delete(5),
-        What::Delete(4),
-        What::Delete(3),
-        What::Delete(2),
-        What::Delete(1),
-        What::Exit,
     ];
-    assert_eq!(rt; played.out.events(), events.as_slice());
+    assert_eq!(rt; before_exit(&played), Some(events.as_slice()));
     assert_eq!(rt; (played.depth, played.held), (0, 0));
     Ok(())
 }
 
-#[test]
-fn a_portal_passes_to_the_level_above(rt: HostRuntime) -> Result<(), Fail> {
-    let portal = name(b"p")?;
-    let savepoint = name(b"s")?;
-    let mode = Mode::AccessShareLock;
-    let top = name(b"TopTransactionContext")?;
-    let level_context = name(b"CurTransactionContext")?;
-    let portal_context = name(b"PortalContext")?;
-    let expr_context = name(b"ExprContext")?;
+/// A portal of a savepoint is passed up and fetched from, and its name taken again.
+fn pass_portal_up(alloc: Global, portal: Name, savepoint: Name) -> Result<Played, StartError> {
     let commands = [
         Command::Begin,
         Command::Savepoint(savepoint),
@@ -289,17 +257,27 @@ fn a_portal_passes_to_the_level_above(rt: HostRuntime) -> Result<(), Fail> {
             bad: None,
         },
     ];
-    let played = outcome(rt.alloc(), 0, commands.as_slice())?;
+    outcome(alloc, 0, commands.as_slice())
+}
+
+#[test]
+fn a_portal_passes_to_the_level_above(rt: HostRuntime) -> Result<(), Fail> {
+    let portal = name(b"p")?;
+    let savepoint = name(b"s")?;
+    let mode = Mode::AccessShareLock;
+    let portal_context = name(b"PortalContext")?;
+    let expr_context = name(b"ExprContext")?;
+    let played = pass_portal_up(rt.alloc(), portal, savepoint)?;
     let relation = item(KindId::RELCACHE_REFERENCE, 8, 1);
     let snapshot = item(KindId::SNAPSHOT_REFERENCE, 8, 2);
     let page = item(KindId::BUFFER_PIN, 8, 3);
     let events = [
         What::BeginLevel(1),
-        create(6, top, 1),
+        create(6, top(), 1),
         What::Owner(1),
         What::Ok,
         What::BeginLevel(2),
-        create(7, level_context, 6),
+        create(7, level(), 6),
         owner_in(2, 1),
         What::Ok,
         create(8, portal_context, 4),
@@ -342,14 +320,8 @@ fn a_portal_passes_to_the_level_above(rt: HostRuntime) -> Result<(), Fail> {
         What::OwnerGone(3),
         What::OwnerGone(1),
         What::Delete(6),
-        What::Delete(5),
-        What::Delete(4),
-        What::Delete(3),
-        What::Delete(2),
-        What::Delete(1),
-        What::Exit,
     ];
-    assert_eq!(rt; played.out.events(), events.as_slice());
+    assert_eq!(rt; before_exit(&played), Some(events.as_slice()));
     assert_eq!(rt; (played.depth, played.held), (1, 0));
     Ok(())
 }

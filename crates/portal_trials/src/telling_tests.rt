@@ -1,19 +1,16 @@
 //! What sessions say of active snapshots, and of what they hold.
 ghost use Rattle.std.specs.Prelude.{◌≤◌};
 
+use crate::saying::{acquire, before_exit, create, item, level, name, owner_in, release, top};
 use pgs_command::{Command, ReferenceClass};
-use pgs_step::{Depth, Error, Item, KindId, MemoryCounters, Mode, Name, SessionCounts, What};
-use session_trials::outcome;
+use pgs_step::{Depth, Error, KindId, MemoryCounters, Mode, Name, SessionCounts, What};
+use session_core::StartError;
+use session_trials::{Played, outcome};
+use std::alloc::Global;
 use std::test::Fail;
 
-fn name(word: &[u8]) -> Result<Name, Fail> {
-    Ok(Name::new(word).ok_or("no name")?)
-}
-
-#[test]
-fn active_snapshots_are_passed_up_and_popped(rt: HostRuntime) -> Result<(), Fail> {
-    let savepoint = name(b"s")?;
-    let class = ReferenceClass::TupleDescriptor;
+/// Snapshots are pushed in two levels, of which one is released.
+fn push_and_pass_up(alloc: Global, savepoint: Name) -> Result<Played, StartError> {
     let commands = [
         Command::Begin,
         Command::Push(4),
@@ -21,36 +18,30 @@ fn active_snapshots_are_passed_up_and_popped(rt: HostRuntime) -> Result<(), Fail
         Command::Push(5),
         Command::Release(savepoint),
         Command::Pop,
-        Command::Reference { class, key: 6 },
+        Command::Reference {
+            class: ReferenceClass::TupleDescriptor,
+            key: 6,
+        },
         Command::Stat,
     ];
-    let played = outcome(rt.alloc(), 0, commands.as_slice())?;
-    let reference = Item {
-        kind: KindId::TUPLE_DESCRIPTOR_REFERENCE,
-        key: 6,
-        serial: 1,
-    };
+    outcome(alloc, 0, commands.as_slice())
+}
+
+#[test]
+fn active_snapshots_are_passed_up_and_popped(rt: HostRuntime) -> Result<(), Fail> {
+    let savepoint = name(b"s")?;
+    let played = push_and_pass_up(rt.alloc(), savepoint)?;
+    let reference = item(KindId::TUPLE_DESCRIPTOR_REFERENCE, 6, 1);
     let events = [
         What::BeginLevel(1),
-        What::Create {
-            context: 6,
-            name: name(b"TopTransactionContext")?,
-            parent: 1,
-        },
+        create(6, top(), 1),
         What::Owner(1),
         What::Ok,
         What::Push(4),
         What::Ok,
         What::BeginLevel(2),
-        What::Create {
-            context: 7,
-            name: name(b"CurTransactionContext")?,
-            parent: 6,
-        },
-        What::OwnerIn {
-            owner: 2,
-            parent: 1,
-        },
+        create(7, level(), 6),
+        owner_in(2, 1),
         What::Ok,
         What::Push(5),
         What::Ok,
@@ -60,10 +51,7 @@ fn active_snapshots_are_passed_up_and_popped(rt: HostRuntime) -> Result<(), Fail
         What::Ok,
         What::Pop(5),
         What::Ok,
-        What::Acquire {
-            item: reference,
-            owner: 1,
-        },
+        acquire(reference, 1),
         What::Ok,
         What::Stat(SessionCounts {
             pins: 0,
@@ -78,29 +66,19 @@ fn active_snapshots_are_passed_up_and_popped(rt: HostRuntime) -> Result<(), Fail
         }),
         What::Ok,
         What::AbortLevel(1),
-        What::Release {
-            item: reference,
-            owner: 1,
-        },
+        release(reference, 1),
         What::Pop(4),
         What::CleanupLevel(1),
         What::OwnerGone(1),
         What::Delete(6),
-        What::Delete(5),
-        What::Delete(4),
-        What::Delete(3),
-        What::Delete(2),
-        What::Delete(1),
-        What::Exit,
     ];
-    assert_eq!(rt; played.out.events(), events.as_slice());
+    assert_eq!(rt; before_exit(&played), Some(events.as_slice()));
     assert_eq!(rt; (played.depth, played.held), (1, 0));
     Ok(())
 }
 
-#[test]
-fn a_snapshot_of_another_level_is_not_popped(rt: HostRuntime) -> Result<(), Fail> {
-    let savepoint = name(b"s")?;
+/// A level pops a snapshot more than it pushed.
+fn pop_once_too_often(alloc: Global, savepoint: Name) -> Result<Played, StartError> {
     let commands = [
         Command::Begin,
         Command::Push(4),
@@ -110,28 +88,23 @@ fn a_snapshot_of_another_level_is_not_popped(rt: HostRuntime) -> Result<(), Fail
         Command::Pop,
         Command::Commit,
     ];
-    let played = outcome(rt.alloc(), 0, commands.as_slice())?;
+    outcome(alloc, 0, commands.as_slice())
+}
+
+#[test]
+fn a_snapshot_of_another_level_is_not_popped(rt: HostRuntime) -> Result<(), Fail> {
+    let savepoint = name(b"s")?;
+    let played = pop_once_too_often(rt.alloc(), savepoint)?;
     let events = [
         What::BeginLevel(1),
-        What::Create {
-            context: 6,
-            name: name(b"TopTransactionContext")?,
-            parent: 1,
-        },
+        create(6, top(), 1),
         What::Owner(1),
         What::Ok,
         What::Push(4),
         What::Ok,
         What::BeginLevel(2),
-        What::Create {
-            context: 7,
-            name: name(b"CurTransactionContext")?,
-            parent: 6,
-        },
-        What::OwnerIn {
-            owner: 2,
-            parent: 1,
-        },
+        create(7, level(), 6),
+        owner_in(2, 1),
         What::Ok,
         What::Push(5),
         What::Ok,
@@ -148,27 +121,26 @@ fn a_snapshot_of_another_level_is_not_popped(rt: HostRuntime) -> Result<(), Fail
         What::OwnerGone(1),
         What::Delete(6),
         What::Ok,
-        What::Delete(5),
-        What::Delete(4),
-        What::Delete(3),
-        What::Delete(2),
-        What::Delete(1),
-        What::Exit,
     ];
-    assert_eq!(rt; played.out.events(), events.as_slice());
+    assert_eq!(rt; before_exit(&played), Some(events.as_slice()));
     assert_eq!(rt; (played.depth, played.held), (0, 0));
     Ok(())
 }
 
-#[test]
-fn a_push_that_fails_pushes_nothing(rt: HostRuntime) -> Result<(), Fail> {
+/// The call of the second push fails.
+fn fail_in_push(alloc: Global) -> Result<Played, StartError> {
     let commands = [
         Command::Begin,
         Command::Push(4),
         Command::Push(5),
         Command::Commit,
     ];
-    let played = outcome(rt.alloc(), 5, commands.as_slice())?;
+    outcome(alloc, 5, commands.as_slice())
+}
+
+#[test]
+fn a_push_that_fails_pushes_nothing(rt: HostRuntime) -> Result<(), Fail> {
+    let played = fail_in_push(rt.alloc())?;
     let failed = What::Error(Error::Injected(5));
     assert!(rt; played.out.events().contains(&failed));
     assert!(rt; played.out.events().contains(&What::Pop(4)));
@@ -177,8 +149,8 @@ fn a_push_that_fails_pushes_nothing(rt: HostRuntime) -> Result<(), Fail> {
     Ok(())
 }
 
-#[test]
-fn a_buffer_is_pinned_by_one_session_once(rt: HostRuntime) -> Result<(), Fail> {
+/// A buffer is pinned twice, and three are asked for.
+fn ask_for_buffers(alloc: Global) -> Result<Played, StartError> {
     let commands = [
         Command::Begin,
         Command::Pin(7),
@@ -187,7 +159,12 @@ fn a_buffer_is_pinned_by_one_session_once(rt: HostRuntime) -> Result<(), Fail> {
         Command::Buffer(8),
         Command::Buffer(1024),
     ];
-    let played = outcome(rt.alloc(), 0, commands.as_slice())?;
+    outcome(alloc, 0, commands.as_slice())
+}
+
+#[test]
+fn a_buffer_is_pinned_by_one_session_once(rt: HostRuntime) -> Result<(), Fail> {
+    let played = ask_for_buffers(rt.alloc())?;
     let pinned = What::Buffer {
         buffer: 7,
         sessions: 1,
@@ -203,8 +180,8 @@ fn a_buffer_is_pinned_by_one_session_once(rt: HostRuntime) -> Result<(), Fail> {
     Ok(())
 }
 
-#[test]
-fn what_is_held_twice_is_counted_once(rt: HostRuntime) -> Result<(), Fail> {
+/// What is held is counted in a block, and behind its end.
+fn count_what_is_held(alloc: Global) -> Result<Played, StartError> {
     let commands = [
         Command::Begin,
         Command::Snapshot(4),
@@ -229,7 +206,12 @@ fn what_is_held_twice_is_counted_once(rt: HostRuntime) -> Result<(), Fail> {
         Command::Commit,
         Command::Stat,
     ];
-    let played = outcome(rt.alloc(), 0, commands.as_slice())?;
+    outcome(alloc, 0, commands.as_slice())
+}
+
+#[test]
+fn what_is_held_twice_is_counted_once(rt: HostRuntime) -> Result<(), Fail> {
+    let played = count_what_is_held(rt.alloc())?;
     let held = What::Stat(SessionCounts {
         pins: 1,
         files: 1,
@@ -269,53 +251,59 @@ fn of_one_block(total: u64) -> MemoryCounters
     }
 }
 
+/// A block is reported.
+fn report_in_block(alloc: Global) -> Result<Played, StartError> {
+    let commands = [Command::Begin, Command::Report, Command::Commit];
+    outcome(alloc, 0, commands.as_slice())
+}
+
 #[test]
 fn a_transaction_without_chunks_is_reported(rt: HostRuntime) -> Result<(), Fail> {
-    let commands = [Command::Begin, Command::Report, Command::Commit];
-    let played = outcome(rt.alloc(), 0, commands.as_slice())?;
+    let topmost = name(b"TopMemoryContext")?;
+    let abort = name(b"TransactionAbortContext")?;
+    let portals = name(b"TopPortalContext")?;
+    let cache = name(b"CacheMemoryContext")?;
+    let errors = name(b"ErrorContext")?;
+    let played = report_in_block(rt.alloc())?;
     let events = [
         What::BeginLevel(1),
-        What::Create {
-            context: 6,
-            name: name(b"TopTransactionContext")?,
-            parent: 1,
-        },
+        create(6, top(), 1),
         What::Owner(1),
         What::Ok,
         What::ContextStats {
             depth: Depth::new(0),
             context: 1,
-            name: name(b"TopMemoryContext")?,
+            name: topmost,
             counters: of_one_block(8192),
         },
         What::ContextStats {
             depth: Depth::new(1),
             context: 6,
-            name: name(b"TopTransactionContext")?,
+            name: top(),
             counters: of_one_block(8192),
         },
         What::ContextStats {
             depth: Depth::new(1),
             context: 5,
-            name: name(b"TransactionAbortContext")?,
+            name: abort,
             counters: of_one_block(32768),
         },
         What::ContextStats {
             depth: Depth::new(1),
             context: 4,
-            name: name(b"TopPortalContext")?,
+            name: portals,
             counters: of_one_block(8192),
         },
         What::ContextStats {
             depth: Depth::new(1),
             context: 3,
-            name: name(b"CacheMemoryContext")?,
+            name: cache,
             counters: of_one_block(8192),
         },
         What::ContextStats {
             depth: Depth::new(1),
             context: 2,
-            name: name(b"ErrorContext")?,
+            name: errors,
             counters: of_one_block(8192),
         },
         What::GrandTotal(MemoryCounters {
@@ -329,14 +317,8 @@ fn a_transaction_without_chunks_is_reported(rt: HostRuntime) -> Result<(), Fail>
         What::OwnerGone(1),
         What::Delete(6),
         What::Ok,
-        What::Delete(5),
-        What::Delete(4),
-        What::Delete(3),
-        What::Delete(2),
-        What::Delete(1),
-        What::Exit,
     ];
-    assert_eq!(rt; played.out.events(), events.as_slice());
+    assert_eq!(rt; before_exit(&played), Some(events.as_slice()));
     assert_eq!(rt; (played.depth, played.held), (0, 0));
     Ok(())
 }

@@ -10,13 +10,8 @@ use pgs_step::{Name, Phase};
 use pgs_world::{Outcome, run};
 use reset_callbacks::{CountedHook, Shelf};
 use std::alloc::{AllocError, Global};
+use std::process::Abort;
 use std::test::Fail;
-
-const PINNED: &str =
-    "1 begin level 1\n1 create c6 TopTransactionContext in c1\n1 owner o1\n1 ok\n1 acquire buffer pin 7 #1 o1\n1 ok\n";
-
-const ROLLED_BACK: &str =
-    "1 abort level 1\n1 release buffer pin 7 #1 o1\n1 cleanup level 1\n1 owner o1 gone\n1 delete c6\n";
 
 /// What a run left: its outcome, how many bytes were not read, those that were written, how many bytes the space held behind it, and how many
 /// hooks were fresh.
@@ -64,6 +59,43 @@ fn two_kinds(alloc: Global) -> Result<KindShelf<CountedKind>, AllocError> {
     KindShelf::new(alloc, kinds)
 }
 
+/// A script that is read in pieces, with a read that fails; 0 is none.
+fn source_of(
+    alloc: Global,
+    script: &[u8],
+    piece: u32,
+    bad_read: u64,
+) -> Result<MemSource, AllocError>
+    requires { 1 ≤ piece }
+{
+    let fail_at = vec![in alloc; bad_read]?;
+    let bytes = Vec::from_slice(alloc, script)?;
+    Ok(MemSource::new(bytes, piece, fail_at))
+}
+
+/// A sink with a write that fails; 0 is none.
+fn sink_of(alloc: Global, bad_write: u64) -> Result<MemSink, AllocError> {
+    let fail_at = vec![in alloc; bad_write]?;
+    MemSink::new(alloc, 262_144, fail_at)
+}
+
+/// Runs the program in a space and with hooks and kinds of its own. Answers its outcome, how many bytes the space held behind it, and how
+/// many hooks were fresh.
+fn perform(
+    alloc: Global,
+    words: &[String],
+    source: &mut MemSource,
+    sink: &mut MemSink,
+) -> Result<(Outcome, u64, usize), AllocError> {
+    let mut space = Space::new(alloc, 64, 0)?;
+    let mut shelf = six_hooks(alloc)?;
+    let mut kinds = two_kinds(alloc)?;
+    let outcome = run(
+        alloc, words, source, sink, &mut space, &mut shelf, &mut kinds,
+    );
+    Ok((outcome, space.held(0), shelf.fresh()))
+}
+
 /// Plays a script that is read in pieces, with a read and a write that fail; 0 is none.
 fn play(
     alloc: Global,
@@ -76,36 +108,32 @@ fn play(
     requires { 1 ≤ piece }
 {
     let words = texts(alloc, words)?;
-    let bytes = Vec::from_slice(alloc, script)?;
-    let mut source = MemSource::new(bytes, piece, vec![in alloc; bad_read]?);
-    let mut sink = MemSink::new(alloc, 262_144, vec![in alloc; bad_write]?)?;
-    let mut space = Space::new(alloc, 64, 0)?;
-    let mut shelf = six_hooks(alloc)?;
-    let mut kinds = two_kinds(alloc)?;
-    let outcome = run(
-        alloc,
-        &words,
-        &mut source,
-        &mut sink,
-        &mut space,
-        &mut shelf,
-        &mut kinds,
-    );
+    let mut source = source_of(alloc, script, piece, bad_read)?;
+    let mut sink = sink_of(alloc, bad_write)?;
+    let (outcome, held, fresh) = perform(alloc, &words, &mut source, &mut sink)?;
     let written = Vec::from_slice(alloc, sink.written())?;
     Ok(Played {
         outcome,
         unread: source.unread().len(),
         written,
-        held: space.held(0),
-        fresh: shelf.fresh(),
+        held,
+        fresh,
     })
 }
 
-/// The two texts, one behind the other.
-fn joined(alloc: Global, first: &str, second: &str) -> Result<Vec<u8>, AllocError> {
-    let mut both = Vec::from_slice(alloc, first.as_bytes())?;
-    both.extend_from_slice(second.as_bytes())?;
-    Ok(both)
+/// Adds a line so many times.
+fn add_lines(script: &mut Vec<u8>, line: &[u8], times: u32) -> Result<(), AllocError> {
+    for _ in 0..times {
+        script.extend_from_slice(line)?;
+    }
+    Ok(())
+}
+
+/// A script that begins so, with a line so many times behind it.
+fn script_of(alloc: Global, first: &[u8], line: &[u8], times: u32) -> Result<Vec<u8>, AllocError> {
+    let mut script = Vec::from_slice(alloc, first)?;
+    add_lines(&mut script, line, times)?;
+    Ok(script)
 }
 
 /// Words and a script, the transcript, and what the run answers.
@@ -117,6 +145,23 @@ struct Row {
     status: u8,
     errors: u64,
     lines: u64,
+}
+
+/// Plays a row's script and compares what it left with the row.
+fn compare(rt: &impl Abort, alloc: Global, row: Row) -> Result<(), AllocError> {
+    let played = play(alloc, row.words, row.script, 5, 0, 0)?;
+    assert_eq!(rt; played.outcome.status, row.status);
+    assert_eq!(rt;
+        (
+            played.outcome.call,
+            played.outcome.errors,
+            played.outcome.lines
+        ),
+        (0, row.errors, row.lines)
+    );
+    assert_eq!(rt; played.written.as_slice(), row.transcript);
+    assert_eq!(rt; played.held, 0);
+    Ok(())
 }
 
 #[test]
@@ -235,18 +280,7 @@ fn fourteen_scripts(rt: HostRuntime) -> Result<(), Fail> {
             lines: 5,
         },
     ] {
-        let played = play(rt.alloc(), row.words, row.script, 5, 0, 0)?;
-        assert_eq!(rt; played.outcome.status, row.status);
-        assert_eq!(rt;
-            (
-                played.outcome.call,
-                played.outcome.errors,
-                played.outcome.lines
-            ),
-            (0, row.errors, row.lines)
-        );
-        assert_eq!(rt; played.written.as_slice(), row.transcript);
-        assert_eq!(rt; played.held, 0);
+        compare(&rt, rt.alloc(), row)?;
     }
     Ok(())
 }
@@ -272,18 +306,7 @@ fn files_and_kinds_at_their_limits(rt: HostRuntime) -> Result<(), Fail> {
             lines: 6,
         },
     ] {
-        let played = play(rt.alloc(), row.words, row.script, 5, 0, 0)?;
-        assert_eq!(rt; played.outcome.status, row.status);
-        assert_eq!(rt;
-            (
-                played.outcome.call,
-                played.outcome.errors,
-                played.outcome.lines
-            ),
-            (0, row.errors, row.lines)
-        );
-        assert_eq!(rt; played.written.as_slice(), row.transcript);
-        assert_eq!(rt; played.held, 0);
+        compare(&rt, rt.alloc(), row)?;
     }
     Ok(())
 }
@@ -309,18 +332,7 @@ fn portals_fail_and_end(rt: HostRuntime) -> Result<(), Fail> {
             lines: 5,
         },
     ] {
-        let played = play(rt.alloc(), row.words, row.script, 5, 0, 0)?;
-        assert_eq!(rt; played.outcome.status, row.status);
-        assert_eq!(rt;
-            (
-                played.outcome.call,
-                played.outcome.errors,
-                played.outcome.lines
-            ),
-            (0, row.errors, row.lines)
-        );
-        assert_eq!(rt; played.written.as_slice(), row.transcript);
-        assert_eq!(rt; played.held, 0);
+        compare(&rt, rt.alloc(), row)?;
     }
     Ok(())
 }
@@ -346,18 +358,7 @@ fn locks_of_one_session_and_of_two(rt: HostRuntime) -> Result<(), Fail> {
             lines: 10,
         },
     ] {
-        let played = play(rt.alloc(), row.words, row.script, 5, 0, 0)?;
-        assert_eq!(rt; played.outcome.status, row.status);
-        assert_eq!(rt;
-            (
-                played.outcome.call,
-                played.outcome.errors,
-                played.outcome.lines
-            ),
-            (0, row.errors, row.lines)
-        );
-        assert_eq!(rt; played.written.as_slice(), row.transcript);
-        assert_eq!(rt; played.held, 0);
+        compare(&rt, rt.alloc(), row)?;
     }
     Ok(())
 }
@@ -365,12 +366,8 @@ fn locks_of_one_session_and_of_two(rt: HostRuntime) -> Result<(), Fail> {
 #[test]
 fn a_read_that_fails(rt: HostRuntime) -> Result<(), Fail> {
     let played = play(rt.alloc(), &[], b"begin\npin 7\nro", 1, 15, 0)?;
-    let head = joined(rt.alloc(), PINNED, ROLLED_BACK)?;
-    let wanted = [
-        head.as_slice(),
-        b"1 delete c5\n1 delete c4\n1 delete c3\n1 delete c2\n1 delete c1\n1 exit\n",
-    ]
-    .concat(rt.alloc())?;
+    let wanted =
+        b"1 begin level 1\n1 create c6 TopTransactionContext in c1\n1 owner o1\n1 ok\n1 acquire buffer pin 7 #1 o1\n1 ok\n1 abort level 1\n1 release buffer pin 7 #1 o1\n1 cleanup level 1\n1 owner o1 gone\n1 delete c6\n1 delete c5\n1 delete c4\n1 delete c3\n1 delete c2\n1 delete c1\n1 exit\n";
     assert_eq!(rt;
         played.outcome,
         Outcome {
@@ -421,10 +418,7 @@ fn each_write_fails_in_turn(rt: HostRuntime) -> Result<(), Fail> {
 /// first at the `ok` of pin 215.
 #[test]
 fn a_first_write_that_fails_behind_many_lines(rt: HostRuntime) -> Result<(), Fail> {
-    let mut script = Vec::from_slice(rt.alloc(), b"begin\n")?;
-    for _ in 0..400 {
-        script.extend_from_slice(b"pin 7\n")?;
-    }
+    let script = script_of(rt.alloc(), b"begin\n", b"pin 7\n", 400)?;
     let played = play(rt.alloc(), &[], &script, 4096, 0, 1)?;
     assert_eq!(rt;
         played.outcome,
@@ -468,28 +462,39 @@ fn two_of_six_hooks_run(rt: HostRuntime) -> Result<(), Fail> {
     Ok(())
 }
 
-/// All 64 sessions end, those without a line too, in the order of their numbers.
-#[test]
-fn the_most_sessions(rt: HostRuntime) -> Result<(), Fail> {
-    let alloc = rt.alloc();
-    let played = play(alloc, &["--sessions", "64"], b"@8 begin\n", 5, 0, 0)?;
+/// Adds what a session says as it ends. Session 8 is in a transaction.
+fn add_exit(alloc: Global, session: u8, wanted: &mut Vec<u8>) -> Result<(), Fail> {
+    if session == 8 {
+        wanted.extend_from_slice(
+            b"8 abort level 1\n8 cleanup level 1\n8 owner o1 gone\n8 delete c6\n",
+        )?;
+    }
+    for context in ["c5", "c4", "c3", "c2", "c1"] {
+        let line = format!(in alloc; "{session} delete {context}\n")?;
+        wanted.extend_from_slice(line.as_bytes())?;
+    }
+    let line = format!(in alloc; "{session} exit\n")?;
+    wanted.extend_from_slice(line.as_bytes())?;
+    Ok(())
+}
+
+/// What 64 sessions say, of which the eighth begins a transaction.
+fn all_exits(alloc: Global) -> Result<Vec<u8>, Fail> {
     let mut wanted = Vec::from_slice(
         alloc,
         b"8 begin level 1\n8 create c6 TopTransactionContext in c1\n8 owner o1\n8 ok\n",
     )?;
     for session in 1..65_u8 {
-        if session == 8 {
-            wanted.extend_from_slice(
-                b"8 abort level 1\n8 cleanup level 1\n8 owner o1 gone\n8 delete c6\n",
-            )?;
-        }
-        for context in ["c5", "c4", "c3", "c2", "c1"] {
-            let line = format!(in alloc; "{session} delete {context}\n")?;
-            wanted.extend_from_slice(line.as_bytes())?;
-        }
-        let line = format!(in alloc; "{session} exit\n")?;
-        wanted.extend_from_slice(line.as_bytes())?;
+        add_exit(alloc, session, &mut wanted)?;
     }
+    Ok(wanted)
+}
+
+/// All 64 sessions end, those without a line too, in the order of their numbers.
+#[test]
+fn the_most_sessions(rt: HostRuntime) -> Result<(), Fail> {
+    let wanted = all_exits(rt.alloc())?;
+    let played = play(rt.alloc(), &["--sessions", "64"], b"@8 begin\n", 5, 0, 0)?;
     assert_eq!(rt; played.outcome.status, 0);
     assert_eq!(rt; played.written.as_slice(), wanted.as_slice());
     Ok(())
@@ -498,10 +503,8 @@ fn the_most_sessions(rt: HostRuntime) -> Result<(), Fail> {
 /// With ample memory no call is refused: 200 transactions of three pins and a chunk give no status 5.
 #[test]
 fn plenty_of_memory(rt: HostRuntime) -> Result<(), Fail> {
-    let mut script = Vec::new(rt.alloc());
-    for _ in 0..200 {
-        script.extend_from_slice(b"begin\npin 1\npin 2\nalloc a 100\ncommit\n")?;
-    }
+    let lines = b"begin\npin 1\npin 2\nalloc a 100\ncommit\n";
+    let script = script_of(rt.alloc(), b"", lines, 200)?;
     let played = play(rt.alloc(), &[], &script, 4096, 0, 0)?;
     assert_eq!(rt;
         played.outcome,
@@ -518,10 +521,8 @@ fn plenty_of_memory(rt: HostRuntime) -> Result<(), Fail> {
 #[test]
 fn lines_of_512_and_513_bytes(rt: HostRuntime) -> Result<(), Fail> {
     for (bytes, status) in [(511, 0), (512, 1)] {
-        let alloc = rt.alloc();
-        let mut script = Vec::from_slice(alloc, b"#")?;
-        script.extend_from_slice(&vec![in alloc; b'x'; bytes]?)?;
-        let played = play(alloc, &[], &script, 100, 0, 0)?;
+        let script = script_of(rt.alloc(), b"#", b"x", bytes)?;
+        let played = play(rt.alloc(), &[], &script, 100, 0, 0)?;
         assert_eq!(rt;
             played.outcome.status,
             status,

@@ -1,5 +1,8 @@
 //! Each call once, and the worked values of lines, words and numbers.
-use super::*;
+use pgs_io::{
+    Buffered, Failed, LineBuf, LineReader, MemSink, MemSource, Next, Sink, Source, StdSink,
+    StdSource, next_token, number, put_all,
+};
 use std::collections::VecDeque;
 use std::test::Fail;
 

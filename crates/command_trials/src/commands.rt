@@ -1,5 +1,5 @@
 //! Each line of the table once, and lines that are nearly one.
-use super::*;
+use pgs_command::{BadLine, Command, ContextKind, HexBytes, Line, ReferenceClass, parse_line};
 use pgs_step::{ChunkBytes, Mode, Name};
 use std::process::Abort;
 

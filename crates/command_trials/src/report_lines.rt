@@ -1,5 +1,6 @@
-use crate::{Total, line};
+//! The lines of a report, and its last one.
 use chunk_header::Stats;
+use context_report::{Total, line};
 use pgs_step::{CtxId, Depth, MemoryCounters, Name, What};
 use std::test::Fail;
 

@@ -1,4 +1,5 @@
-use crate::{Options, OptionsError, read_options};
+//! Words of a command line, and the options that they are.
+use pgs_options::{Options, OptionsError, read_options};
 use std::alloc::{AllocError, Global};
 use std::test::Fail;
 

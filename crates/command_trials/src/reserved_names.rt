@@ -1,4 +1,5 @@
-use crate::is_reserved;
+//! Names that are kept for the contexts of sessions.
+use context_rules::is_reserved;
 use pgs_step::Name;
 use std::test::Fail;
 

@@ -1,12 +1,13 @@
 //! Trees of tens of thousands of contexts.
 ghost use Rattle.std.specs.Prelude.{◌≡◌, ◌-◌, ◌≤◌};
+ghost use Rattle.context_trials.specs.Standing.{Stands};
 
-use crate::{At, Trial};
+use crate::row_tests::transaction;
 use any_ctx::CtxKind;
 use context_node::own_name;
 use context_rules::TreeError;
+use context_trials::{At, Trial};
 use pgs_step::{MemoryCounters, What};
-use reset_callbacks::{CountedHook, Shelf};
 use std::test::Fail;
 
 /// How many of these events say that a context goes, as long as each says it of the one before the last.
@@ -21,13 +22,20 @@ fn falling(events: &[What], from: u64) -> u64 {
     from.saturating_sub(next)
 }
 
-#[test]
-fn a_chain_of_fifty_thousand_is_reported_and_goes_from_below(rt: HostRuntime) -> Result<(), Fail> {
-    let shelf: Shelf<CountedHook> = Shelf::new(rt.alloc(), Vec::new(rt.alloc()))?;
-    let mut trial = Trial::new(rt.alloc(), shelf, 160_000)?;
+/// Makes a chain of 50,000 contexts, the first of which is `w`.
+fn chained(trial: &mut Trial) -> Result<(), TreeError>
+    requires { Stands trial.old }
+    ensures { Stands trial.new }
+{
     let w = own_name(b"w");
     trial.create(At::Top, w, CtxKind::Small)?;
-    trial.chain(At::Named(w), own_name(b"x"), 49_999)?;
+    trial.chain(At::Named(w), own_name(b"x"), 49_999)
+}
+
+#[test]
+fn a_chain_of_fifty_thousand_is_reported_and_goes_from_below(rt: HostRuntime) -> Result<(), Fail> {
+    let mut trial = transaction(rt.alloc(), 160_000)?;
+    chained(&mut trial)?;
     assert_eq!(rt; (trial.count(), trial.held()), (50_006, 51_273_728));
     trial.report();
     let said = trial.events().len();
@@ -39,17 +47,16 @@ fn a_chain_of_fifty_thousand_is_reported_and_goes_from_below(rt: HostRuntime) ->
         chunks: 0,
     };
     assert_eq!(rt; trial.events().last(), Some(&What::GrandTotal(total)));
-    trial.delete(At::Named(w))?;
+    trial.delete(At::Named(own_name(b"w")))?;
     assert_eq!(rt; (trial.count(), trial.held()), (6, 73_728));
-    let gone = trial.events().get(said..).ok_or("nothing was said")?;
+    let gone = trial.events().get(said..).unwrap_or(&[]);
     assert_eq!(rt; (gone.len(), falling(gone, 50_006)), (50_000, 50_000));
     Ok(())
 }
 
 #[test]
 fn one_more_than_65536_contexts_is_too_many(rt: HostRuntime) -> Result<(), Fail> {
-    let shelf: Shelf<CountedHook> = Shelf::new(rt.alloc(), Vec::new(rt.alloc()))?;
-    let mut trial = Trial::new(rt.alloc(), shelf, 20)?;
+    let mut trial = transaction(rt.alloc(), 20)?;
     trial.widen(own_name(b"x"), 65_530)?;
     assert_eq!(rt; (trial.count(), trial.held()), (65_536, 67_176_448));
     let w = own_name(b"w");
