@@ -364,6 +364,3 @@ impl Space {
         self.regions[region as usize].read(offset, out);
     }
 }
-
-#[cfg(test)]
-mod tests;

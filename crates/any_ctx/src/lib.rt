@@ -7,6 +7,3 @@ mod marked;
 pub use alloc_set::SetBoxes;
 pub use any::{AnyCtx, CtxKind};
 pub use marked::{chunk_space, owner_of};
-
-#[cfg(test)]
-mod tests;

@@ -161,6 +161,3 @@ impl RawBlock {
         Ok(())
     }
 }
-
-#[cfg(test)]
-mod tests;

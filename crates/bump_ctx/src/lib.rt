@@ -7,8 +7,6 @@ ghost use Rattle.addr_space.specs.declared.Addr.{Addr};
 ghost use Rattle.bump_ctx.specs.Ledger.{stats, take};
 
 mod books;
-#[cfg(test)]
-mod tests;
 
 use addr_space::{Addr, Space};
 use books::Books;

@@ -251,6 +251,3 @@ pub fn grown(size: u32, need: u32) -> u32
     }
     now
 }
-
-#[cfg(test)]
-mod tests;

@@ -12,8 +12,6 @@ ghost use Rattle.addr_space.specs.declared.Addr.{Addr};
 mod books;
 mod chunks;
 mod parts;
-#[cfg(test)]
-mod tests;
 
 use addr_space::{Addr, Space};
 use books::Books;

@@ -7,8 +7,6 @@ ghost use Rattle.addr_space.specs.declared.Addr.{Addr};
 ghost use Rattle.generation_ctx.specs.Ledger.{stats, take, give, reset, chunk_bytes};
 
 mod books;
-#[cfg(test)]
-mod tests;
 
 use addr_space::{Addr, Space};
 use books::Books;

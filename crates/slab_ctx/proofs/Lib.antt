@@ -14,7 +14,6 @@ pub mod Chosen
 pub mod Freed
 pub mod Served
 pub mod Resized
-pub mod Held
 pub mod Numbered
 pub mod Public
 pub mod Rows

@@ -10,4 +10,3 @@ pub mod Order
 pub mod Counts
 pub mod Kept
 pub mod Steps
-pub mod Held

@@ -214,6 +214,3 @@ impl SlabCtx {
         Box::into_inner(books).discard(space);
     }
 }
-
-#[cfg(test)]
-mod tests;

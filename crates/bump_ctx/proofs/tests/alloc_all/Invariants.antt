@@ -1,6 +1,0 @@
-use Rattle.addr_space.specs.Footprint.{Agrees}
-use Rattle.bump_ctx.specs.State.{footprint}
-use Rattle.bump_ctx.proofs.tests.alloc_all.Given as goal
-
-abbrev pub invariant-loop-size : goal.invariant-loop-size
-invariant-loop-size l = Agrees (footprint l.bump) l.space

@@ -1,0 +1,67 @@
+use Rattle.std.proofs.Common.{◌≡◌, ℕ, ◌+◌, ◌<◌, [], ◌∷◌, Some, None, IsSome, Option, refl, arith, get_or, zero, suc, zero-add}
+use Rattle.addr_space.specs.Space.{Region, region_at, bytes_of, unwritten}
+use Rattle.memory_trials.proofs.spaces.bytes_are_copied.Given.{Over}
+use Rattle.memory_trials.proofs.spaces.bytes_are_copied.Goals as goal
+use Rattle.memory_trials.proofs.spaces.bytes_are_copied.Goals.{After-write, After-copy}
+
+pub write-requires : goal.write-requires
+write-requires g c =
+    let is : region_at c.take.new.self c.in_ok-at.at.region ≡ Some (unwritten 0 8) = c.in_ok-at.ensures.changes.changed in
+    record { live = rw is refl; end_in_region = rw (is, c.in_ok-at.ensures.start) (omega arith) }
+
+-- the region once it was written in
+written : Option Region
+written = Some (record { account = 0; bytes = Some 7 ∷ Some 9 ∷ None ∷ None ∷ None ∷ None ∷ None ∷ None ∷ [] })
+
+-- the region once its bytes were copied
+copied : Option Region
+copied = Some (record { account = 0; bytes = Some 7 ∷ Some 9 ∷ None ∷ None ∷ Some 7 ∷ Some 9 ∷ None ∷ None ∷ [] })
+
+after_write : (g : Over) (c : After-write g) → region_at c.write.new.self c.in_ok-at.at.region ≡ written
+unfolding written
+after_write g c = rw (c.in_ok-at.ensures.changes.changed, c.in_ok-at.ensures.start) at c.write.ensures.changes.changed
+
+pub copy-requires-clause-from : goal.copy-requires-clause-from
+unfolding written
+copy-requires-clause-from g c =
+    let is = after_write g (goal.at.copy-requires-clause-from g c).After-write in
+    record { live = rw is refl; end_in_region = rw (is, c.in_ok-at.ensures.start) (omega arith) }
+
+pub copy-requires-clause-to : goal.copy-requires-clause-to
+unfolding written
+copy-requires-clause-to g c =
+    let is = after_write g (goal.at.copy-requires-clause-to g c).After-write in
+    record { live = rw is refl; end_in_region = rw is (omega arith) }
+
+first_known : (k : ℕ) → k < 2 → IsSome (get_or (bytes_of written) k None)
+unfolding written
+first_known zero h = refl
+first_known (suc zero) h = refl
+first_known (suc (suc k)) h = absurd (omega arith)
+
+pub copy-requires-clause-known : goal.copy-requires-clause-known
+copy-requires-clause-known g c = λ k below.
+    let is = after_write g (goal.at.copy-requires-clause-known g c).After-write in
+    rw (is, c.in_ok-at.ensures.start, zero-add) (first_known k below)
+
+after_copy : (g : Over) (c : After-copy g) → region_at c.write.new.self c.in_ok-at.at.region ≡ written → region_at c.copy.new.self c.in_ok-at.at.region ≡ copied
+unfolding written copied
+after_copy g c is =
+    rw (is, c.in_ok-at.ensures.start) at c.copy.ensures.changes.changed
+
+last_known : (k : ℕ) → k < 2 → IsSome (get_or (bytes_of copied) (4 + k) None)
+unfolding copied
+last_known zero h = refl
+last_known (suc zero) h = refl
+last_known (suc (suc k)) h = absurd (omega arith)
+
+pub read-requires-clause-inside : goal.read-requires-clause-inside
+unfolding copied
+read-requires-clause-inside g c =
+    let is = after_copy g (goal.at.read-requires-clause-inside g c).After-copy (after_write g (goal.at.read-requires-clause-inside g c).After-write) in
+    record { live = rw is refl; end_in_region = rw is (omega arith) }
+
+pub read-requires-clause-known : goal.read-requires-clause-known
+read-requires-clause-known g c = λ k below.
+    let is = after_copy g (goal.at.read-requires-clause-known g c).After-copy (after_write g (goal.at.read-requires-clause-known g c).After-write) in
+    rw is (last_known k below)

@@ -1,0 +1,2 @@
+-- What contracts cite: lists of live chunks.
+pub mod Held

@@ -1,0 +1,130 @@
+//! What Slab contexts answer, and what they report.
+ghost use Rattle.std.specs.Prelude.{◌≤◌, ◌<◌, ◌+◌, ◌≡◌, OnOk, length, Some};
+ghost use Rattle.addr_space.specs.Footprint.{Agrees};
+ghost use Rattle.slab_ctx.specs.State.{footprint};
+ghost use Rattle.memory_trials.specs.Held.{AreLive};
+
+use addr_space::{Addr, Space};
+use chunk_header::{CtxError, Stats};
+use slab_ctx::SlabCtx;
+use std::test::Fail;
+
+// What a context with one chunk of a size has.
+fn with_one(rt: &HostRuntime, size: u32) -> Result<Stats, Fail>
+    requires least { 1 ≤ size }
+    requires most { size ≤ 1024 }
+{
+    let mut space = Space::new(rt.alloc(), 1, 100_000)?;
+    let mut slab = SlabCtx::create(rt.alloc(), &mut space, 0, 7, size)?;
+    slab.alloc(&mut space, u64::from(size))?;
+    Ok(slab.stats())
+}
+
+// The numbers of a context with one block.
+fn row(free: u64, chunks: u64) -> Stats {
+    Stats {
+        total: 8392,
+        blocks: 1,
+        free,
+        chunks,
+    }
+}
+
+#[test]
+fn one_chunk(rt: HostRuntime) -> Result<(), Fail> {
+    let small = with_one(&rt, 1)?;
+    let middle = with_one(&rt, 64)?;
+    let large = with_one(&rt, 1024)?;
+    assert_eq!(rt;
+        (small, middle, large),
+        (row(8128, 508), row(8064, 112), row(6192, 6))
+    );
+    Ok(())
+}
+
+// Takes one chunk more.
+fn take_one(slab: &mut SlabCtx, space: &mut Space, chunks: &mut Vec<Addr>) -> Result<(), Fail>
+    requires agrees { Agrees (footprint slab.old) space.old }
+    requires held { AreLive (footprint slab.old) 64 0 chunks.old.items }
+    ensures agrees { OnOk result (Agrees (footprint slab.new) space.new) }
+    ensures held { OnOk result (AreLive (footprint slab.new) 64 0 chunks.new.items) }
+{
+    let at = slab.alloc(space, 64)?;
+    chunks.push(at)?;
+    Ok(())
+}
+
+// Frees one of the chunks.
+fn free_one(slab: &mut SlabCtx, space: &mut Space, chunks: &Vec<Addr>, index: usize)
+    requires agrees { Agrees (footprint slab.old) space.old }
+    requires held { AreLive (footprint slab.old) 64 index chunks.now.items }
+    requires within { index < chunks.now.len }
+    ensures agrees { Agrees (footprint slab.new) space.new }
+    ensures held { AreLive (footprint slab.new) 64 (index + 1) chunks.now.items }
+{
+    let at = chunks[index];
+    let _ = slab.free(space, at);
+}
+
+#[test]
+fn twelve_blocks(rt: HostRuntime) -> Result<(), Fail> {
+    let mut space = Space::new(rt.alloc(), 1, 1_000_000)?;
+    let mut slab = SlabCtx::create(rt.alloc(), &mut space, 0, 7, 64)?;
+    let mut chunks = Vec::new(rt.alloc());
+    for _ in 0..12 * 113 {
+        take_one(&mut slab, &mut space, &mut chunks)?;
+    }
+    for index in 0..chunks.len() {
+        free_one(&mut slab, &mut space, &chunks, index);
+    }
+    let stats = Stats {
+        total: 82120,
+        blocks: 10,
+        free: 81360,
+        chunks: 1130,
+    };
+    assert_eq!(rt; slab.stats(), stats);
+    Ok(())
+}
+
+#[test]
+fn a_freed_chunk_is_taken_again(rt: HostRuntime) -> Result<(), Fail> {
+    let mut space = Space::new(rt.alloc(), 1, 9000)?;
+    let mut slab = SlabCtx::create(rt.alloc(), &mut space, 0, 7, 64)?;
+    let at = slab.alloc(&mut space, 64)?;
+    let stays = slab.realloc(&mut space, at, 0, 64)?;
+    slab.headed();
+    slab.free(&mut space, at)?;
+    let again = slab.alloc(&mut space, 64)?;
+    assert_eq!(rt; (stays == at, again == at), (true, true));
+    assert_eq!(rt; space.taken(0), 8392);
+    Ok(())
+}
+
+#[test]
+fn reset_and_discarded(rt: HostRuntime) -> Result<(), Fail> {
+    let mut space = Space::new(rt.alloc(), 1, 9000)?;
+    let mut slab = SlabCtx::create(rt.alloc(), &mut space, 0, 7, 64)?;
+    slab.alloc(&mut space, 64)?;
+    slab.reset(&mut space);
+    let stats = slab.stats();
+    slab.discard(&mut space);
+    assert_eq!(rt; (stats.total, stats.blocks, stats.chunks), (200, 0, 0));
+    assert_eq!(rt; (space.held(0), space.taken(0)), (0, 8392));
+    Ok(())
+}
+
+// Why a context in a space of so many bytes refuses a request.
+fn refusal(rt: &HostRuntime, limit: u64, size: u64) -> Result<Option<CtxError>, Fail> {
+    let mut space = Space::new(rt.alloc(), 1, limit)?;
+    let mut slab = SlabCtx::create(rt.alloc(), &mut space, 0, 7, 64)?;
+    Ok(slab.alloc(&mut space, size).err())
+}
+
+#[test]
+fn what_a_context_refuses(rt: HostRuntime) -> Result<(), Fail> {
+    assert_eq!(rt; refusal(&rt, 9000, 1_073_741_824)?, Some(CtxError::TooBig));
+    assert_eq!(rt; refusal(&rt, 9000, 65)?, Some(CtxError::WrongSize));
+    assert_eq!(rt; refusal(&rt, 8391, 64)?, Some(CtxError::NoSpace));
+    Ok(())
+}
