@@ -1,8 +1,9 @@
 -- Lemmas on entries at their places.
-use Rattle.std.proofs.Common.{◌≡◌, ℕ, zero, suc, ◌+◌, ◌-◌, ◌<◌, ◌≤◌, ◌==◌, nat_eq, is_some, IfSome, if◌then◌else◌, Bool, Option, Some, None, List, [], ◌∷◌, slice_get, get_or, set, length, sym, ap, ◌∙◌, inl, inr, arith, option_map}
+use Rattle.std.proofs.Common.{◌≡◌, ℕ, zero, suc, ◌+◌, ◌-◌, ◌<◌, ◌≤◌, ◌==◌, nat_eq, is_some, IfSome, if◌then◌else◌, Bool, Option, Some, None, List, [], ◌∷◌, slice_get, get_or, set, length, refl, sym, ap, ◌∙◌, inl, inr, arith, option_map}
 use Rattle.std.specs.Prelude.{position}
 use Rattle.std.specs.Map.{keys_of}
 use Rattle.std.specs.List.{position_or_len}
+use Rattle.indexmap.specs.Layout.{set_value_at}
 use Rattle.std.specs.Cmp.{nat_eq_equiv}
 use Rattle.std.proofs.lemmas.List.{get_or-set_same, get_or-set_other, get_or-take}
 use Rattle.std.proofs.lemmas.Option.{slice_get_past, slice_get-get_or, slice_get_within}
@@ -14,8 +15,26 @@ use Rattle.addr_space.proofs.Options.{from_map}
 use Rattle.slab_ctx.specs.declared.tree.Rank.{Rank}
 use Rattle.slab_ctx.specs.declared.tree.Entry.{Entry}
 use Rattle.slab_ctx.specs.declared.ranks.Ranks.{Ranks}
-use Rattle.slab_ctx.specs.Tree.{leaf}
-use Rattle.slab_ctx.specs.Ranks.{rank_at, entry_of, entry_in, IsRanked}
+use Rattle.slab_ctx.specs.Tree.{Leads, IsLesser, leaf}
+use Rattle.slab_ctx.specs.Ranks.{rank_at, entry_of, entry_in, current_in, leaf_in, IsRanked}
+use Rattle.slab_ctx.proofs.Trees.{Leads-trans}
+
+-- an entry of a key is the key with its rank
+pub pair-at : (es : List (ℕ × Rank)) (place key : ℕ) → (it : (e : Entry) × (entry_in es place ≡ Some e) × (e.key ≡ key)) → slice_get es place ≡ Some (key, it.0.rank)
+pair-at es place key it =
+    let found = from_map entry_of (slice_get es place) it.0 it.1 in
+    found.1 ∙ ap (λ k. Some (k, found.0.1)) (ap (λ e. e.key) found.2 ∙ it.2) ∙ ap (λ r. Some (key, r)) (ap (λ e. e.rank) found.2)
+
+-- a key has another rank
+value-set : (es : List (ℕ × Rank)) (place p : ℕ) (key : ℕ) (old rank : Rank) → slice_get es place ≡ Some (key, old) → slice_get (set_value_at es place rank) p ≡ (if place == p then Some (key, rank) else slice_get es p)
+value-set [] place p key old rank at = grind (arith, at)
+value-set (e ∷ es) zero zero key old rank at = grind (arith, at)
+value-set (e ∷ es) zero (suc p) key old rank at = grind arith
+value-set (e ∷ es) (suc place) zero key old rank at = grind arith
+value-set (e ∷ es) (suc place) (suc p) key old rank at = grind (arith, value-set es place p key old rank at)
+
+pub entry-set : (es : List (ℕ × Rank)) (place p : ℕ) (key : ℕ) (old rank : Rank) → slice_get es place ≡ Some (key, old) → entry_in (set_value_at es place rank) p ≡ (if place == p then Some (entry_of (key, rank)) else entry_in es p)
+entry-set es place p key old rank at = rw (value-set es place p key old rank at) (grind arith)
 
 -- a key is put
 insert-get : (es : List (ℕ × Rank)) (key : ℕ) (rank : Rank) (p : ℕ) → slice_get (insert_entry nat_eq es key rank) p ≡ (if position_or_len (nat_eq key) (keys_of es) == p then Some (key, rank) else slice_get es p)
@@ -54,23 +73,60 @@ module _ (es fs : List (ℕ × Rank)) (test : ℕ → Bool) (place : ℕ) (found
     ]
   ]
 
--- where the tree has what its entries are
-module _ (r : Ranks) (ranked : IsRanked r) where
-  pub entry-at : (key : ℕ) (rank : Rank) → rank_at r.entries.entries key ≡ Some rank → (p : ℕ) × (p < r.tree.places) × (leaf r.tree p ≡ Some (entry_of (key, rank)))
-  entry-at key rank found =
+-- the tree has none of the current entry
+pub leaf-all : (o : Option ℕ) (es : List (ℕ × Rank)) (p : ℕ) → o ≡ None → leaf_in o es p ≡ entry_in es p
+leaf-all None es p is = refl
+leaf-all (Some c) es p is = grind (arith, is)
+
+pub leaf-put : (es fs : List (ℕ × Rank)) (place p : ℕ) (x : Option Entry) (new : Entry) → x ≡ entry_in es p → entry_in fs p ≡ (if place == p then Some new else entry_in es p) → (if place == p then None else x) ≡ leaf_in (Some place) fs p
+leaf-put es fs place p x new at is = grind (arith, at, is)
+
+pub leaf-changed : (o : Option ℕ) (es fs : List (ℕ × Rank)) (place p : ℕ) (new : Entry) → o ≡ Some place → entry_in fs p ≡ (if place == p then Some new else entry_in es p) → leaf_in o es p ≡ leaf_in o fs p
+leaf-changed None es fs place p new is at = grind (arith, is)
+leaf-changed (Some c) es fs place p new is at = grind (arith, is, at)
+
+leaf-some : (o : Option ℕ) (es : List (ℕ × Rank)) (p : ℕ) (e : Entry) → leaf_in o es p ≡ Some e → entry_in es p ≡ Some e
+leaf-some None es p e at = at
+leaf-some (Some c) es p e at = grind (arith, at)
+
+current-some : (o : Option ℕ) (es : List (ℕ × Rank)) (e : Entry) → current_in o es ≡ Some e → (p : ℕ) × (entry_in es p ≡ Some e)
+current-some None es e at = grind (arith, at)
+current-some (Some c) es e at = (c, at)
+
+leads-all : (o : Option ℕ) (es : List (ℕ × Rank)) (best result x y : Option Entry) (p : ℕ) → IsLesser (current_in o es) best result → x ≡ leaf_in o es p → Leads best x → entry_in es p ≡ y → Leads result y
+leads-all None es best result x y p lesser at leads is = Leads-trans result best y lesser.right (rw (← is, ← at) leads)
+leads-all (Some c) es best result x y p lesser at leads is = elim (cases_eq c p) [
+  | inl same ↦ rw (← is, ← same) lesser.left
+  | inr differs ↦ let e : x ≡ y = grind (arith, at, is, differs) in Leads-trans result best y lesser.right (rw (← e) leads)
+]
+
+-- where the tree has what its entries are, and leads to what is least of them and the current one
+module _ (r : Ranks) (ranked : IsRanked r) (best result : Option Entry) (lesser : IsLesser (current_in r.current r.entries.entries) best result) where
+  pub least-leads : ((p : ℕ) → p < r.tree.places → Leads best (leaf r.tree p)) → (key : ℕ) (rank : Rank) → rank_at r.entries.entries key ≡ Some rank → Leads result (Some (entry_of (key, rank)))
+  least-leads leads key rank found =
       let it = place_from_lookup (λ n. key == n) r.entries.entries rank found in
       let same : it.1 ≡ key = let test = it.3 in grind arith in
       let within = slice_get_within r.entries.entries it.0 (it.1, rank) it.2 in
-      (it.0, omega (arith, ranked.few), ranked.leaf it.0 (omega (arith, ranked.few)) ∙ ap (option_map entry_of) it.2 ∙ ap (λ k. Some (entry_of (k, rank))) same)
+      let inside : it.0 < r.tree.places = omega (arith, ranked.few, within) in
+      leads-all r.current r.entries.entries best result (leaf r.tree it.0) (Some (entry_of (key, rank))) it.0 lesser (ranked.leaf it.0 inside) (leads it.0 inside) (ap (option_map entry_of) it.2 ∙ ap (λ k. Some (entry_of (k, rank))) same)
 
-  entry-own : (e : Entry) (p : ℕ) → p < r.tree.places → leaf r.tree p ≡ Some e → rank_at r.entries.entries e.key ≡ Some e.rank
-  entry-own e p within at =
-      let it = from_map entry_of (slice_get r.entries.entries p) e (sym (ranked.leaf p within) ∙ at) in
+  entry-own : (e : Entry) (p : ℕ) → entry_in r.entries.entries p ≡ Some e → rank_at r.entries.entries e.key ≡ Some e.rank
+  entry-own e p at =
+      let it = from_map entry_of (slice_get r.entries.entries p) e at in
       rw (← it.2) (lookup_from_place nat_eq_equiv r.entries.entries p it.0.0 it.0.1 ranked.distinct it.1)
 
-  pub least-own : (o : Option Entry) → IfSome o (λ e. (p : ℕ) × (p < r.tree.places) × (leaf r.tree p ≡ Some e)) → IfSome o (λ e. rank_at r.entries.entries e.key ≡ Some e.rank)
-  least-own None it = tt
-  least-own (Some e) it = entry-own e it.0 it.1 it.2
+  own-by : (o : Option Entry) → o ≡ result → IfSome best (λ e. (p : ℕ) × (p < r.tree.places) × (leaf r.tree p ≡ Some e)) → IfSome o (λ e. rank_at r.entries.entries e.key ≡ Some e.rank)
+  own-by None is it = tt
+  own-by (Some e) is it = elim lesser.one [
+    | inl own ↦ let at = current-some r.current r.entries.entries e (sym own ∙ sym is) in entry-own e at.0 at.1
+    | inr other ↦
+        let that : best ≡ Some e = sym other ∙ sym is in
+        let there : (p : ℕ) × (p < r.tree.places) × (leaf r.tree p ≡ Some e) = rw that at it in
+        entry-own e there.0 (leaf-some r.current r.entries.entries there.0 e (sym (ranked.leaf there.0 there.1) ∙ there.2))
+  ]
+
+  pub least-own : IfSome best (λ e. (p : ℕ) × (p < r.tree.places) × (leaf r.tree p ≡ Some e)) → IfSome result (λ e. rank_at r.entries.entries e.key ≡ Some e.rank)
+  least-own it = own-by result refl it
 
 -- how many keys there are
 pub few-put : (places : ℕ) (o : Option Rank) (n m : ℕ) → n ≡ m + (if is_some o then 0 else 1) → (o ≡ None → m < places) → m ≤ places → n ≤ places

@@ -16,6 +16,10 @@ Leads-trans a None (Some c) x y = absurd y
 Leads-trans None (Some b) (Some c) x y = absurd x
 Leads-trans (Some a) (Some b) (Some c) x y = grind arith
 
+-- the lesser of what was read
+pub lesser-read : {a b c x y z : Option Entry} → IsLesser a b c → a ≡ x → b ≡ y → c ≡ z → IsLesser x y z
+lesser-read lesser one two three = rw (← one, ← two, ← three) lesser
+
 -- one node is another one
 module _ (t u : Tree) (j : ℕ) (best : Option Entry) (items : u.nodes.items ≡ set t.nodes.items j best) where
   pub node-same : j < length t.nodes.items → node u j ≡ best
@@ -32,6 +36,16 @@ module _ (t u : Tree) (j : ℕ) (best : Option Entry) (items : u.nodes.items ≡
       | inr differs ↦ rw (node-other jj differs) (tree.lesser jj least (omega (arith, places)) (λ e. differs (omega arith)) (λ e. differs (omega arith)))
     ]);
   }
+
+-- a node stays what it was, so those above it do
+pub settled : (t : Tree) (i j : ℕ) → IsTreeBut t i → 2 * j ≤ i → i < 2 * j + 2 → IsLesser (node t (2 * j)) (node t (2 * j + 1)) (node t j) → IsTree t
+settled t i j tree low high lesser = record {
+  long = tree.long;
+  lesser = λ jj least most. elim (cases_eq jj j) [
+    | inl same ↦ rw same lesser
+    | inr differs ↦ tree.lesser jj least most (λ e. differs (omega arith)) (λ e. differs (omega arith))
+  ];
+}
 
 -- the tree is right at last
 pub all-raised : (t : Tree) (i : ℕ) → i ≤ 1 → IsTreeBut t i → IsTree t

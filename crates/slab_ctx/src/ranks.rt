@@ -1,10 +1,12 @@
 //! Keys by their ranks.
 ghost use Rattle.std.specs.Prelude.{◌≡◌, ◌≢◌, ℕ, ◌+◌, ◌*◌, ◌<◌, ◌≤◌, ◌==◌, Some, None, IfSome, IfOk, OnOk, true, false, if◌then◌else◌, [], length};
 ghost use Rattle.slab_ctx.specs.Tree.{Leads};
-ghost use Rattle.slab_ctx.specs.Ranks.{rank_at, entry_of};
+ghost use Rattle.std.specs.Map.{keys_of};
+ghost use Rattle.slab_ctx.specs.Ranks.{rank_at, entry_of, entry_in, current_in};
+ghost use Rattle.slab_ctx.specs.declared.tree.Entry.{Entry};
 ghost use Rattle.slab_ctx.specs.declared.tree.Rank.{Rank};
 
-use crate::tree::{Entry, Rank, Tree};
+use crate::tree::{Entry, Rank, Tree, lesser};
 use indexmap::IndexMap;
 use std::alloc::{AllocError, Global};
 
@@ -12,9 +14,25 @@ use std::alloc::{AllocError, Global};
 #[derive(Drop)]
 pub struct Ranks {
     pub entries: IndexMap<u32, Rank>,
-    // The place of an entry is its index.
+    // The place of an entry is its index. The tree has none of the current one.
     pub tree: Tree,
+    // The place of the entry that was put last. To put it once more leaves the tree as it is.
+    pub current: Option<usize>,
     pub alloc: Global,
+}
+
+// Gives the key at a place another rank.
+fn change(entries: &mut IndexMap<u32, Rank>, place: usize, key: u32, rank: Rank)
+    requires { (e : Entry) × (entry_in entries.old.entries place ≡ Some e) × (e.key ≡ key) }
+    ensures places { (p : ℕ) → entry_in entries.new.entries p ≡ (if place == p then Some (entry_of (key, rank)) else entry_in entries.old.entries p) }
+    ensures keys { keys_of entries.new.entries ≡ keys_of entries.old.entries }
+    ensures len { length entries.new.entries ≡ length entries.old.entries }
+    ensures at { (other : ℕ) → rank_at entries.new.entries other ≡ (if key == other then Some rank else rank_at entries.old.entries other) }
+{
+    match entries.get_index_mut(place) {
+        Some(slot) => *slot = rank,
+        None => unreachable!(),
+    }
 }
 
 impl Ranks {
@@ -28,8 +46,43 @@ impl Ranks {
         Ranks {
             entries: IndexMap::new(alloc),
             tree: Tree::empty(alloc),
+            current: None,
             alloc,
         }
+    }
+
+    // The entry at a place.
+    fn entry(&self, place: usize) -> Option<Entry>
+        ensures { result ≡ entry_in self.now.entries.entries place }
+    {
+        let (key, rank) = self.entries.get_index(place)?;
+        Some(Entry {
+            key: *key,
+            rank: *rank,
+        })
+    }
+
+    // The current entry.
+    fn current_entry(&self) -> Option<Entry>
+        ensures { result ≡ current_in self.now.current self.now.entries.entries }
+    {
+        self.entry(self.current?)
+    }
+
+    // Puts the current entry in the tree, so that none is current.
+    fn settle(&mut self)
+        requires ranked { IsRanked self.old }
+        ensures ranked { IsRanked self.new }
+        ensures same { self.new.entries ≡ self.old.entries }
+        ensures places { self.new.tree.places ≡ self.old.tree.places }
+        ensures none { self.new.current ≡ None }
+    {
+        let Some(place) = self.current else {
+            return;
+        };
+        let entry = self.entry(place);
+        self.tree.set(place, entry);
+        self.current = None;
     }
 
     // Makes a tree of more places.
@@ -63,6 +116,17 @@ impl Ranks {
         self.grow()
     }
 
+    // The place of the current entry, where it is that of a key.
+    fn current_of(&self, key: u32) -> Option<usize>
+        ensures { IfSome result (λ place. (self.now.current ≡ Some place) × ((e : Entry) × (entry_in self.now.entries.entries place ≡ Some e) × (e.key ≡ key))) }
+    {
+        let entry = self.current_entry()?;
+        if entry.key != key {
+            return None;
+        }
+        self.current
+    }
+
     // Gives a key its rank: one that is there already, or one for which there is room.
     pub fn put(&mut self, key: u32, rank: Rank)
         requires ranked { IsRanked self.old }
@@ -70,8 +134,16 @@ impl Ranks {
         ensures ranked { IsRanked self.new }
         ensures at { (other : ℕ) → rank_at self.new.entries.entries other ≡ (if key == other then Some rank else rank_at self.old.entries.entries other) }
     {
+        if let Some(place) = self.current_of(key) {
+            change(&mut self.entries, place, key, rank);
+            return;
+        }
+        self.settle();
         match self.entries.insert_full(key, rank) {
-            Ok((place, _)) => self.tree.set(place, Some(Entry { key, rank })),
+            Ok((place, _)) => {
+                self.tree.set(place, None);
+                self.current = Some(place);
+            }
             Err(_) => unreachable!(),
         }
     }
@@ -82,6 +154,7 @@ impl Ranks {
         ensures ranked { IsRanked self.new }
         ensures at { (other : ℕ) → rank_at self.new.entries.entries other ≡ (if key == other then None else rank_at self.old.entries.entries other) }
     {
+        self.settle();
         let Some((place, _, _)) = self.entries.swap_remove_full(&key) else {
             return;
         };
@@ -96,6 +169,7 @@ impl Ranks {
     {
         self.entries.clear();
         self.tree = Tree::empty(self.alloc);
+        self.current = None;
     }
 
     // The key of the least rank, with that.
@@ -104,6 +178,6 @@ impl Ranks {
         ensures there { IfSome result (λ e. rank_at self.now.entries.entries e.key ≡ Some e.rank) }
         ensures least { (key : ℕ) (rank : Rank) → rank_at self.now.entries.entries key ≡ Some rank → Leads result (Some (entry_of (key, rank))) }
     {
-        self.tree.least()
+        lesser(self.current_entry(), self.tree.least())
     }
 }

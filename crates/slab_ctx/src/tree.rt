@@ -1,5 +1,5 @@
 //! A tree of entries over places: each node has the lesser of the two below it, and the first one the least of all.
-ghost use Rattle.std.specs.Prelude.{◌≡◌, ◌≢◌, ℕ, ◌+◌, ◌*◌, ◌<◌, ◌≤◌, ◌==◌, Some, None, IfSome, IfOk, true, false, if◌then◌else◌};
+ghost use Rattle.std.specs.Prelude.{◌≡◌, ◌≢◌, ℕ, ◌+◌, ◌*◌, ◌<◌, ◌≤◌, ◌==◌, Some, None, IfSome, IfOk, IsTrue, true, false, if◌then◌else◌};
 ghost use Rattle.slab_ctx.specs.Tree.{IsAtMost, IsLesser, Leads};
 
 use std::alloc::{AllocError, Global};
@@ -38,8 +38,21 @@ fn is_less(a: Rank, b: Rank) -> bool
     a.major < b.major
 }
 
+// Whether two are one entry, or none both.
+fn is_same(a: Option<Entry>, b: Option<Entry>) -> bool
+    ensures { IsTrue result → a ≡ b }
+{
+    match (a, b) {
+        (Some(x), Some(y)) => x.key == y.key
+            && x.rank.major == y.rank.major
+            && x.rank.minor == y.rank.minor,
+        (None, None) => true,
+        _ => false,
+    }
+}
+
 // The lesser of two entries, where there are some.
-fn lesser(a: Option<Entry>, b: Option<Entry>) -> Option<Entry>
+pub fn lesser(a: Option<Entry>, b: Option<Entry>) -> Option<Entry>
     ensures { IsLesser a b result }
 {
     let Some(x) = a else {
@@ -81,7 +94,7 @@ impl Tree {
         }
     }
 
-    // Makes the nodes above one right.
+    // Makes the nodes above one right, up to the first one that stays what it was.
     fn raise(&mut self, start: usize)
         requires tree { IsTreeBut self.old start }
         requires within { start < 2 * self.old.places }
@@ -93,6 +106,9 @@ impl Tree {
         while index > 1 {
             index /= 2;
             let best = lesser(self.nodes[2 * index], self.nodes[2 * index + 1]);
+            if is_same(best, self.nodes[index]) {
+                return;
+            }
             self.nodes[index] = best;
         }
     }
