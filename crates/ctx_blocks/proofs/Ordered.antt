@@ -1,8 +1,8 @@
 -- Lemmas on blocks in the order of their numbers, where no two are in one region: that list is the only one that rises
 -- and has the same block in each region.
-use Rattle.std.proofs.Common.{◌≡◌, ◌≢◌, ℕ, ◌+◌, ◌<◌, ◌≤◌, ◌==◌, if◌then◌else◌, List, [], ◌∷◌, length, Option, Some, None, false, refl, sym, ap, ◌∙◌, arith, sum_by, nat_eq, position, inl, inr, zero, suc}
+use Rattle.std.proofs.Common.{◌≡◌, ◌≢◌, ℕ, ◌+◌, ◌<◌, ◌≤◌, ◌==◌, if◌then◌else◌, [], ◌∷◌, length, Option, Some, None, false, refl, sym, ap, ◌∙◌, arith, sum_by, nat_eq, position, inl, inr, zero, suc}
 use Rattle.std.specs.List.{IsDistinct, AllByRecursion, swap_remove}
-use Rattle.std.specs.Map.{lookup, keys_of, values_of}
+use Rattle.std.specs.Map.{keys_of, values_of}
 use Rattle.std.proofs.lemmas.Bool.{cases_eq}
 use Rattle.std.proofs.lemmas.List.Sums.{sum_by-cons}
 use Rattle.std.proofs.Math.Numerals.{sub-one}
@@ -167,9 +167,9 @@ pub first-swap_remove : (keeper first region : ℕ) (es : Entries) → region �
 first-swap_remove keeper first region [] differs is = absurd is
 first-swap_remove keeper first region (e ∷ es) differs is =
     by (position (λ n. region == n) (keys_of (e ∷ es))) refl
-    where
-      by : (r : Option ℕ) → position (λ n. region == n) (keys_of (e ∷ es)) ≡ r → IsFirst keeper first (swap_remove_entry (λ n. region == n) (e ∷ es))
-      by None p = rw p is
-      by (Some i) p =
-          rw p (first-swapped keeper first i e (e ∷ es) is (Found-position (λ n. region == n) (e ∷ es) i p).within
-          (λ none. (let passes = rw none at (position-Some (λ n. region == n) (keys_of (e ∷ es)) i 0 p).1 in absurd (grind (arith, passes, is.0, differs)))))
+  where
+    by : (r : Option ℕ) → position (λ n. region == n) (keys_of (e ∷ es)) ≡ r → IsFirst keeper first (swap_remove_entry (λ n. region == n) (e ∷ es))
+    by None p = rw p is
+    by (Some i) p =
+        rw p (first-swapped keeper first i e (e ∷ es) is (Found-position (λ n. region == n) (e ∷ es) i p).within
+        (λ none. (let passes = rw none at (position-Some (λ n. region == n) (keys_of (e ∷ es)) i 0 p).1 in absurd (grind (arith, passes, is.0, differs)))))

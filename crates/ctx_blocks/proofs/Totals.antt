@@ -1,8 +1,7 @@
 -- Lemmas on the bytes of all blocks.
-use Rattle.std.proofs.Common.{◌≡◌, ℕ, ◌+◌, ◌==◌, List, [], ◌∷◌, ◌++◌, Some, None, arith, sum_by, if◌then◌else◌, ◌≤◌, length, is_some, refl, Bool}
+use Rattle.std.proofs.Common.{◌≡◌, ℕ, ◌+◌, ◌==◌, List, [], ◌∷◌, Some, None, arith, sum_by, if◌then◌else◌, ◌≤◌, length, is_some, refl, Bool}
 use Rattle.std.specs.Map.{lookup, values_of}
-use Rattle.std.proofs.lemmas.List.{map-append}
-use Rattle.std.proofs.lemmas.List.Sums.{sum_by-append, sum_by-cons}
+use Rattle.std.proofs.lemmas.List.Sums.{sum_by-cons}
 use Rattle.std.proofs.lemmas.Map.Entries.{sum_by-remove_entry}
 use Rattle.ctx_blocks.specs.Layout.{Layout, block_at, total, rooms}
 use Rattle.ctx_blocks.specs.Kept.{IsFirst}

@@ -1,12 +1,11 @@
 -- Lemmas on what a layout shows of the blocks as they are kept.
-use Rattle.std.proofs.Common.{◌≡◌, ℕ, ◌+◌, ◌<◌, ◌≤◌, ◌==◌, if◌then◌else◌, ◌++◌, [], ◌∷◌, Option, Some, None, ap, sym, ◌∙◌, arith, sum_by, nat_eq}
-use Rattle.std.specs.Map.{lookup, values_of}
+use Rattle.std.proofs.Common.{◌≡◌, ℕ, ◌+◌, ◌==◌, if◌then◌else◌, ◌++◌, [], ◌∷◌, Option, Some, None, ap, sym, ◌∙◌, arith, sum_by, nat_eq}
+use Rattle.std.specs.Map.{values_of}
 use Rattle.std.proofs.lemmas.List.{map-append}
 use Rattle.std.proofs.lemmas.List.Sums.{sum_by-append, sum_by-cons}
 use Rattle.indexmap.specs.IndexMap.{IsUnique}
 use Rattle.ctx_blocks.specs.Layout.{block_at, total}
 use Rattle.ctx_blocks.specs.Kept.{layout_of, IsFirst, AreRising, IsKept}
-use Rattle.ctx_blocks.specs.Order.{in_order}
 use Rattle.ctx_blocks.specs.Steps.{PutsBlock, DropsBlock}
 use Rattle.ctx_blocks.specs.declared.parts.Block.{Block}
 use Rattle.ctx_blocks.specs.declared.books.Books.{Books}
@@ -49,7 +48,7 @@ module _ (b n : Books) (number : ℕ) (apart : IsUnique nat_eq b.blocks) (now : 
       let upto = first_upto b.keeper b.first_number b.last_number (layout_of b).blocks (first_view b kept) kept.numbered in
       record {
         blocks = in_order-with b.first_number (b.last_number + 1) number b.blocks.entries n.blocks.entries (AreApart-distinct b.blocks.entries apart) (AreApart-distinct n.blocks.entries now) new
-        (rising_add b.first_number b.last_number number new (layout_of b).blocks none (omega (arith, upto)) number_is kept.numbered) same;
+            (rising_add b.first_number b.last_number number new (layout_of b).blocks none (omega (arith, upto)) number_is kept.numbered) same;
         at = one_view (Some new) same;
       }
 
