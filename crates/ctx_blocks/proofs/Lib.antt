@@ -15,6 +15,8 @@ pub mod Dropped
 pub mod Cleared
 pub mod Summed
 pub mod Numbered
+pub mod Ordered
+pub mod Viewed
 pub mod Among
 pub mod Places
 pub mod Put

@@ -11,6 +11,8 @@ use Rattle.chunk_header.specs.Header.{block_bytes}
 use Rattle.chunk_header.proofs.Words.{length-block_bytes}
 use Rattle.chunk_header.proofs.Wrote.{Moves-taken}
 use Rattle.ctx_blocks.specs.Layout.{Layout, block_at, start_of, total, footprint}
+use Rattle.std.specs.List.{IsDistinct}
+use Rattle.ctx_blocks.specs.Order.{in_order}
 use Rattle.ctx_blocks.specs.Kept.{layout_of, IsFilled, IsLaid, IsCounted, IsKept}
 use Rattle.ctx_blocks.specs.declared.parts.Block.{Block}
 use Rattle.ctx_blocks.specs.declared.books.Books.{Books}
@@ -76,12 +78,14 @@ module _ (l : Layout) (block : Block) (blocks : l.blocks ≡ (l.keeper, block) �
 
 -- all that is kept where the keeper is alone
 pub IsKept-new : (n : Books) (block : Block) → n.blocks.entries ≡ (n.keeper, block) ∷ [] → n.chunks.entries ≡ [] → IsFilled (block.size - 200 - 40) block → block.live ≡ 0 → block.number ≡ n.first_number → n.last_number ≡ n.first_number → n.total ≡ block.size → IsKept n
+unfolding IsDistinct
 IsKept-new n block blocks chunks filled none number last totals = record {
-  laid = IsLaid-new (layout_of n) block blocks chunks filled;
-  counted = IsCounted-new (layout_of n) block blocks chunks none;
+  laid = IsLaid-new (layout_of n) block (ap in_order blocks) chunks filled;
+  counted = IsCounted-new (layout_of n) block (ap in_order blocks) chunks none;
   first = rw blocks (refl, number);
   numbered = rw blocks (omega arith, omega arith, tt);
-  total = totals ∙ sym (total_one (layout_of n) block blocks chunks);
+  total = totals ∙ sym (total_one (layout_of n) block (ap in_order blocks) chunks);
   most = omega (arith, filled.small);
+  apart = rw blocks (tt, tt);
   unique = rw chunks tt;
 }

@@ -7,11 +7,11 @@ use Rattle.ctx_blocks.specs.Kept.{AreRising, IsFirst}
 use Rattle.ctx_blocks.specs.Steps.{with_block, without_block}
 use Rattle.ctx_blocks.specs.declared.parts.Block.{Block}
 
-abbrev Entries : Type 0
+abbrev pub Entries : Type 0
 Entries = List (ℕ × Block)
 
 -- the block of a region
-abbrev at_region : ℕ → Entries → Option Block
+abbrev pub at_region : ℕ → Entries → Option Block
 at_region region es = lookup (λ n. region == n) es
 
 -- the least number may be a lower one

@@ -1,8 +1,7 @@
 -- Lemmas on the bytes of all blocks.
-use Rattle.std.proofs.Common.{◌≡◌, ℕ, ◌+◌, ◌==◌, List, [], ◌∷◌, ◌++◌, Some, None, arith, sum_by, if◌then◌else◌, ◌≤◌, length, is_some, refl, Bool}
+use Rattle.std.proofs.Common.{◌≡◌, ℕ, ◌+◌, ◌==◌, List, [], ◌∷◌, Some, None, arith, sum_by, if◌then◌else◌, ◌≤◌, length, is_some, refl, Bool}
 use Rattle.std.specs.Map.{lookup, values_of}
-use Rattle.std.proofs.lemmas.List.{map-append}
-use Rattle.std.proofs.lemmas.List.Sums.{sum_by-append, sum_by-cons}
+use Rattle.std.proofs.lemmas.List.Sums.{sum_by-cons}
 use Rattle.std.proofs.lemmas.Map.Entries.{sum_by-remove_entry}
 use Rattle.ctx_blocks.specs.Layout.{Layout, block_at, total, rooms}
 use Rattle.ctx_blocks.specs.Kept.{IsFirst}
@@ -60,19 +59,10 @@ total-put l m number old block blocks was size = rw blocks (omega (arith, sum-pu
 pub total-dropped : (l m : Layout) (number : ℕ) (old : Block) → m.blocks ≡ without_block l.blocks number → block_at l number ≡ Some old → total m + old.size ≡ total l
 total-dropped l m number old blocks was = rw blocks (sum-dropped (λ b. b.size) l.blocks number old was)
 
-pub total-last : (l m : Layout) (number : ℕ) (old : Block) → l.blocks ≡ m.blocks ++ (number, old) ∷ [] → total m + old.size ≡ total l
-total-last l m number old blocks =
-    let f : Block → ℕ = λ b. b.size in
-    rw (blocks, map-append) (omega (arith, sum_by-append f (values_of m.blocks) (old ∷ []), sum_by-cons f old []))
-
 -- the keeper stays the first block, with its number
 pub IsFirst-put : (keeper first : ℕ) (blocks : List (ℕ × Block)) (number : ℕ) (block : Block) → ((old : Block) → lookup (λ n. number == n) blocks ≡ Some old → block.number ≡ old.number) → IsFirst keeper first blocks → IsFirst keeper first (with_block blocks number block)
 IsFirst-put keeper first [] number block same is = absurd is
 IsFirst-put keeper first (e ∷ es) number block same is = grind (arith, same e.1)
-
-pub IsFirst-dropped : (keeper first : ℕ) (blocks : List (ℕ × Block)) (number : ℕ) → (number ≡ keeper → ⊥) → IsFirst keeper first blocks → IsFirst keeper first (without_block blocks number)
-IsFirst-dropped keeper first [] number differs is = absurd is
-IsFirst-dropped keeper first (e ∷ es) number differs is = grind arith
 
 -- it is a block of the context
 first_owned : (keeper number : ℕ) (es : List (ℕ × Block)) → IsFirst keeper number es → (b : Block) × (lookup (λ n. keeper == n) es ≡ Some b) × (b.number ≡ number)

@@ -1,7 +1,9 @@
 -- What holds of the blocks of a context and of the chunks in them.
-use Rattle.std.specs.Prelude.{◌≡◌, ℕ, ◌+◌, ◌-◌, ◌*◌, ◌%◌, ◌^◌, ◌<◌, ◌≤◌, ◌⊎◌, List, [], ◌∷◌, Some, true}
+use Rattle.std.specs.Prelude.{◌≡◌, ℕ, ◌+◌, ◌-◌, ◌*◌, ◌%◌, ◌^◌, ◌<◌, ◌≤◌, ◌⊎◌, List, [], ◌∷◌, Some, true, nat_eq}
 use Rattle.addr_space.specs.declared.Addr.{Addr}
 use Rattle.ctx_blocks.specs.Layout.{Layout, block_at, chunk_at, start_of, header_room, whole_of, count_in, total}
+use Rattle.indexmap.specs.IndexMap.{IsUnique}
+use Rattle.ctx_blocks.specs.Order.{in_order}
 use Rattle.ctx_blocks.specs.Steps.{AreUnique}
 use Rattle.ctx_blocks.specs.declared.parts.Block.{Block}
 use Rattle.ctx_blocks.specs.declared.parts.Chunk.{Chunk}
@@ -16,7 +18,7 @@ layout_of b = record {
   keeper = b.keeper;
   first_number = b.first_number;
   last_number = b.last_number;
-  blocks = b.blocks.entries;
+  blocks = in_order b.blocks.entries;
   chunks = b.chunks.entries;
 }
 
@@ -72,12 +74,14 @@ AreRising least most (e ∷ es) = (least ≤ e.1.number) × (e.1.number ≤ most
 abbrev pub IsCounted : Layout → Type 0
 IsCounted l = (number : ℕ) (block : Block) → block_at l number ≡ Some block → block.live ≡ count_in l number
 
--- all that the code keeps
+-- all that the code keeps; the keeper is the first one also of the blocks as they are kept, and no two of those are in
+-- one region
 pub record IsKept (b : Books) : Type 0 where
   pub laid : IsLaid (layout_of b)
   pub counted : IsCounted (layout_of b)
   pub first : IsFirst b.keeper b.first_number b.blocks.entries
-  pub numbered : AreRising b.first_number b.last_number b.blocks.entries
+  pub numbered : AreRising b.first_number b.last_number (in_order b.blocks.entries)
   pub total : b.total ≡ total (layout_of b)
   pub most : b.total ≤ 2 ^ 62
+  pub apart : IsUnique nat_eq b.blocks
   pub unique : AreUnique b.chunks.entries

@@ -1,7 +1,7 @@
 //! The books of the blocks: where each is, and the live chunks in them.
-ghost use Rattle.std.specs.Prelude.{◌≡◌, ◌≢◌, ℕ, ◌+◌, ◌-◌, ◌*◌, ◌%◌, ◌^◌, ◌<◌, ◌≤◌, ◌↔◌, ◌⊎◌, ◌==◌, Ok, Err, Some, None, IfOk, IfErr, OnOk, OnErr, if◌then◌else◌, length, [], ◌∷◌, ◌++◌, take, true, false, map, slice_get, IsTrue, IfSome, IfNone};
+ghost use Rattle.std.specs.Prelude.{◌≡◌, ◌≢◌, ℕ, ◌+◌, ◌-◌, ◌*◌, ◌%◌, ◌^◌, ◌<◌, ◌≤◌, ◌↔◌, ◌⊎◌, ◌==◌, Ok, Err, Some, None, IfOk, IfErr, OnOk, OnErr, if◌then◌else◌, length, [], ◌∷◌, ◌++◌, take, true, false, map, slice_get, IsTrue, IfSome, IfNone, nat_eq};
 ghost use Rattle.std.specs.Map.{lookup};
-ghost use Rattle.indexmap.specs.IndexMap.{spare};
+ghost use Rattle.indexmap.specs.IndexMap.{spare, IsUnique};
 ghost use Rattle.addr_space.specs.declared.Addr.{Addr};
 ghost use Rattle.addr_space.specs.Space.{Space, Asks, accounts, held, region_at, overwritten, IsKnown, Changes};
 ghost use Rattle.addr_space.specs.Footprint.{Agrees, Moves, Keeps, KeepsBut, nothing};
@@ -31,7 +31,7 @@ pub struct Books {
     // The numbers of the first block, and of the one that was taken last.
     pub first_number: u64,
     pub last_number: u64,
-    // The blocks in the order in which they were taken.
+    // The blocks, the keeper first. Another one that goes leaves its place to the last one, so that none else moves.
     pub blocks: IndexMap<u32, Block>,
     // The places among them of the blocks that got a chunk last and that lost one last, which are looked at first.
     pub gained: usize,
@@ -50,6 +50,7 @@ fn note(blocks: &mut IndexMap<u32, Block>, number: u32, block: Block)
     requires { (lookup (λ n. number == n) blocks.old.entries ≡ None) → 0 < spare blocks.old }
     ensures blocks { blocks.new.entries ≡ with_block blocks.old.entries number block }
     ensures at { (other : ℕ) → lookup (λ n. other == n) blocks.new.entries ≡ (if number == other then Some block else lookup (λ n. other == n) blocks.old.entries) }
+    ensures apart { IsUnique nat_eq blocks.new }
 {
     match blocks.insert(number, block) {
         Ok(_) => {}
@@ -63,6 +64,7 @@ fn change(blocks: &mut IndexMap<u32, Block>, place: usize, number: u32, block: B
     requires { (b : Block) × (slice_get blocks.old.entries place ≡ Some (number, b)) }
     ensures blocks { blocks.new.entries ≡ with_block blocks.old.entries number block }
     ensures at { (other : ℕ) → lookup (λ n. other == n) blocks.new.entries ≡ (if number == other then Some block else lookup (λ n. other == n) blocks.old.entries) }
+    ensures apart { IsUnique nat_eq blocks.new }
 {
     match blocks.get_index_mut(place) {
         Some(slot) => *slot = block,
@@ -204,6 +206,7 @@ impl Books {
     // Whether the block of a region stands at a place.
     #[inline]
     fn is_at(&self, place: usize, number: u32) -> bool
+        requires { IsUnique nat_eq self.now.blocks }
         ensures { IsTrue result → (b : Block) × (slice_get self.now.blocks.entries place ≡ Some (number, b)) × (block_at (layout_of self.now) number ≡ Some b) }
     {
         match self.blocks.get_index(place) {
@@ -215,6 +218,7 @@ impl Books {
     // The place of the block in a region among the blocks, if there is one.
     #[inline]
     fn find(&self, number: u32) -> Option<usize>
+        requires { IsUnique nat_eq self.now.blocks }
         ensures some { IfSome result (λ place. (b : Block) × (slice_get self.now.blocks.entries place ≡ Some (number, b)) × (block_at (layout_of self.now) number ≡ Some b)) }
         ensures none { IfNone result (block_at (layout_of self.now) number ≡ None) }
     {
@@ -233,6 +237,7 @@ impl Books {
     // The block in a region, if it is the context's.
     #[inline]
     pub fn block(&self, number: u32) -> Option<Block>
+        requires { IsUnique nat_eq self.now.blocks }
         ensures { result ≡ block_at (layout_of self.now) number }
     {
         let place = self.find(number)?;
@@ -242,7 +247,8 @@ impl Books {
     // The place of the block in a region of the context.
     #[inline]
     fn seek(&self, number: u32) -> usize
-        requires { (b : Block) × (block_at (layout_of self.now) number ≡ Some b) }
+        requires apart { IsUnique nat_eq self.now.blocks }
+        requires block { (b : Block) × (block_at (layout_of self.now) number ≡ Some b) }
         ensures { (b : Block) × (slice_get self.now.blocks.entries result ≡ Some (number, b)) × (block_at (layout_of self.now) number ≡ Some b) }
     {
         match self.find(number) {
@@ -254,7 +260,8 @@ impl Books {
     // The block in a region, which stands at a place.
     #[inline]
     fn owned(&self, place: usize, number: u32) -> Block
-        requires { (b : Block) × (slice_get self.now.blocks.entries place ≡ Some (number, b)) × (block_at (layout_of self.now) number ≡ Some b) }
+        requires apart { IsUnique nat_eq self.now.blocks }
+        requires place { (b : Block) × (slice_get self.now.blocks.entries place ≡ Some (number, b)) × (block_at (layout_of self.now) number ≡ Some b) }
         ensures { block_at (layout_of self.now) number ≡ Some result }
     {
         self.at(place).1
@@ -567,7 +574,7 @@ impl Books {
     {
         let place = self.seek(number);
         let size = self.owned(place, number).size;
-        let _ = self.blocks.shift_remove(&number);
+        let _ = self.blocks.swap_remove(&number);
         self.total -= u64::from(size);
         let at = Addr {
             region: number,
@@ -578,11 +585,13 @@ impl Books {
 
     // Gives the last block back, of a context without chunks.
     fn drop_last(&mut self, space: &mut Space)
+        requires apart { IsUnique nat_eq self.old.blocks }
         requires laid { IsLaid (layout_of self.old) }
         requires total { self.old.total ≡ total (layout_of self.old) }
         requires agrees { Agrees (footprint (layout_of self.old)) space.old }
         requires none { (layout_of self.old).chunks ≡ [] }
         requires some { 0 < length self.old.blocks.entries }
+        ensures apart { IsUnique nat_eq self.new.blocks }
         ensures laid { IsLaid (layout_of self.new) }
         ensures total { self.new.total ≡ total (layout_of self.new) }
         ensures rest { self.new ≡ record self.old { blocks = self.new.blocks; total = self.new.total } }
@@ -607,6 +616,7 @@ impl Books {
         requires kept { IsKept self.old }
         requires agrees { Agrees (footprint (layout_of self.old)) space.old }
         requires few { first ≤ 1 }
+        ensures apart { IsUnique nat_eq self.new.blocks }
         ensures laid { IsLaid (layout_of self.new) }
         ensures total { self.new.total ≡ total (layout_of self.new) }
         ensures rest { self.new ≡ record self.old { blocks = self.new.blocks; chunks = self.new.chunks; total = self.new.total } }
@@ -683,14 +693,15 @@ impl Books {
         self.blocks.len()
     }
 
-    // A block, in the order in which they were taken.
+    // The block at a place.
     #[inline]
-    pub fn at(&self, index: usize) -> (u32, Block)
-        requires { index < length (layout_of self.now).blocks }
-        ensures entry { slice_get (layout_of self.now).blocks index ≡ Some result }
+    fn at(&self, place: usize) -> (u32, Block)
+        requires apart { IsUnique nat_eq self.now.blocks }
+        requires within { place < length self.now.blocks.entries }
+        ensures entry { slice_get self.now.blocks.entries place ≡ Some result }
         ensures block { block_at (layout_of self.now) result.0 ≡ Some result.1 }
     {
-        match self.blocks.get_index(index) {
+        match self.blocks.get_index(place) {
             Some((number, block)) => (*number, *block),
             None => unreachable!(),
         }
@@ -702,7 +713,7 @@ impl Books {
         ensures { result ≡ rooms (layout_of self.now) }
     {
         let mut sum = 0;
-        for i in 0..self.len() {
+        for i in 0..self.blocks.len() {
             sum += u64::from(self.at(i).1.room);
         }
         sum
@@ -714,7 +725,7 @@ impl Books {
         ensures { result ≡ all_freed (layout_of self.now) }
     {
         let mut sum = 0;
-        for i in 0..self.len() {
+        for i in 0..self.blocks.len() {
             sum += u64::from(self.at(i).1.freed);
         }
         sum

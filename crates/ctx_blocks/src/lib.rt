@@ -6,7 +6,7 @@
 //! block is taken or given back, is for the kinds of contexts to choose.
 #![tactic(auto)]
 
-ghost use Rattle.std.specs.Prelude.{◌≡◌, ◌≢◌, ℕ, ◌+◌, ◌-◌, ◌*◌, ◌%◌, ◌^◌, ◌<◌, ◌≤◌, ◌↔◌, ◌⊎◌, Ok, Err, Some, None, IfOk, IfErr, OnOk, OnErr, length, [], ◌∷◌, true, false, slice_get};
+ghost use Rattle.std.specs.Prelude.{◌≡◌, ◌≢◌, ℕ, ◌+◌, ◌-◌, ◌*◌, ◌%◌, ◌^◌, ◌<◌, ◌≤◌, ◌↔◌, ◌⊎◌, Ok, Err, Some, None, IfOk, IfErr, OnOk, OnErr, length, [], ◌∷◌, true, false};
 ghost use Rattle.addr_space.specs.declared.Addr.{Addr};
 
 mod books;
@@ -316,16 +316,6 @@ impl Blocks {
         ensures { result ≡ length self.now.blocks }
     {
         self.books.len()
-    }
-
-    /// A block with the number of its region, in the order in which they were taken: the keeper is the first.
-    #[inline]
-    pub fn at(&self, index: usize) -> (u32, Block)
-        requires { index < length self.now.blocks }
-        ensures entry { slice_get self.now.blocks index ≡ Some result }
-        ensures block { block_at self.now result.0 ≡ Some result.1 }
-    {
-        self.books.at(index)
     }
 
     /// The rooms of all blocks together, in bytes.

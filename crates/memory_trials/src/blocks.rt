@@ -67,11 +67,8 @@ fn blocks_go(rt: HostRuntime) -> Result<(), Fail> {
     let mut space = Space::new(rt.alloc(), 1, 100_000)?;
     let mut blocks = Blocks::create(rt.alloc(), &mut space, Kind::Slab, 0, 7, 0, 200)?;
     let number = blocks.add(&mut space, 8192)?;
-    let (last, block) = blocks.at(1);
-    assert_eq!(rt;
-        (last == number, block.room, space.held(0)),
-        (true, 8152, 8392)
-    );
+    let block = blocks.block(number).ok_or("no block")?;
+    assert_eq!(rt; (block.room, space.held(0)), (8152, 8392));
     blocks.give(&mut space, number);
     assert_eq!(rt; (blocks.len(), space.held(0)), (1, 200));
     blocks.reset(&mut space);

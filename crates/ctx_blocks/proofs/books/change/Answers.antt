@@ -1,6 +1,6 @@
 use Rattle.std.proofs.Common.{ℕ, ◌==◌, sym}
 use Rattle.std.proofs.lemmas.Cmp.{nat_eq_equiv}
-use Rattle.indexmap.proofs.CallerLemmas.{updates-with_value_at}
+use Rattle.indexmap.proofs.CallerLemmas.{keys-with_value_at, updates-with_value_at}
 use Rattle.indexmap.proofs.MapLemmas.{insert_entry-first}
 use Rattle.indexmap.proofs.RemoveLemmas.{own_first}
 use Rattle.ctx_blocks.proofs.books.change.Goals as goal
@@ -12,3 +12,6 @@ returns-clause-blocks c =
 
 pub returns-clause-at : goal.returns-clause-at
 returns-clause-at c = λ other. (updates-with_value_at c.args.blocks.now c.args.place c.args.block nat_eq_equiv c.get_index_mut.ensures.unique c.args.number c.requires.0 c.requires.1).0 other
+
+pub returns-clause-apart : goal.returns-clause-apart
+returns-clause-apart c = rw (keys-with_value_at c.args.blocks.now c.args.place c.args.block) c.get_index_mut.ensures.unique

@@ -1,6 +1,7 @@
 use Rattle.std.proofs.Common.{◌≡◌, ◌∷◌, [], ◌-◌, ap, ◌∙◌, refl, arith}
 use Rattle.ctx_blocks.specs.Layout.{Layout}
 use Rattle.ctx_blocks.specs.Kept.{layout_of, IsFilled}
+use Rattle.ctx_blocks.specs.Order.{in_order}
 use Rattle.ctx_blocks.specs.Steps.{with_block}
 use Rattle.ctx_blocks.specs.declared.parts.Block.{Block}
 use Rattle.ctx_blocks.specs.declared.books.Books.{Books}
@@ -27,7 +28,7 @@ books c = record {
 block : After-from → Block
 block c = record { number = c.args.first; size = c.args.size; room = c.saturating_sub.result; live = 0; freed = 0 }
 
-one : (c : After-from) → (layout_of (books c)).blocks ≡ ((books c).keeper, block c) ∷ []
+one : (c : After-from) → (books c).blocks.entries ≡ ((books c).keeper, block c) ∷ []
 unfolding books block
 one c = c.note.ensures.blocks ∙ ap (λ es. with_block es c.in_ok-at.at.region (record { number = c.args.first; size = c.args.size; room = c.saturating_sub.result; live = 0; freed = 0 })) c.in-Ok.ensures.empty
 
@@ -50,7 +51,7 @@ returns-clause-moves c =
     elim c.if-size-ge240.branch [
       | then-size-ge240 w ↦
           let wrote = rw w.block_header.ensures at w.write.ensures.changes in
-          rw w.space-is (Moves-new l (block c) (one c) c.none.ensures (filled c) c.args.space.now c.take.new.self c.requires.account c.in_ok-at.ensures.fresh c.in_ok-at.ensures.changes c.in_ok-at.ensures.held w.write.new.self w.if-size-ge240.true wrote)
+          rw w.space-is (Moves-new l (block c) (ap in_order (one c)) c.none.ensures (filled c) c.args.space.now c.take.new.self c.requires.account c.in_ok-at.ensures.fresh c.in_ok-at.ensures.changes c.in_ok-at.ensures.held w.write.new.self w.if-size-ge240.true wrote)
       | else-size-ge240 w ↦
-          rw w.space-is (Moves-bare l (block c) (one c) c.none.ensures (filled c) c.args.space.now c.take.new.self c.requires.account c.in_ok-at.ensures.fresh c.in_ok-at.ensures.changes c.in_ok-at.ensures.held w.if-size-ge240.false)
+          rw w.space-is (Moves-bare l (block c) (ap in_order (one c)) c.none.ensures (filled c) c.args.space.now c.take.new.self c.requires.account c.in_ok-at.ensures.fresh c.in_ok-at.ensures.changes c.in_ok-at.ensures.held w.if-size-ge240.false)
     ]

@@ -1,5 +1,6 @@
-use Rattle.std.proofs.Common.{◌+◌, ◌≤◌, arith}
+use Rattle.std.proofs.Common.{◌+◌, ◌≤◌, sym, ◌∙◌, arith}
 use Rattle.ctx_blocks.specs.declared.parts.Block.{Block}
+use Rattle.ctx_blocks.proofs.Ordered.{sum-in_order}
 use Rattle.ctx_blocks.proofs.Summed.{Summed, summed-more, summed-all}
 use Rattle.ctx_blocks.proofs.books.Books.rooms.Goals as goal
 use Rattle.ctx_blocks.proofs.books.Books.rooms.Goals.{After-at}
@@ -13,10 +14,10 @@ pub overflow_add-sum : goal.overflow_add-sum
 overflow_add-sum c = let it = (more (goal.at.overflow_add-sum c).After-at).0 in omega (arith, c.requires.most, c.from-sum.ensures)
 
 pub loop-i-init : goal.loop-i-init
-loop-i-init c = record { all = omega arith; most = omega (arith, c.requires.total) }
+loop-i-init c = record { all = omega arith; most = omega (arith, c.requires.total, sum-in_order (λ (b : Block). b.size) c.args.self.now.blocks.entries) }
 
 pub loop-i-preserved : goal.loop-i-preserved
 loop-i-preserved c = rw c.from-sum.ensures ((more (goal.at.loop-i-preserved c).After-at).1)
 
 pub returns : goal.returns
-returns c = summed-all (λ (b : Block). b.room) c.args.self.now.blocks.entries c.loop-i.i c.loop-i.sum c.args.self.now.total (omega arith) c.loop-i.invariant
+returns c = summed-all (λ (b : Block). b.room) c.args.self.now.blocks.entries c.loop-i.i c.loop-i.sum c.args.self.now.total (omega arith) c.loop-i.invariant ∙ sym (sum-in_order (λ b. b.room) c.args.self.now.blocks.entries)

@@ -28,6 +28,7 @@ returns-clause-kept c =
       numbered = kept.numbered;
       total = kept.total;
       most = kept.most;
+      apart = kept.apart;
       unique = c.set_size.ensures.unique kept.unique;
     }
 

@@ -14,6 +14,7 @@ loop-self-init c =
     let n : Books = record b { chunks = c.none.result } in
     let less : Lessens (layout_of b) (layout_of n) = Lessens-cleared (layout_of b) (layout_of n) c.requires.kept.laid (record { kind = refl; account = refl; context = refl; keeper = refl; first_number = refl }) refl c.none.ensures in
     record {
+      apart = c.requires.kept.apart;
       laid = IsLaid-lessened (layout_of b) (layout_of n) c.requires.kept.laid less;
       total = c.requires.kept.total;
       rest = refl;
@@ -31,6 +32,7 @@ loop-self-preserved c =
     let n : Books = c.drop_last.new.self in
     let was = c.loop-self.invariant in
     record {
+      apart = c.drop_last.ensures.apart;
       laid = c.drop_last.ensures.laid;
       total = c.drop_last.ensures.total;
       rest = c.drop_last.ensures.rest ∙ ap (λ (x : Books). record x { blocks = n.blocks; total = n.total }) was.rest ∙ ap (λ k. record b { blocks = n.blocks; chunks = k; total = n.total }) (ap (λ (x : Books). x.chunks) (sym c.drop_last.ensures.rest));

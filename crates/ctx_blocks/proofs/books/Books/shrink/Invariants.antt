@@ -1,11 +1,13 @@
-use Rattle.std.proofs.Common.{◌≡◌, ◌≤◌, length, [], take}
+use Rattle.std.proofs.Common.{◌≡◌, ◌≤◌, length, [], take, nat_eq}
 use Rattle.addr_space.specs.Footprint.{Moves}
+use Rattle.indexmap.specs.IndexMap.{IsUnique}
 use Rattle.ctx_blocks.specs.Layout.{total, footprint}
 use Rattle.ctx_blocks.specs.Kept.{layout_of, IsLaid}
 use Rattle.ctx_blocks.proofs.books.Books.shrink.Given as goal
 
 abbrev pub invariant-loop-self : goal.invariant-loop-self
 invariant-loop-self l = record {
+  apart : IsUnique nat_eq l.self.blocks;
   laid : IsLaid (layout_of l.self);
   total : l.self.total ≡ total (layout_of l.self);
   rest : l.self ≡ record l.fn.self { blocks = l.self.blocks; chunks = l.self.chunks; total = l.self.total };
