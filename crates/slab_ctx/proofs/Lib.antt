@@ -1,5 +1,6 @@
 pub mod Numbers
 pub mod Slotted
+pub mod Stacked
 pub mod Taken
 pub mod Places
 pub mod Lives

@@ -46,6 +46,10 @@ module _ (l : Layout) (size : ℕ) (s : List (ℕ × Vec ℕ)) (slotted : IsSlot
     pub depth-few : (depth : ℕ) → b.freed ≡ depth + 1 → depth < length (stack_at s number)
     depth-few depth freed = omega (arith, freed, chunks-few, was.long)
 
+    -- the stack has room for one more offset
+    pub one-more : 1 ≤ b.live → b.freed < length (stack_at s number)
+    one-more live = omega (arith, live, chunks-few, was.long)
+
     -- where no chunk was freed and one is free, it is to be cut off
     pub room-left : b.freed ≡ 0 → b.live < per_block size → stride size ≤ b.room
     room-left freed free =

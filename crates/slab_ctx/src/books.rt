@@ -347,6 +347,7 @@ impl Books {
             blocks,
             size: _,
             stacks: _,
+            last: _,
             alloc: _,
         } = slots;
         blocks.discard(space);

@@ -1,5 +1,6 @@
 //! The chunks in the blocks of a Slab, and the offsets of the freed ones.
-ghost use Rattle.std.specs.Prelude.{◌≡◌, ◌≢◌, ℕ, ◌+◌, ◌-◌, ◌*◌, ◌^◌, ◌<◌, ◌≤◌, ◌↔◌, ◌⊎◌, ◌==◌, Ok, Err, Some, None, IfOk, IfErr, OnOk, OnErr, if◌then◌else◌, length, [], ◌∷◌, slice_index, slice_set};
+ghost use Rattle.std.specs.Prelude.{◌≡◌, ◌≢◌, ℕ, ◌+◌, ◌-◌, ◌*◌, ◌^◌, ◌<◌, ◌≤◌, ◌↔◌, ◌⊎◌, ◌==◌, Ok, Err, Some, None, IfOk, IfErr, OnOk, OnErr, if◌then◌else◌, length, [], ◌∷◌, slice_index, slice_set, slice_get, IsTrue};
+ghost use Rattle.std.specs.Global.{Vec};
 ghost use Rattle.addr_space.specs.declared.Addr.{Addr};
 ghost use Rattle.indexmap.specs.IndexMap.{spare};
 ghost use Rattle.ctx_blocks.specs.declared.parts.Block.{Block};
@@ -25,6 +26,8 @@ pub struct Slots {
     pub size: u32,
     // For each block the offsets of its freed chunks, as many as it counts, and room for those of all its chunks.
     pub stacks: IndexMap<u32, Vec<u16>>,
+    // The place among them of the one that was used last, which is looked at first.
+    pub last: usize,
     pub alloc: Global,
 }
 
@@ -60,24 +63,54 @@ fn open(stacks: &mut IndexMap<u32, Vec<u16>>, number: u32, stack: Vec<u16>)
     }
 }
 
-// Writes an offset at a depth of a block's stack.
-fn push(stacks: &mut IndexMap<u32, Vec<u16>>, number: u32, depth: u32, offset: u16)
-    requires { depth < length (stack_at stacks.old.entries number) }
+// Whether the stack of a block stands at a place.
+#[inline]
+fn is_at(stacks: &IndexMap<u32, Vec<u16>>, place: usize, number: u32) -> bool
+    ensures { IsTrue result → (stack : Vec ℕ) × (slice_get stacks.now.entries place ≡ Some (number, stack)) × (stack_at stacks.now.entries number ≡ stack.items) }
+{
+    match stacks.get_index(place) {
+        Some((other, _)) => *other == number,
+        None => false,
+    }
+}
+
+// The place of a block's stack, which is looked for at another place first.
+#[inline]
+fn seek(stacks: &IndexMap<u32, Vec<u16>>, hint: usize, number: u32) -> usize
+    requires { 0 < length (stack_at stacks.now.entries number) }
+    ensures { (stack : Vec ℕ) × (slice_get stacks.now.entries result ≡ Some (number, stack)) × (stack_at stacks.now.entries number ≡ stack.items) }
+{
+    if is_at(stacks, hint, number) {
+        return hint;
+    }
+    match stacks.get_full(&number) {
+        Some((place, _, _)) => place,
+        None => unreachable!(),
+    }
+}
+
+// Writes an offset at a depth of a block's stack, which stands at a place.
+#[inline]
+fn push(stacks: &mut IndexMap<u32, Vec<u16>>, place: usize, number: u32, depth: u32, offset: u16)
+    requires place { (stack : Vec ℕ) × (slice_get stacks.old.entries place ≡ Some (number, stack)) × (stack_at stacks.old.entries number ≡ stack.items) }
+    requires depth { depth < length (stack_at stacks.old.entries number) }
     ensures { (other : ℕ) → stack_at stacks.new.entries other ≡ (if number == other then slice_set (stack_at stacks.old.entries number) depth offset else stack_at stacks.old.entries other) }
 {
-    match stacks.get_mut(&number) {
+    match stacks.get_index_mut(place) {
         Some(stack) => stack[depth as usize] = offset,
         None => unreachable!(),
     }
 }
 
-// The offset at a depth of a block's stack.
-fn offset_at(stacks: &IndexMap<u32, Vec<u16>>, number: u32, depth: u32) -> u16
-    requires { depth < length (stack_at stacks.now.entries number) }
+// The offset at a depth of a block's stack, which stands at a place.
+#[inline]
+fn offset_at(stacks: &IndexMap<u32, Vec<u16>>, place: usize, number: u32, depth: u32) -> u16
+    requires place { (stack : Vec ℕ) × (slice_get stacks.now.entries place ≡ Some (number, stack)) × (stack_at stacks.now.entries number ≡ stack.items) }
+    requires depth { depth < length (stack_at stacks.now.entries number) }
     ensures { result ≡ slice_index (stack_at stacks.now.entries number) depth }
 {
-    match stacks.get(&number) {
-        Some(stack) => stack[depth as usize],
+    match stacks.get_index(place) {
+        Some((_, stack)) => stack[depth as usize],
         None => unreachable!(),
     }
 }
@@ -105,6 +138,7 @@ impl Slots {
             blocks: Blocks::unplaced(alloc, Kind::Slab)?,
             size: 1,
             stacks: IndexMap::new(alloc),
+            last: 0,
             alloc,
         })
     }
@@ -138,6 +172,7 @@ impl Slots {
             blocks,
             size,
             stacks: IndexMap::new(alloc),
+            last: 0,
             alloc,
         })
     }
@@ -207,9 +242,10 @@ impl Slots {
         ensures moves { Moves (footprint self.old.blocks) (footprint self.new.blocks) space.old space.new }
         ensures keeps { Keeps (footprint self.old.blocks) (footprint self.new.blocks) space.old space.new }
     {
+        self.last = seek(&self.stacks, self.last, number);
         let at = Addr {
             region: number,
-            offset: u32::from(offset_at(&self.stacks, number, depth)),
+            offset: u32::from(offset_at(&self.stacks, self.last, number, depth)),
         };
         let room = stride(self.size) - 8;
         self.blocks.place(space, at, self.size, room);
@@ -279,7 +315,14 @@ impl Slots {
     {
         self.blocks.laid();
         let block = self.blocks.remove(at);
-        push(&mut self.stacks, at.region, block.freed, at.offset as u16);
+        self.last = seek(&self.stacks, self.last, at.region);
+        push(
+            &mut self.stacks,
+            self.last,
+            at.region,
+            block.freed,
+            at.offset as u16,
+        );
         block
     }
 

@@ -1,6 +1,6 @@
 use Rattle.std.proofs.Common.{◌+◌, ◌-◌, refl, arith}
 use Rattle.ctx_blocks.specs.Layout.{block_at}
-use Rattle.slab_ctx.proofs.Places.{chunks-few}
+use Rattle.slab_ctx.proofs.Places.{one-more}
 use Rattle.addr_space.proofs.Options.{one_value}
 use Rattle.slab_ctx.proofs.Taken.{counted, IsSlotted-removed}
 use Rattle.slab_ctx.proofs.slots.Slots.remove.Goals as goal
@@ -12,15 +12,19 @@ overflow_cast-at c =
     let filled = c.requires.slots.filled c.args.at.region placed.block (c.requires.slots.owned c.args.at chunk c.requires.chunk.1) placed.owned in
     omega (arith, placed.last, filled.bytes)
 
-pub push-requires : goal.push-requires
-push-requires c =
-    let chunk = c.requires.chunk.0 in
+pub seek-self-requires : goal.seek-self-requires
+seek-self-requires c =
     let has = c.requires.chunk.1 in
     let b = c.remove-block.result in
     let found = c.remove-block.ensures.was in
-    let differs = c.requires.slots.owned c.args.at chunk has in
-    let filled = c.requires.slots.filled c.args.at.region b differs found in
-    omega (arith, chunks-few _ _ _ c.requires.slots c.args.at.region differs b found, filled.long, c.laid.ensures.some c.args.at chunk b has found)
+    omega (arith, one-more _ _ _ c.requires.slots c.args.at.region (c.requires.slots.owned c.args.at c.requires.chunk.0 has) b found (c.laid.ensures.some c.args.at c.requires.chunk.0 b has found))
+
+pub push-requires-clause-depth : goal.push-requires-clause-depth
+push-requires-clause-depth c =
+    let has = c.requires.chunk.1 in
+    let b = c.remove-block.result in
+    let found = c.remove-block.ensures.was in
+    one-more _ _ _ c.requires.slots c.args.at.region (c.requires.slots.owned c.args.at c.requires.chunk.0 has) b found (c.laid.ensures.some c.args.at c.requires.chunk.0 b has found)
 
 pub returns-clause-slots : goal.returns-clause-slots
 returns-clause-slots c =

@@ -7,8 +7,11 @@ use Rattle.slab_ctx.proofs.Places.{gap-is, start-is, slot-least, slot-whole, las
 use Rattle.slab_ctx.proofs.Taken.{counted, IsSlotted-placed}
 use Rattle.slab_ctx.proofs.slots.Slots.reuse.Goals as goal
 
-pub offset_at-requires : goal.offset_at-requires
-offset_at-requires c = depth-few _ _ _ c.requires.slots c.args.number c.requires.not_keeper c.requires.block.0 c.requires.block.1 c.args.depth c.requires.block.2
+pub seek-self-requires : goal.seek-self-requires
+seek-self-requires c = omega (arith, depth-few _ _ _ c.requires.slots c.args.number c.requires.not_keeper c.requires.block.0 c.requires.block.1 c.args.depth c.requires.block.2)
+
+pub offset_at-requires-clause-depth : goal.offset_at-requires-clause-depth
+offset_at-requires-clause-depth c = depth-few _ _ _ c.requires.slots c.args.number c.requires.not_keeper c.requires.block.0 c.requires.block.1 c.args.depth c.requires.block.2
 
 free_at : (c : goal.After-place-arg-2-1) → IsFree c.args.self.now.blocks c.args.self.now.size c.args.number c.requires.block.0 c.from.result
 free_at c =
