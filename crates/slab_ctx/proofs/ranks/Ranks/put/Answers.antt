@@ -1,4 +1,4 @@
-use Rattle.std.proofs.Common.{◌≡◌, ◌<◌, ◌≤◌, ℕ, None, length, ap, refl, sym, ◌∙◌, arith}
+use Rattle.std.proofs.Common.{◌≤◌, length, ap, refl, sym, ◌∙◌, arith}
 use Rattle.slab_ctx.specs.Ranks.{rank_at, entry_of}
 use Rattle.slab_ctx.specs.Tree.{leaf}
 use Rattle.slab_ctx.proofs.Placed.{entry-inserted, few-put, leaf-all, leaf-put, leaf-changed}
