@@ -622,26 +622,29 @@ fn commit_with_locks(alloc: Global, object: u32, mode: Mode) -> Result<Played, S
     outcome(alloc, 0, commands.as_slice())
 }
 
+fn lock(object: u32, mode: Mode) -> What {
+    What::AcquireLock {
+        object,
+        mode,
+        owner: 1,
+    }
+}
+
 #[test]
 fn locks_are_released_at_commit(rt: HostRuntime) -> Result<(), Fail> {
     let object = 5;
     let mode = Mode::AccessShareLock;
     let played = commit_with_locks(rt.alloc(), object, mode)?;
-    let taken = What::AcquireLock {
-        object,
-        mode,
-        owner: 1,
-    };
     let events = [
         What::BeginLevel(1),
         create(6, top(), 1),
         What::Owner(1),
         What::Ok,
-        taken,
+        lock(object, mode),
         What::Ok,
-        taken,
+        lock(object, mode),
         What::Ok,
-        taken,
+        lock(object, mode),
         What::Ok,
         What::ReleaseLock {
             object,
