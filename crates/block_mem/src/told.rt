@@ -1,5 +1,5 @@
 //! What only clauses read.
-ghost use Rattle.std.specs.Prelude.{◌≡◌, List};
+ghost use Rattle.std.specs.Prelude.{◌≡◌, List, []};
 ghost use base.Fml.{ftrue};
 
 use std::marker::{Model, PhantomData};
@@ -20,7 +20,22 @@ impl<T> Model for Told<T> {
     ghost also_owns = { λ _. ftrue };
 }
 
+struct Rule;
+
+impl<T> Tells<(), T> for Rule {
+    ghost told = { λ _. [] };
+}
+
 impl<T> Told<T> {
+    /// An empty list.
+    #[inline]
+    pub fn none() -> Told<T>
+        ensures { result.entries ≡ [] }
+    {
+        Told::of::<(), Rule>(&())
+    }
+
+    /// The list that is read off a value.
     #[inline]
     pub fn of<X, M: Tells<X, T>>(x: &X) -> Told<T>
         ensures { result.entries ≡ M.told x.now }

@@ -47,3 +47,6 @@ lookup-sized at other size c es found = grind (arith, lookup-with at other (reco
 
 pub count-sized : (number : ℕ) (at : Addr) (size : ℕ) (c : Chunk) (es : Entries) → at_addr at es ≡ Some c → sum_by (is_in number) (with_size es at size) ≡ sum_by (is_in number) es
 count-sized number at size c es found = grind (arith, count-put number at (record c { size = size }) es)
+
+-- what putting, resizing and removing a chunk do to the list
+pub ruleset listed = (lookup-with, count-put, unique-with, lookup-sized, count-sized, lookup-without, count-without, unique-without)
