@@ -1,8 +1,8 @@
 -- Lemmas on the list of the chunks that stand at addresses.
-use Rattle.std.proofs.Common.{◌≡◌, ℕ, ◌+◌, if◌then◌else◌, List, [], ◌∷◌, Some, None, false, unwrap_or, option_map, sum_by, arith, inl, inr}
+use Rattle.std.proofs.Common.{◌≡◌, if◌then◌else◌, List, [], ◌∷◌, Some, None, false, arith, inl, inr}
 use Rattle.std.specs.Cmp.{IsEquivalence}
 use Rattle.std.specs.List.{AllByRecursion, IsDistinct}
-use Rattle.std.specs.Map.{lookup, keys_of, values_of}
+use Rattle.std.specs.Map.{lookup, keys_of}
 use Rattle.std.proofs.lemmas.Bool.Decides.{nat_tests}
 use Rattle.std.proofs.lemmas.List.Sums.{sum_by-cons}
 use Rattle.std.proofs.lemmas.Map.{lookup-none, lookup-remove_entry, none_passes_from_lookup}
@@ -49,11 +49,7 @@ pub IsUnique-with : (at : Addr) (chunk : Chunk) (es fs : List (Addr × Chunk)) �
 unfolding IsDistinct
 IsUnique-with at chunk es fs unique is = rw is (apart-from at (without_chunk es at) (grind (arith, addr_laws.refl at, lookup-without at es unique at)), IsUnique-without at es unique)
 
--- what a sum gains
-pub sum_by-with : (f : Chunk → ℕ) (at : Addr) (chunk : Chunk) (es : List (Addr × Chunk)) → sum_by f (values_of (with_chunk es at chunk)) + unwrap_or (option_map f (lookup (same_addr at) es)) 0 ≡ sum_by f (values_of es) + f chunk
-sum_by-with f at chunk es = omega (arith, sum_by-cons f chunk (values_of (without_chunk es at)), sum_by-remove_entry f (same_addr at) es)
-
 -- what putting and forgetting a chunk do to the list
-pub ruleset listed = (lookup-with, sum_by-with, IsUnique-with, lookup-without, sum_by-remove_entry, IsUnique-without)
+pub ruleset listed = (lookup-with, sum_by-cons, IsUnique-with, lookup-without, sum_by-remove_entry, IsUnique-without)
 
 pub ruleset noted_sums = (sum_by-insert)
