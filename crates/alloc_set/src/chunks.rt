@@ -1,6 +1,5 @@
 //! Which chunks stand where.
-ghost use Rattle.std.specs.Prelude.{◌≡◌, ℕ, ◌+◌, List, [], Some, None, sum_by, unwrap_or, option_map, if◌then◌else◌};
-ghost use base.Fml.{ftrue};
+ghost use Rattle.std.specs.Prelude.{◌≡◌, ℕ, ◌+◌, List, Some, None, sum_by, unwrap_or, option_map, if◌then◌else◌};
 ghost use Rattle.std.specs.Map.{values_of, lookup};
 ghost use Rattle.addr_space.specs.declared.Addr.{Addr};
 ghost use Rattle.addr_space.specs.Live.{same_addr};
@@ -9,43 +8,10 @@ ghost use Rattle.alloc_set.specs.Listed.{with_chunk, without_chunk, IsUnique};
 
 use crate::chunk::Chunk;
 use addr_space::Addr;
-use std::marker::{Model, PhantomData};
+use block_mem::told::{Tells, Told};
 
-/// How the chunks are read off a value.
-pub trait Tells<X> {
-    ghost told: { X → List (Addr × Chunk) };
-}
-
-/// What stands at each address where a chunk was cut.
-///
-/// It takes no memory and owns none: it says what its owner's clauses tell. The code reads headers and links in the space.
-pub struct Chunks {
-    marker: PhantomData<()>,
-    pub ghost entries: { List (Addr × Chunk) },
-}
-
-impl Model for Chunks {
-    ghost also_owns = { λ _. ftrue };
-}
-
-impl Chunks {
-    #[inline]
-    fn of<X, M: Tells<X>>(x: &X) -> Chunks
-        ensures { result.entries ≡ M.told x.now }
-    {
-        let _ = x;
-        Chunks {
-            marker: PhantomData,
-        }
-    }
-}
-
-impl Drop for Chunks {
-    #[inline]
-    fn drop(self) {
-        let Self { marker: _ } = self;
-    }
-}
+/// What stands at each address where a chunk was cut. The code reads headers and links in the space.
+pub type Chunks = Told<(Addr, Chunk)>;
 
 // A chunk that is put at an address.
 #[derive(Drop)]
@@ -64,44 +30,12 @@ struct Struck<'a> {
 
 struct Rule;
 
-impl Tells<()> for Rule {
-    ghost told = { λ _. [] };
-}
-
-impl<'a> Tells<Noted<'a>> for Rule {
+impl<'a> Tells<Noted<'a>, (Addr, Chunk)> for Rule {
     ghost told = { λ p. with_chunk p.chunks.now.entries p.at p.chunk };
 }
 
-impl<'a> Tells<Struck<'a>> for Rule {
+impl<'a> Tells<Struck<'a>, (Addr, Chunk)> for Rule {
     ghost told = { λ g. without_chunk g.chunks.now.entries g.at };
-}
-
-impl Chunks {
-    /// No chunk.
-    #[inline]
-    pub fn none() -> Chunks
-        ensures { result.entries ≡ [] }
-    {
-        Chunks::of::<(), Rule>(&())
-    }
-
-    // The same with a chunk at an address.
-    #[inline]
-    fn with(&self, at: Addr, chunk: Chunk) -> Chunks
-        ensures { result.entries ≡ with_chunk self.now.entries at chunk }
-    {
-        let chunks = self;
-        Chunks::of::<Noted, Rule>(&Noted { chunks, at, chunk })
-    }
-
-    // The same with none there.
-    #[inline]
-    fn without(&self, at: Addr) -> Chunks
-        ensures { result.entries ≡ without_chunk self.now.entries at }
-    {
-        let chunks = self;
-        Chunks::of::<Struck, Rule>(&Struck { chunks, at })
-    }
 }
 
 /// Notes what stands at an address.
@@ -113,7 +47,8 @@ pub fn put(chunks: &mut Chunks, at: Addr, chunk: Chunk)
     ensures sums { (f : Chunk → ℕ) → sum_by f (values_of chunks.new.entries) + unwrap_or (option_map f (lookup (same_addr at) chunks.old.entries)) 0 ≡ sum_by f (values_of chunks.old.entries) + f chunk }
     ensures unique { IsUnique chunks.new.entries }
 {
-    *chunks = chunks.with(at, chunk);
+    let now = Chunks::of::<Noted, Rule>(&Noted { chunks, at, chunk });
+    *chunks = now;
 }
 
 /// Takes off what stands at an address.
@@ -125,5 +60,6 @@ pub fn forget(chunks: &mut Chunks, at: Addr)
     ensures sums { (f : Chunk → ℕ) → sum_by f (values_of chunks.new.entries) + unwrap_or (option_map f (lookup (same_addr at) chunks.old.entries)) 0 ≡ sum_by f (values_of chunks.old.entries) }
     ensures unique { IsUnique chunks.new.entries }
 {
-    *chunks = chunks.without(at);
+    let now = Chunks::of::<Struck, Rule>(&Struck { chunks, at });
+    *chunks = now;
 }

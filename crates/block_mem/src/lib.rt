@@ -13,6 +13,7 @@ ghost use Rattle.std.specs.Prelude.{◌≡◌, ◌+◌, ◌<◌, ◌≤◌, ◌^
 ghost use Rattle.block_mem.specs.Block.{part, overwritten, resized, IsKnown};
 
 mod known;
+pub mod told;
 
 use known::Known;
 use std::alloc::{AllocError, Global};
@@ -59,9 +60,9 @@ impl Model for RawBlock {
 
     ghost Value = { List (Option ℕ) };
 
-    ghost view = { λ b. b.known.bytes };
+    ghost view = { λ b. b.known.entries };
 
-    ghost invariant = { λ b. (length b.known.bytes ≡ b.len) × (b.len ≤ vec_capacity b.cells) × Holds b.cells.items b.known.bytes };
+    ghost invariant = { λ b. (length b.known.entries ≡ b.len) × (b.len ≤ vec_capacity b.cells) × Holds b.cells.items b.known.entries };
 }
 
 impl RawBlock {

@@ -5,7 +5,7 @@ use Rattle.std.proofs.lemmas.List.Sums.{sum_by-cons}
 use Rattle.addr_space.specs.declared.Addr.{Addr}
 use Rattle.addr_space.specs.Live.{same_addr}
 use Rattle.ctx_blocks.specs.Layout.{is_in}
-use Rattle.ctx_blocks.specs.Steps.{with_chunk, with_size, without_chunk, AreUnique}
+use Rattle.ctx_blocks.specs.Steps.{with_chunk, without_chunk, AreUnique}
 use Rattle.ctx_blocks.specs.declared.parts.Chunk.{Chunk}
 use Rattle.ctx_blocks.proofs.Counts.{one_in, count-put}
 
@@ -41,9 +41,5 @@ count-without number at chunk [] found = absurd (cc)
 count-without number at chunk (e ∷ es) found =
     grind (arith, count-without number at chunk es, sum_by-cons (is_in number) e es, sum_by-cons (is_in number) e (without_chunk es at))
 
--- the same of another size
-pub lookup-sized : (at other : Addr) (size : ℕ) (c : Chunk) (es : Entries) → at_addr at es ≡ Some c → at_addr other (with_size es at size) ≡ (if same_addr at other then Some (record c { size = size }) else at_addr other es)
-lookup-sized at other size c es found = grind (arith, lookup-with at other (record c { size = size }) es)
-
-pub count-sized : (number : ℕ) (at : Addr) (size : ℕ) (c : Chunk) (es : Entries) → at_addr at es ≡ Some c → sum_by (is_in number) (with_size es at size) ≡ sum_by (is_in number) es
-count-sized number at size c es found = grind (arith, count-put number at (record c { size = size }) es)
+-- what putting, resizing and removing a chunk do to the list
+pub ruleset listed = (lookup-with, count-put, unique-with, lookup-without, count-without, unique-without)

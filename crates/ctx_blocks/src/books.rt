@@ -13,7 +13,7 @@ ghost use Rattle.addr_space.specs.Live.{HasBytesOf};
 ghost use Rattle.ctx_blocks.specs.Layout.{Layout, block_at, chunk_at, total, rooms, all_freed, start_of, header_room, gap_of, whole_of, header_of, footprint, keeper_alone, whole_block};
 ghost use Rattle.ctx_blocks.specs.Steps.{with_block, without_block, PutsBlock, DropsBlock, PutsChunk, SameContext, MovesStill};
 
-use crate::chunks::Chunks;
+use crate::chunks::{self, Chunks};
 use crate::parts::{Block, Chunk};
 use addr_space::{Addr, Space};
 use chunk_header::{CtxError, Header, Kind, block_header, header_at};
@@ -407,7 +407,7 @@ impl Books {
     {
         self.head(space, at, chunk);
         self.gained = place;
-        self.chunks.put(at, chunk);
+        chunks::put(&mut self.chunks, at, chunk);
         change(&mut self.blocks, place, at.region, block);
     }
 
@@ -502,7 +502,7 @@ impl Books {
         ensures blocks { self.new.blocks ≡ self.old.blocks }
         ensures moves { MovesStill (layout_of self.old) (layout_of self.new) }
     {
-        self.chunks.set_size(at, size);
+        chunks::set_size(&mut self.chunks, at, size);
     }
 
     // Forgets a live chunk, and answers its block as it was.
@@ -528,7 +528,7 @@ impl Books {
             freed: block.freed + 1,
         };
         self.lost = place;
-        self.chunks.remove(at);
+        chunks::remove(&mut self.chunks, at);
         change(&mut self.blocks, place, at.region, less);
         block
     }

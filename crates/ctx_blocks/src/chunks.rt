@@ -1,6 +1,5 @@
 //! Which chunks are live, and what they are.
-ghost use Rattle.std.specs.Prelude.{◌≡◌, ℕ, ◌+◌, ◌==◌, List, [], Some, None, if◌then◌else◌, is_some, sum_by};
-ghost use base.Fml.{ftrue};
+ghost use Rattle.std.specs.Prelude.{◌≡◌, ℕ, ◌+◌, ◌==◌, List, Some, None, if◌then◌else◌, is_some, sum_by};
 ghost use Rattle.std.specs.Map.{lookup};
 ghost use Rattle.addr_space.specs.declared.Addr.{Addr};
 ghost use Rattle.addr_space.specs.Live.{same_addr};
@@ -10,51 +9,14 @@ ghost use Rattle.ctx_blocks.specs.Steps.{with_chunk, with_size, without_chunk, A
 
 use crate::parts::Chunk;
 use addr_space::Addr;
-use std::marker::{Model, PhantomData};
+use block_mem::told::{Tells, Told};
 
-/// How the chunks are read off a value.
-pub trait Tells<X> {
-    ghost told: { X → List (Addr × Chunk) };
-}
-
-/// The live chunks by their addresses. It takes no memory and owns none: it says what the clauses of its owner tell.
-pub struct Chunks {
-    marker: PhantomData<()>,
-    pub ghost entries: { List (Addr × Chunk) },
-}
-
-impl Model for Chunks {
-    ghost also_owns = { λ _. ftrue };
-}
-
-impl Chunks {
-    #[inline]
-    fn of<X, M: Tells<X>>(x: &X) -> Chunks
-        ensures { result.entries ≡ M.told x.now }
-    {
-        let _ = x;
-        Chunks {
-            marker: PhantomData,
-        }
-    }
-}
-
-impl Drop for Chunks {
-    #[inline]
-    fn drop(self) {
-        let Self { marker: _ } = self;
-    }
-}
-
-// No chunk.
-#[derive(Drop)]
-struct Nothing {
-    none: bool,
-}
+/// The live chunks by their addresses, which clauses alone tell.
+pub type Chunks = Told<(Addr, Chunk)>;
 
 // A chunk that is put at an address.
 #[derive(Drop)]
-struct Put<'a> {
+struct Noted<'a> {
     chunks: &'a Chunks,
     at: Addr,
     chunk: Chunk,
@@ -70,77 +32,58 @@ struct Resized<'a> {
 
 // An address whose chunk goes.
 #[derive(Drop)]
-struct Removed<'a> {
+struct Struck<'a> {
     chunks: &'a Chunks,
     at: Addr,
 }
 
 struct Rule;
 
-impl Tells<Nothing> for Rule {
-    ghost told = { λ _. [] };
-}
-
-impl<'a> Tells<Put<'a>> for Rule {
+impl<'a> Tells<Noted<'a>, (Addr, Chunk)> for Rule {
     ghost told = { λ p. with_chunk p.chunks.now.entries p.at p.chunk };
 }
 
-impl<'a> Tells<Resized<'a>> for Rule {
+impl<'a> Tells<Resized<'a>, (Addr, Chunk)> for Rule {
     ghost told = { λ s. with_size s.chunks.now.entries s.at s.size };
 }
 
-impl<'a> Tells<Removed<'a>> for Rule {
+impl<'a> Tells<Struck<'a>, (Addr, Chunk)> for Rule {
     ghost told = { λ r. without_chunk r.chunks.now.entries r.at };
 }
 
-impl Chunks {
-    /// No chunk is live.
-    #[inline]
-    pub fn none() -> Chunks
-        ensures { result.entries ≡ [] }
-    {
-        Chunks::of::<Nothing, Rule>(&Nothing { none: true })
-    }
+/// A chunk is live at an address.
+#[inline]
+#[tactic(auto, using(crate::proofs::LiveChunks::listed))]
+pub fn put(chunks: &mut Chunks, at: Addr, chunk: Chunk)
+    ensures at { (other : Addr) → lookup (same_addr other) chunks.new.entries ≡ (if same_addr at other then Some chunk else lookup (same_addr other) chunks.old.entries) }
+    ensures count { (number : ℕ) → sum_by (is_in number) chunks.new.entries + (if is_some (lookup (same_addr at) chunks.old.entries) then (if at.region == number then 1 else 0) else 0) ≡ sum_by (is_in number) chunks.old.entries + (if at.region == number then 1 else 0) }
+    ensures unique { AreUnique chunks.old.entries → AreUnique chunks.new.entries }
+{
+    let now = Chunks::of::<Noted, Rule>(&Noted { chunks, at, chunk });
+    *chunks = now;
+}
 
-    /// A chunk is live at an address.
-    #[inline]
-    pub fn put(&mut self, at: Addr, chunk: Chunk)
-        ensures at { (other : Addr) → lookup (same_addr other) self.new.entries ≡ (if same_addr at other then Some chunk else lookup (same_addr other) self.old.entries) }
-        ensures count { (number : ℕ) → sum_by (is_in number) self.new.entries + (if is_some (lookup (same_addr at) self.old.entries) then (if at.region == number then 1 else 0) else 0) ≡ sum_by (is_in number) self.old.entries + (if at.region == number then 1 else 0) }
-        ensures unique { AreUnique self.old.entries → AreUnique self.new.entries }
-    {
-        let chunks = Chunks::of::<Put, Rule>(&Put {
-            chunks: self,
-            at,
-            chunk,
-        });
-        *self = chunks;
-    }
+/// The live chunk at an address has another size.
+#[inline]
+#[tactic(auto, using(crate::proofs::LiveChunks::listed))]
+pub fn set_size(chunks: &mut Chunks, at: Addr, size: u32)
+    ensures at { (c : Chunk) → lookup (same_addr at) chunks.old.entries ≡ Some c → (other : Addr) → lookup (same_addr other) chunks.new.entries ≡ (if same_addr at other then Some (record c { size = size }) else lookup (same_addr other) chunks.old.entries) }
+    ensures count { (c : Chunk) → lookup (same_addr at) chunks.old.entries ≡ Some c → (number : ℕ) → sum_by (is_in number) chunks.new.entries ≡ sum_by (is_in number) chunks.old.entries }
+    ensures unique { AreUnique chunks.old.entries → AreUnique chunks.new.entries }
+{
+    let now = Chunks::of::<Resized, Rule>(&Resized { chunks, at, size });
+    *chunks = now;
+}
 
-    /// The live chunk at an address has another size.
-    #[inline]
-    pub fn set_size(&mut self, at: Addr, size: u32)
-        ensures at { (c : Chunk) → lookup (same_addr at) self.old.entries ≡ Some c → (other : Addr) → lookup (same_addr other) self.new.entries ≡ (if same_addr at other then Some (record c { size = size }) else lookup (same_addr other) self.old.entries) }
-        ensures count { (c : Chunk) → lookup (same_addr at) self.old.entries ≡ Some c → (number : ℕ) → sum_by (is_in number) self.new.entries ≡ sum_by (is_in number) self.old.entries }
-        ensures unique { AreUnique self.old.entries → AreUnique self.new.entries }
-    {
-        let chunks = Chunks::of::<Resized, Rule>(&Resized {
-            chunks: self,
-            at,
-            size,
-        });
-        *self = chunks;
-    }
-
-    /// No chunk is live at an address any more.
-    #[inline]
-    pub fn remove(&mut self, at: Addr)
-        requires { AreUnique self.old.entries }
-        ensures at { (other : Addr) → lookup (same_addr other) self.new.entries ≡ (if same_addr at other then None else lookup (same_addr other) self.old.entries) }
-        ensures count { (c : Chunk) → lookup (same_addr at) self.old.entries ≡ Some c → (number : ℕ) → sum_by (is_in number) self.new.entries + (if at.region == number then 1 else 0) ≡ sum_by (is_in number) self.old.entries }
-        ensures unique { AreUnique self.new.entries }
-    {
-        let chunks = Chunks::of::<Removed, Rule>(&Removed { chunks: self, at });
-        *self = chunks;
-    }
+/// No chunk is live at an address any more.
+#[inline]
+#[tactic(auto, using(crate::proofs::LiveChunks::listed))]
+pub fn remove(chunks: &mut Chunks, at: Addr)
+    requires { AreUnique chunks.old.entries }
+    ensures at { (other : Addr) → lookup (same_addr other) chunks.new.entries ≡ (if same_addr at other then None else lookup (same_addr other) chunks.old.entries) }
+    ensures count { (c : Chunk) → lookup (same_addr at) chunks.old.entries ≡ Some c → (number : ℕ) → sum_by (is_in number) chunks.new.entries + (if at.region == number then 1 else 0) ≡ sum_by (is_in number) chunks.old.entries }
+    ensures unique { AreUnique chunks.new.entries }
+{
+    let now = Chunks::of::<Struck, Rule>(&Struck { chunks, at });
+    *chunks = now;
 }

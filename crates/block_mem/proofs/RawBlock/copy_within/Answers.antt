@@ -7,7 +7,7 @@ use Rattle.block_mem.proofs.RawBlock.copy_within.Goals as goal
 
 pub invariant_of-self : goal.invariant_of-self
 invariant_of-self c =
-    let old = c.self.inside.known.bytes in
+    let old = c.self.inside.known.entries in
     let n = c.args.n in
     let cells = c.reach.new.cells.items in
     let len : length old ≡ length c.args.self.now = ap length c.self.view_is in
@@ -19,12 +19,12 @@ invariant_of-self c =
     let holds = Holds-carried cells old more c.args.from c.args.to n inside room reached wide in
     let same : length (overwritten old c.args.to (part old c.args.from n)) ≡ length old = search (rules, places) in
     let items : c.copy_within.new.self.items ≡ overwritten cells c.args.to (part cells c.args.from n) = c.copy_within.ensures.items ∙ copied-within cells c.args.from c.args.to n reached in (
-      ap length c.carried.ensures ∙ same ∙ c.self.invariant.0,
+      ap length c.carried-self-inside.ensures ∙ same ∙ c.self.invariant.0,
       omega (arith, c.self.invariant.1, c.reach.ensures.room, c.copy_within.ensures.capacity),
-      rw (c.carried.ensures, items) holds,
+      rw (c.carried-self-inside.ensures, items) holds,
     )
 
 pub returns-clause-len : goal.returns-clause-len
 returns-clause-len c =
     let len = ap length c.self.view_is in
-    rw c.carried.ensures (grind (arith, places))
+    rw c.carried-self-inside.ensures (grind (arith, places))

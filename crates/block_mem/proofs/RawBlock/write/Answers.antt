@@ -6,17 +6,17 @@ use Rattle.block_mem.proofs.RawBlock.write.Goals as goal
 
 pub invariant_of-self : goal.invariant_of-self
 invariant_of-self c =
-    let old = c.self.inside.known.bytes in
+    let old = c.self.inside.known.entries in
     let inside : c.args.at + length c.args.bytes.now ≤ length old = omega (arith, ap length c.self.view_is, c.requires) in
     let more = Holds-more c.self.inside.cells.items old c.self.invariant.2 c.reach.new.cells.items c.reach.ensures.kept in
     let holds = Holds-written c.reach.new.cells.items old more c.args.at c.args.bytes.now inside c.reach.ensures.reached in
     let same : length (overwritten old c.args.at (map Some c.args.bytes.now)) ≡ length old = search (rules, places, length-map) in (
-      ap length c.written.ensures ∙ same ∙ c.self.invariant.0,
+      ap length c.written-self-inside.ensures ∙ same ∙ c.self.invariant.0,
       omega (arith, c.self.invariant.1, c.reach.ensures.room, c.store.ensures.room),
-      rw (c.written.ensures, c.store.ensures.items) holds,
+      rw (c.written-self-inside.ensures, c.store.ensures.items) holds,
     )
 
 pub returns-clause-len : goal.returns-clause-len
 returns-clause-len c =
     let len = ap length c.self.view_is in
-    rw c.written.ensures (grind (arith, places, length-map))
+    rw c.written-self-inside.ensures (grind (arith, places, length-map))

@@ -11,10 +11,10 @@ use Rattle.alloc_set.proofs.books.Books.clear.Goals as goal
 pub returns : goal.returns
 returns c =
     let b = c.args.self.now in
-    let n : Books = record b { next = b.sizes.init; active = record { region = b.keeper; size = b.sizes.init; room = b.sizes.init - 240 }; chunks = c.none.result; shelves = c.clear.new.self; idle = 0 } in
+    let n : Books = record b { next = b.sizes.init; active = record { region = b.keeper; size = b.sizes.init; room = b.sizes.init - 240 }; chunks = c.none-self.result; shelves = c.clear.new.self; idle = 0 } in
     let s = state_of b in
     let t = state_of n in
-    let settled_now : IsKept b → IsSettled t b.keeper b.sizes.init = λ kept. IsSettled-empty t c.none.ensures (omega (arith, c.requires)) kept.settled.small in
+    let settled_now : IsKept b → IsSettled t b.keeper b.sizes.init = λ kept. IsSettled-empty t c.none-self.ensures (omega (arith, c.requires)) kept.settled.small in
     let nowhere : Addr = record { region = 0; offset = 0 } in
     record {
       kept = λ kept. record {
@@ -27,10 +27,10 @@ returns c =
           total = kept.counted.total;
           most = kept.counted.most;
           blocks = kept.counted.blocks;
-          rooms = omega (arith, kept.counted.sizes.0, kept.counted.total, ap (λ e. sum_by taken_bytes (values_of e)) c.none.ensures);
+          rooms = omega (arith, kept.counted.sizes.0, kept.counted.total, ap (λ e. sum_by taken_bytes (values_of e)) c.none-self.ensures);
         };
         settled = settled_now kept;
-        shelved = subst (IsShelved t) (sym c.clear.ensures) (IsShelved-none t c.none.ensures);
+        shelved = subst (IsShelved t) (sym c.clear.ensures) (IsShelved-none t c.none-self.ensures);
       };
       cleared = search rules;
       rest = refl;
@@ -40,6 +40,6 @@ returns c =
         keeper = refl;
         is_fresh = λ number. inr (λ new. new);
         regions = λ number stays. refl;
-        found = λ other chunk found. let none = no_chunk t c.none.ensures other in absurd (cc);
+        found = λ other chunk found. let none = no_chunk t c.none-self.ensures other in absurd (cc);
       }) (IsSound-settled t b.keeper b.sizes.init (settled_now kept)) refl (λ number. refl) (λ at bytes new. old_or_fresh s t (λ _. ⊥) nowhere at bytes new (λ len fresh. absurd fresh));
     }

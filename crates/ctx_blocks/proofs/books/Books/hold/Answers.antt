@@ -16,7 +16,7 @@ pub head-requires : goal.head-requires
 head-requires c = IsWritten-held (layout_of c.args.self.now) c.args.space.now c.args.at c.args.chunk c.args.block c.requires.agrees c.requires.holds
 
 now : After-change → Books
-now c = record c.args.self.now { blocks = c.change.new.blocks; gained = c.args.place; chunks = c.put.new.self }
+now c = record c.args.self.now { blocks = c.change.new.blocks; gained = c.args.place; chunks = c.put.new.chunks }
 
 same : (c : After-change) → SameContext (layout_of c.args.self.now) (layout_of (now c))
 unfolding now

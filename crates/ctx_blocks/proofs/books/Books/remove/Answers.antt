@@ -27,7 +27,7 @@ overflow_add-less c =
     omega (arith, filled.within, filled.small)
 
 now : After-change → Books
-now c = record c.args.self.now { blocks = c.change.new.blocks; lost = c.seek-place.result; chunks = c.remove.new.self }
+now c = record c.args.self.now { blocks = c.change.new.blocks; lost = c.seek-place.result; chunks = c.remove.new.chunks }
 
 new : After-change → Block
 new c = record c.owned-block.result { live = c.owned-block.result.live - 1; freed = c.owned-block.result.freed + 1 }

@@ -8,7 +8,7 @@ use Rattle.ctx_blocks.proofs.books.Books.set_size.Goals as goal
 use Rattle.ctx_blocks.proofs.books.Books.set_size.Goals.{After-set_size}
 
 now : After-set_size → Books
-now c = record c.args.self.now { chunks = c.set_size.new.self }
+now c = record c.args.self.now { chunks = c.set_size.new.chunks }
 
 less : (c : After-set_size) → Lessens (layout_of c.args.self.now) (layout_of (now c))
 unfolding now

@@ -11,14 +11,14 @@ use Rattle.ctx_blocks.proofs.books.Books.shrink.Goals as goal
 pub loop-self-init : goal.loop-self-init
 loop-self-init c =
     let b : Books = c.args.self.now in
-    let n : Books = record b { chunks = c.none.result } in
-    let less : Lessens (layout_of b) (layout_of n) = Lessens-cleared (layout_of b) (layout_of n) c.requires.kept.laid (record { kind = refl; account = refl; context = refl; keeper = refl; first_number = refl }) refl c.none.ensures in
+    let n : Books = record b { chunks = c.none-self.result } in
+    let less : Lessens (layout_of b) (layout_of n) = Lessens-cleared (layout_of b) (layout_of n) c.requires.kept.laid (record { kind = refl; account = refl; context = refl; keeper = refl; first_number = refl }) refl c.none-self.ensures in
     record {
       apart = c.requires.kept.apart;
       laid = IsLaid-lessened (layout_of b) (layout_of n) c.requires.kept.laid less;
       total = c.requires.kept.total;
       rest = refl;
-      chunks = c.none.ensures;
+      chunks = c.none-self.ensures;
       asked = refl;
       blocks = sym (take_all (length b.blocks.entries) b.blocks.entries (omega arith));
       enough = omega (arith, c.requires.few, first-length b.keeper b.first_number b.blocks.entries c.requires.kept.first);

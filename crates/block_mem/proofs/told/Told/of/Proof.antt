@@ -22,26 +22,24 @@ use denote.Steps.{nothing}
 use denote.Triple.Entry.{alive}
 use denote.Triple.Walked.{Stays, stay_dropped, walk_of, Goes-dropped}
 use Rattle.std.proofs.raw_atomic.Walks.{proved, leaves}
-use Rattle.addr_space.specs.declared.Addr.{Addr}
-use Rattle.ctx_blocks.specs.declared.parts.Chunk.{Chunk}
-use Rattle.ctx_blocks.specs.contracts.chunks.Chunks as Chunks
-use Rattle.ctx_blocks.specs.contracts.chunks.Chunks.of.{ended, clauses}
-use Rattle.ctx_blocks.specs.contracts.chunks.Chunks.of.Key.{name as #self}
-use Rattle.ctx_blocks.proofs.chunks.Chunks.of.Statement.{statement}
-use Rattle.ctx_blocks.proofs.chunks.Chunks.of.Code as code
+use Rattle.block_mem.specs.contracts.told.Told as Told
+use Rattle.block_mem.specs.contracts.told.Told.of.{ended, clauses}
+use Rattle.block_mem.specs.contracts.told.Told.of.Key.{name as #self}
+use Rattle.block_mem.proofs.told.Told.of.Statement.{statement}
+use Rattle.block_mem.proofs.told.Told.of.Code as code
 
 abbrev no_bytes : Val
 no_bytes = vstruct (vcons (vstruct vnil) vnil)
 
 pub of_spec : {M : Type 1} → statement M
-of_spec 𝓤 𝓛 𝓜 𝓡 wired T Y L LY g d _ =
-    let H = 𝓛.H in let 𝓣 = tables 𝓤 H 𝓜 𝓡 𝓡.env in let R : RattleType = param 0 T in let En = ended T Y g d in
-    let inst = bounded (a_type ∷ a_type ∷ []) (T, (Y, tt)) (dcons d dnil) in let fn = inst_fn inst code.function in let c = clauses T Y g d 𝓛 𝓜.mem 𝓡.returns in
+of_spec 𝓤 𝓛 𝓜 𝓡 wired T X Y LT LX LY g d _ =
+    let H = 𝓛.H in let 𝓣 = tables 𝓤 H 𝓜 𝓡 𝓡.env in let E : RattleType = param 0 T in let R : RattleType = param 1 X in let En = ended T X Y g d in
+    let inst = bounded (a_type ∷ a_type ∷ a_type ∷ []) (T, (X, (Y, tt))) (dcons d dnil) in let fn = inst_fn inst code.function in let c = clauses T X Y g d 𝓛 𝓜.mem 𝓡.returns in
     let arg = RefOf (0 ∷ []) tt (plain (λ _. R)) (λ _. tt) in let hs : Stays En.signature.params En.kept = (stay_dropped arg yes, tt) in
-    proved 𝓛 En hs c 𝓜 𝓡 (Goes-dropped 𝓛 3 arg yes (λ κs x f. refl), tt) (#self inst) fn (code.unfolded 𝓤 H 𝓜 𝓡 wired (T, (Y, tt)) d)
+    proved 𝓛 En hs c 𝓜 𝓡 (Goes-dropped 𝓛 4 arg yes (λ κs x f. refl), tt) (#self inst) fn (code.unfolded 𝓤 H 𝓜 𝓡 wired (T, (X, (Y, tt))) d)
     (λ κs. (shr_vals, tt)) (λ κs. (shr_Tells (named 0) κs.0 R, tt)) (λ κs qs bounds a gh are.
-    let p : Val = vptr a.0.ref_ptr.0 a.0.ref_ptr.1 in let told : List (Addr × Chunk) = g.told a.0.now in
-    let r : Chunks.the_row.Denot = record { marker = record {}; entries = told } in let F : Fml = Chunks.the_row.own_val r (no_bytes ∷ []) in
+    let p : Val = vptr a.0.ref_ptr.0 a.0.ref_ptr.1 in let told : List E.Denot = g.told a.0.now in
+    let r : (Told.the_row E).Denot = record { marker = record {}; entries = told } in let F : Fml = (Told.the_row E).own_val r (no_bytes ∷ []) in
     let y : (walk_of 𝓛 En hs c).Ghost = ((κs, qs, bounds, a, (p ∷ [], tt)), gh) in let Post : Val → SProp 𝓤 = (walk_of 𝓛 En hs c).post y in
     qed 𝓛 ((raw (alive 𝓛 En.signature κs qs) ⊛ ‵ (owns (types_at En.signature.params κs) a y.0.4)) ∷ raw ((c κs a).requires gh) ∷ []) ∵ split ! $ keep ! (0 ∷ []) $
     enter ! 𝓣.C 𝓣.Λ fn (p ∷ []) Post $ alloc_all ! (λ l. pass_all ! refl ((tt, tt), tt) $
