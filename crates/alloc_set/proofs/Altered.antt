@@ -59,10 +59,11 @@ Alters-blocks s t number at account context keeper chunks others elsewhere = rec
   found = λ other chunk found. let stood = rw chunks at found in inl (stood, elsewhere other chunk stood);
 }
 
-alone_kept : (s t : SetState) (active : ℕ) (at : Addr) (chunk : Chunk) → t.keeper ≡ s.keeper → region_of t at.region ≡ region_of s at.region → IsAlone s active at chunk → IsAlone t active at chunk
-alone_kept s t active at (Live class size) keeper same is = tt
-alone_kept s t active at (Free class next) keeper same is = tt
-alone_kept s t active at (Own size room) keeper same is = (is.0, (λ e. is.1 (e ∙ keeper)), is.2, same ∙ is.3)
+-- a chunk has its block for itself still, where another block may be active
+pub alone_kept : (s t : SetState) (was now : ℕ) (at : Addr) (chunk : Chunk) → t.keeper ≡ s.keeper → region_of t at.region ≡ region_of s at.region → (at.region ≢ was → at.region ≢ now) → IsAlone s was at chunk → IsAlone t now at chunk
+alone_kept s t was now at (Live class size) keeper same elsewhere is = tt
+alone_kept s t was now at (Free class next) keeper same elsewhere is = tt
+alone_kept s t was now at (Own size room) keeper same elsewhere is = (elsewhere is.0, (λ e. is.1 (e ∙ keeper)), is.2, same ∙ is.3)
 
 -- a mark is an old one, or that of a fresh block or of the chunk that is put
 pub data NewMark (s t : SetState) (Fresh : ℕ → Type 0) (at : Addr) (slot : Option Chunk) (b : Addr) (bytes : List ℕ) : Type 0 where
@@ -96,7 +97,7 @@ module _ (s t : SetState) (Fresh : ℕ → Type 0) (at : Addr) (slot : Option Ch
               whole = was.whole;
               below = λ region. omega (arith, was.below region, room);
               sized = was.sized;
-              alone = alone_kept s t active other chunk alters.keeper region was.alone;
+              alone = alone_kept s t active active other chunk alters.keeper region (λ differs. differs) was.alone;
             }
         | inr new ↦ rw new.0 (rw new.1 at placed)
       ]

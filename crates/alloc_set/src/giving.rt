@@ -48,7 +48,7 @@ impl Books {
     pub fn room(&self, at: Addr) -> u32
         requires kept { IsKept self.now }
         requires own { (size room : ℕ) × (chunk_at (state_of self.now) at ≡ Some (Chunk.Own size room)) }
-        ensures { (size room : ℕ) → chunk_at (state_of self.now) at ≡ Some (Chunk.Own size room) → result ≡ room }
+        ensures { (size : ℕ) × (chunk_at (state_of self.now) at ≡ Some (Chunk.Own size result)) }
     {
         match self.blocks.get(&at.region) {
             Some(size) => *size - OWN_HEADERS,

@@ -11,16 +11,12 @@ use Rattle.alloc_set.proofs.Leads.{headed_by}
 use Rattle.alloc_set.proofs.books.Books.class.Goals as goal
 use Rattle.alloc_set.proofs.books.Books.class.Goals.{Start}
 
--- a header that says so is that of a chunk of a class, and one that doesn't of a chunk with its block for itself
-class_from : (chunk : Chunk) (n dist : ℕ) (header : Header) → live_size chunk ≡ Some n → header ≡ header_of chunk dist → header.own ≡ false → (size : ℕ) × (chunk ≡ Live header.value size)
-class_from (Live class size) n dist header live is shared = (size, ap (λ c. Live c size) (sym (ap (λ (h : Header). h.value) is)))
-class_from (Free class next) n dist header live is shared = absurd (cc)
-class_from (Own size room) n dist header live is shared = let clash = sym shared ∙ ap (λ (h : Header). h.own) is in absurd (cc)
-
-own_from : (chunk : Chunk) (n dist : ℕ) (header : Header) → live_size chunk ≡ Some n → header ≡ header_of chunk dist → header.own ≡ true → (size : ℕ) × (room : ℕ) × (chunk ≡ Own size room)
-own_from (Live class size) n dist header live is own = let clash = sym own ∙ ap (λ (h : Header). h.own) is in absurd (cc)
-own_from (Free class next) n dist header live is own = absurd (cc)
-own_from (Own size room) n dist header live is own = (size, room, refl)
+-- a header says whether the chunk is of a class, and of which, or has its block for itself
+told : (chunk : Chunk) (n dist : ℕ) (header : Header) → live_size chunk ≡ Some n → header ≡ header_of chunk dist
+    → (header.own ≡ false → (size : ℕ) × (chunk ≡ Live header.value size)) × (header.own ≡ true → (size : ℕ) × (room : ℕ) × (chunk ≡ Own size room))
+told (Live class size) n dist header live is = rw is ((λ shared. (size, refl)), λ own. absurd (cc))
+told (Free class next) n dist header live is = absurd (cc)
+told (Own size room) n dist header live is = rw is ((λ shared. absurd (cc)), λ own. (size, room, refl))
 
 -- a live chunk stands there, and its header before it
 there : (c : Start) → (chunk : Chunk) × (n : ℕ) × (chunk_at (state_of c.args.self.now) c.args.at ≡ Some chunk) × (live_size chunk ≡ Some n)
@@ -44,12 +40,12 @@ header_at-header-requires c =
 pub returns-then-header-clause-own : goal.returns-then-header-clause-own
 returns-then-header-clause-own c =
     let d = (goal.at.returns-then-header-clause-own c).Start in
-    let own = own_from (there d).0 (there d).1 _ c.header_at-header.result (there d).3 (c.header_at-header.ensures (headed d).header (headed d).packable (known d)) c.if-header.true in
+    let own = (told (there d).0 (there d).1 _ c.header_at-header.result (there d).3 (c.header_at-header.ensures (headed d).header (headed d).packable (known d))).1 c.if-header.true in
     (own.0, own.1, (there d).2 ∙ ap Some own.2)
 
 -- the class that it says is that of the chunk
 class_is : (c : Start) (header : Header) → header ≡ (headed c).header → header.own ≡ false → (size : ℕ) × (chunk_at (state_of c.args.self.now) c.args.at ≡ Some (Live header.value size))
-class_is c header is shared = let class = class_from (there c).0 (there c).1 _ header (there c).3 is shared in (class.0, (there c).2 ∙ ap Some class.1)
+class_is c header is shared = let class = (told (there c).0 (there c).1 _ header (there c).3 is).0 shared in (class.0, (there c).2 ∙ ap Some class.1)
 
 pub overflow_cast-result : goal.overflow_cast-result
 overflow_cast-result c =

@@ -1,11 +1,11 @@
 use Rattle.std.proofs.Common.{◌≡◌, ℕ, ◌+◌, ◌-◌, Some, Result, Ok, Err, OnOk, refl, ap, ◌∙◌, sym, subst, arith}
+use Rattle.std.proofs.lemmas.Bool.Decides.{nat_tests}
 use Rattle.addr_space.specs.Space.{held, raised}
 use Rattle.addr_space.specs.Live.{PutsAt}
 use Rattle.alloc_set.specs.Kept.{state_of}
 use Rattle.alloc_set.specs.Ledger.{Own, in_place, with_block, kept_size, resize_block}
 use Rattle.alloc_set.specs.State.{place_at}
 use Rattle.alloc_set.proofs.Places.{Refits-put}
-use Rattle.alloc_set.proofs.Refits.{resize_block-same, resize_block-within, resize_block-over}
 use Rattle.alloc_set.proofs.books.Books.resize_own.Goals as goal
 use Rattle.alloc_set.proofs.books.Books.resize_own.Goals.{After-up8-room}
 
@@ -14,14 +14,16 @@ size_is : (c : After-up8-room) → c.up8-room.result + 48 ≡ kept_size (state_o
 size_is c = rw (← c.requires.kept.counted.limit, ← c.max.ensures, c.up8-room.ensures.value) refl
 
 pub returns-then-room-old-clause-refits : goal.returns-then-room-old-clause-refits
+unfolding resize_block
 returns-then-room-old-clause-refits c =
     let a = state_of c.args.self.now in
     let s = c.args.space.now in
     let old : ℕ = c.args.old + 48 in
     let new : ℕ = kept_size a.ledger c.args.size in
     let same : c.up8-room.result + 48 ≡ old = omega (arith, c.if-room-old.true) in
+    let is = size_is (goal.at.returns-then-room-old-clause-refits c).After-up8-room in
     Refits-put (resize_block a.ledger (held s a.account) s.limit old new) a (state_of c.resettle.new.self) c.args.at s s (in_place a.ledger (Own old) 0)
-    (resize_block-same a.ledger (held s a.account) s.limit old new (sym same ∙ size_is (goal.at.returns-then-room-old-clause-refits c).After-up8-room)) c.resettle.ensures.ledger
+    (grind (arith, nat_tests, is, same)) c.resettle.ensures.ledger
     (subst (λ n. PutsAt (place_at a) (place_at (state_of c.resettle.new.self)) c.args.at (Some (Own n))) same c.resettle.ensures.place) refl refl
 
 -- what follows from four facts of an answer
@@ -30,6 +32,7 @@ on_ok (Ok a) p q r s all = all p q r s
 on_ok (Err e) p q r s all = p
 
 pub returns-clause-refits : goal.returns-clause-refits
+unfolding resize_block
 returns-clause-refits c =
     let a = state_of c.args.self.now in
     let s = c.args.space.now in
@@ -40,11 +43,11 @@ returns-clause-refits c =
     let more : c.up8-room.result - c.args.old ≡ new - old = omega (arith, is) in
     on_ok c.stretch.result c.stretch.ensures.within c.stretch.ensures.ledger c.stretch.ensures.place c.stretch.ensures.asked (λ within ledger place asked.
     Refits-put (resize_block a.ledger (held s a.account) s.limit old new) a n c.args.at s c.stretch.new.space (in_place (with_block a.ledger old new) (Own new) (new - old))
-    (resize_block-within a.ledger (held s a.account) s.limit old new (λ same. c.if-room-old.false (omega (arith, is, same))) (omega (arith, is, within)))
+    (grind (arith, nat_tests, is, within, c.if-room-old.false))
     (ledger ∙ ap (with_block a.ledger old) is) (subst (λ k. PutsAt (place_at a) (place_at n) c.args.at (Some (Own k))) is place) (asked ∙ ap (raised s.taken a.account) more) refl)
 
 pub returns-clause-no_space : goal.returns-clause-no_space
+unfolding resize_block
 returns-clause-no_space c = λ e.
-    let l = (state_of c.args.self.now).ledger in
     let is = size_is (goal.at.returns-clause-no_space c).After-up8-room in
-    resize_block-over l (held c.args.space.now c.args.self.now.account) c.args.space.now.limit (c.args.old + 48) (kept_size l c.args.size) (λ same. c.if-room-old.false (omega (arith, is, same))) (omega (arith, is, c.stretch.ensures.no_space e))
+    grind (arith, nat_tests, is, c.if-room-old.false, c.stretch.ensures.no_space e)
