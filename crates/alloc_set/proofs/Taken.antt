@@ -14,6 +14,7 @@ use Rattle.alloc_set.specs.Kept.{state_of, IsKept}
 use Rattle.alloc_set.specs.Live.{LeavesLive}
 use Rattle.alloc_set.specs.Cut.{Allocates}
 use Rattle.alloc_set.specs.declared.books.Books.{Books}
+use Rattle.alloc_set.proofs.ClassSizes.{class_size-most, chunk_limit-most}
 use Rattle.alloc_set.proofs.Places.{PutsPlace-live, LeavesLive-more}
 
 -- a live chunk is put by a step of the ledger
@@ -53,3 +54,6 @@ module _ (l : SetLedger) (left size : ℕ) where
   pub take-class : size ≤ 1073741823 → size ≤ chunk_limit l.max → take l left size ≡ take_class l left (class_of size)
   unfolding take
   take-class small fits = grind (arith, nat_tests)
+
+-- which step serves a request, and what bounds the sizes of the classes
+pub ruleset takes = (take-own, take-class, class_size-most, chunk_limit-most)

@@ -550,7 +550,7 @@ impl Books {
     }
 
     // Serves a request.
-    #[tactic(auto, using(crate::proofs::ClassSizes::class_sizes))]
+    #[tactic(auto, using(crate::proofs::Taken::takes))]
     pub fn alloc(&mut self, space: &mut Space, size: u64) -> Result<Addr, CtxError>
         requires kept { IsKept self.old }
         requires agrees { Agrees (footprint (state_of self.old)) space.old }

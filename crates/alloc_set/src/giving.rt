@@ -115,6 +115,7 @@ impl Books {
     }
 
     // Frees a live chunk.
+    #[tactic(auto, unfolding(crate::specs::Ledger::give))]
     pub fn free(&mut self, space: &mut Space, at: Addr)
         requires kept { IsKept self.old }
         requires agrees { Agrees (footprint (state_of self.old)) space.old }

@@ -1,10 +1,9 @@
 use Rattle.std.proofs.Common.{◌≡◌, ◌≢◌, ℕ, ◌^◌, ◌<◌, ◌==◌, min, sum, sum_by, refl, ap, ◌∙◌, arith, rules, Some, None, sym, inl, inr}
 use Rattle.std.specs.Map.{lookup, values_of}
-use Rattle.std.proofs.lemmas.Bool.{cases_eq}
+use Rattle.std.proofs.lemmas.Bool.Decides.{nat_tests}
 use Rattle.addr_space.specs.declared.Addr.{Addr}
 use Rattle.addr_space.specs.Footprint.{Moves, nothing}
 use Rattle.addr_space.proofs.Addresses.{same_addr_from}
-use Rattle.addr_space.proofs.Options.{one_value}
 use Rattle.addr_space.proofs.Steps.{Agrees-nothing}
 use Rattle.chunk_header.specs.Header.{block_bytes}
 use Rattle.chunk_header.proofs.Words.{length-block_bytes}
@@ -14,7 +13,7 @@ use Rattle.alloc_set.specs.Kept.{new_books, state_of, taken_bytes, IsKept, IsSet
 use Rattle.alloc_set.specs.declared.books.Books.{Books}
 use Rattle.alloc_set.specs.State.{region_of, start_of, footprint}
 use Rattle.alloc_set.proofs.Empty.{no_chunk, IsShelved-none, IsSettled-empty}
-use Rattle.alloc_set.proofs.Regions.{keeper_owned, keeper_start, noted}
+use Rattle.alloc_set.proofs.Regions.{keeper_owned, keeper_start}
 use Rattle.alloc_set.proofs.Settled.{block, header, link, behind, mark_cases, IsSound-settled}
 use Rattle.alloc_set.proofs.AllocSet.create.Goals as goal
 use Rattle.alloc_set.proofs.AllocSet.create.Goals.{After-deref_mut-2}
@@ -28,15 +27,10 @@ is_made c = c.deref_mut-2.ensures.value ∙ ap (λ (x : Books). record x { keepe
 
 -- the keeper is the only region
 none_else : (c : After-deref_mut-2) (number : ℕ) → number ≢ c.in_ok-at.at.region → region_of (state_of (made c)) number ≡ None
-none_else c number differs = noted (state_of (made c)) number differs ∙ ap (λ bs. lookup (λ n. number == n) bs) c.in-Some.ensures.none.0
+none_else c number differs = rw c.in-Some.ensures.none.0 (grind (arith, nat_tests))
 
 only_keeper : (c : After-deref_mut-2) (number len : ℕ) → region_of (state_of (made c)) number ≡ Some len → (number ≡ c.in_ok-at.at.region) × (len ≡ c.args.sizes.init)
-only_keeper c number len owned =
-    let s = state_of (made c) in
-    elim (cases_eq number s.keeper) [
-      | inl same ↦ (same, one_value (region_of s s.keeper) len s.ledger.init (ap (region_of s) (sym same) ∙ owned) (keeper_owned s))
-      | inr differs ↦ let none = none_else c number differs in absurd (cc)
-    ]
+only_keeper c number len owned = let is = rw c.in-Some.ensures.none.0 at owned in (grind (arith, nat_tests), grind (arith, nat_tests))
 
 settled : (c : After-deref_mut-2) → IsSettled (state_of (made c)) c.in_ok-at.at.region c.args.sizes.init
 settled c =

@@ -23,9 +23,7 @@ pub give_block-requires-clause-not_active : goal.give_block-requires-clause-not_
 give_block-requires-clause-not_active c = λ e. (placed (goal.at.give_block-requires-clause-not_active c).Start).alone.0 (e ∙ ap (λ (x : Books). x.active.region) c.unlist.ensures.rest)
 
 pub returns-clause-moves : goal.returns-clause-moves
-returns-clause-moves c =
-    Moves-more (footprint (state_of c.args.self.now)) (footprint (state_of c.unlist.new.self)) (footprint (state_of c.give_block.new.self)) c.args.space.now c.args.space.now c.give_block.new.space
-    (c.unlist.ensures.moves c.args.space.now c.requires.agrees) c.give_block.ensures.moves
+returns-clause-moves c = Moves-more _ _ _ _ _ _ (c.unlist.ensures.moves c.args.space.now c.requires.agrees) c.give_block.ensures.moves
 
 pub returns-clause-keeps : goal.returns-clause-keeps
 returns-clause-keeps c =

@@ -17,9 +17,7 @@ unfolding resize
 resize-small l held limit place size small = grind (arith, nat_tests)
 
 pub resize_class-requires-clause-class : goal.resize_class-requires-clause-class
-resize_class-requires-clause-class c =
-    let found = c.in-Some.ensures.class in
-    (c.requires.kept.settled.placed c.args.at (Live c.in-Some.class found.0) found.1).sized.0
+resize_class-requires-clause-class c = let found = c.in-Some.ensures.class in (c.requires.kept.settled.placed c.args.at (Live c.in-Some.class found.0) found.1).sized.0
 
 pub returns-in-Some-clause-ok : goal.returns-in-Some-clause-ok
 returns-in-Some-clause-ok c =
@@ -30,32 +28,20 @@ returns-in-Some-clause-ok c =
 
 pub returns-in-Some-clause-no_space : goal.returns-in-Some-clause-no_space
 returns-in-Some-clause-no_space c = λ refused.
-    let a = state_of c.args.self.now in
-    let s = c.args.space.now in
-    let small = resize-small a.ledger (held s a.account) s.limit (Class c.in-Some.class) c.args.size (omega (arith, c.if-size-gt-LARGEST.false)) in
-    rw c.in-Some.ensures.class.1 (small ∙ c.resize_class.ensures.no_space refused)
+    rw c.in-Some.ensures.class.1 (resize-small _ _ _ _ c.args.size (omega (arith, c.if-size-gt-LARGEST.false)) ∙ c.resize_class.ensures.no_space refused)
 
 pub returns-in_ok-resize_own-in-None-clause-ok : goal.returns-in_ok-resize_own-in-None-clause-ok
 returns-in_ok-resize_own-in-None-clause-ok c =
-    let a = state_of c.args.self.now in
-    let s = c.args.space.now in
-    let old : ℕ = c.room-room.ensures.0 in
-    let place = OwnPlace (c.room-room.result + 48) in
     let there = c.room-room.ensures.1 in
     let live = ap (λ o. option_and_then live_size o) there in
-    let few = rw live at c.requires.keep in
     let done = c.in_ok-resize_own-in-None.ensures in
-    let small = resize-small a.ledger (held s a.account) s.limit place c.args.size (omega (arith, c.if-size-gt-LARGEST.false)) in (
-      place,
+    let small : c.args.size ≤ 1073741823 = omega (arith, c.if-size-gt-LARGEST.false) in (
+      OwnPlace (c.room-room.result + 48),
       ap (λ o. option_and_then live_place o) there,
-      rw small (Reallocates-in_place a c.resize_own.new.self s c.resize_own.new.space c.args.at old (min c.args.keep c.args.size) c.args.size (resize_at a.ledger (held s a.account) s.limit place c.args.size)
-          done.kept done.refits live (omega (arith, few)) (omega arith) done.live done.moves done.keeps),
+      rw resize-small (Reallocates-in_place _ _ _ _ _ _ _ _ _ done.kept done.refits live (omega (arith, rw live at c.requires.keep)) (omega arith) done.live done.moves done.keeps),
     )
 
 pub returns-in_err-resize_own-in-None-clause-no_space : goal.returns-in_err-resize_own-in-None-clause-no_space
 returns-in_err-resize_own-in-None-clause-no_space c = λ refused.
-    let a = state_of c.args.self.now in
-    let s = c.args.space.now in
     let is : c.in_err-resize_own-in-None.field-0.0 ≡ NoSpace = let p = err_from_is_err_and c.from_residual.result c.from_residual.ensures.1 in cc in
-    let small = resize-small a.ledger (held s a.account) s.limit (OwnPlace (c.room-room.result + 48)) c.args.size (omega (arith, c.if-size-gt-LARGEST.false)) in
-    rw c.room-room.ensures.1 (small ∙ c.in_err-resize_own-in-None.ensures.no_space (ap Err is))
+    rw c.room-room.ensures.1 (resize-small _ _ _ _ c.args.size (omega (arith, c.if-size-gt-LARGEST.false)) ∙ c.in_err-resize_own-in-None.ensures.no_space (ap Err is))

@@ -67,7 +67,6 @@ returns-clause-ok c =
     let s = c.args.space.now in
     let u = c.alloc.new.space in
     let v = c.copy.new.self in
-    let w = c.shelve.new.space in
     let at = c.args.at in
     let to = c.in_ok-to.to in
     let size = c.args.size in
@@ -94,7 +93,7 @@ returns-clause-ok c =
       fresh = λ differs. first.fresh;
       live = MovesAt-from f.live g.live h.live at to size apart first.live did.live;
       bytes = λ k below. did.keeps to size size k (live_to d) to_now (omega (arith, below, c.requires.keep)) (omega (arith, below, c.requires.keep)) ∙ bytes k below ∙ byte_kept d k below;
-      moves = Moves-more f g h s v w (Moves-more f g g s u v first.moves moved) did.moves;
+      moves = Moves-more f g h s v c.shelve.new.space (Moves-more f g g s u v first.moves moved) did.moves;
       keeps = λ other p q k differs live again below low.
           let middle : g.live other ≡ Some p = ap (λ o. option_and_then live_size o) (first.stays other p live) ∙ live in
           let not_to : other ≢ to = λ same. let clash = sym first.fresh ∙ ap f.live (sym same) ∙ live in absurd (cc) in

@@ -23,7 +23,4 @@ returns-clause-state c =
 
 pub returns-clause-moves : goal.returns-clause-moves
 returns-clause-moves c =
-    let b = c.args.self.now in
-    let m = c.clear.new.self in
-    let n = c.give_blocks.new.self in
-    Moves-more (footprint (state_of b)) (footprint (state_of m)) (footprint (state_of n)) c.args.space.now c.args.space.now c.give_blocks.new.space (c.clear.ensures.moves c.requires.kept c.args.space.now c.requires.agrees) c.give_blocks.ensures.moves
+    Moves-more _ _ _ _ _ _ (c.clear.ensures.moves c.requires.kept c.args.space.now c.requires.agrees) c.give_blocks.ensures.moves

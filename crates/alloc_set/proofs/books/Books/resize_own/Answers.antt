@@ -21,9 +21,8 @@ returns-then-room-old-clause-refits c =
     let old : ℕ = c.args.old + 48 in
     let new : ℕ = kept_size a.ledger c.args.size in
     let same : c.up8-room.result + 48 ≡ old = omega (arith, c.if-room-old.true) in
-    let is = size_is (goal.at.returns-then-room-old-clause-refits c).After-up8-room in
     Refits-put (resize_block a.ledger (held s a.account) s.limit old new) a (state_of c.resettle.new.self) c.args.at s s (in_place a.ledger (Own old) 0)
-    (grind (arith, nat_tests, is, same)) c.resettle.ensures.ledger
+    (grind (arith, nat_tests, size_is (goal.at.returns-then-room-old-clause-refits c).After-up8-room, same)) c.resettle.ensures.ledger
     (subst (λ n. PutsAt (place_at a) (place_at (state_of c.resettle.new.self)) c.args.at (Some (Own n))) same c.resettle.ensures.place) refl refl
 
 -- what follows from four facts of an answer
@@ -49,5 +48,4 @@ returns-clause-refits c =
 pub returns-clause-no_space : goal.returns-clause-no_space
 unfolding resize_block
 returns-clause-no_space c = λ e.
-    let is = size_is (goal.at.returns-clause-no_space c).After-up8-room in
-    grind (arith, nat_tests, is, c.if-room-old.false, c.stretch.ensures.no_space e)
+    grind (arith, nat_tests, size_is (goal.at.returns-clause-no_space c).After-up8-room, c.if-room-old.false, c.stretch.ensures.no_space e)

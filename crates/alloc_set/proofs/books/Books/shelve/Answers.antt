@@ -23,8 +23,7 @@ pub write-requires : goal.write-requires
 write-requires c =
     let placed = c.requires.kept.settled.placed c.args.at (Live c.args.class c.requires.live.0) c.requires.live.1 in
     let has = c.requires.agrees.regions c.args.at.region placed.len placed.owned in
-    let len = ap length c.link_bytes.ensures ∙ length-link_bytes c.at-shelf.result.first in
-    record { live = rw has.1 refl; end_in_region = rw has.1 (omega (arith, len, has.3, placed.last, class_size-least c.args.class)) }
+    record { live = rw has.1 refl; end_in_region = rw has.1 (omega (arith, ap length c.link_bytes.ensures ∙ length-link_bytes c.at-shelf.result.first, has.3, placed.last, class_size-least c.args.class)) }
 
 pub returns : goal.returns
 returns c =

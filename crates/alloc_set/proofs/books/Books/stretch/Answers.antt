@@ -69,12 +69,11 @@ returns c =
     let at = c.args.at in
     let old_room = c.args.old in
     let room = c.args.room in
-    let size = c.args.size in
     let m : Books = record b { blocks = c.note_again.new.blocks; chunks = c.put.new.chunks; total = b.total - c.from.result + c.from-2.result } in
     let t = state_of m in
     let active = b.active in
     let n = c.requires.live.0 in
-    let now : Chunk = Own size room in
+    let now : Chunk = Own c.args.size room in
     let kept = c.requires.kept in
     let settled = kept.settled in
     let place = is_placed d in
@@ -118,7 +117,6 @@ returns c =
     let is : len ≡ room + 48 = one_value (region_of t at.region) len (room + 48) (ap (region_of t) (sym new) ∙ has) owned in
     (omega (arith, is, most), omega (arith, is, ap (start_of s) new, start), omega (arith, new, (settled.small at.region (old_room + 48) alone.3).2)))
     placed (λ other chunk found differs region. absurd (elsewhere other chunk found differs region)) in
-    let sound = IsSound-settled t active.region active.size settled_now in
     let word = block_bytes b.context (room + 48) in
     -- the marks are that of the block and old ones, of which the chunk's header alone is in the block
     let marks : (a : Addr) (bytes : List ℕ) → mark_of t a ≡ Some bytes → ((a ≡ record { region = at.region; offset = 0 }) × (word ≡ bytes)) ⊎ ((a.region ≡ at.region → (a.offset ≡ 40) × (length bytes ≡ 8)) × (mark_of s a ≡ Some bytes)) =
@@ -153,7 +151,7 @@ returns c =
       place = PutsPlace-chunk s t at (Some now) puts;
       asked = done.taken ∙ ap (λ o. raised_by sp.taken o (room + 48)) target.1 ∙ ap (λ a. raised sp.taken a (room + 48 - length target.0.bytes)) target.2 ∙ ap (raised sp.taken b.account) more;
       live = PutsLive-chunk s t at (Some now) puts;
-      moves = Moves-one (footprint s) (footprint t) sp tp at.region (room + 48) there.0 c.requires.agrees sound refl refl (record { changed = there.1; others = done.changes.others; limit = done.changes.limit; accounts = done.changes.accounts })
+      moves = Moves-one (footprint s) (footprint t) sp tp at.region (room + 48) there.0 c.requires.agrees (IsSound-settled t active.region active.size settled_now) refl refl (record { changed = there.1; others = done.changes.others; limit = done.changes.limit; accounts = done.changes.accounts })
           there.2 there.3 (λ none. let has = alone.3 in absurd (cc)) owned others
           (λ a bytes marked region k below. elim (marks a bytes marked) [
             | inl new ↦ ap (λ (x : Addr). byte_at tp x.region (x.offset + k)) new.0 ∙ done.word k (omega (arith, below, ap length new.1)) ∙ ap (λ xs. Some (slice_index xs k)) new.1

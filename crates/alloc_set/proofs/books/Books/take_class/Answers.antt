@@ -20,14 +20,12 @@ made c =
 pub returns-in-Some-clause-ok : goal.returns-in-Some-clause-ok
 unfolding take_class
 returns-in-Some-clause-ok c =
-    let s = c.args.space.now in
     let a = state_of c.args.self.now in
-    let left : ℕ = s.limit - held s a.account in
     let class : ℕ = c.class_of-class.result in
     let did = c.in-Some.ensures in
     rw (← c.class_of-class.ensures.value)
-    (Allocates-put a c.reuse.new.self s c.args.size c.in-Some.at (take_class a.ledger left class) (of_class (reused a.ledger class) class 0) (grind (arith, nat_tests, did.some)) did.ledger did.kept did.place
-    s did.fresh did.live c.reuse.ensures.stays refl did.moves (λ at p q k live again below short. refl))
+    (Allocates-put a _ _ _ _ _ (of_class (reused a.ledger class) class 0) (grind (arith, nat_tests, did.some)) did.ledger did.kept did.place
+    _ did.fresh did.live c.reuse.ensures.stays refl did.moves (λ at p q k live again below short. refl))
 
 pub returns-then-self-class_size-clause-ok : goal.returns-then-self-class_size-clause-ok
 unfolding take_class
@@ -41,13 +39,12 @@ returns-then-self-class_size-clause-ok c =
     let none = ap (λ (x : SetState). slice_index x.ledger.free class) same ∙ c.in_default.ensures.empty in
     rw (← c.class_of-class.ensures.value)
     (subst (λ (x : SetState). Allocates x c.cut.new.self s c.cut.new.space c.args.size c.cut.result (take_class x.ledger left class)) same
-    (Allocates-put a c.cut.new.self c.cut.new.space c.args.size c.cut.result (take_class a.ledger left class) (of_class (cut_off a.ledger class) class 0) (grind (arith, nat_tests, none, c.class_size.ensures.value, c.if-self-class_size.true))
+    (Allocates-put a _ _ _ _ _ (of_class (cut_off a.ledger class) class 0) (grind (arith, nat_tests, none, c.class_size.ensures.value, c.if-self-class_size.true))
     did.ledger did.kept did.place s did.fresh did.live did.stays did.asked did.moves did.keeps))
 
 pub returns-in_err-renew-clause-no_space : goal.returns-in_err-renew-clause-no_space
 unfolding take_class from_new
 returns-in_err-renew-clause-no_space c = λ e.
-    let l = (state_of c.args.self.now).ledger in
     let left : ℕ = c.args.space.now.limit - held c.args.space.now c.args.self.now.account in
     let class : ℕ = c.class_of-class.result in
     let is = made (goal.at.returns-in_err-renew-clause-no_space c).In_ok-make_room in
@@ -59,19 +56,15 @@ pub returns-clause-ok : goal.returns-clause-ok
 unfolding take_class from_new
 returns-clause-ok c =
     let s = c.args.space.now in
-    let u = c.renew.new.space in
-    let b = c.args.self.now in
     let r = c.make_room.new.self in
-    let w = c.renew.new.self in
     let class : ℕ = c.class_of-class.result in
     let is = made (goal.at.returns-clause-ok c).In_ok-make_room in
-    let new : Renews r w s u class = c.in_ok-renew.ensures.renewed in
-    let left : ℕ = s.limit - held s r.account in
+    let new = c.in_ok-renew.ensures.renewed in
     let l = (state_of r).ledger in
     let did = c.cut-2.ensures in
     let none = ap (λ (x : SetState). slice_index x.ledger.free class) is.0 ∙ is.1 in
     rw (← c.class_of-class.ensures.value)
     (subst (λ (x : SetState). Allocates x c.cut-2.new.self s c.cut-2.new.space c.args.size c.cut-2.result (take_class x.ledger (s.limit - held s x.account) class)) is.0
-    (Allocates-after (state_of r) c.cut-2.new.self c.cut-2.new.space c.args.size c.cut-2.result (take_class l left class) (of_class (cut_off (renewed l new.size) class) class new.size)
+    (Allocates-after (state_of r) _ _ _ _ _ (of_class (cut_off (renewed l new.size) class) class new.size)
     (rw new.had (grind (arith, nat_tests, none, is.2, ap (λ (x : SetState). x.ledger.room) is.0))) (did.ledger ∙ ap (λ (x : SetLedger). cut_off x class) new.ledger) did.kept did.place
-    (state_of w) s u new.live new.stays c.in_ok-renew.ensures.moves c.in_ok-renew.ensures.keeps did.fresh did.live did.stays (did.asked ∙ new.asked) did.moves did.keeps))
+    _ _ _ new.live new.stays c.in_ok-renew.ensures.moves c.in_ok-renew.ensures.keeps did.fresh did.live did.stays (did.asked ∙ new.asked) did.moves did.keeps))

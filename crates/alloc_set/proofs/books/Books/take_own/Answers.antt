@@ -25,8 +25,7 @@ pub settle-requires-clause-counted : goal.settle-requires-clause-counted
 unfolding with_own
 settle-requires-clause-counted c =
     let rest = c.in_ok-region.ensures.rest in
-    let bytes = ap (λ (x : Books). sum_by taken_bytes (values_of x.chunks.entries)) rest in
-    omega (arith, c.make_room.ensures.kept.counted.rooms, ap (λ (l : SetLedger). l.total) c.in_ok-region.ensures.ledger, ap (λ (x : Books). x.active.room) rest, ap (λ (x : Books). x.idle) rest, bytes)
+    omega (arith, c.make_room.ensures.kept.counted.rooms, ap (λ (l : SetLedger). l.total) c.in_ok-region.ensures.ledger, ap (λ (x : Books). x.active.room) rest, ap (λ (x : Books). x.idle) rest, ap (λ (x : Books). sum_by taken_bytes (values_of x.chunks.entries)) rest)
 
 pub settle-requires-clause-empty : goal.settle-requires-clause-empty
 settle-requires-clause-empty c = λ other region.
@@ -37,20 +36,17 @@ pub returns-clause-ok : goal.returns-clause-ok
 unfolding take_own
 returns-clause-ok c =
     let s = c.args.space.now in
-    let u = c.add_block.new.space in
     let t = c.settle.new.space in
     let m = c.make_room.new.self in
     let a = c.add_block.new.self in
     let n = c.settle.new.self in
     let at = c.settle.result in
     let size : ℕ = c.up8-room.result + 48 in
-    let l = (state_of m).ledger in
-    let left : ℕ = s.limit - held s m.account in
     let added = c.in_ok-region.ensures in
     let did = c.settle.ensures in
     let is : size ≡ own_size c.args.size = omega (arith, c.up8-room.ensures.value) in
     subst (λ k. Allocates (state_of c.args.self.now) n s t c.args.size at (take_own (state_of c.args.self.now).ledger (s.limit - held s c.args.self.now.account) k)) is
     (subst (λ (x : SetState). Allocates x n s t c.args.size at (take_own x.ledger (s.limit - held s x.account) size)) c.make_room.ensures.state
-    (Allocates-after (state_of m) n t c.args.size at (take_own l left size) (of_own l size) (grind (arith, nat_tests, added.fits)) (did.ledger ∙ added.ledger) did.kept did.place
-    (state_of a) s u (λ other. ap (λ (x : Books). (footprint (state_of x)).live other) added.rest) (LeavesLive-same (state_of m) (state_of a) (ap (λ (x : Books). x.chunks.entries) added.rest)) added.moves added.keeps
+    (Allocates-after (state_of m) _ _ _ _ _ (of_own (state_of m).ledger size) (grind (arith, nat_tests, added.fits)) (did.ledger ∙ added.ledger) did.kept did.place
+    _ _ _ (λ other. ap (λ (x : Books). (footprint (state_of x)).live other) added.rest) (LeavesLive-same (state_of m) (state_of a) (ap (λ (x : Books). x.chunks.entries) added.rest)) added.moves added.keeps
     did.fresh did.live did.stays (did.asked ∙ added.asked) did.moves did.keeps))
