@@ -325,6 +325,7 @@ impl Books {
     }
 
     // Cuts the rest of the active block up into free chunks.
+    #[tactic(auto, unfolding(crate::specs::Ledger::cut_rest, crate::specs::Ledger::cut_up))]
     fn cut_up(&mut self, space: &mut Space)
         requires kept { IsKept self.old }
         requires agrees { Agrees (footprint (state_of self.old)) space.old }
@@ -386,6 +387,7 @@ impl Books {
     }
 
     // Takes a new block for a chunk of a class, cuts the rest of the active one up and makes the new one active.
+    #[tactic(auto, unfolding(crate::specs::Ledger::block_size))]
     fn renew(&mut self, space: &mut Space, class: u8) -> Result<(), CtxError>
         requires kept { IsKept self.old }
         requires agrees { Agrees (footprint (state_of self.old)) space.old }
@@ -532,6 +534,7 @@ impl Books {
     }
 
     // Serves a request by a block of its own.
+    #[tactic(auto, unfolding(crate::specs::Ledger::take_own))]
     fn take_own(&mut self, space: &mut Space, size: u32) -> Result<Addr, CtxError>
         requires kept { IsKept self.old }
         requires agrees { Agrees (footprint (state_of self.old)) space.old }

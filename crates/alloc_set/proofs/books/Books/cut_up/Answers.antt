@@ -82,11 +82,3 @@ loop-class-preserved c =
       keeps = kept.keeps;
       asked = kept.asked;
     }
-
-pub returns-clause-room : goal.returns-clause-room
-unfolding cut_rest
-returns-clause-room c = let zero : c.loop-class.class ≡ 0 = omega (arith, c.loop-class-test.false) in rw zero at c.loop-class.invariant.room
-
-pub returns-clause-free : goal.returns-clause-free
-unfolding cut_up
-returns-clause-free c = let zero : c.loop-class.class ≡ 0 = omega (arith, c.loop-class-test.false) in rw zero at c.loop-class.invariant.free

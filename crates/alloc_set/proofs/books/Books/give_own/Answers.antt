@@ -31,6 +31,3 @@ returns-clause-keeps c =
     let h = footprint (state_of c.give_block.new.self) in
     Keeps-then (footprint (state_of c.args.self.now)) g h c.args.space.now c.args.space.now c.give_block.new.space
     (same_was g h (λ at. ap (λ (x : Books). (footprint (state_of x)).live at) c.give_block.ensures.rest)) (λ at x y k live again below short. refl) c.give_block.ensures.keeps
-
-pub returns-clause-place : goal.returns-clause-place
-returns-clause-place c = λ other. ap (λ (x : Books). place_at (state_of x) other) c.give_block.ensures.rest ∙ c.unlist.ensures.place other

@@ -26,10 +26,6 @@ returns-in-Some-clause-ok c =
     let small = resize-small a.ledger (held s a.account) s.limit (Class c.in-Some.class) c.args.size (omega (arith, c.if-size-gt-LARGEST.false)) in
     if_ok c.resize_class.result (λ to had. (Class c.in-Some.class, ap (λ o. option_and_then live_place o) c.in-Some.ensures.class.1, rw (small, ← c.min.ensures) had)) c.resize_class.ensures.ok
 
-pub returns-in-Some-clause-no_space : goal.returns-in-Some-clause-no_space
-returns-in-Some-clause-no_space c = λ refused.
-    rw c.in-Some.ensures.class.1 (resize-small _ _ _ _ c.args.size (omega (arith, c.if-size-gt-LARGEST.false)) ∙ c.resize_class.ensures.no_space refused)
-
 pub returns-in_ok-resize_own-in-None-clause-ok : goal.returns-in_ok-resize_own-in-None-clause-ok
 returns-in_ok-resize_own-in-None-clause-ok c =
     let there = c.room-room.ensures.1 in
@@ -40,8 +36,3 @@ returns-in_ok-resize_own-in-None-clause-ok c =
       ap (λ o. option_and_then live_place o) there,
       rw resize-small (Reallocates-in_place _ _ _ _ _ _ _ _ _ done.kept done.refits live (omega (arith, rw live at c.requires.keep)) (omega arith) done.live done.moves done.keeps),
     )
-
-pub returns-in_err-resize_own-in-None-clause-no_space : goal.returns-in_err-resize_own-in-None-clause-no_space
-returns-in_err-resize_own-in-None-clause-no_space c = λ refused.
-    let is : c.in_err-resize_own-in-None.field-0.0 ≡ NoSpace = let p = err_from_is_err_and c.from_residual.result c.from_residual.ensures.1 in cc in
-    rw c.room-room.ensures.1 (resize-small _ _ _ _ c.args.size (omega (arith, c.if-size-gt-LARGEST.false)) ∙ c.in_err-resize_own-in-None.ensures.no_space (ap Err is))

@@ -15,12 +15,6 @@ use Rattle.alloc_set.proofs.Places.{LeavesLive-same, LeavesLive-more}
 use Rattle.alloc_set.proofs.books.Books.renew.Goals as goal
 use Rattle.alloc_set.proofs.books.Books.renew.Goals.{After-cut_up}
 
-pub returns-in_err-region-clause-no_space : goal.returns-in_err-region-clause-no_space
-unfolding block_size
-returns-in_err-region-clause-no_space c = λ e.
-    let it : c.in_err-region.field-0.0 ≡ NoSpace = let p = err_from_is_err_and c.from_residual.result c.from_residual.ensures.1 in cc in
-    rw (← c.class_size.ensures.value) (c.fitted-size.ensures.none (c.in_err-region.ensures.no_space (ap Err it)))
-
 -- the ledger once the block is noted and the rest of the old one cut up
 ledger_cut : (c : After-cut_up) → (state_of c.cut_up.new.self).ledger ≡ record (state_of c.args.self.now).ledger {
   total = c.args.self.now.total + c.fitted-size.result;

@@ -36,13 +36,6 @@ known c k below = rw (byte_kept c k below) (c.requires.known k below)
 inside : (c : In_ok-to) → IsInside c.alloc.new.space c.args.at c.args.keep
 inside c = IsInside-live (footprint (state_of c.alloc.new.self)) c.alloc.new.space c.args.at c.requires.live.0 c.args.keep (took c).moves.agrees (live_now c) c.requires.live.2
 
-pub returns-in_err-to-clause-no_space : goal.returns-in_err-to-clause-no_space
-unfolding resize_class
-returns-in_err-to-clause-no_space c = λ e.
-    let is : c.in_err-to.field-0.0 ≡ NoSpace = let p = err_from_is_err_and c.from_residual.result c.from_residual.ensures.1 in cc in
-    let none = rw c.from.ensures at (c.in_err-to.ensures.no_space (ap Err is)) in
-    grind (arith, nat_tests, none, c.requires.over)
-
 pub copy-requires-clause-from : goal.copy-requires-clause-from
 copy-requires-clause-from c = inside (goal.at.copy-requires-clause-from c).In_ok-to
 

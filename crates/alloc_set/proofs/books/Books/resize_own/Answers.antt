@@ -44,8 +44,3 @@ returns-clause-refits c =
     Refits-put (resize_block a.ledger (held s a.account) s.limit old new) a n c.args.at s c.stretch.new.space (in_place (with_block a.ledger old new) (Own new) (new - old))
     (grind (arith, nat_tests, is, within, c.if-room-old.false))
     (ledger ∙ ap (with_block a.ledger old) is) (subst (λ k. PutsAt (place_at a) (place_at n) c.args.at (Some (Own k))) is place) (asked ∙ ap (raised s.taken a.account) more) refl)
-
-pub returns-clause-no_space : goal.returns-clause-no_space
-unfolding resize_block
-returns-clause-no_space c = λ e.
-    grind (arith, nat_tests, size_is (goal.at.returns-clause-no_space c).After-up8-room, c.if-room-old.false, c.stretch.ensures.no_space e)

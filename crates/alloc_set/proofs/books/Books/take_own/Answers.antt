@@ -14,13 +14,6 @@ use Rattle.alloc_set.proofs.Places.{LeavesLive-same}
 use Rattle.alloc_set.proofs.Taken.{Allocates-after}
 use Rattle.alloc_set.proofs.books.Books.take_own.Goals as goal
 
-pub returns-in_err-region-clause-no_space : goal.returns-in_err-region-clause-no_space
-unfolding take_own
-returns-in_err-region-clause-no_space c = λ e.
-    let it : c.in_err-region.field-0.0 ≡ NoSpace = let p = err_from_is_err_and c.from_residual-in_err-region.result c.from_residual-in_err-region.ensures.1 in cc in
-    let over = subst (λ (x : SetState). c.args.space.now.limit - held c.args.space.now x.account < c.up8-room.result + 48) c.make_room.ensures.state (c.in_err-region.ensures.no_space (ap Err it)) in
-    grind (arith, nat_tests, over, c.up8-room.ensures.value)
-
 pub settle-requires-clause-counted : goal.settle-requires-clause-counted
 unfolding with_own
 settle-requires-clause-counted c =
