@@ -14,7 +14,6 @@ use Rattle.alloc_set.specs.Kept.{state_of, IsKept}
 use Rattle.alloc_set.specs.Live.{LeavesLive}
 use Rattle.alloc_set.specs.Cut.{Allocates}
 use Rattle.alloc_set.specs.declared.books.Books.{Books}
-use Rattle.alloc_set.proofs.ClassSizes.{class_size-most, chunk_limit-most}
 use Rattle.alloc_set.proofs.Places.{PutsPlace-live, LeavesLive-more}
 
 -- a live chunk is put by a step of the ledger
@@ -55,5 +54,5 @@ module _ (l : SetLedger) (left size : ℕ) where
   unfolding take
   take-class small fits = grind (arith, nat_tests)
 
--- which step serves a request, and what bounds the sizes of the classes
-pub ruleset takes = (take-own, take-class, class_size-most, chunk_limit-most)
+-- which step serves a request
+pub ruleset takes = (take-own, take-class)

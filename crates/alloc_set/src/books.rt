@@ -471,6 +471,7 @@ impl Books {
     }
 
     // Serves a request by a chunk of a class.
+    #[tactic(auto, unfolding(crate::specs::Ledger::take_class, crate::specs::Ledger::from_new))]
     fn take_class(&mut self, space: &mut Space, size: u32) -> Result<Addr, CtxError>
         requires kept { IsKept self.old }
         requires agrees { Agrees (footprint (state_of self.old)) space.old }
@@ -534,7 +535,7 @@ impl Books {
     }
 
     // Serves a request by a block of its own.
-    #[tactic(auto, unfolding(crate::specs::Ledger::take_own))]
+    #[tactic(auto, unfolding(crate::specs::Ledger::take_own, crate::specs::Ledger::with_own))]
     fn take_own(&mut self, space: &mut Space, size: u32) -> Result<Addr, CtxError>
         requires kept { IsKept self.old }
         requires agrees { Agrees (footprint (state_of self.old)) space.old }
@@ -553,7 +554,7 @@ impl Books {
     }
 
     // Serves a request.
-    #[tactic(auto, using(crate::proofs::Taken::takes))]
+    #[tactic(auto, using(crate::proofs::ClassSizes::class_sizes, crate::proofs::Taken::takes))]
     pub fn alloc(&mut self, space: &mut Space, size: u64) -> Result<Addr, CtxError>
         requires kept { IsKept self.old }
         requires agrees { Agrees (footprint (state_of self.old)) space.old }

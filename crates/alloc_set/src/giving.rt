@@ -182,6 +182,7 @@ impl Books {
     }
 
     // Gives all but the keeper back.
+    #[tactic(auto, unfolding(crate::specs::Ledger::created))]
     pub fn reset(&mut self, space: &mut Space)
         requires kept { IsKept self.old }
         requires agrees { Agrees (footprint (state_of self.old)) space.old }

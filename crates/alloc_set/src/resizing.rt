@@ -104,6 +104,7 @@ impl Books {
     }
 
     // Resizes a chunk of a class.
+    #[tactic(auto, unfolding(crate::specs::Ledger::resize_class))]
     fn resize_class(
         &mut self,
         space: &mut Space,

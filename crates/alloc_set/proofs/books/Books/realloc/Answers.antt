@@ -19,13 +19,6 @@ resize-small l held limit place size small = grind (arith, nat_tests)
 pub resize_class-requires-clause-class : goal.resize_class-requires-clause-class
 resize_class-requires-clause-class c = let found = c.in-Some.ensures.class in (c.requires.kept.settled.placed c.args.at (Live c.in-Some.class found.0) found.1).sized.0
 
-pub returns-in-Some-clause-ok : goal.returns-in-Some-clause-ok
-returns-in-Some-clause-ok c =
-    let a = state_of c.args.self.now in
-    let s = c.args.space.now in
-    let small = resize-small a.ledger (held s a.account) s.limit (Class c.in-Some.class) c.args.size (omega (arith, c.if-size-gt-LARGEST.false)) in
-    if_ok c.resize_class.result (λ to had. (Class c.in-Some.class, ap (λ o. option_and_then live_place o) c.in-Some.ensures.class.1, rw (small, ← c.min.ensures) had)) c.resize_class.ensures.ok
-
 pub returns-in_ok-resize_own-in-None-clause-ok : goal.returns-in_ok-resize_own-in-None-clause-ok
 returns-in_ok-resize_own-in-None-clause-ok c =
     let there = c.room-room.ensures.1 in

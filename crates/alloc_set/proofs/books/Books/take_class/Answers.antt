@@ -42,16 +42,6 @@ returns-then-self-class_size-clause-ok c =
     (Allocates-put a _ _ _ _ _ (of_class (cut_off a.ledger class) class 0) (grind (arith, nat_tests, none, c.class_size.ensures.value, c.if-self-class_size.true))
     did.ledger did.kept did.place s did.fresh did.live did.stays did.asked did.moves did.keeps))
 
-pub returns-in_err-renew-clause-no_space : goal.returns-in_err-renew-clause-no_space
-unfolding take_class from_new
-returns-in_err-renew-clause-no_space c = λ e.
-    let left : ℕ = c.args.space.now.limit - held c.args.space.now c.args.self.now.account in
-    let class : ℕ = c.class_of-class.result in
-    let is = made (goal.at.returns-in_err-renew-clause-no_space c).In_ok-make_room in
-    let it : c.in_err-renew.field-0.0 ≡ NoSpace = let p = err_from_is_err_and c.from_residual-in_err-renew.result c.from_residual-in_err-renew.ensures.1 in cc in
-    let none_had = subst (λ (x : SetState). block_size x.ledger (c.args.space.now.limit - held c.args.space.now x.account) class ≡ None) is.0 (c.in_err-renew.ensures.no_space (ap Err it)) in
-    rw (← c.class_of-class.ensures.value) (rw none_had (grind (arith, nat_tests, is.1, is.2)))
-
 pub returns-clause-ok : goal.returns-clause-ok
 unfolding take_class from_new
 returns-clause-ok c =

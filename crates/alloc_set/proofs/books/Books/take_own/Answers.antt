@@ -14,12 +14,6 @@ use Rattle.alloc_set.proofs.Places.{LeavesLive-same}
 use Rattle.alloc_set.proofs.Taken.{Allocates-after}
 use Rattle.alloc_set.proofs.books.Books.take_own.Goals as goal
 
-pub settle-requires-clause-counted : goal.settle-requires-clause-counted
-unfolding with_own
-settle-requires-clause-counted c =
-    let rest = c.in_ok-region.ensures.rest in
-    omega (arith, c.make_room.ensures.kept.counted.rooms, ap (λ (l : SetLedger). l.total) c.in_ok-region.ensures.ledger, ap (λ (x : Books). x.active.room) rest, ap (λ (x : Books). x.idle) rest, ap (λ (x : Books). sum_by taken_bytes (values_of x.chunks.entries)) rest)
-
 pub settle-requires-clause-empty : goal.settle-requires-clause-empty
 settle-requires-clause-empty c = λ other region.
     let m = c.make_room.new.self in
