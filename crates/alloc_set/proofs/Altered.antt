@@ -59,10 +59,11 @@ Alters-blocks s t number at account context keeper chunks others elsewhere = rec
   found = λ other chunk found. let stood = rw chunks at found in inl (stood, elsewhere other chunk stood);
 }
 
-alone_kept : (s t : SetState) (active : ℕ) (at : Addr) (chunk : Chunk) → t.keeper ≡ s.keeper → region_of t at.region ≡ region_of s at.region → IsAlone s active at chunk → IsAlone t active at chunk
-alone_kept s t active at (Live class size) keeper same is = tt
-alone_kept s t active at (Free class next) keeper same is = tt
-alone_kept s t active at (Own size room) keeper same is = (is.0, (λ e. is.1 (e ∙ keeper)), is.2, same ∙ is.3)
+-- a chunk has its block for itself still, where another block may be active
+pub alone_kept : (s t : SetState) (was now : ℕ) (at : Addr) (chunk : Chunk) → t.keeper ≡ s.keeper → region_of t at.region ≡ region_of s at.region → (at.region ≢ was → at.region ≢ now) → IsAlone s was at chunk → IsAlone t now at chunk
+alone_kept s t was now at (Live class size) keeper same elsewhere is = tt
+alone_kept s t was now at (Free class next) keeper same elsewhere is = tt
+alone_kept s t was now at (Own size room) keeper same elsewhere is = (elsewhere is.0, (λ e. is.1 (e ∙ keeper)), is.2, same ∙ is.3)
 
 -- a mark is an old one, or that of a fresh block or of the chunk that is put
 pub data NewMark (s t : SetState) (Fresh : ℕ → Type 0) (at : Addr) (slot : Option Chunk) (b : Addr) (bytes : List ℕ) : Type 0 where
@@ -82,25 +83,6 @@ module _ (s t : SetState) (Fresh : ℕ → Type 0) (at : Addr) (slot : Option Ch
   pub start_same : (number : ℕ) → start_of t number ≡ start_of s number
   start_same number = rw alters.keeper refl
 
-  placed_now : t.ledger.room ≤ s.ledger.room → IfSome slot (λ chunk. IsPlaced t active size at chunk) → (other : Addr) (chunk : Chunk) → chunk_at t other ≡ Some chunk → IsPlaced t active size other chunk
-  placed_now room placed other chunk found =
-      elim (alters.found other chunk found) [
-        | inl stood ↦
-            let was = settled.placed other chunk stood.0 in
-            let region = alters.regions other.region stood.1 in
-            record {
-              len = was.len;
-              owned = region ∙ was.owned;
-              first = omega (arith, was.first, start_same other.region);
-              last = was.last;
-              whole = was.whole;
-              below = λ region. omega (arith, was.below region, room);
-              sized = was.sized;
-              alone = alone_kept s t active other chunk alters.keeper region was.alone;
-            }
-        | inr new ↦ rw new.0 (rw new.1 at placed)
-      ]
-
   pub IsSettled-altered : region_of t active ≡ region_of s active → t.ledger.room ≤ s.ledger.room
       → ((number len : ℕ) → Fresh number → region_of t number ≡ Some len → (len ≤ 2 ^ 31) × (start_of s number + 40 ≤ len) × (number < 2 ^ 32))
       → IfSome slot (λ chunk. IsPlaced t active size at chunk)
@@ -113,7 +95,22 @@ module _ (s t : SetState) (Fresh : ℕ → Type 0) (at : Addr) (slot : Option Ch
       | inl new ↦ let now = small number len new has in (now.0, omega (arith, now.1, start_same number), now.2)
       | inr stays ↦ let was = settled.small number len (sym (alters.regions number stays) ∙ has) in (was.0, omega (arith, was.1, start_same number), was.2)
     ];
-    placed = placed_now room placed;
+    placed = λ other chunk found. elim (alters.found other chunk found) [
+      | inl stood ↦
+          let was = settled.placed other chunk stood.0 in
+          let region = alters.regions other.region stood.1 in
+          record {
+            len = was.len;
+            owned = region ∙ was.owned;
+            first = omega (arith, was.first, start_same other.region);
+            last = was.last;
+            whole = was.whole;
+            below = λ region. omega (arith, was.below region, room);
+            sized = was.sized;
+            alone = alone_kept s t active active other chunk alters.keeper region (λ differs. differs) was.alone;
+          }
+      | inr new ↦ rw new.0 (rw new.1 at placed)
+    ];
     apart = λ a b first second at_a at_b region below. elim (alters.found a first at_a) [
       | inl old_a ↦ elim (alters.found b second at_b) [
         | inl old_b ↦ settled.apart a b first second old_a.0 old_b.0 region below

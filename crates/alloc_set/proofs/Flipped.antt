@@ -57,39 +57,34 @@ module _ (s t : SetState) (active size : ℕ) (at : Addr) (before now : Chunk) (
       ])
 
   -- the link of a chunk that is free now is written over the first bytes of the live one
-  module _ (n : ℕ) (word : List ℕ) (live : live_size before ≡ Some n) (link : link_of now ≡ Some word) (sp tp : Space) (agrees : Agrees (footprint s) sp)
-      (wrote : Changes sp tp at.region (overwritten (region_at sp at.region) at.offset (map Some word))) where
-    fits : at.offset + length word ≤ (settled.placed at before was).len
-    fits = let it = linked now word link in omega (arith, it.0, it.1, capacity_same, (settled.placed at before was).last)
-
-    pub Moves-linked : Moves (footprint s) (footprint t) sp tp
-    Moves-linked =
-        Moves-written (footprint s) (footprint t) sp tp at (settled.placed at before was).len word agrees (settled.placed at before was).owned fits wrote
-        (IsSound-settled t active size IsSettled-flipped) same.account same.context same.total (region_same s t same)
-        (λ b bytes marked. elim (marks_now b bytes (new_marks s t (λ _. ⊥) at (Some now) active size settled (Puts-chunk s t at (Some now) same puts) b bytes marked)) [
-          | inl mark ↦ inr (
-            mark,
-            λ region. elim (mark_apart s active size settled at b (capacity_of before) bytes (settled.placed at before was).first (ap (λ o. option_and_then link_of o) was ∙ (live_is before n live).0) apart mark (sym region)) [
-              | inl front ↦ inl (omega (arith, front))
-              | inr rest ↦ elim rest [
-                | inl back ↦ let it = linked now word link in inr (omega (arith, back, it.0, it.1, capacity_same))
-                | inr own ↦ inl (omega (arith, own.1, ap (λ (x : Addr). x.offset) own.0))
-              ]
-            ],
-          )
-          | inr new ↦ let one : word ≡ bytes = cc in inl (sym new.0, one)
-        ])
-
-    pub Keeps-linked : Keeps (footprint s) (footprint t) sp tp
-    Keeps-linked =
-        Keeps-written (footprint s) (footprint t) sp tp at (settled.placed at before was).len word agrees (settled.placed at before was).owned fits wrote (λ b p q living again region.
-        let it = live_there s active size settled b p living in
-        let free = linked now word link in
-        let differs : b ≢ at = λ e. elim (put_cases s t at (Some now) puts b) [
-          | inl here ↦ let clash : live_size now ≡ Some q = sym (ap (λ o. option_and_then live_size o) here.1) ∙ again in let none = free.2 in absurd (cc)
-          | inr there ↦ there.0 e
-        ] in
-        elim (apart b it.0 it.1 differs region) [
-          | inl front ↦ inl (omega (arith, front, it.3))
-          | inr back ↦ inr (omega (arith, back, free.0, free.1, capacity_same))
-        ])
+  pub wrote-flipped : (n : ℕ) (word : List ℕ) → live_size before ≡ Some n → link_of now ≡ Some word → (sp tp : Space) → Agrees (footprint s) sp → Changes sp tp at.region (overwritten (region_at sp at.region) at.offset (map Some word))
+      → Moves (footprint s) (footprint t) sp tp × Keeps (footprint s) (footprint t) sp tp
+  wrote-flipped n word live link sp tp agrees wrote =
+      let there = settled.placed at before was in
+      let free = linked now word link in
+      let fits : at.offset + length word ≤ there.len = omega (arith, free.0, free.1, capacity_same, there.last) in (
+        Moves-written (footprint s) (footprint t) sp tp at there.len word agrees there.owned fits wrote (IsSound-settled t active size IsSettled-flipped) same.account same.context same.total (region_same s t same)
+            (λ b bytes marked. elim (marks_now b bytes (new_marks s t (λ _. ⊥) at (Some now) active size settled (Puts-chunk s t at (Some now) same puts) b bytes marked)) [
+              | inl mark ↦ inr (
+                mark,
+                λ region. elim (mark_apart s active size settled at b (capacity_of before) bytes there.first (ap (λ o. option_and_then link_of o) was ∙ (live_is before n live).0) apart mark (sym region)) [
+                  | inl front ↦ inl (omega (arith, front))
+                  | inr rest ↦ elim rest [
+                    | inl back ↦ inr (omega (arith, back, free.0, free.1, capacity_same))
+                    | inr own ↦ inl (omega (arith, own.1, ap (λ (x : Addr). x.offset) own.0))
+                  ]
+                ],
+              )
+              | inr new ↦ let one : word ≡ bytes = cc in inl (sym new.0, one)
+            ]),
+        Keeps-written (footprint s) (footprint t) sp tp at there.len word agrees there.owned fits wrote (λ b p q living again region.
+            let it = live_there s active size settled b p living in
+            let differs : b ≢ at = λ e. elim (put_cases s t at (Some now) puts b) [
+              | inl here ↦ let clash : live_size now ≡ Some q = sym (ap (λ o. option_and_then live_size o) here.1) ∙ again in let none = free.2 in absurd (cc)
+              | inr there ↦ there.0 e
+            ] in
+            elim (apart b it.0 it.1 differs region) [
+              | inl front ↦ inl (omega (arith, front, it.3))
+              | inr back ↦ inr (omega (arith, back, free.0, free.1, capacity_same))
+            ]),
+      )

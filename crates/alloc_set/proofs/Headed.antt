@@ -1,5 +1,5 @@
 -- Lemmas on a chunk without a link that is put where nothing stood, with its header before it.
-use Rattle.std.proofs.Common.{◌≡◌, ℕ, ◌+◌, ◌-◌, ◌≤◌, ◌⊎◌, List, length, map, Some, None, option_and_then, refl, sym, ap, ◌∙◌, arith, inl, inr}
+use Rattle.std.proofs.Common.{◌≡◌, ℕ, ◌+◌, ◌-◌, ◌≤◌, ◌⊎◌, length, map, Some, None, option_and_then, refl, sym, ap, ◌∙◌, arith, inl, inr}
 use Rattle.addr_space.specs.declared.Addr.{Addr}
 use Rattle.addr_space.specs.Space.{Space, region_at, overwritten, Changes}
 use Rattle.addr_space.specs.Footprint.{Agrees, Moves, Keeps}
@@ -8,7 +8,7 @@ use Rattle.addr_space.proofs.Addresses.{same_addr_from}
 use Rattle.chunk_header.specs.Header.{header_bytes}
 use Rattle.chunk_header.proofs.Words.{length-header_bytes}
 use Rattle.chunk_header.proofs.Wrote.{Moves-written, Keeps-written}
-use Rattle.alloc_set.specs.State.{SetState, chunk_at, region_of, start_of, capacity_of, header_of, link_of, footprint}
+use Rattle.alloc_set.specs.State.{SetState, chunk_at, start_of, capacity_of, header_of, link_of, footprint}
 use Rattle.alloc_set.specs.Kept.{IsSettled, IsPlaced}
 use Rattle.alloc_set.specs.Steps.{PutsChunk, SameBlocks}
 use Rattle.alloc_set.specs.declared.chunk.Chunk.{Chunk}
@@ -30,59 +30,40 @@ module _ (s t : SetState) (active size : ℕ) (at : Addr) (chunk : Chunk) (settl
       IsSettled-altered s t (λ _. ⊥) at (Some chunk) active size settled (Puts-chunk s t at (Some chunk) same puts) (region_same s t same active) room (λ number len new has. absurd new)
       placed (λ other there found differs. apart other there found)
 
-  module _ (sp tp : Space) (agrees : Agrees (footprint s) sp)
-      (wrote : Changes sp tp at.region (overwritten (region_at sp at.region) (at.offset - 8) (map Some (header_bytes (header_of chunk (at.offset - 8 - start_of s at.region)))))) where
-    place : Addr
-    place = record { region = at.region; offset = at.offset - 8 }
-
-    word : List ℕ
-    word = header_bytes (header_of chunk (at.offset - 8 - start_of s at.region))
-
-    first : start_of s at.region + 48 ≤ at.offset
-    first = omega (arith, placed.first, start_same s t (λ _. ⊥) at (Some chunk) active size settled (Puts-chunk s t at (Some chunk) same puts) at.region)
-
-    eight : length word ≡ 8
-    unfolding word
-    eight = length-header_bytes (header_of chunk (at.offset - 8 - start_of s at.region))
-
-    fits : place.offset + length word ≤ placed.len
-    unfolding place
-    fits = omega (arith, eight, placed.last, placed.first)
-
-    owned : region_of s at.region ≡ Some placed.len
-    owned = sym (region_same s t same at.region) ∙ placed.owned
-
-    pub Moves-headed : Moves (footprint s) (footprint t) sp tp
-    unfolding place word
-    Moves-headed =
+  -- the space once the header is written
+  pub wrote-headed : (sp tp : Space) → Agrees (footprint s) sp → Changes sp tp at.region (overwritten (region_at sp at.region) (at.offset - 8) (map Some (header_bytes (header_of chunk (at.offset - 8 - start_of s at.region)))))
+      → Moves (footprint s) (footprint t) sp tp × Keeps (footprint s) (footprint t) sp tp
+  wrote-headed sp tp agrees wrote =
+      let place : Addr = record { region = at.region; offset = at.offset - 8 } in
+      let word = header_bytes (header_of chunk (at.offset - 8 - start_of s at.region)) in
+      let eight = length-header_bytes (header_of chunk (at.offset - 8 - start_of s at.region)) in
+      let alters = Puts-chunk s t at (Some chunk) same puts in
+      let first : start_of s at.region + 48 ≤ at.offset = omega (arith, placed.first, start_same s t (λ _. ⊥) at (Some chunk) active size settled alters at.region) in
+      let fits : at.offset - 8 + length word ≤ placed.len = omega (arith, eight, placed.last, placed.first) in
+      let owned = sym (region_same s t same at.region) ∙ placed.owned in (
         Moves-written (footprint s) (footprint t) sp tp place placed.len word agrees owned fits wrote (IsSound-settled t active size IsSettled-headed) same.account same.context same.total (region_same s t same)
-        (λ b bytes marked. elim (new_marks s t (λ _. ⊥) at (Some chunk) active size settled (Puts-chunk s t at (Some chunk) same puts) b bytes marked) [
-          | old stays before ↦ inr (
-            before,
-            λ region. elim (mark_apart s active size settled at b (capacity_of chunk) bytes first (ap (λ o. option_and_then link_of o) nothing_there) (λ other it found differs. apart other it found) before (sym region)) [
-              | inl front ↦ inl (omega (arith, front))
-              | inr rest ↦ elim rest [
-                | inl back ↦ inr (omega (arith, back, eight, first))
-                | inr own ↦ absurd (own.2 nothing_there)
-              ]
-            ],
-          )
-          | new_block len new at_start has is ↦ absurd new
-          | new_header it differs here is bytes_are ↦
-              let one : chunk ≡ it = cc in
-              let region : b.region ≡ at.region = ap (λ (x : Addr). x.region) here in
-              let offset : b.offset ≡ at.offset - 8 = omega (arith, ap (λ (x : Addr). x.offset) here) in
-              let same_place : b ≡ place = same_addr_from b place region offset in
-              inl (same_place, ap (λ (x : Addr). header_bytes (header_of chunk (x.offset - start_of s x.region))) (sym same_place) ∙ ap (λ x. header_bytes (header_of x (b.offset - start_of s b.region))) one ∙ bytes_are)
-          | new_link it here is has ↦ let one : chunk ≡ it = cc in let clash = sym unlinked ∙ ap link_of one ∙ has in absurd (cc)
-        ])
-
-    pub Keeps-headed : Keeps (footprint s) (footprint t) sp tp
-    unfolding place word
-    Keeps-headed =
+            (λ b bytes marked. elim (new_marks s t (λ _. ⊥) at (Some chunk) active size settled alters b bytes marked) [
+              | old stays before ↦ inr (
+                before,
+                λ region. elim (mark_apart s active size settled at b (capacity_of chunk) bytes first (ap (λ o. option_and_then link_of o) nothing_there) (λ other it found differs. apart other it found) before (sym region)) [
+                  | inl front ↦ inl (omega (arith, front))
+                  | inr rest ↦ elim rest [
+                    | inl back ↦ inr (omega (arith, back, eight, first))
+                    | inr own ↦ absurd (own.2 nothing_there)
+                  ]
+                ],
+              )
+              | new_block len new at_start has is ↦ absurd new
+              | new_header it differs here is bytes_are ↦
+                  let one : chunk ≡ it = cc in
+                  let same_place = same_addr_from b place (ap (λ (x : Addr). x.region) here) (omega (arith, ap (λ (x : Addr). x.offset) here)) in
+                  inl (same_place, ap (λ (x : Addr). header_bytes (header_of chunk (x.offset - start_of s x.region))) (sym same_place) ∙ ap (λ x. header_bytes (header_of x (b.offset - start_of s b.region))) one ∙ bytes_are)
+              | new_link it here is has ↦ let one : chunk ≡ it = cc in let clash = sym unlinked ∙ ap link_of one ∙ has in absurd (cc)
+            ]),
         Keeps-written (footprint s) (footprint t) sp tp place placed.len word agrees owned fits wrote (λ b m n live again region.
-        let it = live_there s active size settled b m live in
-        elim (apart b it.0 it.1 region) [
-          | inl front ↦ inl (omega (arith, front, it.3))
-          | inr back ↦ inr (omega (arith, back, eight, first))
-        ])
+            let it = live_there s active size settled b m live in
+            elim (apart b it.0 it.1 region) [
+              | inl front ↦ inl (omega (arith, front, it.3))
+              | inr back ↦ inr (omega (arith, back, eight, first))
+            ]),
+      )

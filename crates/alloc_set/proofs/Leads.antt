@@ -45,8 +45,7 @@ module _ (s : SetState) (active size : ℕ) (settled : IsSettled s active size) 
       let placed = settled.placed at chunk there in
       let start = start_of s at.region in
       let dist : ℕ = at.offset - 8 - start in
-      let small = settled.small at.region placed.len placed.owned in
-      let fits = leads chunk dist placed.sized (omega (arith, placed.first, placed.last, small.0)) (omega (arith, placed.first, placed.whole, start_whole s at.region)) in
+      let fits = leads chunk dist placed.sized (omega (arith, placed.first, placed.last, (settled.small at.region placed.len placed.owned).0)) (omega (arith, placed.first, placed.whole, start_whole s at.region)) in
       let header = header_of chunk dist in
       let is_dist = (header_is chunk dist).0 in
       let place : Addr = record { region = at.region; offset = at.offset - 8 } in

@@ -11,5 +11,4 @@ pub mod Flipped
 pub mod Taken
 pub mod Leads
 pub mod Places
-pub mod Refits
 mod Rows

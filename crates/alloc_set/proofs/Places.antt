@@ -60,18 +60,6 @@ PutsPlace-live s t at size place puts stays is other =
           same ∙ sym (ap (λ b. if b then Some place else place_at s other) apart.1)
     ]
 
--- a step of the ledger for a chunk that stays where it is
-pub Refits-put : (step : Result (Resized SetLedger SetPlace) CtxError) (a b : SetState) (at : Addr) (s t : Space) (answer : Resized SetLedger SetPlace)
-    → step ≡ Ok answer → b.ledger ≡ answer.ledger → PutsAt (place_at a) (place_at b) at (Some answer.place) → Asks a.account answer.asked s t → IsTrue answer.stays → Refits step a b at at s t
-Refits-put step a b at s t answer is ledger puts asked stays = record {
-  answer = answer;
-  is = is;
-  ledger = ledger;
-  place = MovesAt-same (place_at a) (place_at b) (place_at b) at answer.place puts;
-  asked = asked;
-  stays = (λ same. stays, λ it. refl);
-}
-
 -- a chunk is put where none was live
 pub LeavesLive-put : (s t : SetState) (at : Addr) (slot : Option Chunk) → PutsChunk s t at slot → (footprint s).live at ≡ None → LeavesLive s t
 LeavesLive-put s t at slot puts none other size live =

@@ -1,12 +1,13 @@
 -- Lemmas on where the blocks and chunks of an AllocSet are.
-use Rattle.std.proofs.Common.{◌≡◌, ◌≢◌, ℕ, ◌+◌, ◌-◌, ◌≤◌, ◌⊎◌, if◌then◌else◌, List, length, Option, Some, None, option_map, option_and_then, refl, sym, ap, ◌∙◌, arith, inl, inr, is_some}
+use Rattle.std.proofs.Common.{◌≡◌, ◌≢◌, ℕ, ◌+◌, ◌-◌, ◌≤◌, ◌⊎◌, ◌==◌, if◌then◌else◌, List, length, Option, Some, None, option_map, option_and_then, refl, sym, ap, ◌∙◌, arith, inl, inr, is_some}
 use Rattle.std.specs.Option.{option_or}
+use Rattle.std.specs.Map.{lookup}
 use Rattle.std.proofs.lemmas.Bool.{cases_eq, cases_lt}
 use Rattle.std.proofs.lemmas.Bool.Decides.{nat_tests}
 use Rattle.addr_space.specs.declared.Addr.{Addr}
 use Rattle.addr_space.specs.Space.{IsApart}
 use Rattle.addr_space.specs.Footprint.{IsSound, IsWithin}
-use Rattle.addr_space.proofs.Options.{from_then, from_map, option_cases}
+use Rattle.addr_space.proofs.Options.{from_then, from_map, one_value, option_cases}
 use Rattle.addr_space.proofs.Addresses.{same_addr_from}
 use Rattle.chunk_header.specs.Header.{header_bytes, block_bytes}
 use Rattle.chunk_header.proofs.Words.{length-header_bytes, length-block_bytes}
@@ -15,6 +16,7 @@ use Rattle.alloc_set.specs.Kept.{IsSettled, IsSized}
 use Rattle.alloc_set.specs.declared.chunk.Chunk.{Chunk}
 use Rattle.alloc_set.specs.declared.chunk.Chunk.TheVariants.{Live, Free, Own}
 use Rattle.alloc_set.proofs.ClassSizes.{class_size-least}
+use Rattle.alloc_set.proofs.Regions.{noted}
 
 -- a live chunk has no link, isn't free, and is within what it may have
 pub live_is : (chunk : Chunk) (n : ℕ) → live_size chunk ≡ Some n → (link_of chunk ≡ None) × (free_size chunk ≡ None) × (IsSized chunk → n ≤ capacity_of chunk)
@@ -102,6 +104,20 @@ module _ (s : SetState) (active size : ℕ) (settled : IsSettled s active size) 
         | inl without ↦ without
         | inr some ↦ let clash = sym none ∙ ap (region_of s) (sym region) ∙ (settled.placed at some.0 some.1).owned in absurd (cc)
       ]
+
+  -- a chunk that has its block for itself is the only one there, and the block's size is noted
+  pub lonely : (at other : Addr) (n room : ℕ) (it : Chunk) → chunk_at s at ≡ Some (Own n room) → chunk_at s other ≡ Some it → other ≢ at → other.region ≢ at.region
+  lonely at other n room it was found differs region =
+      let alone = (settled.placed at (Own n room) was).alone in
+      let there = settled.placed other it found in
+      let len : there.len ≡ room + 48 = one_value (region_of s at.region) there.len (room + 48) (ap (region_of s) (sym region) ∙ there.owned) alone.3 in
+      elim (chunks_apart other at it (Own n room) found was differs region) [
+        | inl front ↦ omega (arith, front, there.first, alone.2)
+        | inr back ↦ omega (arith, back, there.last, alone.2, len)
+      ]
+
+  pub noted_own : (at : Addr) (n room : ℕ) → chunk_at s at ≡ Some (Own n room) → lookup (λ k. at.region == k) s.blocks ≡ Some (room + 48)
+  noted_own at n room was = let alone = (settled.placed at (Own n room) was).alone in sym (noted s at.region alone.1) ∙ alone.3
 
   -- a link is marked: no header stands there
   pub mark_from_link : (at : Addr) (chunk : Chunk) (bytes : List ℕ) → chunk_at s at ≡ Some chunk → link_of chunk ≡ Some bytes → mark_of s at ≡ Some bytes

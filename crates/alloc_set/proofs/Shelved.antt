@@ -51,16 +51,6 @@ IsChain-without c d class at whole from others (suc count) first below chain =
 abbrev pub IsTaken : Option Chunk → Type 0
 IsTaken slot = (class : ℕ) (next : Option Addr) → slot ≢ Some (Free class next)
 
--- where nothing stands, and where a chunk is live
-pub IsTaken-none : (slot : Option Chunk) → slot ≡ None → IsTaken slot
-IsTaken-none slot none class next free = let clash = sym none ∙ free in absurd (cc)
-
-pub taken-live : (slot : Option Chunk) (class size : ℕ) → slot ≡ Some (Live class size) → IsTaken slot
-taken-live slot class size was other next free = let clash = sym was ∙ free in absurd (cc)
-
-pub taken-own : (slot : Option Chunk) (size room : ℕ) → slot ≡ Some (Own size room) → IsTaken slot
-taken-own slot size room was other next free = let clash = sym was ∙ free in absurd (cc)
-
 -- whether a free chunk is one of a class
 pub is_free-same : (class : ℕ) (next : Option Addr) → is_free class (Free class next) ≡ 1
 is_free-same class next = grind (arith, nat_tests)

@@ -1,5 +1,5 @@
 -- Lemmas on the ledger's step for a request.
-use Rattle.std.proofs.Common.{◌≡◌, ℕ, ◌<◌, ◌≤◌, if◌then◌else◌, Some, None, Result, Ok, Err, slice_index, ap, ◌∙◌, sym, arith}
+use Rattle.std.proofs.Common.{◌≡◌, ℕ, ◌<◌, ◌≤◌, if◌then◌else◌, Some, None, Result, Ok, ap, ◌∙◌, sym, arith}
 use Rattle.std.proofs.lemmas.Bool.Decides.{nat_tests}
 use Rattle.addr_space.specs.declared.Addr.{Addr}
 use Rattle.addr_space.specs.Space.{Space, Asks}
@@ -8,32 +8,13 @@ use Rattle.addr_space.specs.Live.{same_addr, PutsLive, SameLive}
 use Rattle.addr_space.proofs.Steps.{Moves-more, Keeps-more, same_stays}
 use Rattle.chunk_header.specs.Answers.{Taken}
 use Rattle.chunk_header.specs.declared.CtxError.{CtxError}
-use Rattle.chunk_header.specs.declared.CtxError.TheVariants.{NoSpace}
-use Rattle.alloc_set.specs.Ledger.{SetLedger, SetPlace, class_bytes, class_of, chunk_limit, own_size, take, take_class, take_own, from_new, reused, cut_off, renewed, of_class, of_own, block_size}
+use Rattle.alloc_set.specs.Ledger.{SetLedger, SetPlace, class_of, chunk_limit, own_size, take, take_class, take_own, of_own}
 use Rattle.alloc_set.specs.State.{SetState, place_at, footprint}
 use Rattle.alloc_set.specs.Kept.{state_of, IsKept}
 use Rattle.alloc_set.specs.Live.{LeavesLive}
 use Rattle.alloc_set.specs.Cut.{Allocates}
 use Rattle.alloc_set.specs.declared.books.Books.{Books}
 use Rattle.alloc_set.proofs.Places.{PutsPlace-live, LeavesLive-more}
-
-module _ (l : SetLedger) (left class : ℕ) where
-  pub take_class-reused : 0 < slice_index l.free class → take_class l left class ≡ Ok (of_class (reused l class) class 0)
-  unfolding take_class
-  take_class-reused some = grind (arith, nat_tests)
-
-  module _ (none : slice_index l.free class ≡ 0) where
-    pub take_class-cut : class_bytes class ≤ l.room → take_class l left class ≡ Ok (of_class (cut_off l class) class 0)
-    unfolding take_class
-    take_class-cut fits = grind (arith, nat_tests)
-
-    pub take_class-had : (size : ℕ) → l.room < class_bytes class → block_size l left class ≡ Some size → take_class l left class ≡ Ok (of_class (cut_off (renewed l size) class) class size)
-    unfolding take_class from_new
-    take_class-had size little had = rw had (grind (arith, nat_tests))
-
-    pub take_class-none : l.room < class_bytes class → block_size l left class ≡ None → take_class l left class ≡ Err NoSpace
-    unfolding take_class from_new
-    take_class-none little none_had = rw none_had (grind (arith, nat_tests))
 
 -- a live chunk is put by a step of the ledger
 module _ (a : SetState) (n : Books) (t : Space) (size : ℕ) (at : Addr) (step : Result (Taken SetLedger SetPlace) CtxError) (answer : Taken SetLedger SetPlace) (is : step ≡ Ok answer) (ledger : (state_of n).ledger ≡ answer.ledger)
@@ -59,14 +40,6 @@ module _ (a : SetState) (n : Books) (t : Space) (size : ℕ) (at : Addr) (step :
       (Moves-more (footprint a) (footprint w) (footprint (state_of n)) s u t moved moves) (Keeps-more (footprint a) (footprint w) (footprint (state_of n)) s u t (same_stays (footprint a) (footprint w) live) kept_bytes keeps)
 
 module _ (l : SetLedger) (left size : ℕ) where
-  pub take_own-had : size ≤ left → take_own l left size ≡ Ok (of_own l size)
-  unfolding take_own
-  take_own-had fits = grind (arith, nat_tests)
-
-  pub take_own-none : left < size → take_own l left size ≡ Err NoSpace
-  unfolding take_own
-  take_own-none over = grind (arith, nat_tests)
-
   -- what an own block answers
   pub take_own-is : (answer : Taken SetLedger SetPlace) → take_own l left size ≡ Ok answer → answer ≡ of_own l size
   unfolding take_own
@@ -80,3 +53,6 @@ module _ (l : SetLedger) (left size : ℕ) where
   pub take-class : size ≤ 1073741823 → size ≤ chunk_limit l.max → take l left size ≡ take_class l left (class_of size)
   unfolding take
   take-class small fits = grind (arith, nat_tests)
+
+-- which step serves a request
+pub ruleset takes = (take-own, take-class)

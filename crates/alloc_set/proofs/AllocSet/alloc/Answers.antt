@@ -8,11 +8,9 @@ use Rattle.alloc_set.proofs.AllocSet.alloc.Goals as goal
 
 pub returns-clause-moves : goal.returns-clause-moves
 returns-clause-moves c =
-    let f = footprint (state_of c.deref_mut.result.now) in
-    let g = footprint (state_of c.alloc.new.self) in
     let is = ap state_of c.deref_mut.ensures.value ∙ c.self.view_is in
     rw (← is)
-    (either_way c.alloc.result (on_ok c.alloc.result (λ at had. had.moves) c.alloc.ensures.ok) (both_err c.alloc.result (Moves-same f g c.args.space.now c.alloc.new.space (subst (λ (x : SetState). Agrees (footprint x) c.args.space.now) (sym is) c.requires)) (on_err c.alloc.result (ap footprint) c.alloc.ensures.err_state) c.alloc.ensures.err_space))
+    (either_way c.alloc.result (on_ok c.alloc.result (λ at had. had.moves) c.alloc.ensures.ok) (both_err c.alloc.result (Moves-same _ _ c.args.space.now c.alloc.new.space (subst (λ (x : SetState). Agrees (footprint x) c.args.space.now) (sym is) c.requires)) (on_err c.alloc.result (ap footprint) c.alloc.ensures.err_state) c.alloc.ensures.err_space))
 
 pub returns-clause-keeps : goal.returns-clause-keeps
 returns-clause-keeps c =

@@ -8,11 +8,9 @@ use Rattle.alloc_set.proofs.AllocSet.realloc.Goals as goal
 
 pub returns-clause-moves : goal.returns-clause-moves
 returns-clause-moves c =
-    let f = footprint (state_of c.deref_mut.result.now) in
-    let g = footprint (state_of c.realloc.new.self) in
     let is = ap state_of c.deref_mut.ensures.value ∙ c.self.view_is in
     rw (← is)
-    (either_way c.realloc.result (on_ok c.realloc.result (λ to had. had.2.moves) c.realloc.ensures.ok) (both_err c.realloc.result (Moves-same f g c.args.space.now c.realloc.new.space (subst (λ (x : SetState). Agrees (footprint x) c.args.space.now) (sym is) c.requires.agrees)) (on_err c.realloc.result (ap footprint) c.realloc.ensures.err_state) c.realloc.ensures.err_space))
+    (either_way c.realloc.result (on_ok c.realloc.result (λ to had. had.2.moves) c.realloc.ensures.ok) (both_err c.realloc.result (Moves-same _ _ c.args.space.now c.realloc.new.space (subst (λ (x : SetState). Agrees (footprint x) c.args.space.now) (sym is) c.requires.agrees)) (on_err c.realloc.result (ap footprint) c.realloc.ensures.err_state) c.realloc.ensures.err_space))
 
 pub returns-clause-keeps : goal.returns-clause-keeps
 returns-clause-keeps c =

@@ -10,8 +10,7 @@ returns-then-size-le8-clause-value c = sym (class_up_to-is 10 c.args.size 0 (ome
 
 pub overflow_sub-result-2 : goal.overflow_sub-result-2
 overflow_sub-result-2 c =
-    let zeros = count_leading_zeros 32 (c.args.size - 1) in
-    omega (arith, (class-bits c.args.size zeros (omega (arith, c.if-size-le8.false)) c.requires refl).0)
+    omega (arith, (class-bits c.args.size (count_leading_zeros 32 (c.args.size - 1)) (omega (arith, c.if-size-le8.false)) c.requires refl).0)
 
 pub returns : goal.returns
 unfolding class_of

@@ -11,14 +11,13 @@ use Rattle.alloc_set.proofs.resizing.resize_block.Goals as goal
 
 pub returns : goal.returns
 returns c =
-    let s = c.args.space.now in
     let m = c.resize.new.self in
     let t = c.write.new.self in
     let number : ℕ = c.args.region in
     let size : ℕ = c.args.size in
     let word = block_bytes c.args.context size in
     let place : Addr = record { region = number; offset = 0 } in
-    let it = some_region (region_at s number) c.requires.region in
+    let it = some_region (region_at c.args.space.now number) c.requires.region in
     let front : List (Option ℕ) = take size it.0.bytes in
     let back : List (Option ℕ) = replicate (size - length it.0.bytes) None in
     let cut : Region = record it.0 { bytes = front ++ back } in

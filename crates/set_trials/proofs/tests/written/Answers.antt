@@ -22,9 +22,6 @@ move f h g s t disjoint others moves = record {
   disjoint = AreDisjoint-other f h g s t moves disjoint others;
 }
 
-len : (c : After-write) → length c.args.bytes.now ≡ 8
-len c = omega arith
-
 before : (c : After-write) → Both (footprint c.alloc.new.self) (footprint c.in_ok-other.other) c.alloc.new.space
 before c =
     let g = footprint c.in_ok-other.other in
@@ -38,16 +35,9 @@ writes c = record {
   live = put-here (footprint c.in_ok-set.set).live (footprint c.alloc.new.self).live c.in_ok-at.at (Some 8) c.in_ok-at.ensures.live;
   region = refl;
   first = omega arith;
-  last = omega (arith, len c);
+  last = omega arith;
   writes = c.write.ensures.changes;
 }
-
-after : (c : After-write) → Both (footprint c.alloc.new.self) (footprint c.in_ok-other.other) c.write.new.self
-after c =
-    let f = footprint c.alloc.new.self in
-    let was = before c in
-    let moves = Moves-inside f c.alloc.new.space c.write.new.self c.in_ok-at.at c.in_ok-at.at 8 c.args.bytes.now was.agrees (writes c) in
-    move f f (footprint c.in_ok-other.other) c.alloc.new.space c.write.new.self was.disjoint was.others moves
 
 pub write-requires : goal.write-requires
 write-requires c =
@@ -58,15 +48,17 @@ pub returns : goal.returns
 returns c =
     let at = c.in_ok-at.at in
     let now = (goal.at.returns c).After-write in
-    let it = after now in
     let was = before now in
+    let f = footprint c.alloc.new.self in
+    let moves = Moves-inside f c.alloc.new.space c.write.new.self at at 8 c.args.bytes.now was.agrees (writes now) in
+    let it = move f f (footprint c.in_ok-other.other) c.alloc.new.space c.write.new.self was.disjoint was.others moves in
     let within = was.agrees.sound.live_inside at 8 (writes now).live in
     let has = was.agrees.regions at.region within.0 within.1 in
-    let bytes = HasBytes-written c.alloc.new.space c.write.new.self at c.args.bytes.now has.0 has.1 (omega (arith, within.2, has.3, len now)) c.write.ensures.changes in
+    let bytes = HasBytes-written c.alloc.new.space c.write.new.self at c.args.bytes.now has.0 has.1 (omega (arith, within.2, has.3)) c.write.ensures.changes in
     record {
       agrees = it.agrees;
       others = it.others;
       disjoint = it.disjoint;
       live = (writes now).live;
-      known = λ k below. subst IsSome (sym (bytes k (omega (arith, below, len now)))) refl;
+      known = λ k below. subst IsSome (sym (bytes k (omega (arith, below)))) refl;
     }

@@ -1,17 +1,8 @@
-use Rattle.std.proofs.Common.{◌≢◌, ℕ, arith}
-use Rattle.addr_space.specs.declared.Addr.{Addr}
-use Rattle.alloc_set.specs.Kept.{state_of, IsAlone}
-use Rattle.alloc_set.specs.declared.books.Books.{Books}
-use Rattle.alloc_set.specs.declared.chunk.Chunk.{Chunk}
-use Rattle.alloc_set.specs.declared.chunk.Chunk.TheVariants.{Live, Free, Own}
+use Rattle.std.proofs.Common.{◌≢◌, refl, arith}
+use Rattle.alloc_set.specs.Kept.{state_of}
+use Rattle.alloc_set.proofs.Altered.{alone_kept}
 use Rattle.alloc_set.proofs.Regions.{other_start}
 use Rattle.alloc_set.proofs.books.Books.activate.Goals as goal
-
--- a chunk that is in another block than the one that is active now
-alone_now : (b : Books) (number : ℕ) (at : Addr) (chunk : Chunk) → at.region ≢ number → IsAlone (state_of b) b.active.region at chunk → IsAlone (state_of b) number at chunk
-alone_now b number at (Live class n) differs is = tt
-alone_now b number at (Free class after) differs is = tt
-alone_now b number at (Own n own) differs is = (differs, is.1, is.2, is.3)
 
 pub returns-clause-kept : goal.returns-clause-kept
 returns-clause-kept c =
@@ -39,7 +30,7 @@ returns-clause-kept c =
         placed = λ at chunk found.
             let it = settled.placed at chunk found in
             let differs : at.region ≢ c.args.region = λ region. let none = c.requires.empty at region in absurd (cc) in
-            record { len = it.len; owned = it.owned; first = it.first; last = it.last; whole = it.whole; below = λ region. absurd (differs region); sized = it.sized; alone = alone_now b c.args.region at chunk differs it.alone };
+            record { len = it.len; owned = it.owned; first = it.first; last = it.last; whole = it.whole; below = λ region. absurd (differs region); sized = it.sized; alone = alone_kept (state_of b) (state_of b) b.active.region c.args.region at chunk refl refl (λ _. differs) it.alone };
         apart = settled.apart;
       };
       shelved = record { eleven = shelved.eleven; chain = shelved.chain; counted = shelved.counted; unique = shelved.unique };

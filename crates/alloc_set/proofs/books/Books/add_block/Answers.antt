@@ -70,7 +70,6 @@ returns c =
       rest = refl;
       owned = owned;
       new = free;
-      others = others;
       moves = Moves-taken (footprint s) (footprint t) c.args.space.now c.take.new.self c.write.new.self place size (block_bytes b.context size) c.requires.agrees took.fresh took.changes wrote (omega (arith, length-block_bytes b.context size, c.requires.least)) took.held
           (IsSound-settled t b.active.region b.active.size settled) refl refl (ap (λ n. b.total + n) c.from.ensures) owned others (λ a word marked. elim (new_marks s t (λ k. k ≡ number) place None b.active.region b.active.size kept.settled alters a word marked) [
             | old stays before ↦ inr (stays, before)

@@ -9,7 +9,7 @@ use Rattle.alloc_set.specs.declared.books.Books.{Books}
 use Rattle.alloc_set.specs.declared.chunk.Chunk.{Chunk}
 use Rattle.alloc_set.specs.declared.chunk.Chunk.TheVariants.{Live}
 use Rattle.alloc_set.proofs.Counted.{SameBlocks-chunks}
-use Rattle.alloc_set.proofs.Headed.{nothing_there, IsSettled-headed, Moves-headed, Keeps-headed}
+use Rattle.alloc_set.proofs.Headed.{nothing_there, IsSettled-headed, wrote-headed}
 use Rattle.alloc_set.proofs.books.Books.carve.Goals as goal
 
 pub returns : goal.returns
@@ -43,18 +43,18 @@ returns c =
     let header : record { kind = SetKind; own = false; value = c.from.result; dist = active.size - active.room - c.start.result } ≡ header_of it (at.offset - 8 - start_of s active.region) = rw (c.from.ensures, c.start.ensures, front) refl in
     let wrote : Changes c.args.space.now c.write.new.self active.region (overwritten (region_at c.args.space.now active.region) (at.offset - 8) (map Some (header_bytes (header_of it (at.offset - 8 - start_of s active.region))))) =
     rw (← header, ← c.bytes.ensures, front) c.write.ensures.changes in
+    let done = wrote-headed s t active.region active.size at it settled same room puts refl placed apart c.args.space.now c.write.new.self c.requires.agrees wrote in
     record {
       free = none;
       chunk = puts;
       region = refl;
-      offset = omega (arith, settled.active_room);
       room = omega (arith, c.requires.room, c.class_size.ensures.value);
       settled = IsSettled-headed s t active.region active.size at it settled same room puts refl placed apart;
       rest = refl;
       active = refl;
       sums = λ f. let sums = rw none at (c.put.ensures.sums f) in omega (arith, sums);
       unique = c.put.ensures.unique;
-      moves = Moves-headed s t active.region active.size at it settled same room puts refl placed apart c.args.space.now c.write.new.self c.requires.agrees wrote;
-      keeps = Keeps-headed s t active.region active.size at it settled same room puts refl placed apart c.args.space.now c.write.new.self c.requires.agrees wrote;
+      moves = done.0;
+      keeps = done.1;
       asked = search rules;
     }

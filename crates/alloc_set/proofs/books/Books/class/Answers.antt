@@ -1,4 +1,4 @@
-use Rattle.std.proofs.Common.{◌≡◌, ℕ, Some, None, IsSome, true, false, refl, sym, ap, ◌∙◌, arith, inl, inr}
+use Rattle.std.proofs.Common.{◌≡◌, ℕ, Option, Some, None, IsSome, true, false, refl, sym, ap, ◌∙◌, arith, inl, inr}
 use Rattle.addr_space.specs.Space.{HasBytes}
 use Rattle.addr_space.proofs.Options.{from_then, option_cases}
 use Rattle.chunk_header.specs.declared.Header.{Header}
@@ -11,16 +11,12 @@ use Rattle.alloc_set.proofs.Leads.{headed_by}
 use Rattle.alloc_set.proofs.books.Books.class.Goals as goal
 use Rattle.alloc_set.proofs.books.Books.class.Goals.{Start}
 
--- a header that says so is that of a chunk of a class, and one that doesn't of a chunk with its block for itself
-class_from : (chunk : Chunk) (n dist : ℕ) (header : Header) → live_size chunk ≡ Some n → header ≡ header_of chunk dist → header.own ≡ false → (size : ℕ) × (chunk ≡ Live header.value size)
-class_from (Live class size) n dist header live is shared = (size, ap (λ c. Live c size) (sym (ap (λ (h : Header). h.value) is)))
-class_from (Free class next) n dist header live is shared = absurd (cc)
-class_from (Own size room) n dist header live is shared = let clash = sym shared ∙ ap (λ (h : Header). h.own) is in absurd (cc)
-
-own_from : (chunk : Chunk) (n dist : ℕ) (header : Header) → live_size chunk ≡ Some n → header ≡ header_of chunk dist → header.own ≡ true → (size : ℕ) × (room : ℕ) × (chunk ≡ Own size room)
-own_from (Live class size) n dist header live is own = let clash = sym own ∙ ap (λ (h : Header). h.own) is in absurd (cc)
-own_from (Free class next) n dist header live is own = absurd (cc)
-own_from (Own size room) n dist header live is own = (size, room, refl)
+-- a header says whether the chunk is of a class, and of which, or has its block for itself
+told : (o : Option Chunk) (chunk : Chunk) (n dist : ℕ) (header : Header) → o ≡ Some chunk → live_size chunk ≡ Some n → header ≡ header_of chunk dist
+    → (header.own ≡ false → (size : ℕ) × (o ≡ Some (Live header.value size))) × (header.own ≡ true → (size : ℕ) × (room : ℕ) × (o ≡ Some (Own size room)))
+told o (Live class size) n dist header found live is = rw is ((λ shared. (size, found)), λ own. absurd (cc))
+told o (Free class next) n dist header found live is = absurd (cc)
+told o (Own size room) n dist header found live is = rw is ((λ shared. absurd (cc)), λ own. (size, room, found))
 
 -- a live chunk stands there, and its header before it
 there : (c : Start) → (chunk : Chunk) × (n : ℕ) × (chunk_at (state_of c.args.self.now) c.args.at ≡ Some chunk) × (live_size chunk ≡ Some n)
@@ -41,23 +37,22 @@ header_at-header-requires c =
     let d = (goal.at.header_at-header-requires c).Start in
     record { behind = omega (arith, (c.requires.kept.settled.placed c.args.at (there d).0 (there d).2).first); known = ((headed d).header, (headed d).packable, known d) }
 
+says : (c : Start) (header : Header) → header ≡ (headed c).header
+    → (header.own ≡ false → (size : ℕ) × (chunk_at (state_of c.args.self.now) c.args.at ≡ Some (Live header.value size))) × (header.own ≡ true → (size : ℕ) × (room : ℕ) × (chunk_at (state_of c.args.self.now) c.args.at ≡ Some (Own size room)))
+says c header is = told (chunk_at (state_of c.args.self.now) c.args.at) (there c).0 (there c).1 _ header (there c).2 (there c).3 is
+
 pub returns-then-header-clause-own : goal.returns-then-header-clause-own
 returns-then-header-clause-own c =
     let d = (goal.at.returns-then-header-clause-own c).Start in
-    let own = own_from (there d).0 (there d).1 _ c.header_at-header.result (there d).3 (c.header_at-header.ensures (headed d).header (headed d).packable (known d)) c.if-header.true in
-    (own.0, own.1, (there d).2 ∙ ap Some own.2)
-
--- the class that it says is that of the chunk
-class_is : (c : Start) (header : Header) → header ≡ (headed c).header → header.own ≡ false → (size : ℕ) × (chunk_at (state_of c.args.self.now) c.args.at ≡ Some (Live header.value size))
-class_is c header is shared = let class = class_from (there c).0 (there c).1 _ header (there c).3 is shared in (class.0, (there c).2 ∙ ap Some class.1)
+    (says d c.header_at-header.result (c.header_at-header.ensures (headed d).header (headed d).packable (known d))).1 c.if-header.true
 
 pub overflow_cast-result : goal.overflow_cast-result
 overflow_cast-result c =
     let d = (goal.at.overflow_cast-result c).Start in
-    let class = class_is d c.header_at-header.result (c.header_at-header.ensures (headed d).header (headed d).packable (known d)) c.if-header.false in
+    let class = (says d c.header_at-header.result (c.header_at-header.ensures (headed d).header (headed d).packable (known d))).0 c.if-header.false in
     omega (arith, (c.requires.kept.settled.placed c.args.at (Live c.header_at-header.result.value class.0) class.1).sized.0)
 
 pub returns-clause-class : goal.returns-clause-class
 returns-clause-class c =
     let d = (goal.at.returns-clause-class c).Start in
-    class_is d c.header_at-header.result (c.header_at-header.ensures (headed d).header (headed d).packable (known d)) c.if-header.false
+    (says d c.header_at-header.result (c.header_at-header.ensures (headed d).header (headed d).packable (known d))).0 c.if-header.false

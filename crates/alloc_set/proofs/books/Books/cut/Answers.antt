@@ -8,7 +8,7 @@ use Rattle.alloc_set.specs.declared.chunk.Chunk.{Chunk}
 use Rattle.alloc_set.specs.declared.chunk.Chunk.TheVariants.{Live}
 use Rattle.alloc_set.proofs.Counted.{IsCounted-chunks}
 use Rattle.alloc_set.proofs.Places.{place-put, PutsLive-chunk, LeavesLive-put}
-use Rattle.alloc_set.proofs.Shelved.{IsShelved-taken, IsTaken-none}
+use Rattle.alloc_set.proofs.Shelved.{IsShelved-taken}
 use Rattle.alloc_set.proofs.books.Books.cut.Goals as goal
 
 pub returns : goal.returns
@@ -30,7 +30,7 @@ returns c =
       kept = record {
         counted = IsCounted-chunks b n rest kept.counted (omega (arith, kept.counted.filled, done.room, ap (λ (x : Block). x.size) done.active, kept.settled.active_room)) (omega (arith, kept.counted.rooms, done.room, done.sums taken_bytes));
         settled = subst (λ (x : Block). IsSettled t x.region x.size) (sym done.active) done.settled;
-        shelved = subst (IsShelved t) shelves (IsShelved-taken s t b.shelves at (Some it) kept.shelved done.chunk done.unique (IsTaken-none (chunk_at s at) done.free) (λ k under. omega (arith, done.sums (is_free k))));
+        shelved = subst (IsShelved t) shelves (IsShelved-taken s t b.shelves at (Some it) kept.shelved done.chunk done.unique (λ k next free. absurd (cc (done.free))) (λ k under. omega (arith, done.sums (is_free k))));
       };
       ledger = ap (λ (x : Books). (state_of x).ledger) done.rest ∙ ap (λ r. record s.ledger { room = r }) room;
       fresh = none;
@@ -41,7 +41,6 @@ returns c =
       place = place-put s t at (Some it) done.chunk;
       chunk = done.chunk;
       region = done.region;
-      offset = done.offset;
       rest = done.rest;
       active = done.active;
       sums = done.sums taken_bytes;

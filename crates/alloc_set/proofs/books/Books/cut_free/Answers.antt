@@ -15,10 +15,9 @@ unfolding cut_off
 returns c =
     let b = state_of c.args.self.now in
     let m = state_of c.cut-at.new.self in
-    let n = state_of c.shelve.new.self in
     let f = footprint b in
     let g = footprint m in
-    let h = footprint n in
+    let h = footprint (state_of c.shelve.new.self) in
     let at = c.cut-at.result in
     let first = c.cut-at.ensures in
     let second = c.shelve.ensures in

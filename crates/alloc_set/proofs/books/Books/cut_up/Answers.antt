@@ -60,14 +60,13 @@ loop-class-preserved-then-self-class_size c =
       little = omega (arith, room, little, class_bytes-suc class);
       room = ap (cut_rest class) room ∙ sym (cut-in class m.active.room (state_of m).ledger.free fits little).0 ∙ ap (λ k. cut_rest k m.active.room) up ∙ kept.room;
       free = ap (λ r. cut_up class r (state_of n).ledger.free) room ∙ ap (cut_up class (m.active.room - class_bytes class)) free ∙ sym (cut-in class m.active.room (state_of m).ledger.free fits little).1 ∙ ap (λ k. cut_up k m.active.room (state_of m).ledger.free) up ∙ kept.free;
-      moves = Moves-more (footprint (state_of b)) (footprint (state_of m)) (footprint (state_of n)) c.args.space.now c.loop-class.space c.cut_free.new.space kept.moves c.cut_free.ensures.moves;
+      moves = Moves-more _ _ _ _ _ _ kept.moves c.cut_free.ensures.moves;
       keeps = Keeps-more (footprint (state_of b)) (footprint (state_of m)) (footprint (state_of n)) c.args.space.now c.loop-class.space c.cut_free.new.space (same_stays (footprint (state_of b)) (footprint (state_of m)) kept.cut.live) kept.keeps c.cut_free.ensures.keeps;
       asked = c.cut_free.ensures.asked ∙ kept.asked;
     }
 
 pub loop-class-preserved : goal.loop-class-preserved
 loop-class-preserved c =
-    let b = c.args.self.now in
     let m = c.loop-class.self in
     let kept = c.loop-class.invariant in
     let class : ℕ = c.loop-class.class - 1 in
@@ -83,11 +82,3 @@ loop-class-preserved c =
       keeps = kept.keeps;
       asked = kept.asked;
     }
-
-pub returns-clause-room : goal.returns-clause-room
-unfolding cut_rest
-returns-clause-room c = let zero : c.loop-class.class ≡ 0 = omega (arith, c.loop-class-test.false) in rw zero at c.loop-class.invariant.room
-
-pub returns-clause-free : goal.returns-clause-free
-unfolding cut_up
-returns-clause-free c = let zero : c.loop-class.class ≡ 0 = omega (arith, c.loop-class-test.false) in rw zero at c.loop-class.invariant.free

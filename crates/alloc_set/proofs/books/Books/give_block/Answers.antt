@@ -26,8 +26,6 @@ returns c =
     let n : Books = record b { blocks = c.strike.new.blocks; total = b.total - c.from.result; count = b.count - 1 } in
     let t = state_of n in
     let kept = c.requires.kept in
-    let bytes = rw (was c) at (c.strike.ensures.sums (λ x. x)) in
-    let ones = rw (was c) at (c.strike.ensures.sums (min 1)) in
     let place : Addr = record { region = number; offset = 0 } in
     let none : region_of t number ≡ None = region_now s t number None refl refl c.requires.not_keeper c.strike.ensures.at in
     let others = regions_else s t number None refl refl c.requires.not_keeper c.strike.ensures.at in
@@ -38,8 +36,8 @@ returns c =
     let sound = IsSound-settled t b.active.region b.active.size settled in
     record {
       kept = record {
-        counted = IsCounted-blocks b n kept.counted refl kept.counted.filled (keeper_else s t number None refl refl c.requires.not_keeper c.strike.ensures.at ∙ kept.counted.keeper) (omega (arith, kept.counted.total, c.from.ensures, bytes)) (omega (arith, kept.counted.most))
-            (omega (arith, kept.counted.blocks, ones, (kept.settled.small number size c.requires.owned).1)) (omega (arith, c.requires.counted, c.from.ensures));
+        counted = IsCounted-blocks b n kept.counted refl kept.counted.filled (keeper_else s t number None refl refl c.requires.not_keeper c.strike.ensures.at ∙ kept.counted.keeper) (omega (arith, kept.counted.total, c.from.ensures, rw (was c) at (c.strike.ensures.sums (λ x. x)))) (omega (arith, kept.counted.most))
+            (omega (arith, kept.counted.blocks, rw (was c) at (c.strike.ensures.sums (min 1)), (kept.settled.small number size c.requires.owned).1)) (omega (arith, c.requires.counted, c.from.ensures));
         settled = settled;
         shelved = record { eleven = kept.shelved.eleven; chain = kept.shelved.chain; counted = kept.shelved.counted; unique = kept.shelved.unique };
       };

@@ -23,9 +23,7 @@ pub give_block-requires-clause-not_active : goal.give_block-requires-clause-not_
 give_block-requires-clause-not_active c = λ e. (placed (goal.at.give_block-requires-clause-not_active c).Start).alone.0 (e ∙ ap (λ (x : Books). x.active.region) c.unlist.ensures.rest)
 
 pub returns-clause-moves : goal.returns-clause-moves
-returns-clause-moves c =
-    Moves-more (footprint (state_of c.args.self.now)) (footprint (state_of c.unlist.new.self)) (footprint (state_of c.give_block.new.self)) c.args.space.now c.args.space.now c.give_block.new.space
-    (c.unlist.ensures.moves c.args.space.now c.requires.agrees) c.give_block.ensures.moves
+returns-clause-moves c = Moves-more _ _ _ _ _ _ (c.unlist.ensures.moves c.args.space.now c.requires.agrees) c.give_block.ensures.moves
 
 pub returns-clause-keeps : goal.returns-clause-keeps
 returns-clause-keeps c =
@@ -33,6 +31,3 @@ returns-clause-keeps c =
     let h = footprint (state_of c.give_block.new.self) in
     Keeps-then (footprint (state_of c.args.self.now)) g h c.args.space.now c.args.space.now c.give_block.new.space
     (same_was g h (λ at. ap (λ (x : Books). (footprint (state_of x)).live at) c.give_block.ensures.rest)) (λ at x y k live again below short. refl) c.give_block.ensures.keeps
-
-pub returns-clause-place : goal.returns-clause-place
-returns-clause-place c = λ other. ap (λ (x : Books). place_at (state_of x) other) c.give_block.ensures.rest ∙ c.unlist.ensures.place other

@@ -1,64 +1,31 @@
-use Rattle.std.proofs.Common.{◌≡◌, ℕ, ◌+◌, min, Some, Err, sym, ap, ◌∙◌, arith, option_and_then}
+use Rattle.std.proofs.Common.{◌≡◌, ℕ, ◌+◌, ◌≤◌, min, Err, ap, ◌∙◌, arith, option_and_then}
+use Rattle.std.proofs.lemmas.Bool.Decides.{nat_tests}
 use Rattle.std.proofs.lemmas.Result.{err_from_is_err_and}
 use Rattle.addr_space.specs.Space.{held}
 use Rattle.addr_space.proofs.Options.{if_ok}
 use Rattle.chunk_header.specs.declared.CtxError.TheVariants.{NoSpace}
-use Rattle.alloc_set.specs.Ledger.{Class, Own as OwnPlace, resize_at}
-use Rattle.alloc_set.specs.State.{chunk_at, live_size, live_place}
+use Rattle.alloc_set.specs.Ledger.{SetLedger, SetPlace, Class, Own as OwnPlace, resize, resize_at}
+use Rattle.alloc_set.specs.State.{live_size, live_place}
 use Rattle.alloc_set.specs.Kept.{state_of}
-use Rattle.alloc_set.specs.declared.chunk.Chunk.TheVariants.{Live, Own}
-use Rattle.alloc_set.proofs.Refits.{resize-small}
+use Rattle.alloc_set.specs.declared.chunk.Chunk.TheVariants.{Live}
 use Rattle.alloc_set.proofs.Places.{Reallocates-in_place}
 use Rattle.alloc_set.proofs.books.Books.realloc.Goals as goal
-use Rattle.alloc_set.proofs.books.Books.realloc.Goals.{After-room-room}
+
+-- the step for a size that is not too big
+resize-small : (l : SetLedger) (held limit : ℕ) (place : SetPlace) (size : ℕ) → size ≤ 1073741823 → resize l held limit place size ≡ resize_at l held limit place size
+unfolding resize
+resize-small l held limit place size small = grind (arith, nat_tests)
 
 pub resize_class-requires-clause-class : goal.resize_class-requires-clause-class
-resize_class-requires-clause-class c =
-    let found = c.in-Some.ensures.class in
-    (c.requires.kept.settled.placed c.args.at (Live c.in-Some.class found.0) found.1).sized.0
-
-pub returns-in-Some-clause-ok : goal.returns-in-Some-clause-ok
-returns-in-Some-clause-ok c =
-    let a = state_of c.args.self.now in
-    let s = c.args.space.now in
-    let small = resize-small a.ledger (held s a.account) s.limit (Class c.in-Some.class) c.args.size (omega (arith, c.if-size-gt-LARGEST.false)) in
-    if_ok c.resize_class.result (λ to had. (Class c.in-Some.class, ap (λ o. option_and_then live_place o) c.in-Some.ensures.class.1, rw (small, ← c.min.ensures) had)) c.resize_class.ensures.ok
-
-pub returns-in-Some-clause-no_space : goal.returns-in-Some-clause-no_space
-returns-in-Some-clause-no_space c = λ refused.
-    let a = state_of c.args.self.now in
-    let s = c.args.space.now in
-    let small = resize-small a.ledger (held s a.account) s.limit (Class c.in-Some.class) c.args.size (omega (arith, c.if-size-gt-LARGEST.false)) in
-    rw c.in-Some.ensures.class.1 (small ∙ c.resize_class.ensures.no_space refused)
-
--- the chunk that has its block for itself, with its room
-found : (c : After-room-room) → chunk_at (state_of c.args.self.now) c.args.at ≡ Some (Own c.in-None.ensures.own.0 c.room-room.result)
-found c = let own = c.in-None.ensures.own in own.2 ∙ ap (λ r. Some (Own own.0 r)) (sym (c.room-room.ensures own.0 own.1 own.2))
-
-pub resize_own-requires-clause-live : goal.resize_own-requires-clause-live
-resize_own-requires-clause-live c = (c.in-None.ensures.own.0, found (goal.at.resize_own-requires-clause-live c).After-room-room)
+resize_class-requires-clause-class c = let found = c.in-Some.ensures.class in (c.requires.kept.settled.placed c.args.at (Live c.in-Some.class found.0) found.1).sized.0
 
 pub returns-in_ok-resize_own-in-None-clause-ok : goal.returns-in_ok-resize_own-in-None-clause-ok
 returns-in_ok-resize_own-in-None-clause-ok c =
-    let a = state_of c.args.self.now in
-    let s = c.args.space.now in
-    let old : ℕ = c.in-None.ensures.own.0 in
-    let place = OwnPlace (c.room-room.result + 48) in
-    let there = found (goal.at.returns-in_ok-resize_own-in-None-clause-ok c).After-room-room in
+    let there = c.room-room.ensures.1 in
     let live = ap (λ o. option_and_then live_size o) there in
-    let few = rw live at c.requires.keep in
     let done = c.in_ok-resize_own-in-None.ensures in
-    let small = resize-small a.ledger (held s a.account) s.limit place c.args.size (omega (arith, c.if-size-gt-LARGEST.false)) in (
-      place,
+    let small : c.args.size ≤ 1073741823 = omega (arith, c.if-size-gt-LARGEST.false) in (
+      OwnPlace (c.room-room.result + 48),
       ap (λ o. option_and_then live_place o) there,
-      rw small (Reallocates-in_place a c.resize_own.new.self s c.resize_own.new.space c.args.at old (min c.args.keep c.args.size) c.args.size (resize_at a.ledger (held s a.account) s.limit place c.args.size)
-          done.kept done.refits live (omega (arith, few)) (omega arith) done.live done.moves done.keeps),
+      rw resize-small (Reallocates-in_place _ _ _ _ _ _ _ _ _ done.kept done.refits live (omega (arith, rw live at c.requires.keep)) (omega arith) done.live done.moves done.keeps),
     )
-
-pub returns-in_err-resize_own-in-None-clause-no_space : goal.returns-in_err-resize_own-in-None-clause-no_space
-returns-in_err-resize_own-in-None-clause-no_space c = λ refused.
-    let a = state_of c.args.self.now in
-    let s = c.args.space.now in
-    let is : c.in_err-resize_own-in-None.field-0.0 ≡ NoSpace = let p = err_from_is_err_and c.from_residual.result c.from_residual.ensures.1 in cc in
-    let small = resize-small a.ledger (held s a.account) s.limit (OwnPlace (c.room-room.result + 48)) c.args.size (omega (arith, c.if-size-gt-LARGEST.false)) in
-    rw (found (goal.at.returns-in_err-resize_own-in-None-clause-no_space c).After-room-room) (small ∙ c.in_err-resize_own-in-None.ensures.no_space (ap Err is))

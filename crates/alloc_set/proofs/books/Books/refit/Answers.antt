@@ -7,7 +7,7 @@ use Rattle.alloc_set.specs.declared.chunk.Chunk.TheVariants.{Live}
 use Rattle.alloc_set.proofs.Counted.{IsCounted-chunks, SameBlocks-chunks}
 use Rattle.alloc_set.proofs.Flipped.{IsSettled-flipped, Moves-flipped}
 use Rattle.alloc_set.proofs.Places.{PutsPlace-chunk, PutsLive-chunk}
-use Rattle.alloc_set.proofs.Shelved.{IsShelved-taken, taken-live}
+use Rattle.alloc_set.proofs.Shelved.{IsShelved-taken}
 use Rattle.alloc_set.proofs.books.Books.refit.Goals as goal
 
 pub returns : goal.returns
@@ -26,7 +26,7 @@ returns c =
       kept = record {
         counted = IsCounted-chunks b n refl kept.counted kept.counted.filled (let sums = rw was at (c.put.ensures.sums taken_bytes) in omega (arith, kept.counted.rooms, sums));
         settled = IsSettled-flipped (state_of b) (state_of n) b.active.region b.active.size at (Live class size) now kept.settled same refl was puts refl (c.requires.class, c.requires.size) tt (λ dist. refl);
-        shelved = IsShelved-taken (state_of b) (state_of n) b.shelves at (Some now) kept.shelved puts c.put.ensures.unique (taken-live (chunk_at (state_of b) at) class size was) (λ k under. let sums = rw was at (c.put.ensures.sums (is_free k)) in omega (arith, sums));
+        shelved = IsShelved-taken (state_of b) (state_of n) b.shelves at (Some now) kept.shelved puts c.put.ensures.unique (λ k next free. absurd (cc)) (λ k under. let sums = rw was at (c.put.ensures.sums (is_free k)) in omega (arith, sums));
       };
       ledger = refl;
       place = PutsPlace-chunk (state_of b) (state_of n) at (Some now) puts;

@@ -15,15 +15,6 @@ use Rattle.alloc_set.proofs.Places.{LeavesLive-same, LeavesLive-more}
 use Rattle.alloc_set.proofs.books.Books.renew.Goals as goal
 use Rattle.alloc_set.proofs.books.Books.renew.Goals.{After-cut_up}
 
-pub returns-in_err-region-clause-no_space : goal.returns-in_err-region-clause-no_space
-unfolding block_size
-returns-in_err-region-clause-no_space c = λ e.
-    let b = c.args.self.now in
-    let left : ℕ = c.args.space.now.limit - held c.args.space.now b.account in
-    let need : c.class_size.result + 48 ≡ class_size c.args.class + 48 = omega (arith, c.class_size.ensures.value) in
-    let it : c.in_err-region.field-0.0 ≡ NoSpace = let p = err_from_is_err_and c.from_residual.result c.from_residual.ensures.1 in cc in
-    subst (λ n. halved left n (grown b.next n) ≡ None) need (c.fitted-size.ensures.none (c.in_err-region.ensures.no_space (ap Err it)))
-
 -- the ledger once the block is noted and the rest of the old one cut up
 ledger_cut : (c : After-cut_up) → (state_of c.cut_up.new.self).ledger ≡ record (state_of c.args.self.now).ledger {
   total = c.args.self.now.total + c.fitted-size.result;
@@ -33,9 +24,8 @@ ledger_cut : (c : After-cut_up) → (state_of c.cut_up.new.self).ledger ≡ reco
 }
 unfolding with_own
 ledger_cut c =
-    let own = c.in_ok-region.ensures.ledger in
     ap (λ (x : Books). (state_of x).ledger) c.cut_up.ensures.cut.rest
-    ∙ rw (c.cut_up.ensures.room, c.cut_up.ensures.free) (ap (λ (l : SetLedger). record l { room = cut_rest 11 l.room; free = cut_up 11 l.room l.free }) own)
+    ∙ rw (c.cut_up.ensures.room, c.cut_up.ensures.free) (ap (λ (l : SetLedger). record l { room = cut_rest 11 l.room; free = cut_up 11 l.room l.free }) c.in_ok-region.ensures.ledger)
 
 pub activate-requires-clause-empty : goal.activate-requires-clause-empty
 activate-requires-clause-empty c = λ at region.
@@ -67,16 +57,14 @@ returns c =
     let h = footprint (state_of n) in
     let s = c.args.space.now in
     let size : ℕ = c.fitted-size.result in
-    let left : ℕ = s.limit - held s b.account in
     let added = c.in_ok-region.ensures in
     let cut = c.cut_up.ensures.cut in
     let done = c.activate.ensures in
-    let need : c.class_size.result + 48 ≡ class_size c.args.class + 48 = omega (arith, c.class_size.ensures.value) in
     let now : (state_of t).ledger ≡ record (state_of n).ledger { next = min (2 * n.next) n.sizes.max; idle = n.idle + n.active.room; room = size - 40 } = ap (λ (s : SetState). s.ledger) done.state in
     record {
       renewed = record {
         size = size;
-        had = subst (λ x. halved left x (grown b.next x) ≡ Some size) need (c.fitted-size.ensures.some added.fits);
+        had = rw (← c.class_size.ensures.value) (c.fitted-size.ensures.some added.fits);
         kept = done.kept;
         ledger = now ∙ ap (λ (l : SetLedger). record l { next = min (2 * l.next) l.max; idle = l.idle + l.room; room = size - 40 }) (ledger_cut (goal.at.returns c).After-cut_up);
         room = omega (arith, ap (λ (l : SetLedger). l.room) now, c.fitted-size.ensures.enough, c.class_size.ensures.value);

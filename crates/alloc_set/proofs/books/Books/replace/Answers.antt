@@ -1,4 +1,5 @@
 use Rattle.std.proofs.Common.{◌≡◌, ◌≢◌, ℕ, ◌+◌, ◌-◌, ◌<◌, Some, Err, sym, ap, ◌∙◌, arith, inl, inr, false, option_and_then}
+use Rattle.std.proofs.lemmas.Bool.Decides.{nat_tests}
 use Rattle.std.proofs.lemmas.Result.{err_from_is_err_and}
 use Rattle.addr_space.specs.Space.{held, byte_at, IsInside, IsKnown}
 use Rattle.addr_space.proofs.Addresses.{put_at-cases}
@@ -6,11 +7,10 @@ use Rattle.addr_space.proofs.Carried.{IsInside-live, Moves-carried, KeepsBut-car
 use Rattle.addr_space.proofs.Steps.{Moves-more}
 use Rattle.chunk_header.specs.declared.CtxError.TheVariants.{NoSpace}
 use Rattle.chunk_header.proofs.Put.{MovesAt-from, put-here}
-use Rattle.alloc_set.specs.Ledger.{SetLedger, shelved, take, then_shelved}
+use Rattle.alloc_set.specs.Ledger.{SetLedger, shelved, take, then_shelved, resize_class}
 use Rattle.alloc_set.specs.State.{place_at, live_size, footprint}
 use Rattle.alloc_set.specs.Kept.{state_of}
 use Rattle.alloc_set.specs.Cut.{Allocates}
-use Rattle.alloc_set.proofs.Refits.{resize_class-moves}
 use Rattle.alloc_set.proofs.books.Books.replace.Goals as goal
 use Rattle.alloc_set.proofs.books.Books.replace.Goals.{In_ok-to}
 
@@ -36,14 +36,6 @@ known c k below = rw (byte_kept c k below) (c.requires.known k below)
 inside : (c : In_ok-to) → IsInside c.alloc.new.space c.args.at c.args.keep
 inside c = IsInside-live (footprint (state_of c.alloc.new.self)) c.alloc.new.space c.args.at c.requires.live.0 c.args.keep (took c).moves.agrees (live_now c) c.requires.live.2
 
-pub returns-in_err-to-clause-no_space : goal.returns-in_err-to-clause-no_space
-returns-in_err-to-clause-no_space c = λ e.
-    let b = c.args.self.now in
-    let s = c.args.space.now in
-    let is : c.in_err-to.field-0.0 ≡ NoSpace = let p = err_from_is_err_and c.from_residual.result c.from_residual.ensures.1 in cc in
-    let none = rw c.from.ensures at (c.in_err-to.ensures.no_space (ap Err is)) in
-    resize_class-moves (state_of b).ledger (held s b.account) s.limit c.args.class c.args.size c.requires.over ∙ ap (λ r. then_shelved r c.args.class) none
-
 pub copy-requires-clause-from : goal.copy-requires-clause-from
 copy-requires-clause-from c = inside (goal.at.copy-requires-clause-from c).In_ok-to
 
@@ -56,6 +48,7 @@ shelve-requires-clause-agrees c =
     (Moves-carried (footprint (state_of c.alloc.new.self)) c.alloc.new.space c.copy.new.self c.args.at c.in_ok-to.to c.args.keep c.args.size (took d).moves.agrees (live_to d) c.requires.keep (known d) (inside d).end_in_region c.copy.ensures.changes).agrees
 
 pub returns-clause-ok : goal.returns-clause-ok
+unfolding resize_class
 returns-clause-ok c =
     let d = (goal.at.returns-clause-ok c).In_ok-to in
     let a = state_of c.args.self.now in
@@ -67,7 +60,6 @@ returns-clause-ok c =
     let s = c.args.space.now in
     let u = c.alloc.new.space in
     let v = c.copy.new.self in
-    let w = c.shelve.new.space in
     let at = c.args.at in
     let to = c.in_ok-to.to in
     let size = c.args.size in
@@ -85,7 +77,7 @@ returns-clause-ok c =
       kept = did.kept;
       refits = record {
         answer = record { ledger = shelved answer.ledger class; place = answer.place; asked = answer.asked; stays = false };
-        is = resize_class-moves a.ledger (held s a.account) s.limit class size c.requires.over ∙ ap (λ r. then_shelved r class) first.serves.is;
+        is = (let over = c.requires.over in grind (arith, nat_tests)) ∙ ap (λ r. then_shelved r class) first.serves.is;
         ledger = did.ledger ∙ ap (λ (l : SetLedger). shelved l class) first.serves.ledger;
         place = MovesAt-from (place_at a) (place_at m) (place_at n) at to answer.place apart first.serves.place did.place;
         asked = did.asked ∙ c.copy.ensures.taken ∙ first.serves.asked;
@@ -94,7 +86,7 @@ returns-clause-ok c =
       fresh = λ differs. first.fresh;
       live = MovesAt-from f.live g.live h.live at to size apart first.live did.live;
       bytes = λ k below. did.keeps to size size k (live_to d) to_now (omega (arith, below, c.requires.keep)) (omega (arith, below, c.requires.keep)) ∙ bytes k below ∙ byte_kept d k below;
-      moves = Moves-more f g h s v w (Moves-more f g g s u v first.moves moved) did.moves;
+      moves = Moves-more f g h s v c.shelve.new.space (Moves-more f g g s u v first.moves moved) did.moves;
       keeps = λ other p q k differs live again below low.
           let middle : g.live other ≡ Some p = ap (λ o. option_and_then live_size o) (first.stays other p live) ∙ live in
           let not_to : other ≢ to = λ same. let clash = sym first.fresh ∙ ap f.live (sym same) ∙ live in absurd (cc) in

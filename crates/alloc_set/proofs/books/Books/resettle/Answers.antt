@@ -7,7 +7,7 @@ use Rattle.alloc_set.specs.declared.chunk.Chunk.TheVariants.{Own}
 use Rattle.alloc_set.proofs.Counted.{IsCounted-chunks, SameBlocks-chunks}
 use Rattle.alloc_set.proofs.Flipped.{IsSettled-flipped, Moves-flipped}
 use Rattle.alloc_set.proofs.Places.{PutsPlace-chunk, PutsLive-chunk}
-use Rattle.alloc_set.proofs.Shelved.{IsShelved-taken, taken-own}
+use Rattle.alloc_set.proofs.Shelved.{IsShelved-taken}
 use Rattle.alloc_set.proofs.books.Books.resettle.Goals as goal
 
 pub returns : goal.returns
@@ -29,7 +29,7 @@ returns c =
       kept = record {
         counted = IsCounted-chunks b n refl kept.counted kept.counted.filled (let sums = rw was at (c.put.ensures.sums taken_bytes) in omega (arith, kept.counted.rooms, sums));
         settled = IsSettled-flipped s t b.active.region b.active.size at (Own size room) now kept.settled same refl was puts refl c.requires.fits alone (λ dist. refl);
-        shelved = IsShelved-taken s t b.shelves at (Some now) kept.shelved puts c.put.ensures.unique (taken-own (chunk_at s at) size room was) (λ k under. let sums = rw was at (c.put.ensures.sums (is_free k)) in omega (arith, sums));
+        shelved = IsShelved-taken s t b.shelves at (Some now) kept.shelved puts c.put.ensures.unique (λ k next free. absurd (cc)) (λ k under. let sums = rw was at (c.put.ensures.sums (is_free k)) in omega (arith, sums));
       };
       ledger = refl;
       place = PutsPlace-chunk s t at (Some now) puts;

@@ -78,5 +78,4 @@ returns c =
       place = place-put (state_of b) (state_of n) at (Some now) c.put.ensures.at;
       stays = LeavesLive-put (state_of b) (state_of n) at (Some now) c.put.ensures.at none;
       moves = Moves-flipped (state_of b) (state_of n) b.active.region b.active.size at old now kept.settled same refl was c.put.ensures.at refl (c.requires.class, c.requires.size) tt (λ dist. refl) refl c.args.space.now c.requires.agrees;
-      rest = refl;
     }

@@ -8,10 +8,10 @@ use Rattle.alloc_set.specs.declared.books.Books.{Books}
 use Rattle.alloc_set.specs.declared.chunk.Chunk.{Chunk}
 use Rattle.alloc_set.specs.declared.chunk.Chunk.TheVariants.{Own}
 use Rattle.alloc_set.proofs.Counted.{IsCounted-chunks, SameBlocks-chunks}
-use Rattle.alloc_set.proofs.Headed.{IsSettled-headed, Moves-headed, Keeps-headed}
+use Rattle.alloc_set.proofs.Headed.{IsSettled-headed, wrote-headed}
 use Rattle.alloc_set.proofs.Places.{place-put, PutsLive-chunk, LeavesLive-put}
 use Rattle.alloc_set.proofs.Regions.{other_start}
-use Rattle.alloc_set.proofs.Shelved.{IsShelved-taken, IsTaken-none}
+use Rattle.alloc_set.proofs.Shelved.{IsShelved-taken}
 use Rattle.alloc_set.proofs.books.Books.settle.Goals as goal
 
 pub returns : goal.returns
@@ -42,18 +42,19 @@ returns c =
     } in
     let apart : (other : Addr) (there : Chunk) → chunk_at s other ≡ Some there → other.region ≡ at.region → (other.offset + capacity_of there + 8 ≤ 48) ⊎ (48 + room + 8 ≤ other.offset) = λ other there found region. let empty = c.requires.empty other region in absurd (cc) in
     let wrote : Changes c.args.space.now c.write.new.self at.region (overwritten (region_at c.args.space.now at.region) 40 (map Some (header_bytes (header_of it (40 - start_of s at.region))))) = rw (start, ← c.bytes.ensures) c.write.ensures.changes in
+    let done = wrote-headed s t active.region active.size at it kept.settled same (omega arith) puts refl placed apart c.args.space.now c.write.new.self c.requires.agrees wrote in
     record {
       kept = record {
         counted = IsCounted-chunks b n refl kept.counted kept.counted.filled (let sums = rw was at (c.put.ensures.sums taken_bytes) in omega (arith, c.requires.counted, sums));
         settled = IsSettled-headed s t active.region active.size at it kept.settled same (omega arith) puts refl placed apart;
-        shelved = IsShelved-taken s t b.shelves at (Some it) kept.shelved puts c.put.ensures.unique (IsTaken-none (chunk_at s at) was) (λ k under. let sums = rw was at (c.put.ensures.sums (is_free k)) in omega (arith, sums));
+        shelved = IsShelved-taken s t b.shelves at (Some it) kept.shelved puts c.put.ensures.unique (λ k next free. absurd (cc)) (λ k under. let sums = rw was at (c.put.ensures.sums (is_free k)) in omega (arith, sums));
       };
       ledger = refl;
       fresh = none;
       live = PutsLive-chunk s t at (Some it) puts;
       stays = LeavesLive-put s t at (Some it) puts none;
-      moves = Moves-headed s t active.region active.size at it kept.settled same (omega arith) puts refl placed apart c.args.space.now c.write.new.self c.requires.agrees wrote;
-      keeps = Keeps-headed s t active.region active.size at it kept.settled same (omega arith) puts refl placed apart c.args.space.now c.write.new.self c.requires.agrees wrote;
+      moves = done.0;
+      keeps = done.1;
       place = place-put s t at (Some it) puts;
       asked = search rules;
     }

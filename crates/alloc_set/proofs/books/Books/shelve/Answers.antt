@@ -12,10 +12,10 @@ use Rattle.alloc_set.specs.declared.chunk.Chunk.TheVariants.{Live, Free}
 use Rattle.free_list.specs.declared.shelves.Shelf.{Shelf}
 use Rattle.alloc_set.proofs.Altered.{put_cases}
 use Rattle.alloc_set.proofs.Counted.{IsCounted-chunks, SameBlocks-chunks}
-use Rattle.alloc_set.proofs.Flipped.{IsSettled-flipped, Moves-linked, Keeps-linked}
+use Rattle.alloc_set.proofs.Flipped.{IsSettled-flipped, wrote-flipped}
 use Rattle.alloc_set.proofs.Settled.{length-link_bytes}
 use Rattle.alloc_set.proofs.Places.{PutsPlace-chunk, PutsLive-chunk}
-use Rattle.alloc_set.proofs.Shelved.{count_is, IsShelved-freed, taken-live}
+use Rattle.alloc_set.proofs.Shelved.{count_is, IsShelved-freed}
 use Rattle.alloc_set.proofs.ClassSizes.{class_size-least}
 use Rattle.alloc_set.proofs.books.Books.shelve.Goals as goal
 
@@ -23,8 +23,7 @@ pub write-requires : goal.write-requires
 write-requires c =
     let placed = c.requires.kept.settled.placed c.args.at (Live c.args.class c.requires.live.0) c.requires.live.1 in
     let has = c.requires.agrees.regions c.args.at.region placed.len placed.owned in
-    let len = ap length c.link_bytes.ensures ∙ length-link_bytes c.at-shelf.result.first in
-    record { live = rw has.1 refl; end_in_region = rw has.1 (omega (arith, len, has.3, placed.last, class_size-least c.args.class)) }
+    record { live = rw has.1 refl; end_in_region = rw has.1 (omega (arith, ap length c.link_bytes.ensures ∙ length-link_bytes c.at-shelf.result.first, has.3, placed.last, class_size-least c.args.class)) }
 
 pub returns : goal.returns
 returns c =
@@ -44,17 +43,18 @@ returns c =
     let sized : (class ≤ 10) × (size ≤ class_size class) = (kept.settled.placed at (Live class size) was).sized in
     let same = SameBlocks-chunks b n refl in
     let wrote = subst (λ xs. Changes c.args.space.now c.write.new.self at.region (overwritten (region_at c.args.space.now at.region) at.offset (map Some xs))) c.link_bytes.ensures c.write.ensures.changes in
+    let done = wrote-flipped (state_of b) (state_of n) b.active.region b.active.size at (Live class size) now kept.settled same refl was puts refl sized.0 tt (λ dist. refl) size (link_bytes shelf.first) refl refl c.args.space.now c.write.new.self c.requires.agrees wrote in
     record {
       kept = record {
         counted = IsCounted-chunks b n refl kept.counted kept.counted.filled (omega (arith, kept.counted.rooms, sums taken_bytes));
         settled = IsSettled-flipped (state_of b) (state_of n) b.active.region b.active.size at (Live class size) now kept.settled same refl was puts refl sized.0 tt (λ dist. refl);
         shelved = subst (IsShelved (state_of n)) (sym c.set.ensures) (subst (λ (s : Shelf). IsShelved (state_of n) (set b.shelves class (record { first = Some at; count = s.count + 1 }))) (sym is)
-            (IsShelved-freed (state_of b) (state_of n) b.shelves at (Some now) kept.shelved puts c.put.ensures.unique class (omega (arith, sized.0)) (taken-live (chunk_at (state_of b) at) class size was) (ap (λ (s : Shelf). Some (Free class s.first)) is) (λ k under. omega (arith, sums (is_free k)))));
+            (IsShelved-freed (state_of b) (state_of n) b.shelves at (Some now) kept.shelved puts c.put.ensures.unique class (omega (arith, sized.0)) (λ k next free. absurd (cc)) (ap (λ (s : Shelf). Some (Free class s.first)) is) (λ k under. omega (arith, sums (is_free k)))));
       };
       ledger = ap (λ f. record (state_of b).ledger { free = f }) (ap (map (λ (s : Shelf). s.count)) c.set.ensures ∙ map-set (λ (s : Shelf). s.count) b.shelves class new ∙ ap (λ x. set (map (λ (s : Shelf). s.count) b.shelves) class (x + 1)) (ap (λ (s : Shelf). s.count) is ∙ sym (count_is b class kept (omega (arith, sized.0)))));
       live = PutsLive-chunk (state_of b) (state_of n) at (Some now) puts;
-      moves = Moves-linked (state_of b) (state_of n) b.active.region b.active.size at (Live class size) now kept.settled same refl was puts refl sized.0 tt (λ dist. refl) size (link_bytes shelf.first) refl refl c.args.space.now c.write.new.self c.requires.agrees wrote;
-      keeps = Keeps-linked (state_of b) (state_of n) b.active.region b.active.size at (Live class size) now kept.settled same refl was puts refl sized.0 tt (λ dist. refl) size (link_bytes shelf.first) refl refl c.args.space.now c.write.new.self c.requires.agrees wrote;
+      moves = done.0;
+      keeps = done.1;
       place = PutsPlace-chunk (state_of b) (state_of n) at (Some now) puts;
       others = λ other differs. elim (put_cases (state_of b) (state_of n) at (Some now) puts other) [ inl here ↦ absurd (differs here.0) | inr there ↦ there.1 ];
       sums = omega (arith, sums taken_bytes);

@@ -19,10 +19,10 @@ use Rattle.alloc_set.specs.declared.books.Books.{Books}
 use Rattle.alloc_set.specs.declared.chunk.Chunk.TheVariants.{Own}
 use Rattle.alloc_set.specs.declared.chunk.Chunk.{Chunk}
 use Rattle.alloc_set.proofs.Counted.{IsCounted-blocks}
-use Rattle.alloc_set.proofs.Shelved.{IsShelved-taken, taken-own}
+use Rattle.alloc_set.proofs.Shelved.{IsShelved-taken}
 use Rattle.alloc_set.proofs.Places.{PutsPlace-chunk, PutsLive-chunk}
-use Rattle.alloc_set.proofs.Regions.{noted, sum-least, region_now, regions_else, keeper_else, other_start}
-use Rattle.alloc_set.proofs.Settled.{chunks_apart, live_there, mark_from_chunk, IsSound-settled}
+use Rattle.alloc_set.proofs.Regions.{sum-least, region_now, regions_else, keeper_else, other_start}
+use Rattle.alloc_set.proofs.Settled.{lonely, noted_own, live_there, mark_from_chunk, IsSound-settled}
 use Rattle.alloc_set.proofs.Altered.{Alters, old, new_block, new_header, new_link, put_cases, IsSettled-altered, new_marks}
 use Rattle.alloc_set.proofs.books.Books.stretch.Goals as goal
 use Rattle.alloc_set.proofs.books.Books.stretch.Goals.{Start}
@@ -39,7 +39,7 @@ in_space : (c : Start) → HasRegion c.args.space.now c.args.at.region c.args.se
 in_space c = c.requires.agrees.regions c.args.at.region (c.args.old + 48) (is_placed c).alone.3
 
 noted_at : (c : Start) → lookup (λ n. c.args.at.region == n) c.args.self.now.blocks.entries ≡ Some (c.args.old + 48)
-noted_at c = sym (noted (state_of c.args.self.now) c.args.at.region (is_placed c).alone.1) ∙ (is_placed c).alone.3
+noted_at c = noted_own (state_of c.args.self.now) c.args.self.now.active.region c.args.self.now.active.size c.requires.kept.settled c.args.at c.requires.live.0 c.args.old c.requires.live.1
 
 within : (c : Start) → c.args.old + 48 ≤ c.args.self.now.total
 within c = omega (arith, sum-least c.args.self.now.blocks.entries c.args.at.region (c.args.old + 48) (noted_at c), c.requires.kept.counted.total)
@@ -69,12 +69,11 @@ returns c =
     let at = c.args.at in
     let old_room = c.args.old in
     let room = c.args.room in
-    let size = c.args.size in
     let m : Books = record b { blocks = c.note_again.new.blocks; chunks = c.put.new.chunks; total = b.total - c.from.result + c.from-2.result } in
     let t = state_of m in
     let active = b.active in
     let n = c.requires.live.0 in
-    let now : Chunk = Own size room in
+    let now : Chunk = Own c.args.size room in
     let kept = c.requires.kept in
     let settled = kept.settled in
     let place = is_placed d in
@@ -90,14 +89,7 @@ returns c =
     let owned : region_of t at.region ≡ Some (room + 48) = region_now s t at.region (Some (room + 48)) refl refl alone.1 noted in
     let others = regions_else s t at.region (Some (room + 48)) refl refl alone.1 noted in
     let start = other_start s at.region alone.1 in
-    -- no other chunk is in that block
-    let lonely : (other : Addr) (chunk : Chunk) → chunk_at s other ≡ Some chunk → other ≢ at → other.region ≢ at.region = λ other chunk found differs region.
-    let there = settled.placed other chunk found in
-    let len : there.len ≡ old_room + 48 = one_value (region_of s at.region) there.len (old_room + 48) (ap (region_of s) (sym region) ∙ there.owned) alone.3 in
-    elim (chunks_apart s active.region active.size settled other at chunk (Own n old_room) found was differs region) [
-      | inl front ↦ omega (arith, front, there.first, alone.2)
-      | inr back ↦ omega (arith, back, there.last, alone.2, len)
-    ] in
+    let elsewhere = λ (other : Addr) (chunk : Chunk). lonely s active.region active.size settled at other n old_room chunk was in
     let alters : Alters s t (λ k. k ≡ at.region) at (Some now) = record {
       account = refl;
       context = refl;
@@ -106,7 +98,7 @@ returns c =
       regions = others;
       found = λ other chunk found. elim (put_cases s t at (Some now) puts other) [
         | inl here ↦ inr (here.0, sym here.1 ∙ found)
-        | inr there ↦ let stood = sym there.1 ∙ found in inl (stood, lonely other chunk stood there.0)
+        | inr there ↦ let stood = sym there.1 ∙ found in inl (stood, elsewhere other chunk stood there.0)
       ];
     } in
     let placed : IsPlaced t active.region active.size at now = record {
@@ -124,8 +116,7 @@ returns c =
     (λ number len new has.
     let is : len ≡ room + 48 = one_value (region_of t at.region) len (room + 48) (ap (region_of t) (sym new) ∙ has) owned in
     (omega (arith, is, most), omega (arith, is, ap (start_of s) new, start), omega (arith, new, (settled.small at.region (old_room + 48) alone.3).2)))
-    placed (λ other chunk found differs region. absurd (lonely other chunk found differs region)) in
-    let sound = IsSound-settled t active.region active.size settled_now in
+    placed (λ other chunk found differs region. absurd (elsewhere other chunk found differs region)) in
     let word = block_bytes b.context (room + 48) in
     -- the marks are that of the block and old ones, of which the chunk's header alone is in the block
     let marks : (a : Addr) (bytes : List ℕ) → mark_of t a ≡ Some bytes → ((a ≡ record { region = at.region; offset = 0 }) × (word ≡ bytes)) ⊎ ((a.region ≡ at.region → (a.offset ≡ 40) × (length bytes ≡ 8)) × (mark_of s a ≡ Some bytes)) =
@@ -154,13 +145,13 @@ returns c =
         counted = IsCounted-blocks b m kept.counted refl kept.counted.filled (keeper_else s t at.region (Some (room + 48)) refl refl alone.1 noted ∙ kept.counted.keeper) (omega (arith, kept.counted.total, total, bytes)) (omega (arith, c.if-self-gt-MOST.false, c.from-2.ensures, most))
             (omega (arith, kept.counted.blocks, ones)) (let sums = rw was at (c.put.ensures.sums taken_bytes) in omega (arith, kept.counted.rooms, sums, total));
         settled = settled_now;
-        shelved = IsShelved-taken s t b.shelves at (Some now) kept.shelved puts c.put.ensures.unique (taken-own (chunk_at s at) n old_room was) (λ k under. let sums = rw was at (c.put.ensures.sums (is_free k)) in omega (arith, sums));
+        shelved = IsShelved-taken s t b.shelves at (Some now) kept.shelved puts c.put.ensures.unique (λ k next free. absurd (cc)) (λ k under. let sums = rw was at (c.put.ensures.sums (is_free k)) in omega (arith, sums));
       };
       ledger = let is : m.total ≡ b.total - (old_room + 48) + (room + 48) = omega (arith, within d, c.from.ensures, c.from-2.ensures) in ap (λ n. record s.ledger { total = n }) is;
       place = PutsPlace-chunk s t at (Some now) puts;
       asked = done.taken ∙ ap (λ o. raised_by sp.taken o (room + 48)) target.1 ∙ ap (λ a. raised sp.taken a (room + 48 - length target.0.bytes)) target.2 ∙ ap (raised sp.taken b.account) more;
       live = PutsLive-chunk s t at (Some now) puts;
-      moves = Moves-one (footprint s) (footprint t) sp tp at.region (room + 48) there.0 c.requires.agrees sound refl refl (record { changed = there.1; others = done.changes.others; limit = done.changes.limit; accounts = done.changes.accounts })
+      moves = Moves-one (footprint s) (footprint t) sp tp at.region (room + 48) there.0 c.requires.agrees (IsSound-settled t active.region active.size settled_now) refl refl (record { changed = there.1; others = done.changes.others; limit = done.changes.limit; accounts = done.changes.accounts })
           there.2 there.3 (λ none. let has = alone.3 in absurd (cc)) owned others
           (λ a bytes marked region k below. elim (marks a bytes marked) [
             | inl new ↦ ap (λ (x : Addr). byte_at tp x.region (x.offset + k)) new.0 ∙ done.word k (omega (arith, below, ap length new.1)) ∙ ap (λ xs. Some (slice_index xs k)) new.1
@@ -182,7 +173,7 @@ returns c =
                 let two : after.0 ≡ now = one_value (chunk_at t a) after.0 now after.1 here.1 in
                 let offset : a.offset ≡ 48 = ap (λ (x : Addr). x.offset) here.0 ∙ alone.2 in
                 rw (ap (λ (x : Addr). x.region) here.0) (byte_same (a.offset + i) (omega (arith, offset)) (omega (arith, offset, short, after.3, ap capacity_of two)) (omega (arith, offset, below, it.3, ap capacity_of one)))
-            | inr there ↦ ap (λ r. slice_index_or (bytes_of r) (a.offset + i) None) (done.changes.others a.region (lonely a it.0 it.1 there.0))
+            | inr there ↦ ap (λ r. slice_index_or (bytes_of r) (a.offset + i) None) (done.changes.others a.region (elsewhere a it.0 it.1 there.0))
           ];
       within = elim (cases_lt sp.limit (held sp b.account - (old_room + 48) + (room + 48))) [
         | inl over ↦ let clash = done.no_space.1 ((over_limit sp at.region b.account (old_room + 48) (room + 48) target).1 over) in absurd (cc)

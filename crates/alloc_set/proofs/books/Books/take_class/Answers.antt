@@ -1,12 +1,13 @@
 use Rattle.std.proofs.Common.{◌≡◌, ℕ, ◌-◌, ◌<◌, ap, ◌∙◌, refl, subst, arith, None, Err, slice_index}
+use Rattle.std.proofs.lemmas.Bool.Decides.{nat_tests}
 use Rattle.std.proofs.lemmas.Result.{err_from_is_err_and}
 use Rattle.addr_space.specs.Space.{held}
 use Rattle.chunk_header.specs.declared.CtxError.TheVariants.{NoSpace}
-use Rattle.alloc_set.specs.Ledger.{SetLedger, class_bytes, take_class, of_class, reused, cut_off, renewed, block_size}
+use Rattle.alloc_set.specs.Ledger.{SetLedger, class_bytes, take_class, from_new, of_class, reused, cut_off, renewed, block_size}
 use Rattle.alloc_set.specs.State.{SetState}
 use Rattle.alloc_set.specs.Kept.{state_of}
 use Rattle.alloc_set.specs.Cut.{Allocates, Renews}
-use Rattle.alloc_set.proofs.Taken.{take_class-reused, take_class-cut, take_class-had, take_class-none, Allocates-put, Allocates-after}
+use Rattle.alloc_set.proofs.Taken.{Allocates-put, Allocates-after}
 use Rattle.alloc_set.proofs.books.Books.take_class.Goals as goal
 use Rattle.alloc_set.proofs.books.Books.take_class.Goals.{In_ok-make_room}
 
@@ -17,17 +18,17 @@ made c =
     (c.make_room.ensures.state ∙ same, c.in_default.ensures.empty, omega (arith, c.class_size.ensures.value, c.if-self-class_size.false, ap (λ (x : SetState). x.ledger.room) same))
 
 pub returns-in-Some-clause-ok : goal.returns-in-Some-clause-ok
+unfolding take_class
 returns-in-Some-clause-ok c =
-    let s = c.args.space.now in
     let a = state_of c.args.self.now in
-    let left : ℕ = s.limit - held s a.account in
     let class : ℕ = c.class_of-class.result in
     let did = c.in-Some.ensures in
     rw (← c.class_of-class.ensures.value)
-    (Allocates-put a c.reuse.new.self s c.args.size c.in-Some.at (take_class a.ledger left class) (of_class (reused a.ledger class) class 0) (take_class-reused a.ledger left class did.some) did.ledger did.kept did.place
-    s did.fresh did.live c.reuse.ensures.stays refl did.moves (λ at p q k live again below short. refl))
+    (Allocates-put a _ _ _ _ _ (of_class (reused a.ledger class) class 0) (grind (arith, nat_tests, did.some)) did.ledger did.kept did.place
+    _ did.fresh did.live c.reuse.ensures.stays refl did.moves (λ at p q k live again below short. refl))
 
 pub returns-then-self-class_size-clause-ok : goal.returns-then-self-class_size-clause-ok
+unfolding take_class
 returns-then-self-class_size-clause-ok c =
     let s = c.args.space.now in
     let a = state_of c.reuse.new.self in
@@ -38,35 +39,22 @@ returns-then-self-class_size-clause-ok c =
     let none = ap (λ (x : SetState). slice_index x.ledger.free class) same ∙ c.in_default.ensures.empty in
     rw (← c.class_of-class.ensures.value)
     (subst (λ (x : SetState). Allocates x c.cut.new.self s c.cut.new.space c.args.size c.cut.result (take_class x.ledger left class)) same
-    (Allocates-put a c.cut.new.self c.cut.new.space c.args.size c.cut.result (take_class a.ledger left class) (of_class (cut_off a.ledger class) class 0) (take_class-cut a.ledger left class none (omega (arith, c.class_size.ensures.value, c.if-self-class_size.true)))
+    (Allocates-put a _ _ _ _ _ (of_class (cut_off a.ledger class) class 0) (grind (arith, nat_tests, none, c.class_size.ensures.value, c.if-self-class_size.true))
     did.ledger did.kept did.place s did.fresh did.live did.stays did.asked did.moves did.keeps))
 
-pub returns-in_err-renew-clause-no_space : goal.returns-in_err-renew-clause-no_space
-returns-in_err-renew-clause-no_space c = λ e.
-    let l = (state_of c.args.self.now).ledger in
-    let left : ℕ = c.args.space.now.limit - held c.args.space.now c.args.self.now.account in
-    let class : ℕ = c.class_of-class.result in
-    let is = made (goal.at.returns-in_err-renew-clause-no_space c).In_ok-make_room in
-    let it : c.in_err-renew.field-0.0 ≡ NoSpace = let p = err_from_is_err_and c.from_residual-in_err-renew.result c.from_residual-in_err-renew.ensures.1 in cc in
-    let none_had = subst (λ (x : SetState). block_size x.ledger (c.args.space.now.limit - held c.args.space.now x.account) class ≡ None) is.0 (c.in_err-renew.ensures.no_space (ap Err it)) in
-    rw (← c.class_of-class.ensures.value) (take_class-none l left class is.1 is.2 none_had)
-
 pub returns-clause-ok : goal.returns-clause-ok
+unfolding take_class from_new
 returns-clause-ok c =
     let s = c.args.space.now in
-    let u = c.renew.new.space in
-    let b = c.args.self.now in
     let r = c.make_room.new.self in
-    let w = c.renew.new.self in
     let class : ℕ = c.class_of-class.result in
     let is = made (goal.at.returns-clause-ok c).In_ok-make_room in
-    let new : Renews r w s u class = c.in_ok-renew.ensures.renewed in
-    let left : ℕ = s.limit - held s r.account in
+    let new = c.in_ok-renew.ensures.renewed in
     let l = (state_of r).ledger in
     let did = c.cut-2.ensures in
     let none = ap (λ (x : SetState). slice_index x.ledger.free class) is.0 ∙ is.1 in
     rw (← c.class_of-class.ensures.value)
     (subst (λ (x : SetState). Allocates x c.cut-2.new.self s c.cut-2.new.space c.args.size c.cut-2.result (take_class x.ledger (s.limit - held s x.account) class)) is.0
-    (Allocates-after (state_of r) c.cut-2.new.self c.cut-2.new.space c.args.size c.cut-2.result (take_class l left class) (of_class (cut_off (renewed l new.size) class) class new.size)
-    (take_class-had l left class none new.size (omega (arith, is.2, ap (λ (x : SetState). x.ledger.room) is.0)) new.had) (did.ledger ∙ ap (λ (x : SetLedger). cut_off x class) new.ledger) did.kept did.place
-    (state_of w) s u new.live new.stays c.in_ok-renew.ensures.moves c.in_ok-renew.ensures.keeps did.fresh did.live did.stays (did.asked ∙ new.asked) did.moves did.keeps))
+    (Allocates-after (state_of r) _ _ _ _ _ (of_class (cut_off (renewed l new.size) class) class new.size)
+    (rw new.had (grind (arith, nat_tests, none, is.2, ap (λ (x : SetState). x.ledger.room) is.0))) (did.ledger ∙ ap (λ (x : SetLedger). cut_off x class) new.ledger) did.kept did.place
+    _ _ _ new.live new.stays c.in_ok-renew.ensures.moves c.in_ok-renew.ensures.keeps did.fresh did.live did.stays (did.asked ∙ new.asked) did.moves did.keeps))

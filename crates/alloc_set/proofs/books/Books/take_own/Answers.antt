@@ -1,4 +1,5 @@
 use Rattle.std.proofs.Common.{◌≡◌, ℕ, ◌+◌, ◌-◌, ◌<◌, ap, ◌∙◌, subst, arith, Err, sum_by}
+use Rattle.std.proofs.lemmas.Bool.Decides.{nat_tests}
 use Rattle.std.proofs.lemmas.Result.{err_from_is_err_and}
 use Rattle.std.specs.Map.{values_of}
 use Rattle.addr_space.specs.Space.{held}
@@ -10,21 +11,8 @@ use Rattle.alloc_set.specs.Cut.{Allocates}
 use Rattle.alloc_set.specs.declared.books.Books.{Books}
 use Rattle.alloc_set.proofs.Settled.{none_in}
 use Rattle.alloc_set.proofs.Places.{LeavesLive-same}
-use Rattle.alloc_set.proofs.Taken.{take_own-had, take_own-none, Allocates-after}
+use Rattle.alloc_set.proofs.Taken.{Allocates-after}
 use Rattle.alloc_set.proofs.books.Books.take_own.Goals as goal
-
-pub returns-in_err-region-clause-no_space : goal.returns-in_err-region-clause-no_space
-returns-in_err-region-clause-no_space c = λ e.
-    let it : c.in_err-region.field-0.0 ≡ NoSpace = let p = err_from_is_err_and c.from_residual-in_err-region.result c.from_residual-in_err-region.ensures.1 in cc in
-    let over = subst (λ (x : SetState). c.args.space.now.limit - held c.args.space.now x.account < c.up8-room.result + 48) c.make_room.ensures.state (c.in_err-region.ensures.no_space (ap Err it)) in
-    take_own-none (state_of c.args.self.now).ledger (c.args.space.now.limit - held c.args.space.now c.args.self.now.account) (own_size c.args.size) (omega (arith, over, c.up8-room.ensures.value))
-
-pub settle-requires-clause-counted : goal.settle-requires-clause-counted
-unfolding with_own
-settle-requires-clause-counted c =
-    let rest = c.in_ok-region.ensures.rest in
-    let bytes = ap (λ (x : Books). sum_by taken_bytes (values_of x.chunks.entries)) rest in
-    omega (arith, c.make_room.ensures.kept.counted.rooms, ap (λ (l : SetLedger). l.total) c.in_ok-region.ensures.ledger, ap (λ (x : Books). x.active.room) rest, ap (λ (x : Books). x.idle) rest, bytes)
 
 pub settle-requires-clause-empty : goal.settle-requires-clause-empty
 settle-requires-clause-empty c = λ other region.
@@ -32,22 +20,20 @@ settle-requires-clause-empty c = λ other region.
     ap (λ (x : Books). chunk_at (state_of x) other) c.in_ok-region.ensures.rest ∙ none_in (state_of m) m.active.region m.active.size c.make_room.ensures.kept.settled c.in_ok-region.region c.in_ok-region.ensures.new other region
 
 pub returns-clause-ok : goal.returns-clause-ok
+unfolding take_own
 returns-clause-ok c =
     let s = c.args.space.now in
-    let u = c.add_block.new.space in
     let t = c.settle.new.space in
     let m = c.make_room.new.self in
     let a = c.add_block.new.self in
     let n = c.settle.new.self in
     let at = c.settle.result in
     let size : ℕ = c.up8-room.result + 48 in
-    let l = (state_of m).ledger in
-    let left : ℕ = s.limit - held s m.account in
     let added = c.in_ok-region.ensures in
     let did = c.settle.ensures in
     let is : size ≡ own_size c.args.size = omega (arith, c.up8-room.ensures.value) in
     subst (λ k. Allocates (state_of c.args.self.now) n s t c.args.size at (take_own (state_of c.args.self.now).ledger (s.limit - held s c.args.self.now.account) k)) is
     (subst (λ (x : SetState). Allocates x n s t c.args.size at (take_own x.ledger (s.limit - held s x.account) size)) c.make_room.ensures.state
-    (Allocates-after (state_of m) n t c.args.size at (take_own l left size) (of_own l size) (take_own-had l left size added.fits) (did.ledger ∙ added.ledger) did.kept did.place
-    (state_of a) s u (λ other. ap (λ (x : Books). (footprint (state_of x)).live other) added.rest) (LeavesLive-same (state_of m) (state_of a) (ap (λ (x : Books). x.chunks.entries) added.rest)) added.moves added.keeps
+    (Allocates-after (state_of m) _ _ _ _ _ (of_own (state_of m).ledger size) (grind (arith, nat_tests, added.fits)) (did.ledger ∙ added.ledger) did.kept did.place
+    _ _ _ (λ other. ap (λ (x : Books). (footprint (state_of x)).live other) added.rest) (LeavesLive-same (state_of m) (state_of a) (ap (λ (x : Books). x.chunks.entries) added.rest)) added.moves added.keeps
     did.fresh did.live did.stays (did.asked ∙ added.asked) did.moves did.keeps))

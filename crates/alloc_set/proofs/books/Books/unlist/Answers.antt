@@ -1,15 +1,14 @@
-use Rattle.std.proofs.Common.{◌≡◌, ◌≢◌, ◌+◌, refl, sym, ap, ◌∙◌, arith, Some, None, inl, inr}
-use Rattle.addr_space.proofs.Addresses.{same_addr_from}
-use Rattle.addr_space.proofs.Options.{option_cases, one_value}
-use Rattle.alloc_set.specs.State.{chunk_at, region_of}
+use Rattle.std.proofs.Common.{◌≡◌, refl, ◌∙◌, arith, Some, None, inl, inr}
+use Rattle.addr_space.proofs.Options.{option_cases}
+use Rattle.alloc_set.specs.State.{chunk_at}
 use Rattle.alloc_set.specs.Kept.{state_of, taken_bytes, is_free, IsSettled}
 use Rattle.alloc_set.specs.declared.books.Books.{Books}
 use Rattle.alloc_set.specs.declared.chunk.Chunk.TheVariants.{Own}
 use Rattle.alloc_set.proofs.Altered.{Puts-chunk, put_cases, old_or_fresh, IsSettled-altered, Moves-altered}
 use Rattle.alloc_set.proofs.Counted.{IsCounted-chunks, SameBlocks-chunks}
 use Rattle.alloc_set.proofs.Places.{PutsPlace-chunk, PutsLive-chunk}
-use Rattle.alloc_set.proofs.Settled.{IsSound-settled}
-use Rattle.alloc_set.proofs.Shelved.{IsShelved-taken, taken-own}
+use Rattle.alloc_set.proofs.Settled.{lonely, IsSound-settled}
+use Rattle.alloc_set.proofs.Shelved.{IsShelved-taken}
 use Rattle.alloc_set.proofs.books.Books.unlist.Goals as goal
 
 pub returns : goal.returns
@@ -31,7 +30,7 @@ returns c =
       kept = record {
         counted = IsCounted-chunks b n refl kept.counted kept.counted.filled (omega (arith, kept.counted.rooms, bytes));
         settled = settled;
-        shelved = IsShelved-taken s t b.shelves at None kept.shelved puts c.forget.ensures.unique (taken-own (chunk_at s at) size room was) (λ k under. let sums = rw was at (c.forget.ensures.sums (is_free k)) in omega (arith, sums));
+        shelved = IsShelved-taken s t b.shelves at None kept.shelved puts c.forget.ensures.unique (λ k next free. absurd (cc)) (λ k under. let sums = rw was at (c.forget.ensures.sums (is_free k)) in omega (arith, sums));
       };
       rest = refl;
       -- the chunk had its block for itself
@@ -39,12 +38,7 @@ returns c =
         | inl here ↦ here.1
         | inr there ↦ elim (option_cases (chunk_at s other)) [
           | inl none ↦ there.1 ∙ none
-          | inr some ↦
-              let it = kept.settled.placed other some.0 some.1 in
-              let here = kept.settled.placed at (Own size room) was in
-              let len : it.len ≡ room + 48 = one_value (region_of s at.region) it.len (room + 48) (ap (region_of s) (sym region) ∙ it.owned) here.alone.3 in
-              let differs : other.offset ≢ at.offset = λ e. there.0 (same_addr_from other at region e) in
-              absurd (omega (arith, kept.settled.apart at other (Own size room) some.0 was some.1 (sym region) (omega (arith, differs, it.first, here.alone.2)), it.last, len))
+          | inr some ↦ absurd (lonely s b.active.region b.active.size kept.settled at other size room some.0 was some.1 there.0 region)
         ]
       ];
       counted = omega (arith, kept.counted.rooms, bytes);
