@@ -13,7 +13,7 @@ use Rattle.ctx_blocks.specs.Kept.{AreRising, IsFirst}
 use Rattle.ctx_blocks.specs.Order.{put_in, in_order}
 use Rattle.ctx_blocks.specs.Steps.{with_block, without_block}
 use Rattle.ctx_blocks.specs.declared.parts.Block.{Block}
-use Rattle.ctx_blocks.proofs.Numbered.{Entries, at_region, rising_above, rising_upto, region_by_number}
+use Rattle.ctx_blocks.proofs.Numbered.{Entries, at_region, rising_above, rising_drop}
 
 -- no two blocks are in one region
 abbrev pub AreApart : Entries → Type 0
@@ -65,57 +65,6 @@ apart-in_order : (es : Entries) → AreApart es → AreApart (in_order es)
 apart-in_order [] apart = tt
 apart-in_order (e ∷ es) apart = apart-put_in e (in_order es) (lookup-in_order e.0 es apart.1 ∙ apart.0) (apart-in_order es apart.1)
 
--- a block behind another one is the one in its region
-behind : (e : ℕ × Block) (es : Entries) → AreApart (e ∷ es) → (region : ℕ) (b : Block) → at_region region es ≡ Some b → at_region region (e ∷ es) ≡ Some b
-behind e es apart region b is = grind (arith, apart.0)
-
--- the numbers rise, where no two are the same
-rising-put_in : (least most : ℕ) (e : ℕ × Block) (xs : Entries) → AreApart xs → ((region : ℕ) (b : Block) → at_region region xs ≡ Some b → b.number ≢ e.1.number) → least ≤ e.1.number → e.1.number ≤ most → AreRising least most xs → AreRising least most (put_in e xs)
-rising-put_in least most e [] apart differs low high h = (low, high, tt)
-rising-put_in least most e (x ∷ xs) apart differs low high h =
-    let other = differs x.0 x.1 (grind arith) in
-    grind (arith, rising-put_in (x.1.number + 1) most e xs apart.1 (λ region b is. differs region b (behind x xs apart region b is)))
-
-rising-in_order : (least most : ℕ) (es : Entries) → AreApart es → ((region : ℕ) (b : Block) → at_region region es ≡ Some b → (least ≤ b.number) × (b.number ≤ most))
-    → ((r s : ℕ) (a b : Block) → at_region r es ≡ Some a → at_region s es ≡ Some b → a.number ≡ b.number → r ≡ s) → AreRising least most (in_order es)
-rising-in_order least most [] apart within one = tt
-rising-in_order least most (e ∷ es) apart within one =
-    let back = behind e es apart in
-    let here : at_region e.0 (e ∷ es) ≡ Some e.1 = grind arith in
-    rising-put_in least most e (in_order es) (apart-in_order es apart.1)
-    (λ region b is same. (let was = sym (lookup-in_order region es apart.1) ∙ is in let it = one region e.0 b e.1 (back region b was) here same in let none = apart.0 in absurd (cc)))
-    (within e.0 e.1 here).0 (within e.0 e.1 here).1
-    (rising-in_order least most es apart.1 (λ region b is. within region b (back region b is)) (λ r s a b is_a is_b. one r s a b (back r a is_a) (back s b is_b)))
-
-same_entry : (x y : ℕ × Block) → x.0 ≡ y.0 → x.1 ≡ y.1 → x ≡ y
-same_entry x y region block i = (region i, block i)
-
--- two lists that rise are the same, where they have the same block in each region
-rising_same : (a m b n : ℕ) (xs ys : Entries) → AreApart xs → AreApart ys → AreRising a m xs → AreRising b n ys → ((region : ℕ) → at_region region xs ≡ at_region region ys) → xs ≡ ys
-rising_same a m b n [] [] apart_x apart_y h k same = refl
-rising_same a m b n [] (y ∷ ys) apart_x apart_y h k same = let is = same y.0 in absurd (grind arith)
-rising_same a m b n (x ∷ xs) [] apart_x apart_y h k same = let is = same x.0 in absurd (grind arith)
-rising_same a m b n (x ∷ xs) (y ∷ ys) apart_x apart_y h k same =
-    let at_x = same x.0 in
-    let at_y = same y.0 in
-    elim (cases_eq x.0 y.0) [
-      | inl e ↦
-          let it : x.1 ≡ y.1 = grind (arith, at_x) in
-          let head = same_entry x y e it in
-          let rest = rising_same (x.1.number + 1) m (y.1.number + 1) n xs ys apart_x.1 apart_y.1 h.2 k.2 (λ region. grind (arith, same region, apart_x.0, apart_y.0)) in
-          cc
-      | inr ne ↦ absurd (grind (arith, at_x, at_y, rising_above (x.1.number + 1) m y.0 xs y.1 h.2, rising_above (y.1.number + 1) n x.0 ys x.1 k.2))
-    ]
-
--- so the order of blocks is what rises and has them
-in_order-is : (least most : ℕ) (es ys : Entries) → AreApart es → AreApart ys → AreRising least most ys → ((region : ℕ) → at_region region es ≡ at_region region ys) → in_order es ≡ ys
-in_order-is least most es ys apart_e apart_y rising same =
-    rising_same least most least most (in_order es) ys (apart-in_order es apart_e) apart_y
-    (rising-in_order least most es apart_e
-    (λ region b is. (rising_above least most region ys b rising (sym (same region) ∙ is), rising_upto least most region ys b rising (sym (same region) ∙ is)))
-    (λ r s a b is_a is_b. region_by_number least most r s ys a b rising (sym (same r) ∙ is_a) (sym (same s) ∙ is_b)))
-    rising (λ region. lookup-in_order region es apart_e ∙ same region)
-
 -- a list with a block, and one without
 lookup-with : (region other : ℕ) (block : Block) (es : Entries) → at_region other (with_block es region block) ≡ (if region == other then Some block else at_region other es)
 lookup-with region other block [] = grind arith
@@ -132,6 +81,31 @@ lookup-without region other (e ∷ es) apart = grind (arith, lookup-without regi
 apart-without : (region : ℕ) (es : Entries) → AreApart es → AreApart (without_block es region)
 apart-without region [] apart = tt
 apart-without region (e ∷ es) apart = grind (arith, apart-without region es apart.1, lookup-without region e.0 es apart.1)
+
+-- a block that was taken out of blocks that rise goes back to where it was
+put_first : (most : ℕ) (e : ℕ × Block) (xs : Entries) → AreRising (e.1.number + 1) most xs → put_in e xs ≡ e ∷ xs
+put_first most e [] h = refl
+put_first most e (x ∷ xs) h = grind arith
+
+same_entry : (x y : ℕ × Block) → x.0 ≡ y.0 → x.1 ≡ y.1 → x ≡ y
+same_entry x y region block i = (region i, block i)
+
+put_back : (least most : ℕ) (e : ℕ × Block) (ys : Entries) → AreRising least most ys → at_region e.0 ys ≡ Some e.1 → put_in e (without_block ys e.0) ≡ ys
+put_back least most e [] h is = absurd (cc)
+put_back least most e (y ∷ ys) h is =
+    elim (cases_eq e.0 y.0) [
+      | inl same ↦ let it : e ≡ y = same_entry e y same (grind arith) in grind (arith, put_first most y ys h.2)
+      | inr differs ↦ grind (arith, rising_above (y.1.number + 1) most e.0 ys e.1 h.2, put_back (y.1.number + 1) most e ys h.2)
+    ]
+
+-- so the order of blocks is what rises and has them
+in_order-is : (least most : ℕ) (es ys : Entries) → AreApart es → AreApart ys → AreRising least most ys → ((region : ℕ) → at_region region es ≡ at_region region ys) → in_order es ≡ ys
+in_order-is least most [] [] apart_e apart_y rising same = refl
+in_order-is least most [] (y ∷ ys) apart_e apart_y rising same = let is = same y.0 in absurd (grind arith)
+in_order-is least most (e ∷ es) ys apart_e apart_y rising same =
+    let rest : (region : ℕ) → at_region region es ≡ at_region region (without_block ys e.0) = λ region. grind (arith, same region, lookup-without e.0 region ys apart_y, apart_e.0) in
+    ap (put_in e) (in_order-is least most es (without_block ys e.0) apart_e.1 (apart-without e.0 ys apart_y) (rising_drop least most e.0 ys rising) rest)
+    ∙ put_back least most e ys rising (sym (same e.0) ∙ grind arith)
 
 -- the order once a block is put, or goes, however the blocks are kept then
 module _ (least most region : ℕ) (es fs : Entries) (apart_e : AreApart es) (apart_f : AreApart fs) where
