@@ -17,7 +17,7 @@ use Rattle.ctx_blocks.proofs.Laid.{mark_cases, region_is, behind, IsSound-laid}
 use Rattle.ctx_blocks.proofs.Counts.{none_placed}
 use Rattle.ctx_blocks.proofs.Totals.{keeper_owned}
 use Rattle.ctx_blocks.proofs.Put.{block_was, IsCounted-put}
-use Rattle.ctx_blocks.proofs.Lessened.{start_same, placed_same, mark_same}
+use Rattle.ctx_blocks.proofs.Lessened.{start_same, placed_again, mark_same}
 
 -- a region that is not live is no block of the context
 pub unowned : (l : Layout) (sp : Space) (number : ℕ) → Agrees (footprint l) sp → region_at sp number ≡ None → block_at l number ≡ None
@@ -56,7 +56,7 @@ module _ (l m : Layout) (number k size : ℕ) (laid : IsLaid l) (same : SameCont
         ];
     placed = λ at c found.
         let was = laid.placed at c (rw chunks at found) in
-        placed_same l m same at c was (others_now at.region (owned_differs at.region was.block was.owned) ∙ was.owned);
+        placed_again l m same at c c was was.block (others_now at.region (owned_differs at.region was.block was.owned) ∙ was.owned) refl (omega arith) refl refl was.sized.fits;
     apart = rw (chunks, same.kind) laid.apart;
   }
 

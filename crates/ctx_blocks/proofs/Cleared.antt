@@ -17,7 +17,7 @@ Lessens-cleared l m laid same blocks chunks =
       same = same;
       chunk = λ at c found. let gone = rw chunks at found in absurd (cc);
       block = λ number b has. let had = rw blocks at has in (b, had, refl, laid.filled number b had);
-      under = λ at c found. let gone = rw chunks at found in absurd (cc);
+      under = λ at c found w is. let gone = rw chunks at found in absurd (cc);
     }
 
 -- the first block is there

@@ -29,11 +29,9 @@ module _ (l m : Layout) (laid : IsLaid l) (same : SameContext l m) (chunks : m.c
     same = same;
     chunk = λ at c found. let had = rw chunks at found in (c, had, refl, refl, (laid.placed at c had).sized.fits);
     block = λ other b has. let had = was_there other b has in (b, had, refl, laid.filled other b had);
-    under = λ at c found.
-        let had = rw chunks at found in
-        let placed = laid.placed at c had in
-        let differs : at.region ≢ number = λ e. let none = empty at e in absurd (cc) in
-        (placed.block, placed.block, placed.owned, others_now at.region differs ∙ placed.owned, omega arith);
+    under = λ at c found w is.
+        let differs : at.region ≢ number = λ e. let none = empty at e in let had = rw chunks at found in absurd (cc) in
+        (w, others_now at.region differs ∙ is, refl, omega arith);
   }
 
   gone : (footprint m).region number ≡ None

@@ -19,7 +19,7 @@ use Rattle.chunk_header.proofs.Wrote.{Moves-written, Keeps-written}
 use Rattle.ctx_blocks.proofs.Laid.{mark_cases, mark_within, from_live, region_is, behind, IsSound-laid}
 use Rattle.ctx_blocks.proofs.Counts.{one_in}
 use Rattle.ctx_blocks.proofs.Put.{block_was, chunk_was, IsCounted-put, regions-put, sizes-put}
-use Rattle.ctx_blocks.proofs.Lessened.{start_same, gap_same, placed_same, mark_same}
+use Rattle.ctx_blocks.proofs.Lessened.{start_same, gap_same, placed_again, mark_same}
 
 -- no chunk is where one can be noted
 pub place_free : (l : Layout) (at : Addr) (chunk : Chunk) (block : Block) → IsLaid l → Holds l at chunk block → chunk_at l at ≡ None
@@ -55,16 +55,9 @@ module _ (l m : Layout) (at : Addr) (chunk : Chunk) (block : Block) (laid : IsLa
       let was = laid.placed other c found in
       elim (cases_eq other.region at.region) [
         | inl here ↦
-            let it : was.block ≡ holds.old = one_value (block_at l other.region) was.block holds.old was.owned (rw here holds.owned) in
-            record {
-              block = block;
-              owned = grind (arith, blocks other.region);
-              first = omega (arith, was.first, start_same l m same other.region, gap_same l m same);
-              last = omega (arith, was.last, ap (λ (b : Block). b.size) it, ap (λ (b : Block). b.room) it, holds.size, holds.less);
-              whole = was.whole;
-              sized = rw same.kind was.sized;
-            }
-        | inr there ↦ placed_same l m same other c was (grind (arith, blocks other.region, was.owned))
+            let it : holds.old ≡ was.block = one_value (block_at l other.region) holds.old was.block (rw here holds.owned) was.owned in
+            placed_again l m same other c c was block (grind (arith, blocks other.region)) (rw (← it) holds.size) (rw (← it) holds.less) refl refl was.sized.fits
+        | inr there ↦ placed_again l m same other c c was was.block (grind (arith, blocks other.region, was.owned)) refl (omega arith) refl refl was.sized.fits
       ]
 
   placed_new : IsPlaced m at chunk

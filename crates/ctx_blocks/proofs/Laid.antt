@@ -39,15 +39,9 @@ gap_cases Bump = inl refl
 gap_cases kind = inr refl
 
 -- and a chunk has one where it has 8 bytes
-has_word : (kind : Kind) (chunk : Chunk) (dist : ℕ) → (chunk_word kind chunk dist ≡ None) ⊎ ((gap_of kind ≡ 8) × (chunk_word kind chunk dist ≡ Some (header_bytes (header_of kind chunk dist))))
-has_word Bump chunk dist = inl refl
-has_word kind chunk dist = inr (refl, refl)
-
 word_cases : (kind : Kind) (chunk : Chunk) (dist : ℕ) (bytes : List ℕ) → chunk_word kind chunk dist ≡ Some bytes → (gap_of kind ≡ 8) × (header_bytes (header_of kind chunk dist) ≡ bytes)
-word_cases kind chunk dist bytes e = elim (has_word kind chunk dist) [
-  | inl none ↦ absurd (cc)
-  | inr some ↦ (some.0, cc)
-]
+word_cases Bump chunk dist bytes e = absurd (cc)
+word_cases kind chunk dist bytes e = (refl, let it : Some (header_bytes (header_of kind chunk dist)) ≡ Some bytes = e in cc)
 
 word_is : (kind : Kind) (chunk : Chunk) (dist : ℕ) → gap_of kind ≡ 8 → chunk_word kind chunk dist ≡ Some (header_bytes (header_of kind chunk dist))
 word_is Bump chunk dist e = absurd (omega (arith, e))

@@ -8,7 +8,6 @@ use Rattle.ctx_blocks.specs.Kept.{IsFilled, IsLaid, IsPlaced}
 use Rattle.ctx_blocks.specs.Steps.{SameContext, MovesStill}
 use Rattle.ctx_blocks.specs.declared.parts.Block.{Block}
 use Rattle.ctx_blocks.specs.declared.parts.Chunk.{Chunk}
-use Rattle.addr_space.proofs.Options.{one_value}
 use Rattle.ctx_blocks.proofs.Laid.{mark_cases, mark_from_block, mark_from_chunk, behind, IsSound-laid}
 
 -- each chunk and each block was there, with the same bytes; a block in which chunks are has no more room
@@ -16,7 +15,7 @@ pub record Lessens (l m : Layout) : Type 0 where
   pub same : SameContext l m
   pub chunk : (at : Addr) (c : Chunk) → chunk_at m at ≡ Some c → (w : Chunk) × (chunk_at l at ≡ Some w) × (w.room ≡ c.room) × (w.own ≡ c.own) × (c.size ≤ c.room)
   pub block : (number : ℕ) (b : Block) → block_at m number ≡ Some b → (w : Block) × (block_at l number ≡ Some w) × (w.size ≡ b.size) × IsFilled (whole_of l number b.size) b
-  pub under : (at : Addr) (c : Chunk) → chunk_at m at ≡ Some c → (w : Block) × (b : Block) × (block_at l at.region ≡ Some w) × (block_at m at.region ≡ Some b) × (b.room ≤ w.room)
+  pub under : (at : Addr) (c : Chunk) → chunk_at m at ≡ Some c → (w : Block) → block_at l at.region ≡ Some w → (b : Block) × (block_at m at.region ≡ Some b) × (b.size ≡ w.size) × (b.room ≤ w.room)
 
 module _ (l m : Layout) (same : SameContext l m) where
   -- the start of a block and the bytes of a header stay
@@ -26,15 +25,15 @@ module _ (l m : Layout) (same : SameContext l m) where
   pub gap_same : header_room m ≡ header_room l
   gap_same = ap gap_of same.kind
 
-  -- a chunk whose block stays is where it was
-  pub placed_same : (at : Addr) (c : Chunk) (was : IsPlaced l at c) → block_at m at.region ≡ Some was.block → IsPlaced m at c
-  placed_same at c was owned = record {
-    block = was.block;
+  -- a chunk is in its block, where that has its bytes and no more room than before
+  pub placed_again : (at : Addr) (w c : Chunk) (was : IsPlaced l at w) (b : Block) → block_at m at.region ≡ Some b → b.size ≡ was.block.size → b.room ≤ was.block.room → w.room ≡ c.room → w.own ≡ c.own → c.size ≤ c.room → IsPlaced m at c
+  placed_again at w c was b owned size less room own fits = record {
+    block = b;
     owned = owned;
     first = omega (arith, was.first, start_same at.region, gap_same);
-    last = was.last;
+    last = omega (arith, was.last, size, less, room);
     whole = was.whole;
-    sized = rw same.kind was.sized;
+    sized = record { some = omega (arith, was.sized.some, gap_same, room); fits = fits; value = let value = was.sized.value in grind (arith, room, own) };
   }
 
   -- a mark was one, where its block was there with its size, or its chunk with its room
@@ -56,32 +55,18 @@ module _ (l m : Layout) (same : SameContext l m) where
 
 module _ (l m : Layout) (laid : IsLaid l) (less : Lessens l m) where
   pub IsLaid-lessened : IsLaid m
-  IsLaid-lessened =
-      let gap = gap_same l m less.same in
-      record {
-        filled = λ number b owned. rw less.same.keeper ((less.block number b owned).3);
-        placed = λ at c found.
-            let it = less.chunk at c found in
-            let under = less.under at c found in
-            let was = laid.placed at it.0 it.1 in
-            let one : was.block ≡ under.0 = one_value (block_at l at.region) was.block under.0 was.owned under.2 in
-            let block = less.block at.region under.1 under.3 in
-            let two : block.0 ≡ under.0 = one_value (block_at l at.region) block.0 under.0 block.1 under.2 in
-            let size : was.block.size ≡ under.1.size = ap (λ (b : Block). b.size) (one ∙ sym two) ∙ block.2 in
-            let room : was.block.room ≡ under.0.room = ap (λ (b : Block). b.room) one in
-            record {
-              block = under.1;
-              owned = under.3;
-              first = omega (arith, was.first, start_same l m less.same at.region, gap);
-              last = omega (arith, was.last, size, room, under.4, it.2);
-              whole = was.whole;
-              sized = record { some = omega (arith, was.sized.some, gap, it.2); fits = it.4; value = let value = was.sized.value in grind (arith, it.2, it.3) };
-            };
-        apart = λ a b first second at_a at_b region below.
-            let one = less.chunk a first at_a in
-            let two = less.chunk b second at_b in
-            omega (arith, laid.apart a b one.0 two.0 one.1 two.1 region below, one.2, gap);
-      }
+  IsLaid-lessened = record {
+    filled = λ number b owned. rw less.same.keeper ((less.block number b owned).3);
+    placed = λ at c found.
+        let it = less.chunk at c found in
+        let was = laid.placed at it.0 it.1 in
+        let now = less.under at c found was.block was.owned in
+        placed_again l m less.same at it.0 c was now.0 now.1 now.2 now.3 it.2 it.3 it.4;
+    apart = λ a b first second at_a at_b region below.
+        let one = less.chunk a first at_a in
+        let two = less.chunk b second at_b in
+        omega (arith, laid.apart a b one.0 two.0 one.1 two.1 region below, one.2, gap_same l m less.same);
+  }
 
   -- each mark was one
   pub mark-lessened : (at : Addr) (bytes : List ℕ) → mark_of m at ≡ Some bytes → mark_of l at ≡ Some bytes

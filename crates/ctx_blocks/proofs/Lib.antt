@@ -7,7 +7,6 @@ pub mod New
 pub mod Lessened
 pub mod Totals
 pub mod Refilled
-pub mod Spared
 pub mod Held
 pub mod Cuts
 pub mod Added

@@ -1,5 +1,5 @@
 -- Lemmas on a block that becomes another one of its size, while chunks stay or are forgotten, and on a chunk of another size.
-use Rattle.std.proofs.Common.{◌≡◌, ℕ, ◌≤◌, ◌==◌, if◌then◌else◌, Some, refl, sym, ◌∙◌, arith, inl, inr}
+use Rattle.std.proofs.Common.{◌≡◌, ℕ, ◌≤◌, ◌==◌, if◌then◌else◌, Some, refl, sym, arith, inl, inr}
 use Rattle.std.proofs.lemmas.Bool.{cases_eq}
 use Rattle.addr_space.specs.declared.Addr.{Addr}
 use Rattle.ctx_blocks.specs.Layout.{Layout, block_at, chunk_at, whole_of}
@@ -7,6 +7,7 @@ use Rattle.ctx_blocks.specs.Kept.{IsFilled, IsLaid}
 use Rattle.ctx_blocks.specs.Steps.{SameContext, PutsChunk}
 use Rattle.ctx_blocks.specs.declared.parts.Block.{Block}
 use Rattle.ctx_blocks.specs.declared.parts.Chunk.{Chunk}
+use Rattle.addr_space.proofs.Options.{one_value}
 use Rattle.ctx_blocks.proofs.Put.{block_was, chunk_was}
 use Rattle.ctx_blocks.proofs.Headed.{start_whole}
 use Rattle.ctx_blocks.proofs.Lessened.{Lessens}
@@ -37,29 +38,23 @@ Lessens-put l m laid same number old new owned size filled blocks chunks = recor
         | inl here ↦ rw (here.0, here.1) (old, owned, sym size, filled)
         | inr there ↦ (b, there.1, refl, laid.filled other b there.1)
       ];
-  under = λ at c found.
-      let had = chunks at c found in
-      let placed = laid.placed at c had.0 in
+  under = λ at c found w is.
       elim (cases_eq number at.region) [
-        | inl here ↦ rw (← here) (old, new, owned, grind (arith, blocks number), had.1 (sym here))
-        | inr there ↦ (placed.block, placed.block, placed.owned, grind (arith, blocks at.region, placed.owned), omega arith)
+        | inl here ↦
+            let it : old ≡ w = one_value (block_at l number) old w owned (rw here is) in
+            (new, grind (arith, blocks at.region), rw (← it) size, rw (← it) ((chunks at c found).1 (sym here)))
+        | inr there ↦ (w, grind (arith, blocks at.region), refl, omega arith)
       ];
 }
 
 -- the size of a chunk becomes another one
 pub Lessens-sized : (l m : Layout) → IsLaid l → SameContext l m → m.blocks ≡ l.blocks → (at : Addr) (old new : Chunk) → chunk_at l at ≡ Some old → old.room ≡ new.room → old.own ≡ new.own → new.size ≤ new.room → PutsChunk l m at (Some new) → Lessens l m
-Lessens-sized l m laid same blocks at old new was room own fits chunks =
-    let before : (other : Addr) (c : Chunk) → chunk_at m other ≡ Some c → (w : Chunk) × (chunk_at l other ≡ Some w) × (w.room ≡ c.room) × (w.own ≡ c.own) × (c.size ≤ c.room) =
-    λ other c found. elim (chunk_was l m at new chunks other c found) [
-      | inl here ↦ rw (here.0, here.1) (old, was, room, own, fits)
-      | inr there ↦ (c, there.1, refl, refl, (laid.placed other c there.1).sized.fits)
-    ] in
-    record {
-      same = same;
-      chunk = before;
-      block = λ number b has. let had = rw blocks at has in (b, had, refl, laid.filled number b had);
-      under = λ other c found.
-          let placed = laid.placed other (before other c found).0 (before other c found).1 in
-          let same : block_at m other.region ≡ block_at l other.region = rw blocks refl in
-          (placed.block, placed.block, placed.owned, same ∙ placed.owned, omega arith);
-    }
+Lessens-sized l m laid same blocks at old new was room own fits chunks = record {
+  same = same;
+  chunk = λ other c found. elim (chunk_was l m at new chunks other c found) [
+    | inl here ↦ rw (here.0, here.1) (old, was, room, own, fits)
+    | inr there ↦ (c, there.1, refl, refl, (laid.placed other c there.1).sized.fits)
+  ];
+  block = λ number b has. let had = rw blocks at has in (b, had, refl, laid.filled number b had);
+  under = λ other c found w is. (w, rw blocks is, refl, omega arith);
+}
