@@ -20,3 +20,4 @@ pub mod Among
 pub mod Places
 pub mod Put
 pub mod Keeps
+pub mod Rows
