@@ -15,7 +15,7 @@ use Rattle.chunk_header.proofs.Words.{length-block_bytes}
 use Rattle.chunk_header.proofs.Wrote.{Moves-taken}
 use Rattle.ctx_blocks.proofs.Laid.{mark_cases, region_is, behind, IsSound-laid}
 use Rattle.ctx_blocks.proofs.Counts.{none_placed}
-use Rattle.ctx_blocks.proofs.Totals.{keeper_owned}
+use Rattle.ctx_blocks.proofs.Totals.{first_owned}
 use Rattle.ctx_blocks.proofs.Put.{block_was, IsCounted-put}
 use Rattle.ctx_blocks.proofs.Lessened.{start_same, placed_again, mark_same}
 
@@ -40,7 +40,7 @@ module _ (l m : Layout) (number k size : ℕ) (laid : IsLaid l) (same : SameCont
 
   number_start : start_of m number ≡ 0
   number_start =
-      let keeper = keeper_owned l first in
+      let keeper = first_owned l.keeper l.first_number l.blocks first in
       let differs : l.keeper ≢ number = owned_differs l.keeper keeper.0 keeper.1 in
       grind (arith, start_same l m same number)
 

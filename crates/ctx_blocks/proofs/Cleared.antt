@@ -4,7 +4,7 @@ use Rattle.std.specs.Map.{lookup}
 use Rattle.std.proofs.lemmas.List.{take-take}
 use Rattle.ctx_blocks.specs.Layout.{Layout, footprint}
 use Rattle.ctx_blocks.specs.Kept.{IsLaid, IsFirst}
-use Rattle.ctx_blocks.specs.Steps.{SameContext, with_block}
+use Rattle.ctx_blocks.specs.Steps.{SameContext}
 use Rattle.ctx_blocks.specs.declared.parts.Block.{Block}
 use Rattle.addr_space.specs.Space.{Space}
 use Rattle.addr_space.specs.Footprint.{Agrees, Moves, nothing}
@@ -35,9 +35,6 @@ take-less all now new is less len =
 pub first_only : (keeper number : ℕ) (blocks : List (ℕ × Block)) → IsFirst keeper number blocks → (b : Block) × (take 1 blocks ≡ (keeper, b) ∷ []) × (lookup (λ n. keeper == n) blocks ≡ Some b)
 first_only keeper number [] first = absurd first
 first_only keeper number (e ∷ es) first = (e.1, ap (λ k. (k, e.1) ∷ []) first.0, grind arith)
-
-pub put_only : (keeper : ℕ) (old new : Block) → with_block ((keeper, old) ∷ []) keeper new ≡ (keeper, new) ∷ []
-put_only keeper old new = grind arith
 
 -- a context without blocks has nothing
 pub Moves-nothing : (l : Layout) (account context : ℕ) → l.blocks ≡ [] → account ≡ l.account → context ≡ l.context → (s : Space) → Agrees (footprint l) s → Moves (footprint l) (nothing account context) s s

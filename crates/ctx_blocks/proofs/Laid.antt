@@ -84,13 +84,8 @@ module _ (l : Layout) (laid : IsLaid l) where
   -- chunks at two addresses have place for a header between them
   pub chunks_clear : (a b : Addr) (first second : Chunk) → chunk_at l a ≡ Some first → chunk_at l b ≡ Some second → a ≢ b → IsClear (header_room l) a first b second
   chunks_clear a b first second at_a at_b differ region =
-      elim (cases_lt a.offset b.offset) [
-        | inl below ↦ inl (laid.apart a b first second at_a at_b region below)
-        | inr above ↦ elim (cases_eq a.offset b.offset) [
-          | inl same ↦ absurd (differ (same_addr_from a b region same))
-          | inr other ↦ inr (laid.apart b a second first at_b at_a (sym region) (omega arith))
-        ]
-      ]
+      let same = same_addr_from a b region in
+      grind (arith, laid.apart a b first second at_a at_b, laid.apart b a second first at_b at_a, same)
 
   -- a mark is in its block
   pub mark_within : (at : Addr) (bytes : List ℕ) → mark_of l at ≡ Some bytes → (block : Block) × (block_at l at.region ≡ Some block) × (at.offset + 8 + block.room ≤ block.size) × (length bytes ≡ 8)

@@ -695,6 +695,7 @@ impl Books {
 
     // The block at a place.
     #[inline]
+    #[tactic(auto, using(crate::proofs::Viewed::block_view))]
     fn at(&self, place: usize) -> (u32, Block)
         requires apart { IsUnique nat_eq self.now.blocks }
         requires within { place < length self.now.blocks.entries }

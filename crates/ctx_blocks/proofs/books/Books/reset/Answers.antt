@@ -12,7 +12,7 @@ use Rattle.ctx_blocks.proofs.New.{keeper_start, keeper_is, total_one, IsKept-new
 use Rattle.ctx_blocks.proofs.Lessened.{MovesStill-lessened}
 use Rattle.ctx_blocks.proofs.Put.{regions-put}
 use Rattle.ctx_blocks.proofs.Refilled.{IsFilled-whole, Lessens-put}
-use Rattle.ctx_blocks.proofs.Cleared.{first_only, put_only}
+use Rattle.ctx_blocks.proofs.Cleared.{first_only}
 use Rattle.ctx_blocks.proofs.books.Books.reset.Goals as goal
 use Rattle.ctx_blocks.proofs.books.Books.reset.Goals.{After-shrink}
 
@@ -40,7 +40,7 @@ returns c =
     let new : Block = record { number = p.first_number; size = old.size; room = c.whole.result; live = 0; freed = 0 } in
     let l = left (goal.at.returns c).After-shrink in
     let was = one_value (block_at s s.keeper) old l.0 owned (keeper_is s l.0 (ap in_order l.1) c.shrink.ensures.chunks) in
-    let one : n.blocks.entries ≡ (n.keeper, new) ∷ [] = c.change.ensures.blocks ∙ ap (λ es. with_block es p.keeper new) l.1 ∙ put_only p.keeper l.0 new in
+    let one : n.blocks.entries ≡ (n.keeper, new) ∷ [] = c.change.ensures.blocks ∙ ap (λ es. with_block es p.keeper new) l.1 ∙ grind arith in
     let filled = IsFilled-whole s s.keeper s.first_number c.whole.result old (c.shrink.ensures.laid.filled s.keeper old owned) c.whole.ensures in
     let puts = one_view p n s.keeper c.shrink.ensures.apart c.change.ensures.apart (Some new) c.change.ensures.at in
     let bytes : p.total ≡ old.size = c.shrink.ensures.total ∙ total_one s l.0 (ap in_order l.1) c.shrink.ensures.chunks ∙ ap (λ (x : Block). x.size) (sym was) in
