@@ -11,17 +11,11 @@ use Rattle.ctx_blocks.proofs.Laid.{from_live, mark_from_block, mark_from_chunk}
 use Rattle.ctx_blocks.specs.declared.parts.Block.{Block}
 use Rattle.addr_space.proofs.Options.{one_value}
 
--- the value of a header has room in its word
-value_small : (own : Bool) (room : ℕ) → (own ≡ true) ⊎ (room < 2 ^ 30) → (if own then 0 else room) < 2 ^ 30
-value_small true room fits = omega arith
-value_small false room (inl clash) = absurd (cc)
-value_small false room (inr fits) = fits
-
 pub start_whole : (l : Layout) (number : ℕ) → start_of l number % 8 ≡ 0
 start_whole l number = grind arith
 
 pub packable : (kind : Kind) (gap dist : ℕ) (chunk : Chunk) → IsSized gap chunk → dist < 2 ^ 32 → dist % 8 ≡ 0 → IsPackable (header_of kind chunk dist)
-packable kind gap dist chunk sized below whole = record { value = value_small chunk.own chunk.room sized.value; dist = below; whole = whole }
+packable kind gap dist chunk sized below whole = record { value = let value = sized.value in grind (arith, value); dist = below; whole = whole }
 
 pub leading : (kind : Kind) (chunk : Chunk) (dist : ℕ) → (kind ≡ Slab) ⊎ (kind ≡ Generation) → (gap_of kind ≡ 8) × IsLeading (header_of kind chunk dist)
 leading kind chunk dist (inl slab) = rw slab (refl, tt)

@@ -23,15 +23,10 @@ use Rattle.ctx_blocks.proofs.Lessened.{start_same, gap_same, placed_again, mark_
 
 -- no chunk is where one can be noted
 pub place_free : (l : Layout) (at : Addr) (chunk : Chunk) (block : Block) → IsLaid l → Holds l at chunk block → chunk_at l at ≡ None
-place_free l at chunk block laid holds =
-    elim (option_cases (chunk_at l at)) [
-      | inl none ↦ none
-      | inr some ↦
-          let old = (laid.placed at some.0 some.1).sized.some in
-          let new = holds.sized.some in
-          let clear = holds.clear at some.0 some.1 refl in
-          absurd (grind arith)
-    ]
+place_free l at chunk block laid holds = elim (option_cases (chunk_at l at)) [
+  | inl none ↦ none
+  | inr some ↦ absurd (grind (arith, (laid.placed at some.0 some.1).sized.some, holds.sized.some, holds.clear at some.0 some.1 refl))
+]
 
 -- its header has a place in the space
 pub IsWritten-held : (l : Layout) (s : Space) (at : Addr) (chunk : Chunk) (block : Block) → Agrees (footprint l) s → Holds l at chunk block → IsWritten l s at chunk

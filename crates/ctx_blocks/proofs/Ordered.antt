@@ -48,9 +48,9 @@ pub lookup-in_order : (region : ℕ) (es : Entries) → AreApart es → at_regio
 lookup-in_order region [] apart = refl
 lookup-in_order region (e ∷ es) apart = grind (arith, lookup-put_in region e (in_order es), lookup-in_order e.0 es apart.1, lookup-in_order region es apart.1)
 
-pub length-in_order : (es : Entries) → length (in_order es) ≡ length es
-length-in_order [] = refl
-length-in_order (e ∷ es) = omega (arith, length-put_in e (in_order es), length-in_order es)
+pub length_in_order : (es : Entries) → length (in_order es) ≡ length es
+length_in_order [] = refl
+length_in_order (e ∷ es) = omega (arith, length-put_in e (in_order es), length_in_order es)
 
 pub sum-in_order : (f : Block → ℕ) (es : Entries) → sum_by f (values_of (in_order es)) ≡ sum_by f (values_of es)
 sum-in_order f [] = refl
