@@ -47,9 +47,6 @@ word_is : (kind : Kind) (chunk : Chunk) (dist : ℕ) → gap_of kind ≡ 8 → c
 word_is Bump chunk dist e = absurd (omega (arith, e))
 word_is kind chunk dist e = refl
 
-block_word_cases : (context start : ℕ) (block : Block) (bytes : List ℕ) → block_word context start block ≡ Some bytes → (start + 40 ≤ block.size) × (block_bytes context block.size ≡ bytes)
-block_word_cases context start block bytes e = grind arith
-
 -- where the chunk is whose header is at a place
 abbrev pub behind : Addr → Addr
 behind at = record { region = at.region; offset = at.offset + 8 }
@@ -63,7 +60,7 @@ mark_cases l at bytes marked =
     elim (cases_eq at.offset (start_of l at.region)) [
       | inl same ↦
           let it = from_then (block_word l.context (start_of l at.region)) (block_at l at.region) bytes (grind (arith, marked, same)) in
-          let word = block_word_cases l.context (start_of l at.region) it.0 bytes it.2 in
+          let word : (start_of l at.region + 40 ≤ it.0.size) × (block_bytes l.context it.0.size ≡ bytes) = let is = it.2 in grind arith in
           inl (it.0, same, it.1, word.0, word.1)
       | inr differs ↦
           let it = from_then (λ (chunk : Chunk). chunk_word l.kind chunk (at.offset - start_of l at.region)) (chunk_at l (behind at)) bytes (grind (arith, marked, differs)) in
@@ -105,10 +102,7 @@ module _ (l : Layout) (laid : IsLaid l) where
       let len = (mark_within b bytes marked).3 in
       elim (mark_cases l b bytes marked) [
         | inl block ↦ inr (omega (arith, placed.first, ap (start_of l) region, block.1))
-        | inr other ↦ elim (cases_lt a.offset (b.offset + 8)) [
-          | inl below ↦ inl (omega (arith, laid.apart a (behind b) chunk other.0 found other.2 region below, other.3))
-          | inr above ↦ inr (omega arith)
-        ]
+        | inr other ↦ grind (arith, laid.apart a (behind b) chunk other.0 found other.2 region, other.3)
       ]
 
   -- the footprint is sound
@@ -125,20 +119,11 @@ module _ (l : Layout) (laid : IsLaid l) where
     live_apart = λ a b m n live_a live_b differ region.
         let first = from_live l a m live_a in
         let second = from_live l b n live_b in
-        let le_first = (laid.placed a first.0 first.1).sized.fits in
-        let le_second = (laid.placed b second.0 second.1).sized.fits in
-        elim (chunks_clear a b first.0 second.0 first.1 second.1 differ region) [
-          | inl below ↦ inl (omega (arith, first.2))
-          | inr above ↦ inr (omega (arith, second.2))
-        ];
+        grind (arith, chunks_clear a b first.0 second.0 first.1 second.1 differ region, (laid.placed a first.0 first.1).sized.fits, (laid.placed b second.0 second.1).sized.fits, first.2, second.2);
     free_apart = λ a b m n live free region. absurd (cc);
     mark_apart = λ a b m bytes live marked region.
         let first = from_live l a m live in
-        let le_first = (laid.placed a first.0 first.1).sized.fits in
-        elim (mark_apart a b first.0 bytes first.1 marked region) [
-          | inl below ↦ inl (omega (arith, first.2))
-          | inr above ↦ inr (omega arith)
-        ];
+        grind (arith, mark_apart a b first.0 bytes first.1 marked region, (laid.placed a first.0 first.1).sized.fits, first.2);
     live_behind = λ at n live.
         let it = from_live l at n live in
         omega (arith, (laid.placed at it.0 it.1).first, front_of-le (start_of l at.region) (block_at l at.region));

@@ -8,7 +8,6 @@ pub mod Lessened
 pub mod Totals
 pub mod Refilled
 pub mod Held
-pub mod Cuts
 pub mod Added
 pub mod Dropped
 pub mod Cleared
