@@ -61,24 +61,24 @@ apart-put_in : (e : ℕ × Block) (xs : Entries) → at_region e.0 xs ≡ None �
 apart-put_in e [] none apart = (refl, tt)
 apart-put_in e (x ∷ xs) none apart = grind (arith, apart-put_in e xs, lookup-put_in x.0 e xs)
 
-apart-in_order : (es : Entries) → AreApart es → AreApart (in_order es)
+pub apart-in_order : (es : Entries) → AreApart es → AreApart (in_order es)
 apart-in_order [] apart = tt
 apart-in_order (e ∷ es) apart = apart-put_in e (in_order es) (lookup-in_order e.0 es apart.1 ∙ apart.0) (apart-in_order es apart.1)
 
 -- a list with a block, and one without
-lookup-with : (region other : ℕ) (block : Block) (es : Entries) → at_region other (with_block es region block) ≡ (if region == other then Some block else at_region other es)
+pub lookup-with : (region other : ℕ) (block : Block) (es : Entries) → at_region other (with_block es region block) ≡ (if region == other then Some block else at_region other es)
 lookup-with region other block [] = grind arith
 lookup-with region other block (e ∷ es) = grind (arith, lookup-with region other block es)
 
-apart-with : (region : ℕ) (block : Block) (es : Entries) → AreApart es → AreApart (with_block es region block)
+pub apart-with : (region : ℕ) (block : Block) (es : Entries) → AreApart es → AreApart (with_block es region block)
 apart-with region block [] apart = grind arith
 apart-with region block (e ∷ es) apart = grind (arith, apart-with region block es, lookup-with region e.0 block es)
 
-lookup-without : (region other : ℕ) (es : Entries) → AreApart es → at_region other (without_block es region) ≡ (if region == other then None else at_region other es)
+pub lookup-without : (region other : ℕ) (es : Entries) → AreApart es → at_region other (without_block es region) ≡ (if region == other then None else at_region other es)
 lookup-without region other [] apart = grind arith
 lookup-without region other (e ∷ es) apart = grind (arith, lookup-without region other es apart.1)
 
-apart-without : (region : ℕ) (es : Entries) → AreApart es → AreApart (without_block es region)
+pub apart-without : (region : ℕ) (es : Entries) → AreApart es → AreApart (without_block es region)
 apart-without region [] apart = tt
 apart-without region (e ∷ es) apart = grind (arith, apart-without region es apart.1, lookup-without region e.0 es apart.1)
 
@@ -99,26 +99,13 @@ put_back least most e (y ∷ ys) h is =
     ]
 
 -- so the order of blocks is what rises and has them
-in_order-is : (least most : ℕ) (es ys : Entries) → AreApart es → AreApart ys → AreRising least most ys → ((region : ℕ) → at_region region es ≡ at_region region ys) → in_order es ≡ ys
+pub in_order-is : (least most : ℕ) (es ys : Entries) → AreApart es → AreApart ys → AreRising least most ys → ((region : ℕ) → at_region region es ≡ at_region region ys) → in_order es ≡ ys
 in_order-is least most [] [] apart_e apart_y rising same = refl
 in_order-is least most [] (y ∷ ys) apart_e apart_y rising same = let is = same y.0 in absurd (grind arith)
 in_order-is least most (e ∷ es) ys apart_e apart_y rising same =
     let rest : (region : ℕ) → at_region region es ≡ at_region region (without_block ys e.0) = λ region. grind (arith, same region, lookup-without e.0 region ys apart_y, apart_e.0) in
     ap (put_in e) (in_order-is least most es (without_block ys e.0) apart_e.1 (apart-without e.0 ys apart_y) (rising_drop least most e.0 ys rising) rest)
     ∙ put_back least most e ys rising (sym (same e.0) ∙ grind arith)
-
--- the order once a block is put, or goes, however the blocks are kept then
-module _ (least most region : ℕ) (es fs : Entries) (apart_e : AreApart es) (apart_f : AreApart fs) where
-  pub in_order-with : (block : Block) → AreRising least most (with_block (in_order es) region block) → ((other : ℕ) → at_region other fs ≡ (if region == other then Some block else at_region other es)) → in_order fs ≡ with_block (in_order es) region block
-  in_order-with block rising same =
-      in_order-is least most fs (with_block (in_order es) region block) apart_f (apart-with region block (in_order es) (apart-in_order es apart_e)) rising
-      (λ other. same other ∙ sym (lookup-with region other block (in_order es) ∙ ap (λ (o : Option Block). if region == other then Some block else o) (lookup-in_order other es apart_e)))
-
-  pub in_order-without : AreRising least most (without_block (in_order es) region) → ((other : ℕ) → at_region other fs ≡ (if region == other then None else at_region other es)) → in_order fs ≡ without_block (in_order es) region
-  in_order-without rising same =
-      let apart = apart-in_order es apart_e in
-      in_order-is least most fs (without_block (in_order es) region) apart_f (apart-without region (in_order es) apart) rising
-      (λ other. same other ∙ sym (lookup-without region other (in_order es) apart ∙ ap (λ (o : Option Block). if region == other then None else o) (lookup-in_order other es apart_e)))
 
 -- the block with the least number is the first one
 first-least : (keeper first most : ℕ) (block : Block) (vs : Entries) → at_region keeper vs ≡ Some block → block.number ≡ first → AreRising first most vs → IsFirst keeper first vs

@@ -16,12 +16,7 @@ use Rattle.ctx_blocks.proofs.Lessened.{Lessens}
 pub IsFilled-whole : (l : Layout) (number k room : ℕ) (old : Block) → IsFilled (whole_of l number old.size) old → room ≡ whole_of l number old.size → IsFilled (whole_of l number old.size) (record { number = k; size = old.size; room = room; live = 0; freed = 0 })
 IsFilled-whole l number k room old filled is = record {
   small = filled.small;
-  even =
-      let start = start_whole l number in
-      elim (cases_eq room 0) [
-        | inl none ↦ omega (arith, filled.even, filled.within, is, none)
-        | inr some ↦ omega (arith, is, start)
-      ];
+  even = omega (arith, filled.even, filled.within, is, start_whole l number);
   within = omega (arith, is);
 }
 

@@ -6,11 +6,11 @@ use Rattle.std.proofs.lemmas.List.Sums.{sum_by-append, sum_by-cons}
 use Rattle.indexmap.specs.IndexMap.{IsUnique}
 use Rattle.ctx_blocks.specs.Layout.{block_at, total}
 use Rattle.ctx_blocks.specs.Kept.{layout_of, IsFirst, AreRising, IsKept}
-use Rattle.ctx_blocks.specs.Steps.{PutsBlock, DropsBlock}
+use Rattle.ctx_blocks.specs.Steps.{PutsBlock, DropsBlock, with_block, without_block}
 use Rattle.ctx_blocks.specs.declared.parts.Block.{Block}
 use Rattle.ctx_blocks.specs.declared.books.Books.{Books}
-use Rattle.ctx_blocks.proofs.Numbered.{Entries, at_region, rising_put, rising_add, rising_drop, first_upto}
-use Rattle.ctx_blocks.proofs.Ordered.{AreApart-distinct, lookup-in_order, sum-in_order, in_order-with, in_order-without, first-in_order}
+use Rattle.ctx_blocks.proofs.Numbered.{Entries, at_region}
+use Rattle.ctx_blocks.proofs.Ordered.{AreApart, AreApart-distinct, apart-in_order, lookup-in_order, sum-in_order, in_order-is, lookup-with, apart-with, lookup-without, apart-without, first-in_order}
 
 -- the block of a region
 pub block_view : (b : Books) → IsUnique nat_eq b.blocks → (number : ℕ) → block_at (layout_of b) number ≡ at_region number b.blocks.entries
@@ -34,27 +34,22 @@ module _ (b n : Books) (number : ℕ) (apart : IsUnique nat_eq b.blocks) (now : 
   pub one_view : (new : Option Block) → ((other : ℕ) → at_region other n.blocks.entries ≡ (if number == other then new else at_region other b.blocks.entries)) → (other : ℕ) → block_at (layout_of n) other ≡ (if number == other then new else block_at (layout_of b) other)
   one_view new same other = block_view n now other ∙ same other ∙ ap (λ (o : Option Block). if number == other then new else o) (sym (block_view b apart other))
 
-  -- a block is another one of its number, or one with a number above all
-  pub puts_same : (old new : Block) → AreRising b.first_number b.last_number (layout_of b).blocks → ((other : ℕ) → at_region other n.blocks.entries ≡ (if number == other then Some new else at_region other b.blocks.entries)) → block_at (layout_of b) number ≡ Some old → new.number ≡ old.number
-      → PutsBlock (layout_of b) (layout_of n) number new
-  puts_same old new rising same was number_is = record {
-    blocks = in_order-with b.first_number b.last_number number b.blocks.entries n.blocks.entries (AreApart-distinct b.blocks.entries apart) (AreApart-distinct n.blocks.entries now) new (rising_put b.first_number b.last_number number (layout_of b).blocks old new rising was number_is) same;
-    at = one_view (Some new) same;
-  }
+  was_apart : AreApart (layout_of b).blocks
+  was_apart = apart-in_order b.blocks.entries (AreApart-distinct b.blocks.entries apart)
 
-  pub puts_last : (new : Block) → IsKept b → ((other : ℕ) → at_region other n.blocks.entries ≡ (if number == other then Some new else at_region other b.blocks.entries)) → block_at (layout_of b) number ≡ None → new.number ≡ b.last_number + 1
-      → PutsBlock (layout_of b) (layout_of n) number new
-  puts_last new kept same none number_is =
-      let upto = first_upto b.keeper b.first_number b.last_number (layout_of b).blocks (first_view b kept) kept.numbered in
-      record {
-        blocks = in_order-with b.first_number (b.last_number + 1) number b.blocks.entries n.blocks.entries (AreApart-distinct b.blocks.entries apart) (AreApart-distinct n.blocks.entries now) new
-            (rising_add b.first_number b.last_number number new (layout_of b).blocks none (omega (arith, upto)) number_is kept.numbered) same;
-        at = one_view (Some new) same;
-      }
+  -- the blocks that are seen then are those of a list that rises
+  seen : (least most : ℕ) (ys : Entries) → AreApart ys → AreRising least most ys → ((other : ℕ) → block_at (layout_of n) other ≡ at_region other ys) → (layout_of n).blocks ≡ ys
+  seen least most ys apart_y rising same = in_order-is least most n.blocks.entries ys (AreApart-distinct n.blocks.entries now) apart_y rising (λ other. sym (block_view n now other) ∙ same other)
 
-  -- a block goes
-  pub drops_view : AreRising b.first_number b.last_number (layout_of b).blocks → ((other : ℕ) → at_region other n.blocks.entries ≡ (if number == other then None else at_region other b.blocks.entries)) → DropsBlock (layout_of b) (layout_of n) number
-  drops_view rising same = record {
-    blocks = in_order-without b.first_number b.last_number number b.blocks.entries n.blocks.entries (AreApart-distinct b.blocks.entries apart) (AreApart-distinct n.blocks.entries now) (rising_drop b.first_number b.last_number number (layout_of b).blocks rising) same;
-    at = one_view None same;
-  }
+  -- a block is put, or goes
+  pub puts_view : (least most : ℕ) (new : Block) → AreRising least most (with_block (layout_of b).blocks number new) → ((other : ℕ) → at_region other n.blocks.entries ≡ (if number == other then Some new else at_region other b.blocks.entries)) → PutsBlock (layout_of b) (layout_of n) number new
+  puts_view least most new rising same =
+      let old = (layout_of b).blocks in
+      let at = one_view (Some new) same in
+      record { blocks = seen least most (with_block old number new) (apart-with number new old was_apart) rising (λ other. at other ∙ sym (lookup-with number other new old)); at = at }
+
+  pub drops_view : (least most : ℕ) → AreRising least most (without_block (layout_of b).blocks number) → ((other : ℕ) → at_region other n.blocks.entries ≡ (if number == other then None else at_region other b.blocks.entries)) → DropsBlock (layout_of b) (layout_of n) number
+  drops_view least most rising same =
+      let old = (layout_of b).blocks in
+      let at = one_view None same in
+      record { blocks = seen least most (without_block old number) (apart-without number old was_apart) rising (λ other. at other ∙ sym (lookup-without number other old was_apart)); at = at }

@@ -31,14 +31,15 @@ returns c =
     let kept = c.requires.kept in
     let same : SameContext l m = record { kind = refl; account = refl; context = refl; keeper = refl; first_number = refl } in
     let empty = λ (at : Addr). none_in l kept.counted c.args.number c.requires.block.0 at c.requires.block.1 c.requires.block.2 in
-    let drops = drops_view b n c.args.number kept.apart c.swap_remove.ensures.unique kept.numbered c.swap_remove.ensures.updates.0 in
+    let rising = rising_drop b.first_number b.last_number c.args.number l.blocks kept.numbered in
+    let drops = drops_view b n c.args.number kept.apart c.swap_remove.ensures.unique b.first_number b.last_number rising c.swap_remove.ensures.updates.0 in
     let totals = total-dropped l m c.args.number old drops.blocks owned in
     record {
       kept = record {
         laid = IsLaid-lessened l m kept.laid (Lessens-dropped l m kept.laid same refl c.args.number old owned empty drops.at);
         counted = IsCounted-dropped l m kept.laid same refl c.args.number old owned empty drops.at kept.counted;
         first = rw c.swap_remove.ensures.entries (first-swap_remove b.keeper b.first_number c.args.number b.blocks.entries c.requires.not_keeper kept.first);
-        numbered = rw drops.blocks (rising_drop b.first_number b.last_number c.args.number l.blocks kept.numbered);
+        numbered = rw drops.blocks rising;
         total = omega (arith, kept.total, totals, c.from.ensures);
         most = omega (arith, kept.most);
         apart = c.swap_remove.ensures.unique;

@@ -7,8 +7,9 @@ use Rattle.ctx_blocks.proofs.Laid.{gap_cases}
 use Rattle.ctx_blocks.proofs.Counts.{one_in}
 use Rattle.ctx_blocks.proofs.Held.{place_free, IsWritten-held, IsLaid-held, IsCounted-held, Moves-held, Moves-bare, Keeps-held}
 use Rattle.ctx_blocks.proofs.Totals.{total-put}
+use Rattle.ctx_blocks.proofs.Numbered.{rising_put}
 use Rattle.ctx_blocks.proofs.Keeps.{IsKept-put}
-use Rattle.ctx_blocks.proofs.Viewed.{puts_same}
+use Rattle.ctx_blocks.proofs.Viewed.{puts_view}
 use Rattle.ctx_blocks.proofs.books.Books.hold.Goals as goal
 
 pub head-requires : goal.head-requires
@@ -24,7 +25,7 @@ returns c =
     let kept = c.requires.kept in
     let same : SameContext l m = record { kind = refl; account = refl; context = refl; keeper = refl; first_number = refl } in
     let chunk = c.put.ensures.at in
-    let puts = puts_same b n c.args.at.region kept.apart c.change.ensures.apart holds.old c.args.block kept.numbered c.change.ensures.at holds.owned holds.number in
+    let puts = puts_view b n c.args.at.region kept.apart c.change.ensures.apart b.first_number b.last_number c.args.block (rising_put b.first_number b.last_number c.args.at.region l.blocks holds.old c.args.block kept.numbered holds.owned holds.number) c.change.ensures.at in
     let totals = total-put l m c.args.at.region holds.old c.args.block puts.blocks holds.owned holds.size in
     let fresh = place_free l c.args.at c.args.chunk c.args.block kept.laid holds in
     let counts : (number : ℕ) → count_in m number ≡ count_in l number + one_in number c.args.at.region = λ number. grind (arith, c.put.ensures.count number) in

@@ -10,8 +10,9 @@ use Rattle.ctx_blocks.proofs.Lessened.{IsLaid-lessened, MovesStill-lessened}
 use Rattle.ctx_blocks.proofs.Put.{IsCounted-put, regions-put}
 use Rattle.ctx_blocks.proofs.Refilled.{IsFilled-whole, Lessens-put}
 use Rattle.ctx_blocks.proofs.Totals.{total-put}
+use Rattle.ctx_blocks.proofs.Numbered.{rising_put}
 use Rattle.ctx_blocks.proofs.Keeps.{IsKept-put}
-use Rattle.ctx_blocks.proofs.Viewed.{puts_same}
+use Rattle.ctx_blocks.proofs.Viewed.{puts_view}
 use Rattle.ctx_blocks.proofs.books.Books.refill.Goals as goal
 
 pub returns : goal.returns
@@ -25,7 +26,7 @@ returns c =
     let new : Block = record { number = old.number; size = old.size; room = c.whole.result; live = 0; freed = 0 } in
     let kept = c.requires.kept in
     let none = ap (λ (x : Block). x.live) (one_value (block_at l c.args.number) old c.requires.block.0 owned c.requires.block.1) ∙ c.requires.block.2 in
-    let puts = puts_same b n c.args.number kept.apart c.change.ensures.apart old new kept.numbered c.change.ensures.at owned refl in
+    let puts = puts_view b n c.args.number kept.apart c.change.ensures.apart b.first_number b.last_number new (rising_put b.first_number b.last_number c.args.number l.blocks old new kept.numbered owned refl) c.change.ensures.at in
     let less =
     Lessens-put l m kept.laid (record { kind = refl; account = refl; context = refl; keeper = refl; first_number = refl }) c.args.number old new owned refl
     (IsFilled-whole l c.args.number old.number c.whole.result old (kept.laid.filled c.args.number old owned) c.whole.ensures) puts.at

@@ -9,8 +9,9 @@ use Rattle.ctx_blocks.proofs.Lessened.{IsLaid-lessened, MovesStill-lessened}
 use Rattle.ctx_blocks.proofs.Put.{IsCounted-put, regions-put}
 use Rattle.ctx_blocks.proofs.Refilled.{Lessens-put}
 use Rattle.ctx_blocks.proofs.Totals.{total-put}
+use Rattle.ctx_blocks.proofs.Numbered.{rising_put}
 use Rattle.ctx_blocks.proofs.Keeps.{IsKept-put}
-use Rattle.ctx_blocks.proofs.Viewed.{puts_same}
+use Rattle.ctx_blocks.proofs.Viewed.{puts_view}
 use Rattle.ctx_blocks.proofs.books.Books.remove.Goals as goal
 
 pub seek-place-requires-clause-block : goal.seek-place-requires-clause-block
@@ -37,7 +38,7 @@ returns c =
     let filled = kept.laid.filled c.args.at.region old owned in
     let some = some_in l kept.counted c.args.at c.requires.chunk.0 old c.requires.chunk.1 owned in
     let counts = c.remove.ensures.count c.requires.chunk.0 c.requires.chunk.1 in
-    let puts = puts_same b n c.args.at.region kept.apart c.change.ensures.apart old new kept.numbered c.change.ensures.at owned refl in
+    let puts = puts_view b n c.args.at.region kept.apart c.change.ensures.apart b.first_number b.last_number new (rising_put b.first_number b.last_number c.args.at.region l.blocks old new kept.numbered owned refl) c.change.ensures.at in
     let less =
     Lessens-put l m kept.laid (record { kind = refl; account = refl; context = refl; keeper = refl; first_number = refl }) c.args.at.region old new owned refl
     (record { small = filled.small; even = filled.even; within = omega (arith, filled.within, some) }) puts.at

@@ -7,7 +7,7 @@ use Rattle.ctx_blocks.specs.declared.books.Books.{Books}
 use Rattle.ctx_blocks.proofs.Added.{unowned, IsLaid-added, IsCounted-added, Moves-added, empty_block}
 use Rattle.ctx_blocks.proofs.Totals.{sum-new, IsFirst-put}
 use Rattle.ctx_blocks.proofs.Numbered.{rising_add, first_upto}
-use Rattle.ctx_blocks.proofs.Viewed.{block_view, first_view, puts_last}
+use Rattle.ctx_blocks.proofs.Viewed.{block_view, first_view, puts_view}
 use Rattle.ctx_blocks.proofs.books.Books.take.Goals as goal
 
 pub returns : goal.returns
@@ -21,16 +21,17 @@ returns c =
     let kept = c.requires.kept in
     let same : SameContext l m = record { kind = refl; account = refl; context = refl; keeper = refl; first_number = refl } in
     let none = unowned l c.args.space.now number c.requires.agrees c.in_ok-at.ensures.fresh in
-    let puts = puts_last b n number kept.apart c.note.ensures.apart new kept c.note.ensures.at none refl in
     let first = first_view b kept in
     let upto = first_upto b.keeper b.first_number b.last_number l.blocks first kept.numbered in
+    let rising = rising_add b.first_number b.last_number number new l.blocks none (omega (arith, upto)) refl kept.numbered in
+    let puts = puts_view b n number kept.apart c.note.ensures.apart b.first_number (b.last_number + 1) new rising c.note.ensures.at in
     let totals : total m ≡ total l + c.args.size = rw puts.blocks (sum-new (λ x. x.size) l.blocks number new none) in
     record {
       kept = record {
         laid = IsLaid-added l m number (b.last_number + 1) c.args.size kept.laid same refl none puts.at first c.requires.least c.requires.most c.requires.whole;
         counted = IsCounted-added l m number (b.last_number + 1) c.args.size kept.laid same refl none puts.at first c.requires.least c.requires.most c.requires.whole kept.counted;
         first = rw c.note.ensures.blocks (IsFirst-put b.keeper b.first_number b.blocks.entries number new (λ old owned. let fresh = sym (block_view b kept.apart number) ∙ none in absurd (cc)) kept.first);
-        numbered = rw puts.blocks (rising_add b.first_number b.last_number number new l.blocks none (omega (arith, upto)) refl kept.numbered);
+        numbered = rw puts.blocks rising;
         total = omega (arith, kept.total, totals, c.from.ensures);
         most = omega (arith, c.from.ensures, c.requires.most);
         apart = c.note.ensures.apart;
