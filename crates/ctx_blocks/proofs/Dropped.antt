@@ -37,9 +37,6 @@ module _ (l m : Layout) (laid : IsLaid l) (same : SameContext l m) (chunks : m.c
   gone : (footprint m).region number ≡ None
   gone = rw (blocks number) (grind arith)
 
-  pub IsCounted-dropped : IsCounted l → IsCounted m
-  IsCounted-dropped counted other b has = rw chunks (counted other b (was_there other b has))
-
   pub Moves-dropped : (s t : Space) → Agrees (footprint l) s → total m + old.size ≡ total l → Changes s t number None → ((account : ℕ) → held t account + share account (region_at s number) ≡ held s account) → Moves (footprint l) (footprint m) s t
   Moves-dropped s t agrees totals changes holds =
       Moves-gone (footprint l) (footprint m) s t number old.size agrees (IsSound-laid m (IsLaid-lessened l m laid Lessens-dropped)) same.account same.context totals changes (region_is l number old owned) gone

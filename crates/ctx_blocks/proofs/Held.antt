@@ -92,10 +92,6 @@ module _ (l m : Layout) (at : Addr) (chunk : Chunk) (block : Block) (laid : IsLa
         ];
   }
 
-  pub IsCounted-held : IsCounted l → ((number : ℕ) → count_in m number ≡ count_in l number + one_in number at.region) → IsCounted m
-  IsCounted-held counted counts =
-      IsCounted-put l m at.region block blocks counted (grind (arith, counts at.region, counted at.region holds.old holds.owned, holds.live)) (λ other differs. grind (arith, counts other))
-
   -- the marks are the old ones and that of the chunk
   marks_now : (b : Addr) (bytes : List ℕ) → mark_of m b ≡ Some bytes
       → ((header_room l ≡ 8) × (b ≡ record { region = at.region; offset = at.offset - 8 }) × (bytes ≡ header_bytes (header_of l.kind chunk (at.offset - 8 - start_of l at.region)))) ⊎ (mark_of l b ≡ Some bytes)

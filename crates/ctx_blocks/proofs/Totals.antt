@@ -63,8 +63,3 @@ total-dropped l m number old blocks was = rw blocks (sum-dropped (λ b. b.size) 
 pub IsFirst-put : (keeper first : ℕ) (blocks : List (ℕ × Block)) (number : ℕ) (block : Block) → ((old : Block) → lookup (λ n. number == n) blocks ≡ Some old → block.number ≡ old.number) → IsFirst keeper first blocks → IsFirst keeper first (with_block blocks number block)
 IsFirst-put keeper first [] number block same is = absurd is
 IsFirst-put keeper first (e ∷ es) number block same is = grind (arith, same e.1)
-
--- it is a block of the context
-pub first_owned : (keeper number : ℕ) (es : List (ℕ × Block)) → IsFirst keeper number es → (b : Block) × (lookup (λ n. keeper == n) es ≡ Some b)
-first_owned keeper number [] is = absurd is
-first_owned keeper number (e ∷ es) is = (e.1, grind arith)

@@ -8,7 +8,7 @@ use Rattle.ctx_blocks.specs.declared.books.Books.{Books}
 use Rattle.ctx_blocks.proofs.Counts.{none_in}
 use Rattle.ctx_blocks.proofs.Totals.{sum-dropped, total-dropped}
 use Rattle.ctx_blocks.proofs.Lessened.{IsLaid-lessened}
-use Rattle.ctx_blocks.proofs.Dropped.{IsRegion-owned, Lessens-dropped, IsCounted-dropped, Moves-dropped, Keeps-dropped}
+use Rattle.ctx_blocks.proofs.Dropped.{IsRegion-owned, Lessens-dropped, Moves-dropped, Keeps-dropped}
 use Rattle.ctx_blocks.proofs.Numbered.{rising_drop}
 use Rattle.ctx_blocks.proofs.Ordered.{first-swap_remove}
 use Rattle.ctx_blocks.proofs.Viewed.{drops_view}
@@ -37,7 +37,7 @@ returns c =
     record {
       kept = record {
         laid = IsLaid-lessened l m kept.laid (Lessens-dropped l m kept.laid same refl c.args.number old owned empty drops.at);
-        counted = IsCounted-dropped l m kept.laid same refl c.args.number old owned empty drops.at kept.counted;
+        counted = λ other x has. kept.counted other x (grind (arith, drops.at other));
         first = rw c.swap_remove.ensures.entries (first-swap_remove b.keeper b.first_number c.args.number b.blocks.entries c.requires.not_keeper kept.first);
         numbered = rw drops.blocks rising;
         total = omega (arith, kept.total, totals, c.from.ensures);

@@ -5,7 +5,8 @@ use Rattle.ctx_blocks.specs.Steps.{SameContext}
 use Rattle.ctx_blocks.specs.declared.books.Books.{Books}
 use Rattle.ctx_blocks.proofs.Laid.{gap_cases}
 use Rattle.ctx_blocks.proofs.Counts.{one_in}
-use Rattle.ctx_blocks.proofs.Held.{place_free, IsWritten-held, IsLaid-held, IsCounted-held, Moves-held, Moves-bare, Keeps-held}
+use Rattle.ctx_blocks.proofs.Held.{place_free, IsWritten-held, IsLaid-held, Moves-held, Moves-bare, Keeps-held}
+use Rattle.ctx_blocks.proofs.Put.{IsCounted-put}
 use Rattle.ctx_blocks.proofs.Totals.{total-put}
 use Rattle.ctx_blocks.proofs.Numbered.{rising_put}
 use Rattle.ctx_blocks.proofs.Keeps.{IsKept-put}
@@ -31,7 +32,8 @@ returns c =
     let counts : (number : ℕ) → count_in m number ≡ count_in l number + one_in number c.args.at.region = λ number. grind (arith, c.put.ensures.count number) in
     record {
       kept = IsKept-put b n c.args.at.region holds.old c.args.block kept same refl refl c.change.ensures.blocks puts c.change.ensures.apart holds.owned holds.number holds.size (c.put.ensures.unique kept.unique)
-          (IsLaid-held l m c.args.at c.args.chunk c.args.block kept.laid holds same chunk puts.at) (IsCounted-held l m c.args.at c.args.chunk c.args.block kept.laid holds same chunk puts.at kept.counted counts);
+          (IsLaid-held l m c.args.at c.args.chunk c.args.block kept.laid holds same chunk puts.at)
+          (IsCounted-put l m c.args.at.region c.args.block puts.at kept.counted (grind (arith, counts c.args.at.region, kept.counted c.args.at.region holds.old holds.owned, holds.live)) (λ other differs. grind (arith, counts other)));
       same = same;
       last = refl;
       fresh = fresh;

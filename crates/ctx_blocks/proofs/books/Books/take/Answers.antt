@@ -4,7 +4,9 @@ use Rattle.ctx_blocks.specs.Kept.{layout_of}
 use Rattle.ctx_blocks.specs.Steps.{SameContext}
 use Rattle.ctx_blocks.specs.declared.parts.Block.{Block}
 use Rattle.ctx_blocks.specs.declared.books.Books.{Books}
-use Rattle.ctx_blocks.proofs.Added.{unowned, IsLaid-added, IsCounted-added, Moves-added, empty_block}
+use Rattle.ctx_blocks.proofs.Added.{unowned, IsLaid-added, Moves-added, empty_block}
+use Rattle.ctx_blocks.proofs.Counts.{none_placed}
+use Rattle.ctx_blocks.proofs.Put.{IsCounted-put}
 use Rattle.ctx_blocks.proofs.Totals.{sum-new, IsFirst-put}
 use Rattle.ctx_blocks.proofs.Numbered.{rising_add, first_upto}
 use Rattle.ctx_blocks.proofs.Viewed.{block_view, first_view, puts_view}
@@ -29,7 +31,7 @@ returns c =
     record {
       kept = record {
         laid = IsLaid-added l m number (b.last_number + 1) c.args.size kept.laid same refl none puts.at first c.requires.least c.requires.most c.requires.whole;
-        counted = IsCounted-added l m number (b.last_number + 1) c.args.size kept.laid same refl none puts.at first c.requires.least c.requires.most c.requires.whole kept.counted;
+        counted = IsCounted-put l m number new puts.at kept.counted (sym (none_placed l kept.laid number none)) (λ other differs. refl);
         first = rw c.note.ensures.blocks (IsFirst-put b.keeper b.first_number b.blocks.entries number new (λ old owned. let fresh = sym (block_view b kept.apart number) ∙ none in absurd (cc)) kept.first);
         numbered = rw puts.blocks rising;
         total = omega (arith, kept.total, totals, c.from.ensures);
