@@ -7,16 +7,15 @@ use Rattle.addr_space.specs.Footprint.{Agrees, Moves}
 use Rattle.addr_space.proofs.Addresses.{same_addr_from}
 use Rattle.chunk_header.specs.Header.{block_bytes}
 use Rattle.ctx_blocks.specs.Layout.{Layout, block_at, start_of, total, mark_of, footprint}
-use Rattle.ctx_blocks.specs.Kept.{IsLaid, IsCounted, IsFirst}
+use Rattle.ctx_blocks.specs.Kept.{IsLaid, IsFirst}
 use Rattle.ctx_blocks.specs.Steps.{SameContext}
 use Rattle.ctx_blocks.specs.declared.parts.Block.{Block}
 use Rattle.addr_space.proofs.Options.{option_cases}
 use Rattle.chunk_header.proofs.Words.{length-block_bytes}
 use Rattle.chunk_header.proofs.Wrote.{Moves-taken}
 use Rattle.ctx_blocks.proofs.Laid.{mark_cases, region_is, behind, IsSound-laid}
-use Rattle.ctx_blocks.proofs.Counts.{none_placed}
 use Rattle.ctx_blocks.proofs.Cleared.{first_only}
-use Rattle.ctx_blocks.proofs.Put.{block_was, IsCounted-put}
+use Rattle.ctx_blocks.proofs.Put.{block_was}
 use Rattle.ctx_blocks.proofs.Lessened.{start_same, placed_again, mark_same}
 
 -- a region that is not live is no block of the context

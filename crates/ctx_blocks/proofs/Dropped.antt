@@ -5,7 +5,7 @@ use Rattle.addr_space.specs.declared.Addr.{Addr}
 use Rattle.addr_space.specs.Space.{Space, IsRegion, Changes, region_at, share, held}
 use Rattle.addr_space.specs.Footprint.{Agrees, Moves, Keeps}
 use Rattle.ctx_blocks.specs.Layout.{Layout, block_at, chunk_at, total, footprint}
-use Rattle.ctx_blocks.specs.Kept.{IsLaid, IsCounted}
+use Rattle.ctx_blocks.specs.Kept.{IsLaid}
 use Rattle.ctx_blocks.specs.Steps.{SameContext}
 use Rattle.ctx_blocks.specs.declared.parts.Block.{Block}
 use Rattle.chunk_header.proofs.Wrote.{Moves-gone, Keeps-give}

@@ -7,8 +7,8 @@ use Rattle.addr_space.specs.Footprint.{Agrees, Moves, Keeps}
 use Rattle.addr_space.proofs.Addresses.{same_addr_from, same_addr-cases}
 use Rattle.addr_space.proofs.Steps.{Moves-still}
 use Rattle.chunk_header.specs.Header.{header_bytes}
-use Rattle.ctx_blocks.specs.Layout.{Layout, block_at, chunk_at, start_of, header_room, header_of, total, count_in, mark_of, footprint}
-use Rattle.ctx_blocks.specs.Kept.{IsLaid, IsPlaced, IsCounted}
+use Rattle.ctx_blocks.specs.Layout.{Layout, block_at, chunk_at, start_of, header_room, header_of, total, mark_of, footprint}
+use Rattle.ctx_blocks.specs.Kept.{IsLaid, IsPlaced}
 use Rattle.ctx_blocks.specs.Steps.{SameContext, PutsChunk}
 use Rattle.ctx_blocks.specs.Held.{Holds, IsWritten}
 use Rattle.ctx_blocks.specs.declared.parts.Block.{Block}
@@ -17,8 +17,7 @@ use Rattle.addr_space.proofs.Options.{option_cases, one_value}
 use Rattle.chunk_header.proofs.Words.{length-header_bytes}
 use Rattle.chunk_header.proofs.Wrote.{Moves-written, Keeps-written}
 use Rattle.ctx_blocks.proofs.Laid.{mark_cases, mark_within, from_live, region_is, behind, IsSound-laid}
-use Rattle.ctx_blocks.proofs.Counts.{one_in}
-use Rattle.ctx_blocks.proofs.Put.{block_was, chunk_was, IsCounted-put, regions-put, sizes-put}
+use Rattle.ctx_blocks.proofs.Put.{block_was, chunk_was, regions-put, sizes-put}
 use Rattle.ctx_blocks.proofs.Lessened.{start_same, gap_same, placed_again, mark_same}
 
 -- no chunk is where one can be noted

@@ -1,4 +1,4 @@
-use Rattle.std.proofs.Common.{◌≡◌, ◌+◌, ◌-◌, ◌==◌, Some, None, if◌then◌else◌, ℕ, refl, ◌∙◌, arith}
+use Rattle.std.proofs.Common.{◌≡◌, ◌-◌, ◌==◌, Some, None, refl, ◌∙◌, arith}
 use Rattle.std.proofs.lemmas.Grind.{common_steps}
 use Rattle.addr_space.specs.declared.Addr.{Addr}
 use Rattle.ctx_blocks.specs.Layout.{Layout, block_at, chunk_at}

@@ -1,4 +1,4 @@
-use Rattle.std.proofs.Common.{◌≡◌, ◌-◌, ◌∷◌, [], Some, ap, sym, ◌∙◌, refl, arith, rules}
+use Rattle.std.proofs.Common.{◌≡◌, ◌∷◌, [], Some, ap, sym, ◌∙◌, refl, arith, rules}
 use Rattle.addr_space.proofs.Steps.{Moves-more}
 use Rattle.ctx_blocks.specs.Layout.{Layout, block_at, footprint}
 use Rattle.ctx_blocks.specs.Kept.{layout_of}
