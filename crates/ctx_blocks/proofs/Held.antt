@@ -79,16 +79,9 @@ module _ (l m : Layout) (at : Addr) (chunk : Chunk) (block : Block) (laid : IsLa
         ];
     apart = λ a b first second at_a at_b region below.
         let gap = gap_same l m same in
-        elim (chunk_was l m at chunk chunks a first at_a) [
-          | inl new_a ↦ elim (chunk_was l m at chunk chunks b second at_b) [
-            | inl new_b ↦ absurd (omega (arith, below, ap (λ (x : Addr). x.offset) (new_a.0 ∙ sym new_b.0)))
-            | inr old_b ↦ grind (arith, holds.clear b second old_b.1)
-          ]
-          | inr old_a ↦ elim (chunk_was l m at chunk chunks b second at_b) [
-            | inl new_b ↦ grind (arith, holds.clear a first old_a.1)
-            | inr old_b ↦ omega (arith, laid.apart a b first second old_a.1 old_b.1 region below, gap)
-          ]
-        ];
+        let was_a = chunk_was l m at chunk chunks a first at_a in
+        let was_b = chunk_was l m at chunk chunks b second at_b in
+        grind (arith, was_a, was_b, holds.clear a first, holds.clear b second, laid.apart a b first second, gap);
   }
 
   -- the marks are the old ones and that of the chunk
@@ -109,10 +102,7 @@ module _ (l m : Layout) (at : Addr) (chunk : Chunk) (block : Block) (laid : IsLa
             ]
         | inr old ↦
             inr (mark_same l m same b bytes (sizes-put l m at.region block blocks holds.old holds.owned holds.size b.region)
-            (λ c found. elim (chunk_was l m at chunk chunks (behind b) c found) [
-              | inl it ↦ absurd (old.0 it.0)
-              | inr it ↦ (c, it.1, refl, refl)
-            ]) marked)
+            (λ c found. (c, grind (arith, chunks (behind b)), refl, refl)) marked)
       ]
 
   regions_held : (other : ℕ) → (footprint m).region other ≡ (footprint l).region other

@@ -1,14 +1,13 @@
 -- Lemmas on blocks in the order of their numbers, where no two are in one region: that list is the only one that rises
 -- and has the same block in each region.
 use Rattle.std.proofs.Common.{◌≡◌, ◌≢◌, ℕ, ◌+◌, ◌<◌, ◌==◌, if◌then◌else◌, [], ◌∷◌, length, Option, Some, None, false, refl, sym, ap, ◌∙◌, arith, sum_by, nat_eq, position, inl, inr, zero, suc}
-use Rattle.std.specs.List.{IsDistinct, AllByRecursion, swap_remove}
+use Rattle.std.specs.List.{IsDistinct, AllByRecursion}
 use Rattle.std.specs.Map.{keys_of, values_of}
 use Rattle.std.proofs.lemmas.Bool.{cases_eq}
 use Rattle.std.proofs.lemmas.List.Sums.{sum_by-cons}
 use Rattle.std.proofs.Math.Numerals.{sub-one}
 use Rattle.std.proofs.lemmas.List.Quantifiers.{position-Some}
 use Rattle.indexmap.specs.IndexMap.{swap_remove_entry}
-use Rattle.indexmap.proofs.MapLemmas.{Found-position}
 use Rattle.ctx_blocks.specs.Kept.{AreRising, IsFirst}
 use Rattle.ctx_blocks.specs.Order.{put_in, in_order}
 use Rattle.ctx_blocks.specs.Steps.{with_block, without_block}
@@ -118,19 +117,13 @@ first-in_order keeper first most (e ∷ es) apart is h =
     first-least keeper first most e.1 (in_order (e ∷ es)) (lookup-in_order keeper (e ∷ es) apart ∙ grind (arith, is.0)) is.1 h
 
 -- it stays where it is, where another one's place is taken by the last block
-first-swapped : (keeper first i : ℕ) (e : ℕ × Block) (es : Entries) → IsFirst keeper first es → i < length es → i ≢ 0 → IsFirst keeper first (swap_remove es i e)
-first-swapped keeper first i e [] is within some = absurd is
-first-swapped keeper first i e (x ∷ []) is within some = absurd (omega arith)
-first-swapped keeper first zero e (x ∷ y ∷ xs) is within some = absurd (some refl)
-first-swapped keeper first (suc i) e (x ∷ y ∷ xs) is within some = rw sub-one is
-
 pub first-swap_remove : (keeper first region : ℕ) (es : Entries) → region ≢ keeper → IsFirst keeper first es → IsFirst keeper first (swap_remove_entry (λ n. region == n) es)
 first-swap_remove keeper first region [] differs is = absurd is
-first-swap_remove keeper first region (e ∷ es) differs is =
-    by (position (λ n. region == n) (keys_of (e ∷ es))) refl
+first-swap_remove keeper first region (e ∷ []) differs is = let other : (region == e.0) ≡ false = grind (arith, is.0) in rw other is
+first-swap_remove keeper first region (e ∷ x ∷ xs) differs is =
+    by (position (λ n. region == n) (keys_of (e ∷ x ∷ xs))) refl
   where
-    by : (r : Option ℕ) → position (λ n. region == n) (keys_of (e ∷ es)) ≡ r → IsFirst keeper first (swap_remove_entry (λ n. region == n) (e ∷ es))
+    by : (r : Option ℕ) → position (λ n. region == n) (keys_of (e ∷ x ∷ xs)) ≡ r → IsFirst keeper first (swap_remove_entry (λ n. region == n) (e ∷ x ∷ xs))
     by None p = rw p is
-    by (Some i) p =
-        rw p (first-swapped keeper first i e (e ∷ es) is (Found-position (λ n. region == n) (e ∷ es) i p).within
-        (λ none. (let passes = rw none at (position-Some (λ n. region == n) (keys_of (e ∷ es)) i 0 p).1 in absurd (grind (arith, passes, is.0, differs)))))
+    by (Some zero) p = let passes = (position-Some (λ n. region == n) (keys_of (e ∷ x ∷ xs)) 0 0 p).1 in absurd (grind (arith, passes, is.0, differs))
+    by (Some (suc i)) p = rw (p, sub-one) is
