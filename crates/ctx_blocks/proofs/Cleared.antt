@@ -20,11 +20,6 @@ Lessens-cleared l m laid same blocks chunks =
       under = λ at c found w is. let gone = rw chunks at found in absurd (cc);
     }
 
--- the first block is there
-pub first-length : (keeper number : ℕ) (blocks : List (ℕ × Block)) → IsFirst keeper number blocks → 1 ≤ length blocks
-first-length keeper number [] first = absurd first
-first-length keeper number (e ∷ es) first = omega arith
-
 -- one entry less of the first ones
 pub take-less : {X : Type 0} (all now new : List X) → now ≡ take (length now) all → new ≡ take (length now - 1) now → length new + 1 ≡ length now → new ≡ take (length new) all
 take-less all now new is less len =

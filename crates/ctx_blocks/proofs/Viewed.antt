@@ -20,14 +20,12 @@ block_view b apart number = lookup-in_order number b.blocks.entries (AreApart-di
 pub first_view : (b : Books) → IsKept b → IsFirst b.keeper b.first_number (layout_of b).blocks
 first_view b kept = first-in_order b.keeper b.first_number b.last_number b.blocks.entries (AreApart-distinct b.blocks.entries kept.apart) kept.first kept.numbered
 
-sum-last : (f : Block → ℕ) (es : Entries) (number : ℕ) (last : Block) → sum_by f (values_of (es ++ (number, last) ∷ [])) ≡ sum_by f (values_of es) + f last
-sum-last f es number last = rw map-append (omega (arith, sum_by-append f (values_of es) (last ∷ []), sum_by-cons f last []))
-
 -- the bytes without the last block
 pub total_view : (b n : Books) (number : ℕ) (old : Block) → b.blocks.entries ≡ n.blocks.entries ++ (number, old) ∷ [] → total (layout_of n) + old.size ≡ total (layout_of b)
 total_view b n number old blocks =
     let f : Block → ℕ = λ x. x.size in
-    ap (λ t. t + old.size) (sum-in_order f n.blocks.entries) ∙ sym (sum-in_order f b.blocks.entries ∙ ap (λ (es : Entries). sum_by f (values_of es)) blocks ∙ sum-last f n.blocks.entries number old)
+    let last : sum_by f (values_of (n.blocks.entries ++ (number, old) ∷ [])) ≡ sum_by f (values_of n.blocks.entries) + old.size = rw map-append (omega (arith, sum_by-append f (values_of n.blocks.entries) (old ∷ []), sum_by-cons f old [])) in
+    omega (arith, sum-in_order f n.blocks.entries, sum-in_order f b.blocks.entries, ap (λ (es : Entries). sum_by f (values_of es)) blocks, last)
 
 module _ (b n : Books) (number : ℕ) (apart : IsUnique nat_eq b.blocks) (now : IsUnique nat_eq n.blocks) where
   -- one region has another block, or none

@@ -1,5 +1,4 @@
 use Rattle.std.proofs.Common.{◌≡◌, ◌∷◌, [], ◌-◌, ap, ◌∙◌, refl, arith, rules}
-use Rattle.ctx_blocks.specs.Layout.{Layout}
 use Rattle.ctx_blocks.specs.Kept.{layout_of, IsFilled}
 use Rattle.ctx_blocks.specs.Order.{in_order}
 use Rattle.ctx_blocks.specs.Steps.{with_block}
@@ -24,7 +23,7 @@ returns c =
       chunks = c.none.result;
       total = c.from.result;
     } in
-    let l : Layout = layout_of n in
+    let l = layout_of n in
     let block : Block = record { number = c.args.first; size = c.args.size; room = c.saturating_sub.result; live = 0; freed = 0 } in
     let one : n.blocks.entries ≡ (n.keeper, block) ∷ [] = c.note.ensures.blocks ∙ ap (λ es. with_block es n.keeper block) c.in-Ok.ensures.empty in
     let filled : IsFilled (block.size - 200 - 40) block = record {

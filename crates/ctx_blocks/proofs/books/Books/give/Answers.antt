@@ -1,6 +1,5 @@
 use Rattle.std.proofs.Common.{◌-◌, refl, arith}
 use Rattle.addr_space.specs.declared.Addr.{Addr}
-use Rattle.ctx_blocks.specs.Layout.{Layout}
 use Rattle.ctx_blocks.specs.Kept.{layout_of}
 use Rattle.ctx_blocks.specs.Steps.{SameContext}
 use Rattle.ctx_blocks.specs.declared.parts.Block.{Block}
@@ -24,8 +23,8 @@ pub returns : goal.returns
 returns c =
     let b : Books = c.args.self.now in
     let n : Books = record b { blocks = c.swap_remove.new.self; total = b.total - c.from.result } in
-    let l : Layout = layout_of b in
-    let m : Layout = layout_of n in
+    let l = layout_of b in
+    let m = layout_of n in
     let old = c.owned-size.result in
     let owned = c.owned-size.ensures in
     let kept = c.requires.kept in

@@ -1,5 +1,4 @@
 use Rattle.std.proofs.Common.{refl, sym, ◌∙◌}
-use Rattle.ctx_blocks.specs.Layout.{Layout}
 use Rattle.ctx_blocks.specs.Kept.{layout_of}
 use Rattle.ctx_blocks.specs.declared.parts.Chunk.{Chunk}
 use Rattle.ctx_blocks.specs.declared.books.Books.{Books}
@@ -10,8 +9,8 @@ use Rattle.ctx_blocks.proofs.books.Books.set_size.Goals as goal
 pub returns : goal.returns
 returns c =
     let b : Books = c.args.self.now in
-    let l : Layout = layout_of b in
-    let m : Layout = layout_of (record b { chunks = c.set_size.new.self }) in
+    let l = layout_of b in
+    let m = layout_of (record b { chunks = c.set_size.new.self }) in
     let kept = c.requires.kept in
     let old : Chunk = c.requires.chunk.0 in
     let puts = c.set_size.ensures.at old c.requires.chunk.1 in
