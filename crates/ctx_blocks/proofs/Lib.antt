@@ -6,7 +6,6 @@ pub mod Headed
 pub mod New
 pub mod Lessened
 pub mod Totals
-pub mod Refilled
 pub mod Held
 pub mod Added
 pub mod Dropped
@@ -18,5 +17,4 @@ pub mod Viewed
 pub mod Among
 pub mod Places
 pub mod Put
-pub mod Keeps
 pub mod Rows

@@ -1,15 +1,17 @@
--- Lemmas on what a layout shows of the blocks as they are kept.
+-- Lemmas on what a layout shows of the blocks as they are kept, and on what is kept once a block is another one.
 use Rattle.std.proofs.Common.{◌≡◌, ℕ, ◌+◌, ◌==◌, if◌then◌else◌, ◌++◌, [], ◌∷◌, Option, Some, None, ap, sym, ◌∙◌, arith, sum_by, nat_eq}
 use Rattle.std.specs.Map.{values_of}
 use Rattle.std.proofs.lemmas.List.{map-append}
 use Rattle.std.proofs.lemmas.List.Sums.{sum_by-append, sum_by-cons}
 use Rattle.indexmap.specs.IndexMap.{IsUnique}
 use Rattle.ctx_blocks.specs.Layout.{block_at, total}
-use Rattle.ctx_blocks.specs.Kept.{layout_of, IsFirst, AreRising, IsKept}
-use Rattle.ctx_blocks.specs.Steps.{PutsBlock, DropsBlock, with_block, without_block}
+use Rattle.ctx_blocks.specs.Kept.{layout_of, IsLaid, IsCounted, IsFirst, AreRising, IsKept}
+use Rattle.ctx_blocks.specs.Steps.{AreUnique, SameContext, PutsBlock, DropsBlock, with_block, without_block}
 use Rattle.ctx_blocks.specs.declared.parts.Block.{Block}
 use Rattle.ctx_blocks.specs.declared.books.Books.{Books}
-use Rattle.ctx_blocks.proofs.Numbered.{Entries, at_region}
+use Rattle.addr_space.proofs.Options.{one_value}
+use Rattle.ctx_blocks.proofs.Totals.{total-put, IsFirst-put}
+use Rattle.ctx_blocks.proofs.Numbered.{Entries, at_region, rising_put}
 use Rattle.ctx_blocks.proofs.Ordered.{AreApart, AreApart-distinct, apart-in_order, lookup-in_order, sum-in_order, in_order-is, lookup-with, apart-with, lookup-without, apart-without, first-in_order}
 
 -- the block of a region
@@ -51,3 +53,17 @@ module _ (b n : Books) (number : ℕ) (apart : IsUnique nat_eq b.blocks) (now : 
       let old = (layout_of b).blocks in
       let at = one_view None same in
       record { blocks = seen least most (without_block old number) (apart-without number old was_apart) rising (λ other. at other ∙ sym (lookup-without number other old was_apart)); at = at }
+
+-- what the code keeps, once one block is another one of its number and size
+pub IsKept-put : (b n : Books) (number : ℕ) (old new : Block) → IsKept b → SameContext (layout_of b) (layout_of n) → n.last_number ≡ b.last_number → n.total ≡ b.total → n.blocks.entries ≡ with_block b.blocks.entries number new → PutsBlock (layout_of b) (layout_of n) number new → IsUnique nat_eq n.blocks → block_at (layout_of b) number ≡ Some old → new.number ≡ old.number → new.size ≡ old.size
+    → AreUnique n.chunks.entries → IsLaid (layout_of n) → IsCounted (layout_of n) → IsKept n
+IsKept-put b n number old new kept same last totals blocks puts apart owned number_is size unique laid counted = record {
+  laid = laid;
+  counted = counted;
+  first = rw (blocks, same.keeper, same.first_number) (IsFirst-put b.keeper b.first_number b.blocks.entries number new (λ x is. number_is ∙ ap (λ (x : Block). x.number) (one_value (block_at (layout_of b) number) old x owned (block_view b kept.apart number ∙ is))) kept.first);
+  numbered = rw (puts.blocks, same.first_number, last) (rising_put b.first_number b.last_number number (layout_of b).blocks old new kept.numbered owned number_is);
+  total = totals ∙ kept.total ∙ sym (total-put (layout_of b) (layout_of n) number old new puts.blocks owned size);
+  most = omega (arith, totals, kept.most);
+  apart = apart;
+  unique = unique;
+}

@@ -9,8 +9,7 @@ use Rattle.ctx_blocks.proofs.Held.{place_free, IsWritten-held, IsLaid-held, Move
 use Rattle.ctx_blocks.proofs.Put.{IsCounted-put}
 use Rattle.ctx_blocks.proofs.Totals.{total-put}
 use Rattle.ctx_blocks.proofs.Numbered.{rising_put}
-use Rattle.ctx_blocks.proofs.Keeps.{IsKept-put}
-use Rattle.ctx_blocks.proofs.Viewed.{puts_view}
+use Rattle.ctx_blocks.proofs.Viewed.{puts_view, IsKept-put}
 use Rattle.ctx_blocks.proofs.books.Books.hold.Goals as goal
 
 pub head-requires : goal.head-requires

@@ -5,13 +5,11 @@ use Rattle.ctx_blocks.specs.declared.parts.Block.{Block}
 use Rattle.ctx_blocks.specs.declared.books.Books.{Books}
 use Rattle.addr_space.proofs.Options.{one_value}
 use Rattle.ctx_blocks.proofs.Counts.{some_in}
-use Rattle.ctx_blocks.proofs.Lessened.{IsLaid-lessened, MovesStill-lessened}
+use Rattle.ctx_blocks.proofs.Lessened.{IsLaid-lessened, MovesStill-lessened, Lessens-put}
 use Rattle.ctx_blocks.proofs.Put.{IsCounted-put, regions-put}
-use Rattle.ctx_blocks.proofs.Refilled.{Lessens-put}
 use Rattle.ctx_blocks.proofs.Totals.{total-put}
 use Rattle.ctx_blocks.proofs.Numbered.{rising_put}
-use Rattle.ctx_blocks.proofs.Keeps.{IsKept-put}
-use Rattle.ctx_blocks.proofs.Viewed.{puts_view}
+use Rattle.ctx_blocks.proofs.Viewed.{puts_view, IsKept-put}
 use Rattle.ctx_blocks.proofs.books.Books.remove.Goals as goal
 
 pub seek-place-requires-clause-block : goal.seek-place-requires-clause-block

@@ -9,9 +9,8 @@ use Rattle.ctx_blocks.specs.declared.parts.Block.{Block}
 use Rattle.ctx_blocks.specs.declared.books.Books.{Books}
 use Rattle.addr_space.proofs.Options.{one_value}
 use Rattle.ctx_blocks.proofs.New.{keeper_start, keeper_is, total_one, IsKept-new}
-use Rattle.ctx_blocks.proofs.Lessened.{MovesStill-lessened}
+use Rattle.ctx_blocks.proofs.Lessened.{MovesStill-lessened, IsFilled-whole, Lessens-put}
 use Rattle.ctx_blocks.proofs.Put.{regions-put}
-use Rattle.ctx_blocks.proofs.Refilled.{IsFilled-whole, Lessens-put}
 use Rattle.ctx_blocks.proofs.Cleared.{first_only}
 use Rattle.ctx_blocks.proofs.books.Books.reset.Goals as goal
 use Rattle.ctx_blocks.proofs.books.Books.reset.Goals.{After-shrink}
