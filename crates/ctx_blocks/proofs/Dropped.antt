@@ -18,9 +18,6 @@ IsRegion-owned l s number block agrees owned = record { live = rw (agrees.region
 
 module _ (l m : Layout) (laid : IsLaid l) (same : SameContext l m) (chunks : m.chunks ≡ l.chunks) (number : ℕ) (old : Block) (owned : block_at l number ≡ Some old) (empty : (at : Addr) → at.region ≡ number → chunk_at l at ≡ None)
     (blocks : (other : ℕ) → block_at m other ≡ (if number == other then None else block_at l other)) where
-  was_there : (other : ℕ) (b : Block) → block_at m other ≡ Some b → block_at l other ≡ Some b
-  was_there other b has = grind (arith, blocks other)
-
   others_now : (other : ℕ) → other ≢ number → block_at m other ≡ block_at l other
   others_now other differs = grind (arith, blocks other)
 
@@ -28,7 +25,7 @@ module _ (l m : Layout) (laid : IsLaid l) (same : SameContext l m) (chunks : m.c
   Lessens-dropped = record {
     same = same;
     chunk = λ at c found. let had = rw chunks at found in (c, had, refl, refl, (laid.placed at c had).sized.fits);
-    block = λ other b has. let had = was_there other b has in (b, had, refl, laid.filled other b had);
+    block = λ other b has. let had : block_at l other ≡ Some b = grind (arith, blocks other) in (b, had, refl, laid.filled other b had);
     under = λ at c found w is.
         let differs : at.region ≢ number = λ e. let none = empty at e in let had = rw chunks at found in absurd (cc) in
         (w, others_now at.region differs ∙ is, refl, omega arith);

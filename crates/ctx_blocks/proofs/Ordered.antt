@@ -1,6 +1,6 @@
 -- Lemmas on blocks in the order of their numbers, where no two are in one region: that list is the only one that rises
 -- and has the same block in each region.
-use Rattle.std.proofs.Common.{◌≡◌, ◌≢◌, ℕ, ◌+◌, ◌<◌, ◌==◌, if◌then◌else◌, [], ◌∷◌, length, Option, Some, None, false, refl, sym, ap, ◌∙◌, arith, sum_by, nat_eq, position, inl, inr, zero, suc}
+use Rattle.std.proofs.Common.{◌≡◌, ◌≢◌, ℕ, ◌+◌, ◌==◌, if◌then◌else◌, [], ◌∷◌, length, Option, Some, None, false, refl, sym, ap, ◌∙◌, arith, sum_by, nat_eq, position, inl, inr, zero, suc}
 use Rattle.std.specs.List.{IsDistinct, AllByRecursion}
 use Rattle.std.specs.Map.{keys_of, values_of}
 use Rattle.std.proofs.lemmas.Bool.{cases_eq}
