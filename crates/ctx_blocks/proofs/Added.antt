@@ -7,17 +7,16 @@ use Rattle.addr_space.specs.Footprint.{Agrees, Moves}
 use Rattle.addr_space.proofs.Addresses.{same_addr_from}
 use Rattle.chunk_header.specs.Header.{block_bytes}
 use Rattle.ctx_blocks.specs.Layout.{Layout, block_at, start_of, total, mark_of, footprint}
-use Rattle.ctx_blocks.specs.Kept.{IsLaid, IsCounted, IsFirst}
+use Rattle.ctx_blocks.specs.Kept.{IsLaid, IsFirst}
 use Rattle.ctx_blocks.specs.Steps.{SameContext}
 use Rattle.ctx_blocks.specs.declared.parts.Block.{Block}
 use Rattle.addr_space.proofs.Options.{option_cases}
 use Rattle.chunk_header.proofs.Words.{length-block_bytes}
 use Rattle.chunk_header.proofs.Wrote.{Moves-taken}
 use Rattle.ctx_blocks.proofs.Laid.{mark_cases, region_is, behind, IsSound-laid}
-use Rattle.ctx_blocks.proofs.Counts.{none_placed}
-use Rattle.ctx_blocks.proofs.Totals.{keeper_owned}
-use Rattle.ctx_blocks.proofs.Put.{block_was, IsCounted-put}
-use Rattle.ctx_blocks.proofs.Lessened.{start_same, placed_same, mark_same}
+use Rattle.ctx_blocks.proofs.Cleared.{first_only}
+use Rattle.ctx_blocks.proofs.Put.{block_was}
+use Rattle.ctx_blocks.proofs.Lessened.{start_same, placed_again, mark_same}
 
 -- a region that is not live is no block of the context
 pub unowned : (l : Layout) (sp : Space) (number : ℕ) → Agrees (footprint l) sp → region_at sp number ≡ None → block_at l number ≡ None
@@ -40,8 +39,8 @@ module _ (l m : Layout) (number k size : ℕ) (laid : IsLaid l) (same : SameCont
 
   number_start : start_of m number ≡ 0
   number_start =
-      let keeper = keeper_owned l first in
-      let differs : l.keeper ≢ number = owned_differs l.keeper keeper.0 keeper.1 in
+      let keeper = first_only l.keeper l.first_number l.blocks first in
+      let differs : l.keeper ≢ number = owned_differs l.keeper keeper.0 keeper.2 in
       grind (arith, start_same l m same number)
 
   others_now : (other : ℕ) → other ≢ number → block_at m other ≡ block_at l other
@@ -56,12 +55,9 @@ module _ (l m : Layout) (number k size : ℕ) (laid : IsLaid l) (same : SameCont
         ];
     placed = λ at c found.
         let was = laid.placed at c (rw chunks at found) in
-        placed_same l m same at c was (others_now at.region (owned_differs at.region was.block was.owned) ∙ was.owned);
+        placed_again l m same at c c was was.block (others_now at.region (owned_differs at.region was.block was.owned) ∙ was.owned) refl (omega arith) refl refl was.sized.fits;
     apart = rw (chunks, same.kind) laid.apart;
   }
-
-  pub IsCounted-added : IsCounted l → IsCounted m
-  IsCounted-added counted = IsCounted-put l m number (empty_block k size) blocks counted (rw chunks (sym (none_placed l laid number fresh))) (λ other differs. rw chunks refl)
 
   -- the marks are the old ones and that of the block
   marks_added : (b : Addr) (bytes : List ℕ) → mark_of m b ≡ Some bytes

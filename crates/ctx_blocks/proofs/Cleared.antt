@@ -1,10 +1,10 @@
 -- Lemmas on a context whose chunks are forgotten and whose last blocks go.
-use Rattle.std.proofs.Common.{◌≡◌, ℕ, ◌+◌, ◌-◌, ◌≤◌, ◌==◌, List, [], ◌∷◌, length, take, Some, refl, ap, ◌∙◌, arith}
+use Rattle.std.proofs.Common.{◌≡◌, ℕ, ◌+◌, ◌-◌, ◌==◌, List, [], ◌∷◌, length, take, Some, refl, ap, ◌∙◌, arith}
 use Rattle.std.specs.Map.{lookup}
 use Rattle.std.proofs.lemmas.List.{take-take}
 use Rattle.ctx_blocks.specs.Layout.{Layout, footprint}
 use Rattle.ctx_blocks.specs.Kept.{IsLaid, IsFirst}
-use Rattle.ctx_blocks.specs.Steps.{SameContext, with_block}
+use Rattle.ctx_blocks.specs.Steps.{SameContext}
 use Rattle.ctx_blocks.specs.declared.parts.Block.{Block}
 use Rattle.addr_space.specs.Space.{Space}
 use Rattle.addr_space.specs.Footprint.{Agrees, Moves, nothing}
@@ -17,13 +17,8 @@ Lessens-cleared l m laid same blocks chunks =
       same = same;
       chunk = λ at c found. let gone = rw chunks at found in absurd (cc);
       block = λ number b has. let had = rw blocks at has in (b, had, refl, laid.filled number b had);
-      under = λ at c found. let gone = rw chunks at found in absurd (cc);
+      under = λ at c found w is. let gone = rw chunks at found in absurd (cc);
     }
-
--- the first block is there
-pub first-length : (keeper number : ℕ) (blocks : List (ℕ × Block)) → IsFirst keeper number blocks → 1 ≤ length blocks
-first-length keeper number [] first = absurd first
-first-length keeper number (e ∷ es) first = omega arith
 
 -- one entry less of the first ones
 pub take-less : {X : Type 0} (all now new : List X) → now ≡ take (length now) all → new ≡ take (length now - 1) now → length new + 1 ≡ length now → new ≡ take (length new) all
@@ -35,9 +30,6 @@ take-less all now new is less len =
 pub first_only : (keeper number : ℕ) (blocks : List (ℕ × Block)) → IsFirst keeper number blocks → (b : Block) × (take 1 blocks ≡ (keeper, b) ∷ []) × (lookup (λ n. keeper == n) blocks ≡ Some b)
 first_only keeper number [] first = absurd first
 first_only keeper number (e ∷ es) first = (e.1, ap (λ k. (k, e.1) ∷ []) first.0, grind arith)
-
-pub put_only : (keeper : ℕ) (old new : Block) → with_block ((keeper, old) ∷ []) keeper new ≡ (keeper, new) ∷ []
-put_only keeper old new = grind arith
 
 -- a context without blocks has nothing
 pub Moves-nothing : (l : Layout) (account context : ℕ) → l.blocks ≡ [] → account ≡ l.account → context ≡ l.context → (s : Space) → Agrees (footprint l) s → Moves (footprint l) (nothing account context) s s

@@ -22,9 +22,6 @@ counted_at : (at : Addr) (chunk : Chunk) (es : List (Addr × Chunk)) → lookup 
 counted_at at chunk [] found = absurd (cc)
 counted_at at chunk (e ∷ es) found = grind (arith, sum_by-cons (is_in at.region) e es, counted_at at chunk es)
 
-pub counted_some : (l : Layout) (at : Addr) (chunk : Chunk) → chunk_at l at ≡ Some chunk → 1 ≤ count_in l at.region
-counted_some l at chunk found = counted_at at chunk l.chunks found
-
 -- what the count gains where a chunk is put
 pub count-put : (number : ℕ) (at : Addr) (chunk : Chunk) (es : List (Addr × Chunk)) → sum_by (is_in number) (insert_entry same_addr es at chunk) + (if is_some (lookup (same_addr at) es) then one_in number at.region else 0) ≡ sum_by (is_in number) es + one_in number at.region
 count-put number at chunk [] = omega (arith, sum_by-cons (is_in number) (at, chunk) [])
@@ -33,7 +30,7 @@ count-put number at chunk (e ∷ es) =
 
 -- a block that counts no live chunk has none, and one with a chunk counts some
 pub some_in : (l : Layout) → IsCounted l → (at : Addr) (chunk : Chunk) (block : Block) → chunk_at l at ≡ Some chunk → block_at l at.region ≡ Some block → 1 ≤ block.live
-some_in l counted at chunk block found owned = omega (arith, counted at.region block owned, counted_some l at chunk found)
+some_in l counted at chunk block found owned = omega (arith, counted at.region block owned, counted_at at chunk l.chunks found)
 
 pub none_in : (l : Layout) → IsCounted l → (number : ℕ) (block : Block) (at : Addr) → block_at l number ≡ Some block → block.live ≡ 0 → at.region ≡ number → chunk_at l at ≡ None
 none_in l counted number block at owned none region =

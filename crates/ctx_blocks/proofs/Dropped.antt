@@ -5,7 +5,7 @@ use Rattle.addr_space.specs.declared.Addr.{Addr}
 use Rattle.addr_space.specs.Space.{Space, IsRegion, Changes, region_at, share, held}
 use Rattle.addr_space.specs.Footprint.{Agrees, Moves, Keeps}
 use Rattle.ctx_blocks.specs.Layout.{Layout, block_at, chunk_at, total, footprint}
-use Rattle.ctx_blocks.specs.Kept.{IsLaid, IsCounted}
+use Rattle.ctx_blocks.specs.Kept.{IsLaid}
 use Rattle.ctx_blocks.specs.Steps.{SameContext}
 use Rattle.ctx_blocks.specs.declared.parts.Block.{Block}
 use Rattle.chunk_header.proofs.Wrote.{Moves-gone, Keeps-give}
@@ -18,9 +18,6 @@ IsRegion-owned l s number block agrees owned = record { live = rw (agrees.region
 
 module _ (l m : Layout) (laid : IsLaid l) (same : SameContext l m) (chunks : m.chunks ≡ l.chunks) (number : ℕ) (old : Block) (owned : block_at l number ≡ Some old) (empty : (at : Addr) → at.region ≡ number → chunk_at l at ≡ None)
     (blocks : (other : ℕ) → block_at m other ≡ (if number == other then None else block_at l other)) where
-  was_there : (other : ℕ) (b : Block) → block_at m other ≡ Some b → block_at l other ≡ Some b
-  was_there other b has = grind (arith, blocks other)
-
   others_now : (other : ℕ) → other ≢ number → block_at m other ≡ block_at l other
   others_now other differs = grind (arith, blocks other)
 
@@ -28,19 +25,14 @@ module _ (l m : Layout) (laid : IsLaid l) (same : SameContext l m) (chunks : m.c
   Lessens-dropped = record {
     same = same;
     chunk = λ at c found. let had = rw chunks at found in (c, had, refl, refl, (laid.placed at c had).sized.fits);
-    block = λ other b has. let had = was_there other b has in (b, had, refl, laid.filled other b had);
-    under = λ at c found.
-        let had = rw chunks at found in
-        let placed = laid.placed at c had in
-        let differs : at.region ≢ number = λ e. let none = empty at e in absurd (cc) in
-        (placed.block, placed.block, placed.owned, others_now at.region differs ∙ placed.owned, omega arith);
+    block = λ other b has. let had : block_at l other ≡ Some b = grind (arith, blocks other) in (b, had, refl, laid.filled other b had);
+    under = λ at c found w is.
+        let differs : at.region ≢ number = λ e. let none = empty at e in let had = rw chunks at found in absurd (cc) in
+        (w, others_now at.region differs ∙ is, refl, omega arith);
   }
 
   gone : (footprint m).region number ≡ None
   gone = rw (blocks number) (grind arith)
-
-  pub IsCounted-dropped : IsCounted l → IsCounted m
-  IsCounted-dropped counted other b has = rw chunks (counted other b (was_there other b has))
 
   pub Moves-dropped : (s t : Space) → Agrees (footprint l) s → total m + old.size ≡ total l → Changes s t number None → ((account : ℕ) → held t account + share account (region_at s number) ≡ held s account) → Moves (footprint l) (footprint m) s t
   Moves-dropped s t agrees totals changes holds =

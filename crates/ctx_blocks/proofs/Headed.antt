@@ -1,27 +1,18 @@
 -- Lemmas on the headers by which live chunks lead to their context.
-use Rattle.std.proofs.Common.{◌≡◌, ℕ, ◌+◌, ◌-◌, ◌%◌, ◌^◌, ◌<◌, ◌⊎◌, if◌then◌else◌, Bool, true, false, refl, ap, ◌∙◌, arith, inl, inr, Some}
+use Rattle.std.proofs.Common.{◌≡◌, ℕ, ◌+◌, ◌-◌, ◌%◌, ◌^◌, ◌<◌, ◌⊎◌, true, false, refl, ap, ◌∙◌, arith, inl, inr, Some}
 use Rattle.addr_space.specs.declared.Addr.{Addr}
 use Rattle.chunk_header.specs.declared.Kind.{Kind}
 use Rattle.chunk_header.specs.declared.Kind.TheVariants.{Slab, Generation}
-use Rattle.chunk_header.specs.Header.{IsPackable, IsLeading, IsHeaded, AllHeaded, AllOfKind, space_of, TakesSpace}
-use Rattle.ctx_blocks.specs.Layout.{Layout, start_of, gap_of, header_room, header_of, footprint, chunk_at, block_at}
-use Rattle.ctx_blocks.specs.Kept.{IsLaid, IsSized}
+use Rattle.chunk_header.specs.Header.{IsLeading, IsHeaded, AllHeaded, AllOfKind, space_of, TakesSpace}
+use Rattle.ctx_blocks.specs.Layout.{Layout, start_of, gap_of, header_of, footprint, chunk_at, block_at}
+use Rattle.ctx_blocks.specs.Kept.{IsLaid}
 use Rattle.ctx_blocks.specs.declared.parts.Chunk.{Chunk}
 use Rattle.ctx_blocks.proofs.Laid.{from_live, mark_from_block, mark_from_chunk}
 use Rattle.ctx_blocks.specs.declared.parts.Block.{Block}
 use Rattle.addr_space.proofs.Options.{one_value}
 
--- the value of a header has room in its word
-value_small : (own : Bool) (room : ℕ) → (own ≡ true) ⊎ (room < 2 ^ 30) → (if own then 0 else room) < 2 ^ 30
-value_small true room fits = omega arith
-value_small false room (inl clash) = absurd (cc)
-value_small false room (inr fits) = fits
-
 pub start_whole : (l : Layout) (number : ℕ) → start_of l number % 8 ≡ 0
 start_whole l number = grind arith
-
-pub packable : (kind : Kind) (gap dist : ℕ) (chunk : Chunk) → IsSized gap chunk → dist < 2 ^ 32 → dist % 8 ≡ 0 → IsPackable (header_of kind chunk dist)
-packable kind gap dist chunk sized below whole = record { value = value_small chunk.own chunk.room sized.value; dist = below; whole = whole }
 
 pub leading : (kind : Kind) (chunk : Chunk) (dist : ℕ) → (kind ≡ Slab) ⊎ (kind ≡ Generation) → (gap_of kind ≡ 8) × IsLeading (header_of kind chunk dist)
 leading kind chunk dist (inl slab) = rw slab (refl, tt)
@@ -50,7 +41,11 @@ module _ (l : Layout) (laid : IsLaid l) (is : (l.kind ≡ Slab) ⊎ (l.kind ≡ 
       record {
         header = header_of l.kind chunk dist;
         size = placed.block.size;
-        packable = packable l.kind (header_room l) dist chunk placed.sized (omega (arith, placed.last, filled.small)) (omega (arith, placed.first, leads.0, placed.whole, start_whole l at.region));
+        packable = record {
+          value = let value = placed.sized.value in grind (arith, value);
+          dist = omega (arith, placed.last, filled.small);
+          whole = omega (arith, placed.first, leads.0, placed.whole, start_whole l at.region);
+        };
         leading = leads.1;
         behind = omega (arith, placed.first, leads.0);
         large = omega (arith, placed.first, leads.0, placed.last);

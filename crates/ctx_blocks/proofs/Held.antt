@@ -7,8 +7,8 @@ use Rattle.addr_space.specs.Footprint.{Agrees, Moves, Keeps}
 use Rattle.addr_space.proofs.Addresses.{same_addr_from, same_addr-cases}
 use Rattle.addr_space.proofs.Steps.{Moves-still}
 use Rattle.chunk_header.specs.Header.{header_bytes}
-use Rattle.ctx_blocks.specs.Layout.{Layout, block_at, chunk_at, start_of, header_room, header_of, total, count_in, mark_of, footprint}
-use Rattle.ctx_blocks.specs.Kept.{IsLaid, IsPlaced, IsCounted}
+use Rattle.ctx_blocks.specs.Layout.{Layout, block_at, chunk_at, start_of, header_room, header_of, total, mark_of, footprint}
+use Rattle.ctx_blocks.specs.Kept.{IsLaid, IsPlaced}
 use Rattle.ctx_blocks.specs.Steps.{SameContext, PutsChunk}
 use Rattle.ctx_blocks.specs.Held.{Holds, IsWritten}
 use Rattle.ctx_blocks.specs.declared.parts.Block.{Block}
@@ -17,21 +17,15 @@ use Rattle.addr_space.proofs.Options.{option_cases, one_value}
 use Rattle.chunk_header.proofs.Words.{length-header_bytes}
 use Rattle.chunk_header.proofs.Wrote.{Moves-written, Keeps-written}
 use Rattle.ctx_blocks.proofs.Laid.{mark_cases, mark_within, from_live, region_is, behind, IsSound-laid}
-use Rattle.ctx_blocks.proofs.Counts.{one_in}
-use Rattle.ctx_blocks.proofs.Put.{block_was, chunk_was, IsCounted-put, regions-put, sizes-put}
-use Rattle.ctx_blocks.proofs.Lessened.{start_same, gap_same, placed_same, mark_same}
+use Rattle.ctx_blocks.proofs.Put.{block_was, chunk_was, regions-put, sizes-put}
+use Rattle.ctx_blocks.proofs.Lessened.{start_same, gap_same, placed_again, mark_same}
 
 -- no chunk is where one can be noted
 pub place_free : (l : Layout) (at : Addr) (chunk : Chunk) (block : Block) → IsLaid l → Holds l at chunk block → chunk_at l at ≡ None
-place_free l at chunk block laid holds =
-    elim (option_cases (chunk_at l at)) [
-      | inl none ↦ none
-      | inr some ↦
-          let old = (laid.placed at some.0 some.1).sized.some in
-          let new = holds.sized.some in
-          let clear = holds.clear at some.0 some.1 refl in
-          absurd (grind arith)
-    ]
+place_free l at chunk block laid holds = elim (option_cases (chunk_at l at)) [
+  | inl none ↦ none
+  | inr some ↦ absurd (grind (arith, (laid.placed at some.0 some.1).sized.some, holds.sized.some, holds.clear at some.0 some.1 refl))
+]
 
 -- its header has a place in the space
 pub IsWritten-held : (l : Layout) (s : Space) (at : Addr) (chunk : Chunk) (block : Block) → Agrees (footprint l) s → Holds l at chunk block → IsWritten l s at chunk
@@ -55,16 +49,9 @@ module _ (l m : Layout) (at : Addr) (chunk : Chunk) (block : Block) (laid : IsLa
       let was = laid.placed other c found in
       elim (cases_eq other.region at.region) [
         | inl here ↦
-            let it : was.block ≡ holds.old = one_value (block_at l other.region) was.block holds.old was.owned (rw here holds.owned) in
-            record {
-              block = block;
-              owned = grind (arith, blocks other.region);
-              first = omega (arith, was.first, start_same l m same other.region, gap_same l m same);
-              last = omega (arith, was.last, ap (λ (b : Block). b.size) it, ap (λ (b : Block). b.room) it, holds.size, holds.less);
-              whole = was.whole;
-              sized = rw same.kind was.sized;
-            }
-        | inr there ↦ placed_same l m same other c was (grind (arith, blocks other.region, was.owned))
+            let it : holds.old ≡ was.block = one_value (block_at l other.region) holds.old was.block (rw here holds.owned) was.owned in
+            placed_again l m same other c c was block (grind (arith, blocks other.region)) (rw (← it) holds.size) (rw (← it) holds.less) refl refl was.sized.fits
+        | inr there ↦ placed_again l m same other c c was was.block (grind (arith, blocks other.region, was.owned)) refl (omega arith) refl refl was.sized.fits
       ]
 
   placed_new : IsPlaced m at chunk
@@ -92,21 +79,10 @@ module _ (l m : Layout) (at : Addr) (chunk : Chunk) (block : Block) (laid : IsLa
         ];
     apart = λ a b first second at_a at_b region below.
         let gap = gap_same l m same in
-        elim (chunk_was l m at chunk chunks a first at_a) [
-          | inl new_a ↦ elim (chunk_was l m at chunk chunks b second at_b) [
-            | inl new_b ↦ absurd (omega (arith, below, ap (λ (x : Addr). x.offset) (new_a.0 ∙ sym new_b.0)))
-            | inr old_b ↦ grind (arith, holds.clear b second old_b.1)
-          ]
-          | inr old_a ↦ elim (chunk_was l m at chunk chunks b second at_b) [
-            | inl new_b ↦ grind (arith, holds.clear a first old_a.1)
-            | inr old_b ↦ omega (arith, laid.apart a b first second old_a.1 old_b.1 region below, gap)
-          ]
-        ];
+        let was_a = chunk_was l m at chunk chunks a first at_a in
+        let was_b = chunk_was l m at chunk chunks b second at_b in
+        grind (arith, was_a, was_b, holds.clear a first, holds.clear b second, laid.apart a b first second, gap);
   }
-
-  pub IsCounted-held : IsCounted l → ((number : ℕ) → count_in m number ≡ count_in l number + one_in number at.region) → IsCounted m
-  IsCounted-held counted counts =
-      IsCounted-put l m at.region block blocks counted (grind (arith, counts at.region, counted at.region holds.old holds.owned, holds.live)) (λ other differs. grind (arith, counts other))
 
   -- the marks are the old ones and that of the chunk
   marks_now : (b : Addr) (bytes : List ℕ) → mark_of m b ≡ Some bytes
@@ -126,10 +102,7 @@ module _ (l m : Layout) (at : Addr) (chunk : Chunk) (block : Block) (laid : IsLa
             ]
         | inr old ↦
             inr (mark_same l m same b bytes (sizes-put l m at.region block blocks holds.old holds.owned holds.size b.region)
-            (λ c found. elim (chunk_was l m at chunk chunks (behind b) c found) [
-              | inl it ↦ absurd (old.0 it.0)
-              | inr it ↦ (c, it.1, refl, refl)
-            ]) marked)
+            (λ c found. (c, grind (arith, chunks (behind b)), refl, refl)) marked)
       ]
 
   regions_held : (other : ℕ) → (footprint m).region other ≡ (footprint l).region other

@@ -1,6 +1,6 @@
 -- Lemmas on where blocks and chunks are.
 use Rattle.std.proofs.Common.{◌≡◌, ◌≢◌, ℕ, ◌+◌, ◌-◌, ◌≤◌, ◌⊎◌, List, length, Option, Some, None, refl, sym, ap, ◌∙◌, arith, inl, inr, option_map}
-use Rattle.std.proofs.lemmas.Bool.{cases_eq, cases_lt}
+use Rattle.std.proofs.lemmas.Bool.{cases_eq}
 use Rattle.addr_space.specs.declared.Addr.{Addr}
 use Rattle.addr_space.specs.Footprint.{IsSound}
 use Rattle.chunk_header.specs.declared.Kind.{Kind}
@@ -39,22 +39,13 @@ gap_cases Bump = inl refl
 gap_cases kind = inr refl
 
 -- and a chunk has one where it has 8 bytes
-has_word : (kind : Kind) (chunk : Chunk) (dist : ℕ) → (chunk_word kind chunk dist ≡ None) ⊎ ((gap_of kind ≡ 8) × (chunk_word kind chunk dist ≡ Some (header_bytes (header_of kind chunk dist))))
-has_word Bump chunk dist = inl refl
-has_word kind chunk dist = inr (refl, refl)
-
 word_cases : (kind : Kind) (chunk : Chunk) (dist : ℕ) (bytes : List ℕ) → chunk_word kind chunk dist ≡ Some bytes → (gap_of kind ≡ 8) × (header_bytes (header_of kind chunk dist) ≡ bytes)
-word_cases kind chunk dist bytes e = elim (has_word kind chunk dist) [
-  | inl none ↦ absurd (cc)
-  | inr some ↦ (some.0, cc)
-]
+word_cases Bump chunk dist bytes e = absurd (cc)
+word_cases kind chunk dist bytes e = (refl, let it : Some (header_bytes (header_of kind chunk dist)) ≡ Some bytes = e in cc)
 
 word_is : (kind : Kind) (chunk : Chunk) (dist : ℕ) → gap_of kind ≡ 8 → chunk_word kind chunk dist ≡ Some (header_bytes (header_of kind chunk dist))
 word_is Bump chunk dist e = absurd (omega (arith, e))
 word_is kind chunk dist e = refl
-
-block_word_cases : (context start : ℕ) (block : Block) (bytes : List ℕ) → block_word context start block ≡ Some bytes → (start + 40 ≤ block.size) × (block_bytes context block.size ≡ bytes)
-block_word_cases context start block bytes e = grind arith
 
 -- where the chunk is whose header is at a place
 abbrev pub behind : Addr → Addr
@@ -69,7 +60,7 @@ mark_cases l at bytes marked =
     elim (cases_eq at.offset (start_of l at.region)) [
       | inl same ↦
           let it = from_then (block_word l.context (start_of l at.region)) (block_at l at.region) bytes (grind (arith, marked, same)) in
-          let word = block_word_cases l.context (start_of l at.region) it.0 bytes it.2 in
+          let word : (start_of l at.region + 40 ≤ it.0.size) × (block_bytes l.context it.0.size ≡ bytes) = let is = it.2 in grind arith in
           inl (it.0, same, it.1, word.0, word.1)
       | inr differs ↦
           let it = from_then (λ (chunk : Chunk). chunk_word l.kind chunk (at.offset - start_of l at.region)) (chunk_at l (behind at)) bytes (grind (arith, marked, differs)) in
@@ -90,13 +81,8 @@ module _ (l : Layout) (laid : IsLaid l) where
   -- chunks at two addresses have place for a header between them
   pub chunks_clear : (a b : Addr) (first second : Chunk) → chunk_at l a ≡ Some first → chunk_at l b ≡ Some second → a ≢ b → IsClear (header_room l) a first b second
   chunks_clear a b first second at_a at_b differ region =
-      elim (cases_lt a.offset b.offset) [
-        | inl below ↦ inl (laid.apart a b first second at_a at_b region below)
-        | inr above ↦ elim (cases_eq a.offset b.offset) [
-          | inl same ↦ absurd (differ (same_addr_from a b region same))
-          | inr other ↦ inr (laid.apart b a second first at_b at_a (sym region) (omega arith))
-        ]
-      ]
+      let same = same_addr_from a b region in
+      grind (arith, laid.apart a b first second at_a at_b, laid.apart b a second first at_b at_a, same)
 
   -- a mark is in its block
   pub mark_within : (at : Addr) (bytes : List ℕ) → mark_of l at ≡ Some bytes → (block : Block) × (block_at l at.region ≡ Some block) × (at.offset + 8 + block.room ≤ block.size) × (length bytes ≡ 8)
@@ -116,10 +102,7 @@ module _ (l : Layout) (laid : IsLaid l) where
       let len = (mark_within b bytes marked).3 in
       elim (mark_cases l b bytes marked) [
         | inl block ↦ inr (omega (arith, placed.first, ap (start_of l) region, block.1))
-        | inr other ↦ elim (cases_lt a.offset (b.offset + 8)) [
-          | inl below ↦ inl (omega (arith, laid.apart a (behind b) chunk other.0 found other.2 region below, other.3))
-          | inr above ↦ inr (omega arith)
-        ]
+        | inr other ↦ grind (arith, laid.apart a (behind b) chunk other.0 found other.2 region, other.3)
       ]
 
   -- the footprint is sound
@@ -136,20 +119,11 @@ module _ (l : Layout) (laid : IsLaid l) where
     live_apart = λ a b m n live_a live_b differ region.
         let first = from_live l a m live_a in
         let second = from_live l b n live_b in
-        let le_first = (laid.placed a first.0 first.1).sized.fits in
-        let le_second = (laid.placed b second.0 second.1).sized.fits in
-        elim (chunks_clear a b first.0 second.0 first.1 second.1 differ region) [
-          | inl below ↦ inl (omega (arith, first.2))
-          | inr above ↦ inr (omega (arith, second.2))
-        ];
+        grind (arith, chunks_clear a b first.0 second.0 first.1 second.1 differ region, (laid.placed a first.0 first.1).sized.fits, (laid.placed b second.0 second.1).sized.fits, first.2, second.2);
     free_apart = λ a b m n live free region. absurd (cc);
     mark_apart = λ a b m bytes live marked region.
         let first = from_live l a m live in
-        let le_first = (laid.placed a first.0 first.1).sized.fits in
-        elim (mark_apart a b first.0 bytes first.1 marked region) [
-          | inl below ↦ inl (omega (arith, first.2))
-          | inr above ↦ inr (omega arith)
-        ];
+        grind (arith, mark_apart a b first.0 bytes first.1 marked region, (laid.placed a first.0 first.1).sized.fits, first.2);
     live_behind = λ at n live.
         let it = from_live l at n live in
         omega (arith, (laid.placed at it.0 it.1).first, front_of-le (start_of l at.region) (block_at l at.region));

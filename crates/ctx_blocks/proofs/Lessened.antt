@@ -1,14 +1,18 @@
--- Lemmas on steps after which a context has no more chunks and blocks than before.
+-- Lemmas on steps after which a context has no more chunks and blocks than before; so it is where a block becomes another
+-- one of its size, while chunks stay or are forgotten, and where a chunk has another size.
 use Rattle.std.proofs.Common.{◌≡◌, ℕ, ◌-◌, ◌≤◌, ◌==◌, if◌then◌else◌, List, Some, refl, sym, ap, ◌∙◌, arith, inl, inr}
+use Rattle.std.proofs.lemmas.Bool.{cases_eq}
 use Rattle.addr_space.specs.declared.Addr.{Addr}
+use Rattle.addr_space.proofs.Options.{one_value}
 use Rattle.addr_space.proofs.Steps.{Moves-still}
 use Rattle.chunk_header.specs.Header.{header_bytes}
 use Rattle.ctx_blocks.specs.Layout.{Layout, block_at, chunk_at, start_of, gap_of, header_room, header_of, whole_of, total, mark_of, footprint}
 use Rattle.ctx_blocks.specs.Kept.{IsFilled, IsLaid, IsPlaced}
-use Rattle.ctx_blocks.specs.Steps.{SameContext, MovesStill}
+use Rattle.ctx_blocks.specs.Steps.{SameContext, PutsChunk, MovesStill}
 use Rattle.ctx_blocks.specs.declared.parts.Block.{Block}
 use Rattle.ctx_blocks.specs.declared.parts.Chunk.{Chunk}
-use Rattle.addr_space.proofs.Options.{one_value}
+use Rattle.ctx_blocks.proofs.Put.{block_was, chunk_was}
+use Rattle.ctx_blocks.proofs.Headed.{start_whole}
 use Rattle.ctx_blocks.proofs.Laid.{mark_cases, mark_from_block, mark_from_chunk, behind, IsSound-laid}
 
 -- each chunk and each block was there, with the same bytes; a block in which chunks are has no more room
@@ -16,7 +20,7 @@ pub record Lessens (l m : Layout) : Type 0 where
   pub same : SameContext l m
   pub chunk : (at : Addr) (c : Chunk) → chunk_at m at ≡ Some c → (w : Chunk) × (chunk_at l at ≡ Some w) × (w.room ≡ c.room) × (w.own ≡ c.own) × (c.size ≤ c.room)
   pub block : (number : ℕ) (b : Block) → block_at m number ≡ Some b → (w : Block) × (block_at l number ≡ Some w) × (w.size ≡ b.size) × IsFilled (whole_of l number b.size) b
-  pub under : (at : Addr) (c : Chunk) → chunk_at m at ≡ Some c → (w : Block) × (b : Block) × (block_at l at.region ≡ Some w) × (block_at m at.region ≡ Some b) × (b.room ≤ w.room)
+  pub under : (at : Addr) (c : Chunk) → chunk_at m at ≡ Some c → (w : Block) → block_at l at.region ≡ Some w → (b : Block) × (block_at m at.region ≡ Some b) × (b.size ≡ w.size) × (b.room ≤ w.room)
 
 module _ (l m : Layout) (same : SameContext l m) where
   -- the start of a block and the bytes of a header stay
@@ -26,15 +30,15 @@ module _ (l m : Layout) (same : SameContext l m) where
   pub gap_same : header_room m ≡ header_room l
   gap_same = ap gap_of same.kind
 
-  -- a chunk whose block stays is where it was
-  pub placed_same : (at : Addr) (c : Chunk) (was : IsPlaced l at c) → block_at m at.region ≡ Some was.block → IsPlaced m at c
-  placed_same at c was owned = record {
-    block = was.block;
+  -- a chunk is in its block, where that has its bytes and no more room than before
+  pub placed_again : (at : Addr) (w c : Chunk) (was : IsPlaced l at w) (b : Block) → block_at m at.region ≡ Some b → b.size ≡ was.block.size → b.room ≤ was.block.room → w.room ≡ c.room → w.own ≡ c.own → c.size ≤ c.room → IsPlaced m at c
+  placed_again at w c was b owned size less room own fits = record {
+    block = b;
     owned = owned;
     first = omega (arith, was.first, start_same at.region, gap_same);
-    last = was.last;
+    last = omega (arith, was.last, size, less, room);
     whole = was.whole;
-    sized = rw same.kind was.sized;
+    sized = record { some = omega (arith, was.sized.some, gap_same, room); fits = fits; value = let value = was.sized.value in grind (arith, room, own) };
   }
 
   -- a mark was one, where its block was there with its size, or its chunk with its room
@@ -56,32 +60,18 @@ module _ (l m : Layout) (same : SameContext l m) where
 
 module _ (l m : Layout) (laid : IsLaid l) (less : Lessens l m) where
   pub IsLaid-lessened : IsLaid m
-  IsLaid-lessened =
-      let gap = gap_same l m less.same in
-      record {
-        filled = λ number b owned. rw less.same.keeper ((less.block number b owned).3);
-        placed = λ at c found.
-            let it = less.chunk at c found in
-            let under = less.under at c found in
-            let was = laid.placed at it.0 it.1 in
-            let one : was.block ≡ under.0 = one_value (block_at l at.region) was.block under.0 was.owned under.2 in
-            let block = less.block at.region under.1 under.3 in
-            let two : block.0 ≡ under.0 = one_value (block_at l at.region) block.0 under.0 block.1 under.2 in
-            let size : was.block.size ≡ under.1.size = ap (λ (b : Block). b.size) (one ∙ sym two) ∙ block.2 in
-            let room : was.block.room ≡ under.0.room = ap (λ (b : Block). b.room) one in
-            record {
-              block = under.1;
-              owned = under.3;
-              first = omega (arith, was.first, start_same l m less.same at.region, gap);
-              last = omega (arith, was.last, size, room, under.4, it.2);
-              whole = was.whole;
-              sized = record { some = omega (arith, was.sized.some, gap, it.2); fits = it.4; value = let value = was.sized.value in grind (arith, it.2, it.3) };
-            };
-        apart = λ a b first second at_a at_b region below.
-            let one = less.chunk a first at_a in
-            let two = less.chunk b second at_b in
-            omega (arith, laid.apart a b one.0 two.0 one.1 two.1 region below, one.2, gap);
-      }
+  IsLaid-lessened = record {
+    filled = λ number b owned. rw less.same.keeper ((less.block number b owned).3);
+    placed = λ at c found.
+        let it = less.chunk at c found in
+        let was = laid.placed at it.0 it.1 in
+        let now = less.under at c found was.block was.owned in
+        placed_again l m less.same at it.0 c was now.0 now.1 now.2 now.3 it.2 it.3 it.4;
+    apart = λ a b first second at_a at_b region below.
+        let one = less.chunk a first at_a in
+        let two = less.chunk b second at_b in
+        omega (arith, laid.apart a b one.0 two.0 one.1 two.1 region below, one.2, gap_same l m less.same);
+  }
 
   -- each mark was one
   pub mark-lessened : (at : Addr) (bytes : List ℕ) → mark_of m at ≡ Some bytes → mark_of l at ≡ Some bytes
@@ -93,3 +83,45 @@ module _ (l m : Layout) (laid : IsLaid l) (less : Lessens l m) where
   MovesStill-lessened regions totals s agrees =
       Moves-still (footprint l) (footprint m) s agrees (IsSound-laid m IsLaid-lessened) less.same.account less.same.context totals regions
       (λ at bytes marked. agrees.marks at bytes (mark-lessened at bytes marked))
+
+-- the whole room of a block without chunks
+pub IsFilled-whole : (l : Layout) (number k room : ℕ) (old : Block) → IsFilled (whole_of l number old.size) old → room ≡ whole_of l number old.size → IsFilled (whole_of l number old.size) (record { number = k; size = old.size; room = room; live = 0; freed = 0 })
+IsFilled-whole l number k room old filled is = record {
+  small = filled.small;
+  even = omega (arith, filled.even, filled.within, is, start_whole l number);
+  within = omega (arith, is);
+}
+
+-- a block becomes another one: that has no more room where a chunk of it is left
+pub Lessens-put : (l m : Layout) → IsLaid l → SameContext l m → (number : ℕ) (old new : Block) → block_at l number ≡ Some old → new.size ≡ old.size → IsFilled (whole_of l number new.size) new
+    → ((other : ℕ) → block_at m other ≡ (if number == other then Some new else block_at l other))
+    → ((at : Addr) (c : Chunk) → chunk_at m at ≡ Some c → (chunk_at l at ≡ Some c) × (at.region ≡ number → new.room ≤ old.room))
+    → Lessens l m
+Lessens-put l m laid same number old new owned size filled blocks chunks = record {
+  same = same;
+  chunk = λ at c found. let had = (chunks at c found).0 in (c, had, refl, refl, (laid.placed at c had).sized.fits);
+  block = λ other b has.
+      elim (block_was l m number new blocks other b has) [
+        | inl here ↦ rw (here.0, here.1) (old, owned, sym size, filled)
+        | inr there ↦ (b, there.1, refl, laid.filled other b there.1)
+      ];
+  under = λ at c found w is.
+      elim (cases_eq number at.region) [
+        | inl here ↦
+            let it : old ≡ w = one_value (block_at l number) old w owned (rw here is) in
+            (new, grind (arith, blocks at.region), rw (← it) size, rw (← it) ((chunks at c found).1 (sym here)))
+        | inr there ↦ (w, grind (arith, blocks at.region), refl, omega arith)
+      ];
+}
+
+-- the size of a chunk becomes another one
+pub Lessens-sized : (l m : Layout) → IsLaid l → SameContext l m → m.blocks ≡ l.blocks → (at : Addr) (old new : Chunk) → chunk_at l at ≡ Some old → old.room ≡ new.room → old.own ≡ new.own → new.size ≤ new.room → PutsChunk l m at (Some new) → Lessens l m
+Lessens-sized l m laid same blocks at old new was room own fits chunks = record {
+  same = same;
+  chunk = λ other c found. elim (chunk_was l m at new chunks other c found) [
+    | inl here ↦ rw (here.0, here.1) (old, was, room, own, fits)
+    | inr there ↦ (c, there.1, refl, refl, (laid.placed other c there.1).sized.fits)
+  ];
+  block = λ number b has. let had = rw blocks at has in (b, had, refl, laid.filled number b had);
+  under = λ other c found w is. (w, rw blocks is, refl, omega arith);
+}

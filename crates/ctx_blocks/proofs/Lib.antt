@@ -6,10 +6,7 @@ pub mod Headed
 pub mod New
 pub mod Lessened
 pub mod Totals
-pub mod Refilled
-pub mod Spared
 pub mod Held
-pub mod Cuts
 pub mod Added
 pub mod Dropped
 pub mod Cleared
@@ -20,4 +17,4 @@ pub mod Viewed
 pub mod Among
 pub mod Places
 pub mod Put
-pub mod Keeps
+pub mod Rows

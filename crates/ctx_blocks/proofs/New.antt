@@ -13,7 +13,7 @@ use Rattle.chunk_header.proofs.Wrote.{Moves-taken}
 use Rattle.ctx_blocks.specs.Layout.{Layout, block_at, start_of, total, footprint}
 use Rattle.std.specs.List.{IsDistinct}
 use Rattle.ctx_blocks.specs.Order.{in_order}
-use Rattle.ctx_blocks.specs.Kept.{layout_of, IsFilled, IsLaid, IsCounted, IsKept}
+use Rattle.ctx_blocks.specs.Kept.{layout_of, IsFilled, IsLaid, IsKept}
 use Rattle.ctx_blocks.specs.declared.parts.Block.{Block}
 use Rattle.ctx_blocks.specs.declared.books.Books.{Books}
 use Rattle.ctx_blocks.proofs.Laid.{mark_cases, region_is, IsSound-laid}
@@ -32,9 +32,6 @@ module _ (l : Layout) (block : Block) (blocks : l.blocks ≡ (l.keeper, block) �
 
   pub total_one : total l ≡ block.size
   total_one = rw blocks (omega (arith, sum_by-cons (λ (b : Block). b.size) block []))
-
-  IsCounted-new : block.live ≡ 0 → IsCounted l
-  IsCounted-new none number it owned = let is = only_keeper number it owned in rw (is.1, chunks) none
 
   module _ (filled : IsFilled (block.size - 200 - 40) block) where
     pub IsLaid-new : IsLaid l
@@ -81,7 +78,7 @@ pub IsKept-new : (n : Books) (block : Block) → n.blocks.entries ≡ (n.keeper,
 unfolding IsDistinct
 IsKept-new n block blocks chunks filled none number last totals = record {
   laid = IsLaid-new (layout_of n) block (ap in_order blocks) chunks filled;
-  counted = IsCounted-new (layout_of n) block (ap in_order blocks) chunks none;
+  counted = λ number it owned. let is = only_keeper (layout_of n) block (ap in_order blocks) chunks number it owned in rw (is.1, chunks) none;
   first = rw blocks (refl, number);
   numbered = rw blocks (omega arith, omega arith, tt);
   total = totals ∙ sym (total_one (layout_of n) block (ap in_order blocks) chunks);

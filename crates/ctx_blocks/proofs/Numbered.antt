@@ -19,14 +19,10 @@ rising_below : (least lower most : ℕ) (es : Entries) → lower ≤ least → A
 rising_below least lower most [] less h = h
 rising_below least lower most (e ∷ es) less h = grind (arith)
 
--- a block's number is at least the least one, and at most the greatest one
+-- a block's number is at least the least one
 pub rising_above : (least most region : ℕ) (es : Entries) (block : Block) → AreRising least most es → at_region region es ≡ Some block → least ≤ block.number
 rising_above least most region [] block h is = absurd (cc)
 rising_above least most region (e ∷ es) block h is = grind (arith, rising_above (e.1.number + 1) most region es block h.2)
-
-pub rising_upto : (least most region : ℕ) (es : Entries) (block : Block) → AreRising least most es → at_region region es ≡ Some block → block.number ≤ most
-rising_upto least most region [] block h is = absurd (cc)
-rising_upto least most region (e ∷ es) block h is = grind (arith, rising_upto (e.1.number + 1) most region es block h.2)
 
 -- the first block's number is at most the greatest one
 pub first_upto : (keeper number most : ℕ) (es : Entries) → IsFirst keeper number es → AreRising number most es → number ≤ most

@@ -63,11 +63,3 @@ total-dropped l m number old blocks was = rw blocks (sum-dropped (λ b. b.size) 
 pub IsFirst-put : (keeper first : ℕ) (blocks : List (ℕ × Block)) (number : ℕ) (block : Block) → ((old : Block) → lookup (λ n. number == n) blocks ≡ Some old → block.number ≡ old.number) → IsFirst keeper first blocks → IsFirst keeper first (with_block blocks number block)
 IsFirst-put keeper first [] number block same is = absurd is
 IsFirst-put keeper first (e ∷ es) number block same is = grind (arith, same e.1)
-
--- it is a block of the context
-first_owned : (keeper number : ℕ) (es : List (ℕ × Block)) → IsFirst keeper number es → (b : Block) × (lookup (λ n. keeper == n) es ≡ Some b) × (b.number ≡ number)
-first_owned keeper number [] is = absurd is
-first_owned keeper number (e ∷ es) is = (e.1, grind arith, is.1)
-
-pub keeper_owned : (l : Layout) → IsFirst l.keeper l.first_number l.blocks → (b : Block) × (block_at l l.keeper ≡ Some b) × (b.number ≡ l.first_number)
-keeper_owned l first = first_owned l.keeper l.first_number l.blocks first

@@ -1,16 +1,18 @@
--- Lemmas on what a layout shows of the blocks as they are kept.
+-- Lemmas on what a layout shows of the blocks as they are kept, and on what is kept once a block is another one.
 use Rattle.std.proofs.Common.{◌≡◌, ℕ, ◌+◌, ◌==◌, if◌then◌else◌, ◌++◌, [], ◌∷◌, Option, Some, None, ap, sym, ◌∙◌, arith, sum_by, nat_eq}
 use Rattle.std.specs.Map.{values_of}
 use Rattle.std.proofs.lemmas.List.{map-append}
 use Rattle.std.proofs.lemmas.List.Sums.{sum_by-append, sum_by-cons}
 use Rattle.indexmap.specs.IndexMap.{IsUnique}
 use Rattle.ctx_blocks.specs.Layout.{block_at, total}
-use Rattle.ctx_blocks.specs.Kept.{layout_of, IsFirst, AreRising, IsKept}
-use Rattle.ctx_blocks.specs.Steps.{PutsBlock, DropsBlock}
+use Rattle.ctx_blocks.specs.Kept.{layout_of, IsLaid, IsCounted, IsFirst, AreRising, IsKept}
+use Rattle.ctx_blocks.specs.Steps.{AreUnique, SameContext, PutsBlock, DropsBlock, with_block, without_block}
 use Rattle.ctx_blocks.specs.declared.parts.Block.{Block}
 use Rattle.ctx_blocks.specs.declared.books.Books.{Books}
-use Rattle.ctx_blocks.proofs.Numbered.{Entries, at_region, rising_put, rising_add, rising_drop, first_upto}
-use Rattle.ctx_blocks.proofs.Ordered.{AreApart-distinct, lookup-in_order, sum-in_order, in_order-with, in_order-without, first-in_order}
+use Rattle.addr_space.proofs.Options.{one_value}
+use Rattle.ctx_blocks.proofs.Totals.{total-put, IsFirst-put}
+use Rattle.ctx_blocks.proofs.Numbered.{Entries, at_region, rising_put}
+use Rattle.ctx_blocks.proofs.Ordered.{AreApart, AreApart-distinct, apart-in_order, lookup-in_order, sum-in_order, in_order-is, lookup-with, apart-with, lookup-without, apart-without, first-in_order}
 
 -- the block of a region
 pub block_view : (b : Books) → IsUnique nat_eq b.blocks → (number : ℕ) → block_at (layout_of b) number ≡ at_region number b.blocks.entries
@@ -20,41 +22,48 @@ block_view b apart number = lookup-in_order number b.blocks.entries (AreApart-di
 pub first_view : (b : Books) → IsKept b → IsFirst b.keeper b.first_number (layout_of b).blocks
 first_view b kept = first-in_order b.keeper b.first_number b.last_number b.blocks.entries (AreApart-distinct b.blocks.entries kept.apart) kept.first kept.numbered
 
-sum-last : (f : Block → ℕ) (es : Entries) (number : ℕ) (last : Block) → sum_by f (values_of (es ++ (number, last) ∷ [])) ≡ sum_by f (values_of es) + f last
-sum-last f es number last = rw map-append (omega (arith, sum_by-append f (values_of es) (last ∷ []), sum_by-cons f last []))
-
 -- the bytes without the last block
 pub total_view : (b n : Books) (number : ℕ) (old : Block) → b.blocks.entries ≡ n.blocks.entries ++ (number, old) ∷ [] → total (layout_of n) + old.size ≡ total (layout_of b)
 total_view b n number old blocks =
     let f : Block → ℕ = λ x. x.size in
-    ap (λ t. t + old.size) (sum-in_order f n.blocks.entries) ∙ sym (sum-in_order f b.blocks.entries ∙ ap (λ (es : Entries). sum_by f (values_of es)) blocks ∙ sum-last f n.blocks.entries number old)
+    let last : sum_by f (values_of (n.blocks.entries ++ (number, old) ∷ [])) ≡ sum_by f (values_of n.blocks.entries) + old.size = rw map-append (omega (arith, sum_by-append f (values_of n.blocks.entries) (old ∷ []), sum_by-cons f old [])) in
+    omega (arith, sum-in_order f n.blocks.entries, sum-in_order f b.blocks.entries, ap (λ (es : Entries). sum_by f (values_of es)) blocks, last)
 
 module _ (b n : Books) (number : ℕ) (apart : IsUnique nat_eq b.blocks) (now : IsUnique nat_eq n.blocks) where
   -- one region has another block, or none
   pub one_view : (new : Option Block) → ((other : ℕ) → at_region other n.blocks.entries ≡ (if number == other then new else at_region other b.blocks.entries)) → (other : ℕ) → block_at (layout_of n) other ≡ (if number == other then new else block_at (layout_of b) other)
   one_view new same other = block_view n now other ∙ same other ∙ ap (λ (o : Option Block). if number == other then new else o) (sym (block_view b apart other))
 
-  -- a block is another one of its number, or one with a number above all
-  pub puts_same : (old new : Block) → AreRising b.first_number b.last_number (layout_of b).blocks → ((other : ℕ) → at_region other n.blocks.entries ≡ (if number == other then Some new else at_region other b.blocks.entries)) → block_at (layout_of b) number ≡ Some old → new.number ≡ old.number
-      → PutsBlock (layout_of b) (layout_of n) number new
-  puts_same old new rising same was number_is = record {
-    blocks = in_order-with b.first_number b.last_number number b.blocks.entries n.blocks.entries (AreApart-distinct b.blocks.entries apart) (AreApart-distinct n.blocks.entries now) new (rising_put b.first_number b.last_number number (layout_of b).blocks old new rising was number_is) same;
-    at = one_view (Some new) same;
-  }
+  was_apart : AreApart (layout_of b).blocks
+  was_apart = apart-in_order b.blocks.entries (AreApart-distinct b.blocks.entries apart)
 
-  pub puts_last : (new : Block) → IsKept b → ((other : ℕ) → at_region other n.blocks.entries ≡ (if number == other then Some new else at_region other b.blocks.entries)) → block_at (layout_of b) number ≡ None → new.number ≡ b.last_number + 1
-      → PutsBlock (layout_of b) (layout_of n) number new
-  puts_last new kept same none number_is =
-      let upto = first_upto b.keeper b.first_number b.last_number (layout_of b).blocks (first_view b kept) kept.numbered in
-      record {
-        blocks = in_order-with b.first_number (b.last_number + 1) number b.blocks.entries n.blocks.entries (AreApart-distinct b.blocks.entries apart) (AreApart-distinct n.blocks.entries now) new
-            (rising_add b.first_number b.last_number number new (layout_of b).blocks none (omega (arith, upto)) number_is kept.numbered) same;
-        at = one_view (Some new) same;
-      }
+  -- the blocks that are seen then are those of a list that rises
+  seen : (least most : ℕ) (ys : Entries) → AreApart ys → AreRising least most ys → ((other : ℕ) → block_at (layout_of n) other ≡ at_region other ys) → (layout_of n).blocks ≡ ys
+  seen least most ys apart_y rising same = in_order-is least most n.blocks.entries ys (AreApart-distinct n.blocks.entries now) apart_y rising (λ other. sym (block_view n now other) ∙ same other)
 
-  -- a block goes
-  pub drops_view : AreRising b.first_number b.last_number (layout_of b).blocks → ((other : ℕ) → at_region other n.blocks.entries ≡ (if number == other then None else at_region other b.blocks.entries)) → DropsBlock (layout_of b) (layout_of n) number
-  drops_view rising same = record {
-    blocks = in_order-without b.first_number b.last_number number b.blocks.entries n.blocks.entries (AreApart-distinct b.blocks.entries apart) (AreApart-distinct n.blocks.entries now) (rising_drop b.first_number b.last_number number (layout_of b).blocks rising) same;
-    at = one_view None same;
-  }
+  -- a block is put, or goes
+  pub puts_view : (least most : ℕ) (new : Block) → AreRising least most (with_block (layout_of b).blocks number new) → ((other : ℕ) → at_region other n.blocks.entries ≡ (if number == other then Some new else at_region other b.blocks.entries)) → PutsBlock (layout_of b) (layout_of n) number new
+  puts_view least most new rising same =
+      let old = (layout_of b).blocks in
+      let at = one_view (Some new) same in
+      record { blocks = seen least most (with_block old number new) (apart-with number new old was_apart) rising (λ other. at other ∙ sym (lookup-with number other new old)); at = at }
+
+  pub drops_view : (least most : ℕ) → AreRising least most (without_block (layout_of b).blocks number) → ((other : ℕ) → at_region other n.blocks.entries ≡ (if number == other then None else at_region other b.blocks.entries)) → DropsBlock (layout_of b) (layout_of n) number
+  drops_view least most rising same =
+      let old = (layout_of b).blocks in
+      let at = one_view None same in
+      record { blocks = seen least most (without_block old number) (apart-without number old was_apart) rising (λ other. at other ∙ sym (lookup-without number other old was_apart)); at = at }
+
+-- what the code keeps, once one block is another one of its number and size
+pub IsKept-put : (b n : Books) (number : ℕ) (old new : Block) → IsKept b → SameContext (layout_of b) (layout_of n) → n.last_number ≡ b.last_number → n.total ≡ b.total → n.blocks.entries ≡ with_block b.blocks.entries number new → PutsBlock (layout_of b) (layout_of n) number new → IsUnique nat_eq n.blocks → block_at (layout_of b) number ≡ Some old → new.number ≡ old.number → new.size ≡ old.size
+    → AreUnique n.chunks.entries → IsLaid (layout_of n) → IsCounted (layout_of n) → IsKept n
+IsKept-put b n number old new kept same last totals blocks puts apart owned number_is size unique laid counted = record {
+  laid = laid;
+  counted = counted;
+  first = rw (blocks, same.keeper, same.first_number) (IsFirst-put b.keeper b.first_number b.blocks.entries number new (λ x is. number_is ∙ ap (λ (x : Block). x.number) (one_value (block_at (layout_of b) number) old x owned (block_view b kept.apart number ∙ is))) kept.first);
+  numbered = rw (puts.blocks, same.first_number, last) (rising_put b.first_number b.last_number number (layout_of b).blocks old new kept.numbered owned number_is);
+  total = totals ∙ kept.total ∙ sym (total-put (layout_of b) (layout_of n) number old new puts.blocks owned size);
+  most = omega (arith, totals, kept.most);
+  apart = apart;
+  unique = unique;
+}

@@ -217,6 +217,7 @@ impl Books {
 
     // The place of the block in a region among the blocks, if there is one.
     #[inline]
+    #[tactic(auto, using(crate::proofs::Viewed::block_view))]
     fn find(&self, number: u32) -> Option<usize>
         requires { IsUnique nat_eq self.now.blocks }
         ensures some { IfSome result (λ place. (b : Block) × (slice_get self.now.blocks.entries place ≡ Some (number, b)) × (block_at (layout_of self.now) number ≡ Some b)) }
@@ -687,6 +688,7 @@ impl Books {
 
     // How many blocks there are.
     #[inline]
+    #[tactic(auto, using(crate::proofs::Ordered::length_in_order))]
     pub fn len(&self) -> usize
         ensures { result ≡ length (layout_of self.now).blocks }
     {
@@ -695,6 +697,7 @@ impl Books {
 
     // The block at a place.
     #[inline]
+    #[tactic(auto, using(crate::proofs::Viewed::block_view))]
     fn at(&self, place: usize) -> (u32, Block)
         requires apart { IsUnique nat_eq self.now.blocks }
         requires within { place < length self.now.blocks.entries }

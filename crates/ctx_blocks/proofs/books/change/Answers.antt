@@ -5,13 +5,12 @@ use Rattle.indexmap.proofs.MapLemmas.{insert_entry-first}
 use Rattle.indexmap.proofs.RemoveLemmas.{own_first}
 use Rattle.ctx_blocks.proofs.books.change.Goals as goal
 
-pub returns-clause-blocks : goal.returns-clause-blocks
-returns-clause-blocks c =
+pub returns : goal.returns
+returns c =
     let m = c.args.blocks.now in
-    sym (insert_entry-first (λ (a b : ℕ). a == b) c.args.number c.args.block m.entries c.args.place (own_first (λ (a b : ℕ). a == b) nat_eq_equiv m.entries c.args.place c.args.number c.requires.0 c.get_index_mut.ensures.unique c.requires.1))
-
-pub returns-clause-at : goal.returns-clause-at
-returns-clause-at c = λ other. (updates-with_value_at c.args.blocks.now c.args.place c.args.block nat_eq_equiv c.get_index_mut.ensures.unique c.args.number c.requires.0 c.requires.1).0 other
-
-pub returns-clause-apart : goal.returns-clause-apart
-returns-clause-apart c = rw (keys-with_value_at c.args.blocks.now c.args.place c.args.block) c.get_index_mut.ensures.unique
+    let apart = c.get_index_mut.ensures.unique in
+    record {
+      blocks = sym (insert_entry-first (λ (a b : ℕ). a == b) c.args.number c.args.block m.entries c.args.place (own_first (λ (a b : ℕ). a == b) nat_eq_equiv m.entries c.args.place c.args.number c.requires.0 apart c.requires.1));
+      at = λ other. (updates-with_value_at m c.args.place c.args.block nat_eq_equiv apart c.args.number c.requires.0 c.requires.1).0 other;
+      apart = rw (keys-with_value_at m c.args.place c.args.block) apart;
+    }

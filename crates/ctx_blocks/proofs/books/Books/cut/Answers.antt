@@ -1,9 +1,10 @@
-use Rattle.std.proofs.Common.{◌≡◌, ◌+◌, ◌≤◌, ap, arith}
+use Rattle.std.proofs.Common.{◌≡◌, ◌+◌, ◌%◌, ◌≤◌, ap, ◌∙◌, refl, inl, inr, arith}
 use Rattle.ctx_blocks.specs.Layout.{block_at, header_room}
 use Rattle.ctx_blocks.specs.Kept.{layout_of}
 use Rattle.ctx_blocks.specs.declared.parts.Block.{Block}
 use Rattle.addr_space.proofs.Options.{one_value}
-use Rattle.ctx_blocks.proofs.Cuts.{Holds-cut}
+use Rattle.ctx_blocks.proofs.Laid.{gap_cases}
+use Rattle.ctx_blocks.proofs.Headed.{start_whole}
 use Rattle.ctx_blocks.proofs.books.Books.cut.Goals as goal
 
 pub overflow_sub-at : goal.overflow_sub-at
@@ -15,6 +16,34 @@ overflow_add-less-2 c = let filled = c.requires.kept.laid.filled c.args.number c
 pub hold-requires-clause-holds : goal.hold-requires-clause-holds
 hold-requires-clause-holds c =
     let l = layout_of c.args.self.now in
-    let it : c.owned-block.result ≡ c.requires.block.0 = one_value (block_at l c.args.number) c.owned-block.result c.requires.block.0 c.owned-block.ensures c.requires.block.1 in
-    let fits : header_room l + c.args.room ≤ c.owned-block.result.room = omega (arith, c.requires.block.2, ap (λ (b : Block). b.room) it) in
-    Holds-cut l c.args.number c.gap-gap.result c.args.size c.args.room c.args.own c.owned-block.result c.requires.kept.laid c.owned-block.ensures c.gap-gap.ensures fits c.requires.some c.requires.fits c.requires.whole c.requires.value
+    let old : Block = c.owned-block.result in
+    let owned = c.owned-block.ensures in
+    let filled = c.requires.kept.laid.filled c.args.number old owned in
+    let gap = c.gap-gap.ensures in
+    let fits : header_room l + c.args.room ≤ old.room = omega (arith, c.requires.block.2, ap (λ (b : Block). b.room) (one_value (block_at l c.args.number) old c.requires.block.0 owned c.requires.block.1)) in
+    let start = start_whole l c.args.number in
+    let eight : c.gap-gap.result % 8 ≡ 0 = elim (gap_cases l.kind) [
+      | inl none ↦ omega (arith, none, gap)
+      | inr bytes ↦ omega (arith, bytes, gap)
+    ] in
+    record {
+      old = old;
+      owned = owned;
+      number = refl;
+      size = refl;
+      live = refl;
+      less = omega arith;
+      filled = record {
+        small = filled.small;
+        even = omega (arith, filled.even, filled.within, fits, c.requires.whole, eight, gap);
+        within = omega (arith, filled.within, fits, c.requires.some, c.requires.whole, eight, gap);
+      };
+      first = omega (arith, filled.within, fits, c.requires.some, gap);
+      last = omega (arith, filled.within, fits, gap);
+      whole = omega (arith, filled.even, eight);
+      sized = record { some = c.requires.some; fits = c.requires.fits; value = c.requires.value };
+      clear = λ other chunk found region.
+          (let placed = c.requires.kept.laid.placed other chunk found in
+          let it : placed.block ≡ old = one_value (block_at l other.region) placed.block old placed.owned (ap (block_at l) region ∙ owned) in
+          inl (omega (arith, placed.last, gap, ap (λ (x : Block). x.size) it, ap (λ (x : Block). x.room) it)));
+    }

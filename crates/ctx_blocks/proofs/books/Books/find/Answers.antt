@@ -3,9 +3,6 @@ use Rattle.std.proofs.lemmas.Map.Made.{lookup_key_passes}
 use Rattle.ctx_blocks.proofs.Viewed.{block_view}
 use Rattle.ctx_blocks.proofs.books.Books.find.Goals as goal
 
-pub returns-in-None-clause-none : goal.returns-in-None-clause-none
-returns-in-None-clause-none c = block_view c.args.self.now c.requires c.args.number ∙ sym c.in-None.ensures.value
-
 pub returns-in-Some-clause-some : goal.returns-in-Some-clause-some
 returns-in-Some-clause-some c =
     let block = c.in-Some.field-0-2.now in

@@ -1,19 +1,17 @@
-use Rattle.std.proofs.Common.{◌≡◌, ◌+◌, ◌-◌, None, refl, arith}
+use Rattle.std.proofs.Common.{◌-◌, refl, arith}
 use Rattle.addr_space.specs.declared.Addr.{Addr}
-use Rattle.ctx_blocks.specs.Layout.{chunk_at, total}
 use Rattle.ctx_blocks.specs.Kept.{layout_of}
-use Rattle.ctx_blocks.specs.Steps.{DropsBlock, SameContext}
+use Rattle.ctx_blocks.specs.Steps.{SameContext}
 use Rattle.ctx_blocks.specs.declared.parts.Block.{Block}
 use Rattle.ctx_blocks.specs.declared.books.Books.{Books}
 use Rattle.ctx_blocks.proofs.Counts.{none_in}
 use Rattle.ctx_blocks.proofs.Totals.{sum-dropped, total-dropped}
 use Rattle.ctx_blocks.proofs.Lessened.{IsLaid-lessened}
-use Rattle.ctx_blocks.proofs.Dropped.{IsRegion-owned, Lessens-dropped, IsCounted-dropped, Moves-dropped, Keeps-dropped}
+use Rattle.ctx_blocks.proofs.Dropped.{IsRegion-owned, Lessens-dropped, Moves-dropped, Keeps-dropped}
 use Rattle.ctx_blocks.proofs.Numbered.{rising_drop}
 use Rattle.ctx_blocks.proofs.Ordered.{first-swap_remove}
 use Rattle.ctx_blocks.proofs.Viewed.{drops_view}
 use Rattle.ctx_blocks.proofs.books.Books.give.Goals as goal
-use Rattle.ctx_blocks.proofs.books.Books.give.Goals.{After-give}
 
 pub overflow_sub-self : goal.overflow_sub-self
 overflow_sub-self c = omega (arith, sum-dropped (λ (b : Block). b.size) (layout_of c.args.self.now).blocks c.args.number c.owned-size.result c.owned-size.ensures, c.from.ensures, c.requires.kept.total)
@@ -21,58 +19,37 @@ overflow_sub-self c = omega (arith, sum-dropped (λ (b : Block). b.size) (layout
 pub give-requires : goal.give-requires
 give-requires c = IsRegion-owned (layout_of c.args.self.now) c.args.space.now c.args.number c.owned-size.result c.requires.agrees c.owned-size.ensures
 
-now : After-give → Books
-now c = record c.args.self.now { blocks = c.swap_remove.new.self; total = c.args.self.now.total - c.from.result }
-
-same : (c : After-give) → SameContext (layout_of c.args.self.now) (layout_of (now c))
-unfolding now
-same c = record { kind = refl; account = refl; context = refl; keeper = refl; first_number = refl }
-
--- no chunk is in the block
-empty : (c : After-give) (at : Addr) → at.region ≡ c.args.number → chunk_at (layout_of c.args.self.now) at ≡ None
-empty c at = none_in (layout_of c.args.self.now) c.requires.kept.counted c.args.number c.requires.block.0 at c.requires.block.1 c.requires.block.2
-
-drops : (c : After-give) → DropsBlock (layout_of c.args.self.now) (layout_of (now c)) c.args.number
-unfolding now
-drops c = drops_view c.args.self.now (now c) c.args.number c.requires.kept.apart c.swap_remove.ensures.unique c.requires.kept.numbered c.swap_remove.ensures.updates.0
-
-totals : (c : After-give) → total (layout_of (now c)) + c.owned-size.result.size ≡ total (layout_of c.args.self.now)
-unfolding now
-totals c = total-dropped (layout_of c.args.self.now) (layout_of (now c)) c.args.number c.owned-size.result (drops c).blocks c.owned-size.ensures
-
-pub returns-clause-kept : goal.returns-clause-kept
-unfolding now
-returns-clause-kept c =
+pub returns : goal.returns
+returns c =
     let b : Books = c.args.self.now in
+    let n : Books = record b { blocks = c.swap_remove.new.self; total = b.total - c.from.result } in
     let l = layout_of b in
+    let m = layout_of n in
+    let old = c.owned-size.result in
+    let owned = c.owned-size.ensures in
     let kept = c.requires.kept in
+    let same : SameContext l m = record { kind = refl; account = refl; context = refl; keeper = refl; first_number = refl } in
+    let empty = λ (at : Addr). none_in l kept.counted c.args.number c.requires.block.0 at c.requires.block.1 c.requires.block.2 in
+    let rising = rising_drop b.first_number b.last_number c.args.number l.blocks kept.numbered in
+    let drops = drops_view b n c.args.number kept.apart c.swap_remove.ensures.unique b.first_number b.last_number rising c.swap_remove.ensures.updates.0 in
+    let totals = total-dropped l m c.args.number old drops.blocks owned in
     record {
-      laid = IsLaid-lessened l (layout_of (now c)) kept.laid (Lessens-dropped l (layout_of (now c)) kept.laid (same c) refl c.args.number c.owned-size.result c.owned-size.ensures (empty c) (drops c).at);
-      counted = IsCounted-dropped l (layout_of (now c)) kept.laid (same c) refl c.args.number c.owned-size.result c.owned-size.ensures (empty c) (drops c).at kept.counted;
-      first = rw c.swap_remove.ensures.entries (first-swap_remove b.keeper b.first_number c.args.number b.blocks.entries c.requires.not_keeper kept.first);
-      numbered = rw (drops c).blocks (rising_drop b.first_number b.last_number c.args.number l.blocks kept.numbered);
-      total = omega (arith, kept.total, totals c, c.from.ensures);
-      most = omega (arith, kept.most);
-      apart = c.swap_remove.ensures.unique;
-      unique = kept.unique;
+      kept = record {
+        laid = IsLaid-lessened l m kept.laid (Lessens-dropped l m kept.laid same refl c.args.number old owned empty drops.at);
+        counted = λ other x has. kept.counted other x (grind (arith, drops.at other));
+        first = rw c.swap_remove.ensures.entries (first-swap_remove b.keeper b.first_number c.args.number b.blocks.entries c.requires.not_keeper kept.first);
+        numbered = rw drops.blocks rising;
+        total = omega (arith, kept.total, totals, c.from.ensures);
+        most = omega (arith, kept.most);
+        apart = c.swap_remove.ensures.unique;
+        unique = kept.unique;
+      };
+      same = same;
+      last = refl;
+      chunks = refl;
+      block = drops;
+      total = λ x is. total-dropped l m c.args.number x drops.blocks is;
+      moves = Moves-dropped l m kept.laid same refl c.args.number old owned empty drops.at c.args.space.now c.give.new.self c.requires.agrees totals c.give.ensures.changes c.give.ensures.held;
+      keeps = Keeps-dropped l m kept.laid same refl c.args.number old owned empty drops.at c.args.space.now c.give.new.self c.give.ensures.changes;
+      asked = c.give.ensures.taken;
     }
-
-pub returns-clause-total : goal.returns-clause-total
-unfolding now
-returns-clause-total c = λ b owned. total-dropped (layout_of c.args.self.now) (layout_of (now c)) c.args.number b (drops c).blocks owned
-
-pub returns-clause-moves : goal.returns-clause-moves
-unfolding now
-returns-clause-moves c =
-    Moves-dropped (layout_of c.args.self.now) (layout_of (now c)) c.requires.kept.laid (same c) refl c.args.number c.owned-size.result c.owned-size.ensures (empty c) (drops c).at
-    c.args.space.now c.give.new.self c.requires.agrees (totals c) c.give.ensures.changes c.give.ensures.held
-
-pub returns-clause-keeps : goal.returns-clause-keeps
-unfolding now
-returns-clause-keeps c =
-    Keeps-dropped (layout_of c.args.self.now) (layout_of (now c)) c.requires.kept.laid (same c) refl c.args.number c.owned-size.result c.owned-size.ensures (empty c) (drops c).at
-    c.args.space.now c.give.new.self c.give.ensures.changes
-
-pub returns-clause-block : goal.returns-clause-block
-unfolding now
-returns-clause-block c = drops c

@@ -3,15 +3,10 @@ use Rattle.chunk_header.proofs.Marks.{marked_by}
 use Rattle.ctx_blocks.proofs.Headed.{headed_by}
 use Rattle.ctx_blocks.proofs.books.Books.header.Goals as goal
 
-pub header_at-requires-clause-behind : goal.header_at-requires-clause-behind
-header_at-requires-clause-behind c =
+pub header_at-requires : goal.header_at-requires
+header_at-requires c =
     let m = marked_by _ _ _ c.requires.agrees (headed_by _ c.requires.laid c.requires.kind _ _ c.requires.chunk.1) in
-    omega (arith, m.behind)
-
-pub header_at-requires-clause-known : goal.header_at-requires-clause-known
-header_at-requires-clause-known c =
-    let m = marked_by _ _ _ c.requires.agrees (headed_by _ c.requires.laid c.requires.kind _ _ c.requires.chunk.1) in
-    (m.header, m.packable, m.word)
+    record { behind = omega (arith, m.behind); known = (m.header, m.packable, m.word) }
 
 pub returns : goal.returns
 returns c = λ it found.

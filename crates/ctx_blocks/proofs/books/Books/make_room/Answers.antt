@@ -1,15 +1,30 @@
-use Rattle.std.proofs.Common.{refl}
-use Rattle.ctx_blocks.proofs.Spared.{IsKept-spare, layout_same}
+use Rattle.std.proofs.Common.{◌≡◌, ap}
+use Rattle.ctx_blocks.specs.Kept.{layout_of, IsKept}
+use Rattle.ctx_blocks.specs.Order.{in_order}
+use Rattle.ctx_blocks.specs.declared.books.Books.{Books}
 use Rattle.ctx_blocks.proofs.books.Books.make_room.Goals as goal
 
+-- what is kept and seen stays while the entries do
+IsKept-spare : (b n : Books) → n.blocks.entries ≡ b.blocks.entries → IsKept b → IsKept (record b { blocks = n.blocks })
+IsKept-spare b n same kept = record {
+  laid = rw same kept.laid;
+  counted = rw same kept.counted;
+  first = rw same kept.first;
+  numbered = rw same kept.numbered;
+  total = rw same kept.total;
+  most = kept.most;
+  apart = rw same kept.apart;
+  unique = kept.unique;
+}
+
 pub returns-then-is_err-clause-kept : goal.returns-then-is_err-clause-kept
-returns-then-is_err-clause-kept c = IsKept-spare c.args.self.now (record c.args.self.now { blocks = c.reserve.new.self }) refl c.reserve.ensures.entries c.requires
+returns-then-is_err-clause-kept c = IsKept-spare c.args.self.now (record c.args.self.now { blocks = c.reserve.new.self }) c.reserve.ensures.entries c.requires
 
 pub returns-clause-kept : goal.returns-clause-kept
-returns-clause-kept c = IsKept-spare c.args.self.now (record c.args.self.now { blocks = c.reserve.new.self }) refl c.reserve.ensures.entries c.requires
+returns-clause-kept c = IsKept-spare c.args.self.now (record c.args.self.now { blocks = c.reserve.new.self }) c.reserve.ensures.entries c.requires
 
 pub returns-then-is_err-clause-same : goal.returns-then-is_err-clause-same
-returns-then-is_err-clause-same c = layout_same c.args.self.now (record c.args.self.now { blocks = c.reserve.new.self }) refl c.reserve.ensures.entries
+returns-then-is_err-clause-same c = ap (λ es. record (layout_of c.args.self.now) { blocks = in_order es }) c.reserve.ensures.entries
 
 pub returns-clause-same : goal.returns-clause-same
-returns-clause-same c = layout_same c.args.self.now (record c.args.self.now { blocks = c.reserve.new.self }) refl c.reserve.ensures.entries
+returns-clause-same c = ap (λ es. record (layout_of c.args.self.now) { blocks = in_order es }) c.reserve.ensures.entries

@@ -1,63 +1,42 @@
-use Rattle.std.proofs.Common.{◌≡◌, subst, ap, sym, ◌∙◌, refl, arith}
-use Rattle.ctx_blocks.specs.Layout.{block_at}
+use Rattle.std.proofs.Common.{ap, sym, subst, ◌∙◌, refl, arith}
+use Rattle.ctx_blocks.specs.Layout.{Layout, block_at}
 use Rattle.ctx_blocks.specs.Kept.{layout_of}
+use Rattle.ctx_blocks.specs.Steps.{PutsBlock}
 use Rattle.ctx_blocks.specs.declared.parts.Block.{Block}
 use Rattle.ctx_blocks.specs.declared.books.Books.{Books}
 use Rattle.addr_space.proofs.Options.{one_value}
 use Rattle.ctx_blocks.proofs.Counts.{none_in}
-use Rattle.ctx_blocks.proofs.Lessened.{IsLaid-lessened, MovesStill-lessened, Lessens}
+use Rattle.ctx_blocks.proofs.Lessened.{IsLaid-lessened, MovesStill-lessened, IsFilled-whole, Lessens-put}
 use Rattle.ctx_blocks.proofs.Put.{IsCounted-put, regions-put}
-use Rattle.ctx_blocks.proofs.Refilled.{IsFilled-whole, Lessens-put}
 use Rattle.ctx_blocks.proofs.Totals.{total-put}
-use Rattle.ctx_blocks.specs.Steps.{PutsBlock}
-use Rattle.ctx_blocks.proofs.Keeps.{IsKept-put}
-use Rattle.ctx_blocks.proofs.Viewed.{puts_same}
+use Rattle.ctx_blocks.proofs.Numbered.{rising_put}
+use Rattle.ctx_blocks.proofs.Viewed.{puts_view, IsKept-put}
 use Rattle.ctx_blocks.proofs.books.Books.refill.Goals as goal
-use Rattle.ctx_blocks.proofs.books.Books.refill.Goals.{After-change}
 
-now : After-change → Books
-now c = record c.args.self.now { blocks = c.change.new.blocks }
-
-new : After-change → Block
-new c = record { number = c.owned-old.result.number; size = c.owned-old.result.size; room = c.whole.result; live = 0; freed = 0 }
-
--- the block counts no chunk
-none : (c : After-change) → c.owned-old.result.live ≡ 0
-none c = ap (λ (b : Block). b.live) (one_value (block_at (layout_of c.args.self.now) c.args.number) c.owned-old.result c.requires.block.0 c.owned-old.ensures c.requires.block.1) ∙ c.requires.block.2
-
-puts : (c : After-change) → PutsBlock (layout_of c.args.self.now) (layout_of (now c)) c.args.number (new c)
-unfolding now new
-puts c =
-    let kept = c.requires.kept in
-    puts_same c.args.self.now (now c) c.args.number kept.apart c.change.ensures.apart c.owned-old.result (new c) kept.numbered c.change.ensures.at c.owned-old.ensures refl
-
-less : (c : After-change) → Lessens (layout_of c.args.self.now) (layout_of (now c))
-unfolding now new
-less c =
-    let l = layout_of c.args.self.now in
-    let old : Block = c.owned-old.result in
-    Lessens-put l (layout_of (now c)) c.requires.kept.laid (record { kind = refl; account = refl; context = refl; keeper = refl; first_number = refl }) c.args.number old (new c) c.owned-old.ensures refl
-    (IsFilled-whole l c.args.number old.number c.whole.result old (c.requires.kept.laid.filled c.args.number old c.owned-old.ensures) c.whole.ensures) (puts c).at
-    (λ at chunk found. (found, λ region. (let gone = none_in l c.requires.kept.counted c.args.number old at c.owned-old.ensures (none c) region in absurd (cc))))
-
-pub returns-clause-kept : goal.returns-clause-kept
-unfolding now new
-returns-clause-kept c =
+pub returns : goal.returns
+returns c =
     let b : Books = c.args.self.now in
+    let n : Books = record b { blocks = c.change.new.blocks } in
+    let l : Layout = layout_of b in
+    let m : Layout = layout_of n in
+    let old : Block = c.owned-old.result in
+    let owned = c.owned-old.ensures in
+    let new : Block = record { number = old.number; size = old.size; room = c.whole.result; live = 0; freed = 0 } in
     let kept = c.requires.kept in
-    IsKept-put b (now c) c.args.number c.owned-old.result (new c) kept (less c).same refl refl c.change.ensures.blocks (puts c) c.change.ensures.apart c.owned-old.ensures refl refl kept.unique (IsLaid-lessened (layout_of b) (layout_of (now c)) kept.laid (less c))
-    (IsCounted-put (layout_of b) (layout_of (now c)) c.args.number (new c) (puts c).at kept.counted (sym (none c) ∙ kept.counted c.args.number c.owned-old.result c.owned-old.ensures) (λ other differs. refl))
-
-pub returns-clause-moves : goal.returns-clause-moves
-unfolding now new
-returns-clause-moves c =
-    let l = layout_of c.args.self.now in
-    MovesStill-lessened l (layout_of (now c)) c.requires.kept.laid (less c) (regions-put l (layout_of (now c)) c.args.number (new c) (puts c).at c.owned-old.result c.owned-old.ensures refl)
-    (total-put l (layout_of (now c)) c.args.number c.owned-old.result (new c) (puts c).blocks c.owned-old.ensures refl)
-
-pub returns-clause-block : goal.returns-clause-block
-unfolding now new
-returns-clause-block c = λ b owned.
-    (let it = one_value (block_at (layout_of c.args.self.now) c.args.number) c.owned-old.result b c.owned-old.ensures owned in
-    let room = c.whole.ensures in
-    subst (λ (x : Block). PutsBlock (layout_of c.args.self.now) (layout_of (now c)) c.args.number x) (grind (arith, it, room)) (puts c))
+    let none = ap (λ (x : Block). x.live) (one_value (block_at l c.args.number) old c.requires.block.0 owned c.requires.block.1) ∙ c.requires.block.2 in
+    let puts = puts_view b n c.args.number kept.apart c.change.ensures.apart b.first_number b.last_number new (rising_put b.first_number b.last_number c.args.number l.blocks old new kept.numbered owned refl) c.change.ensures.at in
+    let less =
+    Lessens-put l m kept.laid (record { kind = refl; account = refl; context = refl; keeper = refl; first_number = refl }) c.args.number old new owned refl
+    (IsFilled-whole l c.args.number old.number c.whole.result old (kept.laid.filled c.args.number old owned) c.whole.ensures) puts.at
+    (λ at chunk found. (found, λ region. (let gone = none_in l kept.counted c.args.number old at owned none region in absurd (cc)))) in
+    record {
+      kept = IsKept-put b n c.args.number old new kept less.same refl refl c.change.ensures.blocks puts c.change.ensures.apart owned refl refl kept.unique (IsLaid-lessened l m kept.laid less)
+          (IsCounted-put l m c.args.number new puts.at kept.counted (sym none ∙ kept.counted c.args.number old owned) (λ other differs. refl));
+      same = less.same;
+      last = refl;
+      chunks = refl;
+      block = λ x is.
+          (let it = one_value (block_at l c.args.number) old x owned is in
+          subst (λ (y : Block). PutsBlock l m c.args.number y) (grind (arith, it, c.whole.ensures)) puts);
+      moves = MovesStill-lessened l m kept.laid less (regions-put l m c.args.number new puts.at old owned refl) (total-put l m c.args.number old new puts.blocks owned refl);
+    }

@@ -2,36 +2,33 @@ use Rattle.std.proofs.Common.{refl, sym, ◌∙◌}
 use Rattle.ctx_blocks.specs.Kept.{layout_of}
 use Rattle.ctx_blocks.specs.declared.parts.Chunk.{Chunk}
 use Rattle.ctx_blocks.specs.declared.books.Books.{Books}
-use Rattle.ctx_blocks.proofs.Lessened.{IsLaid-lessened, MovesStill-lessened, Lessens}
-use Rattle.ctx_blocks.proofs.Refilled.{Lessens-sized}
+use Rattle.ctx_blocks.proofs.Lessened.{IsLaid-lessened, MovesStill-lessened, Lessens-sized}
 use Rattle.ctx_blocks.proofs.books.Books.set_size.Goals as goal
-use Rattle.ctx_blocks.proofs.books.Books.set_size.Goals.{After-set_size}
 
-now : After-set_size → Books
-now c = record c.args.self.now { chunks = c.set_size.new.chunks }
-
-less : (c : After-set_size) → Lessens (layout_of c.args.self.now) (layout_of (now c))
-unfolding now
-less c =
-    let new : Chunk = record c.requires.chunk.0 { size = c.args.size } in
-    Lessens-sized (layout_of c.args.self.now) (layout_of (now c)) c.requires.kept.laid (record { kind = refl; account = refl; context = refl; keeper = refl; first_number = refl }) refl c.args.at c.requires.chunk.0 new c.requires.chunk.1 refl refl
-    c.requires.chunk.2 (c.set_size.ensures.at c.requires.chunk.0 c.requires.chunk.1)
-
-pub returns-clause-kept : goal.returns-clause-kept
-unfolding now
-returns-clause-kept c =
+pub returns : goal.returns
+returns c =
+    let b : Books = c.args.self.now in
+    let l = layout_of b in
+    let m = layout_of (record b { chunks = c.set_size.new.chunks }) in
     let kept = c.requires.kept in
+    let old : Chunk = c.requires.chunk.0 in
+    let puts = c.set_size.ensures.at old c.requires.chunk.1 in
+    let less =
+    Lessens-sized l m kept.laid (record { kind = refl; account = refl; context = refl; keeper = refl; first_number = refl }) refl c.args.at old (record old { size = c.args.size }) c.requires.chunk.1 refl refl c.requires.chunk.2 puts in
     record {
-      laid = IsLaid-lessened (layout_of c.args.self.now) (layout_of (now c)) kept.laid (less c);
-      counted = λ number b has. kept.counted number b has ∙ sym (c.set_size.ensures.count c.requires.chunk.0 c.requires.chunk.1 number);
-      first = kept.first;
-      numbered = kept.numbered;
-      total = kept.total;
-      most = kept.most;
-      apart = kept.apart;
-      unique = c.set_size.ensures.unique kept.unique;
+      kept = record {
+        laid = IsLaid-lessened l m kept.laid less;
+        counted = λ number block has. kept.counted number block has ∙ sym (c.set_size.ensures.count old c.requires.chunk.1 number);
+        first = kept.first;
+        numbered = kept.numbered;
+        total = kept.total;
+        most = kept.most;
+        apart = kept.apart;
+        unique = c.set_size.ensures.unique kept.unique;
+      };
+      same = less.same;
+      last = refl;
+      chunk = c.set_size.ensures.at;
+      blocks = refl;
+      moves = MovesStill-lessened l m kept.laid less (λ number. refl) refl;
     }
-
-pub returns-clause-moves : goal.returns-clause-moves
-unfolding now
-returns-clause-moves c = MovesStill-lessened (layout_of c.args.self.now) (layout_of (now c)) c.requires.kept.laid (less c) (λ number. refl) refl

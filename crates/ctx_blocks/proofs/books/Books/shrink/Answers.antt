@@ -1,11 +1,11 @@
-use Rattle.std.proofs.Common.{length, refl, sym, ap, ◌∙◌, arith}
+use Rattle.std.proofs.Common.{length, length-take, refl, sym, ap, ◌∙◌, arith}
 use Rattle.std.proofs.lemmas.List.{take_all}
 use Rattle.addr_space.proofs.Steps.{Moves-more}
 use Rattle.ctx_blocks.specs.Layout.{footprint}
 use Rattle.ctx_blocks.specs.Kept.{layout_of}
 use Rattle.ctx_blocks.specs.declared.books.Books.{Books}
 use Rattle.ctx_blocks.proofs.Lessened.{IsLaid-lessened, MovesStill-lessened, Lessens}
-use Rattle.ctx_blocks.proofs.Cleared.{Lessens-cleared, first-length, take-less}
+use Rattle.ctx_blocks.proofs.Cleared.{Lessens-cleared, first_only, take-less}
 use Rattle.ctx_blocks.proofs.books.Books.shrink.Goals as goal
 
 pub loop-self-init : goal.loop-self-init
@@ -21,7 +21,7 @@ loop-self-init c =
       chunks = c.none-self.ensures;
       asked = refl;
       blocks = sym (take_all (length b.blocks.entries) b.blocks.entries (omega arith));
-      enough = omega (arith, c.requires.few, first-length b.keeper b.first_number b.blocks.entries c.requires.kept.first);
+      enough = omega (arith, c.requires.few, ap length (first_only b.keeper b.first_number b.blocks.entries c.requires.kept.first).1, length-take 1 b.blocks.entries);
       moves = MovesStill-lessened (layout_of b) (layout_of n) c.requires.kept.laid less (λ number. refl) refl c.args.space.now c.requires.agrees;
     }
 

@@ -1,80 +1,57 @@
-use Rattle.std.proofs.Common.{◌≡◌, ◌+◌, None, refl, sym, ◌∙◌, arith}
-use Rattle.ctx_blocks.specs.Layout.{block_at, total}
-use Rattle.ctx_blocks.specs.Kept.{layout_of, IsFirst, IsKept}
-use Rattle.ctx_blocks.specs.Steps.{PutsBlock, SameContext}
+use Rattle.std.proofs.Common.{◌≡◌, ◌+◌, refl, sym, ◌∙◌, arith, rules}
+use Rattle.ctx_blocks.specs.Layout.{Layout, total}
+use Rattle.ctx_blocks.specs.Kept.{layout_of}
+use Rattle.ctx_blocks.specs.Steps.{SameContext}
 use Rattle.ctx_blocks.specs.declared.parts.Block.{Block}
 use Rattle.ctx_blocks.specs.declared.books.Books.{Books}
-use Rattle.ctx_blocks.proofs.Added.{unowned, IsLaid-added, IsCounted-added, Moves-added, empty_block}
+use Rattle.ctx_blocks.proofs.Added.{unowned, IsLaid-added, Moves-added, empty_block}
+use Rattle.ctx_blocks.proofs.Counts.{none_placed}
+use Rattle.ctx_blocks.proofs.Put.{IsCounted-put}
 use Rattle.ctx_blocks.proofs.Totals.{sum-new, IsFirst-put}
 use Rattle.ctx_blocks.proofs.Numbered.{rising_add, first_upto}
-use Rattle.ctx_blocks.proofs.Viewed.{block_view, first_view, puts_last}
+use Rattle.ctx_blocks.proofs.Viewed.{block_view, first_view, puts_view}
 use Rattle.ctx_blocks.proofs.books.Books.take.Goals as goal
-use Rattle.ctx_blocks.proofs.books.Books.take.Goals.{After-from}
 
-now : After-from → Books
-now c = record c.args.self.now { blocks = c.note.new.blocks; last_number = c.args.self.now.last_number + 1; total = c.args.self.now.total + c.from.result }
-
-same : (c : After-from) → SameContext (layout_of c.args.self.now) (layout_of (now c))
-unfolding now
-same c = record { kind = refl; account = refl; context = refl; keeper = refl; first_number = refl }
-
--- no region of the context had the number
-none : (c : After-from) → block_at (layout_of c.args.self.now) c.in_ok-at.at.region ≡ None
-none c = unowned (layout_of c.args.self.now) c.args.space.now c.in_ok-at.at.region c.requires.agrees c.in_ok-at.ensures.fresh
-
-puts : (c : After-from) → PutsBlock (layout_of c.args.self.now) (layout_of (now c)) c.in_ok-at.at.region (empty_block (c.args.self.now.last_number + 1) c.args.size)
-unfolding now
-puts c =
-    let kept = c.requires.kept in
-    puts_last c.args.self.now (now c) c.in_ok-at.at.region kept.apart c.note.ensures.apart (empty_block (c.args.self.now.last_number + 1) c.args.size) kept c.note.ensures.at (none c) refl
-
--- the keeper is the first block that the layout shows
-first : (c : After-from) → IsFirst c.args.self.now.keeper c.args.self.now.first_number (layout_of c.args.self.now).blocks
-first c = first_view c.args.self.now c.requires.kept
-
-totals : (c : After-from) → total (layout_of (now c)) ≡ total (layout_of c.args.self.now) + c.args.size
-unfolding now
-totals c = rw (puts c).blocks (sum-new (λ b. b.size) (layout_of c.args.self.now).blocks c.in_ok-at.at.region (empty_block (c.args.self.now.last_number + 1) c.args.size) (none c))
-
-kept_now : (c : After-from) → IsKept (now c)
-unfolding now
-kept_now c =
+pub returns : goal.returns
+returns c =
     let b : Books = c.args.self.now in
-    let kept = c.requires.kept in
+    let n : Books = record b { blocks = c.note.new.blocks; last_number = b.last_number + 1; total = b.total + c.from.result } in
+    let l : Layout = layout_of b in
+    let m : Layout = layout_of n in
     let number = c.in_ok-at.at.region in
     let new : Block = empty_block (b.last_number + 1) c.args.size in
-    let upto = first_upto b.keeper b.first_number b.last_number (layout_of b).blocks (first c) kept.numbered in
-    record {
-      laid = IsLaid-added (layout_of b) (layout_of (now c)) number (b.last_number + 1) c.args.size kept.laid (same c) refl (none c) (puts c).at (first c) c.requires.least c.requires.most c.requires.whole;
-      counted = IsCounted-added (layout_of b) (layout_of (now c)) number (b.last_number + 1) c.args.size kept.laid (same c) refl (none c) (puts c).at (first c) c.requires.least c.requires.most c.requires.whole kept.counted;
-      first = rw c.note.ensures.blocks (IsFirst-put b.keeper b.first_number b.blocks.entries number new (λ old owned. let fresh = sym (block_view b kept.apart number) ∙ none c in absurd (cc)) kept.first);
-      numbered = rw (puts c).blocks (rising_add b.first_number b.last_number number new (layout_of b).blocks (none c) (omega (arith, upto)) refl kept.numbered);
-      total = omega (arith, kept.total, totals c, c.from.ensures);
-      most = omega (arith, c.from.ensures, c.requires.most);
-      apart = c.note.ensures.apart;
-      unique = kept.unique;
-    }
-
-pub returns-clause-kept : goal.returns-clause-kept
-unfolding now
-returns-clause-kept c = kept_now (goal.at.returns-clause-kept c).After-from
-
-pub returns-clause-fresh : goal.returns-clause-fresh
-returns-clause-fresh c = none (goal.at.returns-clause-fresh c).After-from
-
-pub returns-clause-block : goal.returns-clause-block
-unfolding now
-returns-clause-block c = puts (goal.at.returns-clause-block c).After-from
-
-pub returns-clause-total : goal.returns-clause-total
-unfolding now
-returns-clause-total c = totals (goal.at.returns-clause-total c).After-from
-
-pub returns-clause-moves : goal.returns-clause-moves
-unfolding now
-returns-clause-moves c =
-    let at = (goal.at.returns-clause-moves c).After-from in
     let kept = c.requires.kept in
-    let wrote = rw (c.in_ok-at.ensures.start, c.block_header.ensures) at c.write.ensures.changes in
-    Moves-added (layout_of c.args.self.now) (layout_of (now at)) c.in_ok-at.at.region (c.args.self.now.last_number + 1) c.args.size kept.laid (same at) refl (none at) (puts at).at (first at) c.requires.least c.requires.most c.requires.whole (totals at)
-    c.args.space.now c.take.new.self c.write.new.self c.requires.agrees c.in_ok-at.ensures.fresh c.in_ok-at.ensures.changes c.in_ok-at.ensures.held wrote
+    let same : SameContext l m = record { kind = refl; account = refl; context = refl; keeper = refl; first_number = refl } in
+    let none = unowned l c.args.space.now number c.requires.agrees c.in_ok-at.ensures.fresh in
+    let first = first_view b kept in
+    let upto = first_upto b.keeper b.first_number b.last_number l.blocks first kept.numbered in
+    let rising = rising_add b.first_number b.last_number number new l.blocks none (omega (arith, upto)) refl kept.numbered in
+    let puts = puts_view b n number kept.apart c.note.ensures.apart b.first_number (b.last_number + 1) new rising c.note.ensures.at in
+    let totals : total m ≡ total l + c.args.size = rw puts.blocks (sum-new (λ x. x.size) l.blocks number new none) in
+    record {
+      kept = record {
+        laid = IsLaid-added l m number (b.last_number + 1) c.args.size kept.laid same refl none puts.at first c.requires.least c.requires.most c.requires.whole;
+        counted = IsCounted-put l m number new puts.at kept.counted (sym (none_placed l kept.laid number none)) (λ other differs. refl);
+        first = rw c.note.ensures.blocks (IsFirst-put b.keeper b.first_number b.blocks.entries number new (λ old owned. let fresh = sym (block_view b kept.apart number) ∙ none in absurd (cc)) kept.first);
+        numbered = rw puts.blocks rising;
+        total = omega (arith, kept.total, totals, c.from.ensures);
+        most = omega (arith, c.from.ensures, c.requires.most);
+        apart = c.note.ensures.apart;
+        unique = kept.unique;
+      };
+      same = same;
+      fresh = none;
+      block = puts;
+      chunks = refl;
+      last = refl;
+      total = totals;
+      moves = Moves-added l m number (b.last_number + 1) c.args.size kept.laid same refl none puts.at first c.requires.least c.requires.most c.requires.whole totals
+          c.args.space.now c.take.new.self c.write.new.self c.requires.agrees c.in_ok-at.ensures.fresh c.in_ok-at.ensures.changes c.in_ok-at.ensures.held (rw (c.in_ok-at.ensures.start, c.block_header.ensures) at c.write.ensures.changes);
+      keeps = search rules;
+      asked = search rules;
+      fits = search rules;
+      no_space = search rules;
+      no_other = tt;
+      err = tt;
+      err_space = tt;
+    }
