@@ -1,7 +1,7 @@
-use Rattle.std.proofs.Common.{◌≡◌, ◌+◌, ◌≤◌, ap, ◌∙◌, sym, length, arith, Some}
+use Rattle.std.proofs.Common.{◌≡◌, ◌+◌, ◌≤◌, refl, ap, ◌∙◌, length, arith, Some}
 use Rattle.std.proofs.lemmas.List.{length-append, length-map, length-take, length-drop}
 use Rattle.addr_space.specs.Space.{Region, region_at, bytes_of}
-use Rattle.addr_space.proofs.Held.{IsSound-same, share-own}
+use Rattle.addr_space.proofs.Held.{IsSound-same, counts-for, share-own}
 use Rattle.addr_space.proofs.Space.write_at.Goals as goal
 
 pub invariant_of-self : goal.invariant_of-self
@@ -13,5 +13,4 @@ invariant_of-self c =
     let len : length c.write.new.self.bytes ≡ length c.index_mut.result.now.bytes =
     ap (λ (r : Region). length r.bytes) c.write.ensures ∙ simp (length-append, length-map, length-take, length-drop) (omega arith) in
     IsSound-same c.self.inside.regions.slots c.args.region c.index_mut.result.now found (Some c.write.new.self) c.self.inside.accounts.items c.self.invariant
-    (λ r is. let same : c.write.new.self ≡ r = cc in ap (λ (x : Region). x.account) (sym same) ∙ account)
-    (share-own c.write.new.self c.index_mut.result.now.account account ∙ len)
+    (counts-for _ c.write.new.self _ refl account) (share-own c.write.new.self c.index_mut.result.now.account account ∙ len)
