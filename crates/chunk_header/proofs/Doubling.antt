@@ -38,25 +38,11 @@ grown-go size need some below = doubled-enough need (suc need) size need some (o
 
 -- the first block's size is one that the next block may have
 pub AreSizes-first : (init max next : ℕ) → AreSizes init max next → AreSizes init max init
-AreSizes-first init max next s = record {
-  least = s.least;
-  order = s.order;
-  most = s.most;
-  whole_init = s.whole_init;
-  whole_max = s.whole_max;
-  next_least = s.least;
-  next_most = s.order;
-  next_whole = s.whole_init;
-}
+AreSizes-first init max next s = record s { next_least = s.least; next_most = s.order; next_whole = s.whole_init }
 
 -- and so is twice the next one's, up to the greatest
 pub AreSizes-next : (init max next : ℕ) → AreSizes init max next → AreSizes init max (min (2 * next) max)
-AreSizes-next init max next s = record {
-  least = s.least;
-  order = s.order;
-  most = s.most;
-  whole_init = s.whole_init;
-  whole_max = s.whole_max;
+AreSizes-next init max next s = record s {
   next_least = omega (arith, s.least, s.order, s.next_least);
   next_most = omega arith;
   next_whole = omega (arith, s.next_whole, s.whole_max);

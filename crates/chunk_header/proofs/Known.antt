@@ -1,5 +1,5 @@
 -- Lemmas on words that stand in a space.
-use Rattle.std.proofs.Common.{◌≡◌, ℕ, ◌+◌, ◌^◌, ◌<◌, ◌≤◌, List, length, map, get_or, slice_index, Option, Some, None, sym, ap, ◌∙◌, arith, inl, inr}
+use Rattle.std.proofs.Common.{◌≡◌, ℕ, ◌+◌, ◌^◌, ◌<◌, ◌≤◌, List, [], ◌∷◌, length, map, get_or, slice_index, Option, Some, None, refl, sym, ◌∙◌, arith, inl, inr}
 use Rattle.std.proofs.lemmas.Bool.{cases_lt}
 use Rattle.std.proofs.lemmas.List.{ext_get_or, get_or-map, get_or_past, length-map, length-take, length-drop}
 use Rattle.addr_space.specs.Space.{Space, part, byte_at, bytes_of, region_at, HasBytes}
@@ -14,28 +14,20 @@ use Rattle.chunk_header.proofs.Words.{kind_code-lt, own_bit-lt}
 -- known bytes lie in their region
 pub inside : (s : Space) (at : Addr) (bytes : List ℕ) → length bytes ≡ 8 → HasBytes s at bytes → at.offset + 8 ≤ length (bytes_of (region_at s at.region))
 inside s at bytes len has =
-    let last : byte_at s at.region (at.offset + 7) ≡ Some (slice_index bytes 7) = has 7 (omega (arith, len)) in
-    elim (cases_lt (length (bytes_of (region_at s at.region))) (at.offset + 8)) [
-      | inl past ↦
-          let none : byte_at s at.region (at.offset + 7) ≡ None = get_or_past (bytes_of (region_at s at.region)) (at.offset + 7) None (omega (arith, past)) in
-          absurd (cc)
-      | inr within ↦ within
-    ]
+    let last : get_or (bytes_of (region_at s at.region)) (at.offset + 7) None ≡ Some (slice_index bytes 7) = has 7 (omega (arith, len)) in
+    grind (arith, get_or_past)
+
+some_injective : (xs ys : List ℕ) → map Some xs ≡ map Some ys → xs ≡ ys
+some_injective [] [] same = refl
+some_injective [] (y ∷ ys) same = absurd (cc)
+some_injective (x ∷ xs) [] same = absurd (cc)
+some_injective (x ∷ xs) (y ∷ ys) same = let rest = some_injective xs ys (cc) in cc
 
 -- what was read are the known bytes
 pub same_bytes : (s : Space) (at : Addr) (out bytes : List ℕ) → length bytes ≡ 8 → HasBytes s at bytes → map Some out ≡ part (bytes_of (region_at s at.region)) at.offset 8 → out ≡ bytes
 same_bytes s at out bytes len has is =
-    let xs : List (Option ℕ) = bytes_of (region_at s at.region) in
-    let within = inside s at bytes len has in
-    let len_part : length (part xs at.offset 8) ≡ 8 = simp (length-take, length-drop) (omega (arith, within)) in
-    let len_out : length out ≡ 8 = sym (length-map out Some) ∙ ap length is ∙ len_part in
-    let known : map Some bytes ≡ part xs at.offset (length bytes) = known-part xs bytes at.offset (omega (arith, within, len)) (λ k below. has k below) in
-    let both : map Some out ≡ map Some bytes = is ∙ ap (part xs at.offset) (sym len) ∙ sym known in
-    ext_get_or 0 out bytes (len_out ∙ sym len) (λ k below.
-    let first : get_or (map Some out) k None ≡ Some (get_or out k 0) = get_or-map Some out k 0 None below in
-    let second : get_or (map Some bytes) k None ≡ Some (get_or bytes k 0) = get_or-map Some bytes k 0 None (omega (arith, below, len_out, len)) in
-    let one : Some (get_or out k 0) ≡ Some (get_or bytes k 0) = sym first ∙ ap (λ l. get_or l k None) both ∙ second in
-    cc)
+    let known = known-part (bytes_of (region_at s at.region)) bytes at.offset (omega (arith, inside s at bytes len has, len)) has in
+    some_injective out bytes (is ∙ sym (rw len at known))
 
 -- a header's word has 64 bits
 pub word_of-lt : (h : Header) → IsPackable h → word_of h < 2 ^ 64

@@ -12,9 +12,7 @@ returns-in_default-clause-packed c = λ h packable same.
     ])
 
 pub returns-clause-word : goal.returns-clause-word
-unfolding header_in
 returns-clause-word c = word_of-header_in c.in-Some.kind c.args.word c.in-Some.ensures.some
 
 pub returns-clause-packed : goal.returns-clause-packed
-unfolding header_in
 returns-clause-packed c = λ h packable same. ap Ok (header_in-word c.in-Some.kind h c.args.word packable same c.in-Some.ensures.some)
