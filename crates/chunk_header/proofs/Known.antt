@@ -1,8 +1,7 @@
 -- Lemmas on words that stand in a space.
-use Rattle.std.proofs.Common.{◌≡◌, ℕ, ◌+◌, ◌^◌, ◌<◌, ◌≤◌, List, [], ◌∷◌, length, map, get_or, slice_index, Option, Some, None, refl, sym, ◌∙◌, arith, inl, inr}
-use Rattle.std.proofs.lemmas.Bool.{cases_lt}
-use Rattle.std.proofs.lemmas.List.{ext_get_or, get_or-map, get_or_past, length-map, length-take, length-drop}
-use Rattle.addr_space.specs.Space.{Space, part, byte_at, bytes_of, region_at, HasBytes}
+use Rattle.std.proofs.Common.{◌≡◌, ℕ, ◌+◌, ◌^◌, ◌<◌, ◌≤◌, List, [], ◌∷◌, length, map, get_or, slice_index, Some, None, refl, sym, ◌∙◌, arith}
+use Rattle.std.proofs.lemmas.List.{get_or_past}
+use Rattle.addr_space.specs.Space.{Space, part, bytes_of, region_at, HasBytes}
 use Rattle.addr_space.specs.declared.Addr.{Addr}
 use Rattle.addr_space.proofs.Bytes.{known-part}
 use Rattle.std.specs.Int.{from_le_bytes, w64}

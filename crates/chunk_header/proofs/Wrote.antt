@@ -1,9 +1,9 @@
 -- Lemmas on a word that a context writes in a region of its own, and on a region that it takes and gives back.
-use Rattle.std.proofs.Common.{◌≡◌, ◌≢◌, ℕ, ◌+◌, ◌<◌, ◌≤◌, ◌⊎◌, ◌==◌, if◌then◌else◌, List, length, map, Some, None, refl, sym, ap, ◌∙◌, inl, inr, arith, slice_index, slice_index_or}
+use Rattle.std.proofs.Common.{◌≡◌, ◌≢◌, ℕ, ◌+◌, ◌<◌, ◌≤◌, ◌⊎◌, ◌==◌, if◌then◌else◌, List, length, map, Some, None, refl, ap, ◌∙◌, inl, inr, arith}
 use Rattle.std.proofs.lemmas.List.{length-replicate}
 use Rattle.std.proofs.lemmas.Bool.Decides.{nat_tests}
 use Rattle.addr_space.specs.declared.Addr.{Addr}
-use Rattle.addr_space.specs.Space.{Space, region_at, bytes_of, byte_at, overwritten, unwritten, Changes, IsApart, held, share}
+use Rattle.addr_space.specs.Space.{Space, region_at, byte_at, overwritten, unwritten, Changes, IsApart, held, share}
 use Rattle.addr_space.specs.Footprint.{Footprint, IsSound, Agrees, Moves, Keeps, HasRegion, counted}
 use Rattle.addr_space.proofs.Written.{HasRegion-written, byte_at-apart, HasBytes-written, held-written}
 use Rattle.addr_space.proofs.Steps.{Moves-one, Moves-give, Changes-more}
@@ -32,9 +32,7 @@ module _ (f g : Footprint) (s t : Space) (at : Addr) (len : ℕ) (word : List �
       Moves-one f g s t at.region len there.0 agrees sound account context (record { changed = there.1; others = writes.others; limit = writes.limit; accounts = writes.accounts })
       there.2 there.3 (λ none. absurd (cc)) (regions at.region ∙ owned) (λ other differs. regions other)
       (λ b bytes marked region k below. elim (marks b bytes marked) [
-        | inl new ↦
-            ap (λ (a : Addr). byte_at t a.region (a.offset + k)) new.0
-            ∙ HasBytes-written s t at word target.0 target.1 room writes k (omega (arith, below, ap length new.1)) ∙ ap (λ xs. Some (slice_index xs k)) new.1
+        | inl new ↦ rw (new.0, ← new.1) (HasBytes-written s t at word target.0 target.1 room writes k (rw (← new.1) at below))
         | inr old ↦ same_byte b (length bytes) k below old.1 ∙ agrees.marks b bytes old.0 k below
       ])
       (λ b bytes marked differs. elim (marks b bytes marked) [
@@ -63,9 +61,7 @@ module _ (f g : Footprint) (s m t : Space) (at : Addr) (size : ℕ) (word : List
       Moves-one f g s t at.region size there.0 agrees sound account context (record { changed = there.1; others = both.others; limit = both.limit; accounts = both.accounts })
       there.2 there.3 (λ none. free) owned others
       (λ b bytes marked region k below. elim (marks b bytes marked) [
-        | inl new ↦
-            ap (λ (a : Addr). byte_at t a.region (a.offset + k)) new.0
-            ∙ HasBytes-written m t at word (unwritten f.account size) took.changed room wrote k (omega (arith, below, ap length new.1)) ∙ ap (λ xs. Some (slice_index xs k)) new.1
+        | inl new ↦ rw (new.0, ← new.1) (HasBytes-written m t at word (unwritten f.account size) took.changed room wrote k (rw (← new.1) at below))
         | inr old ↦ absurd (old.0 region)
       ])
       (λ b bytes marked differs. elim (marks b bytes marked) [
@@ -78,11 +74,9 @@ module _ (f g : Footprint) (s m t : Space) (at : Addr) (size : ℕ) (word : List
 
   pub Keeps-taken : Keeps f g s t
   Keeps-taken b p n k live again below short =
-      let differs : b.region ≢ at.region = λ same.
       let within = agrees.sound.live_inside b p live in
-      let clash = sym free ∙ ap (region_at s) (sym same) ∙ (agrees.regions b.region within.0 within.1).1 in
-      absurd (cc) in
-      ap (λ r. slice_index_or (bytes_of r) (b.offset + k) None) (both.others b.region differs)
+      let there = (agrees.regions b.region within.0 within.1).1 in
+      rw (both.others b.region (λ same. let clash = ap (region_at s) same in absurd (cc))) refl
 
 -- what a region of the context counts for an account
 pub share-owned : (s : Space) (owner number size account : ℕ) → HasRegion s number owner size → share account (region_at s number) ≡ (if owner == account then size else 0)
@@ -102,5 +96,5 @@ Moves-gone f g s t number size agrees sound account context total changes owned 
 -- and the chunks that are still live are elsewhere
 pub Keeps-give : (f g : Footprint) (s t : Space) (number : ℕ) → IsSound g → g.region number ≡ None → Changes s t number None → Keeps f g s t
 Keeps-give f g s t number sound gone changes b m n k live again below short =
-    let differs : b.region ≢ number = λ same. let clash = sym gone ∙ ap g.region (sym same) ∙ (sound.live_inside b n again).1 in absurd (cc) in
-    ap (λ r. slice_index_or (bytes_of r) (b.offset + k) None) (changes.others b.region differs)
+    let within = sound.live_inside b n again in
+    rw (changes.others b.region (λ same. let clash = ap g.region same in absurd (cc))) refl

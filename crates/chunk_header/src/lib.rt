@@ -241,6 +241,7 @@ pub fn granted(size: u32) -> u32
 }
 
 /// A block's size, doubled while it is below a need.
+#[tactic(auto, using(crate::proofs::Doubling::grown_stop, crate::proofs::Doubling::grown_go))]
 pub fn grown(size: u32, need: u32) -> u32
     requires some { 0 < size }
     requires small { need ≤ 2 ^ 31 }

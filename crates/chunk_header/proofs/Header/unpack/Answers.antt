@@ -1,5 +1,5 @@
 use Rattle.std.proofs.Common.{ap, Ok, inl, inr, arith}
-use Rattle.chunk_header.proofs.Words.{header_in, word_of-header_in, header_in-word, parts_of-word, kind_code-lt}
+use Rattle.chunk_header.proofs.Words.{word_of-header_in, header_in-word, parts_of-word, kind_code-lt}
 use Rattle.chunk_header.proofs.Header.unpack.Goals as goal
 
 pub returns-in_default-clause-packed : goal.returns-in_default-clause-packed
