@@ -8,6 +8,7 @@ use Rattle.addr_space.specs.Live.{HasBytesOf}
 use Rattle.addr_space.proofs.Bytes.{known-part}
 use Rattle.addr_space.proofs.Written.{HasBytes-written}
 use Rattle.addr_space.proofs.Apart.{Moves-inside, KeepsBut-inside}
+use Rattle.addr_space.proofs.Contexts.{IsInside-live_part}
 
 -- a known byte
 known_byte : (o : Option ℕ) → IsSome o → o ≡ Some (unwrap_or o 0)
@@ -54,7 +55,4 @@ module _ (f : Footprint) (s t : Space) (from to : Addr) (n size : ℕ) (agrees :
 
 -- so many bytes from a live chunk on are inside a region
 pub IsInside-live : (f : Footprint) (s : Space) (at : Addr) (size n : ℕ) → Agrees f s → f.live at ≡ Some size → n ≤ size → IsInside s at n
-IsInside-live f s at size n agrees live fits =
-    let within = agrees.sound.live_inside at size live in
-    let has : HasRegion s at.region f.account within.0 = agrees.regions at.region within.0 within.1 in
-    record { live = rw has.1 refl; end_in_region = omega (arith, ap (λ r. length (bytes_of r)) has.1, has.3, within.2, fits) }
+IsInside-live f s at size n agrees live fits = IsInside-live_part f s at at size n agrees live refl (omega (arith, fits))

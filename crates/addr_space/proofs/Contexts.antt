@@ -74,17 +74,16 @@ AllAgree-joins fs account context g s t moves all =
       | inr after ↦ let same : k ≡ length fs = omega (arith, below, length_push fs g) in inl (same, get_or_push fs g (nothing 0 0) k (sym same))
     ])
 
-module _ (fs : List Footprint) (k : ℕ) (below : k < length fs) where
-  length-without : length (without fs k) + 1 ≡ length fs
-  length-without = simp (length-append, length-take, length-drop) (omega arith)
-
-  pub AreAmong-without : AreAmong (without fs k) fs
-  AreAmong-without = record {
-    place = λ j. if nat_lt j k then j else j + 1;
-    within = λ j inside. let n = length-without in grind (arith, nat_tests);
-    same = λ j inside. grind (arith, nat_tests, places);
-    differ = λ i j first second differ same. differ (grind (arith, nat_tests));
-  }
+-- all but one are among them
+pub AreAmong-without : (fs : List Footprint) (k : ℕ) → k < length fs → AreAmong (without fs k) fs
+AreAmong-without fs k below =
+    let rest : length (without fs k) + 1 ≡ length fs = simp (length-append, length-take, length-drop) (omega arith) in
+    record {
+      place = λ j. if nat_lt j k then j else j + 1;
+      within = λ j inside. grind (arith, nat_tests);
+      same = λ j inside. grind (arith, nat_tests, places);
+      differ = λ i j first second differ same. differ (grind (arith, nat_tests));
+    }
 
 -- it leaves when it is discarded
 pub AllAgree-leaves : (fs : List Footprint) (k account context : ℕ) (s t : Space) → k < length fs → Moves (context_at fs k) (nothing account context) s t → AllAgree fs s → AllAgree (without fs k) t

@@ -104,23 +104,15 @@ pub length-le-held : (xs : List (Option Region)) (n : ℕ) (region : Region) →
 length-le-held xs n region found =
     omega (arith, get_or-le-sum_by (share region.account) xs n None (place-within xs n region found), ap (share region.account) found, share-own region region.account refl)
 
-module _ (xs : List (Option Region)) (n : ℕ) (region : Region) (found : get_or xs n None ≡ Some region) (slot : Option Region) (accounts : List Account) (sound : IsSound xs accounts) where
-  -- the insides stay sound where the region at a number, and what its account holds, change together
-  pub IsSound-set : (a : ℕ) → a ≡ region.account → CountsFor a slot → (entry : Account) → entry.held + length region.bytes ≡ sum_by (share a) xs + share a slot → IsSound (set xs n slot) (set accounts a entry)
-  IsSound-set a account counts entry moved =
-      let here : get_or (set xs n slot) n None ≡ slot = get_or-set_same xs n slot None (place-within xs n region found) in
-      IsSound-changed xs (set xs n slot) n accounts a entry sound (omega (arith, account, sound.counted n region found)) (λ k differs. get_or-set_other xs n k slot None differs) (λ r is. cc) (λ r is. counts r (sym here ∙ is))
-      (omega (arith, moved, ap (share a) here, ap (share a) found, share-own region a (sym account)))
-
-  -- the insides stay sound where a region changes and its length stays
-  pub IsSound-same : CountsFor region.account slot → share region.account slot ≡ length region.bytes → IsSound (set xs n slot) accounts
-  IsSound-same counts len =
-      let below = sound.counted n region found in
-      rw set-get_or at (IsSound-set region.account refl counts (account_at accounts region.account) (omega (arith, sound.held region.account below)))
+-- the insides stay sound where the region at a number, and what its account holds, change together
+pub IsSound-set : (xs : List (Option Region)) (n : ℕ) (region : Region) → get_or xs n None ≡ Some region → (slot : Option Region) (accounts : List Account) → IsSound xs accounts
+    → (a : ℕ) → a ≡ region.account → CountsFor a slot → (entry : Account) → entry.held + length region.bytes ≡ sum_by (share a) xs + share a slot → IsSound (set xs n slot) (set accounts a entry)
+IsSound-set xs n region found slot accounts sound a account counts entry moved =
+    let here : get_or (set xs n slot) n None ≡ slot = get_or-set_same xs n slot None (place-within xs n region found) in
+    IsSound-changed xs (set xs n slot) n accounts a entry sound (omega (arith, account, sound.counted n region found)) (λ k differs. get_or-set_other xs n k slot None differs) (λ r is. cc) (λ r is. counts r (sym here ∙ is))
+    (omega (arith, moved, ap (share a) here, ap (share a) found, share-own region a (sym account)))
 
 -- the counts of what was taken stay where an account's own stays
 pub map-taken_same : (accounts : List Account) (account : ℕ) (entry : Account) → account < length accounts → entry.taken ≡ (account_at accounts account).taken → map (λ (a : Account). a.taken) (set accounts account entry) ≡ map (λ (a : Account). a.taken) accounts
 map-taken_same accounts account entry below count =
-    let counts : List ℕ = map (λ (a : Account). a.taken) accounts in
-    let there : get_or counts account 0 ≡ (account_at accounts account).taken = get_or-map (λ (a : Account). a.taken) accounts account no_account 0 below in
-    map-set (λ (a : Account). a.taken) accounts account entry ∙ ap (set counts account) (count ∙ sym there) ∙ set-get_or counts account 0
+    rw (map-set (λ (a : Account). a.taken) accounts account entry, count, ← get_or-map (λ (a : Account). a.taken) accounts account no_account 0 below, set-get_or) refl

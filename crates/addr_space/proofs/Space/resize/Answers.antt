@@ -1,8 +1,8 @@
-use Rattle.std.proofs.Common.{◌≡◌, ◌-◌, ◌≤◌, refl, ap, ◌∙◌, sym, length, arith, rules, Some, sum_by}
+use Rattle.std.proofs.Common.{◌≡◌, ◌-◌, ◌≤◌, refl, ap, ◌∙◌, sym, length, arith, rules, Some, None, get_or, sum_by}
 use Rattle.std.proofs.lemmas.Grind.{common_steps}
-use Rattle.std.proofs.lemmas.List.{length-append, length-take, length-replicate}
+use Rattle.std.proofs.lemmas.List.{length-append, length-take, length-replicate, set-get_or}
 use Rattle.addr_space.specs.Space.{Region, share, held}
-use Rattle.addr_space.proofs.Held.{IsSound-set, IsSound-same, length-le-held, counts-for, share-own, held-Changes, map-taken}
+use Rattle.addr_space.proofs.Held.{IsSound-set, length-le-held, counts-for, share-own, held-Changes, map-taken}
 use Rattle.addr_space.proofs.Space.resize.Goals as goal
 use Rattle.addr_space.proofs.Space.resize.Goals.{After-entry-entry}
 
@@ -18,11 +18,8 @@ within-requires c =
 
 pub invariant_of-self : goal.invariant_of-self
 invariant_of-self c =
-    let region = c.index_mut.result.now in
-    let same : c.resize.new.self ≡ region = search rules in
-    let account = ap (λ (x : Region). x.account) same in
-    IsSound-same c.self.inside.regions.slots c.args.at.region region c.index_mut.ensures.value (Some c.resize.new.self) c.self.inside.accounts.items c.self.invariant
-    (counts-for _ c.resize.new.self _ refl account) (share-own c.resize.new.self region.account account ∙ ap (λ (x : Region). length x.bytes) same)
+    let same : Some c.resize.new.self ≡ get_or c.self.inside.regions.slots c.args.at.region None = search rules in
+    rw (same, set-get_or) c.self.invariant
 
 pub invariant_of-self-2 : goal.invariant_of-self-2
 invariant_of-self-2 c =

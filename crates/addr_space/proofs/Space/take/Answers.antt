@@ -1,7 +1,7 @@
-use Rattle.std.proofs.Common.{◌≡◌, ℕ, ◌<◌, ◌+◌, refl, rules, ap, ◌∙◌, length, arith, None, Some, get_or, sum_by, map}
+use Rattle.std.proofs.Common.{◌≡◌, ◌<◌, ◌+◌, rules, ap, ◌∙◌, length, arith, None, sum_by}
 use Rattle.std.proofs.lemmas.Grind.{common_steps}
 use Rattle.std.proofs.lemmas.List.{length-map, length-replicate}
-use Rattle.addr_space.specs.Space.{Region, Space, held, share, unwritten, risen}
+use Rattle.addr_space.specs.Space.{Space, held, share}
 use Rattle.addr_space.specs.declared.Account.{Account}
 use Rattle.addr_space.proofs.Held.{IsSound-changed, counts-for, share-none, share-own, held-taken, map-taken}
 use Rattle.addr_space.proofs.Options.{none_or_some}
