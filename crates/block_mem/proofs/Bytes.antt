@@ -42,5 +42,5 @@ known-part xs bs at inside agree =
     let left : get_or (map Some bs) k d ≡ Some (get_or bs k 0) = get_or-map Some bs k 0 d below in
     grind (arith, places, get_or_default))
 
-pub length-resized : (block : List (Option ℕ)) (n : ℕ) → length (resized block n) ≡ n
-length-resized block n = search (rules, places)
+-- lengths and places of bytes that were written
+pub ruleset byte_places = (places, length-map)

@@ -6,16 +6,6 @@ use Rattle.block_mem.specs.Block.{part, overwritten, resized, IsKnown}
 use Rattle.block_mem.specs.Cells.{Holds}
 use Rattle.block_mem.proofs.Bytes.{length-part, known-part}
 
--- a place is before a part, in it or behind it
-pub around : (at n k : ℕ) → ((k < at) ⊎ (at + n ≤ k)) ⊎ ((j : ℕ) × (j < n) × (at + j ≡ k))
-around at n k = elim (cases_lt k at) [
-  | inl before ↦ inl (inl before)
-  | inr from ↦ elim (cases_lt k (at + n)) [
-    | inl within ↦ inr (k - at, omega arith, omega arith)
-    | inr behind ↦ inl (inr behind)
-  ]
-]
-
 -- what is known is a byte
 pub known_byte : (o : Option ℕ) → IsSome o → (byte : ℕ) × (o ≡ Some byte)
 known_byte (Some byte) some = (byte, refl)
@@ -33,19 +23,15 @@ module _ (cells : List ℕ) (known : List (Option ℕ)) (holds : Holds cells kno
   pub Holds-written : (at : ℕ) (bytes : List ℕ) → at + length bytes ≤ length known → at + length bytes ≤ length cells → Holds (overwritten cells at bytes) (overwritten known at (map Some bytes))
   Holds-written at bytes inside reached k byte is =
       let was = holds k byte in
-      elim (around at (length bytes) k) [
-        | inl apart ↦ grind (arith, places, length-map)
-        | inr (j, below, same) ↦ grind (arith, places, length-map, get_or-map)
-      ]
+      let put = get_or-map Some bytes (k - at) 0 None in
+      grind (arith, places, length-map)
 
   -- as much is known of a copy as of what it was made from
   pub Holds-carried : (from to n : ℕ) → from + n ≤ length known → to + n ≤ length known → from + n ≤ length cells → to + n ≤ length cells → Holds (overwritten cells to (part cells from n)) (overwritten known to (part known from n))
   Holds-carried from to n inside room reached wide k byte is =
       let was = holds k byte in
-      elim (around to n k) [
-        | inl apart ↦ grind (arith, places)
-        | inr (j, below, same) ↦ let there = holds (from + j) byte in grind (arith, places)
-      ]
+      let carried = holds (from + (k - to)) byte in
+      grind (arith, places)
 
   -- what both lengths have stays known
   pub Holds-resized : (n : ℕ) (kept : List ℕ) → ((k : ℕ) → k < n → k < length cells → (k < length kept) × (get_or kept k 0 ≡ get_or cells k 0)) → Holds kept (resized known n)
