@@ -1,5 +1,5 @@
 -- Lemmas on words that stand in a space.
-use Rattle.std.proofs.Common.{◌≡◌, ℕ, ◌+◌, ◌^◌, ◌<◌, ◌≤◌, List, [], ◌∷◌, length, map, get_or, slice_index, Some, None, refl, sym, ◌∙◌, arith}
+use Rattle.std.proofs.Common.{◌≡◌, ℕ, ◌+◌, ◌≤◌, List, [], ◌∷◌, length, map, get_or, slice_index, Some, None, refl, sym, ◌∙◌, arith}
 use Rattle.std.proofs.lemmas.List.{get_or_past}
 use Rattle.addr_space.specs.Space.{Space, part, bytes_of, region_at, HasBytes}
 use Rattle.addr_space.specs.declared.Addr.{Addr}
@@ -28,12 +28,8 @@ same_bytes s at out bytes len has is =
     let known = known-part (bytes_of (region_at s at.region)) bytes at.offset (omega (arith, inside s at bytes len has, len)) has in
     some_injective out bytes (is ∙ sym (rw len at known))
 
--- a header's word has 64 bits
-pub word_of-lt : (h : Header) → IsPackable h → word_of h < 2 ^ 64
-unfolding word_of
-word_of-lt h packable = omega (arith, (kind_code-lt h.kind).1, own_bit-lt h.own, packable.value, packable.dist)
-
 -- the number that a header's bytes make
 pub from-header_bytes : (h : Header) → IsPackable h → from_le_bytes w64 (header_bytes h) ≡ word_of h
-unfolding header_bytes
-from-header_bytes h packable = from_le_bytes-to_le_bytes_8 (word_of h) (word_of-lt h packable)
+unfolding header_bytes word_of
+from-header_bytes h packable =
+    from_le_bytes-to_le_bytes_8 _ (omega (arith, (kind_code-lt h.kind).1, own_bit-lt h.own, packable.value, packable.dist))

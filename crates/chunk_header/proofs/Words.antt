@@ -26,10 +26,7 @@ kind_code-injective a b same = absurd (omega arith)
 
 pub kind_code-lt : (kind : Kind) → (1 ≤ kind_code kind) × (kind_code kind ≤ 5)
 kind_code-lt AllocSet = (omega arith, omega arith)
-kind_code-lt Slab = (omega arith, omega arith)
-kind_code-lt Generation = (omega arith, omega arith)
-kind_code-lt Bump = (omega arith, omega arith)
-kind_code-lt Aligned = (omega arith, omega arith)
+kind_code-lt other = (omega arith, omega arith)
 
 pub own_bit-lt : (own : Bool) → own_bit own < 2
 own_bit-lt true = omega arith

@@ -1,4 +1,4 @@
-use Rattle.std.proofs.Common.{ap, Ok, inl, inr, arith}
+use Rattle.std.proofs.Common.{ap, Ok, arith}
 use Rattle.chunk_header.proofs.Words.{word_of-header_in, header_in-word, parts_of-word, kind_code-lt}
 use Rattle.chunk_header.proofs.Header.unpack.Goals as goal
 
@@ -6,10 +6,8 @@ pub returns-in_default-clause-packed : goal.returns-in_default-clause-packed
 returns-in_default-clause-packed c = λ h packable same.
     let parts = parts_of-word h c.args.word packable same in
     let code = kind_code-lt h.kind in
-    absurd (elim c.in_default.ensures.none [
-      | inl zero ↦ omega (arith, parts.0, code.0)
-      | inr above ↦ omega (arith, parts.0, code.1)
-    ])
+    let none = c.in_default.ensures.none in
+    absurd (omega arith)
 
 pub returns-clause-word : goal.returns-clause-word
 returns-clause-word c = word_of-header_in c.in-Some.kind c.args.word c.in-Some.ensures.some
