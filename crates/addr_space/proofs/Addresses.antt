@@ -1,6 +1,6 @@
 -- Lemmas on addresses.
 use Rattle.std.proofs.Common.{◌≡◌, ◌≢◌, ◌⊎◌, if◌then◌else◌, Option, true, false, sym, ap, ◌∙◌, arith, inl, inr}
-use Rattle.std.proofs.lemmas.Bool.{cases_eq}
+use Rattle.std.proofs.lemmas.Bool.{cases_Bool}
 use Rattle.std.proofs.lemmas.Bool.Decides.{nat_tests}
 use Rattle.addr_space.specs.declared.Addr.{Addr}
 use Rattle.addr_space.specs.Live.{same_addr}
@@ -12,12 +12,9 @@ same_addr_from a b region offset =
 -- whether two addresses are one
 pub same_addr-cases : (a b : Addr) → ((a ≡ b) × (same_addr a b ≡ true)) ⊎ ((a ≢ b) × (same_addr a b ≡ false))
 same_addr-cases a b =
-    elim (cases_eq a.region b.region) [
-      | inl region ↦ elim (cases_eq a.offset b.offset) [
-        | inl offset ↦ inl (same_addr_from a b region offset, grind (arith, nat_tests))
-        | inr differs ↦ inr ((λ e. differs (ap (λ (x : Addr). x.offset) e)), grind (arith, nat_tests))
-      ]
-      | inr differs ↦ inr ((λ e. differs (ap (λ (x : Addr). x.region) e)), grind (arith, nat_tests))
+    elim (cases_Bool (same_addr a b)) [
+      | inl same ↦ inl (same_addr_from a b (grind (arith, nat_tests)) (grind (arith, nat_tests)), same)
+      | inr differs ↦ inr ((λ e. absurd (grind (arith, nat_tests, rw e at differs))), differs)
     ]
 
 -- what stands at each address, where it is at one of them that something else was put

@@ -88,11 +88,7 @@ module _ (f : Footprint) (s t : Space) (chunk at : Addr) (size : ℕ) (bytes : L
   -- a range apart from the chunk keeps its bytes
   range_kept : (b : Addr) (n k : ℕ) → IsApart chunk size b n → k < n → byte_at t b.region (b.offset + k) ≡ byte_at s b.region (b.offset + k)
   range_kept b n k apart below =
-      byte_at-apart s t at bytes target.3.0 target.3.1 fits inside.writes b.region (b.offset + k)
-      (λ same. elim (apart (sym inside.region ∙ sym same)) [
-        | inl before ↦ inr (omega (arith, inside.last))
-        | inr after ↦ inl (omega (arith, inside.first))
-      ])
+      byte_at-apart s t at bytes target.3.0 target.3.1 fits inside.writes b.region (b.offset + k) (λ same. let far = apart (sym inside.region ∙ sym same) in grind (arith, inside.first, inside.last))
 
   pub Moves-inside : Moves f f s t
   Moves-inside =

@@ -19,10 +19,7 @@ module _ (f g : Footprint) (s t : Space) (at : Addr) (len : ℕ) (word : List �
 
   same_byte : (b : Addr) (n k : ℕ) → k < n → IsApart b n at (length word) → byte_at t b.region (b.offset + k) ≡ byte_at s b.region (b.offset + k)
   same_byte b n k below apart =
-      byte_at-apart s t at word target.0 target.1 room writes b.region (b.offset + k) (λ same. elim (apart same) [
-        | inl before ↦ inl (omega arith)
-        | inr after ↦ inr (omega arith)
-      ])
+      byte_at-apart s t at word target.0 target.1 room writes b.region (b.offset + k) (λ same. let far = apart same in grind arith)
 
   pub Moves-written : IsSound g → g.account ≡ f.account → g.context ≡ f.context → g.total ≡ f.total → ((number : ℕ) → g.region number ≡ f.region number)
       → ((b : Addr) (bytes : List ℕ) → g.mark b ≡ Some bytes → ((b ≡ at) × (word ≡ bytes)) ⊎ ((f.mark b ≡ Some bytes) × IsApart b (length bytes) at (length word))) → Moves f g s t
@@ -35,10 +32,7 @@ module _ (f g : Footprint) (s t : Space) (at : Addr) (len : ℕ) (word : List �
         | inl new ↦ rw (new.0, ← new.1) (HasBytes-written s t at word target.0 target.1 room writes k (rw (← new.1) at below))
         | inr old ↦ same_byte b (length bytes) k below old.1 ∙ agrees.marks b bytes old.0 k below
       ])
-      (λ b bytes marked differs. elim (marks b bytes marked) [
-        | inl new ↦ absurd (differs (ap (λ (x : Addr). x.region) new.0))
-        | inr old ↦ old.0
-      ])
+      (λ b bytes marked differs. let new_or_old = marks b bytes marked in grind arith)
       (λ a. let counts : (if g.account == a then g.total else 0) ≡ (if f.account == a then f.total else 0) = rw (account, total) refl in omega (arith, held-written s t at word target.0 target.1 room writes a, counts))
 
   pub Keeps-written : ((b : Addr) (m n : ℕ) → f.live b ≡ Some m → g.live b ≡ Some n → IsApart b m at (length word)) → Keeps f g s t
@@ -64,10 +58,7 @@ module _ (f g : Footprint) (s m t : Space) (at : Addr) (size : ℕ) (word : List
         | inl new ↦ rw (new.0, ← new.1) (HasBytes-written m t at word (unwritten f.account size) took.changed room wrote k (rw (← new.1) at below))
         | inr old ↦ absurd (old.0 region)
       ])
-      (λ b bytes marked differs. elim (marks b bytes marked) [
-        | inl new ↦ absurd (differs (ap (λ (x : Addr). x.region) new.0))
-        | inr old ↦ old.1
-      ])
+      (λ b bytes marked differs. let new_or_old = marks b bytes marked in grind arith)
       (λ a.
       let counts : (if g.account == a then g.total else 0) ≡ (if f.account == a then f.total + size else 0) = rw (account, total) refl in
       grind (arith, held-written m t at word (unwritten f.account size) took.changed room wrote a, holds a, counts))
