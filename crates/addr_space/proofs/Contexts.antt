@@ -1,13 +1,12 @@
 -- The laws of a list of contexts that share a space.
-use Rattle.std.proofs.Common.{◌≡◌, ◌≢◌, ℕ, ◌+◌, ◌^◌, ◌<◌, ◌≤◌, ◌==◌, ◌++◌, nat_lt, if◌then◌else◌, List, [], ◌∷◌, length, get_or, set, Some, refl, sym, ap, ◌∙◌, inl, inr, arith}
-use Rattle.std.proofs.lemmas.Bool.{cases_lt}
+use Rattle.std.proofs.Common.{◌≡◌, ◌≢◌, ℕ, ◌+◌, ◌^◌, ◌<◌, ◌≤◌, ◌==◌, ◌++◌, nat_lt, if◌then◌else◌, List, [], ◌∷◌, length, set, Some, refl, ap, ◌∙◌, arith}
 use Rattle.std.proofs.lemmas.Bool.Decides.{nat_tests}
-use Rattle.std.proofs.lemmas.List.{places, length-append, length-take, length-drop, get_or-set_same, get_or-set_other, get_or_append_left, length-set, length_push, get_or_push, take-set, drop-set-lt}
+use Rattle.std.proofs.lemmas.List.{places, length-append, length-take, length-drop, get_or-set_same, get_or-set_other, length-set, take-set, drop-set-lt}
 use Rattle.addr_space.specs.declared.Addr.{Addr}
-use Rattle.addr_space.specs.Space.{Region, Space, region_at, bytes_of, taken, risen, accounts, Asks, IsInside}
+use Rattle.addr_space.specs.Space.{Space, region_at, bytes_of, taken, risen, accounts, Asks, IsInside}
 use Rattle.addr_space.specs.Footprint.{Footprint, Agrees, Moves, AreDisjoint, AllAgree, context_at, nothing, counted}
 use Rattle.addr_space.specs.Contexts.{AreAmong, without}
-use Rattle.addr_space.proofs.Options.{option_cases, one_value}
+use Rattle.addr_space.proofs.Options.{option_cases}
 use Rattle.addr_space.proofs.Asked.{raised-set}
 use Rattle.addr_space.proofs.Apart.{AreDisjoint-other, AllAgree-put, AllAgree-set}
 use Rattle.addr_space.proofs.Steps.{none_counted}
@@ -24,13 +23,9 @@ AreDisjoint-fresh account context g other s t moves agrees =
 -- contexts of different accounts are apart
 pub AreDisjoint-foreign : (f g : Footprint) (s : Space) → Agrees f s → Agrees g s → f.account ≢ g.account → AreDisjoint f g
 AreDisjoint-foreign f g s first second differ number len owns =
-    elim (option_cases (g.region number)) [
-      | inl none ↦ none
-      | inr owned ↦
-          let a = first.regions number len owns in
-          let b = second.regions number owned.0 owned.1 in
-          absurd (differ (sym a.2 ∙ ap (λ (r : Region). r.account) (one_value (region_at s number) a.0 b.0 a.1 b.1) ∙ b.2))
-    ]
+    let mine = first.regions number len owns in
+    let owner = option_cases (g.region number) in
+    grind (arith, second.regions number)
 
 -- a live chunk ends within 2 ^ 31 bytes
 pub ends_small : (f : Footprint) (s : Space) (chunk : Addr) (size : ℕ) → Agrees f s → f.live chunk ≡ Some size → chunk.offset + size ≤ 2 ^ 31
@@ -51,12 +46,10 @@ IsInside-live_part f s chunk at size n agrees live same ends =
 
 -- what is counted after a call
 pub taken-own : (account n : ℕ) (s t : Space) → account < accounts s → Asks account n s t → taken t account ≡ risen (taken s account) n
-taken-own account n s t below asks =
-    ap (λ c. get_or c account 0) (asks ∙ sym (raised-set s.taken account n)) ∙ get_or-set_same s.taken account (risen (get_or s.taken account 0) n) 0 below
+taken-own account n s t below asks = rw (asks, ← raised-set s.taken account n) (get_or-set_same s.taken account _ 0 below)
 
 pub taken-other : (account n other : ℕ) (s t : Space) → Asks account n s t → other ≢ account → taken t other ≡ taken s other
-taken-other account n other s t asks differs =
-    ap (λ c. get_or c other 0) (asks ∙ sym (raised-set s.taken account n)) ∙ get_or-set_other s.taken account other (risen (get_or s.taken account 0) n) 0 differs
+taken-other account n other s t asks differs = rw (asks, ← raised-set s.taken account n) (get_or-set_other s.taken account other _ 0 differs)
 
 -- some of the contexts
 pub AllAgree-among : (hs fs : List Footprint) (s : Space) → AreAmong hs fs → AllAgree fs s → AllAgree hs s
@@ -69,10 +62,7 @@ AllAgree-among hs fs s among all = record {
 -- a context joins when it is made
 pub AllAgree-joins : (fs : List Footprint) (account context : ℕ) (g : Footprint) (s t : Space) → Moves (nothing account context) g s t → AllAgree fs s → AllAgree (fs ++ g ∷ []) t
 AllAgree-joins fs account context g s t moves all =
-    AllAgree-put fs (fs ++ g ∷ []) (nothing account context) g (length fs) s t moves all (λ k below differs. AreDisjoint-nothing account context (context_at fs k)) (λ k below. elim (cases_lt k (length fs)) [
-      | inl before ↦ inr (before, omega arith, get_or_append_left fs (g ∷ []) (nothing 0 0) k before)
-      | inr after ↦ let same : k ≡ length fs = omega (arith, below, length_push fs g) in inl (same, get_or_push fs g (nothing 0 0) k (sym same))
-    ])
+    AllAgree-put fs (fs ++ g ∷ []) (nothing account context) g (length fs) s t moves all (λ k below differs. AreDisjoint-nothing account context (context_at fs k)) (λ k below. grind (arith, places))
 
 -- all but one are among them
 pub AreAmong-without : (fs : List Footprint) (k : ℕ) → k < length fs → AreAmong (without fs k) fs
