@@ -28,9 +28,7 @@ module _ (f g other : Footprint) (s t : Space) (moves : Moves f g s t) (disjoint
   Agrees-other = record {
     sound = agrees.sound;
     account = omega (arith, agrees.account, moves.accounts);
-    regions = λ number len owns.
-        let has = agrees.regions number len owns in
-        (has.0, (kept number len owns).0 ∙ has.1, has.2, has.3);
+    regions = λ number len owns. rw (kept number len owns).0 (agrees.regions number len owns);
     marks = λ at bytes marked k below.
         byte_kept at (length bytes) (at.offset + k) (agrees.sound.mark_inside at bytes marked) ∙ agrees.marks at bytes marked k below;
   }

@@ -63,9 +63,7 @@ Moves-still f g s agrees sound account context total regions marks = record {
   agrees = record {
     sound = sound;
     account = omega (arith, agrees.account);
-    regions = λ number len owns.
-        let has = agrees.regions number len (sym (regions number) ∙ owns) in
-        (has.0, has.1, has.2 ∙ sym account, has.3);
+    regions = λ number len owns. rw account (agrees.regions number len (sym (regions number) ∙ owns));
     marks = marks;
   };
   account = account;
@@ -100,9 +98,7 @@ Moves-changed f g s t number slot agrees sound account context changes others ow
     account = omega (arith, agrees.account, changes.accounts);
     regions = λ n m owns. elim (cases_eq n number) [
       | inl same ↦ let it = owned m (rw same at owns) in rw (same, changes.changed) it
-      | inr differs ↦
-          let has = agrees.regions n m (sym (others n differs) ∙ owns) in
-          (has.0, changes.others n differs ∙ has.1, has.2 ∙ sym account, has.3)
+      | inr differs ↦ rw (account, changes.others n differs) (agrees.regions n m (sym (others n differs) ∙ owns))
     ];
     marks = λ at bytes marked. elim (cases_eq at.region number) [
       | inl same ↦ here at bytes marked same
