@@ -1,6 +1,5 @@
 -- Lemmas on addresses.
-use Rattle.std.proofs.Common.{◌≡◌, ◌≢◌, ◌⊎◌, if◌then◌else◌, Option, true, false, sym, ap, ◌∙◌, arith, inl, inr}
-use Rattle.std.proofs.lemmas.Bool.{cases_eq}
+use Rattle.std.proofs.Common.{◌≡◌, ◌≢◌, ◌⊎◌, if◌then◌else◌, Option, true, false, ap, ◌∙◌, arith}
 use Rattle.std.proofs.lemmas.Bool.Decides.{nat_tests}
 use Rattle.addr_space.specs.declared.Addr.{Addr}
 use Rattle.addr_space.specs.Live.{same_addr}
@@ -11,19 +10,8 @@ same_addr_from a b region offset =
 
 -- whether two addresses are one
 pub same_addr-cases : (a b : Addr) → ((a ≡ b) × (same_addr a b ≡ true)) ⊎ ((a ≢ b) × (same_addr a b ≡ false))
-same_addr-cases a b =
-    elim (cases_eq a.region b.region) [
-      | inl region ↦ elim (cases_eq a.offset b.offset) [
-        | inl offset ↦ inl (same_addr_from a b region offset, grind (arith, nat_tests))
-        | inr differs ↦ inr ((λ e. differs (ap (λ (x : Addr). x.offset) e)), grind (arith, nat_tests))
-      ]
-      | inr differs ↦ inr ((λ e. differs (ap (λ (x : Addr). x.region) e)), grind (arith, nat_tests))
-    ]
+same_addr-cases a b = grind (arith, nat_tests, same_addr_from a b)
 
 -- what stands at each address, where it is at one of them that something else was put
 pub put_at-cases : {X : Type 0} (f g : Addr → Option X) (at : Addr) (put : Option X) → ((other : Addr) → g other ≡ (if same_addr at other then put else f other)) → (other : Addr) → ((other ≡ at) × (g other ≡ put)) ⊎ ((other ≢ at) × (g other ≡ f other))
-put_at-cases f g at put puts other =
-    elim (same_addr-cases at other) [
-      | inl same ↦ inl (sym same.0, puts other ∙ ap (λ b. if b then put else f other) same.1)
-      | inr differs ↦ inr ((λ e. differs.0 (sym e)), puts other ∙ ap (λ b. if b then put else f other) differs.1)
-    ]
+put_at-cases f g at put puts other = grind (arith, nat_tests, puts other, same_addr_from at other)

@@ -1,21 +1,16 @@
 -- The laws of contexts that share a space.
 use Rattle.std.proofs.Common.{◌≡◌, ◌≢◌, ℕ, ◌+◌, ◌<◌, ◌≤◌, ◌⊎◌, List, length, map, get_or, set, Some, None, refl, sym, ap, ◌∙◌, inl, inr, arith}
-use Rattle.std.proofs.lemmas.Bool.{cases_eq}
 use Rattle.std.proofs.lemmas.List.{length-set, get_or-set_same, get_or-set_other}
 use Rattle.addr_space.specs.declared.Addr.{Addr}
 use Rattle.addr_space.specs.Space.{Space, region_at, overwritten, bytes_of, byte_at, IsApart}
-use Rattle.addr_space.specs.Footprint.{Footprint, IsWithin, HasRegion, Agrees, Moves, Keeps, KeepsBut, AreDisjoint, AllAgree, context_at, nothing, WritesInside}
+use Rattle.addr_space.specs.Footprint.{Footprint, IsWithin, HasRegion, Agrees, Moves, Keeps, KeepsBut, AreDisjoint, AllAgree, context_at, WritesInside}
 use Rattle.addr_space.proofs.Steps.{Moves-changed}
 use Rattle.addr_space.proofs.Options.{option_cases}
 use Rattle.addr_space.proofs.Written.{HasRegion-written, byte_at-apart, held-written}
 
 -- disjoint either way round
 pub AreDisjoint-sym : (f g : Footprint) → AreDisjoint f g → AreDisjoint g f
-AreDisjoint-sym f g apart number len owns =
-    elim (option_cases (f.region number)) [
-      | inl without ↦ without
-      | inr owned ↦ let clash = apart number owned.0 owned.1 in absurd (cc)
-    ]
+AreDisjoint-sym f g apart number len owns = let owner = option_cases (f.region number) in grind (arith, apart number)
 
 module _ (f g other : Footprint) (s t : Space) (moves : Moves f g s t) (disjoint : AreDisjoint f other) (agrees : Agrees other s) where
   -- a region of the other context is as it was, and isn't the moving one's
@@ -33,9 +28,7 @@ module _ (f g other : Footprint) (s t : Space) (moves : Moves f g s t) (disjoint
   Agrees-other = record {
     sound = agrees.sound;
     account = omega (arith, agrees.account, moves.accounts);
-    regions = λ number len owns.
-        let has = agrees.regions number len owns in
-        (has.0, (kept number len owns).0 ∙ has.1, has.2, has.3);
+    regions = λ number len owns. rw (kept number len owns).0 (agrees.regions number len owns);
     marks = λ at bytes marked k below.
         byte_kept at (length bytes) (at.offset + k) (agrees.sound.mark_inside at bytes marked) ∙ agrees.marks at bytes marked k below;
   }
@@ -55,24 +48,16 @@ AllAgree-put fs hs f g n s t moves all apart places =
         | inl new ↦ rw new.1 moves.agrees
         | inr old ↦ rw old.2 (Agrees-other f g (context_at fs k) s t moves (apart k old.0 old.1) (all.agree k old.0))
       ];
-      disjoint = λ i j first second differ. elim (places i first) [
-        | inl new ↦ elim (places j second) [
-          | inl both ↦ absurd (differ (new.0 ∙ sym both.0))
-          | inr old ↦ rw (new.1, old.2) (fresh j old.0 old.1)
-        ]
-        | inr old ↦ elim (places j second) [
-          | inl new ↦ rw (old.2, new.1) (AreDisjoint-sym g (context_at fs i) (fresh i old.0 old.1))
-          | inr other ↦ rw (old.2, other.2) (all.disjoint i j old.0 other.0 differ)
-        ]
-      ];
+      disjoint = λ i j first second differ number len owns.
+          let one = places i first in
+          let two = places j second in
+          let back = AreDisjoint-sym g (context_at fs i) in
+          grind (arith, fresh, all.disjoint i j);
     }
 
 pub AllAgree-set : (fs : List Footprint) (k : ℕ) (g : Footprint) (s t : Space) → k < length fs → Moves (context_at fs k) g s t → AllAgree fs s → AllAgree (set fs k g) t
 AllAgree-set fs k g s t below moves all =
-    AllAgree-put fs (set fs k g) (context_at fs k) g k s t moves all (λ j within differs. all.disjoint k j below within (λ e. differs (sym e))) (λ j within. elim (cases_eq j k) [
-      | inl same ↦ inl (same, rw same (get_or-set_same fs k g (nothing 0 0) below))
-      | inr differs ↦ inr (rw length-set at within, differs, get_or-set_other fs k j g (nothing 0 0) differs)
-    ])
+    AllAgree-put fs (set fs k g) (context_at fs k) g k s t moves all (λ j within differs. all.disjoint k j below within (λ e. differs (sym e))) (λ j within. grind (arith, length-set, get_or-set_same, get_or-set_other))
 
 module _ (f : Footprint) (s t : Space) (chunk at : Addr) (size : ℕ) (bytes : List ℕ) (agrees : Agrees f s) (inside : WritesInside f s t chunk at size bytes) where
   -- the region that is written in
@@ -88,11 +73,7 @@ module _ (f : Footprint) (s t : Space) (chunk at : Addr) (size : ℕ) (bytes : L
   -- a range apart from the chunk keeps its bytes
   range_kept : (b : Addr) (n k : ℕ) → IsApart chunk size b n → k < n → byte_at t b.region (b.offset + k) ≡ byte_at s b.region (b.offset + k)
   range_kept b n k apart below =
-      byte_at-apart s t at bytes target.3.0 target.3.1 fits inside.writes b.region (b.offset + k)
-      (λ same. elim (apart (sym inside.region ∙ sym same)) [
-        | inl before ↦ inr (omega (arith, inside.last))
-        | inr after ↦ inl (omega (arith, inside.first))
-      ])
+      byte_at-apart s t at bytes target.3.0 target.3.1 fits inside.writes b.region (b.offset + k) (λ same. let far = apart (sym inside.region ∙ sym same) in grind (arith, inside.first, inside.last))
 
   pub Moves-inside : Moves f f s t
   Moves-inside =

@@ -1,26 +1,16 @@
 -- Lemmas on the counts of what was taken.
-use Rattle.std.proofs.Common.{◌≡◌, ℕ, ◌+◌, ◌-◌, ◌^◌, ◌==◌, Bool, true, false, if◌then◌else◌, List, length, get_or, set, min, refl, ap, ◌∙◌, inl, inr, arith}
-use Rattle.std.proofs.lemmas.Bool.{cases_lt}
+use Rattle.std.proofs.Common.{◌≡◌, ℕ, ◌+◌, List, get_or, set, ap, ◌∙◌, arith}
 use Rattle.std.proofs.lemmas.Bool.Decides.{nat_tests}
 use Rattle.std.proofs.lemmas.List.{get_or-set_same, set-get_or, set-set, set_past, length-set}
 use Rattle.addr_space.specs.Space.{Space, Asks, raised, risen}
 
 -- the counts where one of them is set to what it is once so much was added
-put : (counts : List ℕ) (account more : ℕ) (b : Bool) → set counts account (if b then get_or counts account 0 else more) ≡ (if b then counts else set counts account more)
-put counts account more true = set-get_or counts account 0
-put counts account more false = refl
-
 pub raised-set : (counts : List ℕ) (account n : ℕ) → set counts account (risen (get_or counts account 0) n) ≡ raised counts account n
-raised-set counts account n = put counts account (min (get_or counts account 0 + n) (2 ^ 64 - 1)) (n == 0)
+raised-set counts account n = grind (arith, nat_tests, set-get_or)
 
 -- one rise after another
 pub raised-more : (counts : List ℕ) (account m n : ℕ) → raised (raised counts account m) account n ≡ raised counts account (m + n)
-raised-more counts account m n = elim (cases_lt account (length counts)) [
-  | inl below ↦
-      let here = get_or-set_same counts account (min (get_or counts account 0 + m) (2 ^ 64 - 1)) 0 below in
-      grind (arith, nat_tests, set-set)
-  | inr past ↦ grind (arith, nat_tests, set_past, length-set)
-]
+raised-more counts account m n = grind (arith, nat_tests, set-set, set_past, length-set, get_or-set_same)
 
 -- what two calls asked together
 pub Asks-more : (account m n : ℕ) (s t u : Space) → Asks account m s t → Asks account n t u → Asks account (m + n) s u

@@ -1,18 +1,15 @@
 -- Lemmas on known bytes that are copied into a live chunk.
-use Rattle.std.proofs.Common.{◌≡◌, ℕ, ◌+◌, ◌<◌, ◌≤◌, List, length, map, get_or, Option, Some, None, IsSome, unwrap_or, refl, sym, ap, ◌∙◌, arith, rules}
+use Rattle.std.proofs.Common.{◌≡◌, ℕ, ◌+◌, ◌<◌, ◌≤◌, List, length, map, get_or, Option, Some, unwrap_or, refl, sym, ap, ◌∙◌, arith, rules}
 use Rattle.std.proofs.lemmas.List.{places, length-map, get_or-map}
 use Rattle.addr_space.specs.declared.Addr.{Addr}
 use Rattle.addr_space.specs.Space.{Space, region_at, bytes_of, byte_at, part, overwritten, Changes, IsInside, IsKnown}
 use Rattle.addr_space.specs.Footprint.{Footprint, Agrees, Moves, KeepsBut, WritesInside, HasRegion}
 use Rattle.addr_space.specs.Live.{HasBytesOf}
 use Rattle.addr_space.proofs.Bytes.{known-part}
+use Rattle.addr_space.proofs.Options.{option_cases}
 use Rattle.addr_space.proofs.Written.{HasBytes-written}
 use Rattle.addr_space.proofs.Apart.{Moves-inside, KeepsBut-inside}
-
--- a known byte
-known_byte : (o : Option ℕ) → IsSome o → o ≡ Some (unwrap_or o 0)
-known_byte None is = absurd (cc)
-known_byte (Some x) is = refl
+use Rattle.addr_space.proofs.Contexts.{IsInside-live_part}
 
 module _ (f : Footprint) (s t : Space) (from to : Addr) (n size : ℕ) (agrees : Agrees f s) (live : f.live to ≡ Some size) (fits : n ≤ size)
     (known : IsKnown s from n) (inside : from.offset + n ≤ length (bytes_of (region_at s from.region)))
@@ -28,8 +25,9 @@ module _ (f : Footprint) (s t : Space) (from to : Addr) (n size : ℕ) (agrees :
 
   byte_is : (k : ℕ) → k < n → byte_at s from.region (from.offset + k) ≡ Some (get_or bytes k 0)
   byte_is k below =
-      let now : get_or bytes k 0 ≡ unwrap_or (get_or source (from.offset + k) None) 0 = grind (arith, places, length-map, get_or-map) in
-      known_byte (get_or source (from.offset + k) None) (known k below) ∙ ap Some (sym now)
+      let byte = option_cases (byte_at s from.region (from.offset + k)) in
+      let is = known k below in
+      grind (arith, places, length-map, get_or-map)
 
   part_is : map Some bytes ≡ part source from.offset n
   part_is = known-part source bytes from.offset (omega (arith, len)) (λ k below. byte_is k (omega (arith, len))) ∙ ap (part source from.offset) len
@@ -54,7 +52,4 @@ module _ (f : Footprint) (s t : Space) (from to : Addr) (n size : ℕ) (agrees :
 
 -- so many bytes from a live chunk on are inside a region
 pub IsInside-live : (f : Footprint) (s : Space) (at : Addr) (size n : ℕ) → Agrees f s → f.live at ≡ Some size → n ≤ size → IsInside s at n
-IsInside-live f s at size n agrees live fits =
-    let within = agrees.sound.live_inside at size live in
-    let has : HasRegion s at.region f.account within.0 = agrees.regions at.region within.0 within.1 in
-    record { live = rw has.1 refl; end_in_region = omega (arith, ap (λ r. length (bytes_of r)) has.1, has.3, within.2, fits) }
+IsInside-live f s at size n agrees live fits = IsInside-live_part f s at at size n agrees live refl (omega (arith, fits))

@@ -1,16 +1,14 @@
 -- The laws of a list of contexts that share a space.
-use Rattle.std.proofs.Common.{◌≡◌, ◌≢◌, ℕ, ◌+◌, ◌^◌, ◌<◌, ◌≤◌, ◌==◌, ◌++◌, nat_lt, if◌then◌else◌, List, [], ◌∷◌, length, get_or, set, take, drop, sum_by, Some, refl, sym, ap, ◌∙◌, inl, inr, arith}
-use Rattle.std.proofs.lemmas.Bool.{cases_lt}
+use Rattle.std.proofs.Common.{◌≡◌, ◌≢◌, ℕ, ◌+◌, ◌^◌, ◌<◌, ◌≤◌, ◌==◌, ◌++◌, nat_lt, if◌then◌else◌, List, [], ◌∷◌, length, set, Some, refl, ap, ◌∙◌, arith}
 use Rattle.std.proofs.lemmas.Bool.Decides.{nat_tests}
-use Rattle.std.proofs.lemmas.List.{places, length-append, length-take, length-drop, get_or-set_same, get_or-set_other, set-get_or, get_or_append_left, drop_more, length-set, length_push, get_or_push, take-set, drop-set-lt}
-use Rattle.std.proofs.lemmas.List.Sums.{sum_by-cons, sum_by-append, sum_by-set, sum_by-take-drop}
+use Rattle.std.proofs.lemmas.List.{places, length-append, length-take, length-drop, get_or-set_same, get_or-set_other, length-set, take-set, drop-set-lt}
 use Rattle.addr_space.specs.declared.Addr.{Addr}
-use Rattle.addr_space.specs.Space.{Region, Space, region_at, bytes_of, held, share, taken, risen, accounts, Asks, IsInside}
-use Rattle.addr_space.specs.Footprint.{Footprint, Agrees, Moves, Keeps, AreDisjoint, AllAgree, context_at, nothing, counted}
-use Rattle.addr_space.specs.Contexts.{AreAmong, IsHeldBy, without, counted_by}
-use Rattle.addr_space.proofs.Options.{option_cases, one_value}
+use Rattle.addr_space.specs.Space.{Space, region_at, bytes_of, taken, risen, accounts, Asks, IsInside}
+use Rattle.addr_space.specs.Footprint.{Footprint, Agrees, Moves, AreDisjoint, AllAgree, context_at, nothing, counted}
+use Rattle.addr_space.specs.Contexts.{AreAmong, without}
+use Rattle.addr_space.proofs.Options.{option_cases}
 use Rattle.addr_space.proofs.Asked.{raised-set}
-use Rattle.addr_space.proofs.Apart.{Keeps-other, AreDisjoint-other, AllAgree-put, AllAgree-set}
+use Rattle.addr_space.proofs.Apart.{AreDisjoint-other, AllAgree-put, AllAgree-set}
 use Rattle.addr_space.proofs.Steps.{none_counted}
 
 -- a context that has nothing is apart from each one
@@ -25,14 +23,9 @@ AreDisjoint-fresh account context g other s t moves agrees =
 -- contexts of different accounts are apart
 pub AreDisjoint-foreign : (f g : Footprint) (s : Space) → Agrees f s → Agrees g s → f.account ≢ g.account → AreDisjoint f g
 AreDisjoint-foreign f g s first second differ number len owns =
-    elim (option_cases (g.region number)) [
-      | inl none ↦ none
-      | inr owned ↦
-          let a = first.regions number len owns in
-          let b = second.regions number owned.0 owned.1 in
-          let one : a.0 ≡ b.0 = one_value (region_at s number) a.0 b.0 a.1 b.1 in
-          absurd (differ (sym a.2 ∙ ap (λ (r : Region). r.account) one ∙ b.2))
-    ]
+    let mine = first.regions number len owns in
+    let owner = option_cases (g.region number) in
+    grind (arith, second.regions number)
 
 -- a live chunk ends within 2 ^ 31 bytes
 pub ends_small : (f : Footprint) (s : Space) (chunk : Addr) (size : ℕ) → Agrees f s → f.live chunk ≡ Some size → chunk.offset + size ≤ 2 ^ 31
@@ -53,12 +46,10 @@ IsInside-live_part f s chunk at size n agrees live same ends =
 
 -- what is counted after a call
 pub taken-own : (account n : ℕ) (s t : Space) → account < accounts s → Asks account n s t → taken t account ≡ risen (taken s account) n
-taken-own account n s t below asks =
-    ap (λ c. get_or c account 0) (asks ∙ sym (raised-set s.taken account n)) ∙ get_or-set_same s.taken account (risen (get_or s.taken account 0) n) 0 below
+taken-own account n s t below asks = rw (asks, ← raised-set s.taken account n) (get_or-set_same s.taken account _ 0 below)
 
 pub taken-other : (account n other : ℕ) (s t : Space) → Asks account n s t → other ≢ account → taken t other ≡ taken s other
-taken-other account n other s t asks differs =
-    ap (λ c. get_or c other 0) (asks ∙ sym (raised-set s.taken account n)) ∙ get_or-set_other s.taken account other (risen (get_or s.taken account 0) n) 0 differs
+taken-other account n other s t asks differs = rw (asks, ← raised-set s.taken account n) (get_or-set_other s.taken account other _ 0 differs)
 
 -- some of the contexts
 pub AllAgree-among : (hs fs : List Footprint) (s : Space) → AreAmong hs fs → AllAgree fs s → AllAgree hs s
@@ -68,56 +59,21 @@ AllAgree-among hs fs s among all = record {
       rw (among.same j first, among.same k second) (all.disjoint (among.place j) (among.place k) (among.within j first) (among.within k second) (among.differ j k first second differ));
 }
 
--- no context
-pub AllAgree-none : (s : Space) → AllAgree [] s
-AllAgree-none s = record {
-  agree = λ k below. absurd (omega (arith, below));
-  disjoint = λ j k first second differ. absurd (omega (arith, first));
-}
-
 -- a context joins when it is made
 pub AllAgree-joins : (fs : List Footprint) (account context : ℕ) (g : Footprint) (s t : Space) → Moves (nothing account context) g s t → AllAgree fs s → AllAgree (fs ++ g ∷ []) t
 AllAgree-joins fs account context g s t moves all =
-    AllAgree-put fs (fs ++ g ∷ []) (nothing account context) g (length fs) s t moves all (λ k below differs. AreDisjoint-nothing account context (context_at fs k)) (λ k below. elim (cases_lt k (length fs)) [
-      | inl before ↦ inr (before, omega arith, get_or_append_left fs (g ∷ []) (nothing 0 0) k before)
-      | inr after ↦ let same : k ≡ length fs = omega (arith, below, length_push fs g) in inl (same, get_or_push fs g (nothing 0 0) k (sym same))
-    ])
+    AllAgree-put fs (fs ++ g ∷ []) (nothing account context) g (length fs) s t moves all (λ k below differs. AreDisjoint-nothing account context (context_at fs k)) (λ k below. grind (arith, places))
 
--- the list stays where the context stays what it is
-pub AllAgree-unchanged : (fs : List Footprint) (k : ℕ) (s t : Space) → k < length fs → Moves (context_at fs k) (context_at fs k) s t → AllAgree fs s → AllAgree fs t
-AllAgree-unchanged fs k s t below moves all =
-    let same : AllAgree (set fs k (context_at fs k)) t = AllAgree-set fs k (context_at fs k) s t below moves all in
-    rw (set-get_or fs k (nothing 0 0)) at same
-
--- each other context keeps the bytes of its chunks
-pub Keeps-beside : (fs : List Footprint) (j k : ℕ) (g : Footprint) (s t : Space) → j < length fs → k < length fs → j ≢ k → Moves (context_at fs k) g s t → AllAgree fs s → Keeps (context_at fs j) (context_at fs j) s t
-Keeps-beside fs j k g s t first second differ moves all =
-    Keeps-other (context_at fs k) g (context_at fs j) s t moves (all.disjoint k j second first (λ e. differ (sym e))) (all.agree j first)
-
-module _ (fs : List Footprint) (k : ℕ) (below : k < length fs) where
-  length-without : length (without fs k) + 1 ≡ length fs
-  length-without = simp (length-append, length-take, length-drop) (omega arith)
-
-  -- where the contexts that stay stood
-  stood : ℕ → ℕ
-  stood j = if nat_lt j k then j else j + 1
-
-  pub AreAmong-without : AreAmong (without fs k) fs
-  unfolding stood
-  AreAmong-without = record {
-    place = stood;
-    within = λ j inside. let n = length-without in grind (arith, nat_tests);
-    same = λ j inside. grind (arith, nat_tests, places);
-    differ = λ i j first second differ same. differ (grind (arith, nat_tests));
-  }
-
-  -- what the others count
-  pub counted_by-without : (account : ℕ) → counted_by (without fs k) account + counted (context_at fs k) account ≡ counted_by fs account
-  unfolding counted_by
-  counted_by-without account =
-      let f : Footprint → ℕ = λ x. counted x account in
-      let rest : sum_by f (drop k fs) ≡ counted (context_at fs k) account + sum_by f (drop (k + 1) fs) = ap (sum_by f) (drop_more fs k (nothing 0 0) below) ∙ sum_by-cons f (context_at fs k) (drop (k + 1) fs) in
-      omega (arith, sum_by-append f (take k fs) (drop (k + 1) fs), sum_by-take-drop f fs k, rest)
+-- all but one are among them
+pub AreAmong-without : (fs : List Footprint) (k : ℕ) → k < length fs → AreAmong (without fs k) fs
+AreAmong-without fs k below =
+    let rest : length (without fs k) + 1 ≡ length fs = simp (length-append, length-take, length-drop) (omega arith) in
+    record {
+      place = λ j. if nat_lt j k then j else j + 1;
+      within = λ j inside. grind (arith, nat_tests);
+      same = λ j inside. grind (arith, nat_tests, places);
+      differ = λ i j first second differ same. differ (grind (arith, nat_tests));
+    }
 
 -- it leaves when it is discarded
 pub AllAgree-leaves : (fs : List Footprint) (k account context : ℕ) (s t : Space) → k < length fs → Moves (context_at fs k) (nothing account context) s t → AllAgree fs s → AllAgree (without fs k) t
@@ -131,30 +87,6 @@ AllAgree-leaves fs k account context s t below moves all =
 pub counted-nothing : (account context other : ℕ) → counted (nothing account context) other ≡ 0
 unfolding counted
 counted-nothing account context other = none_counted (account == other)
-
-pub IsHeldBy-none : (s : Space) → s.regions ≡ [] → IsHeldBy [] s
-unfolding held counted_by
-IsHeldBy-none s empty account = ap (sum_by (share account)) empty
-
-pub IsHeldBy-joins : (fs : List Footprint) (account context : ℕ) (g : Footprint) (s t : Space) → Moves (nothing account context) g s t → IsHeldBy fs s → IsHeldBy (fs ++ g ∷ []) t
-unfolding counted_by
-IsHeldBy-joins fs account context g s t moves holds other =
-    let f : Footprint → ℕ = λ x. counted x other in
-    let last : sum_by f (g ∷ []) ≡ counted g other + 0 = sum_by-cons f g [] in
-    omega (arith, sum_by-append f fs (g ∷ []), last, moves.held other, holds other, counted-nothing account context other)
-
-pub IsHeldBy-set : (fs : List Footprint) (k : ℕ) (g : Footprint) (s t : Space) → k < length fs → Moves (context_at fs k) g s t → IsHeldBy fs s → IsHeldBy (set fs k g) t
-unfolding counted_by
-IsHeldBy-set fs k g s t below moves holds other =
-    let f : Footprint → ℕ = λ x. counted x other in
-    omega (arith, sum_by-set f fs k g (nothing 0 0) below, moves.held other, holds other)
-
-pub IsHeldBy-unchanged : (fs : List Footprint) (k : ℕ) (s t : Space) → k < length fs → Moves (context_at fs k) (context_at fs k) s t → IsHeldBy fs s → IsHeldBy fs t
-IsHeldBy-unchanged fs k s t below moves holds other = omega (arith, moves.held other, holds other)
-
-pub IsHeldBy-leaves : (fs : List Footprint) (k account context : ℕ) (s t : Space) → k < length fs → Moves (context_at fs k) (nothing account context) s t → IsHeldBy fs s → IsHeldBy (without fs k) t
-IsHeldBy-leaves fs k account context s t below moves holds other =
-    omega (arith, counted_by-without fs k below other, moves.held other, holds other, counted-nothing account context other)
 
 -- what a context counts for its own account, and for another one
 pub counted-own : (f : Footprint) (account : ℕ) → f.account ≡ account → counted f account ≡ f.total

@@ -8,12 +8,7 @@ use Rattle.addr_space.specs.Live.{SameLive, StaysLive}
 
 -- a context that has nothing agrees with each space that has its account, and counts nothing
 pub Agrees-nothing : (account context : ℕ) (s : Space) → account < accounts s → Agrees (nothing account context) s
-Agrees-nothing account context s below = record {
-  sound = search rules;
-  account = below;
-  regions = search rules;
-  marks = search rules;
-}
+Agrees-nothing account context s below = search rules
 
 pub none_counted : (b : Bool) → ◌≡◌ {A = ℕ} (if b then 0 else 0) 0
 none_counted true = refl
@@ -32,10 +27,7 @@ Moves-more f g h s t u first second = record {
   agrees = second.agrees;
   account = second.account ∙ first.account;
   context = second.context ∙ first.context;
-  outside = λ number region. (
-    λ out. (second.outside number region).0 ((first.outside number region).0 out),
-    λ out. (first.outside number region).1 ((second.outside number region).1 out),
-  );
+  outside = λ number region. search (rules, first.outside number region, second.outside number region);
   accounts = second.accounts ∙ first.accounts;
   limit = second.limit ∙ first.limit;
   held = λ account. omega (arith, first.held account, second.held account);
@@ -62,12 +54,7 @@ Keeps-then f g h s t u stays first second at m n k live again below short =
 
 -- two changes of one region
 pub Changes-more : (s t u : Space) (number : ℕ) (a b : Option Region) → Changes s t number a → Changes t u number b → Changes s u number b
-Changes-more s t u number a b first second = record {
-  changed = second.changed;
-  others = λ other differs. second.others other differs ∙ first.others other differs;
-  limit = second.limit ∙ first.limit;
-  accounts = second.accounts ∙ first.accounts;
-}
+Changes-more s t u number a b first second = search (rules, first.others, second.others)
 
 -- the context's own books change, and the space stays
 pub Moves-still : (f g : Footprint) (s : Space) → Agrees f s → IsSound g → g.account ≡ f.account → g.context ≡ f.context → g.total ≡ f.total → ((number : ℕ) → g.region number ≡ f.region number) → ((at : Addr) (bytes : List ℕ) → g.mark at ≡ Some bytes → HasBytes s at bytes) → Moves f g s s
@@ -76,9 +63,7 @@ Moves-still f g s agrees sound account context total regions marks = record {
   agrees = record {
     sound = sound;
     account = omega (arith, agrees.account);
-    regions = λ number len owns.
-        let has = agrees.regions number len (sym (regions number) ∙ owns) in
-        (has.0, has.1, has.2 ∙ sym account, has.3);
+    regions = λ number len owns. rw account (agrees.regions number len (sym (regions number) ∙ owns));
     marks = marks;
   };
   account = account;
@@ -113,9 +98,7 @@ Moves-changed f g s t number slot agrees sound account context changes others ow
     account = omega (arith, agrees.account, changes.accounts);
     regions = λ n m owns. elim (cases_eq n number) [
       | inl same ↦ let it = owned m (rw same at owns) in rw (same, changes.changed) it
-      | inr differs ↦
-          let has = agrees.regions n m (sym (others n differs) ∙ owns) in
-          (has.0, changes.others n differs ∙ has.1, has.2 ∙ sym account, has.3)
+      | inr differs ↦ rw (account, changes.others n differs) (agrees.regions n m (sym (others n differs) ∙ owns))
     ];
     marks = λ at bytes marked. elim (cases_eq at.region number) [
       | inl same ↦ here at bytes marked same

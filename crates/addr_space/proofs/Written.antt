@@ -1,11 +1,11 @@
 -- Lemmas on a space after bytes were written in a region.
-use Rattle.std.proofs.Common.{◌≡◌, ℕ, ◌+◌, ◌<◌, ◌≤◌, ◌⊎◌, ◌++◌, List, length, map, take, drop, Option, Some, None, refl, sym, ap, ◌∙◌, inl, inr, arith, rules}
+use Rattle.std.proofs.Common.{◌≡◌, ℕ, ◌+◌, ◌<◌, ◌≤◌, ◌⊎◌, ◌++◌, List, length, map, take, drop, Option, Some, None, refl, sym, ap, ◌∙◌, inl, inr, arith, rules, ◌==◌, if◌then◌else◌}
 use Rattle.std.proofs.lemmas.Bool.{cases_eq}
 use Rattle.std.proofs.lemmas.List.{places, length-map, get_or-map}
 use Rattle.addr_space.specs.declared.Addr.{Addr}
 use Rattle.addr_space.specs.Space.{Region, Space, region_at, byte_at, overwritten, Changes, HasBytes, held, share}
 use Rattle.addr_space.specs.Footprint.{HasRegion}
-use Rattle.addr_space.proofs.Held.{held-Changes, share-same}
+use Rattle.addr_space.proofs.Held.{held-Changes}
 
 module _ (s t : Space) (at : Addr) (bytes : List ℕ) (region : Region) (found : region_at s at.region ≡ Some region) (inside : at.offset + length bytes ≤ length region.bytes) (writes : Changes s t at.region (overwritten (region_at s at.region) at.offset (map Some bytes))) where
   abbrev new_bytes : List (Option ℕ)
@@ -39,6 +39,6 @@ module _ (s t : Space) (at : Addr) (bytes : List ℕ) (region : Region) (found :
 
   -- an account holds what it held
   pub held-written : (account : ℕ) → held t account ≡ held s account
+  unfolding share
   held-written account =
-      let same = share-same account region (record { account = region.account; bytes = new_bytes }) refl (sym len_same) in
-      omega (arith, held-Changes s t at.region (overwritten (region_at s at.region) at.offset (map Some bytes)) account writes, ap (share account) found, ap (share account) (sym writes.changed ∙ now_is), same)
+      omega (arith, held-Changes s t at.region (overwritten (region_at s at.region) at.offset (map Some bytes)) account writes, ap (share account) found, ap (share account) (sym writes.changed ∙ now_is), ap (λ n. if region.account == account then n else 0) len_same)

@@ -8,21 +8,6 @@ use Rattle.block_mem.specs.Block.{part, overwritten, resized}
 pub length-overwritten : {X : Type 0} (bytes new : List X) (offset : ℕ) → offset + length new ≤ length bytes → length (overwritten bytes offset new) ≡ length bytes
 length-overwritten bytes new offset inside = search (rules, places)
 
-module _ {X : Type 0} (bytes new : List X) (offset : ℕ) (d : X) (inside : offset + length new ≤ length bytes) where
-  -- what stands in the part that was overwritten
-  pub get_or-overwritten_in : (k : ℕ) → k < length new → get_or (overwritten bytes offset new) (offset + k) d ≡ get_or new k d
-  get_or-overwritten_in k below = search (rules, places)
-
-  -- what stands before it, behind it, and elsewhere
-  pub get_or-overwritten_before : (k : ℕ) → k < offset → get_or (overwritten bytes offset new) k d ≡ get_or bytes k d
-  get_or-overwritten_before k below = search (rules, places)
-
-  pub get_or-overwritten_after : (k : ℕ) → offset + length new ≤ k → get_or (overwritten bytes offset new) k d ≡ get_or bytes k d
-  get_or-overwritten_after k above = grind (arith, places)
-
-  pub get_or-overwritten_apart : (k : ℕ) → (k < offset) ⊎ (offset + length new ≤ k) → get_or (overwritten bytes offset new) k d ≡ get_or bytes k d
-  get_or-overwritten_apart k apart = grind (arith, places)
-
 module _ {X : Type 0} where
   -- what is written behind a part that was written goes onto it
   pub overwritten-more : (bytes first second : List X) (offset : ℕ) → offset + length first ≤ length bytes
@@ -37,17 +22,12 @@ module _ {X : Type 0} where
   pub length-part : (xs : List X) (offset n : ℕ) → offset + n ≤ length xs → length (part xs offset n) ≡ n
   length-part xs offset n inside = search (rules, places)
 
-  -- what stands in a part
-  pub get_or-part : (xs : List X) (offset n k : ℕ) (d : X) → k < n → get_or (part xs offset n) k d ≡ get_or xs (offset + k) d
-  get_or-part xs offset n k d below = search (rules, places)
-
   -- parts that agree at each place are equal
   pub part-same : (xs ys : List X) (offset n : ℕ) (d : X) → offset + n ≤ length xs → offset + n ≤ length ys → ((k : ℕ) → offset ≤ k → k < offset + n → get_or xs k d ≡ get_or ys k d) → part xs offset n ≡ part ys offset n
   part-same xs ys offset n d inside_xs inside_ys agree =
       same_lists _ _ (search (rules, places)) (λ k e h.
-      let below : k < n = omega (arith, length-part xs offset n inside_xs) in
-      let same = agree (offset + k) (omega arith) (omega arith) in
-      grind (arith, places, get_or_default))
+      let same = agree (offset + k) (omega arith) in
+      grind (arith, places, get_or_default, length-part xs offset n inside_xs))
 
   -- a copy inside a list, as std's own word says it
   pub copied-within : (xs : List X) (from to n : ℕ) → from + n ≤ length xs → copy_within xs from (from + n) to ≡ overwritten xs to (part xs from n)
@@ -62,14 +42,5 @@ known-part xs bs at inside agree =
     let left : get_or (map Some bs) k d ≡ Some (get_or bs k 0) = get_or-map Some bs k 0 d below in
     grind (arith, places, get_or_default))
 
-module _ (block : List (Option ℕ)) (n : ℕ) where
-  pub length-resized : length (resized block n) ≡ n
-  length-resized = search (rules, places)
-
-  -- what both lengths have is kept
-  pub get_or-resized_kept : (k : ℕ) → k < n → k < length block → get_or (resized block n) k None ≡ get_or block k None
-  get_or-resized_kept k short below = search (rules, places)
-
-  -- and nothing else is known
-  pub get_or-resized_new : (k : ℕ) → length block ≤ k → get_or (resized block n) k None ≡ None
-  get_or-resized_new k above = grind (arith, places, get_or_past)
+-- lengths and places of bytes that were written
+pub ruleset byte_places = (places, length-map)

@@ -4,17 +4,7 @@ use Rattle.std.proofs.lemmas.List.{places, same_lists, get_or_default, length-ma
 use Rattle.std.proofs.lemmas.Bool.{cases_lt}
 use Rattle.block_mem.specs.Block.{part, overwritten, resized, IsKnown}
 use Rattle.block_mem.specs.Cells.{Holds}
-use Rattle.block_mem.proofs.Bytes.{length-overwritten, length-part, length-resized, get_or-resized_kept, get_or-resized_new}
-
--- a place is before a part, in it or behind it
-pub around : (at n k : ℕ) → ((k < at) ⊎ (at + n ≤ k)) ⊎ ((j : ℕ) × (j < n) × (at + j ≡ k))
-around at n k = elim (cases_lt k at) [
-  | inl before ↦ inl (inl before)
-  | inr from ↦ elim (cases_lt k (at + n)) [
-    | inl within ↦ inr (k - at, omega arith, omega arith)
-    | inr behind ↦ inl (inr behind)
-  ]
-]
+use Rattle.block_mem.proofs.Bytes.{length-part, known-part}
 
 -- what is known is a byte
 pub known_byte : (o : Option ℕ) → IsSome o → (byte : ℕ) × (o ≡ Some byte)
@@ -26,39 +16,29 @@ module _ (cells : List ℕ) (known : List (Option ℕ)) (holds : Holds cells kno
   pub Holds-more : (more : List ℕ) → take (length cells) more ≡ cells → Holds more known
   Holds-more more begins k byte is =
       let here = holds k byte is in
-      let short : length cells ≤ length more = omega (arith, ap length begins, length-take (length cells) more) in
-      (omega (arith, here.0), sym (get_or-take (length cells) more k 0 here.0) ∙ ap (λ xs. get_or xs k 0) begins ∙ here.1)
+      let same = get_or-take (length cells) more k 0 here.0 in
+      (omega (arith, here.0, ap length begins, length-take (length cells) more), rw begins at (sym same) ∙ here.1)
 
   -- bytes that are written are known, in cells that reach them
   pub Holds-written : (at : ℕ) (bytes : List ℕ) → at + length bytes ≤ length known → at + length bytes ≤ length cells → Holds (overwritten cells at bytes) (overwritten known at (map Some bytes))
   Holds-written at bytes inside reached k byte is =
       let was = holds k byte in
-      let n : length (map Some bytes) ≡ length bytes = length-map bytes Some in
-      let long = length-overwritten cells bytes at reached in
-      elim (around at (length bytes) k) [
-        | inl apart ↦ grind (arith, places)
-        | inr (j, below, same) ↦ grind (arith, places, get_or-map)
-      ]
+      let put = get_or-map Some bytes (k - at) 0 None in
+      grind (arith, places, length-map)
 
   -- as much is known of a copy as of what it was made from
   pub Holds-carried : (from to n : ℕ) → from + n ≤ length known → to + n ≤ length known → from + n ≤ length cells → to + n ≤ length cells → Holds (overwritten cells to (part cells from n)) (overwritten known to (part known from n))
   Holds-carried from to n inside room reached wide k byte is =
       let was = holds k byte in
-      let long : length (overwritten cells to (part cells from n)) ≡ length cells = search (rules, places) in
-      elim (around to n k) [
-        | inl apart ↦ grind (arith, places)
-        | inr (j, below, same) ↦ let there = holds (from + j) byte in grind (arith, places)
-      ]
+      let carried = holds (from + (k - to)) byte in
+      grind (arith, places)
 
   -- what both lengths have stays known
   pub Holds-resized : (n : ℕ) (kept : List ℕ) → ((k : ℕ) → k < n → k < length cells → (k < length kept) × (get_or kept k 0 ≡ get_or cells k 0)) → Holds kept (resized known n)
   Holds-resized n kept same k byte is =
       let was = holds k byte in
       let now = same k in
-      let none = get_or-resized_new known n k in
-      let stays = get_or-resized_kept known n k in
-      let past = length-resized known n in
-      grind (arith, get_or_past)
+      grind (arith, places, get_or_past)
 
   -- known bytes are read off their cells
   pub Holds-read : (at n : ℕ) → at + n ≤ length known → IsKnown known at n → 0 < n → (at + n ≤ length cells) × (map Some (part cells at n) ≡ part known at n)
@@ -67,10 +47,6 @@ module _ (cells : List ℕ) (known : List (Option ℕ)) (holds : Holds cells kno
       let one = known_byte (get_or known (at + k) None) (all k below) in
       let here = holds (at + k) one.0 one.1 in
       (here.0, one.1 ∙ ap Some (sym here.1)) in
-      let reached : at + n ≤ length cells = omega (arith, (cell (n - 1) (omega arith)).0) in (
-        reached,
-        same_lists _ _ (search (rules, places, length-map)) (λ k d h.
-            let below : k < n = omega (arith, length-map (part cells at n) Some, length-part cells at n reached) in
-            let here = cell k below in
-            grind (arith, places, get_or-map, get_or_default)),
-      )
+      let reached : at + n ≤ length cells = omega (arith, (cell (n - 1) (omega arith)).0) in
+      let len = length-part cells at n reached in
+      (reached, rw len at (known-part known (part cells at n) at (omega (arith, len)) (λ k below. let here = cell k (omega (arith, len)) in grind (arith, places))))

@@ -103,6 +103,7 @@ impl RawBlock {
     }
 
     /// Writes bytes from a place on.
+    #[tactic(auto, using(crate::proofs::Bytes::byte_places))]
     pub fn write(&mut self, at: u32, bytes: &[u8])
         requires { at + length bytes.now ≤ length self.old }
         ensures bytes { self.new ≡ overwritten self.old at (map Some bytes.now) }
@@ -128,6 +129,7 @@ impl RawBlock {
     }
 
     /// Copies `n` bytes from one place to another: as much is known of them there as here. The two may overlap.
+    #[tactic(auto, using(crate::proofs::Bytes::byte_places))]
     pub fn copy_within(&mut self, from: u32, to: u32, n: u32)
         requires from { from + n ≤ length self.old }
         requires to { to + n ≤ length self.old }

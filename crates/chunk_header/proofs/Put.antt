@@ -1,9 +1,9 @@
 -- Lemmas on what is put at an address, or taken away from another one.
-use Rattle.std.proofs.Common.{◌≡◌, ◌≢◌, Option, Some, None, sym, ◌∙◌, arith, inl, inr}
+use Rattle.std.proofs.Common.{◌≡◌, ◌≢◌, Option, Some, None, arith}
 use Rattle.std.proofs.lemmas.Bool.Decides.{nat_tests}
 use Rattle.addr_space.specs.declared.Addr.{Addr}
 use Rattle.addr_space.specs.Live.{PutsAt, MovesAt}
-use Rattle.addr_space.proofs.Addresses.{same_addr-cases}
+use Rattle.addr_space.proofs.Addresses.{same_addr_from}
 
 -- something is put, and stands there
 pub put-here : {A : Type 0} (f g : Addr → Option A) (at : Addr) (a : Option A) → PutsAt f g at a → g at ≡ a
@@ -17,10 +17,4 @@ module _ {A : Type 0} (f g h : Addr → Option A) where
   -- something is put, and what stands elsewhere is taken away
   pub MovesAt-from : (from to : Addr) (a : A) → to ≢ from → PutsAt f g to (Some a) → PutsAt g h from None → MovesAt f h from to a
   MovesAt-from from to a differs first second other =
-      elim (same_addr-cases from other) [
-        | inl here ↦ elim (same_addr-cases to other) [
-          | inl there ↦ absurd (differs (there.0 ∙ sym here.0))
-          | inr apart ↦ grind (arith, nat_tests, second other)
-        ]
-        | inr apart ↦ grind (arith, nat_tests, first other, second other)
-      ]
+      let one = same_addr_from to from in grind (arith, nat_tests, first other, second other)

@@ -1,9 +1,9 @@
 -- Lemmas on a word that a context writes in a region of its own, and on a region that it takes and gives back.
-use Rattle.std.proofs.Common.{◌≡◌, ◌≢◌, ℕ, ◌+◌, ◌<◌, ◌≤◌, ◌⊎◌, ◌==◌, if◌then◌else◌, List, length, map, Some, None, refl, sym, ap, ◌∙◌, inl, inr, arith, slice_index, slice_index_or}
+use Rattle.std.proofs.Common.{◌≡◌, ◌≢◌, ℕ, ◌+◌, ◌<◌, ◌≤◌, ◌⊎◌, ◌==◌, if◌then◌else◌, List, length, map, Some, None, refl, ap, ◌∙◌, inl, inr, arith}
 use Rattle.std.proofs.lemmas.List.{length-replicate}
 use Rattle.std.proofs.lemmas.Bool.Decides.{nat_tests}
 use Rattle.addr_space.specs.declared.Addr.{Addr}
-use Rattle.addr_space.specs.Space.{Space, region_at, bytes_of, byte_at, overwritten, unwritten, Changes, IsApart, held, share}
+use Rattle.addr_space.specs.Space.{Space, region_at, byte_at, overwritten, unwritten, Changes, IsApart, held, share}
 use Rattle.addr_space.specs.Footprint.{Footprint, IsSound, Agrees, Moves, Keeps, HasRegion, counted}
 use Rattle.addr_space.proofs.Written.{HasRegion-written, byte_at-apart, HasBytes-written, held-written}
 use Rattle.addr_space.proofs.Steps.{Moves-one, Moves-give, Changes-more}
@@ -19,10 +19,7 @@ module _ (f g : Footprint) (s t : Space) (at : Addr) (len : ℕ) (word : List �
 
   same_byte : (b : Addr) (n k : ℕ) → k < n → IsApart b n at (length word) → byte_at t b.region (b.offset + k) ≡ byte_at s b.region (b.offset + k)
   same_byte b n k below apart =
-      byte_at-apart s t at word target.0 target.1 room writes b.region (b.offset + k) (λ same. elim (apart same) [
-        | inl before ↦ inl (omega arith)
-        | inr after ↦ inr (omega arith)
-      ])
+      byte_at-apart s t at word target.0 target.1 room writes b.region (b.offset + k) (λ same. let far = apart same in grind arith)
 
   pub Moves-written : IsSound g → g.account ≡ f.account → g.context ≡ f.context → g.total ≡ f.total → ((number : ℕ) → g.region number ≡ f.region number)
       → ((b : Addr) (bytes : List ℕ) → g.mark b ≡ Some bytes → ((b ≡ at) × (word ≡ bytes)) ⊎ ((f.mark b ≡ Some bytes) × IsApart b (length bytes) at (length word))) → Moves f g s t
@@ -32,15 +29,10 @@ module _ (f g : Footprint) (s t : Space) (at : Addr) (len : ℕ) (word : List �
       Moves-one f g s t at.region len there.0 agrees sound account context (record { changed = there.1; others = writes.others; limit = writes.limit; accounts = writes.accounts })
       there.2 there.3 (λ none. absurd (cc)) (regions at.region ∙ owned) (λ other differs. regions other)
       (λ b bytes marked region k below. elim (marks b bytes marked) [
-        | inl new ↦
-            ap (λ (a : Addr). byte_at t a.region (a.offset + k)) new.0
-            ∙ HasBytes-written s t at word target.0 target.1 room writes k (omega (arith, below, ap length new.1)) ∙ ap (λ xs. Some (slice_index xs k)) new.1
+        | inl new ↦ rw (new.0, ← new.1) (HasBytes-written s t at word target.0 target.1 room writes k (rw (← new.1) at below))
         | inr old ↦ same_byte b (length bytes) k below old.1 ∙ agrees.marks b bytes old.0 k below
       ])
-      (λ b bytes marked differs. elim (marks b bytes marked) [
-        | inl new ↦ absurd (differs (ap (λ (x : Addr). x.region) new.0))
-        | inr old ↦ old.0
-      ])
+      (λ b bytes marked differs. let new_or_old = marks b bytes marked in grind arith)
       (λ a. let counts : (if g.account == a then g.total else 0) ≡ (if f.account == a then f.total else 0) = rw (account, total) refl in omega (arith, held-written s t at word target.0 target.1 room writes a, counts))
 
   pub Keeps-written : ((b : Addr) (m n : ℕ) → f.live b ≡ Some m → g.live b ≡ Some n → IsApart b m at (length word)) → Keeps f g s t
@@ -63,26 +55,19 @@ module _ (f g : Footprint) (s m t : Space) (at : Addr) (size : ℕ) (word : List
       Moves-one f g s t at.region size there.0 agrees sound account context (record { changed = there.1; others = both.others; limit = both.limit; accounts = both.accounts })
       there.2 there.3 (λ none. free) owned others
       (λ b bytes marked region k below. elim (marks b bytes marked) [
-        | inl new ↦
-            ap (λ (a : Addr). byte_at t a.region (a.offset + k)) new.0
-            ∙ HasBytes-written m t at word (unwritten f.account size) took.changed room wrote k (omega (arith, below, ap length new.1)) ∙ ap (λ xs. Some (slice_index xs k)) new.1
+        | inl new ↦ rw (new.0, ← new.1) (HasBytes-written m t at word (unwritten f.account size) took.changed room wrote k (rw (← new.1) at below))
         | inr old ↦ absurd (old.0 region)
       ])
-      (λ b bytes marked differs. elim (marks b bytes marked) [
-        | inl new ↦ absurd (differs (ap (λ (x : Addr). x.region) new.0))
-        | inr old ↦ old.1
-      ])
+      (λ b bytes marked differs. let new_or_old = marks b bytes marked in grind arith)
       (λ a.
       let counts : (if g.account == a then g.total else 0) ≡ (if f.account == a then f.total + size else 0) = rw (account, total) refl in
       grind (arith, held-written m t at word (unwritten f.account size) took.changed room wrote a, holds a, counts))
 
   pub Keeps-taken : Keeps f g s t
   Keeps-taken b p n k live again below short =
-      let differs : b.region ≢ at.region = λ same.
       let within = agrees.sound.live_inside b p live in
-      let clash = sym free ∙ ap (region_at s) (sym same) ∙ (agrees.regions b.region within.0 within.1).1 in
-      absurd (cc) in
-      ap (λ r. slice_index_or (bytes_of r) (b.offset + k) None) (both.others b.region differs)
+      let there = (agrees.regions b.region within.0 within.1).1 in
+      rw (both.others b.region (λ same. let clash = ap (region_at s) same in absurd (cc))) refl
 
 -- what a region of the context counts for an account
 pub share-owned : (s : Space) (owner number size account : ℕ) → HasRegion s number owner size → share account (region_at s number) ≡ (if owner == account then size else 0)
@@ -102,5 +87,5 @@ Moves-gone f g s t number size agrees sound account context total changes owned 
 -- and the chunks that are still live are elsewhere
 pub Keeps-give : (f g : Footprint) (s t : Space) (number : ℕ) → IsSound g → g.region number ≡ None → Changes s t number None → Keeps f g s t
 Keeps-give f g s t number sound gone changes b m n k live again below short =
-    let differs : b.region ≢ number = λ same. let clash = sym gone ∙ ap g.region (sym same) ∙ (sound.live_inside b n again).1 in absurd (cc) in
-    ap (λ r. slice_index_or (bytes_of r) (b.offset + k) None) (changes.others b.region differs)
+    let within = sound.live_inside b n again in
+    rw (changes.others b.region (λ same. let clash = ap g.region same in absurd (cc))) refl

@@ -146,6 +146,7 @@ impl From<SpaceError> for CtxError {
 
 impl Header {
     /// The word that stands for the header.
+    #[tactic(auto, unfolding(crate::specs::Header::word_of))]
     #[inline]
     pub fn pack(&self) -> u64
         requires value { self.now.value < 2 ^ 30 }
@@ -159,6 +160,7 @@ impl Header {
     }
 
     /// The bytes of the header's word, lowest first.
+    #[tactic(auto, unfolding(crate::specs::Header::header_bytes))]
     #[inline]
     pub fn bytes(&self) -> [u8; 8]
         requires value { self.now.value < 2 ^ 30 }
@@ -193,6 +195,7 @@ impl Header {
 }
 
 /// The first bytes of a block's header: the number of its context and its size.
+#[tactic(auto, unfolding(crate::specs::Header::block_bytes))]
 #[inline]
 pub fn block_header(context: u32, size: u32) -> [u8; 8]
     ensures { result ≡ block_bytes context size }
@@ -205,11 +208,13 @@ pub fn block_header(context: u32, size: u32) -> [u8; 8]
 }
 
 /// The law that leads from a context's marks to the bytes of the space: a chunk that its context's marks head is marked in each space that agrees with the context.
+#[tactic(auto, using(crate::proofs::Marks::marked_by))]
 pub fn marked()
     ensures { (f : Footprint) (s : Space) (at : Addr) → Agrees f s → IsHeaded f at → IsMarked s at f.context }
 {}
 
 /// A size rounded up to a multiple of 8.
+#[tactic(auto, unfolding(crate::specs::Growth::up8))]
 #[inline]
 pub fn up8(n: u32) -> u32
     requires { n ≤ 2 ^ 31 }
@@ -236,6 +241,7 @@ pub fn granted(size: u32) -> u32
 }
 
 /// A block's size, doubled while it is below a need.
+#[tactic(auto, using(crate::proofs::Doubling::grown_stop, crate::proofs::Doubling::grown_go))]
 pub fn grown(size: u32, need: u32) -> u32
     requires some { 0 < size }
     requires small { need ≤ 2 ^ 31 }

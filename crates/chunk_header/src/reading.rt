@@ -8,6 +8,7 @@ use crate::{CHUNK_HEADER, Header};
 use addr_space::{Addr, Space};
 
 /// Eight known bytes from an address on.
+#[tactic(auto, using(crate::proofs::Known::same_bytes))]
 #[inline]
 pub fn word_at(space: &Space, at: Addr) -> [u8; 8]
     requires { (bytes : List ℕ) × (length bytes ≡ 8) × HasBytes space.now at bytes }

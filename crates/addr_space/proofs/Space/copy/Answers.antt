@@ -1,7 +1,7 @@
 use Rattle.std.proofs.Common.{◌≡◌, ◌+◌, ◌-◌, ◌<◌, ◌≤◌, length, map, Some, ◌∙◌, arith, take}
 use Rattle.std.proofs.lemmas.List.{length-take}
 use Rattle.addr_space.specs.Space.{region_at, bytes_of, part}
-use Rattle.addr_space.proofs.Copied.{rest_same, piece_inside, Changes-more}
+use Rattle.addr_space.proofs.Copied.{rest_same, piece_inside, Changes-piece}
 use Rattle.addr_space.proofs.Space.copy.Goals as goal
 
 pub read_at-requires-clause-known : goal.read_at-requires-clause-known
@@ -27,5 +27,5 @@ loop-done-preserved c =
     record {
       within = more;
       taken = c.write_at.ensures.taken ∙ was.taken;
-      changes = Changes-more c.args.self.now c.loop-done.self c.args.from c.args.to c.args.n c.loop-done.done c.requires.from c.requires.to c.requires.apart was.within was.changes c.write_at.new.self c.min-step.result c.read_at.new.out more read c.write_at.ensures.changes;
+      changes = Changes-piece c.args.self.now c.loop-done.self c.args.from c.args.to c.args.n c.loop-done.done c.requires.from c.requires.to c.requires.apart was.within was.changes c.write_at.new.self c.min-step.result c.read_at.new.out more read c.write_at.ensures.changes;
     }

@@ -23,8 +23,3 @@ invariant_of-self c =
       omega (arith, c.self.invariant.1, c.reach.ensures.room, c.copy_within.ensures.capacity),
       rw (c.carried-self-inside.ensures, items) holds,
     )
-
-pub returns-clause-len : goal.returns-clause-len
-returns-clause-len c =
-    let len = ap length c.self.view_is in
-    rw c.carried-self-inside.ensures (grind (arith, places))

@@ -1,7 +1,6 @@
 use Rattle.std.proofs.Common.{◌≡◌, length, take, refl, arith, rules}
 use Rattle.std.proofs.lemmas.List.{places}
 use Rattle.block_mem.specs.Block.{resized}
-use Rattle.block_mem.proofs.Bytes.{length-resized}
 use Rattle.block_mem.proofs.Cells.{Holds-resized}
 use Rattle.block_mem.proofs.RawBlock.resize.Goals.{then-n-self, else-n-self+in_ok-reserve_exact}
 use Rattle.block_mem.proofs.RawBlock.resize.Goals as goal
@@ -11,7 +10,7 @@ invariant_of-self-2 c =
     let block = c.self.inside.known.entries in
     let n = c.args.len in
     let kept = Holds-resized c.self.inside.cells.items block c.self.invariant.2 n in
-    let long : length (resized block n) ≡ n = length-resized block n in
+    let long : length (resized block n) ≡ n = search (rules, places) in
     elim c.if-n-self.branch [
       | then-n-self w ↦
           let told : c.resized-self-inside.result.entries ≡ resized block n = rw w.self-inside-is at c.resized-self-inside.ensures in

@@ -15,8 +15,3 @@ invariant_of-self c =
       omega (arith, c.self.invariant.1, c.reach.ensures.room, c.store.ensures.room),
       rw (c.written-self-inside.ensures, c.store.ensures.items) holds,
     )
-
-pub returns-clause-len : goal.returns-clause-len
-returns-clause-len c =
-    let len = ap length c.self.view_is in
-    rw c.written-self-inside.ensures (grind (arith, places, length-map))

@@ -1,20 +1,16 @@
-use Rattle.std.proofs.Common.{ap, Ok, inl, inr, arith}
-use Rattle.chunk_header.proofs.Words.{header_in, word_of-header_in, header_in-word, parts_of-word, kind_code-lt}
+use Rattle.std.proofs.Common.{ap, Ok, arith}
+use Rattle.chunk_header.proofs.Words.{word_of-header_in, header_in-word, parts_of-word, kind_code-lt}
 use Rattle.chunk_header.proofs.Header.unpack.Goals as goal
 
 pub returns-in_default-clause-packed : goal.returns-in_default-clause-packed
 returns-in_default-clause-packed c = λ h packable same.
     let parts = parts_of-word h c.args.word packable same in
     let code = kind_code-lt h.kind in
-    absurd (elim c.in_default.ensures.none [
-      | inl zero ↦ omega (arith, parts.0, code.0)
-      | inr above ↦ omega (arith, parts.0, code.1)
-    ])
+    let none = c.in_default.ensures.none in
+    absurd (omega arith)
 
 pub returns-clause-word : goal.returns-clause-word
-unfolding header_in
 returns-clause-word c = word_of-header_in c.in-Some.kind c.args.word c.in-Some.ensures.some
 
 pub returns-clause-packed : goal.returns-clause-packed
-unfolding header_in
 returns-clause-packed c = λ h packable same. ap Ok (header_in-word c.in-Some.kind h c.args.word packable same c.in-Some.ensures.some)
