@@ -14,7 +14,6 @@ pub mod KeptSteps
 pub mod Chosen
 pub mod Freed
 pub mod Served
-pub mod Resized
 pub mod Numbered
 pub mod Public
 pub mod Rows

@@ -1,12 +1,11 @@
 -- The blocks of a Slab by their numbers: what is done to one by its region is done to it by its number.
-use Rattle.std.proofs.Common.{◌≡◌, ℕ, ◌+◌, ◌-◌, ◌<◌, [], ◌∷◌, map, sum_by, Some, refl, arith}
+use Rattle.std.proofs.Common.{◌≡◌, ℕ, ◌+◌, ◌<◌, [], ◌∷◌, map, sum_by, Some, refl, arith}
 use Rattle.std.proofs.lemmas.List.Sums.{sum_by-cons}
 use Rattle.ctx_blocks.specs.Kept.{AreRising}
 use Rattle.ctx_blocks.specs.Steps.{with_block, without_block}
 use Rattle.ctx_blocks.specs.declared.parts.Block.{Block}
 use Rattle.ctx_blocks.proofs.Numbered.{rising_above}
-use Rattle.slab_ctx.specs.Ledger.{SlabBlock, with_live, without_number, live_in, is_empty, empties}
-use Rattle.slab_ctx.specs.Lives.{free_in, empties as empties_of}
+use Rattle.slab_ctx.specs.Ledger.{SlabBlock, with_live, without_number, live_in}
 use Rattle.slab_ctx.specs.State.{live_of, numbered_of}
 use Rattle.slab_ctx.proofs.Lives.{Entries, find}
 
@@ -34,12 +33,7 @@ pub live_is : (least most region : ℕ) (es : Entries) (block : Block) → AreRi
 live_is least most region [] block h is = absurd (cc)
 live_is least most region (e ∷ es) block h is = grind (arith, rising_above (e.1.number + 1) most region es block h.2, live_is (e.1.number + 1) most region es block h.2)
 
--- how many of them are empty
-pub empties_is : (es : Entries) → empties (map numbered_of es) ≡ empties_of (map live_of es)
-empties_is [] = refl
-empties_is (e ∷ es) = omega (arith, sum_by-cons (λ (b : SlabBlock). is_empty b.live) (numbered_of e) (map numbered_of es), sum_by-cons is_empty e.1.live (map live_of es), empties_is es)
-
--- and how many free chunks they have
-pub free_is : (per : ℕ) (es : Entries) → sum_by (λ (b : SlabBlock). per - b.live) (map numbered_of es) ≡ sum_by (free_in per) (map live_of es)
-free_is per [] = refl
-free_is per (e ∷ es) = omega (arith, sum_by-cons (λ (b : SlabBlock). per - b.live) (numbered_of e) (map numbered_of es), sum_by-cons (free_in per) e.1.live (map live_of es), free_is per es)
+-- the sums over their live chunks
+pub sums_are : (f : ℕ → ℕ) (es : Entries) → sum_by (λ (b : SlabBlock). f b.live) (map numbered_of es) ≡ sum_by f (map live_of es)
+sums_are f [] = refl
+sums_are f (e ∷ es) = omega (arith, sum_by-cons (λ (b : SlabBlock). f b.live) (numbered_of e) (map numbered_of es), sum_by-cons f e.1.live (map live_of es), sums_are f es)

@@ -9,8 +9,8 @@ use Rattle.slab_ctx.specs.Order.{rank_of, IsOrdered}
 use Rattle.slab_ctx.specs.Slots.{first_region}
 
 -- a block has a rank
-pub has-rank : (r : Ranks) (l : Layout) (per : ℕ) → IsOrdered r l per → (number : ℕ) → number ≢ l.keeper → (block : Block) → block_at l number ≡ Some block → rank_at r.entries.entries number ≡ None → ⊥
-has-rank r l per ordered number differs block found none = grind (arith, ordered.at number)
+pub has_rank : (r : Ranks) (l : Layout) (per : ℕ) → IsOrdered r l per → (number : ℕ) → number ≢ l.keeper → (block : Block) → block_at l number ≡ Some block → rank_at r.entries.entries number ≡ None → ⊥
+has_rank r l per ordered number differs block found none = grind (arith, ordered.at number)
 
 -- no block changes
 pub order-kept : (r s : Ranks) (l : Layout) (p : ℕ) → IsOrdered r l p → IsRanked s → s.entries.entries ≡ r.entries.entries → IsOrdered s l p

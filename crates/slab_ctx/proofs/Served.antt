@@ -1,10 +1,9 @@
 -- Lemmas on a request that is served.
-use Rattle.std.proofs.Common.{◌≡◌, ◌≢◌, ℕ, ◌+◌, ◌<◌, ◌≤◌, ◌++◌, List, [], ◌∷◌, map, Option, Some, None, Result, Ok, Err, ap, arith}
-use Rattle.chunk_header.specs.declared.CtxError.{CtxError}
-use Rattle.chunk_header.specs.declared.CtxError.TheVariants.{TooBig, NoSpace, WrongSize}
+use Rattle.std.proofs.Common.{◌≡◌, ◌≢◌, ℕ, ◌+◌, ◌<◌, ◌≤◌, ◌++◌, List, [], ◌∷◌, map, Option, Some, None, Ok, Err, ap, arith}
+use Rattle.chunk_header.specs.declared.CtxError.TheVariants.{NoSpace, WrongSize}
 use Rattle.ctx_blocks.specs.Kept.{AreRising}
 use Rattle.ctx_blocks.specs.declared.parts.Block.{Block}
-use Rattle.slab_ctx.specs.Ledger.{SlabLedger, SlabBlock, SlabTaken, with_live, serving, serve, take, per_block}
+use Rattle.slab_ctx.specs.Ledger.{SlabLedger, SlabBlock, SlabTaken, with_live, serve}
 use Rattle.slab_ctx.specs.State.{numbered_of}
 
 -- the ledger's step by a block that has a free chunk
@@ -29,24 +28,8 @@ pub live-last : (least most number : ℕ) (es : List (ℕ × Block)) → most < 
 live-last least most number [] less h = grind arith
 live-last least most number (e ∷ es) less h = grind (arith, live-last (e.1.number + 1) most number es less h.2)
 
--- a request
-abbrev served : SlabLedger → ℕ → Result SlabTaken CtxError
-served l left = serve l left (serving (per_block l.size) l.blocks)
-
-pub take-big : (l : SlabLedger) (left size : ℕ) → 1073741823 < size → take l left size ≡ Err TooBig
-unfolding take
-take-big l left size large = grind arith
-
-pub take-other : (l : SlabLedger) (left size : ℕ) → size ≤ 1073741823 → size ≢ l.size → take l left size ≡ Err WrongSize
-unfolding take
-take-other l left size small differs = grind arith
-
-pub take-right : (l : SlabLedger) (left size : ℕ) → size ≤ 1073741823 → size ≡ l.size → take l left size ≡ served l left
-unfolding take
-take-right l left size small same = grind arith
-
 -- serving is never refused for the size
-pub serve-not_wrong : (l : SlabLedger) (left : ℕ) (chosen : Option SlabBlock) → serve l left chosen ≢ Err WrongSize
+pub serve_not_wrong : (l : SlabLedger) (left : ℕ) (chosen : Option SlabBlock) → serve l left chosen ≢ Err WrongSize
 unfolding serve
-serve-not_wrong l left (Some block) is = grind arith
-serve-not_wrong l left None is = grind arith
+serve_not_wrong l left (Some block) is = grind arith
+serve_not_wrong l left None is = grind arith

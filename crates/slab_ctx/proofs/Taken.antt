@@ -12,7 +12,7 @@ use Rattle.slab_ctx.specs.Lives.{stride}
 use Rattle.slab_ctx.specs.Counts.{Counts}
 use Rattle.addr_space.proofs.Options.{one_value}
 use Rattle.slab_ctx.specs.Slots.{IsSlot, IsFree, IsFilled, IsSlotted, stack_at, at_offset, chunk_of}
-use Rattle.slab_ctx.proofs.Numbers.{stride-some, per_block-most}
+use Rattle.slab_ctx.proofs.Numbers.{stride-some, per_block-is}
 use Rattle.ctx_blocks.proofs.Put.{chunk_was, chunk_here}
 use Rattle.ctx_blocks.proofs.Changed.{chunk_apart}
 use Rattle.slab_ctx.proofs.Slotted.{IsSlotted-put}
@@ -70,7 +70,7 @@ module _ (l m : Layout) (size : ℕ) (s : List (ℕ × Vec ℕ)) (at : Addr) (sl
       (chunk : Chunk) (has : chunk_at l at ≡ Some chunk) (last : at.offset + chunk.room + b.room ≤ b.size) (live_some : 1 ≤ b.live) where
     -- the stack has room for it
     freed-few : b.freed < length (stack_at s at.region)
-    freed-few = let few = per_block-most size (b.live + b.freed) (omega (arith, was.rest)) in omega (arith, was.long)
+    freed-few = let few = (per_block-is size (b.live + b.freed)).1 (omega (arith, was.rest)) in omega (arith, was.long)
 
     freed_last : slice_index (stack_at t at.region) b.freed ≡ at.offset
     freed_last = rw stack (get_or-set_same (stack_at s at.region) b.freed at.offset 0 freed-few)

@@ -146,6 +146,7 @@ impl Books {
     }
 
     // Takes a chunk of a block that has a free one.
+    #[tactic(auto, using(crate::proofs::Ordered::has_rank))]
     fn take(&mut self, space: &mut Space, number: u32) -> Addr
         requires kept { IsKept self.old }
         requires agrees { Agrees (blocks_footprint self.old.slots.blocks) space.old }
@@ -224,6 +225,7 @@ impl Books {
     }
 
     // Serves a request.
+    #[tactic(auto, unfolding(crate::specs::Ledger::take), using(crate::proofs::Served::serve_not_wrong))]
     pub fn alloc(&mut self, space: &mut Space, size: u64) -> Result<Addr, CtxError>
         requires kept { IsKept self.old }
         requires agrees { Agrees (footprint (state_of self.old)) space.old }
@@ -275,6 +277,7 @@ impl Books {
     }
 
     // Frees a live chunk.
+    #[tactic(auto, using(crate::proofs::Ordered::has_rank))]
     pub fn free(&mut self, space: &mut Space, at: Addr)
         requires kept { IsKept self.old }
         requires agrees { Agrees (footprint (state_of self.old)) space.old }
@@ -296,6 +299,7 @@ impl Books {
     }
 
     // Answers a request for another size of a live chunk.
+    #[tactic(auto, unfolding(crate::specs::Ledger::resize))]
     pub fn realloc(&self, at: Addr, size: u64) -> Result<Addr, CtxError>
         ensures size { OnOk result ((size ≡ self.now.slots.size) × (size ≤ 1073741823)) }
         ensures at { IfOk result (λ to. to ≡ at) }

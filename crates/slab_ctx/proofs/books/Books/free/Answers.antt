@@ -9,12 +9,12 @@ use Rattle.slab_ctx.specs.Kept.{ledger_of}
 use Rattle.slab_ctx.specs.declared.books.Books.{Books}
 use Rattle.addr_space.proofs.Options.{one_value}
 use Rattle.slab_ctx.specs.Lives.{per_block}
-use Rattle.slab_ctx.proofs.Ordered.{order-put, has-rank}
+use Rattle.slab_ctx.proofs.Ordered.{order-put}
 use Rattle.slab_ctx.proofs.Bounds.{free-small}
 use Rattle.slab_ctx.proofs.Full.{Agrees-plain, Moves-full}
 use Rattle.slab_ctx.proofs.Freed.{freed-is}
 use Rattle.slab_ctx.proofs.Listed.{find-other}
-use Rattle.slab_ctx.proofs.Numbered.{live_is, empties_is}
+use Rattle.slab_ctx.proofs.Numbered.{live_is, sums_are}
 use Rattle.slab_ctx.proofs.Places.{chunks-few}
 use Rattle.slab_ctx.proofs.KeptSteps.{kept-changed, blocks-counted, ledger-parts}
 use Rattle.addr_space.proofs.Steps.{Keeps-then}
@@ -27,11 +27,6 @@ overflow_add-self c = omega (arith, free-small c.args.self.now 0 c.requires.kept
 
 pub overflow_sub-live : goal.overflow_sub-live
 overflow_sub-live c = let had = c.remove-was.ensures.block in grind (arith, c.remove-was.ensures.was, had.1, had.2)
-
-pub put-requires-clause-room : goal.put-requires-clause-room
-put-requires-clause-room c = λ none.
-    let had = c.remove-was.ensures.block in
-    absurd (has-rank _ _ _ c.requires.kept.order c.args.at.region c.remove-was.ensures.not_keeper had.0 had.1 none)
 
 -- the block is there with one live chunk fewer
 there : (c : After-remove-was) → block_at c.remove-was.new.self.blocks c.args.at.region ≡ Some c.remove-was.ensures.block.3.block
@@ -81,7 +76,7 @@ returns-clause-ledger c =
     let mid = blocks-counted b n 0 number c.requires.kept c.remove-was.ensures.slots c.remove-was.ensures.size c.remove-was.ensures.same differs block had.1 (block.live - 1) counts in
     let live = live_is 1 l.last_number number (others l.blocks) block c.requires.kept.listed.rising (find-other l c.requires.kept.listed number differs ∙ had.1) in
     let after = c.settle.ensures.blocks counts.block (there (goal.at.returns-clause-ledger c).After-remove-was) in
-    let empty : b.empty ≡ empties (blocks_of l) = omega (arith, c.requires.kept.empty, empties_is (others l.blocks)) in
+    let empty : b.empty ≡ empties (blocks_of l) = omega (arith, c.requires.kept.empty, sums_are is_empty (others l.blocks)) in
     ledger-parts k b.slots.size l.last_number (blocks_of k.slots.blocks) (c.settle.ensures.size ∙ c.remove-was.ensures.size) (c.settle.ensures.last ∙ c.remove-was.ensures.last) refl
     ∙ freed-is (ledger_of b) block.number counts.block.number block.live counts.block.live b.empty (blocks_of c.remove-was.new.self.blocks) (blocks_of k.slots.blocks) live had.2 counts.count mid (counts.same_number block had.1) empty after
     ∙ ap (give (ledger_of b)) (sym (number_is l number block had.1))

@@ -1,10 +1,11 @@
 use Rattle.std.proofs.Common.{refl, ◌≡◌, ◌+◌, ◌-◌, ◌*◌, length, ap, sym, ◌∙◌, arith}
 use Rattle.std.proofs.lemmas.List.{length-map}
 use Rattle.slab_ctx.specs.Ledger.{stats, per_block, free_chunks}
+use Rattle.slab_ctx.specs.Lives.{free_in}
 use Rattle.slab_ctx.specs.State.{numbered_of, others, live_of, blocks_of}
 use Rattle.slab_ctx.specs.Kept.{ledger_of, IsKept}
 use Rattle.slab_ctx.specs.declared.books.Books.{Books}
-use Rattle.slab_ctx.proofs.Numbered.{free_is}
+use Rattle.slab_ctx.proofs.Numbered.{sums_are}
 use Rattle.slab_ctx.proofs.Bounds.{free-is, bytes-small}
 use Rattle.slab_ctx.proofs.books.Books.stats.Goals as goal
 
@@ -15,7 +16,7 @@ overflow_mul-result c =
 
 free_of : (b : Books) → IsKept b → b.free ≡ free_chunks (ledger_of b)
 unfolding free_chunks
-free_of b kept = free-is b 0 kept ∙ sym (free_is (per_block b.slots.size) (others b.slots.blocks.blocks))
+free_of b kept = free-is b 0 kept ∙ sym (sums_are (free_in (per_block b.slots.size)) (others b.slots.blocks.blocks))
 
 pub returns : goal.returns
 unfolding stats

@@ -6,7 +6,7 @@ use Rattle.addr_space.proofs.Options.{one_value}
 use Rattle.ctx_blocks.specs.Numbered.{number_of}
 use Rattle.ctx_blocks.proofs.Places.{number_put}
 use Rattle.ctx_blocks.proofs.Among.{among_put}
-use Rattle.slab_ctx.proofs.Ordered.{order-put, has-rank}
+use Rattle.slab_ctx.proofs.Ordered.{order-put}
 use Rattle.slab_ctx.proofs.Numbers.{per_block-few}
 use Rattle.slab_ctx.proofs.KeptSteps.{empty-least, free-least, kept-changed, blocks-counted}
 use Rattle.slab_ctx.proofs.books.Books.take.Goals as goal
@@ -20,9 +20,6 @@ overflow_add-live c = omega (arith, under (goal.at.overflow_add-live c).After-ow
 
 pub take-requires-clause-free : goal.take-requires-clause-free
 take-requires-clause-free c = under (goal.at.take-requires-clause-free c).After-owned-block
-
-pub put-requires-clause-room : goal.put-requires-clause-room
-put-requires-clause-room c = λ none. absurd (has-rank _ _ _ c.requires.kept.order c.args.number c.requires.not_keeper c.requires.block.0 c.requires.block.1 none)
 
 pub overflow_sub-self : goal.overflow_sub-self
 overflow_sub-self c = omega (arith, c.one_if_empty.ensures, empty-least c.args.self.now 0 c.args.number c.requires.kept c.requires.not_keeper c.owned-block.result c.owned-block.ensures)

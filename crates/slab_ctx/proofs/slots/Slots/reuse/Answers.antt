@@ -2,7 +2,6 @@ use Rattle.std.proofs.Common.{◌+◌, ◌-◌, ap, ◌∙◌, refl, arith}
 use Rattle.addr_space.specs.declared.Addr.{Addr}
 use Rattle.ctx_blocks.specs.declared.parts.Block.{Block}
 use Rattle.slab_ctx.specs.Slots.{IsFree}
-use Rattle.slab_ctx.proofs.Numbers.{stride-least}
 use Rattle.slab_ctx.proofs.Places.{gap-is, start-is, slot-least, slot-whole, last-free, depth-few, clear-of}
 use Rattle.slab_ctx.proofs.Taken.{counted, IsSlotted-placed}
 use Rattle.slab_ctx.proofs.slots.Slots.reuse.Goals as goal
@@ -28,9 +27,6 @@ place-requires-clause-first c =
 
 pub place-requires-clause-whole : goal.place-requires-clause-whole
 place-requires-clause-whole c = slot-whole c.args.self.now.size c.from.result (free_at c).slot
-
-pub place-requires-clause-fits : goal.place-requires-clause-fits
-place-requires-clause-fits c = omega (arith, c.stride-room.ensures.value, stride-least c.args.self.now.size)
 
 pub place-requires-clause-clear : goal.place-requires-clause-clear
 place-requires-clause-clear c =
