@@ -56,32 +56,38 @@ Agrees-free : (f : Footprint) (free : Addr → Option ℕ) (sp : Space) → Agre
     → ((a b : Addr) (m n : ℕ) → f.live a ≡ Some m → free b ≡ Some n → IsApart a m b n) → ((at : Addr) (n : ℕ) → free at ≡ Some n → f.front at.region ≤ at.offset) → Agrees (record f { free = free }) sp
 Agrees-free f free sp agrees inside apart behind = assumption
 
--- free chunks lie in their blocks and apart from live ones
-pub Agrees-full : (l : Layout) (size : ℕ) (s : List (ℕ × Vec ℕ)) → IsSlotted l size s → (sp : Space) → Agrees (footprint_of l) sp → Agrees (full size l) sp
-Agrees-full l size s slotted sp agrees = Agrees-free (footprint_of l) (free_at size l) sp agrees
-    (λ at n free.
-    let it = from_free l size at n free in
-    let slot = slot-from size at.offset slotted.least it.slot in
-    let filled = slotted.filled at.region it.block it.not_keeper it.found in
-    (it.block.size, region_is l at.region it.block it.found, omega (arith, slot.1, it.is, filled.bytes, stride_least size)))
-    (λ a b m n live free region.
-    let it = from_free l size b n free in
-    let had = from_live l a m live in
-    let slot = slot-from size b.offset slotted.least it.slot in
-    let is : m ≡ size = sym had.2 ∙ ap (λ (c : Chunk). c.size) (slotted.chunk a had.0 had.1) in
-    let differs : a.offset ≢ b.offset = λ e. none_or_some (chunk_at l b) had.0 it.none (ap (chunk_at l) (sym (same_addr_from a b region e)) ∙ had.1) in
-    let apart = slots_apart size a.offset b.offset (slotted.slot a had.0 had.1) slot.0 differs in
-    grind (arith, stride_least size, is, it.is))
-    (λ at n free.
-    let it = from_free l size at n free in
-    let slot = slot-from size at.offset slotted.least it.slot in
-    let front : front_of (start_of l at.region) (block_at l at.region) ≤ start_of l at.region + 40 = rw it.found (omega arith) in
-    let start : start_of l at.region ≡ 0 = start-is l size s slotted at.region it.not_keeper in
-    omega (arith, front, start, slot-least size at.offset slot.0))
+-- free chunks lie in their blocks, apart from live ones and behind the headers
+module _ (l : Layout) (size : ℕ) (s : List (ℕ × Vec ℕ)) (slotted : IsSlotted l size s) where
+  free_inside : (at : Addr) (n : ℕ) → free_at size l at ≡ Some n → IsWithin (footprint_of l) at n
+  free_inside at n free =
+      let it = from_free l size at n free in
+      let slot = slot-from size at.offset slotted.least it.slot in
+      let filled = slotted.filled at.region it.block it.not_keeper it.found in
+      (it.block.size, region_is l at.region it.block it.found, omega (arith, slot.1, it.is, filled.bytes, stride_least size))
+
+  free_apart : (a b : Addr) (m n : ℕ) → (footprint_of l).live a ≡ Some m → free_at size l b ≡ Some n → IsApart a m b n
+  free_apart a b m n live free region =
+      let it = from_free l size b n free in
+      let had = from_live l a m live in
+      let slot = slot-from size b.offset slotted.least it.slot in
+      let is : m ≡ size = sym had.2 ∙ ap (λ (c : Chunk). c.size) (slotted.chunk a had.0 had.1) in
+      let differs : a.offset ≢ b.offset = λ e. none_or_some (chunk_at l b) had.0 it.none (ap (chunk_at l) (sym (same_addr_from a b region e)) ∙ had.1) in
+      let apart = slots_apart size a.offset b.offset (slotted.slot a had.0 had.1) slot.0 differs in
+      grind (arith, stride_least size, is, it.is)
+
+  free_behind : (at : Addr) (n : ℕ) → free_at size l at ≡ Some n → (footprint_of l).front at.region ≤ at.offset
+  free_behind at n free =
+      let it = from_free l size at n free in
+      let slot = slot-from size at.offset slotted.least it.slot in
+      let front : front_of (start_of l at.region) (block_at l at.region) ≤ start_of l at.region + 40 = rw it.found (omega arith) in
+      omega (arith, front, start-is l size s slotted at.region it.not_keeper, slot-least size at.offset slot.0)
+
+  pub Agrees-full : (sp : Space) → Agrees (footprint_of l) sp → Agrees (full size l) sp
+  Agrees-full sp agrees = Agrees-free (footprint_of l) (free_at size l) sp agrees free_inside free_apart free_behind
 
 -- a space has the blocks of a context that it agrees with
-pub Agrees-plain : (size : ℕ) (l : Layout) (sp : Space) → Agrees (full size l) sp → Agrees (footprint_of l) sp
-Agrees-plain size l sp agrees = Agrees-free (full size l) (λ at. None) sp agrees (λ at n free. absurd (cc)) (λ a b m n live free. absurd (cc)) (λ at n free. absurd (cc))
+pub Agrees_plain : (size : ℕ) (l : Layout) (sp : Space) → Agrees (full size l) sp → Agrees (footprint_of l) sp
+Agrees_plain size l sp agrees = Agrees-free (full size l) (λ at. None) sp agrees (λ at n free. absurd (cc)) (λ a b m n live free. absurd (cc)) (λ at n free. absurd (cc))
 
 -- the steps, with other free chunks
 Moves-free : (f g : Footprint) (before after : Addr → Option ℕ) (sp sq : Space) → Agrees (record g { free = after }) sq → Moves f g sp sq → Moves (record f { free = before }) (record g { free = after }) sp sq

@@ -13,6 +13,7 @@ use Rattle.slab_ctx.specs.Slots.{HasSlots, first_region}
 use Rattle.slab_ctx.specs.Counts.{Counts}
 use Rattle.slab_ctx.specs.Kept.{inner_of, ledger_of, IsKeptBut, IsKept}
 use Rattle.slab_ctx.specs.Order.{IsOrdered}
+use Rattle.slab_ctx.specs.Ranks.{IsRanked}
 use Rattle.slab_ctx.specs.declared.books.Books.{Books}
 use Rattle.slab_ctx.proofs.Bounds.{free-is}
 use Rattle.slab_ctx.proofs.Lives.{find, lives-put, lives-drop, count-put, count-drop}
@@ -24,15 +25,15 @@ unfolding free_chunks
 free_from n is = is
 
 -- a context without blocks
-pub kept-none : (n : Books) → HasSlots n.slots → n.slots.blocks.blocks ≡ (n.slots.blocks.keeper, first_region) ∷ [] → n.empty ≡ 0 → n.free ≡ 0 → IsOrdered n.ranks n.slots.blocks (per_block n.slots.size) → IsKept n
-kept-none n slots blocks empty free order = record {
+pub kept-none : (n : Books) → HasSlots n.slots → n.slots.blocks.blocks ≡ (n.slots.blocks.keeper, first_region) ∷ [] → n.empty ≡ 0 → n.free ≡ 0 → IsRanked n.ranks → n.ranks.entries.entries ≡ [] → IsKept n
+kept-none n slots blocks empty free ranked none = record {
   slots = slots;
   listed = IsListed-none n.slots.blocks blocks;
   empty = rw (empty, blocks) refl;
   free = free_from n (rw (free, blocks) refl);
   bytes = rw blocks refl;
   most = rw blocks (omega arith);
-  order = order;
+  order = record { ranked = ranked; at = λ number. rw (none, blocks) (grind arith) };
 }
 
 module _ (b n : Books) (few number : ℕ) (kept : IsKeptBut b few) (slots : HasSlots n.slots) (size : n.slots.size ≡ b.slots.size) (same : SameContext b.slots.blocks n.slots.blocks) (differs : number ≢ b.slots.blocks.keeper) where

@@ -1,12 +1,11 @@
 -- Lemmas on the ranks of blocks.
-use Rattle.std.proofs.Common.{◌≡◌, ◌≢◌, ℕ, ◌==◌, if◌then◌else◌, [], ◌∷◌, Some, None, arith}
+use Rattle.std.proofs.Common.{◌≡◌, ◌≢◌, ℕ, ◌==◌, if◌then◌else◌, Some, None, arith}
 use Rattle.ctx_blocks.specs.Layout.{Layout, block_at}
 use Rattle.ctx_blocks.specs.declared.parts.Block.{Block}
 use Rattle.slab_ctx.specs.declared.tree.Rank.{Rank}
 use Rattle.slab_ctx.specs.declared.ranks.Ranks.{Ranks}
 use Rattle.slab_ctx.specs.Ranks.{rank_at, IsRanked}
 use Rattle.slab_ctx.specs.Order.{rank_of, IsOrdered}
-use Rattle.slab_ctx.specs.Slots.{first_region}
 
 -- a block has a rank
 pub has_rank : (r : Ranks) (l : Layout) (per : ℕ) → IsOrdered r l per → (number : ℕ) → number ≢ l.keeper → (block : Block) → block_at l number ≡ Some block → rank_at r.entries.entries number ≡ None → ⊥
@@ -15,10 +14,6 @@ has_rank r l per ordered number differs block found none = grind (arith, ordered
 -- no block changes
 pub order-kept : (r s : Ranks) (l : Layout) (p : ℕ) → IsOrdered r l p → IsRanked s → s.entries.entries ≡ r.entries.entries → IsOrdered s l p
 order-kept r s l p ordered ranked entries = record { ranked = ranked; at = rw entries ordered.at }
-
--- there is none
-pub order-none : (s : Ranks) (m : Layout) (per : ℕ) → IsRanked s → s.entries.entries ≡ [] → m.blocks ≡ (m.keeper, first_region) ∷ [] → IsOrdered s m per
-order-none s m per ranked empty blocks = record { ranked = ranked; at = λ number. rw (empty, blocks) (grind arith) }
 
 module _ (r s : Ranks) (l m : Layout) (p q number : ℕ) (ordered : IsOrdered r l p) (ranked : IsRanked s) (per : q ≡ p) (keeper : m.keeper ≡ l.keeper) where
   -- a block is new, or has another number of live chunks

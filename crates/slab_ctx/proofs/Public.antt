@@ -1,5 +1,5 @@
 -- Lemmas on what callers of a Slab see.
-use Rattle.std.proofs.Common.{◌≡◌, ℕ, ◌≤◌, Option, Some, None, IfSome, IsSome, IfOk, OnOk, Result, Ok, Err, true, length, refl, sym, ◌∙◌, inl, inr, arith}
+use Rattle.std.proofs.Common.{◌≡◌, ℕ, ◌≤◌, Option, Some, None, IsSome, IfOk, OnOk, Result, Ok, Err, true, length, refl, sym, ◌∙◌, inl, inr, arith}
 use Rattle.std.proofs.lemmas.List.{length-map}
 use Rattle.addr_space.specs.declared.Addr.{Addr}
 use Rattle.addr_space.specs.Space.{Space}
@@ -13,11 +13,6 @@ use Rattle.slab_ctx.specs.Calls.{Resizes}
 use Rattle.slab_ctx.specs.Kept.{state_of}
 use Rattle.slab_ctx.specs.declared.books.Books.{Books}
 use Rattle.slab_ctx.specs.Ledger.{resize}
-
--- what follows at a value that there may be
-pub some_with : {A : Type 0} {P : A → Type 0} (o : Option A) → ((a : A) → o ≡ Some a → P a) → IfSome o P
-some_with None all = tt
-some_with (Some a) all = all a refl
 
 -- a value that there is
 pub some_is : {A : Type 0} (o : Option A) → IsSome o → (a : A) × (o ≡ Some a)

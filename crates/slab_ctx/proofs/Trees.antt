@@ -6,7 +6,12 @@ use Rattle.slab_ctx.specs.declared.tree.Entry.{Entry}
 use Rattle.slab_ctx.specs.declared.tree.Tree.{Tree}
 use Rattle.slab_ctx.specs.Tree.{Leads, IsLesser, node, leaf, IsTree, IsTreeBut}
 
-pub Leads-refl : (a : Option Entry) → Leads a a
+-- what follows at a value that there may be
+pub some_with : {A : Type 0} {P : A → Type 0} (o : Option A) → ((a : A) → o ≡ Some a → P a) → IfSome o P
+some_with None all = tt
+some_with (Some a) all = all a refl
+
+Leads-refl : (a : Option Entry) → Leads a a
 Leads-refl None = tt
 Leads-refl (Some a) = inr (refl, omega arith)
 
@@ -82,9 +87,5 @@ as_leaf t tree (suc n) k some within many = elim (cases_lt k t.places) [
   | inr outer ↦ let e : t.places + (k - t.places) ≡ k = omega arith in (k - t.places, omega arith, ap (node t) e)
 ]
 
-there_by : (t : Tree) (o : Option Entry) → (p : ℕ) × (p < t.places) × (leaf t p ≡ o) → IfSome o (λ e. (p : ℕ) × (p < t.places) × (leaf t p ≡ Some e))
-there_by t None it = tt
-there_by t (Some e) it = it
-
 pub first-there : (t : Tree) → IsTree t → 1 ≤ t.places → IfSome (node t 1) (λ e. (p : ℕ) × (p < t.places) × (leaf t p ≡ Some e))
-first-there t tree some = there_by t (node t 1) (as_leaf t tree (2 * t.places) 1 (omega arith) (omega arith) (omega arith))
+first-there t tree some = some_with (node t 1) (λ e is. rw is at (as_leaf t tree (2 * t.places) 1 (omega arith) (omega arith) (omega arith)))

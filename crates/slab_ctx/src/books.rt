@@ -77,6 +77,7 @@ impl Books {
     }
 
     // The books of a new context, whose first region was taken.
+    #[tactic(auto, unfolding(crate::specs::Ledger::created))]
     pub fn create(
         alloc: Global,
         space: &mut Space,
@@ -207,6 +208,7 @@ impl Books {
     }
 
     // Serves a request for a chunk.
+    #[tactic(auto, unfolding(crate::specs::Ledger::serve), using(crate::proofs::Full::Agrees_plain))]
     fn serve(&mut self, space: &mut Space) -> Result<Addr, CtxError>
         requires kept { IsKept self.old }
         requires agrees { Agrees (footprint (state_of self.old)) space.old }
@@ -317,6 +319,7 @@ impl Books {
     }
 
     // Frees all chunks, and gives all blocks back.
+    #[tactic(auto, unfolding(crate::specs::Ledger::created, crate::specs::Ledger::reset), using(crate::proofs::Full::Agrees_plain))]
     pub fn reset(&mut self, space: &mut Space)
         requires kept { IsKept self.old }
         requires agrees { Agrees (footprint (state_of self.old)) space.old }
@@ -335,6 +338,7 @@ impl Books {
     }
 
     // Gives all blocks and the first region back.
+    #[tactic(auto, using(crate::proofs::Full::Agrees_plain))]
     pub fn discard(self, space: &mut Space)
         requires kept { IsKept self }
         requires agrees { Agrees (footprint (state_of self)) space.old }

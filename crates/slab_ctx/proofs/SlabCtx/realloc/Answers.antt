@@ -3,7 +3,8 @@ use Rattle.addr_space.proofs.Steps.{Moves-none}
 use Rattle.slab_ctx.specs.State.{footprint, place_at}
 use Rattle.slab_ctx.specs.Kept.{state_of}
 use Rattle.slab_ctx.specs.declared.books.Books.{Books}
-use Rattle.slab_ctx.proofs.Public.{some_with, resizes_same, live_stays, both_ok}
+use Rattle.slab_ctx.proofs.Trees.{some_with}
+use Rattle.slab_ctx.proofs.Public.{resizes_same, live_stays, both_ok}
 use Rattle.slab_ctx.proofs.SlabCtx.realloc.Goals as goal
 
 pub returns-clause-resized : goal.returns-clause-resized

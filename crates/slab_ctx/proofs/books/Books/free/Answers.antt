@@ -11,7 +11,7 @@ use Rattle.addr_space.proofs.Options.{one_value}
 use Rattle.slab_ctx.specs.Lives.{per_block}
 use Rattle.slab_ctx.proofs.Ordered.{order-put}
 use Rattle.slab_ctx.proofs.Bounds.{free-small}
-use Rattle.slab_ctx.proofs.Full.{Agrees-plain, Moves-full}
+use Rattle.slab_ctx.proofs.Full.{Agrees_plain, Moves-full}
 use Rattle.slab_ctx.proofs.Freed.{freed-is}
 use Rattle.slab_ctx.proofs.Listed.{find-other}
 use Rattle.slab_ctx.proofs.Numbered.{live_is, sums_are}
@@ -60,7 +60,7 @@ settle-requires-clause-live c = λ b now.
 
 pub settle-requires-clause-agrees : goal.settle-requires-clause-agrees
 settle-requires-clause-agrees c =
-    (c.remove-was.ensures.moves c.args.space.now (Agrees-plain c.args.self.now.slots.size c.args.self.now.slots.blocks c.args.space.now c.requires.agrees)).agrees
+    (c.remove-was.ensures.moves c.args.space.now (Agrees_plain c.args.self.now.slots.size c.args.self.now.slots.blocks c.args.space.now c.requires.agrees)).agrees
 
 pub returns-clause-ledger : goal.returns-clause-ledger
 returns-clause-ledger c =
@@ -95,7 +95,7 @@ returns-clause-moves c =
     let l = b.slots.blocks in
     let m = c.remove-was.new.self.blocks in
     let n = c.settle.new.self in
-    let still = c.remove-was.ensures.moves c.args.space.now (Agrees-plain b.slots.size l c.args.space.now c.requires.agrees) in
+    let still = c.remove-was.ensures.moves c.args.space.now (Agrees_plain b.slots.size l c.args.space.now c.requires.agrees) in
     let both = Moves-more (footprint_of l) (footprint_of m) (footprint_of n.slots.blocks) c.args.space.now c.args.space.now c.settle.new.space still c.settle.ensures.moves in
     Moves-full b.slots.size n.slots.size l n.slots.blocks n.slots.stacks.entries c.args.space.now c.settle.new.space (c.settle.ensures.size ∙ c.remove-was.ensures.size) c.settle.ensures.kept.slots both
 
