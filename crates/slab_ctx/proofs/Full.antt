@@ -116,8 +116,8 @@ IsHeaded-full size l at it = record {
   block = it.block;
 }
 
-pub AllHeaded-full : (size : ℕ) (l : Layout) → AllHeaded (footprint_of l) → AllHeaded (full size l)
-AllHeaded-full size l headed at n live = IsHeaded-full size l at (headed at n live)
+pub AllHeaded_full : (size : ℕ) (l : Layout) → AllHeaded (footprint_of l) → AllHeaded (full size l)
+AllHeaded_full size l headed at n live = IsHeaded-full size l at (headed at n live)
 
 pub TakesSpace-full : (size : ℕ) (l : Layout) (at : Addr) (space : ℕ) → TakesSpace (footprint_of l) at space → TakesSpace (full size l) at space
 TakesSpace-full size l at space takes = record { headed = IsHeaded-full size l at takes.headed; small = takes.small; is = takes.is }

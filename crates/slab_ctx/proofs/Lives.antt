@@ -1,5 +1,5 @@
 -- Lemmas on lists of blocks, and on the sums over their live chunks.
-use Rattle.std.proofs.Common.{◌≡◌, ◌≢◌, ℕ, ◌+◌, ◌==◌, List, [], ◌∷◌, length, map, Option, Some, None, sum_by, arith}
+use Rattle.std.proofs.Common.{◌≡◌, ◌≢◌, ℕ, ◌+◌, ◌==◌, List, [], ◌∷◌, length, map, Option, Some, None, sum_by, refl, arith}
 use Rattle.std.specs.Map.{lookup}
 use Rattle.std.proofs.lemmas.List.Sums.{sum_by-cons}
 use Rattle.ctx_blocks.specs.Steps.{with_block, without_block}
@@ -23,13 +23,10 @@ pub lives-drop : (f : ℕ → ℕ) (number : ℕ) (b : Block) (es : Entries) →
 lives-drop f number b [] found = absurd (cc)
 lives-drop f number b (e ∷ es) found = grind (arith, lives-drop f number b es, sum_by-cons f e.1.live (map live_of es), sum_by-cons f e.1.live (map live_of (without_block es number)))
 
-pub count-put : (number : ℕ) (now b : Block) (es : Entries) → find number es ≡ Some b → length (map live_of (with_block es number now)) ≡ length (map live_of es)
-count-put number now b [] found = absurd (cc)
-count-put number now b (e ∷ es) found = grind (arith, count-put number now b es)
-
-pub count-drop : (number : ℕ) (b : Block) (es : Entries) → find number es ≡ Some b → length (map live_of (without_block es number)) + 1 ≡ length (map live_of es)
-count-drop number b [] found = absurd (cc)
-count-drop number b (e ∷ es) found = grind (arith, count-drop number b es)
+-- how many there are, as a sum
+pub ones : (xs : List ℕ) → sum_by (λ x. 1) xs ≡ length xs
+ones [] = refl
+ones (x ∷ xs) = omega (arith, sum_by-cons (λ (x : ℕ). 1) x xs, ones xs)
 
 -- no block is in another region still
 pub alone-put : (number : ℕ) (now : Block) (key : ℕ) → number ≢ key → (es : Entries) → find key es ≡ None → find key (with_block es number now) ≡ None

@@ -1,5 +1,5 @@
 -- Lemmas on the ranks of blocks.
-use Rattle.std.proofs.Common.{◌≡◌, ◌≢◌, ℕ, ◌==◌, if◌then◌else◌, Some, None, arith}
+use Rattle.std.proofs.Common.{◌≡◌, ◌≢◌, ℕ, ◌==◌, if◌then◌else◌, Option, Some, None, option_map, arith}
 use Rattle.ctx_blocks.specs.Layout.{Layout, block_at}
 use Rattle.ctx_blocks.specs.declared.parts.Block.{Block}
 use Rattle.slab_ctx.specs.declared.tree.Rank.{Rank}
@@ -11,15 +11,10 @@ use Rattle.slab_ctx.specs.Order.{rank_of, IsOrdered}
 pub has_rank : (r : Ranks) (l : Layout) (per : ℕ) → IsOrdered r l per → (number : ℕ) → number ≢ l.keeper → (block : Block) → block_at l number ≡ Some block → rank_at r.entries.entries number ≡ None → ⊥
 has_rank r l per ordered number differs block found none = grind (arith, ordered.at number)
 
--- no block changes
-pub order-kept : (r s : Ranks) (l : Layout) (p : ℕ) → IsOrdered r l p → IsRanked s → s.entries.entries ≡ r.entries.entries → IsOrdered s l p
-order-kept r s l p ordered ranked entries = record { ranked = ranked; at = rw entries ordered.at }
+-- a key gets a rank, or loses it
+abbrev pub PutsRank : Ranks → Ranks → ℕ → Option Rank → Type 0
+PutsRank r s key rank = (other : ℕ) → rank_at s.entries.entries other ≡ (if key == other then rank else rank_at r.entries.entries other)
 
-module _ (r s : Ranks) (l m : Layout) (p q number : ℕ) (ordered : IsOrdered r l p) (ranked : IsRanked s) (per : q ≡ p) (keeper : m.keeper ≡ l.keeper) where
-  -- a block is new, or has another number of live chunks
-  pub order-put : (block : Block) (rank : Rank) → number ≢ l.keeper → ((other : ℕ) → block_at m other ≡ (if number == other then Some block else block_at l other)) → rank ≡ rank_of p block → ((other : ℕ) → rank_at s.entries.entries other ≡ (if number == other then Some rank else rank_at r.entries.entries other)) → IsOrdered s m q
-  order-put block rank differs puts is ranks = rw per (record { ranked = ranked; at = λ other. grind (arith, ranks other, puts other, ordered.at other) })
-
-  -- a block is given back
-  pub order-drop : ((other : ℕ) → block_at m other ≡ (if number == other then None else block_at l other)) → ((other : ℕ) → rank_at s.entries.entries other ≡ (if number == other then None else rank_at r.entries.entries other)) → IsOrdered s m q
-  order-drop drops ranks = rw per (record { ranked = ranked; at = λ other. grind (arith, ranks other, drops other, ordered.at other) })
+-- a block is new, has another number of live chunks, or is given back
+pub order-changed : (r s : Ranks) (l m : Layout) (p q number : ℕ) (block : Option Block) → IsOrdered r l p → IsRanked s → q ≡ p → m.keeper ≡ l.keeper → number ≢ l.keeper → ((other : ℕ) → block_at m other ≡ (if number == other then block else block_at l other)) → PutsRank r s number (option_map (rank_of p) block) → IsOrdered s m q
+order-changed r s l m p q number block ordered ranked per keeper differs blocks ranks = rw per (record { ranked = ranked; at = λ other. grind (arith, ranks other, blocks other, ordered.at other) })

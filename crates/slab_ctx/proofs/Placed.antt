@@ -97,8 +97,8 @@ leads-all (Some c) es best result x y p lesser at leads is = elim (cases_eq c p)
 
 -- where the tree has what its entries are, and leads to what is least of them and the current one
 module _ (r : Ranks) (ranked : IsRanked r) (best result : Option Entry) (lesser : IsLesser (current_in r.current r.entries.entries) best result) where
-  pub least-leads : ((p : ℕ) → p < r.tree.places → Leads best (leaf r.tree p)) → (key : ℕ) (rank : Rank) → rank_at r.entries.entries key ≡ Some rank → Leads result (Some (entry_of (key, rank)))
-  least-leads leads key rank found =
+  pub least_leads : ((p : ℕ) → p < r.tree.places → Leads best (leaf r.tree p)) → (key : ℕ) (rank : Rank) → rank_at r.entries.entries key ≡ Some rank → Leads result (Some (entry_of (key, rank)))
+  least_leads leads key rank found =
       let it = place_from_lookup (λ n. key == n) r.entries.entries rank found in
       let same : it.1 ≡ key = let test = it.3 in grind arith in
       let within = slice_get_within r.entries.entries it.0 (it.1, rank) it.2 in

@@ -73,8 +73,8 @@ under t tree (suc n) k few some within = elim (cases_eq k 1) [
       ]
 ]
 
-pub first-leads : (t : Tree) → IsTree t → (p : ℕ) → p < t.places → Leads (node t 1) (leaf t p)
-first-leads t tree p within = under t tree (t.places + p) (t.places + p) (omega arith) (omega arith) (omega arith)
+pub first_leads : (t : Tree) → IsTree t → (p : ℕ) → p < t.places → Leads (node t 1) (leaf t p)
+first_leads t tree p within = under t tree (t.places + p) (t.places + p) (omega arith) (omega arith) (omega arith)
 
 -- each node is that of a place
 as_leaf : (t : Tree) → IsTree t → (n k : ℕ) → 1 ≤ k → k < 2 * t.places → 2 * t.places ≤ k + n → (p : ℕ) × (p < t.places) × (leaf t p ≡ node t k)

@@ -122,6 +122,7 @@ impl Books {
     }
 
     // Live chunks lead to the context.
+    #[tactic(auto, using(crate::proofs::Full::AllHeaded_full))]
     pub fn headed(&self)
         requires { IsKept self.now }
         ensures headed { AllHeaded (footprint (state_of self.now)) }
@@ -132,6 +133,7 @@ impl Books {
     }
 
     // The block with the fewest free chunks but at least one, the earliest of such ones.
+    #[tactic(auto, using(crate::proofs::Chosen::chosen, crate::proofs::Chosen::serving_chosen, crate::proofs::Chosen::serving_none, crate::proofs::Chosen::serving_empty))]
     fn fullest(&self) -> Option<u32>
         requires { IsKept self.now }
         ensures some { IfSome result (λ number. IsChosen self.now.slots.blocks (per_block self.now.slots.size) number) }

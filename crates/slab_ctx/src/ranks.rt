@@ -173,6 +173,7 @@ impl Ranks {
     }
 
     // The key of the least rank, with that.
+    #[tactic(auto, using(crate::proofs::Placed::least_leads))]
     pub fn least(&self) -> Option<Entry>
         requires ranked { IsRanked self.now }
         ensures there { IfSome result (λ e. rank_at self.now.entries.entries e.key ≡ Some e.rank) }

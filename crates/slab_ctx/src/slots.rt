@@ -146,6 +146,7 @@ impl Slots {
     }
 
     // The slots of a new context, whose first region was taken.
+    #[tactic(auto, using(crate::proofs::Slotted::IsSlotted_none))]
     pub fn create(
         alloc: Global,
         space: &mut Space,

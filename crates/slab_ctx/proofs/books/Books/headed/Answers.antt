@@ -6,11 +6,8 @@ use Rattle.ctx_blocks.specs.declared.parts.Chunk.{Chunk}
 use Rattle.ctx_blocks.proofs.Laid.{from_live}
 use Rattle.slab_ctx.specs.Lives.{stride}
 use Rattle.slab_ctx.proofs.Numbers.{stride_least}
-use Rattle.slab_ctx.proofs.Full.{AllHeaded-full, AllOfKind-full, TakesSpace-full}
+use Rattle.slab_ctx.proofs.Full.{AllOfKind-full, TakesSpace-full}
 use Rattle.slab_ctx.proofs.books.Books.headed.Goals as goal
-
-pub returns-clause-headed : goal.returns-clause-headed
-returns-clause-headed c = AllHeaded-full c.args.self.now.slots.size c.args.self.now.slots.blocks c.headed.ensures.headed
 
 pub returns-clause-kinds : goal.returns-clause-kinds
 returns-clause-kinds c =
