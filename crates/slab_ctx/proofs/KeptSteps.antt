@@ -1,25 +1,38 @@
 -- What the code keeps, after a step.
-use Rattle.std.proofs.Common.{◌≡◌, ◌≢◌, ℕ, ◌+◌, ◌-◌, ◌^◌, ◌≤◌, ◌==◌, if◌then◌else◌, ◌++◌, List, [], ◌∷◌, length, Option, Some, None, option_map, sum_by, refl, sym, ap, ◌∙◌, arith}
+use Rattle.std.proofs.Common.{◌≡◌, ◌≢◌, ℕ, ◌==◌, if◌then◌else◌, Option, Some, None, option_map, arith, ◌+◌, ◌-◌, ◌^◌, ◌≤◌, ◌++◌, List, [], ◌∷◌, length, map, sum_by, refl, sym, ap, ◌∙◌}
+use Rattle.ctx_blocks.specs.Layout.{Layout, block_at, total}
+use Rattle.ctx_blocks.specs.declared.parts.Block.{Block}
+use Rattle.slab_ctx.specs.declared.tree.Rank.{Rank}
+use Rattle.slab_ctx.specs.declared.ranks.Ranks.{Ranks}
+use Rattle.slab_ctx.specs.Ranks.{rank_at, IsRanked}
+use Rattle.slab_ctx.specs.Order.{rank_of, IsOrdered}
 use Rattle.std.proofs.lemmas.List.{length-append}
 use Rattle.std.proofs.lemmas.List.Sums.{sum_by-append, sum_by-cons}
-use Rattle.ctx_blocks.specs.Layout.{block_at, total}
 use Rattle.ctx_blocks.specs.Steps.{with_block, PutsBlock, DropsBlock, SameContext}
-use Rattle.ctx_blocks.specs.declared.parts.Block.{Block}
 use Rattle.ctx_blocks.proofs.Totals.{total-put}
 use Rattle.ctx_blocks.proofs.Numbered.{rising_put, rising_add}
 use Rattle.slab_ctx.specs.Lives.{is_empty, free_in, free_chunks, per_block}
 use Rattle.slab_ctx.specs.Ledger.{SlabBlock, with_live}
-use Rattle.slab_ctx.specs.State.{others, live_of, lives_of, blocks_of}
+use Rattle.slab_ctx.specs.State.{others, live_of, lives_of, numbered_of, blocks_of}
 use Rattle.slab_ctx.specs.Slots.{HasSlots, first_region}
 use Rattle.slab_ctx.specs.Counts.{Counts}
 use Rattle.slab_ctx.specs.Kept.{inner_of, ledger_of, IsKeptBut, IsKept}
-use Rattle.slab_ctx.specs.Order.{rank_of, IsOrdered}
-use Rattle.slab_ctx.specs.Ranks.{IsRanked}
 use Rattle.slab_ctx.specs.declared.books.Books.{Books}
+use Rattle.slab_ctx.proofs.Lives.{numbered_put, find, ones, lives-put, lives-drop}
 use Rattle.slab_ctx.proofs.Bounds.{free-is}
-use Rattle.slab_ctx.proofs.Ordered.{PutsRank, order-changed}
-use Rattle.slab_ctx.proofs.Lives.{find, ones, lives-put, lives-drop}
-use Rattle.slab_ctx.proofs.Listed.{find-other, others-put, others-drop, IsListed-none, IsListed-put, map-added, blocks-changed, IsListed-drop}
+use Rattle.slab_ctx.proofs.Listed.{find-other, others-put, others-drop, IsListed-none, IsListed-put, map-added, IsListed-drop}
+
+-- a block has a rank
+pub has_rank : (r : Ranks) (l : Layout) (per : ℕ) → IsOrdered r l per → (number : ℕ) → number ≢ l.keeper → (block : Block) → block_at l number ≡ Some block → rank_at r.entries.entries number ≡ None → ⊥
+has_rank r l per ordered number differs block found none = grind (arith, ordered.at number)
+
+-- a key gets a rank, or loses it
+abbrev pub PutsRank : Ranks → Ranks → ℕ → Option Rank → Type 0
+PutsRank r s key rank = (other : ℕ) → rank_at s.entries.entries other ≡ (if key == other then rank else rank_at r.entries.entries other)
+
+-- a block is new, has another number of live chunks, or is given back
+pub order-changed : (r s : Ranks) (l m : Layout) (p q number : ℕ) (block : Option Block) → IsOrdered r l p → IsRanked s → q ≡ p → m.keeper ≡ l.keeper → number ≢ l.keeper → ((other : ℕ) → block_at m other ≡ (if number == other then block else block_at l other)) → PutsRank r s number (option_map (rank_of p) block) → IsOrdered s m q
+order-changed r s l m p q number block ordered ranked per keeper differs blocks ranks = rw per (record { ranked = ranked; at = λ other. grind (arith, ranks other, blocks other, ordered.at other) })
 
 -- the free chunks, where the books count them
 free_from : (n : Books) → n.free ≡ sum_by (free_in (per_block n.slots.size)) (lives_of n.slots.blocks) → n.free ≡ free_chunks (inner_of n)
@@ -77,7 +90,7 @@ module _ (b n : Books) (few number : ℕ) (kept : IsKeptBut b few) (slots : HasS
 
       -- its number stays
       pub blocks-counted : blocks_of n.slots.blocks ≡ with_live (blocks_of b.slots.blocks) block.number live
-      blocks-counted = rw (← counts.count) (blocks-changed b.slots.blocks kept.listed number differs n.slots.blocks same counts.block counts.puts block found (counts.same_number block found))
+      blocks-counted = rw (← counts.count) (ap (map numbered_of) changed ∙ numbered_put 1 b.slots.blocks.last_number number (others b.slots.blocks.blocks) block counts.block kept.listed.rising there (counts.same_number block found))
 
       pub kept-changed : (more : ℕ) → n.slots.blocks.last_number ≡ b.slots.blocks.last_number → n.empty + more + is_empty block.live ≡ b.empty + few + is_empty live → n.free + free_in (per_block b.slots.size) block.live ≡ b.free + free_in (per_block b.slots.size) live → IsRanked n.ranks → PutsRank b.ranks n.ranks number (Some (rank_of (per_block b.slots.size) counts.block)) → IsKeptBut n more
       kept-changed more last empty free ranked ranks =

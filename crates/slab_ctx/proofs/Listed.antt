@@ -6,12 +6,11 @@ use Rattle.ctx_blocks.specs.Steps.{with_block, without_block, PutsBlock, DropsBl
 use Rattle.ctx_blocks.specs.declared.parts.Block.{Block}
 use Rattle.ctx_blocks.specs.Kept.{AreRising}
 use Rattle.ctx_blocks.proofs.Numbered.{with_last, rising_drop}
-use Rattle.slab_ctx.specs.Ledger.{with_live, without_number}
+use Rattle.slab_ctx.specs.Ledger.{without_number}
 use Rattle.slab_ctx.specs.State.{others, numbered_of, blocks_of}
-use Rattle.slab_ctx.proofs.Numbered.{numbered_put, numbered_drop}
+use Rattle.slab_ctx.proofs.Lives.{numbered_drop, find, alone-put, alone-drop}
 use Rattle.slab_ctx.specs.Slots.{first_region}
 use Rattle.slab_ctx.specs.Kept.{IsListed, AreApart}
-use Rattle.slab_ctx.proofs.Lives.{find, alone-put, alone-drop}
 
 -- blocks stay in different regions
 apart-put : (number : ℕ) (now : Block) (es : List (ℕ × Block)) → AreApart es → AreApart (with_block es number now)
@@ -47,10 +46,6 @@ module _ (l : Layout) (listed : IsListed l) (number : ℕ) (differs : number ≢
       -- a block is new, or another one
       pub IsListed-put : AreRising 1 m.last_number (with_block (others l.blocks) number now) → IsListed m
       IsListed-put rising = listed_by (with_block (others l.blocks) number now) (puts.blocks ∙ put_shape now) (alone-put number now l.keeper differs (others l.blocks) listed.alone) rising (apart-put number now (others l.blocks) listed.apart)
-
-      -- what is said of each block by its number
-      pub blocks-changed : (b : Block) → block_at l number ≡ Some b → now.number ≡ b.number → blocks_of m ≡ with_live (blocks_of l) b.number now.live
-      blocks-changed b found same_number = ap (map numbered_of) others-put ∙ numbered_put 1 l.last_number number (others l.blocks) b now listed.rising (find-other ∙ found) same_number
 
       -- a new one is the last
       pub map-added : {X : Type 0} (f : ℕ × Block → X) → block_at l number ≡ None → map f (others m.blocks) ≡ map f (others l.blocks) ++ f (number, now) ∷ []

@@ -1,7 +1,6 @@
 -- Lemmas on the bytes of a chunk with its header, and on how many a block has.
-use Rattle.std.proofs.Common.{◌≡◌, ◌≢◌, ℕ, ◌+◌, ◌*◌, ◌%◌, ◌<◌, ◌≤◌, ◌⊎◌, ◌↔◌, sym, ap, ◌∙◌, inl, inr, arith}
+use Rattle.std.proofs.Common.{◌≡◌, ◌≢◌, ℕ, ◌+◌, ◌*◌, ◌%◌, ◌<◌, ◌≤◌, ◌⊎◌, ◌↔◌, arith}
 use Rattle.std.proofs.Math.Nat.{le-div_iff_mul-le, mul-le-mul_right}
-use Rattle.std.proofs.lemmas.Bool.{cases_order}
 use Rattle.chunk_header.specs.Growth.{up8}
 use Rattle.slab_ctx.specs.Lives.{stride, per_block}
 use Rattle.slab_ctx.specs.Slots.{IsSlot}
@@ -30,8 +29,8 @@ pub per_block-few : (size : ℕ) → 1 ≤ size → per_block size ≤ 509
 per_block-few size some =
     omega (arith, (per_block-is size (per_block size)).0 (omega arith), mul-le-mul_right (per_block size) (stride-some size some))
 
-pub per_block-some : (size : ℕ) → size ≤ 1024 → 1 ≤ per_block size
-per_block-some size small = (per_block-is size 1).1 (omega (arith, stride-most size))
+pub per_block_some : (size : ℕ) → size ≤ 1024 → 1 ≤ per_block size
+per_block_some size small = (per_block-is size 1).1 (omega (arith, stride-most size))
 
 -- a slot ends where the next one begins, or before
 slot-before : (f a b : ℕ) → a < b → a * f + f ≤ b * f
@@ -40,10 +39,4 @@ slot-before f a b before = let more = mul-le-mul_right f before in omega arith
 -- two slots have no byte in common, with their headers
 pub slots_apart : (size a b : ℕ) → IsSlot size a → IsSlot size b → a ≢ b → (a + stride size ≤ b) ⊎ (b + stride size ≤ a)
 slots_apart size a b first second differs =
-    elim (cases_order first.slot second.slot) [
-      | inl same ↦ absurd (differs (first.at_slot ∙ ap (λ n. 48 + n * stride size) same ∙ sym second.at_slot))
-      | inr other ↦ elim other [
-        | inl less ↦ inl (omega (arith, first.at_slot, second.at_slot, slot-before (stride size) first.slot second.slot less))
-        | inr more ↦ inr (omega (arith, first.at_slot, second.at_slot, slot-before (stride size) second.slot first.slot more))
-      ]
-    ]
+    grind (arith, first.at_slot, second.at_slot, slot-before (stride size) first.slot second.slot, slot-before (stride size) second.slot first.slot)

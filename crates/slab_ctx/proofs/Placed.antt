@@ -10,6 +10,7 @@ use Rattle.std.proofs.lemmas.Option.{slice_get_past, slice_get-get_or, slice_get
 use Rattle.std.proofs.lemmas.Map.Entries.{place_from_lookup, lookup_from_place}
 use Rattle.std.proofs.lemmas.Bool.{cases_eq, cases_lt}
 use Rattle.indexmap.specs.IndexMap.{insert_entry, swap_remove_entry}
+use Rattle.indexmap.proofs.CallerLemmas.{keys-with_value_at, index_map_len-with_value_at}
 use Rattle.indexmap.proofs.MapLemmas.{swap_remove_entry-found}
 use Rattle.addr_space.proofs.Options.{from_map}
 use Rattle.slab_ctx.specs.declared.tree.Rank.{Rank}
@@ -35,6 +36,9 @@ value-set (e ∷ es) (suc place) (suc p) key old rank at = grind (arith, value-s
 
 pub entry-set : (es : List (ℕ × Rank)) (place p : ℕ) (key : ℕ) (old rank : Rank) → slice_get es place ≡ Some (key, old) → entry_in (set_value_at es place rank) p ≡ (if place == p then Some (entry_of (key, rank)) else entry_in es p)
 entry-set es place p key old rank at = rw (value-set es place p key old rank at) (grind arith)
+
+-- what a map keeps whose key got another rank
+pub ruleset written = (keys-with_value_at, index_map_len-with_value_at)
 
 -- a key is put
 insert-get : (es : List (ℕ × Rank)) (key : ℕ) (rank : Rank) (p : ℕ) → slice_get (insert_entry nat_eq es key rank) p ≡ (if position_or_len (nat_eq key) (keys_of es) == p then Some (key, rank) else slice_get es p)
@@ -63,14 +67,9 @@ module _ (es fs : List (ℕ × Rank)) (test : ℕ → Bool) (place : ℕ) (found
   entry-removed p = elim (cases_lt p (length fs)) [
     | inl less ↦
         let back : length es - 1 ≡ length fs = omega (arith, long) in
-        elim (cases_eq place p) [
-          | inl same ↦ grind (arith, low p less, get_or-set_same es place last none (omega arith), slice_get-get_or es (length fs) none (omega arith))
-          | inr differs ↦ grind (arith, low p less, get_or-set_other es place p last none (λ e. differs (sym e)), slice_get-get_or es p none (omega arith))
-        ]
-    | inr more ↦ elim (cases_eq (length fs) p) [
-      | inl same ↦ grind (arith, slice_get_past fs p more)
-      | inr differs ↦ grind (arith, slice_get_past fs p more, slice_get_past es p (omega arith))
-    ]
+        let other = get_or-set_other es place p last none in
+        grind (arith, low p less, get_or-set_same es place last none (omega arith), slice_get-get_or es (length fs) none (omega arith), slice_get-get_or es p none (omega arith))
+    | inr more ↦ grind (arith, slice_get_past fs p more, slice_get_past es p)
   ]
 
 -- the tree has none of the current entry

@@ -1,9 +1,9 @@
--- Lemmas on a request that is served.
-use Rattle.std.proofs.Common.{◌≡◌, ◌≢◌, ℕ, ◌+◌, ◌<◌, ◌++◌, List, [], ◌∷◌, map, Option, Some, None, Err, arith}
+-- Lemmas on the steps of the ledger: a request that is served, and a chunk that is freed.
+use Rattle.std.proofs.Common.{◌≡◌, ◌≢◌, ℕ, ◌+◌, ◌<◌, ◌++◌, List, [], ◌∷◌, map, Option, Some, None, Err, arith, ◌-◌, ◌≤◌, ◌==◌, ◌&&◌, nat_le, if◌then◌else◌, refl}
 use Rattle.chunk_header.specs.declared.CtxError.TheVariants.{WrongSize}
 use Rattle.ctx_blocks.specs.Kept.{AreRising}
 use Rattle.ctx_blocks.specs.declared.parts.Block.{Block}
-use Rattle.slab_ctx.specs.Ledger.{SlabLedger, SlabBlock, with_live, serve}
+use Rattle.slab_ctx.specs.Ledger.{SlabLedger, SlabBlock, with_live, serve, empties, without_number, live_in, give}
 use Rattle.slab_ctx.specs.State.{numbered_of}
 
 -- the last block has one live chunk
@@ -16,3 +16,16 @@ pub serve_not_wrong : (l : SlabLedger) (left : ℕ) (chosen : Option SlabBlock) 
 unfolding serve
 serve_not_wrong l left (Some block) is = grind arith
 serve_not_wrong l left None is = grind arith
+
+-- which block is left out doesn't depend on live chunks
+without-set : (number live : ℕ) (xs : List SlabBlock) → without_number (with_live xs number live) number ≡ without_number xs number
+without-set number live [] = refl
+without-set number live (b ∷ xs) = grind (arith, without-set number live xs)
+
+-- the ledger's step, from the blocks before, between and after
+pub freed-is : (l : SlabLedger) (number other live now empty : ℕ) (mid after : List SlabBlock) → live_in l.blocks number ≡ live → 1 ≤ live → now ≡ live - 1 → mid ≡ with_live l.blocks number (live - 1) → other ≡ number → empty ≡ empties l.blocks
+    → after ≡ (if (now == 0) && nat_le 10 empty then without_number mid other else mid) → record { size = l.size; count = l.count; blocks = after } ≡ give l number
+unfolding give
+freed-is l number other live now empty mid after index some is middle same count after_is =
+    let gone = without-set number (live - 1) l.blocks in
+    rw (after_is, index, same, middle, is, count) (grind arith)

@@ -149,7 +149,7 @@ impl Books {
     }
 
     // Takes a chunk of a block that has a free one.
-    #[tactic(auto, using(crate::proofs::Ordered::has_rank))]
+    #[tactic(auto, using(crate::proofs::KeptSteps::has_rank))]
     fn take(&mut self, space: &mut Space, number: u32) -> Addr
         requires kept { IsKept self.old }
         requires agrees { Agrees (blocks_footprint self.old.slots.blocks) space.old }
@@ -177,6 +177,7 @@ impl Books {
     }
 
     // Takes a block.
+    #[tactic(auto, using(ctx_blocks::proofs::Among::among_adding, ctx_blocks::proofs::Changed::put_here))]
     fn add(&mut self, space: &mut Space) -> Result<u32, CtxError>
         requires kept { IsKept self.old }
         requires agrees { Agrees (blocks_footprint self.old.slots.blocks) space.old }
@@ -210,7 +211,7 @@ impl Books {
     }
 
     // Serves a request for a chunk.
-    #[tactic(auto, unfolding(crate::specs::Ledger::serve), using(crate::proofs::Full::Agrees_plain))]
+    #[tactic(auto, unfolding(crate::specs::Ledger::serve), using(crate::proofs::Full::Agrees_plain, crate::proofs::Numbers::per_block_some))]
     fn serve(&mut self, space: &mut Space) -> Result<Addr, CtxError>
         requires kept { IsKept self.old }
         requires agrees { Agrees (footprint (state_of self.old)) space.old }
@@ -253,6 +254,7 @@ impl Books {
     }
 
     // Gives a block back, where it has no live chunk and enough others are empty.
+    #[tactic(auto, using(ctx_blocks::proofs::Among::among_drop))]
     fn settle(&mut self, space: &mut Space, number: u32, live: u32)
         requires kept { (b : Block) × (block_at self.old.slots.blocks number ≡ Some b) × IsKeptBut self.old (is_empty b.live) }
         requires live { (b : Block) → block_at self.old.slots.blocks number ≡ Some b → b.live ≡ live }
@@ -281,7 +283,7 @@ impl Books {
     }
 
     // Frees a live chunk.
-    #[tactic(auto, using(crate::proofs::Ordered::has_rank))]
+    #[tactic(auto, using(crate::proofs::KeptSteps::has_rank))]
     pub fn free(&mut self, space: &mut Space, at: Addr)
         requires kept { IsKept self.old }
         requires agrees { Agrees (footprint (state_of self.old)) space.old }

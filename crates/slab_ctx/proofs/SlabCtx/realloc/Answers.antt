@@ -1,4 +1,4 @@
-use Rattle.std.proofs.Common.{refl, ap, ◌∙◌}
+use Rattle.std.proofs.Common.{ap, ◌∙◌}
 use Rattle.addr_space.proofs.Steps.{Moves-none}
 use Rattle.slab_ctx.specs.State.{footprint, place_at}
 use Rattle.slab_ctx.specs.Kept.{state_of}
@@ -21,6 +21,3 @@ returns-clause-live c =
 
 pub returns-clause-moves : goal.returns-clause-moves
 returns-clause-moves c = Moves-none (footprint c.args.self.now) c.args.space.now c.requires.agrees
-
-pub returns-clause-keeps : goal.returns-clause-keeps
-returns-clause-keeps c = λ at m n k live now below under. refl

@@ -1,7 +1,6 @@
 use Rattle.std.proofs.Common.{◌+◌, ap, ◌∙◌, arith, refl}
 use Rattle.ctx_blocks.specs.Layout.{block_at}
 use Rattle.ctx_blocks.specs.declared.parts.Block.{Block}
-use Rattle.ctx_blocks.proofs.Among.{among_adding}
 use Rattle.ctx_blocks.proofs.Changed.{put_here}
 use Rattle.addr_space.proofs.Options.{one_value}
 use Rattle.slab_ctx.specs.Lives.{per_block}
@@ -22,9 +21,6 @@ overflow_add-self-2 c = omega (arith, free-small c.args.self.now 0 c.requires.ke
 new : In_ok-number → Block
 new c = record { number = c.args.self.now.slots.blocks.last_number + 1; size = 8192; room = 8152; live = 0; freed = 0 }
 
-pub owned-block-requires : goal.owned-block-requires
-owned-block-requires c = (_, put_here _ _ _ _ c.in_ok-number.ensures.block)
-
 pub returns-clause-kept : goal.returns-clause-kept
 unfolding new
 returns-clause-kept c =
@@ -43,6 +39,3 @@ unfolding new
 returns-clause-blocks c =
     let e = c.in_ok-number.ensures in
     map-added c.args.self.now.slots.blocks c.requires.kept.listed c.in_ok-number.number e.not_keeper c.add.new.self.blocks e.same (new (goal.at.returns-clause-blocks c).In_ok-number) e.block numbered_of e.fresh
-
-pub returns-clause-among : goal.returns-clause-among
-returns-clause-among c = among_adding _ _ _ _ c.in_ok-number.ensures.fresh c.in_ok-number.ensures.block

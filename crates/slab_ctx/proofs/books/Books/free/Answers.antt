@@ -10,9 +10,9 @@ use Rattle.slab_ctx.specs.declared.books.Books.{Books}
 use Rattle.addr_space.proofs.Options.{one_value}
 use Rattle.slab_ctx.proofs.Bounds.{free-small}
 use Rattle.slab_ctx.proofs.Full.{Agrees_plain, Moves-full}
-use Rattle.slab_ctx.proofs.Freed.{freed-is}
+use Rattle.slab_ctx.proofs.Served.{freed-is}
 use Rattle.slab_ctx.proofs.Listed.{find-other}
-use Rattle.slab_ctx.proofs.Numbered.{live_is, sums_are}
+use Rattle.slab_ctx.proofs.Lives.{live_is, sums_are}
 use Rattle.slab_ctx.proofs.Places.{chunks-few}
 use Rattle.slab_ctx.proofs.KeptSteps.{kept-changed, blocks-counted, ledger-parts}
 use Rattle.addr_space.proofs.Steps.{Keeps-then}
@@ -21,9 +21,6 @@ use Rattle.slab_ctx.proofs.books.Books.free.Goals as goal
 
 pub overflow_add-self : goal.overflow_add-self
 overflow_add-self c = omega (arith, free-small c.args.self.now 0 c.requires.kept)
-
-pub overflow_sub-live : goal.overflow_sub-live
-overflow_sub-live c = let had = c.remove-was.ensures.block in grind (arith, c.remove-was.ensures.was, had.1, had.2)
 
 pub settle-requires-clause-kept : goal.settle-requires-clause-kept
 settle-requires-clause-kept c =
@@ -43,12 +40,6 @@ settle-requires-clause-kept c =
           (grind (arith, counts.count, had.2)) (omega (arith, few, had.2))
           c.put.ensures.ranked (rw (c.rank.ensures, c.per_block-per.ensures.value, c.remove-was.ensures.size, was, ← counts.count, ← counts.same_number block had.1) at c.put.ensures.at),
     )
-
-pub settle-requires-clause-live : goal.settle-requires-clause-live
-settle-requires-clause-live c = λ b now.
-    let had = c.remove-was.ensures.block in
-    let here = put_here _ _ _ _ had.3.puts in
-    grind (arith, c.remove-was.ensures.was, had.1, now, here, had.3.count)
 
 pub settle-requires-clause-agrees : goal.settle-requires-clause-agrees
 settle-requires-clause-agrees c =
@@ -72,9 +63,6 @@ returns-clause-ledger c =
     ledger-parts k b.slots.size l.last_number (blocks_of k.slots.blocks) (c.settle.ensures.size ∙ c.remove-was.ensures.size) (c.settle.ensures.last ∙ c.remove-was.ensures.last) refl
     ∙ freed-is (ledger_of b) block.number counts.block.number block.live counts.block.live b.empty (blocks_of c.remove-was.new.self.blocks) (blocks_of k.slots.blocks) live had.2 counts.count mid (counts.same_number block had.1) empty after
     ∙ ap (give (ledger_of b)) (sym (number_is l number block had.1))
-
-pub returns-clause-chunk : goal.returns-clause-chunk
-returns-clause-chunk c = rw c.settle.ensures.chunks c.remove-was.ensures.chunk
 
 pub returns-clause-among : goal.returns-clause-among
 returns-clause-among c =

@@ -8,7 +8,6 @@ use Rattle.ctx_blocks.proofs.Changed.{puts_same, stays_live}
 use Rattle.slab_ctx.specs.Ledger.{SlabLedger, per_block, serving, serve, with_live}
 use Rattle.slab_ctx.specs.State.{blocks_of, others}
 use Rattle.slab_ctx.specs.Slots.{chunk_of}
-use Rattle.slab_ctx.proofs.Numbers.{per_block-some}
 use Rattle.slab_ctx.proofs.Full.{Moves-full}
 use Rattle.slab_ctx.proofs.KeptSteps.{ledger-parts}
 use Rattle.slab_ctx.proofs.Served.{live-last}
@@ -39,10 +38,6 @@ returns-in-Some-clause-ok c =
         keeps = c.take.ensures.keeps;
       };
     }
-
-pub take-requires-2-clause-block : goal.take-requires-2-clause-block
-take-requires-2-clause-block c =
-    (record { number = c.args.self.now.slots.blocks.last_number + 1; size = 8192; room = 8152; live = 0; freed = 0 }, c.in_ok-number.ensures.block, per_block-some c.add.new.self.slots.size c.add.ensures.kept.slots.most)
 
 pub returns-clause-ok : goal.returns-clause-ok
 unfolding serve

@@ -1,13 +1,9 @@
 use Rattle.std.proofs.Common.{◌≡◌, ◌-◌, ap, ◌∙◌, arith, refl}
-use Rattle.ctx_blocks.proofs.Among.{among_drop}
 use Rattle.slab_ctx.specs.Ledger.{per_block, is_empty}
 use Rattle.slab_ctx.specs.declared.books.Books.{Books}
 use Rattle.slab_ctx.proofs.KeptSteps.{free-least, kept-dropped}
 use Rattle.slab_ctx.proofs.Listed.{blocks-dropped}
 use Rattle.slab_ctx.proofs.books.Books.settle.Goals as goal
-
-pub give-requires-clause-block : goal.give-requires-clause-block
-give-requires-clause-block c = let k = c.requires.kept in (k.0, k.1, omega (arith, c.if-live-gt0.false, c.requires.live k.0 k.1))
 
 pub overflow_sub-self : goal.overflow_sub-self
 overflow_sub-self c =
@@ -29,6 +25,3 @@ returns-clause-blocks c = λ block found.
     let none : block.live ≡ 0 = omega (arith, c.if-live-gt0.false, c.requires.live block found) in
     let gone = blocks-dropped l c.requires.kept.2.listed c.args.number c.requires.not_keeper c.give.new.self.blocks c.give.ensures.same c.give.ensures.block block found in
     gone ∙ grind (arith, none, c.if-self-lt-MOST_EMPTY.false)
-
-pub returns-clause-among : goal.returns-clause-among
-returns-clause-among c = among_drop c.args.self.now.slots.blocks c.give.new.self.blocks c.args.number c.give.ensures.block

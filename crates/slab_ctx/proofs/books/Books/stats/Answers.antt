@@ -3,7 +3,7 @@ use Rattle.std.proofs.lemmas.List.{length-map}
 use Rattle.slab_ctx.specs.Ledger.{stats, per_block, free_chunks}
 use Rattle.slab_ctx.specs.Lives.{free_in}
 use Rattle.slab_ctx.specs.State.{numbered_of, others, blocks_of}
-use Rattle.slab_ctx.proofs.Numbered.{sums_are}
+use Rattle.slab_ctx.proofs.Lives.{sums_are}
 use Rattle.slab_ctx.proofs.Bounds.{free-is, bytes-small}
 use Rattle.slab_ctx.proofs.Public.{length_blocks}
 use Rattle.slab_ctx.proofs.books.Books.stats.Goals as goal
