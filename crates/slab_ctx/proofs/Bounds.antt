@@ -13,13 +13,6 @@ sum-most : (f : ℕ → ℕ) (most : ℕ) → ((x : ℕ) → f x ≤ most) → (
 sum-most f most all [] = omega arith
 sum-most f most all (x ∷ xs) = omega (arith, sum_by-cons f x xs, all x, sum-most f most all xs)
 
--- they have place in their blocks
-bytes-most : (per f : ℕ) (xs : List ℕ) → per * f ≤ 8152 → sum_by (free_in per) xs * f ≤ 8152 * length xs
-bytes-most per f [] fit = omega arith
-bytes-most per f (x ∷ xs) fit =
-    let one : free_in per x * f ≤ per * f = mul-le-mul_right f (omega arith) in
-    rw (sum_by-cons (free_in per) x xs) (omega (arith, bytes-most per f xs fit))
-
 module _ (b : Books) (few : ℕ) (kept : IsKeptBut b few) where
   pub free-is : b.free ≡ sum_by (free_in (per_block b.slots.size)) (lives_of b.slots.blocks)
   unfolding free_chunks
@@ -33,7 +26,10 @@ module _ (b : Books) (few : ℕ) (kept : IsKeptBut b few) where
   pub bytes-small : stride b.slots.size * b.free ≤ 2 ^ 62
   bytes-small =
       let size = b.slots.size in
-      let most = bytes-most (per_block size) (stride size) (lives_of b.slots.blocks) ((per_block-is size (per_block size)).0 (omega arith)) in
+      let per = per_block size in
+      let lives = lives_of b.slots.blocks in
+      let sum = mul-le-mul_right (stride size) (sum-most (free_in per) per (λ x. omega arith) lives) in
+      let most = mul-le-mul_right (length lives) ((per_block-is size per).0 (omega arith)) in
       rw free-is (omega (arith, kept.bytes, kept.most))
 
   pub empty-small : b.empty ≤ 2 ^ 60

@@ -30,10 +30,6 @@ has_rank r l per ordered number differs block found none = grind (arith, ordered
 abbrev pub PutsRank : Ranks → Ranks → ℕ → Option Rank → Type 0
 PutsRank r s key rank = (other : ℕ) → rank_at s.entries.entries other ≡ (if key == other then rank else rank_at r.entries.entries other)
 
--- a block is new, has another number of live chunks, or is given back
-pub order-changed : (r s : Ranks) (l m : Layout) (p q number : ℕ) (block : Option Block) → IsOrdered r l p → IsRanked s → q ≡ p → m.keeper ≡ l.keeper → number ≢ l.keeper → ((other : ℕ) → block_at m other ≡ (if number == other then block else block_at l other)) → PutsRank r s number (option_map (rank_of p) block) → IsOrdered s m q
-order-changed r s l m p q number block ordered ranked per keeper differs blocks ranks = rw per (record { ranked = ranked; at = λ other. grind (arith, ranks other, blocks other, ordered.at other) })
-
 -- the free chunks, where the books count them
 free_from : (n : Books) → n.free ≡ sum_by (free_in (per_block n.slots.size)) (lives_of n.slots.blocks) → n.free ≡ free_chunks (inner_of n)
 unfolding free_chunks
@@ -52,8 +48,9 @@ kept-none n slots blocks empty free ranked none = record {
 }
 
 module _ (b n : Books) (few number : ℕ) (kept : IsKeptBut b few) (slots : HasSlots n.slots) (size : n.slots.size ≡ b.slots.size) (same : SameContext b.slots.blocks n.slots.blocks) (differs : number ≢ b.slots.blocks.keeper) where
+  -- a block is new, has another number of live chunks, or is given back
   order-now : (now : Option Block) → IsRanked n.ranks → ((other : ℕ) → block_at n.slots.blocks other ≡ (if number == other then now else block_at b.slots.blocks other)) → PutsRank b.ranks n.ranks number (option_map (rank_of (per_block b.slots.size)) now) → IsOrdered n.ranks n.slots.blocks (per_block n.slots.size)
-  order-now now ranked blocks ranks = order-changed b.ranks n.ranks b.slots.blocks n.slots.blocks (per_block b.slots.size) (per_block n.slots.size) number now kept.order ranked (ap per_block size) same.keeper differs blocks ranks
+  order-now now ranked blocks ranks = rw size (record { ranked = ranked; at = λ other. grind (arith, ranks other, blocks other, kept.order.at other, same.keeper) })
 
   per_same : (xs : List ℕ) → sum_by (free_in (per_block n.slots.size)) xs ≡ sum_by (free_in (per_block b.slots.size)) xs
   per_same xs = ap (λ z. sum_by (free_in (per_block z)) xs) size

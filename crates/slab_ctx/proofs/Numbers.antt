@@ -9,10 +9,6 @@ pub stride_least : (size : ℕ) → size + 8 ≤ stride size
 unfolding stride up8
 stride_least size = omega arith
 
-pub stride-most : (size : ℕ) → stride size ≤ size + 15
-unfolding stride up8
-stride-most size = omega arith
-
 pub stride-whole : (size : ℕ) → stride size % 8 ≡ 0
 unfolding stride up8
 stride-whole size = omega arith
@@ -30,7 +26,8 @@ per_block-few size some =
     omega (arith, (per_block-is size (per_block size)).0 (omega arith), mul-le-mul_right (per_block size) (stride-some size some))
 
 pub per_block_some : (size : ℕ) → size ≤ 1024 → 1 ≤ per_block size
-per_block_some size small = (per_block-is size 1).1 (omega (arith, stride-most size))
+unfolding stride up8
+per_block_some size small = (per_block-is size 1).1 (omega arith)
 
 -- a slot ends where the next one begins, or before
 slot-before : (f a b : ℕ) → a < b → a * f + f ≤ b * f

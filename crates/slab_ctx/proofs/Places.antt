@@ -1,5 +1,5 @@
 -- Lemmas on where the chunks of a Slab may stand.
-use Rattle.std.proofs.Common.{◌≡◌, ◌≢◌, ℕ, ◌+◌, ◌-◌, ◌*◌, ◌/◌, ◌%◌, ◌<◌, ◌≤◌, ◌⊎◌, length, Some, slice_index, sym, ap, ◌∙◌, arith, List}
+use Rattle.std.proofs.Common.{◌≡◌, ◌≢◌, ℕ, ◌+◌, ◌-◌, ◌*◌, ◌/◌, ◌%◌, ◌<◌, ◌≤◌, ◌⊎◌, length, Some, sym, ap, ◌∙◌, arith, List}
 use Rattle.std.specs.Global.{Vec}
 use Rattle.std.proofs.Math.Nat.{mul_assoc}
 use Rattle.addr_space.specs.declared.Addr.{Addr}
@@ -38,10 +38,6 @@ module _ (l : Layout) (size : ℕ) (s : List (ℕ × Vec ℕ)) (slotted : IsSlot
     -- a block has no more than its chunks
     pub chunks-few : b.live + b.freed ≤ per_block size
     chunks-few = (per_block-is size (b.live + b.freed)).1 (omega (arith, was.rest))
-
-    -- the last offset on a stack
-    pub last-free : (depth : ℕ) → b.freed ≡ depth + 1 → IsFree l size number b (slice_index (stack_at s number) depth)
-    last-free depth freed = was.free depth (omega (arith, freed))
 
     pub depth-few : (depth : ℕ) → b.freed ≡ depth + 1 → depth < length (stack_at s number)
     depth-few depth freed = omega (arith, freed, chunks-few, was.long)

@@ -27,9 +27,6 @@ lesser-read lesser one two three = rw (← one, ← two, ← three) lesser
 
 -- one node is another one
 module _ (t u : Tree) (j : ℕ) (best : Option Entry) (items : u.nodes.items ≡ set t.nodes.items j best) where
-  pub node-same : j < length t.nodes.items → node u j ≡ best
-  node-same less = ap (λ xs. get_or xs j None) items ∙ get_or-set_same t.nodes.items j best None less
-
   pub node-other : (k : ℕ) → k ≢ j → node u k ≡ node t k
   node-other k differs = ap (λ xs. get_or xs k None) items ∙ get_or-set_other t.nodes.items j k best None differs
 
@@ -37,7 +34,7 @@ module _ (t u : Tree) (j : ℕ) (best : Option Entry) (items : u.nodes.items ≡
   raised i tree long places low high some within lesser = record {
     long = omega (arith, long, places, tree.long);
     lesser = λ jj least most left right. rw (node-other (2 * jj) left, node-other (2 * jj + 1) right) (elim (cases_eq jj j) [
-      | inl same ↦ rw (same, node-same (omega (arith, tree.long))) lesser
+      | inl same ↦ rw (same, items, get_or-set_same t.nodes.items j best None (omega (arith, tree.long))) lesser
       | inr differs ↦ rw (node-other jj differs) (tree.lesser jj least (omega (arith, places)) (λ e. differs (omega arith)) (λ e. differs (omega arith)))
     ]);
   }
@@ -50,13 +47,6 @@ settled t i j tree low high lesser = record {
     | inl same ↦ rw same lesser
     | inr differs ↦ tree.lesser jj least most (λ e. differs (omega arith)) (λ e. differs (omega arith))
   ];
-}
-
--- the tree is right at last
-pub all-raised : (t : Tree) (i : ℕ) → i ≤ 1 → IsTreeBut t i → IsTree t
-all-raised t i small tree = record {
-  long = tree.long;
-  lesser = λ j least most. tree.lesser j least most (λ e. omega arith) (λ e. omega arith);
 }
 
 -- the first node leads all
