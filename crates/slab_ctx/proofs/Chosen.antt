@@ -97,8 +97,8 @@ module _ (r : Ranks) (l : Layout) (per : ℕ) (ordered : IsOrdered r l per) (lis
       pub chosen : IsChosen l per e.key
       chosen = let it = ranked_is e.key e.rank there in record { block = it.0; found = it.1; not_keeper = it.2; free = grind (arith, it.3, few) }
 
-      pub serving-chosen : serving per (blocks_of l) ≡ serving_block l (Some e.key)
-      serving-chosen =
+      pub serving_chosen : serving per (blocks_of l) ≡ serving_block l (Some e.key)
+      serving_chosen =
           let it = ranked_is e.key e.rank there in
           let free : it.0.live < per = grind (arith, it.3, few) in
           serving-best per it.0 free 1 l.last_number e.key (others l.blocks) listed.rising listed.apart (find-other l listed e.key it.2 ∙ it.1)
@@ -106,9 +106,9 @@ module _ (r : Ranks) (l : Layout) (per : ℕ) (ordered : IsOrdered r l per) (lis
           ∙ sym (ap (option_map (λ (b : Block). record { number = b.number; live = b.live })) it.1)
 
     -- no block has a free chunk
-    pub serving-none : per < e.rank.major → serving per (blocks_of l) ≡ None
-    serving-none many = serving-full per (others l.blocks) listed.apart (λ region block found. let leads = least region (rank_of per block) (rank-found region block found) in grind arith)
+    pub serving_none : per < e.rank.major → serving per (blocks_of l) ≡ None
+    serving_none many = serving-full per (others l.blocks) listed.apart (λ region block found. let leads = least region (rank_of per block) (rank-found region block found) in grind arith)
 
   -- there is no block
-  pub serving-empty : ((key : ℕ) (rank : Rank) → rank_at r.entries.entries key ≡ Some rank → Leads None (Some (entry_of (key, rank)))) → serving per (blocks_of l) ≡ None
-  serving-empty least = serving-full per (others l.blocks) listed.apart (λ region block found. absurd (least region (rank_of per block) (rank-found region block found)))
+  pub serving_empty : ((key : ℕ) (rank : Rank) → rank_at r.entries.entries key ≡ Some rank → Leads None (Some (entry_of (key, rank)))) → serving per (blocks_of l) ≡ None
+  serving_empty least = serving-full per (others l.blocks) listed.apart (λ region block found. absurd (least region (rank_of per block) (rank-found region block found)))

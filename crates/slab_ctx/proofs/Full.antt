@@ -3,8 +3,8 @@ use Rattle.std.proofs.Common.{◌≡◌, ◌≢◌, ℕ, ◌+◌, ◌-◌, ◌/�
 use Rattle.std.specs.Global.{Vec}
 use Rattle.std.proofs.Math.Nat.{mod-eq-sub-div-mul, div-mul-le_self}
 use Rattle.addr_space.specs.declared.Addr.{Addr}
-use Rattle.addr_space.specs.Space.{Space}
-use Rattle.addr_space.specs.Footprint.{Footprint, IsSound, Agrees, Moves, nothing, counted}
+use Rattle.addr_space.specs.Space.{Space, IsApart}
+use Rattle.addr_space.specs.Footprint.{Footprint, IsWithin, Agrees, Moves, nothing, counted}
 use Rattle.chunk_header.specs.Header.{IsHeaded, AllHeaded, AllOfKind, TakesSpace}
 use Rattle.chunk_header.specs.declared.Kind.{Kind}
 use Rattle.ctx_blocks.specs.Layout.{Layout, block_at, chunk_at, front_of, start_of, footprint as footprint_of}
@@ -13,7 +13,7 @@ use Rattle.ctx_blocks.specs.declared.parts.Chunk.{Chunk}
 use Rattle.slab_ctx.specs.Lives.{stride}
 use Rattle.slab_ctx.specs.State.{is_slot, free_at}
 use Rattle.slab_ctx.specs.Slots.{IsSlot, IsSlotted}
-use Rattle.slab_ctx.proofs.Numbers.{stride-least, stride-some, slots_apart}
+use Rattle.slab_ctx.proofs.Numbers.{stride_least, stride-some, slots_apart}
 use Rattle.addr_space.proofs.Options.{none_or_some, option_cases}
 use Rattle.addr_space.proofs.Addresses.{same_addr_from}
 use Rattle.ctx_blocks.proofs.Laid.{region_is, from_live}
@@ -51,78 +51,48 @@ from_free l size at n is = elim (option_cases (block_at l at.region)) [
   ]
 ]
 
+-- a context with other free chunks, where these lie in its regions, apart from live chunks and behind the fronts
+Agrees-free : (f : Footprint) (free : Addr → Option ℕ) (sp : Space) → Agrees f sp → ((at : Addr) (n : ℕ) → free at ≡ Some n → IsWithin f at n)
+    → ((a b : Addr) (m n : ℕ) → f.live a ≡ Some m → free b ≡ Some n → IsApart a m b n) → ((at : Addr) (n : ℕ) → free at ≡ Some n → f.front at.region ≤ at.offset) → Agrees (record f { free = free }) sp
+Agrees-free f free sp agrees inside apart behind = assumption
+
+-- free chunks lie in their blocks, apart from live ones and behind the headers
 module _ (l : Layout) (size : ℕ) (s : List (ℕ × Vec ℕ)) (slotted : IsSlotted l size s) where
-  -- free chunks lie in their blocks and apart from live ones
-  pub IsSound-full : IsSound (footprint_of l) → IsSound (full size l)
-  IsSound-full sound = record {
-    live_inside = sound.live_inside;
-    free_inside = λ at n free.
-        let it = from_free l size at n free in
-        let slot = slot-from size at.offset slotted.least it.slot in
-        let filled = slotted.filled at.region it.block it.not_keeper it.found in
-        (it.block.size, region_is l at.region it.block it.found, omega (arith, slot.1, it.is, filled.bytes, stride-least size));
-    mark_inside = sound.mark_inside;
-    live_apart = sound.live_apart;
-    free_apart = λ a b m n live free region.
-        let it = from_free l size b n free in
-        let had = from_live l a m live in
-        let slot = slot-from size b.offset slotted.least it.slot in
-        let is : m ≡ size = sym had.2 ∙ ap (λ (c : Chunk). c.size) (slotted.chunk a had.0 had.1) in
-        let differs : a.offset ≢ b.offset = λ e. none_or_some (chunk_at l b) had.0 it.none (ap (chunk_at l) (sym (same_addr_from a b region e)) ∙ had.1) in
-        elim (slots_apart size a.offset b.offset (slotted.slot a had.0 had.1) slot.0 differs) [
-          | inl before ↦ inl (omega (arith, before, is, stride-least size))
-          | inr behind ↦ inr (omega (arith, behind, it.is, stride-least size))
-        ];
-    mark_apart = sound.mark_apart;
-    live_behind = sound.live_behind;
-    free_behind = λ at n free.
-        let it = from_free l size at n free in
-        let slot = slot-from size at.offset slotted.least it.slot in
-        let front : front_of (start_of l at.region) (block_at l at.region) ≤ start_of l at.region + 40 = rw it.found (omega arith) in
-        let start : start_of l at.region ≡ 0 = start-is l size s slotted at.region it.not_keeper in
-        omega (arith, front, start, slot-least size at.offset slot.0);
-    small = sound.small;
-  }
+  free_inside : (at : Addr) (n : ℕ) → free_at size l at ≡ Some n → IsWithin (footprint_of l) at n
+  free_inside at n free =
+      let it = from_free l size at n free in
+      let slot = slot-from size at.offset slotted.least it.slot in
+      let filled = slotted.filled at.region it.block it.not_keeper it.found in
+      (it.block.size, region_is l at.region it.block it.found, omega (arith, slot.1, it.is, filled.bytes, stride_least size))
+
+  free_apart : (a b : Addr) (m n : ℕ) → (footprint_of l).live a ≡ Some m → free_at size l b ≡ Some n → IsApart a m b n
+  free_apart a b m n live free region =
+      let it = from_free l size b n free in
+      let had = from_live l a m live in
+      let slot = slot-from size b.offset slotted.least it.slot in
+      let is : m ≡ size = sym had.2 ∙ ap (λ (c : Chunk). c.size) (slotted.chunk a had.0 had.1) in
+      let differs : a.offset ≢ b.offset = λ e. none_or_some (chunk_at l b) had.0 it.none (ap (chunk_at l) (sym (same_addr_from a b region e)) ∙ had.1) in
+      let apart = slots_apart size a.offset b.offset (slotted.slot a had.0 had.1) slot.0 differs in
+      grind (arith, stride_least size, is, it.is)
+
+  free_behind : (at : Addr) (n : ℕ) → free_at size l at ≡ Some n → (footprint_of l).front at.region ≤ at.offset
+  free_behind at n free =
+      let it = from_free l size at n free in
+      let slot = slot-from size at.offset slotted.least it.slot in
+      let front : front_of (start_of l at.region) (block_at l at.region) ≤ start_of l at.region + 40 = rw it.found (omega arith) in
+      omega (arith, front, start-is l size s slotted at.region it.not_keeper, slot-least size at.offset slot.0)
 
   pub Agrees-full : (sp : Space) → Agrees (footprint_of l) sp → Agrees (full size l) sp
-  Agrees-full sp agrees = record {
-    sound = IsSound-full agrees.sound;
-    account = agrees.account;
-    regions = agrees.regions;
-    marks = agrees.marks;
-  }
+  Agrees-full sp agrees = Agrees-free (footprint_of l) (free_at size l) sp agrees free_inside free_apart free_behind
 
 -- a space has the blocks of a context that it agrees with
-pub Agrees-plain : (size : ℕ) (l : Layout) (sp : Space) → Agrees (full size l) sp → Agrees (footprint_of l) sp
-Agrees-plain size l sp agrees = record {
-  sound = record {
-    live_inside = agrees.sound.live_inside;
-    free_inside = λ at n free. absurd (cc);
-    mark_inside = agrees.sound.mark_inside;
-    live_apart = agrees.sound.live_apart;
-    free_apart = λ a b m n live free. absurd (cc);
-    mark_apart = agrees.sound.mark_apart;
-    live_behind = agrees.sound.live_behind;
-    free_behind = λ at n free. absurd (cc);
-    small = agrees.sound.small;
-  };
-  account = agrees.account;
-  regions = agrees.regions;
-  marks = agrees.marks;
-}
+pub Agrees_plain : (size : ℕ) (l : Layout) (sp : Space) → Agrees (full size l) sp → Agrees (footprint_of l) sp
+Agrees_plain size l sp agrees = Agrees-free (full size l) (λ at. None) sp agrees (λ at n free. absurd (cc)) (λ a b m n live free. absurd (cc)) (λ at n free. absurd (cc))
 
 -- the steps, with other free chunks
 Moves-free : (f g : Footprint) (before after : Addr → Option ℕ) (sp sq : Space) → Agrees (record g { free = after }) sq → Moves f g sp sq → Moves (record f { free = before }) (record g { free = after }) sp sq
 unfolding counted
-Moves-free f g before after sp sq agrees moves = record {
-  agrees = agrees;
-  account = moves.account;
-  context = moves.context;
-  outside = moves.outside;
-  accounts = moves.accounts;
-  limit = moves.limit;
-  held = moves.held;
-}
+Moves-free f g before after sp sq agrees moves = assumption
 
 pub Moves-full : (size now : ℕ) (l m : Layout) (t : List (ℕ × Vec ℕ)) (sp sq : Space) → now ≡ size → IsSlotted m now t → Moves (footprint_of l) (footprint_of m) sp sq → Moves (full size l) (full now m) sp sq
 Moves-full size now l m t sp sq same slotted moves = Moves-free (footprint_of l) (footprint_of m) (free_at size l) (free_at now m) sp sq (Agrees-full m now t slotted sq moves.agrees) moves
@@ -146,8 +116,8 @@ IsHeaded-full size l at it = record {
   block = it.block;
 }
 
-pub AllHeaded-full : (size : ℕ) (l : Layout) → AllHeaded (footprint_of l) → AllHeaded (full size l)
-AllHeaded-full size l headed at n live = IsHeaded-full size l at (headed at n live)
+pub AllHeaded_full : (size : ℕ) (l : Layout) → AllHeaded (footprint_of l) → AllHeaded (full size l)
+AllHeaded_full size l headed at n live = IsHeaded-full size l at (headed at n live)
 
 pub TakesSpace-full : (size : ℕ) (l : Layout) (at : Addr) (space : ℕ) → TakesSpace (footprint_of l) at space → TakesSpace (full size l) at space
 TakesSpace-full size l at space takes = record { headed = IsHeaded-full size l at takes.headed; small = takes.small; is = takes.is }

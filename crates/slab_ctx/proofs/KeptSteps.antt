@@ -1,22 +1,34 @@
 -- What the code keeps, after a step.
-use Rattle.std.proofs.Common.{◌≡◌, ◌≢◌, ℕ, ◌+◌, ◌-◌, ◌^◌, ◌≤◌, ◌++◌, List, [], ◌∷◌, length, map, Some, None, sum_by, refl, sym, ap, ◌∙◌, arith}
+use Rattle.std.proofs.Common.{◌≡◌, ◌≢◌, ℕ, ◌==◌, if◌then◌else◌, Option, Some, None, option_map, arith, ◌+◌, ◌-◌, ◌^◌, ◌≤◌, ◌++◌, List, [], ◌∷◌, length, map, sum_by, refl, sym, ap, ◌∙◌}
+use Rattle.ctx_blocks.specs.Layout.{Layout, block_at, total}
+use Rattle.ctx_blocks.specs.declared.parts.Block.{Block}
+use Rattle.slab_ctx.specs.declared.tree.Rank.{Rank}
+use Rattle.slab_ctx.specs.declared.ranks.Ranks.{Ranks}
+use Rattle.slab_ctx.specs.Ranks.{rank_at, IsRanked}
+use Rattle.slab_ctx.specs.Order.{rank_of, IsOrdered}
 use Rattle.std.proofs.lemmas.List.{length-append}
 use Rattle.std.proofs.lemmas.List.Sums.{sum_by-append, sum_by-cons}
-use Rattle.ctx_blocks.specs.Layout.{block_at, total}
 use Rattle.ctx_blocks.specs.Steps.{with_block, PutsBlock, DropsBlock, SameContext}
-use Rattle.ctx_blocks.specs.declared.parts.Block.{Block}
 use Rattle.ctx_blocks.proofs.Totals.{total-put}
+use Rattle.ctx_blocks.proofs.Numbered.{rising_put, rising_add}
 use Rattle.slab_ctx.specs.Lives.{is_empty, free_in, free_chunks, per_block}
 use Rattle.slab_ctx.specs.Ledger.{SlabBlock, with_live}
-use Rattle.slab_ctx.specs.State.{others, live_of, lives_of, blocks_of}
+use Rattle.slab_ctx.specs.State.{others, live_of, lives_of, numbered_of, blocks_of}
 use Rattle.slab_ctx.specs.Slots.{HasSlots, first_region}
 use Rattle.slab_ctx.specs.Counts.{Counts}
 use Rattle.slab_ctx.specs.Kept.{inner_of, ledger_of, IsKeptBut, IsKept}
-use Rattle.slab_ctx.specs.Order.{IsOrdered}
 use Rattle.slab_ctx.specs.declared.books.Books.{Books}
+use Rattle.slab_ctx.proofs.Lives.{numbered_put, find, ones, lives-put, lives-drop}
 use Rattle.slab_ctx.proofs.Bounds.{free-is}
-use Rattle.slab_ctx.proofs.Lives.{find, lives-put, lives-drop, count-put, count-drop}
-use Rattle.slab_ctx.proofs.Listed.{find-other, others-put, others-drop, IsListed-none, IsListed-put, lives-added, rising-added, rising-changed, blocks-changed, IsListed-drop}
+use Rattle.slab_ctx.proofs.Listed.{find-other, others-put, others-drop, IsListed-none, IsListed-put, map-added, IsListed-drop}
+
+-- a block has a rank
+pub has_rank : (r : Ranks) (l : Layout) (per : ℕ) → IsOrdered r l per → (number : ℕ) → number ≢ l.keeper → (block : Block) → block_at l number ≡ Some block → rank_at r.entries.entries number ≡ None → ⊥
+has_rank r l per ordered number differs block found none = grind (arith, ordered.at number)
+
+-- a key gets a rank, or loses it
+abbrev pub PutsRank : Ranks → Ranks → ℕ → Option Rank → Type 0
+PutsRank r s key rank = (other : ℕ) → rank_at s.entries.entries other ≡ (if key == other then rank else rank_at r.entries.entries other)
 
 -- the free chunks, where the books count them
 free_from : (n : Books) → n.free ≡ sum_by (free_in (per_block n.slots.size)) (lives_of n.slots.blocks) → n.free ≡ free_chunks (inner_of n)
@@ -24,37 +36,41 @@ unfolding free_chunks
 free_from n is = is
 
 -- a context without blocks
-pub kept-none : (n : Books) → HasSlots n.slots → n.slots.blocks.blocks ≡ (n.slots.blocks.keeper, first_region) ∷ [] → n.empty ≡ 0 → n.free ≡ 0 → IsOrdered n.ranks n.slots.blocks (per_block n.slots.size) → IsKept n
-kept-none n slots blocks empty free order = record {
+pub kept-none : (n : Books) → HasSlots n.slots → n.slots.blocks.blocks ≡ (n.slots.blocks.keeper, first_region) ∷ [] → n.empty ≡ 0 → n.free ≡ 0 → IsRanked n.ranks → n.ranks.entries.entries ≡ [] → IsKept n
+kept-none n slots blocks empty free ranked none = record {
   slots = slots;
   listed = IsListed-none n.slots.blocks blocks;
   empty = rw (empty, blocks) refl;
   free = free_from n (rw (free, blocks) refl);
   bytes = rw blocks refl;
   most = rw blocks (omega arith);
-  order = order;
+  order = record { ranked = ranked; at = λ number. rw (none, blocks) (grind arith) };
 }
 
 module _ (b n : Books) (few number : ℕ) (kept : IsKeptBut b few) (slots : HasSlots n.slots) (size : n.slots.size ≡ b.slots.size) (same : SameContext b.slots.blocks n.slots.blocks) (differs : number ≢ b.slots.blocks.keeper) where
+  -- a block is new, has another number of live chunks, or is given back
+  order-now : (now : Option Block) → IsRanked n.ranks → ((other : ℕ) → block_at n.slots.blocks other ≡ (if number == other then now else block_at b.slots.blocks other)) → PutsRank b.ranks n.ranks number (option_map (rank_of (per_block b.slots.size)) now) → IsOrdered n.ranks n.slots.blocks (per_block n.slots.size)
+  order-now now ranked blocks ranks = rw size (record { ranked = ranked; at = λ other. grind (arith, ranks other, blocks other, kept.order.at other, same.keeper) })
+
   per_same : (xs : List ℕ) → sum_by (free_in (per_block n.slots.size)) xs ≡ sum_by (free_in (per_block b.slots.size)) xs
   per_same xs = ap (λ z. sum_by (free_in (per_block z)) xs) size
 
   -- a block is new
   pub kept-added : (block : Block) → few ≡ 0 → block_at b.slots.blocks number ≡ None → PutsBlock b.slots.blocks n.slots.blocks number block → block.number ≡ b.slots.blocks.last_number + 1 → n.slots.blocks.last_number ≡ b.slots.blocks.last_number + 1 → block.live ≡ 0 → total n.slots.blocks ≡ total b.slots.blocks + 8192 → total n.slots.blocks ≤ 2 ^ 62
-      → n.empty ≡ b.empty + 1 → n.free ≡ b.free + per_block b.slots.size → IsOrdered n.ranks n.slots.blocks (per_block n.slots.size) → IsKept n
-  kept-added block none fresh puts next last live more most empty free order =
+      → n.empty ≡ b.empty + 1 → n.free ≡ b.free + per_block b.slots.size → IsRanked n.ranks → PutsRank b.ranks n.ranks number (Some (rank_of (per_block b.slots.size) block)) → IsKept n
+  kept-added block none fresh puts next last live more most empty free ranked ranks =
       let l = b.slots.blocks in
       let m = n.slots.blocks in
       let per = per_block b.slots.size in
-      let lives : lives_of m ≡ lives_of l ++ 0 ∷ [] = lives-added l kept.listed number differs m same block puts fresh ∙ ap (λ x. lives_of l ++ x ∷ []) live in
+      let lives : lives_of m ≡ lives_of l ++ 0 ∷ [] = map-added l kept.listed number differs m same block puts live_of fresh ∙ ap (λ x. lives_of l ++ x ∷ []) live in
       record {
         slots = slots;
-        listed = IsListed-put l kept.listed number differs m same block puts (rising-added l kept.listed number differs m same block puts fresh next last);
+        listed = IsListed-put l kept.listed number differs m same block puts (rw last (rising_add 1 l.last_number number block (others l.blocks) (find-other l kept.listed number differs ∙ fresh) (omega arith) next kept.listed.rising));
         empty = omega (arith, empty, none, kept.empty, ap (sum_by is_empty) lives, sum_by-append is_empty (lives_of l) (0 ∷ []), sum_by-cons is_empty 0 []);
         free = free_from n (omega (arith, free, free-is b few kept, per_same (lives_of m), ap (sum_by (free_in per)) lives, sum_by-append (free_in per) (lives_of l) (0 ∷ []), sum_by-cons (free_in per) 0 []));
         bytes = omega (arith, more, kept.bytes, ap length lives, length-append (lives_of l) (0 ∷ []));
         most = most;
-        order = order;
+        order = order-now (Some block) ranked puts.at ranks;
       }
 
   module _ (block : Block) (found : block_at b.slots.blocks number ≡ Some block) where
@@ -71,10 +87,10 @@ module _ (b n : Books) (few number : ℕ) (kept : IsKeptBut b few) (slots : HasS
 
       -- its number stays
       pub blocks-counted : blocks_of n.slots.blocks ≡ with_live (blocks_of b.slots.blocks) block.number live
-      blocks-counted = rw (← counts.count) (blocks-changed b.slots.blocks kept.listed number differs n.slots.blocks same counts.block counts.puts block found (counts.same_number block found))
+      blocks-counted = rw (← counts.count) (ap (map numbered_of) changed ∙ numbered_put 1 b.slots.blocks.last_number number (others b.slots.blocks.blocks) block counts.block kept.listed.rising there (counts.same_number block found))
 
-      pub kept-changed : (more : ℕ) → n.slots.blocks.last_number ≡ b.slots.blocks.last_number → n.empty + more + is_empty block.live ≡ b.empty + few + is_empty live → n.free + free_in (per_block b.slots.size) block.live ≡ b.free + free_in (per_block b.slots.size) live → IsOrdered n.ranks n.slots.blocks (per_block n.slots.size) → IsKeptBut n more
-      kept-changed more last empty free order =
+      pub kept-changed : (more : ℕ) → n.slots.blocks.last_number ≡ b.slots.blocks.last_number → n.empty + more + is_empty block.live ≡ b.empty + few + is_empty live → n.free + free_in (per_block b.slots.size) block.live ≡ b.free + free_in (per_block b.slots.size) live → IsRanked n.ranks → PutsRank b.ranks n.ranks number (Some (rank_of (per_block b.slots.size) counts.block)) → IsKeptBut n more
+      kept-changed more last empty free ranked ranks =
           let l = b.slots.blocks in
           let m = n.slots.blocks in
           let per = per_block b.slots.size in
@@ -82,17 +98,17 @@ module _ (b n : Books) (few number : ℕ) (kept : IsKeptBut b few) (slots : HasS
           let same_total = total-put l m number block counts.block counts.puts.blocks found (counts.bytes ∙ sym filled.bytes) in
           record {
             slots = slots;
-            listed = IsListed-put l kept.listed number differs m same counts.block counts.puts (rising-changed l kept.listed number differs m same counts.block counts.puts block found (counts.same_number block found) last);
+            listed = IsListed-put l kept.listed number differs m same counts.block counts.puts (rw last (rising_put 1 l.last_number number (others l.blocks) block counts.block kept.listed.rising there (counts.same_number block found)));
             empty = omega (arith, empty, kept.empty, sum_counted is_empty);
             free = free_from n (omega (arith, free, free-is b few kept, per_same (lives_of m), sum_counted (free_in per)));
-            bytes = omega (arith, same_total, kept.bytes, ap (λ es. length (map live_of es)) changed, count-put number counts.block block (others l.blocks) there);
+            bytes = omega (arith, same_total, kept.bytes, sum_counted (λ x. 1), ones (lives_of l), ones (lives_of m));
             most = omega (arith, same_total, kept.most);
-            order = order;
+            order = order-now (Some counts.block) ranked counts.puts.at ranks;
           }
 
     -- an empty block is given back, which the books don't count
-    pub kept-dropped : block.live ≡ 0 → few ≡ 1 → DropsBlock b.slots.blocks n.slots.blocks number → n.slots.blocks.last_number ≡ b.slots.blocks.last_number → total n.slots.blocks + 8192 ≡ total b.slots.blocks → n.empty ≡ b.empty → n.free ≡ b.free - per_block b.slots.size → IsOrdered n.ranks n.slots.blocks (per_block n.slots.size) → IsKept n
-    kept-dropped live one drops last less empty free order =
+    pub kept-dropped : block.live ≡ 0 → few ≡ 1 → DropsBlock b.slots.blocks n.slots.blocks number → n.slots.blocks.last_number ≡ b.slots.blocks.last_number → total n.slots.blocks + 8192 ≡ total b.slots.blocks → n.empty ≡ b.empty → n.free ≡ b.free - per_block b.slots.size → IsRanked n.ranks → PutsRank b.ranks n.ranks number None → IsKept n
+    kept-dropped live one drops last less empty free ranked ranks =
         let l = b.slots.blocks in
         let m = n.slots.blocks in
         let per = per_block b.slots.size in
@@ -103,9 +119,9 @@ module _ (b n : Books) (few number : ℕ) (kept : IsKeptBut b few) (slots : HasS
           listed = IsListed-drop l kept.listed number differs m same drops last;
           empty = omega (arith, empty, one, kept.empty, sums is_empty);
           free = free_from n (omega (arith, free, free-is b few kept, per_same (lives_of m), sums (free_in per)));
-          bytes = omega (arith, less, kept.bytes, ap (λ es. length (map live_of es)) gone, count-drop number block (others l.blocks) there);
+          bytes = omega (arith, less, kept.bytes, sums (λ x. 1), ones (lives_of l), ones (lives_of m));
           most = omega (arith, less, kept.most);
-          order = order;
+          order = order-now None ranked drops.at ranks;
         }
 
 -- a block counts among the empty ones and with its free chunks

@@ -1,17 +1,16 @@
 -- Lemmas on the list of a Slab's blocks.
-use Rattle.std.proofs.Common.{◌≡◌, ◌≢◌, ℕ, ◌+◌, ◌++◌, List, [], ◌∷◌, map, Some, None, refl, ap, ◌∙◌, arith}
+use Rattle.std.proofs.Common.{◌≡◌, ◌≢◌, ℕ, ◌++◌, List, [], ◌∷◌, map, Some, None, refl, ap, ◌∙◌, arith}
 use Rattle.std.proofs.lemmas.List.{map-append}
 use Rattle.ctx_blocks.specs.Layout.{Layout, block_at}
 use Rattle.ctx_blocks.specs.Steps.{with_block, without_block, PutsBlock, DropsBlock, SameContext}
 use Rattle.ctx_blocks.specs.declared.parts.Block.{Block}
 use Rattle.ctx_blocks.specs.Kept.{AreRising}
-use Rattle.ctx_blocks.proofs.Numbered.{with_last, rising_put, rising_add, rising_drop}
-use Rattle.slab_ctx.specs.Ledger.{with_live, without_number}
-use Rattle.slab_ctx.specs.State.{others, live_of, lives_of, numbered_of, blocks_of}
-use Rattle.slab_ctx.proofs.Numbered.{numbered_put, numbered_drop}
+use Rattle.ctx_blocks.proofs.Numbered.{with_last, rising_drop}
+use Rattle.slab_ctx.specs.Ledger.{without_number}
+use Rattle.slab_ctx.specs.State.{others, numbered_of, blocks_of}
+use Rattle.slab_ctx.proofs.Lives.{numbered_drop, find, alone-put, alone-drop}
 use Rattle.slab_ctx.specs.Slots.{first_region}
 use Rattle.slab_ctx.specs.Kept.{IsListed, AreApart}
-use Rattle.slab_ctx.proofs.Lives.{find, alone-put, alone-drop}
 
 -- blocks stay in different regions
 apart-put : (number : ℕ) (now : Block) (es : List (ℕ × Block)) → AreApart es → AreApart (with_block es number now)
@@ -48,23 +47,9 @@ module _ (l : Layout) (listed : IsListed l) (number : ℕ) (differs : number ≢
       pub IsListed-put : AreRising 1 m.last_number (with_block (others l.blocks) number now) → IsListed m
       IsListed-put rising = listed_by (with_block (others l.blocks) number now) (puts.blocks ∙ put_shape now) (alone-put number now l.keeper differs (others l.blocks) listed.alone) rising (apart-put number now (others l.blocks) listed.apart)
 
-      -- it has the next number, or that of the block before
-      pub rising-added : block_at l number ≡ None → now.number ≡ l.last_number + 1 → m.last_number ≡ l.last_number + 1 → AreRising 1 m.last_number (with_block (others l.blocks) number now)
-      rising-added fresh next last = rw last (rising_add 1 l.last_number number now (others l.blocks) (find-other ∙ fresh) (omega arith) next listed.rising)
-
-      pub rising-changed : (b : Block) → block_at l number ≡ Some b → now.number ≡ b.number → m.last_number ≡ l.last_number → AreRising 1 m.last_number (with_block (others l.blocks) number now)
-      rising-changed b found same_number last = rw last (rising_put 1 l.last_number number (others l.blocks) b now listed.rising (find-other ∙ found) same_number)
-
-      -- the blocks by their numbers
-      pub blocks-added : block_at l number ≡ None → blocks_of m ≡ blocks_of l ++ record { number = now.number; live = now.live } ∷ []
-      blocks-added fresh = ap (map numbered_of) (others-put ∙ with_last number now (others l.blocks) (find-other ∙ fresh)) ∙ map-append numbered_of (others l.blocks) ((number, now) ∷ [])
-
-      pub blocks-changed : (b : Block) → block_at l number ≡ Some b → now.number ≡ b.number → blocks_of m ≡ with_live (blocks_of l) b.number now.live
-      blocks-changed b found same_number = ap (map numbered_of) others-put ∙ numbered_put 1 l.last_number number (others l.blocks) b now listed.rising (find-other ∙ found) same_number
-
-      -- it is new
-      pub lives-added : block_at l number ≡ None → lives_of m ≡ lives_of l ++ now.live ∷ []
-      lives-added fresh = ap (map live_of) (others-put ∙ with_last number now (others l.blocks) (find-other ∙ fresh)) ∙ map-append live_of (others l.blocks) ((number, now) ∷ [])
+      -- a new one is the last
+      pub map-added : {X : Type 0} (f : ℕ × Block → X) → block_at l number ≡ None → map f (others m.blocks) ≡ map f (others l.blocks) ++ f (number, now) ∷ []
+      map-added f fresh = ap (map f) (others-put ∙ with_last number now (others l.blocks) (find-other ∙ fresh)) ∙ map-append f (others l.blocks) ((number, now) ∷ [])
 
     -- a block is given back
     module _ (drops : DropsBlock l m number) where

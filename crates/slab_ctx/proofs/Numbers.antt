@@ -1,49 +1,33 @@
 -- Lemmas on the bytes of a chunk with its header, and on how many a block has.
-use Rattle.std.proofs.Common.{◌≡◌, ◌≢◌, ℕ, ◌+◌, ◌*◌, ◌%◌, ◌<◌, ◌≤◌, ◌⊎◌, sym, ap, ◌∙◌, inl, inr, arith}
+use Rattle.std.proofs.Common.{◌≡◌, ◌≢◌, ℕ, ◌+◌, ◌*◌, ◌%◌, ◌<◌, ◌≤◌, ◌⊎◌, ◌↔◌, arith}
 use Rattle.std.proofs.Math.Nat.{le-div_iff_mul-le, mul-le-mul_right}
-use Rattle.std.proofs.lemmas.Bool.{cases_order}
 use Rattle.chunk_header.specs.Growth.{up8}
 use Rattle.slab_ctx.specs.Lives.{stride, per_block}
 use Rattle.slab_ctx.specs.Slots.{IsSlot}
 
-pub stride-least : (size : ℕ) → size + 8 ≤ stride size
+pub stride_least : (size : ℕ) → size + 8 ≤ stride size
 unfolding stride up8
-stride-least size = omega arith
-
-pub stride-most : (size : ℕ) → stride size ≤ size + 15
-unfolding stride up8
-stride-most size = omega arith
+stride_least size = omega arith
 
 pub stride-whole : (size : ℕ) → stride size % 8 ≡ 0
 unfolding stride up8
 stride-whole size = omega arith
 
 pub stride-some : (size : ℕ) → 1 ≤ size → 16 ≤ stride size
-unfolding stride up8
-stride-some size some = omega arith
+stride-some size some = omega (arith, stride_least size, stride-whole size)
 
--- so many chunks have room in a block
-pub per_block-fits : (size n : ℕ) → n ≤ per_block size → n * stride size ≤ 8152
+-- so many chunks have room in a block, and no more than so many
+pub per_block-is : (size n : ℕ) → (n ≤ per_block size) ↔ (n * stride size ≤ 8152)
 unfolding per_block
-per_block-fits size n few =
-    let some : 0 < stride size = omega (arith, stride-least size) in
-    (le-div_iff_mul-le {x = n} {y = 8152} some).0 few
-
--- no more than so many have
-pub per_block-most : (size n : ℕ) → n * stride size ≤ 8152 → n ≤ per_block size
-unfolding per_block
-per_block-most size n fit =
-    let some : 0 < stride size = omega (arith, stride-least size) in
-    (le-div_iff_mul-le {x = n} {y = 8152} some).1 fit
+per_block-is size n = le-div_iff_mul-le (omega (arith, stride_least size))
 
 pub per_block-few : (size : ℕ) → 1 ≤ size → per_block size ≤ 509
 per_block-few size some =
-    let fits = per_block-fits size (per_block size) (omega arith) in
-    let least = mul-le-mul_right (per_block size) (stride-some size some) in
-    omega (arith, fits, least)
+    omega (arith, (per_block-is size (per_block size)).0 (omega arith), mul-le-mul_right (per_block size) (stride-some size some))
 
-pub per_block-some : (size : ℕ) → size ≤ 1024 → 1 ≤ per_block size
-per_block-some size small = per_block-most size 1 (omega (arith, stride-most size))
+pub per_block_some : (size : ℕ) → size ≤ 1024 → 1 ≤ per_block size
+unfolding stride up8
+per_block_some size small = (per_block-is size 1).1 (omega arith)
 
 -- a slot ends where the next one begins, or before
 slot-before : (f a b : ℕ) → a < b → a * f + f ≤ b * f
@@ -52,10 +36,4 @@ slot-before f a b before = let more = mul-le-mul_right f before in omega arith
 -- two slots have no byte in common, with their headers
 pub slots_apart : (size a b : ℕ) → IsSlot size a → IsSlot size b → a ≢ b → (a + stride size ≤ b) ⊎ (b + stride size ≤ a)
 slots_apart size a b first second differs =
-    elim (cases_order first.slot second.slot) [
-      | inl same ↦ absurd (differs (first.at_slot ∙ ap (λ n. 48 + n * stride size) same ∙ sym second.at_slot))
-      | inr other ↦ elim other [
-        | inl less ↦ inl (omega (arith, first.at_slot, second.at_slot, slot-before (stride size) first.slot second.slot less))
-        | inr more ↦ inr (omega (arith, first.at_slot, second.at_slot, slot-before (stride size) second.slot first.slot more))
-      ]
-    ]
+    grind (arith, first.at_slot, second.at_slot, slot-before (stride size) first.slot second.slot, slot-before (stride size) second.slot first.slot)

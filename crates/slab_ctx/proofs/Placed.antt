@@ -1,5 +1,5 @@
 -- Lemmas on entries at their places.
-use Rattle.std.proofs.Common.{◌≡◌, ℕ, zero, suc, ◌+◌, ◌-◌, ◌<◌, ◌≤◌, ◌==◌, nat_eq, is_some, IfSome, if◌then◌else◌, Bool, Option, Some, None, List, [], ◌∷◌, slice_get, get_or, set, length, refl, sym, ap, ◌∙◌, inl, inr, arith, option_map}
+use Rattle.std.proofs.Common.{◌≡◌, ℕ, zero, suc, ◌+◌, ◌-◌, ◌<◌, ◌≤◌, ◌==◌, nat_eq, is_some, IfSome, if◌then◌else◌, Bool, Option, Some, None, List, [], ◌∷◌, slice_get, get_or, set, length, sym, ap, ◌∙◌, inl, inr, arith, option_map}
 use Rattle.std.specs.Prelude.{position}
 use Rattle.std.specs.Map.{keys_of}
 use Rattle.std.specs.List.{position_or_len}
@@ -10,6 +10,7 @@ use Rattle.std.proofs.lemmas.Option.{slice_get_past, slice_get-get_or, slice_get
 use Rattle.std.proofs.lemmas.Map.Entries.{place_from_lookup, lookup_from_place}
 use Rattle.std.proofs.lemmas.Bool.{cases_eq, cases_lt}
 use Rattle.indexmap.specs.IndexMap.{insert_entry, swap_remove_entry}
+use Rattle.indexmap.proofs.CallerLemmas.{keys-with_value_at, index_map_len-with_value_at}
 use Rattle.indexmap.proofs.MapLemmas.{swap_remove_entry-found}
 use Rattle.addr_space.proofs.Options.{from_map}
 use Rattle.slab_ctx.specs.declared.tree.Rank.{Rank}
@@ -17,7 +18,7 @@ use Rattle.slab_ctx.specs.declared.tree.Entry.{Entry}
 use Rattle.slab_ctx.specs.declared.ranks.Ranks.{Ranks}
 use Rattle.slab_ctx.specs.Tree.{Leads, IsLesser, leaf}
 use Rattle.slab_ctx.specs.Ranks.{rank_at, entry_of, entry_in, current_in, leaf_in, IsRanked}
-use Rattle.slab_ctx.proofs.Trees.{Leads-trans}
+use Rattle.slab_ctx.proofs.Trees.{Leads-trans, some_with}
 
 -- an entry of a key is the key with its rank
 pub pair-at : (es : List (ℕ × Rank)) (place key : ℕ) → (it : (e : Entry) × (entry_in es place ≡ Some e) × (e.key ≡ key)) → slice_get es place ≡ Some (key, it.0.rank)
@@ -35,6 +36,9 @@ value-set (e ∷ es) (suc place) (suc p) key old rank at = grind (arith, value-s
 
 pub entry-set : (es : List (ℕ × Rank)) (place p : ℕ) (key : ℕ) (old rank : Rank) → slice_get es place ≡ Some (key, old) → entry_in (set_value_at es place rank) p ≡ (if place == p then Some (entry_of (key, rank)) else entry_in es p)
 entry-set es place p key old rank at = rw (value-set es place p key old rank at) (grind arith)
+
+-- what a map keeps whose key got another rank
+pub ruleset written = (keys-with_value_at, index_map_len-with_value_at)
 
 -- a key is put
 insert-get : (es : List (ℕ × Rank)) (key : ℕ) (rank : Rank) (p : ℕ) → slice_get (insert_entry nat_eq es key rank) p ≡ (if position_or_len (nat_eq key) (keys_of es) == p then Some (key, rank) else slice_get es p)
@@ -63,27 +67,17 @@ module _ (es fs : List (ℕ × Rank)) (test : ℕ → Bool) (place : ℕ) (found
   entry-removed p = elim (cases_lt p (length fs)) [
     | inl less ↦
         let back : length es - 1 ≡ length fs = omega (arith, long) in
-        elim (cases_eq place p) [
-          | inl same ↦ grind (arith, low p less, get_or-set_same es place last none (omega arith), slice_get-get_or es (length fs) none (omega arith))
-          | inr differs ↦ grind (arith, low p less, get_or-set_other es place p last none (λ e. differs (sym e)), slice_get-get_or es p none (omega arith))
-        ]
-    | inr more ↦ elim (cases_eq (length fs) p) [
-      | inl same ↦ grind (arith, slice_get_past fs p more)
-      | inr differs ↦ grind (arith, slice_get_past fs p more, slice_get_past es p (omega arith))
-    ]
+        let other = get_or-set_other es place p last none in
+        grind (arith, low p less, get_or-set_same es place last none (omega arith), slice_get-get_or es (length fs) none (omega arith), slice_get-get_or es p none (omega arith))
+    | inr more ↦ grind (arith, slice_get_past fs p more, slice_get_past es p)
   ]
 
 -- the tree has none of the current entry
-pub leaf-all : (o : Option ℕ) (es : List (ℕ × Rank)) (p : ℕ) → o ≡ None → leaf_in o es p ≡ entry_in es p
-leaf-all None es p is = refl
-leaf-all (Some c) es p is = grind (arith, is)
-
 pub leaf-put : (es fs : List (ℕ × Rank)) (place p : ℕ) (x : Option Entry) (new : Entry) → x ≡ entry_in es p → entry_in fs p ≡ (if place == p then Some new else entry_in es p) → (if place == p then None else x) ≡ leaf_in (Some place) fs p
 leaf-put es fs place p x new at is = grind (arith, at, is)
 
 pub leaf-changed : (o : Option ℕ) (es fs : List (ℕ × Rank)) (place p : ℕ) (new : Entry) → o ≡ Some place → entry_in fs p ≡ (if place == p then Some new else entry_in es p) → leaf_in o es p ≡ leaf_in o fs p
-leaf-changed None es fs place p new is at = grind (arith, is)
-leaf-changed (Some c) es fs place p new is at = grind (arith, is, at)
+leaf-changed o es fs place p new is at = rw is (grind (arith, at))
 
 leaf-some : (o : Option ℕ) (es : List (ℕ × Rank)) (p : ℕ) (e : Entry) → leaf_in o es p ≡ Some e → entry_in es p ≡ Some e
 leaf-some None es p e at = at
@@ -102,8 +96,8 @@ leads-all (Some c) es best result x y p lesser at leads is = elim (cases_eq c p)
 
 -- where the tree has what its entries are, and leads to what is least of them and the current one
 module _ (r : Ranks) (ranked : IsRanked r) (best result : Option Entry) (lesser : IsLesser (current_in r.current r.entries.entries) best result) where
-  pub least-leads : ((p : ℕ) → p < r.tree.places → Leads best (leaf r.tree p)) → (key : ℕ) (rank : Rank) → rank_at r.entries.entries key ≡ Some rank → Leads result (Some (entry_of (key, rank)))
-  least-leads leads key rank found =
+  pub least_leads : ((p : ℕ) → p < r.tree.places → Leads best (leaf r.tree p)) → (key : ℕ) (rank : Rank) → rank_at r.entries.entries key ≡ Some rank → Leads result (Some (entry_of (key, rank)))
+  least_leads leads key rank found =
       let it = place_from_lookup (λ n. key == n) r.entries.entries rank found in
       let same : it.1 ≡ key = let test = it.3 in grind arith in
       let within = slice_get_within r.entries.entries it.0 (it.1, rank) it.2 in
@@ -115,18 +109,13 @@ module _ (r : Ranks) (ranked : IsRanked r) (best result : Option Entry) (lesser 
       let it = from_map entry_of (slice_get r.entries.entries p) e at in
       rw (← it.2) (lookup_from_place nat_eq_equiv r.entries.entries p it.0.0 it.0.1 ranked.distinct it.1)
 
-  own-by : (o : Option Entry) → o ≡ result → IfSome best (λ e. (p : ℕ) × (p < r.tree.places) × (leaf r.tree p ≡ Some e)) → IfSome o (λ e. rank_at r.entries.entries e.key ≡ Some e.rank)
-  own-by None is it = tt
-  own-by (Some e) is it = elim lesser.one [
-    | inl own ↦ let at = current-some r.current r.entries.entries e (sym own ∙ sym is) in entry-own e at.0 at.1
-    | inr other ↦
-        let that : best ≡ Some e = sym other ∙ sym is in
-        let there : (p : ℕ) × (p < r.tree.places) × (leaf r.tree p ≡ Some e) = rw that at it in
-        entry-own e there.0 (leaf-some r.current r.entries.entries there.0 e (sym (ranked.leaf there.0 there.1) ∙ there.2))
-  ]
-
   pub least-own : IfSome best (λ e. (p : ℕ) × (p < r.tree.places) × (leaf r.tree p ≡ Some e)) → IfSome result (λ e. rank_at r.entries.entries e.key ≡ Some e.rank)
-  least-own it = own-by result refl it
+  least-own it = some_with result (λ e is. elim lesser.one [
+    | inl own ↦ let at = current-some r.current r.entries.entries e (sym own ∙ is) in entry-own e at.0 at.1
+    | inr other ↦
+        let there : (p : ℕ) × (p < r.tree.places) × (leaf r.tree p ≡ Some e) = rw (sym other ∙ is) at it in
+        entry-own e there.0 (leaf-some r.current r.entries.entries there.0 e (sym (ranked.leaf there.0 there.1) ∙ there.2))
+  ])
 
 -- how many keys there are
 pub few-put : (places : ℕ) (o : Option Rank) (n m : ℕ) → n ≡ m + (if is_some o then 0 else 1) → (o ≡ None → m < places) → m ≤ places → n ≤ places

@@ -1,5 +1,5 @@
 -- Lemmas on where the chunks of a Slab may stand.
-use Rattle.std.proofs.Common.{◌≡◌, ◌≢◌, ℕ, ◌+◌, ◌-◌, ◌*◌, ◌/◌, ◌%◌, ◌<◌, ◌≤◌, ◌⊎◌, length, Some, slice_index, sym, ap, ◌∙◌, arith, List}
+use Rattle.std.proofs.Common.{◌≡◌, ◌≢◌, ℕ, ◌+◌, ◌-◌, ◌*◌, ◌/◌, ◌%◌, ◌<◌, ◌≤◌, ◌⊎◌, length, Some, sym, ap, ◌∙◌, arith, List}
 use Rattle.std.specs.Global.{Vec}
 use Rattle.std.proofs.Math.Nat.{mul_assoc}
 use Rattle.addr_space.specs.declared.Addr.{Addr}
@@ -8,7 +8,7 @@ use Rattle.ctx_blocks.specs.declared.parts.Block.{Block}
 use Rattle.ctx_blocks.specs.declared.parts.Chunk.{Chunk}
 use Rattle.slab_ctx.specs.Lives.{stride, per_block}
 use Rattle.slab_ctx.specs.Slots.{IsSlot, IsFree, IsFilled, IsSlotted, stack_at, at_offset}
-use Rattle.slab_ctx.proofs.Numbers.{stride-some, stride-whole, per_block-most, per_block-fits, slots_apart}
+use Rattle.slab_ctx.proofs.Numbers.{stride-some, stride-whole, per_block-is, slots_apart}
 use Rattle.addr_space.proofs.Options.{none_or_some}
 use Rattle.addr_space.proofs.Addresses.{same_addr_from}
 
@@ -37,11 +37,7 @@ module _ (l : Layout) (size : ℕ) (s : List (ℕ × Vec ℕ)) (slotted : IsSlot
 
     -- a block has no more than its chunks
     pub chunks-few : b.live + b.freed ≤ per_block size
-    chunks-few = per_block-most size (b.live + b.freed) (omega (arith, was.rest))
-
-    -- the last offset on a stack
-    pub last-free : (depth : ℕ) → b.freed ≡ depth + 1 → IsFree l size number b (slice_index (stack_at s number) depth)
-    last-free depth freed = was.free depth (omega (arith, freed))
+    chunks-few = (per_block-is size (b.live + b.freed)).1 (omega (arith, was.rest))
 
     pub depth-few : (depth : ℕ) → b.freed ≡ depth + 1 → depth < length (stack_at s number)
     depth-few depth freed = omega (arith, freed, chunks-few, was.long)
@@ -53,7 +49,7 @@ module _ (l : Layout) (size : ℕ) (s : List (ℕ × Vec ℕ)) (slotted : IsSlot
     -- where no chunk was freed and one is free, it is to be cut off
     pub room-left : b.freed ≡ 0 → b.live < per_block size → stride size ≤ b.room
     room-left freed free =
-        let fits = per_block-fits size (b.live + 1) (omega arith) in
+        let fits = (per_block-is size (b.live + 1)).0 (omega arith) in
         let rest = rw freed at was.rest in
         omega arith
 

@@ -1,5 +1,5 @@
 -- Lemmas on what callers of a Slab see.
-use Rattle.std.proofs.Common.{◌≡◌, ℕ, ◌≤◌, Option, Some, None, IfSome, IsSome, IfOk, OnOk, Result, Ok, Err, true, length, refl, sym, ◌∙◌, inl, inr}
+use Rattle.std.proofs.Common.{◌≡◌, ℕ, ◌≤◌, Option, Some, None, IsSome, IfOk, OnOk, Result, Ok, Err, true, length, refl, sym, ◌∙◌, inl, inr, arith}
 use Rattle.std.proofs.lemmas.List.{length-map}
 use Rattle.addr_space.specs.declared.Addr.{Addr}
 use Rattle.addr_space.specs.Space.{Space}
@@ -12,12 +12,7 @@ use Rattle.slab_ctx.specs.Slots.{HasSlots}
 use Rattle.slab_ctx.specs.Calls.{Resizes}
 use Rattle.slab_ctx.specs.Kept.{state_of}
 use Rattle.slab_ctx.specs.declared.books.Books.{Books}
-use Rattle.slab_ctx.proofs.Resized.{resize-same}
-
--- what follows at a value that there may be
-pub some_with : {A : Type 0} {P : A → Type 0} (o : Option A) → ((a : A) → o ≡ Some a → P a) → IfSome o P
-some_with None all = tt
-some_with (Some a) all = all a refl
+use Rattle.slab_ctx.specs.Ledger.{resize}
 
 -- a value that there is
 pub some_is : {A : Type 0} (o : Option A) → IsSome o → (a : A) × (o ≡ Some a)
@@ -33,9 +28,10 @@ moves_stay f from to a same is other = rw same (elim (same_addr-cases from other
 
 -- a chunk that has its size stays
 pub resizes_same : (b : Books) (s : Space) (from to : Addr) (place size : ℕ) → to ≡ from → size ≡ b.slots.size → size ≤ 1073741823 → place_at (state_of b) from ≡ Some place → Resizes (state_of b) (state_of b) place size from to s s
+unfolding resize
 resizes_same b s from to place size same is most there = record {
   answer = record { ledger = (state_of b).ledger; place = place; asked = 0; stays = true };
-  is = resize-same (state_of b).ledger _ _ place size most is;
+  is = grind arith;
   ledger = refl;
   place = moves_stay (place_at (state_of b)) from to place same there;
   asked = refl;
@@ -43,8 +39,8 @@ resizes_same b s from to place size same is most there = record {
 }
 
 -- as many blocks as numbers of live chunks
-pub length-blocks : (l : Layout) → length (blocks_of l) ≡ length (lives_of l)
-length-blocks l = length-map (others l.blocks) numbered_of ∙ sym (length-map (others l.blocks) live_of)
+pub length_blocks : (l : Layout) → length (blocks_of l) ≡ length (lives_of l)
+length_blocks l = length-map (others l.blocks) numbered_of ∙ sym (length-map (others l.blocks) live_of)
 
 -- what follows of both clauses of a call that was served
 pub both_ok : {A E : Type 0} {P Q : A → Type 0} {R : Type 0} (r : Result A E) → ((a : A) → P a → R → Q a) → IfOk r P → OnOk r R → IfOk r Q

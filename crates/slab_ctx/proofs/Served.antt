@@ -1,52 +1,31 @@
--- Lemmas on a request that is served.
-use Rattle.std.proofs.Common.{◌≡◌, ◌≢◌, ℕ, ◌+◌, ◌<◌, ◌≤◌, ◌++◌, List, [], ◌∷◌, map, Option, Some, None, Result, Ok, Err, ap, arith}
-use Rattle.chunk_header.specs.declared.CtxError.{CtxError}
-use Rattle.chunk_header.specs.declared.CtxError.TheVariants.{TooBig, NoSpace, WrongSize}
+-- Lemmas on the steps of the ledger: a request that is served, and a chunk that is freed.
+use Rattle.std.proofs.Common.{◌≡◌, ◌≢◌, ℕ, ◌+◌, ◌<◌, ◌++◌, List, [], ◌∷◌, map, Option, Some, None, Err, arith, ◌-◌, ◌≤◌, ◌==◌, ◌&&◌, nat_le, if◌then◌else◌, refl}
+use Rattle.chunk_header.specs.declared.CtxError.TheVariants.{WrongSize}
 use Rattle.ctx_blocks.specs.Kept.{AreRising}
 use Rattle.ctx_blocks.specs.declared.parts.Block.{Block}
-use Rattle.slab_ctx.specs.Ledger.{SlabLedger, SlabBlock, SlabTaken, with_live, serving, serve, take, per_block}
+use Rattle.slab_ctx.specs.Ledger.{SlabLedger, SlabBlock, with_live, serve, empties, without_number, live_in, give}
 use Rattle.slab_ctx.specs.State.{numbered_of}
-
--- the ledger's step by a block that has a free chunk
-pub serve-some : (l : SlabLedger) (left : ℕ) (block : SlabBlock) (chosen : Option SlabBlock) → chosen ≡ Some block → serve l left chosen ≡ Ok (record { ledger = record { size = l.size; count = l.count; blocks = with_live l.blocks block.number (block.live + 1) }; place = block.number; asked = 0 })
-unfolding serve
-serve-some l left block chosen some = ap (serve l left) some
-
--- by a new block
-abbrev pub more : SlabLedger → SlabTaken
-more l = record { ledger = record { size = l.size; count = l.count + 1; blocks = l.blocks ++ record { number = l.count + 1; live = 1 } ∷ [] }; place = l.count + 1; asked = 8192 }
-
-pub serve-none : (l : SlabLedger) (left : ℕ) (chosen : Option SlabBlock) → chosen ≡ None → 8192 ≤ left → serve l left chosen ≡ Ok (more l)
-unfolding serve
-serve-none l left chosen none fits = rw none (grind arith)
-
-pub serve-full : (l : SlabLedger) (left : ℕ) (chosen : Option SlabBlock) → chosen ≡ None → left < 8192 → serve l left chosen ≡ Err NoSpace
-unfolding serve
-serve-full l left chosen none less = rw none (grind arith)
 
 -- the last block has one live chunk
 pub live-last : (least most number : ℕ) (es : List (ℕ × Block)) → most < number → AreRising least most es → with_live (map numbered_of es ++ record { number = number; live = 0 } ∷ []) number 1 ≡ map numbered_of es ++ record { number = number; live = 1 } ∷ []
 live-last least most number [] less h = grind arith
 live-last least most number (e ∷ es) less h = grind (arith, live-last (e.1.number + 1) most number es less h.2)
 
--- a request
-abbrev served : SlabLedger → ℕ → Result SlabTaken CtxError
-served l left = serve l left (serving (per_block l.size) l.blocks)
-
-pub take-big : (l : SlabLedger) (left size : ℕ) → 1073741823 < size → take l left size ≡ Err TooBig
-unfolding take
-take-big l left size large = grind arith
-
-pub take-other : (l : SlabLedger) (left size : ℕ) → size ≤ 1073741823 → size ≢ l.size → take l left size ≡ Err WrongSize
-unfolding take
-take-other l left size small differs = grind arith
-
-pub take-right : (l : SlabLedger) (left size : ℕ) → size ≤ 1073741823 → size ≡ l.size → take l left size ≡ served l left
-unfolding take
-take-right l left size small same = grind arith
-
 -- serving is never refused for the size
-pub serve-not_wrong : (l : SlabLedger) (left : ℕ) (chosen : Option SlabBlock) → serve l left chosen ≢ Err WrongSize
+pub serve_not_wrong : (l : SlabLedger) (left : ℕ) (chosen : Option SlabBlock) → serve l left chosen ≢ Err WrongSize
 unfolding serve
-serve-not_wrong l left (Some block) is = grind arith
-serve-not_wrong l left None is = grind arith
+serve_not_wrong l left (Some block) is = grind arith
+serve_not_wrong l left None is = grind arith
+
+-- which block is left out doesn't depend on live chunks
+without-set : (number live : ℕ) (xs : List SlabBlock) → without_number (with_live xs number live) number ≡ without_number xs number
+without-set number live [] = refl
+without-set number live (b ∷ xs) = grind (arith, without-set number live xs)
+
+-- the ledger's step, from the blocks before, between and after
+pub freed-is : (l : SlabLedger) (number other live now empty : ℕ) (mid after : List SlabBlock) → live_in l.blocks number ≡ live → 1 ≤ live → now ≡ live - 1 → mid ≡ with_live l.blocks number (live - 1) → other ≡ number → empty ≡ empties l.blocks
+    → after ≡ (if (now == 0) && nat_le 10 empty then without_number mid other else mid) → record { size = l.size; count = l.count; blocks = after } ≡ give l number
+unfolding give
+freed-is l number other live now empty mid after index some is middle same count after_is =
+    let gone = without-set number (live - 1) l.blocks in
+    rw (after_is, index, same, middle, is, count) (grind arith)

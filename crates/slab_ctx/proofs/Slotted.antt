@@ -70,8 +70,8 @@ IsSlotted-added l m size s t number stack slotted same fresh put chunks stacks l
     (record { bytes = refl; rest = omega arith; long = rw here long; free = λ k below. absurd (omega arith); distinct = λ j k less below. absurd (omega arith) })
 
 -- a context without blocks
-pub IsSlotted-none : (l : Layout) (size : ℕ) (s : List (ℕ × Vec ℕ)) → l.kind ≡ Slab → l.first_number ≡ 0 → 1 ≤ size → size ≤ 1024 → l.blocks ≡ (l.keeper, first_region) ∷ [] → l.chunks ≡ [] → IsSlotted l size s
-IsSlotted-none l size s kind one least most blocks chunks = record {
+pub IsSlotted_none : (l : Layout) (size : ℕ) (s : List (ℕ × Vec ℕ)) → l.kind ≡ Slab → l.first_number ≡ 0 → 1 ≤ size → size ≤ 1024 → l.blocks ≡ (l.keeper, first_region) ∷ [] → l.chunks ≡ [] → IsSlotted l size s
+IsSlotted_none l size s kind one least most blocks chunks = record {
   kind = kind;
   first = one;
   least = least;

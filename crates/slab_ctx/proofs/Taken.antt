@@ -1,5 +1,5 @@
 -- Lemmas on a chunk that is taken or freed.
-use Rattle.std.proofs.Common.{◌≡◌, ◌≢◌, ℕ, ◌+◌, ◌-◌, ◌*◌, ◌<◌, ◌≤◌, List, length, Some, None, slice_index, slice_set, refl, ap, ◌∙◌, inl, inr, arith}
+use Rattle.std.proofs.Common.{◌≡◌, ◌≢◌, ℕ, ◌+◌, ◌-◌, ◌*◌, ◌<◌, ◌≤◌, List, Some, None, slice_index, slice_set, refl, ap, ◌∙◌, inl, inr, arith}
 use Rattle.std.specs.Global.{Vec}
 use Rattle.std.proofs.lemmas.Bool.{cases_eq}
 use Rattle.std.proofs.lemmas.List.{length-set, get_or-set_same, get_or-set_other}
@@ -12,7 +12,8 @@ use Rattle.slab_ctx.specs.Lives.{stride}
 use Rattle.slab_ctx.specs.Counts.{Counts}
 use Rattle.addr_space.proofs.Options.{one_value}
 use Rattle.slab_ctx.specs.Slots.{IsSlot, IsFree, IsFilled, IsSlotted, stack_at, at_offset, chunk_of}
-use Rattle.slab_ctx.proofs.Numbers.{stride-some, per_block-most}
+use Rattle.slab_ctx.proofs.Numbers.{stride-some}
+use Rattle.slab_ctx.proofs.Places.{one-more}
 use Rattle.ctx_blocks.proofs.Put.{chunk_was, chunk_here}
 use Rattle.ctx_blocks.proofs.Changed.{chunk_apart}
 use Rattle.slab_ctx.proofs.Slotted.{IsSlotted-put}
@@ -68,12 +69,8 @@ module _ (l m : Layout) (size : ℕ) (s : List (ℕ × Vec ℕ)) (at : Addr) (sl
   -- it is freed, and its offset goes on the stack
   module _ (puts : PutsChunk l m at None) (t : List (ℕ × Vec ℕ)) (stack : stack_at t at.region ≡ slice_set (stack_at s at.region) b.freed at.offset) (stacks : (other : ℕ) → other ≢ at.region → stack_at t other ≡ stack_at s other)
       (chunk : Chunk) (has : chunk_at l at ≡ Some chunk) (last : at.offset + chunk.room + b.room ≤ b.size) (live_some : 1 ≤ b.live) where
-    -- the stack has room for it
-    freed-few : b.freed < length (stack_at s at.region)
-    freed-few = let few = per_block-most size (b.live + b.freed) (omega (arith, was.rest)) in omega (arith, was.long)
-
     freed_last : slice_index (stack_at t at.region) b.freed ≡ at.offset
-    freed_last = rw stack (get_or-set_same (stack_at s at.region) b.freed at.offset 0 freed-few)
+    freed_last = rw stack (get_or-set_same (stack_at s at.region) b.freed at.offset 0 (one-more l size s slotted at.region differs b found live_some))
 
     freed_other : (k : ℕ) → k < b.freed → slice_index (stack_at t at.region) k ≡ slice_index (stack_at s at.region) k
     freed_other k below = rw stack (get_or-set_other (stack_at s at.region) b.freed k at.offset 0 (omega arith))

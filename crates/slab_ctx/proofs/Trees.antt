@@ -6,7 +6,12 @@ use Rattle.slab_ctx.specs.declared.tree.Entry.{Entry}
 use Rattle.slab_ctx.specs.declared.tree.Tree.{Tree}
 use Rattle.slab_ctx.specs.Tree.{Leads, IsLesser, node, leaf, IsTree, IsTreeBut}
 
-pub Leads-refl : (a : Option Entry) → Leads a a
+-- what follows at a value that there may be
+pub some_with : {A : Type 0} {P : A → Type 0} (o : Option A) → ((a : A) → o ≡ Some a → P a) → IfSome o P
+some_with None all = tt
+some_with (Some a) all = all a refl
+
+Leads-refl : (a : Option Entry) → Leads a a
 Leads-refl None = tt
 Leads-refl (Some a) = inr (refl, omega arith)
 
@@ -22,9 +27,6 @@ lesser-read lesser one two three = rw (← one, ← two, ← three) lesser
 
 -- one node is another one
 module _ (t u : Tree) (j : ℕ) (best : Option Entry) (items : u.nodes.items ≡ set t.nodes.items j best) where
-  pub node-same : j < length t.nodes.items → node u j ≡ best
-  node-same less = ap (λ xs. get_or xs j None) items ∙ get_or-set_same t.nodes.items j best None less
-
   pub node-other : (k : ℕ) → k ≢ j → node u k ≡ node t k
   node-other k differs = ap (λ xs. get_or xs k None) items ∙ get_or-set_other t.nodes.items j k best None differs
 
@@ -32,7 +34,7 @@ module _ (t u : Tree) (j : ℕ) (best : Option Entry) (items : u.nodes.items ≡
   raised i tree long places low high some within lesser = record {
     long = omega (arith, long, places, tree.long);
     lesser = λ jj least most left right. rw (node-other (2 * jj) left, node-other (2 * jj + 1) right) (elim (cases_eq jj j) [
-      | inl same ↦ rw (same, node-same (omega (arith, tree.long))) lesser
+      | inl same ↦ rw (same, items, get_or-set_same t.nodes.items j best None (omega (arith, tree.long))) lesser
       | inr differs ↦ rw (node-other jj differs) (tree.lesser jj least (omega (arith, places)) (λ e. differs (omega arith)) (λ e. differs (omega arith)))
     ]);
   }
@@ -45,13 +47,6 @@ settled t i j tree low high lesser = record {
     | inl same ↦ rw same lesser
     | inr differs ↦ tree.lesser jj least most (λ e. differs (omega arith)) (λ e. differs (omega arith))
   ];
-}
-
--- the tree is right at last
-pub all-raised : (t : Tree) (i : ℕ) → i ≤ 1 → IsTreeBut t i → IsTree t
-all-raised t i small tree = record {
-  long = tree.long;
-  lesser = λ j least most. tree.lesser j least most (λ e. omega arith) (λ e. omega arith);
 }
 
 -- the first node leads all
@@ -68,8 +63,8 @@ under t tree (suc n) k few some within = elim (cases_eq k 1) [
       ]
 ]
 
-pub first-leads : (t : Tree) → IsTree t → (p : ℕ) → p < t.places → Leads (node t 1) (leaf t p)
-first-leads t tree p within = under t tree (t.places + p) (t.places + p) (omega arith) (omega arith) (omega arith)
+pub first_leads : (t : Tree) → IsTree t → (p : ℕ) → p < t.places → Leads (node t 1) (leaf t p)
+first_leads t tree p within = under t tree (t.places + p) (t.places + p) (omega arith) (omega arith) (omega arith)
 
 -- each node is that of a place
 as_leaf : (t : Tree) → IsTree t → (n k : ℕ) → 1 ≤ k → k < 2 * t.places → 2 * t.places ≤ k + n → (p : ℕ) × (p < t.places) × (leaf t p ≡ node t k)
@@ -82,9 +77,5 @@ as_leaf t tree (suc n) k some within many = elim (cases_lt k t.places) [
   | inr outer ↦ let e : t.places + (k - t.places) ≡ k = omega arith in (k - t.places, omega arith, ap (node t) e)
 ]
 
-there_by : (t : Tree) (o : Option Entry) → (p : ℕ) × (p < t.places) × (leaf t p ≡ o) → IfSome o (λ e. (p : ℕ) × (p < t.places) × (leaf t p ≡ Some e))
-there_by t None it = tt
-there_by t (Some e) it = it
-
 pub first-there : (t : Tree) → IsTree t → 1 ≤ t.places → IfSome (node t 1) (λ e. (p : ℕ) × (p < t.places) × (leaf t p ≡ Some e))
-first-there t tree some = there_by t (node t 1) (as_leaf t tree (2 * t.places) 1 (omega arith) (omega arith) (omega arith))
+first-there t tree some = some_with (node t 1) (λ e is. rw is at (as_leaf t tree (2 * t.places) 1 (omega arith) (omega arith) (omega arith)))

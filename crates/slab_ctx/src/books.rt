@@ -77,6 +77,7 @@ impl Books {
     }
 
     // The books of a new context, whose first region was taken.
+    #[tactic(auto, unfolding(crate::specs::Ledger::created))]
     pub fn create(
         alloc: Global,
         space: &mut Space,
@@ -121,6 +122,7 @@ impl Books {
     }
 
     // Live chunks lead to the context.
+    #[tactic(auto, using(crate::proofs::Full::AllHeaded_full))]
     pub fn headed(&self)
         requires { IsKept self.now }
         ensures headed { AllHeaded (footprint (state_of self.now)) }
@@ -131,6 +133,7 @@ impl Books {
     }
 
     // The block with the fewest free chunks but at least one, the earliest of such ones.
+    #[tactic(auto, using(crate::proofs::Chosen::chosen, crate::proofs::Chosen::serving_chosen, crate::proofs::Chosen::serving_none, crate::proofs::Chosen::serving_empty))]
     fn fullest(&self) -> Option<u32>
         requires { IsKept self.now }
         ensures some { IfSome result (λ number. IsChosen self.now.slots.blocks (per_block self.now.slots.size) number) }
@@ -146,6 +149,7 @@ impl Books {
     }
 
     // Takes a chunk of a block that has a free one.
+    #[tactic(auto, using(crate::proofs::KeptSteps::has_rank))]
     fn take(&mut self, space: &mut Space, number: u32) -> Addr
         requires kept { IsKept self.old }
         requires agrees { Agrees (blocks_footprint self.old.slots.blocks) space.old }
@@ -173,6 +177,7 @@ impl Books {
     }
 
     // Takes a block.
+    #[tactic(auto, using(ctx_blocks::proofs::Among::among_adding, ctx_blocks::proofs::Changed::put_here))]
     fn add(&mut self, space: &mut Space) -> Result<u32, CtxError>
         requires kept { IsKept self.old }
         requires agrees { Agrees (blocks_footprint self.old.slots.blocks) space.old }
@@ -206,6 +211,7 @@ impl Books {
     }
 
     // Serves a request for a chunk.
+    #[tactic(auto, unfolding(crate::specs::Ledger::serve), using(crate::proofs::Full::Agrees_plain, crate::proofs::Numbers::per_block_some))]
     fn serve(&mut self, space: &mut Space) -> Result<Addr, CtxError>
         requires kept { IsKept self.old }
         requires agrees { Agrees (footprint (state_of self.old)) space.old }
@@ -224,6 +230,7 @@ impl Books {
     }
 
     // Serves a request.
+    #[tactic(auto, unfolding(crate::specs::Ledger::take), using(crate::proofs::Served::serve_not_wrong))]
     pub fn alloc(&mut self, space: &mut Space, size: u64) -> Result<Addr, CtxError>
         requires kept { IsKept self.old }
         requires agrees { Agrees (footprint (state_of self.old)) space.old }
@@ -247,6 +254,7 @@ impl Books {
     }
 
     // Gives a block back, where it has no live chunk and enough others are empty.
+    #[tactic(auto, using(ctx_blocks::proofs::Among::among_drop))]
     fn settle(&mut self, space: &mut Space, number: u32, live: u32)
         requires kept { (b : Block) × (block_at self.old.slots.blocks number ≡ Some b) × IsKeptBut self.old (is_empty b.live) }
         requires live { (b : Block) → block_at self.old.slots.blocks number ≡ Some b → b.live ≡ live }
@@ -275,6 +283,7 @@ impl Books {
     }
 
     // Frees a live chunk.
+    #[tactic(auto, using(crate::proofs::KeptSteps::has_rank))]
     pub fn free(&mut self, space: &mut Space, at: Addr)
         requires kept { IsKept self.old }
         requires agrees { Agrees (footprint (state_of self.old)) space.old }
@@ -296,6 +305,7 @@ impl Books {
     }
 
     // Answers a request for another size of a live chunk.
+    #[tactic(auto, unfolding(crate::specs::Ledger::resize))]
     pub fn realloc(&self, at: Addr, size: u64) -> Result<Addr, CtxError>
         ensures size { OnOk result ((size ≡ self.now.slots.size) × (size ≤ 1073741823)) }
         ensures at { IfOk result (λ to. to ≡ at) }
@@ -313,6 +323,7 @@ impl Books {
     }
 
     // Frees all chunks, and gives all blocks back.
+    #[tactic(auto, unfolding(crate::specs::Ledger::created, crate::specs::Ledger::reset), using(crate::proofs::Full::Agrees_plain))]
     pub fn reset(&mut self, space: &mut Space)
         requires kept { IsKept self.old }
         requires agrees { Agrees (footprint (state_of self.old)) space.old }
@@ -331,6 +342,7 @@ impl Books {
     }
 
     // Gives all blocks and the first region back.
+    #[tactic(auto, using(crate::proofs::Full::Agrees_plain))]
     pub fn discard(self, space: &mut Space)
         requires kept { IsKept self }
         requires agrees { Agrees (footprint (state_of self)) space.old }

@@ -87,6 +87,7 @@ impl SlabCtx {
 
     /// What the context holds: `chunks` are the free chunks of all blocks, and `free` their bytes with their headers
     /// (`SlabStats`).
+    #[tactic(auto, unfolding(crate::specs::Ledger::stats), using(crate::proofs::Public::length_blocks))]
     pub fn stats(&self) -> Stats
         ensures stats { result ≡ stats self.now.ledger }
         ensures total { (footprint self.now).total ≡ result.total }
@@ -95,6 +96,7 @@ impl SlabCtx {
     }
 
     /// What the context's regions have in all is what `stats` counts as their bytes. A caller cites the clause.
+    #[tactic(auto, unfolding(crate::specs::Ledger::stats), using(crate::proofs::Public::length_blocks))]
     pub fn counted(&self)
         ensures { (footprint self.now).total ≡ (stats self.now.ledger).total }
     {

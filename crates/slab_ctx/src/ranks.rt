@@ -22,6 +22,7 @@ pub struct Ranks {
 }
 
 // Gives the key at a place another rank.
+#[tactic(auto, using(crate::proofs::Placed::written))]
 fn change(entries: &mut IndexMap<u32, Rank>, place: usize, key: u32, rank: Rank)
     requires { (e : Entry) × (entry_in entries.old.entries place ≡ Some e) × (e.key ≡ key) }
     ensures places { (p : ℕ) → entry_in entries.new.entries p ≡ (if place == p then Some (entry_of (key, rank)) else entry_in entries.old.entries p) }
@@ -173,6 +174,7 @@ impl Ranks {
     }
 
     // The key of the least rank, with that.
+    #[tactic(auto, using(crate::proofs::Placed::least_leads))]
     pub fn least(&self) -> Option<Entry>
         requires ranked { IsRanked self.now }
         ensures there { IfSome result (λ e. rank_at self.now.entries.entries e.key ≡ Some e.rank) }

@@ -32,6 +32,7 @@ pub struct Slots {
 }
 
 // What a chunk takes in a block, with its header.
+#[tactic(auto, unfolding(crate::specs::Ledger::stride))]
 pub fn stride(size: u32) -> u32
     requires least { 1 ≤ size }
     requires most { size ≤ 1024 }
@@ -43,6 +44,7 @@ pub fn stride(size: u32) -> u32
 }
 
 // How many chunks a block has.
+#[tactic(auto, unfolding(crate::specs::Ledger::per_block))]
 pub fn per_block(size: u32) -> u32
     requires least { 1 ≤ size }
     requires most { size ≤ 1024 }
@@ -144,6 +146,7 @@ impl Slots {
     }
 
     // The slots of a new context, whose first region was taken.
+    #[tactic(auto, using(crate::proofs::Slotted::IsSlotted_none))]
     pub fn create(
         alloc: Global,
         space: &mut Space,
@@ -225,6 +228,7 @@ impl Slots {
     }
 
     // Takes the freed chunk that is the last of a block's stack.
+    #[tactic(auto, using(crate::proofs::Numbers::stride_least))]
     fn reuse(&mut self, space: &mut Space, number: u32, depth: u32) -> Addr
         requires slots { HasSlots self.old }
         requires agrees { Agrees (footprint self.old.blocks) space.old }
@@ -253,6 +257,7 @@ impl Slots {
     }
 
     // Cuts a chunk off a block that has room for one.
+    #[tactic(auto, using(crate::proofs::Numbers::stride_least))]
     fn cut(&mut self, space: &mut Space, number: u32) -> Addr
         requires slots { HasSlots self.old }
         requires agrees { Agrees (footprint self.old.blocks) space.old }

@@ -150,6 +150,7 @@ impl Tree {
     }
 
     // The least entry.
+    #[tactic(auto, using(crate::proofs::Trees::first_leads))]
     pub fn least(&self) -> Option<Entry>
         requires tree { IsTree self.now }
         ensures least { (p : ℕ) → p < self.now.places → Leads result (leaf self.now p) }

@@ -4,7 +4,7 @@ use Rattle.addr_space.proofs.Steps.{Moves-same, Keeps-same}
 use Rattle.ctx_blocks.proofs.Places.{places_put}
 use Rattle.slab_ctx.specs.Kept.{state_of}
 use Rattle.slab_ctx.specs.State.{footprint, place}
-use Rattle.slab_ctx.proofs.Full.{Agrees-plain}
+use Rattle.slab_ctx.proofs.Full.{Agrees_plain}
 use Rattle.slab_ctx.proofs.SlabCtx.alloc.Goals as goal
 
 pub returns-clause-taken : goal.returns-clause-taken
@@ -13,12 +13,12 @@ returns-clause-taken c =
     let n = c.alloc.new.self in
     let l = b.slots.blocks in
     let m = n.slots.blocks in
-    let agrees = Agrees-plain b.slots.size l c.args.space.now (rw (← (ap state_of c.deref_mut.ensures.value ∙ c.self.view_is)) at c.requires) in
+    let agrees = Agrees_plain b.slots.size l c.args.space.now (rw (← (ap state_of c.deref_mut.ensures.value ∙ c.self.view_is)) at c.requires) in
     rw (← (ap state_of c.deref_mut.ensures.value ∙ c.self.view_is)) (if_ok c.alloc.result (λ at had. record {
       answer = had.answer;
       is = had.is;
       ledger = had.does.ledger;
-      place = places_put place l m _ _ agrees (Agrees-plain n.slots.size m _ had.does.moves.agrees) had.does.numbers at _ (Some had.answer.place) had.does.chunk (ap Some had.does.number);
+      place = places_put place l m _ _ agrees (Agrees_plain n.slots.size m _ had.does.moves.agrees) had.does.numbers at _ (Some had.answer.place) had.does.chunk (ap Some had.does.number);
       asked = had.does.asked;
     }) c.alloc.ensures.ok)
 

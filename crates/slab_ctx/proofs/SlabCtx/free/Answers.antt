@@ -1,7 +1,7 @@
 use Rattle.std.proofs.Common.{None, refl, ap, ◌∙◌}
 use Rattle.ctx_blocks.proofs.Places.{places_put, numbers_among}
 use Rattle.slab_ctx.specs.State.{place}
-use Rattle.slab_ctx.proofs.Full.{Agrees-plain}
+use Rattle.slab_ctx.proofs.Full.{Agrees_plain}
 use Rattle.slab_ctx.specs.Kept.{state_of}
 use Rattle.slab_ctx.proofs.SlabCtx.free.Goals as goal
 
@@ -14,8 +14,8 @@ returns-clause-place c =
     let s = c.args.space.now in
     let t = c.free.new.space in
     let f = c.free.ensures in
-    let agrees = Agrees-plain b.slots.size l s (rw (← (ap state_of c.deref_mut.ensures.value ∙ c.self.view_is)) at c.requires.agrees) in
-    rw (← (ap state_of c.deref_mut.ensures.value ∙ c.self.view_is)) (places_put place l m s t agrees (Agrees-plain n.slots.size m t f.moves.agrees) (numbers_among l m f.among) c.args.at None None f.chunk refl)
+    let agrees = Agrees_plain b.slots.size l s (rw (← (ap state_of c.deref_mut.ensures.value ∙ c.self.view_is)) at c.requires.agrees) in
+    rw (← (ap state_of c.deref_mut.ensures.value ∙ c.self.view_is)) (places_put place l m s t agrees (Agrees_plain n.slots.size m t f.moves.agrees) (numbers_among l m f.among) c.args.at None None f.chunk refl)
 
 pub returns-clause-keeps : goal.returns-clause-keeps
 returns-clause-keeps c = rw (← (ap state_of c.deref_mut.ensures.value ∙ c.self.view_is)) c.free.ensures.keeps

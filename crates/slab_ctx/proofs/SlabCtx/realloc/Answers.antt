@@ -1,9 +1,10 @@
-use Rattle.std.proofs.Common.{refl, ap, ◌∙◌}
+use Rattle.std.proofs.Common.{ap, ◌∙◌}
 use Rattle.addr_space.proofs.Steps.{Moves-none}
 use Rattle.slab_ctx.specs.State.{footprint, place_at}
 use Rattle.slab_ctx.specs.Kept.{state_of}
 use Rattle.slab_ctx.specs.declared.books.Books.{Books}
-use Rattle.slab_ctx.proofs.Public.{some_with, resizes_same, live_stays, both_ok}
+use Rattle.slab_ctx.proofs.Trees.{some_with}
+use Rattle.slab_ctx.proofs.Public.{resizes_same, live_stays, both_ok}
 use Rattle.slab_ctx.proofs.SlabCtx.realloc.Goals as goal
 
 pub returns-clause-resized : goal.returns-clause-resized
@@ -20,6 +21,3 @@ returns-clause-live c =
 
 pub returns-clause-moves : goal.returns-clause-moves
 returns-clause-moves c = Moves-none (footprint c.args.self.now) c.args.space.now c.requires.agrees
-
-pub returns-clause-keeps : goal.returns-clause-keeps
-returns-clause-keeps c = λ at m n k live now below under. refl

@@ -1,16 +1,10 @@
 use Rattle.std.proofs.lemmas.Cmp.{nat_eq_equiv}
-use Rattle.indexmap.proofs.CallerLemmas.{keys-with_value_at, index_map_len-with_value_at, updates-with_value_at}
+use Rattle.indexmap.proofs.CallerLemmas.{updates-with_value_at}
 use Rattle.slab_ctx.proofs.Placed.{pair-at, entry-set}
 use Rattle.slab_ctx.proofs.ranks.change.Goals as goal
 
 pub returns-clause-places : goal.returns-clause-places
 returns-clause-places c = λ p. entry-set c.args.entries.now.entries c.args.place p c.args.key c.requires.0.rank c.args.rank (pair-at c.args.entries.now.entries c.args.place c.args.key c.requires)
-
-pub returns-clause-keys : goal.returns-clause-keys
-returns-clause-keys c = keys-with_value_at c.args.entries.now c.args.place c.args.rank
-
-pub returns-clause-len : goal.returns-clause-len
-returns-clause-len c = index_map_len-with_value_at c.args.entries.now c.args.place c.args.rank
 
 pub returns-clause-at : goal.returns-clause-at
 returns-clause-at c = λ other. (updates-with_value_at c.args.entries.now c.args.place c.args.rank nat_eq_equiv c.get_index_mut.ensures.unique c.args.key c.requires.0.rank (pair-at c.args.entries.now.entries c.args.place c.args.key c.requires)).0 other

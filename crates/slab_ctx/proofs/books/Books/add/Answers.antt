@@ -1,15 +1,14 @@
 use Rattle.std.proofs.Common.{◌+◌, ap, ◌∙◌, arith, refl}
 use Rattle.ctx_blocks.specs.Layout.{block_at}
 use Rattle.ctx_blocks.specs.declared.parts.Block.{Block}
-use Rattle.ctx_blocks.proofs.Among.{among_adding}
 use Rattle.ctx_blocks.proofs.Changed.{put_here}
 use Rattle.addr_space.proofs.Options.{one_value}
 use Rattle.slab_ctx.specs.Lives.{per_block}
+use Rattle.slab_ctx.specs.State.{numbered_of}
 use Rattle.slab_ctx.specs.declared.books.Books.{Books}
 use Rattle.slab_ctx.proofs.Bounds.{free-small, empty-small}
 use Rattle.slab_ctx.proofs.KeptSteps.{kept-added}
-use Rattle.slab_ctx.proofs.Listed.{blocks-added}
-use Rattle.slab_ctx.proofs.Ordered.{order-kept, order-put}
+use Rattle.slab_ctx.proofs.Listed.{map-added}
 use Rattle.slab_ctx.proofs.books.Books.add.Goals as goal
 use Rattle.slab_ctx.proofs.books.Books.add.Goals.{In_ok-number}
 
@@ -22,9 +21,6 @@ overflow_add-self-2 c = omega (arith, free-small c.args.self.now 0 c.requires.ke
 new : In_ok-number → Block
 new c = record { number = c.args.self.now.slots.blocks.last_number + 1; size = 8192; room = 8152; live = 0; freed = 0 }
 
-pub owned-block-requires : goal.owned-block-requires
-owned-block-requires c = (_, put_here _ _ _ _ c.in_ok-number.ensures.block)
-
 pub returns-clause-kept : goal.returns-clause-kept
 unfolding new
 returns-clause-kept c =
@@ -36,15 +32,10 @@ returns-clause-kept c =
     let is = one_value (block_at c.add.new.self.blocks c.in_ok-number.number) c.owned-block.result block c.owned-block.ensures (put_here b.slots.blocks c.add.new.self.blocks c.in_ok-number.number block e.block) in
     kept-added b n 0 c.in_ok-number.number c.requires.kept c.add.ensures.slots c.add.ensures.size e.same e.not_keeper block refl e.fresh e.block refl e.last refl e.total e.most refl
     (ap (λ x. b.free + x) (c.from.ensures ∙ per))
-    (order-put c.make_room.new.self c.put.new.self b.slots.blocks c.add.new.self.blocks (per_block b.slots.size) (per_block c.add.new.self.size) c.in_ok-number.number
-    (order-kept b.ranks c.make_room.new.self b.slots.blocks (per_block b.slots.size) c.requires.kept.order c.make_room.ensures.ranked c.make_room.ensures.same)
-    c.put.ensures.ranked (ap per_block c.add.ensures.size) e.same.keeper block c.rank.result e.not_keeper e.block.at (c.rank.ensures ∙ rw (per, is) refl) c.put.ensures.at)
+    c.put.ensures.ranked (rw (c.make_room.ensures.same, c.rank.ensures, per, is) at c.put.ensures.at)
 
 pub returns-clause-blocks : goal.returns-clause-blocks
 unfolding new
 returns-clause-blocks c =
     let e = c.in_ok-number.ensures in
-    blocks-added c.args.self.now.slots.blocks c.requires.kept.listed c.in_ok-number.number e.not_keeper c.add.new.self.blocks e.same (new (goal.at.returns-clause-blocks c).In_ok-number) e.block e.fresh
-
-pub returns-clause-among : goal.returns-clause-among
-returns-clause-among c = among_adding _ _ _ _ c.in_ok-number.ensures.fresh c.in_ok-number.ensures.block
+    map-added c.args.self.now.slots.blocks c.requires.kept.listed c.in_ok-number.number e.not_keeper c.add.new.self.blocks e.same (new (goal.at.returns-clause-blocks c).In_ok-number) e.block numbered_of e.fresh

@@ -1,8 +1,5 @@
-use Rattle.slab_ctx.proofs.Full.{Agrees-plain, Moves-gone}
+use Rattle.slab_ctx.proofs.Full.{Moves-gone}
 use Rattle.slab_ctx.proofs.books.Books.discard.Goals as goal
-
-pub discard-requires : goal.discard-requires
-discard-requires c = Agrees-plain c.args.self.slots.size c.args.self.slots.blocks c.args.space.now c.requires.agrees
 
 pub returns-clause-moves : goal.returns-clause-moves
 returns-clause-moves c =

@@ -1,4 +1,4 @@
-use Rattle.std.proofs.Common.{◌≡◌, ◌+◌, ◌-◌, Some, ap, sym, ◌∙◌, arith, refl}
+use Rattle.std.proofs.Common.{◌≡◌, ◌+◌, ◌-◌, ap, sym, ◌∙◌, arith, refl}
 use Rattle.addr_space.proofs.Steps.{Moves-more}
 use Rattle.ctx_blocks.specs.Layout.{block_at, footprint as footprint_of}
 use Rattle.ctx_blocks.proofs.Among.{among_put, among_more}
@@ -8,34 +8,19 @@ use Rattle.slab_ctx.specs.State.{blocks_of, others}
 use Rattle.slab_ctx.specs.Kept.{ledger_of}
 use Rattle.slab_ctx.specs.declared.books.Books.{Books}
 use Rattle.addr_space.proofs.Options.{one_value}
-use Rattle.slab_ctx.specs.Lives.{per_block}
-use Rattle.slab_ctx.proofs.Ordered.{order-put, has-rank}
 use Rattle.slab_ctx.proofs.Bounds.{free-small}
-use Rattle.slab_ctx.proofs.Full.{Agrees-plain, Moves-full}
-use Rattle.slab_ctx.proofs.Freed.{freed-is}
+use Rattle.slab_ctx.proofs.Full.{Agrees_plain, Moves-full}
+use Rattle.slab_ctx.proofs.Served.{freed-is}
 use Rattle.slab_ctx.proofs.Listed.{find-other}
-use Rattle.slab_ctx.proofs.Numbered.{live_is, empties_is}
+use Rattle.slab_ctx.proofs.Lives.{live_is, sums_are}
 use Rattle.slab_ctx.proofs.Places.{chunks-few}
 use Rattle.slab_ctx.proofs.KeptSteps.{kept-changed, blocks-counted, ledger-parts}
 use Rattle.addr_space.proofs.Steps.{Keeps-then}
 use Rattle.ctx_blocks.proofs.Changed.{put_here, stays_live}
 use Rattle.slab_ctx.proofs.books.Books.free.Goals as goal
-use Rattle.slab_ctx.proofs.books.Books.free.Goals.{After-remove-was}
 
 pub overflow_add-self : goal.overflow_add-self
 overflow_add-self c = omega (arith, free-small c.args.self.now 0 c.requires.kept)
-
-pub overflow_sub-live : goal.overflow_sub-live
-overflow_sub-live c = let had = c.remove-was.ensures.block in grind (arith, c.remove-was.ensures.was, had.1, had.2)
-
-pub put-requires-clause-room : goal.put-requires-clause-room
-put-requires-clause-room c = λ none.
-    let had = c.remove-was.ensures.block in
-    absurd (has-rank _ _ _ c.requires.kept.order c.args.at.region c.remove-was.ensures.not_keeper had.0 had.1 none)
-
--- the block is there with one live chunk fewer
-there : (c : After-remove-was) → block_at c.remove-was.new.self.blocks c.args.at.region ≡ Some c.remove-was.ensures.block.3.block
-there c = put_here _ _ _ _ c.remove-was.ensures.block.3.puts
 
 pub settle-requires-clause-kept : goal.settle-requires-clause-kept
 settle-requires-clause-kept c =
@@ -50,22 +35,15 @@ settle-requires-clause-kept c =
     let few = chunks-few l b.slots.size b.slots.stacks.entries c.requires.kept.slots number differs block had.1 in
     let was = one_value (block_at l number) c.remove-was.result block c.remove-was.ensures.was had.1 in (
       counts.block,
-      there (goal.at.settle-requires-clause-kept c).After-remove-was,
+      put_here _ _ _ _ counts.puts,
       kept-changed b n 0 number c.requires.kept c.remove-was.ensures.slots c.remove-was.ensures.size c.remove-was.ensures.same differs block had.1 (block.live - 1) counts (is_empty counts.block.live) c.remove-was.ensures.last
           (grind (arith, counts.count, had.2)) (omega (arith, few, had.2))
-          (order-put b.ranks c.put.new.self l c.remove-was.new.self.blocks (per_block b.slots.size) (per_block c.remove-was.new.self.size) number c.requires.kept.order c.put.ensures.ranked (ap per_block c.remove-was.ensures.size) c.remove-was.ensures.same.keeper counts.block c.rank.result differs counts.puts.at
-          (c.rank.ensures ∙ rw (c.per_block-per.ensures.value, c.remove-was.ensures.size, was, counts.count, counts.same_number block had.1) refl) c.put.ensures.at),
+          c.put.ensures.ranked (rw (c.rank.ensures, c.per_block-per.ensures.value, c.remove-was.ensures.size, was, ← counts.count, ← counts.same_number block had.1) at c.put.ensures.at),
     )
-
-pub settle-requires-clause-live : goal.settle-requires-clause-live
-settle-requires-clause-live c = λ b now.
-    let had = c.remove-was.ensures.block in
-    let here = there (goal.at.settle-requires-clause-live c).After-remove-was in
-    grind (arith, c.remove-was.ensures.was, had.1, now, here, had.3.count)
 
 pub settle-requires-clause-agrees : goal.settle-requires-clause-agrees
 settle-requires-clause-agrees c =
-    (c.remove-was.ensures.moves c.args.space.now (Agrees-plain c.args.self.now.slots.size c.args.self.now.slots.blocks c.args.space.now c.requires.agrees)).agrees
+    (c.remove-was.ensures.moves c.args.space.now (Agrees_plain c.args.self.now.slots.size c.args.self.now.slots.blocks c.args.space.now c.requires.agrees)).agrees
 
 pub returns-clause-ledger : goal.returns-clause-ledger
 returns-clause-ledger c =
@@ -80,14 +58,11 @@ returns-clause-ledger c =
     let n : Books = record { slots = c.remove-was.new.self; empty = b.empty; free = b.free + 1; ranks = c.put.new.self } in
     let mid = blocks-counted b n 0 number c.requires.kept c.remove-was.ensures.slots c.remove-was.ensures.size c.remove-was.ensures.same differs block had.1 (block.live - 1) counts in
     let live = live_is 1 l.last_number number (others l.blocks) block c.requires.kept.listed.rising (find-other l c.requires.kept.listed number differs ∙ had.1) in
-    let after = c.settle.ensures.blocks counts.block (there (goal.at.returns-clause-ledger c).After-remove-was) in
-    let empty : b.empty ≡ empties (blocks_of l) = omega (arith, c.requires.kept.empty, empties_is (others l.blocks)) in
+    let after = c.settle.ensures.blocks counts.block (put_here _ _ _ _ counts.puts) in
+    let empty : b.empty ≡ empties (blocks_of l) = omega (arith, c.requires.kept.empty, sums_are is_empty (others l.blocks)) in
     ledger-parts k b.slots.size l.last_number (blocks_of k.slots.blocks) (c.settle.ensures.size ∙ c.remove-was.ensures.size) (c.settle.ensures.last ∙ c.remove-was.ensures.last) refl
     ∙ freed-is (ledger_of b) block.number counts.block.number block.live counts.block.live b.empty (blocks_of c.remove-was.new.self.blocks) (blocks_of k.slots.blocks) live had.2 counts.count mid (counts.same_number block had.1) empty after
     ∙ ap (give (ledger_of b)) (sym (number_is l number block had.1))
-
-pub returns-clause-chunk : goal.returns-clause-chunk
-returns-clause-chunk c = rw c.settle.ensures.chunks c.remove-was.ensures.chunk
 
 pub returns-clause-among : goal.returns-clause-among
 returns-clause-among c =
@@ -100,7 +75,7 @@ returns-clause-moves c =
     let l = b.slots.blocks in
     let m = c.remove-was.new.self.blocks in
     let n = c.settle.new.self in
-    let still = c.remove-was.ensures.moves c.args.space.now (Agrees-plain b.slots.size l c.args.space.now c.requires.agrees) in
+    let still = c.remove-was.ensures.moves c.args.space.now (Agrees_plain b.slots.size l c.args.space.now c.requires.agrees) in
     let both = Moves-more (footprint_of l) (footprint_of m) (footprint_of n.slots.blocks) c.args.space.now c.args.space.now c.settle.new.space still c.settle.ensures.moves in
     Moves-full b.slots.size n.slots.size l n.slots.blocks n.slots.stacks.entries c.args.space.now c.settle.new.space (c.settle.ensures.size ∙ c.remove-was.ensures.size) c.settle.ensures.kept.slots both
 

@@ -5,12 +5,9 @@ use Rattle.ctx_blocks.specs.Layout.{footprint as footprint_of}
 use Rattle.ctx_blocks.specs.declared.parts.Chunk.{Chunk}
 use Rattle.ctx_blocks.proofs.Laid.{from_live}
 use Rattle.slab_ctx.specs.Lives.{stride}
-use Rattle.slab_ctx.proofs.Numbers.{stride-least}
-use Rattle.slab_ctx.proofs.Full.{AllHeaded-full, AllOfKind-full, TakesSpace-full}
+use Rattle.slab_ctx.proofs.Numbers.{stride_least}
+use Rattle.slab_ctx.proofs.Full.{AllOfKind-full, TakesSpace-full}
 use Rattle.slab_ctx.proofs.books.Books.headed.Goals as goal
-
-pub returns-clause-headed : goal.returns-clause-headed
-returns-clause-headed c = AllHeaded-full c.args.self.now.slots.size c.args.self.now.slots.blocks c.headed.ensures.headed
 
 pub returns-clause-kinds : goal.returns-clause-kinds
 returns-clause-kinds c =
@@ -22,5 +19,5 @@ returns-clause-spaces c = λ at size live.
     let s = c.args.self.now.slots in
     let had = from_live s.blocks at size live in
     let is = c.requires.slots.chunk at had.0 had.1 in
-    let room : had.0.room + 8 ≡ stride s.size = omega (arith, ap (λ (x : Chunk). x.room) is, stride-least s.size) in
+    let room : had.0.room + 8 ≡ stride s.size = omega (arith, ap (λ (x : Chunk). x.room) is, stride_least s.size) in
     TakesSpace-full s.size s.blocks at (stride s.size) (rw room at (c.headed.ensures.shared at had.0 had.1 (ap (λ (x : Chunk). x.own) is)))

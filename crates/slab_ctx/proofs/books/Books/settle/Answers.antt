@@ -1,33 +1,23 @@
 use Rattle.std.proofs.Common.{◌≡◌, ◌-◌, ap, ◌∙◌, arith, refl}
-use Rattle.ctx_blocks.proofs.Among.{among_drop}
 use Rattle.slab_ctx.specs.Ledger.{per_block, is_empty}
 use Rattle.slab_ctx.specs.declared.books.Books.{Books}
 use Rattle.slab_ctx.proofs.KeptSteps.{free-least, kept-dropped}
 use Rattle.slab_ctx.proofs.Listed.{blocks-dropped}
-use Rattle.slab_ctx.proofs.Ordered.{order-drop}
 use Rattle.slab_ctx.proofs.books.Books.settle.Goals as goal
-use Rattle.slab_ctx.proofs.books.Books.settle.Goals.{Else-live-gt0}
-
-none : (c : Else-live-gt0) → c.requires.kept.0.live ≡ 0
-none c = omega (arith, c.if-live-gt0.false, c.requires.live c.requires.kept.0 c.requires.kept.1)
-
-pub give-requires-clause-block : goal.give-requires-clause-block
-give-requires-clause-block c = (c.requires.kept.0, c.requires.kept.1, none (goal.at.give-requires-clause-block c).Else-live-gt0)
 
 pub overflow_sub-self : goal.overflow_sub-self
 overflow_sub-self c =
     let k = c.requires.kept in
-    omega (arith, none (goal.at.overflow_sub-self c).Else-live-gt0, c.from.ensures, c.per_block.ensures.value, ap per_block c.give.ensures.size, free-least c.args.self.now (is_empty k.0.live) c.args.number k.2 c.requires.not_keeper k.0 k.1)
+    omega (arith, c.if-live-gt0.false, c.requires.live k.0 k.1, c.from.ensures, c.per_block.ensures.value, ap per_block c.give.ensures.size, free-least c.args.self.now (is_empty k.0.live) c.args.number k.2 c.requires.not_keeper k.0 k.1)
 
 pub returns-clause-kept : goal.returns-clause-kept
 returns-clause-kept c =
     let b = c.args.self.now in
     let k = c.requires.kept in
     let g = c.give.ensures in
-    let empty = none (goal.at.returns-clause-kept c).Else-live-gt0 in
+    let empty : k.0.live ≡ 0 = omega (arith, c.if-live-gt0.false, c.requires.live k.0 k.1) in
     let n : Books = record { slots = c.give.new.self; empty = b.empty; free = b.free - c.from.result; ranks = c.remove.new.self } in
-    kept-dropped b n (is_empty k.0.live) c.args.number k.2 g.slots g.size g.same c.requires.not_keeper k.0 k.1 empty (ap is_empty empty) g.block g.last g.total refl (ap (λ x. b.free - x) (c.from.ensures ∙ c.per_block.ensures.value ∙ ap per_block g.size))
-    (order-drop b.ranks c.remove.new.self b.slots.blocks c.give.new.self.blocks (per_block b.slots.size) (per_block c.give.new.self.size) c.args.number k.2.order c.remove.ensures.ranked (ap per_block g.size) g.same.keeper g.block.at c.remove.ensures.at)
+    kept-dropped b n (is_empty k.0.live) c.args.number k.2 g.slots g.size g.same c.requires.not_keeper k.0 k.1 empty (ap is_empty empty) g.block g.last g.total refl (ap (λ x. b.free - x) (c.from.ensures ∙ c.per_block.ensures.value ∙ ap per_block g.size)) c.remove.ensures.ranked c.remove.ensures.at
 
 pub returns-clause-blocks : goal.returns-clause-blocks
 returns-clause-blocks c = λ block found.
@@ -35,6 +25,3 @@ returns-clause-blocks c = λ block found.
     let none : block.live ≡ 0 = omega (arith, c.if-live-gt0.false, c.requires.live block found) in
     let gone = blocks-dropped l c.requires.kept.2.listed c.args.number c.requires.not_keeper c.give.new.self.blocks c.give.ensures.same c.give.ensures.block block found in
     gone ∙ grind (arith, none, c.if-self-lt-MOST_EMPTY.false)
-
-pub returns-clause-among : goal.returns-clause-among
-returns-clause-among c = among_drop c.args.self.now.slots.blocks c.give.new.self.blocks c.args.number c.give.ensures.block

@@ -1,4 +1,4 @@
-use Rattle.std.proofs.Common.{refl, ◌<◌, ◌+◌, ◌-◌, ap, ◌∙◌, arith}
+use Rattle.std.proofs.Common.{◌≡◌, refl, ◌<◌, ◌+◌, ◌-◌, ap, ◌∙◌, arith}
 use Rattle.ctx_blocks.specs.Layout.{block_at}
 use Rattle.slab_ctx.specs.Lives.{per_block}
 use Rattle.slab_ctx.specs.declared.books.Books.{Books}
@@ -6,7 +6,7 @@ use Rattle.addr_space.proofs.Options.{one_value}
 use Rattle.ctx_blocks.specs.Numbered.{number_of}
 use Rattle.ctx_blocks.proofs.Places.{number_put}
 use Rattle.ctx_blocks.proofs.Among.{among_put}
-use Rattle.slab_ctx.proofs.Ordered.{order-put, has-rank}
+use Rattle.slab_ctx.specs.Order.{rank_of}
 use Rattle.slab_ctx.proofs.Numbers.{per_block-few}
 use Rattle.slab_ctx.proofs.KeptSteps.{empty-least, free-least, kept-changed, blocks-counted}
 use Rattle.slab_ctx.proofs.books.Books.take.Goals as goal
@@ -20,9 +20,6 @@ overflow_add-live c = omega (arith, under (goal.at.overflow_add-live c).After-ow
 
 pub take-requires-clause-free : goal.take-requires-clause-free
 take-requires-clause-free c = under (goal.at.take-requires-clause-free c).After-owned-block
-
-pub put-requires-clause-room : goal.put-requires-clause-room
-put-requires-clause-room c = λ none. absurd (has-rank _ _ _ c.requires.kept.order c.args.number c.requires.not_keeper c.requires.block.0 c.requires.block.1 none)
 
 pub overflow_sub-self : goal.overflow_sub-self
 overflow_sub-self c = omega (arith, c.one_if_empty.ensures, empty-least c.args.self.now 0 c.args.number c.requires.kept c.requires.not_keeper c.owned-block.result c.owned-block.ensures)
@@ -39,12 +36,12 @@ returns-clause-kept c =
     let counts = c.take.ensures.block block found in
     let n : Books = record { slots = c.take.new.self; empty = b.empty - c.one_if_empty.result; free = b.free - 1; ranks = c.put.new.self } in
     let empty = empty-least b 0 c.args.number c.requires.kept c.requires.not_keeper block found in
+    let rank : c.rank.result ≡ rank_of (per_block b.slots.size) counts.block = c.rank.ensures ∙ rw (c.per_block.ensures.value, counts.count, counts.same_number block found) refl in
     let free = free-least b 0 c.args.number c.requires.kept c.requires.not_keeper block found in
     kept-changed b n 0 c.args.number c.requires.kept c.take.ensures.slots c.take.ensures.size c.take.ensures.same c.requires.not_keeper block found (block.live + 1) counts 0 c.take.ensures.last
     (grind (arith, empty, c.one_if_empty.ensures))
     (omega (arith, free, under (goal.at.returns-clause-kept c).After-owned-block))
-    (order-put b.ranks c.put.new.self b.slots.blocks c.take.new.self.blocks (per_block b.slots.size) (per_block c.take.new.self.size) c.args.number c.requires.kept.order c.put.ensures.ranked (ap per_block c.take.ensures.size) c.take.ensures.same.keeper counts.block c.rank.result c.requires.not_keeper counts.puts.at
-    (c.rank.ensures ∙ rw (c.per_block.ensures.value, counts.count, counts.same_number block found) refl) c.put.ensures.at)
+    c.put.ensures.ranked (rw rank at c.put.ensures.at)
 
 pub returns-clause-blocks : goal.returns-clause-blocks
 returns-clause-blocks c = λ block found.

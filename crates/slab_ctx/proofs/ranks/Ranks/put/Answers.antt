@@ -1,7 +1,7 @@
 use Rattle.std.proofs.Common.{◌≤◌, length, ap, refl, sym, ◌∙◌, arith}
 use Rattle.slab_ctx.specs.Ranks.{rank_at, entry_of}
 use Rattle.slab_ctx.specs.Tree.{leaf}
-use Rattle.slab_ctx.proofs.Placed.{entry-inserted, few-put, leaf-all, leaf-put, leaf-changed}
+use Rattle.slab_ctx.proofs.Placed.{entry-inserted, few-put, leaf-put, leaf-changed}
 use Rattle.slab_ctx.proofs.ranks.Ranks.put.Goals as goal
 
 pub returns-in-Some-clause-ranked : goal.returns-in-Some-clause-ranked
@@ -28,7 +28,7 @@ returns-clause-ranked c =
       few = omega (arith, few, c.set.ensures.places);
       leaf = λ p within.
           c.set.ensures.leaves p
-          ∙ leaf-put es fs place p (leaf r.tree p) (entry_of (c.args.key, c.args.rank)) (ranked.leaf p (omega (arith, within, c.set.ensures.places)) ∙ leaf-all r.current es p c.settle.ensures.none) (rw c.in-Ok.ensures.entries (entry-inserted es c.args.key c.args.rank place p c.in-Ok.ensures.index));
+          ∙ leaf-put es fs place p (leaf r.tree p) (entry_of (c.args.key, c.args.rank)) (rw c.settle.ensures.none at (ranked.leaf p (omega (arith, within, c.set.ensures.places)))) (rw c.in-Ok.ensures.entries (entry-inserted es c.args.key c.args.rank place p c.in-Ok.ensures.index));
       current = c.in-Ok.ensures.within;
       distinct = c.insert_full.ensures.unique;
     }

@@ -1,13 +1,10 @@
 use Rattle.std.proofs.Common.{◌+◌, ◌-◌, sym, ◌∙◌, refl, arith}
 use Rattle.ctx_blocks.specs.declared.parts.Block.{Block}
 use Rattle.ctx_blocks.specs.Layout.{header_room}
-use Rattle.slab_ctx.proofs.Numbers.{stride-least, stride-whole}
+use Rattle.slab_ctx.proofs.Numbers.{stride-whole}
 use Rattle.slab_ctx.proofs.Places.{gap-is}
 use Rattle.slab_ctx.proofs.Taken.{counted, IsSlotted-cut}
 use Rattle.slab_ctx.proofs.slots.Slots.cut.Goals as goal
-
-pub cut-requires-clause-fits : goal.cut-requires-clause-fits
-cut-requires-clause-fits c = omega (arith, c.stride-room.ensures.value, stride-least c.args.self.now.size)
 
 pub cut-requires-clause-whole : goal.cut-requires-clause-whole
 cut-requires-clause-whole c = omega (arith, c.stride-room.ensures.value, c.stride-room.ensures.least, stride-whole c.args.self.now.size)

@@ -1,9 +1,11 @@
-use Rattle.std.proofs.Common.{◌+◌, ◌-◌, refl, arith}
+use Rattle.std.proofs.Common.{◌<◌, length, ◌+◌, ◌-◌, refl, arith}
 use Rattle.ctx_blocks.specs.Layout.{block_at}
+use Rattle.slab_ctx.specs.Slots.{stack_at}
 use Rattle.slab_ctx.proofs.Places.{one-more}
 use Rattle.addr_space.proofs.Options.{one_value}
 use Rattle.slab_ctx.proofs.Taken.{counted, IsSlotted-removed}
 use Rattle.slab_ctx.proofs.slots.Slots.remove.Goals as goal
+use Rattle.slab_ctx.proofs.slots.Slots.remove.Goals.{After-remove-block}
 
 pub overflow_cast-at : goal.overflow_cast-at
 overflow_cast-at c =
@@ -12,19 +14,18 @@ overflow_cast-at c =
     let filled = c.requires.slots.filled c.args.at.region placed.block (c.requires.slots.owned c.args.at chunk c.requires.chunk.1) placed.owned in
     omega (arith, placed.last, filled.bytes)
 
-pub seek-self-requires : goal.seek-self-requires
-seek-self-requires c =
-    let has = c.requires.chunk.1 in
+-- the stack has room for one more offset
+room : (c : After-remove-block) → c.remove-block.result.freed < length (stack_at c.args.self.now.stacks.entries c.args.at.region)
+room c =
     let b = c.remove-block.result in
     let found = c.remove-block.ensures.was in
-    omega (arith, one-more _ _ _ c.requires.slots c.args.at.region (c.requires.slots.owned c.args.at c.requires.chunk.0 has) b found (c.laid.ensures.some c.args.at c.requires.chunk.0 b has found))
+    one-more _ _ _ c.requires.slots c.args.at.region (c.requires.slots.owned c.args.at c.requires.chunk.0 c.requires.chunk.1) b found (c.laid.ensures.some c.args.at c.requires.chunk.0 b c.requires.chunk.1 found)
+
+pub seek-self-requires : goal.seek-self-requires
+seek-self-requires c = omega (arith, room (goal.at.seek-self-requires c).After-remove-block)
 
 pub push-requires-clause-depth : goal.push-requires-clause-depth
-push-requires-clause-depth c =
-    let has = c.requires.chunk.1 in
-    let b = c.remove-block.result in
-    let found = c.remove-block.ensures.was in
-    one-more _ _ _ c.requires.slots c.args.at.region (c.requires.slots.owned c.args.at c.requires.chunk.0 has) b found (c.laid.ensures.some c.args.at c.requires.chunk.0 b has found)
+push-requires-clause-depth c = room (goal.at.push-requires-clause-depth c).After-remove-block
 
 pub returns-clause-slots : goal.returns-clause-slots
 returns-clause-slots c =

@@ -1,6 +1,6 @@
 use Rattle.std.proofs.Common.{◌∙◌, refl}
 use Rattle.slab_ctx.specs.Slots.{first_region}
-use Rattle.slab_ctx.proofs.Slotted.{IsSlotted-none}
+use Rattle.slab_ctx.proofs.Slotted.{IsSlotted_none}
 use Rattle.slab_ctx.proofs.slots.Slots.reset.Goals as goal
 
 pub returns-clause-blocks : goal.returns-clause-blocks
@@ -10,5 +10,5 @@ pub returns-clause-slots : goal.returns-clause-slots
 returns-clause-slots c =
     let slotted = c.requires.slots in
     let same = c.reset.ensures.same in
-    IsSlotted-none c.reset.new.self c.args.self.now.size c.clear.new.self.entries (same.kind ∙ slotted.kind) (same.first_number ∙ slotted.first) slotted.least slotted.most
+    IsSlotted_none c.reset.new.self c.args.self.now.size c.clear.new.self.entries (same.kind ∙ slotted.kind) (same.first_number ∙ slotted.first) slotted.least slotted.most
     (rw same.keeper (c.reset.ensures.blocks first_region slotted.keeper ∙ rw slotted.first refl)) c.reset.ensures.chunks

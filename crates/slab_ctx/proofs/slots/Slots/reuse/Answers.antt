@@ -2,8 +2,7 @@ use Rattle.std.proofs.Common.{◌+◌, ◌-◌, ap, ◌∙◌, refl, arith}
 use Rattle.addr_space.specs.declared.Addr.{Addr}
 use Rattle.ctx_blocks.specs.declared.parts.Block.{Block}
 use Rattle.slab_ctx.specs.Slots.{IsFree}
-use Rattle.slab_ctx.proofs.Numbers.{stride-least}
-use Rattle.slab_ctx.proofs.Places.{gap-is, start-is, slot-least, slot-whole, last-free, depth-few, clear-of}
+use Rattle.slab_ctx.proofs.Places.{gap-is, start-is, slot-least, slot-whole, depth-few, clear-of}
 use Rattle.slab_ctx.proofs.Taken.{counted, IsSlotted-placed}
 use Rattle.slab_ctx.proofs.slots.Slots.reuse.Goals as goal
 
@@ -15,7 +14,7 @@ offset_at-requires-clause-depth c = depth-few _ _ _ c.requires.slots c.args.numb
 
 free_at : (c : goal.After-place-arg-2-1) → IsFree c.args.self.now.blocks c.args.self.now.size c.args.number c.requires.block.0 c.from.result
 free_at c =
-    rw (c.from.ensures ∙ c.offset_at.ensures) (last-free _ _ _ c.requires.slots c.args.number c.requires.not_keeper c.requires.block.0 c.requires.block.1 c.args.depth c.requires.block.2)
+    rw (c.from.ensures ∙ c.offset_at.ensures) ((c.requires.slots.filled c.args.number c.requires.block.0 c.requires.not_keeper c.requires.block.1).free c.args.depth (omega (arith, c.requires.block.2)))
 
 pub place-requires-clause-block : goal.place-requires-clause-block
 place-requires-clause-block c =
@@ -28,9 +27,6 @@ place-requires-clause-first c =
 
 pub place-requires-clause-whole : goal.place-requires-clause-whole
 place-requires-clause-whole c = slot-whole c.args.self.now.size c.from.result (free_at c).slot
-
-pub place-requires-clause-fits : goal.place-requires-clause-fits
-place-requires-clause-fits c = omega (arith, c.stride-room.ensures.value, stride-least c.args.self.now.size)
 
 pub place-requires-clause-clear : goal.place-requires-clause-clear
 place-requires-clause-clear c =

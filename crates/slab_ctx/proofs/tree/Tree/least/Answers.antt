@@ -1,12 +1,7 @@
 use Rattle.std.proofs.Common.{◌≤◌, None, arith}
 use Rattle.std.proofs.lemmas.List.{get_or_read}
-use Rattle.slab_ctx.proofs.Trees.{first-leads, first-there}
+use Rattle.slab_ctx.proofs.Trees.{first-there}
 use Rattle.slab_ctx.proofs.tree.Tree.least.Goals as goal
-
-pub returns-clause-least : goal.returns-clause-least
-returns-clause-least c = λ p within.
-    let t = c.args.self.now in
-    rw (get_or_read t.nodes.items 1 c.index.result.now (omega (arith, c.requires.tree.long, within)) c.index.ensures None) (first-leads t c.requires.tree p within)
 
 pub returns-clause-there : goal.returns-clause-there
 returns-clause-there c =
