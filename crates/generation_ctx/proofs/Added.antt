@@ -10,9 +10,7 @@ use Rattle.generation_ctx.specs.Ledger.{no_block, added}
 use Rattle.generation_ctx.specs.State.{number_of}
 use Rattle.generation_ctx.specs.Kept.{ledger_of, AreNumbered, IsKept}
 use Rattle.generation_ctx.specs.declared.books.Books.{Books}
-use Rattle.generation_ctx.proofs.Alone.{apart_none}
-use Rattle.generation_ctx.proofs.Kepts.{idle_of, spare_none}
-use Rattle.generation_ctx.proofs.Kept.{kept_put, were_still}
+use Rattle.generation_ctx.proofs.Kept.{spare_live, kept_put, were_still}
 use Rattle.generation_ctx.proofs.Numbers.{numbered_by, spare_numbers}
 
 module _ (b : Books) (m : Layout) (number : ℕ) (new : Block) (kept : IsKept b) (same : SameContext b.blocks m) (fresh : block_at b.blocks number ≡ None) (puts : PutsBlock b.blocks m number new) (next : new.number ≡ b.blocks.last_number + 1) (last : m.last_number ≡ b.blocks.last_number + 1) where
@@ -28,10 +26,10 @@ module _ (b : Books) (m : Layout) (number : ℕ) (new : Block) (kept : IsKept b)
   ledger_add =
       let values = ap values_of puts.blocks ∙ add_by_number number new b.blocks.blocks fresh in
       let current = number_add b.current kept.current.block kept.current.is in
-      let spare = spare_numbers b.blocks m b.spare (λ r e. (let a = idle_of b.blocks b.current b.spare kept.spare r e in number_add r a.block a.is)) in
+      let spare = spare_numbers b.blocks m b.current b.spare kept.spare (λ r block is e. number_add r block is) in
       cc
 
   pub kept_add : m.chunks ≡ b.blocks.chunks → IsKept (record b { blocks = m })
   kept_add chunks =
-      kept_put b m number new kept same puts (λ old is. (let none = fresh in absurd (cc))) numbered_add (spare_none b.blocks b.current b.spare number fresh kept.spare)
-      (were_still b.blocks m b.current number chunks kept.alone (λ at x a. apart_none b.blocks b.current at x a number fresh))
+      kept_put b m number new kept same puts (λ old is. (let none = fresh in absurd (cc))) numbered_add (spare_live b.blocks b.current b.spare number (λ block is. absurd (cc)) kept.spare)
+      (were_still b.blocks m b.current number chunks kept.alone (λ block is. absurd (cc)))

@@ -1,4 +1,4 @@
--- The whole of what the code keeps, from step to step.
+-- What the code keeps, from step to step.
 use Rattle.std.proofs.Common.{◌≡◌, ◌≢◌, ℕ, ◌<◌, ◌==◌, Option, Some, None, true, false, if◌then◌else◌, refl, ◌∙◌, sym, subst, arith, ◌⊎◌, inl, inr}
 use Rattle.std.proofs.lemmas.Bool.{cases_eq}
 use Rattle.addr_space.specs.declared.Addr.{Addr}
@@ -11,10 +11,27 @@ use Rattle.chunk_header.specs.Growth.{AreSizes}
 use Rattle.ctx_blocks.specs.Kept.{HasSize}
 use Rattle.generation_ctx.specs.Kept.{AreNumbered, IsSpare, IsIdle, IsAlone, AllAlone, IsKept}
 use Rattle.generation_ctx.specs.declared.books.Books.{Books}
-use Rattle.generation_ctx.proofs.Alone.{apart_room}
 use Rattle.ctx_blocks.proofs.Changed.{put_other, size_put, drop_other, size_drop}
 use Rattle.ctx_blocks.proofs.Put.{chunk_was}
-use Rattle.generation_ctx.proofs.Kepts.{spare_still, apart_spare}
+
+-- the spare stays where its block does
+pub spare_still : (l m : Layout) (current : ℕ) (spare : Option ℕ) → m.keeper ≡ l.keeper → ((other : ℕ) → spare ≡ Some other → block_at m other ≡ block_at l other) → IsSpare l current spare → IsSpare m current spare
+spare_still l m current None keeper still idle = idle
+spare_still l m current (Some other) keeper still idle = record { block = idle.block; is = still other refl ∙ idle.is; live = idle.live; not_keeper = rw keeper idle.not_keeper; not_current = idle.not_current }
+
+pub apart_spare : (spare : Option ℕ) (number : ℕ) → is_spare spare number ≡ false → (other : ℕ) → spare ≡ Some other → number ≢ other
+apart_spare None number free other is = absurd (cc)
+apart_spare (Some region) number free other is = λ e. (let it : region ≡ other = cc in grind (arith, free))
+
+-- which blocks aren't the spare: the current one
+pub spare_current : (l : Layout) (current : ℕ) (spare : Option ℕ) → IsSpare l current spare → is_spare spare current ≡ false
+spare_current l current None idle = refl
+spare_current l current (Some other) idle = grind (arith, idle.not_current)
+
+-- one that isn't there, or has a live chunk
+pub spare_live : (l : Layout) (current : ℕ) (spare : Option ℕ) (number : ℕ) → ((block : Block) → block_at l number ≡ Some block → block.live ≢ 0) → IsSpare l current spare → is_spare spare number ≡ false
+spare_live l current None number some idle = refl
+spare_live l current (Some other) number some idle = let apart : other ≢ number = λ e. some idle.block (rw e at idle.is) idle.live in grind arith
 
 -- a chunk is still alone in its block, where that stays
 pub alone_still : (l m : Layout) (current : ℕ) (at : Addr) (was now : Chunk) → m.keeper ≡ l.keeper → block_at m at.region ≡ block_at l at.region → was.room ≡ now.room → IsAlone l current at was → IsAlone m current at now
@@ -51,9 +68,12 @@ kept_drop b m number kept same drops not_keeper not_current numbered free were =
     (spare_still b.blocks m b.current b.spare same.keeper (λ other is. drop_other b.blocks m number drops other (apart_spare b.spare number free other is)) kept.spare)
     (λ at chunk is own. (let w = were at chunk is own in alone_still b.blocks m b.current at chunk chunk same.keeper (drop_other b.blocks m number drops at.region (λ e. w.1 (sym e))) refl (kept.alone at chunk w.0 own)))
 
--- the chunks stay, and none has this block for itself
-pub were_still : (l m : Layout) (current number : ℕ) → m.chunks ≡ l.chunks → AllAlone l current → ((at : Addr) (chunk : Chunk) → IsAlone l current at chunk → at.region ≢ number) → AllWere l m number
-were_still l m current number same alone apart at chunk is own = let was = rw same at is in (was, apart at chunk (alone at chunk was own))
+-- the chunks stay, and none has this block for itself, which isn't there or hasn't one live chunk
+pub were_still : (l m : Layout) (current number : ℕ) → m.chunks ≡ l.chunks → AllAlone l current → ((block : Block) → block_at l number ≡ Some block → block.live ≢ 1) → AllWere l m number
+were_still l m current number same alone some at chunk is own =
+    let was = rw same at is in
+    let a = alone at chunk was own in
+    (was, λ e. some a.block (subst (λ r. block_at l r ≡ Some a.block) e a.is) a.live)
 
 -- one chunk of a shared block is put
 pub were_put : (l m : Layout) (number : ℕ) (to : Addr) (new : Chunk) → PutsChunk l m to (Some new) → new.own ≡ false → ((at : Addr) (chunk : Chunk) → chunk_at l at ≡ Some chunk → chunk.own ≡ true → at.region ≢ number) → AllWere l m number
@@ -86,5 +106,5 @@ kept_seated b number block kept is some = record {
   bytes = block.size;
   current = record { block = block; is = is; size = refl };
   spare = seated_spare b.blocks b.current number b.spare kept.spare;
-  alone = λ at chunk here own. (let a = kept.alone at chunk here own in record { block = a.block; is = a.is; live = a.live; room = a.room; whole = a.whole; not_keeper = a.not_keeper; not_current = apart_room b.blocks b.current at chunk a number block is some });
+  alone = λ at chunk here own. (let a = kept.alone at chunk here own in record { block = a.block; is = a.is; live = a.live; room = a.room; whole = a.whole; not_keeper = a.not_keeper; not_current = λ e. (let it = subst (λ r. block_at b.blocks r ≡ Some a.block) e a.is in grind (arith, a.room)) });
 }

@@ -1,6 +1,4 @@
 pub mod Numbers
-pub mod Kepts
-pub mod Alone
 pub mod Steps
 pub mod Ledgers
 pub mod Kept

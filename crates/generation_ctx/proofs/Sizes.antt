@@ -7,8 +7,7 @@ use Rattle.ctx_blocks.specs.declared.parts.Chunk.{Chunk}
 use Rattle.generation_ctx.specs.Kept.{AreNumbered, IsKept}
 use Rattle.generation_ctx.specs.declared.books.Books.{Books}
 use Rattle.ctx_blocks.proofs.Put.{chunk_was}
-use Rattle.generation_ctx.proofs.Kept.{alone_still, kept_by}
-use Rattle.generation_ctx.proofs.Kepts.{spare_still}
+use Rattle.generation_ctx.proofs.Kept.{spare_still, alone_still, kept_by}
 
 module _ (b : Books) (m : Layout) (at : Addr) (old new : Chunk) (kept : IsKept b) (same : SameContext b.blocks m) (last : m.last_number ≡ b.blocks.last_number) (blocks : m.blocks ≡ b.blocks.blocks) (there : chunk_at b.blocks at ≡ Some old) (puts : PutsChunk b.blocks m at (Some new)) (own : new.own ≡ old.own) (room : new.room ≡ old.room) where
   numbered_same : AreNumbered m

@@ -9,7 +9,7 @@ use Rattle.ctx_blocks.proofs.Among.{among_adding, among_put, numbers_stay}
 use Rattle.generation_ctx.specs.Ledger.{owned, put, take_own}
 use Rattle.generation_ctx.specs.State.{number_of}
 use Rattle.generation_ctx.specs.Kept.{ledger_of}
-use Rattle.generation_ctx.proofs.Kepts.{spare_none}
+use Rattle.generation_ctx.proofs.Kept.{spare_live}
 use Rattle.generation_ctx.proofs.Owned.{kept_own}
 use Rattle.generation_ctx.proofs.Added.{numbered_add, kept_add, ledger_add}
 use Rattle.generation_ctx.proofs.Numbers.{numbered_put, ledger_put}
@@ -43,7 +43,7 @@ returns-clause-ok c =
       answer = owned (ledger_of b) room;
       is = grind (arith, e.fits);
       does = record {
-        kept = kept_own (record b { blocks = m }) n _ _ _ _ _ (kept_add b m _ _ kept e.same e.fresh e.block refl e.last e.chunks) here refl q.same again q.chunk q.region refl none refl refl (numbered_put _ _ _ _ _ here again refl numbered q.same q.last) not_keeper not_current (spare_none l _ b.spare number e.fresh kept.spare);
+        kept = kept_own (record b { blocks = m }) n _ _ _ _ _ (kept_add b m _ _ kept e.same e.fresh e.block refl e.last e.chunks) here refl q.same again q.chunk q.region refl none refl refl (numbered_put _ _ _ _ _ here again refl numbered q.same q.last) not_keeper not_current (spare_live l _ b.spare number (λ block is. (let no = e.fresh in absurd (cc))) kept.spare);
         ledger = ledger_put (record b { blocks = m }) n _ _ _ here again refl numbered q.last ∙ ap (λ x. put x last) (ledger_add b m _ _ kept e.same e.fresh e.block refl e.last) ∙ rw (put_behind 1 l.last_number l.blocks first last (omega arith) refl kept.numbered.rising, none) refl;
         fresh = rw (← e.chunks) q.fresh;
         chunk = rw (← e.chunks) q.chunk;
