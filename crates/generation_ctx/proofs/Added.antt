@@ -18,7 +18,7 @@ module _ (b : Books) (m : Layout) (number : ℕ) (new : Block) (kept : IsKept b)
   number_add : (r : ℕ) (block : Block) → block_at b.blocks r ≡ Some block → number_of m r ≡ number_of b.blocks r
   number_add r block is = ap (λ (o : Option Block). (unwrap_or o no_block).number) (put_other b.blocks m number new puts r (λ e. (let none = rw e at fresh in cc)))
 
-  pub numbered_add : AreNumbered m
+  numbered_add : AreNumbered m
   numbered_add =
       numbered_by b.blocks m kept.numbered same (omega (arith, last)) (rw (last, puts.blocks) (rising_add 1 b.blocks.last_number number new b.blocks.blocks fresh (omega arith) next kept.numbered.rising)) (number_add b.blocks.keeper kept.keeper.block kept.keeper.is)
 

@@ -345,6 +345,7 @@ impl Books {
     }
 
     // Serves a request of a size that isn't too big.
+    #[tactic(auto, unfolding(crate::specs::Ledger::take))]
     fn take(&mut self, space: &mut Space, size: u32) -> Result<Addr, CtxError>
         requires kept { IsKept self.old }
         requires agrees { Agrees (footprint self.old.blocks) space.old }

@@ -7,13 +7,6 @@ use Rattle.bump_ctx.specs.Kept.{ledger_of}
 use Rattle.bump_ctx.proofs.Allocated.{allocates_more}
 use Rattle.bump_ctx.proofs.books.Books.take_cut.Goals as goal
 
-pub returns-then-room-clause-ok : goal.returns-then-room-clause-ok
-unfolding take_cut
-returns-then-room-clause-ok c =
-    let b = c.args.self.now in
-    let step : take_cut (ledger_of b) (c.args.space.now.limit - held c.args.space.now b.blocks.account) c.granted-room.result ≡ Ok (served (cut_off (ledger_of b) c.granted-room.result) 0) = grind (arith, c.room.ensures, c.if-room.true) in
-    rw (← c.granted-room.ensures.value) (rw step c.cut.ensures)
-
 pub returns-clause-ok : goal.returns-clause-ok
 unfolding take_cut take_new
 returns-clause-ok c =
