@@ -172,6 +172,7 @@ impl Books {
     }
 
     // Takes a block for one chunk.
+    #[tactic(auto, unfolding(crate::specs::Ledger::take_own))]
     fn take_own(&mut self, space: &mut Space, size: u32) -> Result<Addr, CtxError>
         requires kept { IsKept self.old }
         requires agrees { Agrees (footprint self.old.blocks) space.old }

@@ -54,10 +54,3 @@ returns-clause-ok c =
         keeps = Keeps-more (footprint l) (footprint m) (footprint n) s c.add.new.space c.cut.new.space (stays_live l m e.chunks) c.add.ensures.keeps q.keeps;
       };
     })
-
-pub returns-in_err-number-clause-no_space : goal.returns-in_err-number-clause-no_space
-unfolding take_own
-returns-in_err-number-clause-no_space c = λ e.
-    (let is : c.in_err-number.field-0.0 ≡ NoSpace = let p = err_from_is_err_and c.from_residual.result c.from_residual.ensures.1 in cc in
-    let over = c.in_err-number.ensures.no_space (ap Err is) in
-    rw (← c.granted-room.ensures.value) (grind arith))
