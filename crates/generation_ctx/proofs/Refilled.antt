@@ -7,6 +7,7 @@ use Rattle.addr_space.specs.Footprint.{Agrees, Moves, Keeps}
 use Rattle.ctx_blocks.specs.Steps.{PutsBlock, DropsBlock, SameContext, MovesStill}
 use Rattle.generation_ctx.specs.Steps.{Rearranges}
 use Rattle.ctx_blocks.specs.declared.parts.Block.{Block}
+use Rattle.ctx_blocks.proofs.Changed.{drop_other, size_drop}
 use Rattle.ctx_blocks.proofs.Numbered.{put_twice, put_away, put_found}
 use Rattle.generation_ctx.specs.Ledger.{GenerationLedger, block_in, no_block, is_spare, put, filled, given, emptied, emptied_other, lessened, freed_shared}
 use Rattle.generation_ctx.specs.State.{number_of}
@@ -15,7 +16,7 @@ use Rattle.generation_ctx.specs.declared.books.Books.{Books}
 use Rattle.addr_space.proofs.Options.{one_value}
 use Rattle.ctx_blocks.proofs.Places.{number_is}
 use Rattle.generation_ctx.proofs.Numbers.{block_is, numbered_put, numbered_drop, ledger_put, ledger_drop, same_test, keeper_test}
-use Rattle.generation_ctx.proofs.Kept.{apart_spare, kept_put, kept_drop, were_still}
+use Rattle.generation_ctx.proofs.Kept.{apart_spare, kept_but, kept_put, were_still}
 
 abbrev pub refilled : Layout → ℕ → Block → Block
 refilled l region old = whole_block old.number (start_in l region) old.size
@@ -48,7 +49,7 @@ emptied_is b region old kept is = rw (keeper_test b.blocks region kept.keeper.bl
 pub rearranges_drop : (b : Books) (m : Layout) (region : ℕ) (old : Block) (s t : Space) (ledger : GenerationLedger) → IsKept b → block_at b.blocks region ≡ Some old → old.live ≡ 0 → region ≢ b.blocks.keeper → region ≢ b.current → is_spare b.spare region ≡ false → SameContext b.blocks m → m.last_number ≡ b.blocks.last_number → DropsBlock b.blocks m region → m.chunks ≡ b.blocks.chunks → Moves (footprint b.blocks) (footprint m) s t → Keeps (footprint b.blocks) (footprint m) s t
     → given (ledger_of b) (number_of b.blocks region) ≡ ledger → Rearranges b (record b { blocks = m }) s t ledger
 rearranges_drop b m region old s t ledger kept is none not_keeper not_current free same last drops chunks moves keeps step = record {
-  kept = kept_drop b m region kept same drops not_keeper not_current (numbered_drop _ _ _ _ is drops not_keeper kept.numbered same last) free (were_still b.blocks m b.current _ chunks kept.alone (λ other there. grind arith));
+  kept = kept_but b m region kept same (drop_other b.blocks m region drops) (λ k bytes which. size_drop b.blocks m region drops k bytes (grind (arith, which))) (numbered_drop _ _ _ _ is drops not_keeper kept.numbered same last) free (were_still b.blocks m b.current _ chunks kept.alone (λ other there. grind arith));
   ledger_is = ledger_drop b m region old is drops not_current (apart_spare b.spare region free) kept last ∙ step;
   chunks = chunks;
   account = same.account;

@@ -7,8 +7,7 @@ use Rattle.generation_ctx.specs.State.{footprint, place_in}
 use Rattle.generation_ctx.specs.Kept.{state_of}
 use Rattle.ctx_blocks.specs.Layout.{chunk_at, footprint as blocks_footprint}
 use Rattle.ctx_blocks.proofs.Changed.{fresh_put}
-use Rattle.generation_ctx.proofs.Places.{chunk_kept, places, places_move}
-use Rattle.generation_ctx.proofs.Resizes.{moves_map}
+use Rattle.generation_ctx.proofs.Places.{chunk_kept, places, places_move, moves_map}
 use Rattle.generation_ctx.proofs.GenerationCtx.realloc.Goals as goal
 
 pub realloc-requires-clause-chunk : goal.realloc-requires-clause-chunk

@@ -1,4 +1,4 @@
-use Rattle.std.proofs.Common.{◌∙◌, ℕ, None, Some, refl, ap, sym, arith}
+use Rattle.std.proofs.Common.{◌∙◌, ℕ, None, Some, refl, ap, arith}
 use Rattle.ctx_blocks.proofs.Changed.{put_here}
 use Rattle.ctx_blocks.proofs.Among.{among_put}
 use Rattle.ctx_blocks.proofs.Places.{number_put}

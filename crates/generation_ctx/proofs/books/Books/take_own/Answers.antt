@@ -1,7 +1,5 @@
-use Rattle.std.proofs.Common.{◌≡◌, ◌≢◌, ◌+◌, ◌-◌, Err, Some, refl, ap, ◌∙◌, arith}
-use Rattle.std.proofs.lemmas.Result.{err_from_is_err_and}
+use Rattle.std.proofs.Common.{◌≡◌, ◌≢◌, ◌+◌, ◌-◌, Some, refl, ap, ◌∙◌, arith}
 use Rattle.addr_space.proofs.Steps.{Moves-more, Keeps-more}
-use Rattle.chunk_header.specs.declared.CtxError.TheVariants.{NoSpace}
 use Rattle.ctx_blocks.specs.Layout.{block_at, header_room, gap_of, footprint}
 use Rattle.ctx_blocks.specs.declared.parts.Block.{Block}
 use Rattle.ctx_blocks.proofs.Changed.{put_here, stays_live}
@@ -9,9 +7,7 @@ use Rattle.ctx_blocks.proofs.Among.{among_adding, among_put, numbers_stay}
 use Rattle.generation_ctx.specs.Ledger.{owned, put, take_own}
 use Rattle.generation_ctx.specs.State.{number_of}
 use Rattle.generation_ctx.specs.Kept.{ledger_of}
-use Rattle.generation_ctx.proofs.Kept.{spare_live}
-use Rattle.generation_ctx.proofs.Owned.{kept_own}
-use Rattle.generation_ctx.proofs.Added.{kept_add, ledger_add}
+use Rattle.generation_ctx.proofs.Kept.{spare_live, kept_own, kept_add, ledger_add}
 use Rattle.generation_ctx.proofs.Numbers.{numbered_put, ledger_put}
 use Rattle.ctx_blocks.proofs.Numbered.{put_behind}
 use Rattle.ctx_blocks.proofs.Places.{number_is, number_put}
