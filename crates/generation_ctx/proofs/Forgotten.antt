@@ -1,5 +1,5 @@
 -- A chunk is forgotten.
-use Rattle.std.proofs.Common.{◌≡◌, ◌+◌, ◌-◌, ◌≤◌, Some, None, refl, arith, ap, sym, ◌∙◌, subst}
+use Rattle.std.proofs.Common.{◌≡◌, ℕ, ◌+◌, ◌-◌, ◌≤◌, ◌==◌, if◌then◌else◌, Some, None, refl, arith, ap, sym, ◌∙◌, subst}
 use Rattle.addr_space.specs.declared.Addr.{Addr}
 use Rattle.addr_space.specs.Space.{Space}
 use Rattle.addr_space.specs.Footprint.{Agrees}
@@ -7,10 +7,10 @@ use Rattle.ctx_blocks.specs.Layout.{Layout, block_at, chunk_at, footprint}
 use Rattle.ctx_blocks.specs.Steps.{PutsBlock, PutsChunk, SameContext, MovesStill}
 use Rattle.ctx_blocks.specs.declared.parts.Block.{Block}
 use Rattle.ctx_blocks.specs.declared.parts.Chunk.{Chunk}
-use Rattle.generation_ctx.specs.Ledger.{GenerationLedger, put, given, lessened}
+use Rattle.generation_ctx.specs.Ledger.{GenerationLedger, put, given, emptied, lessened, freed_shared}
 use Rattle.generation_ctx.specs.State.{number_of}
 use Rattle.generation_ctx.specs.Kept.{ledger_of, IsKept}
-use Rattle.generation_ctx.specs.Steps.{Frees}
+use Rattle.generation_ctx.specs.Steps.{Frees, Lessens}
 use Rattle.generation_ctx.specs.declared.books.Books.{Books}
 use Rattle.addr_space.proofs.Options.{one_value}
 use Rattle.ctx_blocks.proofs.Among.{among_put}
@@ -18,7 +18,7 @@ use Rattle.ctx_blocks.proofs.Changed.{put_here}
 use Rattle.ctx_blocks.proofs.Places.{number_is, number_put}
 use Rattle.generation_ctx.proofs.Kept.{AllWere, spare_live, kept_put}
 use Rattle.generation_ctx.proofs.Numbers.{found_number, block_is, numbered_put, ledger_put}
-use Rattle.generation_ctx.proofs.Refilled.{given_less}
+use Rattle.generation_ctx.proofs.Refilled.{given_less, emptied_less}
 
 abbrev pub less_one : Block → Block
 less_one old = record old { live = old.live - 1; freed = old.freed + 1 }
@@ -56,3 +56,12 @@ module _ (b : Books) (m : Layout) (at : Addr) (old : Block) (kept : IsKept b) (o
       moves = moves s agrees;
       keeps = λ at p r k live again below short. refl;
     }
+
+-- the ledger's step for a chunk of a shared block, by whether it was the last one
+pub freed_is : (b n : Books) (region : ℕ) → IsKept b → (less : Lessens b n region) → ledger_of n ≡ lessened (ledger_of b) (number_of b.blocks region)
+    → freed_shared (ledger_of b) (number_of b.blocks region) ≡ (if less.block.live == 1 then emptied (ledger_of n) (number_of n.blocks region) else ledger_of n)
+unfolding freed_shared
+freed_is b n region kept less ledger =
+    let number = number_is b.blocks region less.block less.was in
+    let found = found_number b region less.block kept.numbered less.was in
+    rw (block_is b region less.block kept.numbered less.was, ledger, number_is n.blocks region _ less.is, number, emptied_less (ledger_of b) less.block found) refl

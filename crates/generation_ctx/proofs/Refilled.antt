@@ -9,7 +9,7 @@ use Rattle.generation_ctx.specs.Steps.{Rearranges}
 use Rattle.ctx_blocks.specs.declared.parts.Block.{Block}
 use Rattle.ctx_blocks.proofs.Changed.{drop_other, size_drop}
 use Rattle.ctx_blocks.proofs.Numbered.{put_twice, put_away, put_found}
-use Rattle.generation_ctx.specs.Ledger.{GenerationLedger, block_in, no_block, is_spare, put, filled, given, emptied, emptied_other, lessened, freed_shared}
+use Rattle.generation_ctx.specs.Ledger.{GenerationLedger, block_in, no_block, is_spare, put, filled, given, emptied, emptied_other, lessened}
 use Rattle.generation_ctx.specs.State.{number_of}
 use Rattle.generation_ctx.specs.Kept.{ledger_of, IsKept}
 use Rattle.generation_ctx.specs.declared.books.Books.{Books}
@@ -88,11 +88,3 @@ module _ (l : GenerationLedger) (block : Block) (is : find (λ b. b.number == bl
   pub emptied_less : emptied (lessened l block.number) block.number ≡ emptied l block.number
   unfolding emptied lessened
   emptied_less = rw (filled_less, other_less l.spare) refl
-
-  pub freed-last : block.live ≡ 1 → freed_shared l block.number ≡ emptied l block.number
-  unfolding freed_shared
-  freed-last last = grind (arith, here)
-
-  pub freed-more : block.live ≢ 1 → freed_shared l block.number ≡ lessened l block.number
-  unfolding freed_shared
-  freed-more more = grind (arith, here)
