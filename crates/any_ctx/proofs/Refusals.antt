@@ -14,8 +14,7 @@ use Rattle.generation_ctx.specs.Ledger as generation
 use Rattle.generation_ctx.specs.State as generation_state
 use Rattle.bump_ctx.specs.Ledger as bump
 use Rattle.bump_ctx.specs.State as bump_state
-use Rattle.chunk_header.specs.Answers.{Taken, Resized}
-use Rattle.any_ctx.specs.Ledgers.{Ledger, Place, InSet, InSlab, InGeneration, InBump, taken_as, resized_as}
+use Rattle.any_ctx.specs.Ledgers.{InSet, InSlab, InGeneration, InBump}
 use Rattle.any_ctx.specs.Contexts.{place_at}
 use Rattle.any_ctx.specs.Calls.{take_in, resize_in}
 use Rattle.any_ctx.specs.declared.any.AnyCtx.{AnyCtx}
@@ -65,12 +64,3 @@ pub refuses_resize : {A : Type 0} (P : CtxError → Type 0) (r : Result A CtxErr
 refuses_resize P (Ok a) big other refused = refused
 refuses_resize P (Err e) big other (inl is) = inr (rw is (big (ap Err is)))
 refuses_resize P (Err e) big other (inr is) = inr (rw is (other (ap Err is)))
-
--- a refusal of a ledger of any kind is that of its kind
-pub taken_err : {L P : Type 0} (ledger : L → Ledger) (place : P → Place) (r : Result (Taken L P) CtxError) (e : CtxError) → taken_as ledger place r ≡ Err e → r ≡ Err e
-taken_err ledger place (Ok t) e is = absurd (cc)
-taken_err ledger place (Err f) e is = cc
-
-pub resized_err : {L P : Type 0} (ledger : L → Ledger) (place : P → Place) (r : Result (Resized L P) CtxError) (e : CtxError) → resized_as ledger place r ≡ Err e → r ≡ Err e
-resized_err ledger place (Ok t) e is = absurd (cc)
-resized_err ledger place (Err f) e is = cc

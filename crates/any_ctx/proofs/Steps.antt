@@ -2,7 +2,7 @@
 use Rattle.std.proofs.Common.{◌≡◌, ◌↔◌, ℕ, Bool, true, false, if◌then◌else◌, IsTrue, Option, Some, None, IfSome, option_map, Result, Ok, refl, ap, ◌∙◌}
 use Rattle.addr_space.specs.declared.Addr.{Addr}
 use Rattle.addr_space.specs.Space.{Space, Asks}
-use Rattle.addr_space.specs.Live.{same_addr, PutsAt, MovesAt}
+use Rattle.addr_space.specs.Live.{PutsAt, MovesAt}
 use Rattle.chunk_header.specs.declared.CtxError.{CtxError}
 use Rattle.chunk_header.specs.Answers.{Taken, Resized}
 use Rattle.any_ctx.specs.Ledgers.{Ledger, Place, taken_as, resized_as}

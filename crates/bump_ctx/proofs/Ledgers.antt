@@ -53,13 +53,3 @@ ledger_own b m n number first last kept puts again fresh size room more =
     let idle : rooms n - room_at n b.newest ≡ rooms l - room_at l b.newest = omega (arith, same, added, cut, room) in
     let count : length n.blocks ≡ length l.blocks + 1 = length-same m n number last again first here ∙ length-more l m number first puts fresh in
     cc
-
-module _ (l : BumpLedger) (left : ℕ) where
-  -- a request, by its size
-  pub take-own : (size : ℕ) → size ≤ 1073741823 → 524288 < size → take l left size ≡ take_own l left (granted size + 40)
-  unfolding take
-  take-own size most large = grind (arith, most, large)
-
-  pub take-cut : (size : ℕ) → size ≤ 524288 → take l left size ≡ take_cut l left (granted size)
-  unfolding take
-  take-cut size small = grind (arith, small)

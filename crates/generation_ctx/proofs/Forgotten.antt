@@ -1,35 +1,67 @@
 -- A chunk is forgotten.
-use Rattle.std.proofs.Common.{◌≡◌, ◌+◌, ◌-◌, ◌≤◌, Some, None, refl, arith, ap, subst}
+use Rattle.std.proofs.Common.{◌≡◌, ℕ, ◌+◌, ◌-◌, ◌≤◌, ◌==◌, if◌then◌else◌, Some, None, refl, arith, ap, sym, ◌∙◌, subst}
 use Rattle.addr_space.specs.declared.Addr.{Addr}
-use Rattle.ctx_blocks.specs.Layout.{Layout, block_at, chunk_at}
-use Rattle.ctx_blocks.specs.Steps.{PutsBlock, PutsChunk, SameContext}
+use Rattle.addr_space.specs.Space.{Space}
+use Rattle.addr_space.specs.Footprint.{Agrees}
+use Rattle.ctx_blocks.specs.Layout.{Layout, block_at, chunk_at, footprint}
+use Rattle.ctx_blocks.specs.Steps.{PutsBlock, PutsChunk, SameContext, MovesStill}
 use Rattle.ctx_blocks.specs.declared.parts.Block.{Block}
 use Rattle.ctx_blocks.specs.declared.parts.Chunk.{Chunk}
-use Rattle.generation_ctx.specs.Kept.{IsKept}
+use Rattle.generation_ctx.specs.Ledger.{GenerationLedger, put, given, emptied, lessened, freed_shared}
+use Rattle.generation_ctx.specs.State.{number_of}
+use Rattle.generation_ctx.specs.Kept.{ledger_of, IsKept}
+use Rattle.generation_ctx.specs.Steps.{Frees, Lessens}
 use Rattle.generation_ctx.specs.declared.books.Books.{Books}
 use Rattle.addr_space.proofs.Options.{one_value}
+use Rattle.ctx_blocks.proofs.Among.{among_put}
 use Rattle.ctx_blocks.proofs.Changed.{put_here}
-use Rattle.generation_ctx.proofs.Kepts.{spare_live}
-use Rattle.generation_ctx.proofs.Kept.{AllWere, kept_put}
-use Rattle.generation_ctx.proofs.Numbers.{numbered_put}
+use Rattle.ctx_blocks.proofs.Places.{number_is, number_put}
+use Rattle.generation_ctx.proofs.Kept.{AllWere, spare_live, kept_put}
+use Rattle.generation_ctx.proofs.Numbers.{found_number, block_is, numbered_put, ledger_put}
+use Rattle.generation_ctx.proofs.Refilled.{given_less, emptied_less}
 
 abbrev pub less_one : Block → Block
 less_one old = record old { live = old.live - 1; freed = old.freed + 1 }
 
-module _ (b : Books) (m : Layout) (at : Addr) (old : Block) (kept : IsKept b) (owned : block_at b.blocks at.region ≡ Some old) (same : SameContext b.blocks m) (gone : PutsChunk b.blocks m at None) (last : m.last_number ≡ b.blocks.last_number) (puts : PutsBlock b.blocks m at.region (less_one old)) (some : (at : Addr) (chunk : Chunk) (block : Block) → chunk_at m at ≡ Some chunk → block_at m at.region ≡ Some block → 1 ≤ block.live) where
-  -- another chunk with a block for itself has another block
-  were_less : AllWere b.blocks m at.region
-  were_less other chunk there own =
-      let was : chunk_at b.blocks other ≡ Some chunk = grind (arith, gone other) in
-      let a = kept.alone other chunk was own in (
-        was,
-        λ e.
-            (let one = some other chunk (less_one old) there (rw e (put_here _ _ _ _ puts)) in
-            let it = subst (λ r. block_at b.blocks r ≡ Some a.block) e a.is in
-            grind (arith, a.live, owned, one)),
-      )
+module _ (b : Books) (m : Layout) (at : Addr) (old : Block) (kept : IsKept b) (owned : block_at b.blocks at.region ≡ Some old) (last : m.last_number ≡ b.blocks.last_number) (puts : PutsBlock b.blocks m at.region (less_one old)) where
+  pub ledger_less : ledger_of (record b { blocks = m }) ≡ lessened (ledger_of b) (number_of b.blocks at.region)
+  unfolding lessened
+  ledger_less = ledger_put _ _ _ _ _ owned puts refl kept last ∙ ap (λ x. put (ledger_of b) (less_one x)) (sym (block_is b at.region old kept.numbered owned))
 
-  pub kept_less : 1 ≤ old.live → IsKept (record b { blocks = m })
-  kept_less live =
-      kept_put b m at.region (less_one old) kept same puts (λ other there. ap (λ (x : Block). x.size) (one_value (block_at b.blocks at.region) old other owned there))
-      (numbered_put b.blocks m at.region old (less_one old) owned puts refl kept.numbered same last) (spare_live b.blocks b.current b.spare at.region old owned live kept.spare) were_less
+  -- its block goes back
+  pub given_gone : given (ledger_of (record b { blocks = m })) (number_of m at.region) ≡ given (ledger_of b) (number_of b.blocks at.region)
+  given_gone =
+      ap (given (ledger_of (record b { blocks = m }))) (number_put _ _ _ _ _ owned puts refl at.region) ∙ ap (λ (l : GenerationLedger). given l (number_of b.blocks at.region)) ledger_less
+      ∙ rw (number_is b.blocks at.region old owned) (given_less (ledger_of b) old (found_number b at.region old kept.numbered owned))
+
+  module _ (same : SameContext b.blocks m) (gone : PutsChunk b.blocks m at None) (some : (at : Addr) (chunk : Chunk) (block : Block) → chunk_at m at ≡ Some chunk → block_at m at.region ≡ Some block → 1 ≤ block.live) where
+    -- another chunk with a block for itself has another block
+    were_less : AllWere b.blocks m at.region
+    were_less other chunk there own =
+        let was : chunk_at b.blocks other ≡ Some chunk = grind (arith, gone other) in
+        let a = kept.alone other chunk was own in (
+          was,
+          λ e.
+              (let one = some other chunk (less_one old) there (rw e (put_here _ _ _ _ puts)) in
+              let it = subst (λ r. block_at b.blocks r ≡ Some a.block) e a.is in
+              grind (arith, a.live, owned, one)),
+        )
+
+    pub frees_less : 1 ≤ old.live → MovesStill b.blocks m → (s : Space) → Agrees (footprint b.blocks) s → Frees b (record b { blocks = m }) s s at
+    frees_less live moves s agrees = record {
+      kept = kept_put b m at.region (less_one old) kept same puts (λ other there. ap (λ (x : Block). x.size) (one_value (block_at b.blocks at.region) old other owned there)) (numbered_put b.blocks m at.region old (less_one old) owned puts refl kept.numbered same last)
+          (spare_live b.blocks b.current b.spare at.region (λ block there. grind arith) kept.spare) were_less;
+      chunk = gone;
+      among = among_put _ _ _ _ _ owned puts refl;
+      moves = moves s agrees;
+      keeps = λ at p r k live again below short. refl;
+    }
+
+-- the ledger's step for a chunk of a shared block, by whether it was the last one
+pub freed_is : (b n : Books) (region : ℕ) → IsKept b → (less : Lessens b n region) → ledger_of n ≡ lessened (ledger_of b) (number_of b.blocks region)
+    → freed_shared (ledger_of b) (number_of b.blocks region) ≡ (if less.block.live == 1 then emptied (ledger_of n) (number_of n.blocks region) else ledger_of n)
+unfolding freed_shared
+freed_is b n region kept less ledger =
+    let number = number_is b.blocks region less.block less.was in
+    let found = found_number b region less.block kept.numbered less.was in
+    rw (block_is b region less.block kept.numbered less.was, ledger, number_is n.blocks region _ less.is, number, emptied_less (ledger_of b) less.block found) refl

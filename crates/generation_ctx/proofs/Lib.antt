@@ -1,15 +1,8 @@
 pub mod Numbers
-pub mod Kepts
-pub mod Alone
 pub mod Steps
-pub mod Ledgers
 pub mod Kept
-pub mod Added
 pub mod Resets
 pub mod Refilled
 pub mod Forgotten
-pub mod Owned
-pub mod Sizes
-pub mod Resizes
 pub mod Places
 pub mod Rows

@@ -1,5 +1,5 @@
 -- The numbers of blocks, and the ledger by them, once a block was put, added or given back.
-use Rattle.std.proofs.Common.{◌≡◌, ◌≢◌, ℕ, ◌≤◌, ◌==◌, Bool, if◌then◌else◌, map, filter, Option, Some, None, unwrap_or, option_map, refl, ap, sym, ◌∙◌, arith, inl, inr}
+use Rattle.std.proofs.Common.{◌≡◌, ◌≢◌, ℕ, ◌≤◌, ◌==◌, Bool, if◌then◌else◌, filter, Option, Some, None, unwrap_or, option_map, refl, ap, sym, ◌∙◌, arith, inl, inr}
 use Rattle.std.specs.List.{find}
 use Rattle.std.specs.Map.{values_of}
 use Rattle.addr_space.specs.declared.Addr.{Addr}
@@ -8,7 +8,7 @@ use Rattle.std.proofs.lemmas.Bool.{cases_eq}
 use Rattle.ctx_blocks.specs.Layout.{Layout, block_at, chunk_at}
 use Rattle.ctx_blocks.specs.declared.parts.Chunk.{Chunk}
 use Rattle.ctx_blocks.specs.Kept.{AreRising}
-use Rattle.ctx_blocks.specs.Numbered.{put_at, is_other}
+use Rattle.ctx_blocks.specs.Numbered.{is_other}
 use Rattle.ctx_blocks.specs.Steps.{PutsBlock, DropsBlock, SameContext}
 use Rattle.ctx_blocks.specs.declared.parts.Block.{Block}
 use Rattle.ctx_blocks.proofs.Changed.{drop_other}
@@ -16,7 +16,7 @@ use Rattle.ctx_blocks.proofs.Places.{number_is, number_put}
 use Rattle.ctx_blocks.proofs.Numbered.{found_by_number, put_by_number, drop_by_number, rising_put, rising_drop, region_by_number}
 use Rattle.generation_ctx.specs.Ledger.{no_block, block_in, put, given, is_spare}
 use Rattle.generation_ctx.specs.State.{number_of}
-use Rattle.generation_ctx.specs.Kept.{ledger_of, AreNumbered, IsSpare}
+use Rattle.generation_ctx.specs.Kept.{ledger_of, AreNumbered, IsSpare, IsKept}
 use Rattle.generation_ctx.specs.declared.books.Books.{Books}
 
 -- a block that is there, by the ledger
@@ -41,23 +41,20 @@ numbered_by l m numbered kept last rising keeper = record {
 }
 
 -- the number of the spare stays where that of its region does
-pub spare_numbers : (l m : Layout) (spare : Option ℕ) → ((r : ℕ) → spare ≡ Some r → number_of m r ≡ number_of l r) → option_map (number_of m) spare ≡ option_map (number_of l) spare
-spare_numbers l m None all = refl
-spare_numbers l m (Some r) all = ap Some (all r refl)
+pub spare_numbers : (l m : Layout) (current : ℕ) (spare : Option ℕ) → IsSpare l current spare → ((r : ℕ) (block : Block) → block_at l r ≡ Some block → spare ≡ Some r → number_of m r ≡ number_of l r) → option_map (number_of m) spare ≡ option_map (number_of l) spare
+spare_numbers l m current None idle all = refl
+spare_numbers l m current (Some r) idle all = ap Some (all r idle.block idle.is refl)
 
 module _ (l m : Layout) (region : ℕ) (old new : Block) (is : block_at l region ≡ Some old) (puts : PutsBlock l m region new) (same : new.number ≡ old.number) where
   pub numbered_put : AreNumbered l → SameContext l m → m.last_number ≡ l.last_number → AreNumbered m
   numbered_put numbered kept last =
       numbered_by l m numbered kept (omega (arith, last)) (rw (last, puts.blocks) (rising_put 1 l.last_number region l.blocks old new numbered.rising is same)) (number_put l m region old new is puts same l.keeper)
 
-  pub values_put : AreNumbered l → values_of m.blocks ≡ map (put_at new) (values_of l.blocks)
-  values_put numbered = ap values_of puts.blocks ∙ put_by_number 1 l.last_number region l.blocks old new numbered.rising is same
-
-pub ledger_put : (b : Books) (m : Layout) (region : ℕ) (old new : Block) → block_at b.blocks region ≡ Some old → PutsBlock b.blocks m region new → new.number ≡ old.number → AreNumbered b.blocks → m.last_number ≡ b.blocks.last_number → ledger_of (record b { blocks = m }) ≡ put (ledger_of b) new
-ledger_put b m region old new is puts same numbered last =
-    let values = values_put b.blocks m region old new is puts same numbered in
+pub ledger_put : (b : Books) (m : Layout) (region : ℕ) (old new : Block) → block_at b.blocks region ≡ Some old → PutsBlock b.blocks m region new → new.number ≡ old.number → IsKept b → m.last_number ≡ b.blocks.last_number → ledger_of (record b { blocks = m }) ≡ put (ledger_of b) new
+ledger_put b m region old new is puts same kept last =
+    let values = ap values_of puts.blocks ∙ put_by_number 1 b.blocks.last_number region b.blocks.blocks old new kept.numbered.rising is same in
     let current = number_put b.blocks m region old new is puts same b.current in
-    let spare = spare_numbers b.blocks m b.spare (λ r e. number_put b.blocks m region old new is puts same r) in
+    let spare = spare_numbers b.blocks m b.current b.spare kept.spare (λ r block there e. number_put b.blocks m region old new is puts same r) in
     cc
 
 module _ (l m : Layout) (region : ℕ) (old : Block) (is : block_at l region ≡ Some old) (drops : DropsBlock l m region) where
@@ -68,17 +65,17 @@ module _ (l m : Layout) (region : ℕ) (old : Block) (is : block_at l region ≡
   pub numbered_drop : region ≢ l.keeper → AreNumbered l → SameContext l m → m.last_number ≡ l.last_number → AreNumbered m
   numbered_drop ne numbered kept last = numbered_by l m numbered kept (omega (arith, last)) (rw (last, drops.blocks) (rising_drop 1 l.last_number region l.blocks numbered.rising)) (number_drop l.keeper ne)
 
-pub ledger_drop : (b : Books) (m : Layout) (region : ℕ) (old : Block) → block_at b.blocks region ≡ Some old → DropsBlock b.blocks m region → region ≢ b.current → ((other : ℕ) → b.spare ≡ Some other → region ≢ other) → AreNumbered b.blocks → m.last_number ≡ b.blocks.last_number → ledger_of (record b { blocks = m }) ≡ given (ledger_of b) (number_of b.blocks region)
-ledger_drop b m region old is drops not_current not_spare numbered last =
+pub ledger_drop : (b : Books) (m : Layout) (region : ℕ) (old : Block) → block_at b.blocks region ≡ Some old → DropsBlock b.blocks m region → region ≢ b.current → ((other : ℕ) → b.spare ≡ Some other → region ≢ other) → IsKept b → m.last_number ≡ b.blocks.last_number → ledger_of (record b { blocks = m }) ≡ given (ledger_of b) (number_of b.blocks region)
+ledger_drop b m region old is drops not_current not_spare kept last =
     let l = b.blocks in
     let values : values_of m.blocks ≡ filter (is_other (number_of l region)) (values_of l.blocks) =
-    ap values_of drops.blocks ∙ drop_by_number 1 l.last_number region l.blocks old numbered.rising is ∙ ap (λ (n : ℕ). filter (is_other n) (values_of l.blocks)) (sym (number_is l region old is)) in
+    ap values_of drops.blocks ∙ drop_by_number 1 l.last_number region l.blocks old kept.numbered.rising is ∙ ap (λ (n : ℕ). filter (is_other n) (values_of l.blocks)) (sym (number_is l region old is)) in
     let current = number_drop l m region old is drops b.current not_current in
-    let spare = spare_numbers l m b.spare (λ r e. number_drop l m region old is drops r (not_spare r e)) in
+    let spare = spare_numbers l m b.current b.spare kept.spare (λ r block there e. number_drop l m region old is drops r (not_spare r e)) in
     cc
 
 -- a test of numbers is one of regions
-same_test : (l : Layout) (a b : ℕ) (first second : Block) → AreNumbered l → block_at l a ≡ Some first → block_at l b ≡ Some second → (number_of l a == number_of l b) ≡ (a == b)
+pub same_test : (l : Layout) (a b : ℕ) (first second : Block) → AreNumbered l → block_at l a ≡ Some first → block_at l b ≡ Some second → (number_of l a == number_of l b) ≡ (a == b)
 same_test l a b first second numbered is there = elim (cases_eq a b) [
   | inl e ↦ rw e (grind arith)
   | inr ne ↦ let differs : number_of l a ≢ number_of l b = λ same. ne (one_region l a b first second numbered is there same) in grind arith

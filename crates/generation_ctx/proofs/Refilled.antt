@@ -1,22 +1,22 @@
 -- A shared block without live chunks gets its whole room, or goes back.
-use Rattle.std.proofs.Common.{◌≡◌, ◌≢◌, ℕ, ◌+◌, ◌-◌, ◌==◌, false, List, Option, Some, None, unwrap_or, refl, arith, ◌∙◌, sym, ap}
+use Rattle.std.proofs.Common.{◌≡◌, ◌≢◌, ℕ, ◌+◌, ◌-◌, ◌==◌, if◌then◌else◌, false, List, Option, Some, None, unwrap_or, refl, arith, ◌∙◌, sym, ap}
 use Rattle.std.specs.List.{find}
 use Rattle.ctx_blocks.specs.Layout.{Layout, block_at, start_of as start_in, whole_block, footprint}
 use Rattle.addr_space.specs.Space.{Space}
-use Rattle.addr_space.specs.Footprint.{Agrees}
-use Rattle.ctx_blocks.specs.Steps.{PutsBlock, SameContext, MovesStill}
+use Rattle.addr_space.specs.Footprint.{Agrees, Moves, Keeps}
+use Rattle.ctx_blocks.specs.Steps.{PutsBlock, DropsBlock, SameContext, MovesStill}
 use Rattle.generation_ctx.specs.Steps.{Rearranges}
 use Rattle.ctx_blocks.specs.declared.parts.Block.{Block}
+use Rattle.ctx_blocks.proofs.Changed.{drop_other, size_drop}
 use Rattle.ctx_blocks.proofs.Numbered.{put_twice, put_away, put_found}
-use Rattle.generation_ctx.specs.Ledger.{GenerationLedger, block_in, no_block, is_spare, put, filled, emptied, emptied_other, lessened, freed_shared}
+use Rattle.generation_ctx.specs.Ledger.{GenerationLedger, block_in, no_block, is_spare, put, filled, given, emptied, emptied_other, lessened}
 use Rattle.generation_ctx.specs.State.{number_of}
 use Rattle.generation_ctx.specs.Kept.{ledger_of, IsKept}
 use Rattle.generation_ctx.specs.declared.books.Books.{Books}
 use Rattle.addr_space.proofs.Options.{one_value}
-use Rattle.generation_ctx.proofs.Alone.{apart_live}
 use Rattle.ctx_blocks.proofs.Places.{number_is}
-use Rattle.generation_ctx.proofs.Numbers.{block_is, numbered_put, ledger_put, keeper_test}
-use Rattle.generation_ctx.proofs.Kept.{kept_put, were_still}
+use Rattle.generation_ctx.proofs.Numbers.{block_is, numbered_put, numbered_drop, ledger_put, ledger_drop, same_test, keeper_test}
+use Rattle.generation_ctx.proofs.Kept.{apart_spare, kept_but, kept_put, were_still}
 
 abbrev pub refilled : Layout → ℕ → Block → Block
 refilled l region old = whole_block old.number (start_in l region) old.size
@@ -31,13 +31,31 @@ module _ (b : Books) (m : Layout) (region : ℕ) (old : Block) (kept : IsKept b)
   -- the books alone change
   pub rearranges_refill : old.live ≡ 0 → is_spare b.spare region ≡ false → m.chunks ≡ b.blocks.chunks → MovesStill b.blocks m → (s : Space) → Agrees (footprint b.blocks) s → (ledger : GenerationLedger) → put (ledger_of b) (filled (ledger_of b) (number_of b.blocks region)) ≡ ledger → Rearranges b (record b { blocks = m }) s s ledger
   rearranges_refill none free chunks moves s agrees ledger step = record {
-    kept = kept_put b m _ _ kept same puts (λ other there. ap (λ (x : Block). x.size) (one_value (block_at b.blocks region) old other is there)) (numbered_put _ _ _ _ _ is puts refl kept.numbered same last) free (were_still b.blocks m b.current _ chunks kept.alone (λ at x a. apart_live b.blocks b.current at x a _ _ is none));
-    ledger_is = ledger_put b m _ _ _ is puts refl kept.numbered last ∙ ap (put (ledger_of b)) (sym filled_is) ∙ step;
+    kept = kept_put b m _ _ kept same puts (λ other there. ap (λ (x : Block). x.size) (one_value (block_at b.blocks region) old other is there)) (numbered_put _ _ _ _ _ is puts refl kept.numbered same last) free (were_still b.blocks m b.current _ chunks kept.alone (λ other there. grind arith));
+    ledger_is = ledger_put b m _ _ _ is puts refl kept last ∙ ap (put (ledger_of b)) (sym filled_is) ∙ step;
     chunks = chunks;
     account = same.account;
     moves = moves s agrees;
     keeps = λ at p r k live again below short. refl;
   }
+
+-- the ledger's step, by what is compared
+pub emptied_is : (b : Books) (region : ℕ) (old : Block) → IsKept b → block_at b.blocks region ≡ Some old
+    → emptied (ledger_of b) (number_of b.blocks region) ≡ (if region == b.blocks.keeper then put (ledger_of b) (filled (ledger_of b) (number_of b.blocks region)) else (if b.current == region then put (ledger_of b) (filled (ledger_of b) (number_of b.blocks region)) else emptied_other (ledger_of b).spare (ledger_of b) (number_of b.blocks region)))
+unfolding emptied
+emptied_is b region old kept is = rw (keeper_test b.blocks region kept.keeper.block old kept.numbered kept.keeper.is is, same_test b.blocks b.current region kept.current.block old kept.numbered kept.current.is is) refl
+
+-- the block goes back
+pub rearranges_drop : (b : Books) (m : Layout) (region : ℕ) (old : Block) (s t : Space) (ledger : GenerationLedger) → IsKept b → block_at b.blocks region ≡ Some old → old.live ≡ 0 → region ≢ b.blocks.keeper → region ≢ b.current → is_spare b.spare region ≡ false → SameContext b.blocks m → m.last_number ≡ b.blocks.last_number → DropsBlock b.blocks m region → m.chunks ≡ b.blocks.chunks → Moves (footprint b.blocks) (footprint m) s t → Keeps (footprint b.blocks) (footprint m) s t
+    → given (ledger_of b) (number_of b.blocks region) ≡ ledger → Rearranges b (record b { blocks = m }) s t ledger
+rearranges_drop b m region old s t ledger kept is none not_keeper not_current free same last drops chunks moves keeps step = record {
+  kept = kept_but b m region kept same (drop_other b.blocks m region drops) (λ k bytes which. size_drop b.blocks m region drops k bytes (grind (arith, which))) (numbered_drop _ _ _ _ is drops not_keeper kept.numbered same last) free (were_still b.blocks m b.current _ chunks kept.alone (λ other there. grind arith));
+  ledger_is = ledger_drop b m region old is drops not_current (apart_spare b.spare region free) kept last ∙ step;
+  chunks = chunks;
+  account = same.account;
+  moves = moves;
+  keeps = keeps;
+}
 
 -- the block with a chunk less
 abbrev pub less_of : GenerationLedger → ℕ → Block
@@ -58,20 +76,15 @@ module _ (l : GenerationLedger) (block : Block) (is : find (λ b. b.number == bl
   unfolding lessened
   filled_less = rw less_found (ap (λ (bs : List Block). record l { blocks = bs }) (put_twice (less_of l block.number) (filled l block.number) l.blocks numbers))
 
-  other_less : (spare : Option ℕ) → emptied_other spare (lessened l block.number) block.number ≡ emptied_other spare l block.number
+  pub given_less : given (lessened l block.number) block.number ≡ given l block.number
   unfolding lessened
+  given_less = ap (λ (bs : List Block). record l { blocks = bs }) (put_away (less_of l block.number) block.number l.blocks numbers)
+
+  other_less : (spare : Option ℕ) → emptied_other spare (lessened l block.number) block.number ≡ emptied_other spare l block.number
   other_less None = ap (λ (x : GenerationLedger). record x { spare = Some block.number }) filled_less
-  other_less (Some other) = ap (λ (bs : List Block). record l { blocks = bs }) (put_away (less_of l block.number) block.number l.blocks numbers)
+  other_less (Some other) = given_less
 
   -- it is empty, as the block before
   pub emptied_less : emptied (lessened l block.number) block.number ≡ emptied l block.number
   unfolding emptied lessened
   emptied_less = rw (filled_less, other_less l.spare) refl
-
-  pub freed-last : block.live ≡ 1 → freed_shared l block.number ≡ emptied l block.number
-  unfolding freed_shared
-  freed-last last = grind (arith, here)
-
-  pub freed-more : block.live ≢ 1 → freed_shared l block.number ≡ lessened l block.number
-  unfolding freed_shared
-  freed-more more = grind (arith, here)

@@ -15,18 +15,18 @@ module _ (n : Books) (kind : n.blocks.kind ≡ Generation) (one : n.blocks.first
   at_current : block_at n.blocks n.current ≡ Some (whole_block 1 200 n.sizes.init)
   at_current = rw first there
 
-  pub kept_alone : n.blocks.chunks ≡ [] → IsKept n
-  kept_alone none = record {
-    kind = kind;
-    numbered = record { first = one; rising = rw (only, last) (omega arith, omega arith, tt); some = omega (arith, last); keeper = number_is n.blocks n.blocks.keeper (whole_block 1 200 n.sizes.init) there };
-    sizes = sized;
-    keeper = record { block = whole_block 1 200 n.sizes.init; is = there; size = refl };
-    bytes = n.sizes.init;
-    current = record { block = whole_block 1 200 n.sizes.init; is = at_current; size = refl };
-    spare = rw spare tt;
-    alone = λ at chunk is own. (let gone = rw none at is in absurd (cc));
-  }
-
-  pub ledger_alone : n.next ≡ n.sizes.init → ledger_of n ≡ created n.sizes.init n.sizes.max
+  pub alone : n.blocks.chunks ≡ [] → n.next ≡ n.sizes.init → IsKept n × (ledger_of n ≡ created n.sizes.init n.sizes.max)
   unfolding created
-  ledger_alone next = rw (number_is n.blocks n.current (whole_block 1 200 n.sizes.init) at_current, next, last, spare, only) refl
+  alone none next = (
+    record {
+      kind = kind;
+      numbered = record { first = one; rising = rw (only, last) (omega arith, omega arith, tt); some = omega (arith, last); keeper = number_is n.blocks n.blocks.keeper (whole_block 1 200 n.sizes.init) there };
+      sizes = sized;
+      keeper = record { block = whole_block 1 200 n.sizes.init; is = there; size = refl };
+      bytes = n.sizes.init;
+      current = record { block = whole_block 1 200 n.sizes.init; is = at_current; size = refl };
+      spare = rw spare tt;
+      alone = λ at chunk is own. (let gone = rw none at is in absurd (cc));
+    },
+    rw (number_is n.blocks n.current (whole_block 1 200 n.sizes.init) at_current, next, last, spare, only) refl,
+  )

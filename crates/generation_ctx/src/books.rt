@@ -329,6 +329,7 @@ impl Books {
     }
 
     // Takes a block for one chunk.
+    #[tactic(auto, unfolding(crate::specs::Ledger::take_own))]
     fn take_own(&mut self, space: &mut Space, size: u32) -> Result<Addr, CtxError>
         requires kept { IsKept self.old }
         requires agrees { Agrees (footprint self.old.blocks) space.old }
@@ -345,6 +346,7 @@ impl Books {
     }
 
     // Serves a request of a size that isn't too big.
+    #[tactic(auto, unfolding(crate::specs::Ledger::take))]
     fn take(&mut self, space: &mut Space, size: u32) -> Result<Addr, CtxError>
         requires kept { IsKept self.old }
         requires agrees { Agrees (footprint self.old.blocks) space.old }

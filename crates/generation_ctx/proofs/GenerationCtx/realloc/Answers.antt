@@ -7,8 +7,7 @@ use Rattle.generation_ctx.specs.State.{footprint, place_in}
 use Rattle.generation_ctx.specs.Kept.{state_of}
 use Rattle.ctx_blocks.specs.Layout.{chunk_at, footprint as blocks_footprint}
 use Rattle.ctx_blocks.proofs.Changed.{fresh_put}
-use Rattle.generation_ctx.proofs.Places.{chunk_kept, places, places_move}
-use Rattle.generation_ctx.proofs.Resizes.{moves_map}
+use Rattle.generation_ctx.proofs.Places.{chunk_kept, places, places_move, moves_map}
 use Rattle.generation_ctx.proofs.GenerationCtx.realloc.Goals as goal
 
 pub realloc-requires-clause-chunk : goal.realloc-requires-clause-chunk
@@ -32,14 +31,8 @@ returns-clause-resized c =
       stays = had.stays;
     }))) c.realloc.ensures.ok)
 
-pub returns-clause-fresh : goal.returns-clause-fresh
-returns-clause-fresh c = rw (← (ap state_of c.deref_mut.ensures.value ∙ c.self.view_is)) (if_ok c.realloc.result (λ to had ne. fresh_put c.deref_mut.result.now.blocks to (had.fresh ne)) c.realloc.ensures.ok)
-
 pub returns-clause-live : goal.returns-clause-live
 returns-clause-live c = rw (← (ap state_of c.deref_mut.ensures.value ∙ c.self.view_is)) (if_ok c.realloc.result (λ to had. moves_map (λ (x : Chunk). x.size) (chunk_at c.deref_mut.result.now.blocks) (chunk_at c.realloc.new.self.blocks) c.args.at to _ had.chunk) c.realloc.ensures.ok)
-
-pub returns-clause-known : goal.returns-clause-known
-returns-clause-known c = if_ok c.realloc.result (λ to had k below. subst IsSome (sym (had.bytes k below)) (c.requires.known k (omega (arith, below)))) c.realloc.ensures.ok
 
 pub returns-clause-moves : goal.returns-clause-moves
 returns-clause-moves c =

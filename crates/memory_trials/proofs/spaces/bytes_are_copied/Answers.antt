@@ -1,4 +1,4 @@
-use Rattle.std.proofs.Common.{◌≡◌, ℕ, ◌+◌, ◌<◌, [], ◌∷◌, Some, None, IsSome, Option, refl, arith, get_or, zero, suc, zero-add}
+use Rattle.std.proofs.Common.{rules, ◌≡◌, ℕ, ◌+◌, ◌<◌, [], ◌∷◌, Some, None, IsSome, Option, refl, arith, get_or, zero, suc, zero-add}
 use Rattle.addr_space.specs.Space.{Region, region_at, bytes_of, unwritten}
 use Rattle.memory_trials.proofs.spaces.bytes_are_copied.Given.{Over}
 use Rattle.memory_trials.proofs.spaces.bytes_are_copied.Goals as goal
@@ -21,28 +21,22 @@ after_write : (g : Over) (c : After-write g) → region_at c.write.new.self c.in
 unfolding written
 after_write g c = rw (c.in_ok-at.ensures.changes.changed, c.in_ok-at.ensures.start) at c.write.ensures.changes.changed
 
-pub copy-requires-clause-from : goal.copy-requires-clause-from
-unfolding written
-copy-requires-clause-from g c =
-    let is = after_write g (goal.at.copy-requires-clause-from g c).After-write in
-    record { live = rw is refl; end_in_region = rw (is, c.in_ok-at.ensures.start) (omega arith) }
-
-pub copy-requires-clause-to : goal.copy-requires-clause-to
-unfolding written
-copy-requires-clause-to g c =
-    let is = after_write g (goal.at.copy-requires-clause-to g c).After-write in
-    record { live = rw is refl; end_in_region = rw is (omega arith) }
-
 first_known : (k : ℕ) → k < 2 → IsSome (get_or (bytes_of written) k None)
 unfolding written
 first_known zero h = refl
 first_known (suc zero) h = refl
 first_known (suc (suc k)) h = absurd (omega arith)
 
-pub copy-requires-clause-known : goal.copy-requires-clause-known
-copy-requires-clause-known g c = λ k below.
-    let is = after_write g (goal.at.copy-requires-clause-known g c).After-write in
-    rw (is, c.in_ok-at.ensures.start, zero-add) (first_known k below)
+pub copy-requires : goal.copy-requires
+unfolding written
+copy-requires g c =
+    let is = after_write g (goal.at.copy-requires g c).After-write in
+    record {
+      from = record { live = rw is refl; end_in_region = rw (is, c.in_ok-at.ensures.start) (omega arith) };
+      to = record { live = rw is refl; end_in_region = rw is (omega arith) };
+      known = λ k below. rw (is, c.in_ok-at.ensures.start, zero-add) (first_known k below);
+      apart = search rules;
+    }
 
 after_copy : (g : Over) (c : After-copy g) → region_at c.write.new.self c.in_ok-at.at.region ≡ written → region_at c.copy.new.self c.in_ok-at.at.region ≡ copied
 unfolding written copied
@@ -55,13 +49,9 @@ last_known zero h = refl
 last_known (suc zero) h = refl
 last_known (suc (suc k)) h = absurd (omega arith)
 
-pub read-requires-clause-inside : goal.read-requires-clause-inside
+pub read-requires : goal.read-requires
 unfolding copied
-read-requires-clause-inside g c =
-    let is = after_copy g (goal.at.read-requires-clause-inside g c).After-copy (after_write g (goal.at.read-requires-clause-inside g c).After-write) in
-    record { live = rw is refl; end_in_region = rw is (omega arith) }
-
-pub read-requires-clause-known : goal.read-requires-clause-known
-read-requires-clause-known g c = λ k below.
-    let is = after_copy g (goal.at.read-requires-clause-known g c).After-copy (after_write g (goal.at.read-requires-clause-known g c).After-write) in
-    rw is (last_known k below)
+read-requires g c =
+    let at = goal.at.read-requires g c in
+    let is = after_copy g at.After-copy (after_write g at.After-write) in
+    record { inside = record { live = rw is refl; end_in_region = rw is (omega arith) }; known = λ k below. rw is (last_known k below) }

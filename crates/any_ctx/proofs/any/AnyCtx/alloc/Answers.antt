@@ -1,4 +1,4 @@
-use Rattle.std.proofs.Common.{ap, refl, arith}
+use Rattle.std.proofs.Common.{ap, refl}
 use Rattle.addr_space.proofs.Options.{if_ok}
 use Rattle.alloc_set.specs.State as set
 use Rattle.slab_ctx.specs.State as slab
@@ -7,7 +7,7 @@ use Rattle.bump_ctx.specs.State as bump
 use Rattle.any_ctx.specs.declared.any.AnyCtx.TheVariants.{AllocSet, Slab, Generation, Bump}
 use Rattle.any_ctx.specs.Ledgers.{OfSet, OfSlab, OfGeneration, OfBump, InSet, InSlab, InGeneration, InBump, taken_as}
 use Rattle.any_ctx.proofs.Steps.{takes}
-use Rattle.any_ctx.proofs.Refusals.{take_big, refuses, refuses_size, taken_err}
+use Rattle.any_ctx.proofs.Refusals.{take_big, refuses, refuses_size}
 use Rattle.any_ctx.proofs.any.AnyCtx.alloc.Goals as goal
 
 pub returns-in-AllocSet-clause-taken : goal.returns-in-AllocSet-clause-taken
@@ -21,9 +21,6 @@ returns-in-AllocSet-clause-refused c =
 pub returns-in-AllocSet-clause-keeps : goal.returns-in-AllocSet-clause-keeps
 returns-in-AllocSet-clause-keeps c = rw c.in-AllocSet.is c.alloc.ensures.keeps
 
-pub returns-in-AllocSet-clause-wrong_size : goal.returns-in-AllocSet-clause-wrong_size
-returns-in-AllocSet-clause-wrong_size c = rw c.in-AllocSet.is (grind arith)
-
 pub returns-in-Slab-clause-taken : goal.returns-in-Slab-clause-taken
 returns-in-Slab-clause-taken c =
     rw c.in-Slab.is (if_ok c.alloc-in-Slab.result (λ at had. takes OfSlab InSlab (slab.place_at c.in-Slab.slab) (slab.place_at c.alloc-in-Slab.new.self) (λ x. refl) (λ x. refl) had.answer had.is refl (ap OfSlab had.ledger) had.place had.asked) c.alloc-in-Slab.ensures.taken)
@@ -34,12 +31,6 @@ returns-in-Slab-clause-refused c =
 
 pub returns-in-Slab-clause-keeps : goal.returns-in-Slab-clause-keeps
 returns-in-Slab-clause-keeps c = rw c.in-Slab.is c.alloc-in-Slab.ensures.keeps
-
-pub returns-in-Slab-clause-wrong_size : goal.returns-in-Slab-clause-wrong_size
-returns-in-Slab-clause-wrong_size c = rw c.in-Slab.is (
-  λ is. ap (taken_as OfSlab InSlab) (c.alloc-in-Slab.ensures.wrong_size.0 is),
-  λ is. c.alloc-in-Slab.ensures.wrong_size.1 (taken_err OfSlab InSlab _ _ is),
-)
 
 pub returns-in-Generation-clause-taken : goal.returns-in-Generation-clause-taken
 returns-in-Generation-clause-taken c =
@@ -52,9 +43,6 @@ returns-in-Generation-clause-refused c =
 pub returns-in-Generation-clause-keeps : goal.returns-in-Generation-clause-keeps
 returns-in-Generation-clause-keeps c = rw c.in-Generation.is c.alloc-in-Generation.ensures.keeps
 
-pub returns-in-Generation-clause-wrong_size : goal.returns-in-Generation-clause-wrong_size
-returns-in-Generation-clause-wrong_size c = rw c.in-Generation.is (grind arith)
-
 pub returns-in-Bump-clause-taken : goal.returns-in-Bump-clause-taken
 returns-in-Bump-clause-taken c =
     rw c.in-Bump.is (if_ok c.alloc-in-Bump.result (λ at had. takes OfBump InBump (bump.place_at c.in-Bump.bump) (bump.place_at c.alloc-in-Bump.new.self) (λ x. refl) (λ x. refl) had.answer had.is refl (ap OfBump had.ledger) had.place had.asked) c.alloc-in-Bump.ensures.taken)
@@ -65,6 +53,3 @@ returns-in-Bump-clause-refused c =
 
 pub returns-in-Bump-clause-keeps : goal.returns-in-Bump-clause-keeps
 returns-in-Bump-clause-keeps c = rw c.in-Bump.is c.alloc-in-Bump.ensures.keeps
-
-pub returns-in-Bump-clause-wrong_size : goal.returns-in-Bump-clause-wrong_size
-returns-in-Bump-clause-wrong_size c = rw c.in-Bump.is (grind arith)

@@ -7,13 +7,6 @@ use Rattle.bump_ctx.specs.Kept.{ledger_of}
 use Rattle.bump_ctx.proofs.Allocated.{allocates_more}
 use Rattle.bump_ctx.proofs.books.Books.take_cut.Goals as goal
 
-pub returns-then-room-clause-ok : goal.returns-then-room-clause-ok
-unfolding take_cut
-returns-then-room-clause-ok c =
-    let b = c.args.self.now in
-    let step : take_cut (ledger_of b) (c.args.space.now.limit - held c.args.space.now b.blocks.account) c.granted-room.result ≡ Ok (served (cut_off (ledger_of b) c.granted-room.result) 0) = grind (arith, c.room.ensures, c.if-room.true) in
-    rw (← c.granted-room.ensures.value) (rw step c.cut.ensures)
-
 pub returns-clause-ok : goal.returns-clause-ok
 unfolding take_cut take_new
 returns-clause-ok c =
@@ -24,10 +17,3 @@ returns-clause-ok c =
     let step : take_cut (ledger_of b) (c.args.space.now.limit - held c.args.space.now b.blocks.account) room ≡ Ok (served (cut_off (renewed (ledger_of b) size) room) size) = grind (arith, c.room.ensures, c.if-room.false, e.fits) in
     let same = step ∙ ap (λ (l : BumpLedger). Ok (served (cut_off l room) size)) (sym e.ledger) in
     rw (← c.granted-room.ensures.value) (rw same (allocates_more b c.renew.new.self c.cut-2.new.self c.args.space.now c.renew.new.space c.cut-2.new.space c.args.size c.cut-2.result (cut_off (ledger_of c.renew.new.self) room) size e.chunks e.account e.moves e.keeps e.asked c.cut-2.ensures))
-
-pub returns-in_err-renew-clause-no_space : goal.returns-in_err-renew-clause-no_space
-unfolding take_cut take_new
-returns-in_err-renew-clause-no_space c = λ e.
-    (let it : c.in_err-renew.field-0.0 ≡ NoSpace = let p = err_from_is_err_and c.from_residual.result c.from_residual.ensures.1 in cc in
-    let over = c.in_err-renew.ensures.no_space (ap Err it) in
-    rw (← c.granted-room.ensures.value) (grind (arith, c.room.ensures, c.if-room.false)))

@@ -44,10 +44,3 @@ returns-clause-ok c =
       moves = Moves-more (footprint b.blocks) (footprint m) (footprint n) s c.add.new.space c.cut.new.space e.moves c.cut.ensures.moves;
       keeps = Keeps-more (footprint b.blocks) (footprint m) (footprint n) s c.add.new.space c.cut.new.space (stays_live b.blocks m e.chunks) e.keeps c.cut.ensures.keeps;
     })
-
-pub returns-in_err-number-clause-no_space : goal.returns-in_err-number-clause-no_space
-unfolding take_own
-returns-in_err-number-clause-no_space c = λ e.
-    (let it : c.in_err-number.field-0.0 ≡ NoSpace = let p = err_from_is_err_and c.from_residual.result c.from_residual.ensures.1 in cc in
-    let over = c.in_err-number.ensures.no_space (ap Err it) in
-    rw (← c.granted-room.ensures.value) (grind arith))

@@ -1,7 +1,6 @@
 use Rattle.std.proofs.Common.{ap, ◌∙◌, ◌≡◌, ◌*◌, min, refl, arith}
 use Rattle.generation_ctx.specs.Ledger.{GenerationLedger, with_new, block_size}
-use Rattle.generation_ctx.proofs.Kept.{kept_next}
-use Rattle.generation_ctx.proofs.Added.{kept_add, ledger_add}
+use Rattle.generation_ctx.proofs.Kept.{kept_next, kept_add, ledger_add}
 use Rattle.generation_ctx.proofs.books.Books.add.Goals as goal
 use Rattle.chunk_header.proofs.Doubling.{AreSizes-next}
 

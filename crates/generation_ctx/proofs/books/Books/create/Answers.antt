@@ -1,7 +1,6 @@
 use Rattle.std.proofs.Common.{None, refl}
 use Rattle.chunk_header.specs.Growth.{AreSizes}
-use Rattle.generation_ctx.specs.declared.books.Books.{Books}
-use Rattle.generation_ctx.proofs.Resets.{kept_alone, ledger_alone}
+use Rattle.generation_ctx.proofs.Resets.{alone}
 use Rattle.generation_ctx.proofs.books.Books.create.Goals as goal
 use Rattle.generation_ctx.proofs.books.Books.create.Goals.{In_ok-blocks}
 
@@ -11,10 +10,9 @@ sized c = record { least = c.requires.least; order = c.requires.order; most = c.
 pub returns-clause-kept : goal.returns-clause-kept
 returns-clause-kept c =
     let e = c.in_ok-blocks.ensures in
-    kept_alone _ e.kind e.numbers.0 e.numbers.1 (sized (goal.at.returns-clause-kept c).In_ok-blocks) e.blocks c.keeper-current.ensures refl e.chunks
+    (alone _ e.kind e.numbers.0 e.numbers.1 (sized (goal.at.returns-clause-kept c).In_ok-blocks) e.blocks c.keeper-current.ensures refl e.chunks refl).0
 
 pub returns-clause-ledger : goal.returns-clause-ledger
 returns-clause-ledger c =
     let e = c.in_ok-blocks.ensures in
-    let n : Books = record { sizes = c.args.sizes; next = c.args.sizes.init; current = c.keeper-current.result; spare = None; blocks = c.in_ok-blocks.blocks } in
-    ledger_alone n e.kind e.numbers.0 e.numbers.1 (sized (goal.at.returns-clause-ledger c).In_ok-blocks) e.blocks c.keeper-current.ensures refl refl
+    (alone (record { sizes = c.args.sizes; next = c.args.sizes.init; current = c.keeper-current.result; spare = None; blocks = c.in_ok-blocks.blocks }) e.kind e.numbers.0 e.numbers.1 (sized (goal.at.returns-clause-ledger c).In_ok-blocks) e.blocks c.keeper-current.ensures refl e.chunks refl).1

@@ -7,8 +7,7 @@ use Rattle.ctx_blocks.proofs.Places.{number_put, numbers_among}
 use Rattle.generation_ctx.specs.Ledger.{cut_off, cut}
 use Rattle.generation_ctx.specs.State.{number_of}
 use Rattle.generation_ctx.proofs.Numbers.{block_is, numbered_put, ledger_put}
-use Rattle.generation_ctx.proofs.Kepts.{spare_current}
-use Rattle.generation_ctx.proofs.Kept.{kept_put, were_put}
+use Rattle.generation_ctx.proofs.Kept.{spare_current, kept_put, were_put}
 use Rattle.generation_ctx.proofs.books.Books.cut.Goals as goal
 
 pub returns-clause-allocates : goal.returns-clause-allocates
@@ -25,7 +24,7 @@ returns-clause-allocates c =
     record {
       kept = kept_put b n _ _ kept e.same puts (λ other there. ap (λ (x : Block). x.size) (one_value (block_at b.blocks b.current) _ other is there)) (numbered_put _ _ _ _ _ is puts refl kept.numbered e.same e.last) (spare_current b.blocks _ b.spare kept.spare)
           (were_put b.blocks n _ _ _ e.chunk refl (λ at x there own. (kept.alone at x there own).not_current));
-      ledger = ledger_put b n _ _ _ is puts refl kept.numbered e.last ∙ rw (block_is b b.current _ kept.numbered is, bytes, c.granted.ensures.value) refl;
+      ledger = ledger_put b n _ _ _ is puts refl kept e.last ∙ rw (block_is b b.current _ kept.numbered is, bytes, c.granted.ensures.value) refl;
       fresh = e.fresh;
       chunk = rw (← c.granted.ensures.value) e.chunk;
       number = ap (number_of n) e.region ∙ number_put b.blocks n _ _ _ is puts refl b.current;

@@ -1,4 +1,4 @@
-use Rattle.std.proofs.Common.{Option, ◌≡◌, ◌≢◌, ℕ, ◌+◌, ◌<◌, false, Some, IsSome, Err, Result, ap, sym, ◌∙◌, arith, subst}
+use Rattle.std.proofs.Common.{Option, ◌≡◌, ◌≢◌, ℕ, ◌+◌, ◌-◌, ◌<◌, ◌≤◌, false, Some, IsSome, Err, Result, ap, sym, ◌∙◌, arith, subst}
 use Rattle.std.proofs.lemmas.Result.{err_from_is_err_and}
 use Rattle.addr_space.specs.Space.{held, byte_at}
 use Rattle.addr_space.proofs.Steps.{Moves-more}
@@ -10,16 +10,20 @@ use Rattle.ctx_blocks.specs.declared.parts.Chunk.{Chunk}
 use Rattle.ctx_blocks.proofs.Laid.{live_is}
 use Rattle.ctx_blocks.proofs.Changed.{fresh_put}
 use Rattle.ctx_blocks.proofs.Among.{numbers_left}
-use Rattle.generation_ctx.specs.Ledger.{GenerationPlace, GenerationTaken, give, moved}
+use Rattle.generation_ctx.specs.Ledger.{GenerationLedger, GenerationPlace, GenerationTaken, take, give, moved, resize}
 use Rattle.generation_ctx.specs.State.{number_of, place_in}
 use Rattle.generation_ctx.specs.Kept.{ledger_of}
 use Rattle.addr_space.specs.declared.Addr.{Addr}
 use Rattle.ctx_blocks.specs.Steps.{PutsChunk}
 use Rattle.ctx_blocks.proofs.Put.{chunk_here}
 use Rattle.ctx_blocks.proofs.Places.{number_stays, numbers_among}
-use Rattle.generation_ctx.proofs.Ledgers.{resize-moves}
 use Rattle.generation_ctx.proofs.books.Books.relocate.Goals as goal
 use Rattle.generation_ctx.proofs.books.Books.relocate.Goals.{In_ok-to}
+
+-- the ledger's step
+resize-moves : (l : GenerationLedger) (held limit size : ℕ) (place : GenerationPlace) → size ≤ 1073741823 → place.room < size → resize l held limit place size ≡ moved (take l (limit - held) size) place
+unfolding resize
+resize-moves l held limit size place most little = grind (arith, most, little)
 
 -- another chunk stays
 stays : (l m : Layout) (at other : Addr) (chunk : Option Chunk) → PutsChunk l m at chunk → other ≢ at → chunk_at m other ≡ chunk_at l other

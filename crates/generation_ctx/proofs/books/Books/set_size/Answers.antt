@@ -6,7 +6,7 @@ use Rattle.ctx_blocks.proofs.Places.{numbers_among}
 use Rattle.generation_ctx.specs.Ledger.{resize}
 use Rattle.generation_ctx.specs.State.{place_in}
 use Rattle.generation_ctx.specs.Kept.{ledger_of}
-use Rattle.generation_ctx.proofs.Sizes.{kept_sized}
+use Rattle.generation_ctx.proofs.Kept.{kept_sized}
 use Rattle.generation_ctx.proofs.books.Books.set_size.Goals as goal
 
 pub returns : goal.returns

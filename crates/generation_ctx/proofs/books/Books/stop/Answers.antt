@@ -1,35 +1,32 @@
-use Rattle.std.proofs.Common.{◌≡◌, ◌≢◌, ◌∙◌, sym, arith}
+use Rattle.std.proofs.Common.{◌≡◌, ◌==◌, ℕ, if◌then◌else◌, Some, refl, arith}
+use Rattle.ctx_blocks.specs.Layout.{block_at}
+use Rattle.ctx_blocks.specs.declared.parts.Block.{Block}
 use Rattle.generation_ctx.specs.Ledger.{set_aside, stopped}
 use Rattle.generation_ctx.specs.State.{number_of}
-use Rattle.generation_ctx.specs.Kept.{ledger_of}
-use Rattle.generation_ctx.proofs.Numbers.{block_is, one_region}
+use Rattle.generation_ctx.specs.Kept.{ledger_of, IsKept}
+use Rattle.generation_ctx.specs.declared.books.Books.{Books}
+use Rattle.generation_ctx.proofs.Numbers.{block_is, keeper_test}
 use Rattle.generation_ctx.proofs.Steps.{rearranges_none}
 use Rattle.generation_ctx.proofs.books.Books.stop.Goals as goal
-use Rattle.generation_ctx.proofs.books.Books.stop.Goals.{After-block}
+
+-- the ledger's step, by what is compared
+step : (b : Books) (number : ℕ) (block : Block) → IsKept b → block_at b.blocks number ≡ Some block
+    → stopped (ledger_of b) (number_of b.blocks number) ≡ (if number == b.blocks.keeper then ledger_of b else (if block.live == 0 then set_aside (ledger_of b) (number_of b.blocks number) else ledger_of b))
+unfolding stopped
+step b number block kept is = rw (keeper_test b.blocks number kept.keeper.block block kept.numbered kept.keeper.is is, block_is b number block kept.numbered is) refl
 
 pub returns-then-keeper-number-clause-rearranges : goal.returns-then-keeper-number-clause-rearranges
-unfolding stopped
 returns-then-keeper-number-clause-rearranges c =
-    let one : number_of c.args.self.now.blocks c.args.number ≡ 1 = rw (sym c.if-keeper-number.true ∙ c.keeper.ensures) c.requires.kept.numbered.keeper in
-    rearranges_none _ _ _ c.requires.kept c.requires.agrees (grind arith)
-
-other : (c : After-block) → number_of c.args.self.now.blocks c.args.number ≢ 1
-other c = λ e.
-    (let kept = c.requires.kept in
-    let same = one_region _ _ _ _ _ kept.numbered c.block.ensures kept.keeper.is (e ∙ sym kept.numbered.keeper) in
-    omega (arith, c.keeper.ensures, c.if-keeper-number.false, same))
+    let is = step _ _ _ c.requires.kept c.requires.block.1.is in
+    rearranges_none _ _ _ c.requires.kept c.requires.agrees (grind (arith, c.keeper.ensures, c.if-keeper-number.true))
 
 pub returns-then-block-eq0-clause-rearranges : goal.returns-then-block-eq0-clause-rearranges
-unfolding stopped
 returns-then-block-eq0-clause-rearranges c =
-    let l = ledger_of c.args.self.now in
-    let n = number_of c.args.self.now.blocks c.args.number in
-    let is = block_is c.args.self.now c.args.number _ c.requires.kept.numbered c.block.ensures in
-    let step : stopped l n ≡ set_aside l n = grind (arith, other (goal.at.returns-then-block-eq0-clause-rearranges c).After-block, c.if-block-eq0.true) in
-    rw step c.set_aside.ensures.rearranges
+    let is = step _ _ _ c.requires.kept c.block.ensures in
+    let aside : stopped (ledger_of c.args.self.now) (number_of c.args.self.now.blocks c.args.number) ≡ set_aside (ledger_of c.args.self.now) (number_of c.args.self.now.blocks c.args.number) = grind (arith, c.keeper.ensures, c.if-keeper-number.false, c.if-block-eq0.true) in
+    rw aside c.set_aside.ensures.rearranges
 
 pub returns-else-block-eq0-clause-rearranges : goal.returns-else-block-eq0-clause-rearranges
-unfolding stopped
 returns-else-block-eq0-clause-rearranges c =
-    let is = block_is c.args.self.now c.args.number _ c.requires.kept.numbered c.block.ensures in
-    rearranges_none _ _ _ c.requires.kept c.requires.agrees (grind (arith, other (goal.at.returns-else-block-eq0-clause-rearranges c).After-block, c.if-block-eq0.false))
+    let is = step _ _ _ c.requires.kept c.block.ensures in
+    rearranges_none _ _ _ c.requires.kept c.requires.agrees (grind (arith, c.keeper.ensures, c.if-keeper-number.false, c.if-block-eq0.false))

@@ -1,7 +1,5 @@
-use Rattle.std.proofs.Common.{◌≡◌, ◌≢◌, ◌+◌, ◌-◌, Err, Some, refl, ap, ◌∙◌, arith}
-use Rattle.std.proofs.lemmas.Result.{err_from_is_err_and}
+use Rattle.std.proofs.Common.{◌≡◌, ◌≢◌, ◌+◌, ◌-◌, Some, refl, ap, ◌∙◌, arith}
 use Rattle.addr_space.proofs.Steps.{Moves-more, Keeps-more}
-use Rattle.chunk_header.specs.declared.CtxError.TheVariants.{NoSpace}
 use Rattle.ctx_blocks.specs.Layout.{block_at, header_room, gap_of, footprint}
 use Rattle.ctx_blocks.specs.declared.parts.Block.{Block}
 use Rattle.ctx_blocks.proofs.Changed.{put_here, stays_live}
@@ -9,9 +7,7 @@ use Rattle.ctx_blocks.proofs.Among.{among_adding, among_put, numbers_stay}
 use Rattle.generation_ctx.specs.Ledger.{owned, put, take_own}
 use Rattle.generation_ctx.specs.State.{number_of}
 use Rattle.generation_ctx.specs.Kept.{ledger_of}
-use Rattle.generation_ctx.proofs.Kepts.{spare_none}
-use Rattle.generation_ctx.proofs.Owned.{kept_own}
-use Rattle.generation_ctx.proofs.Added.{numbered_add, kept_add, ledger_add}
+use Rattle.generation_ctx.proofs.Kept.{spare_live, kept_own, kept_add, ledger_add}
 use Rattle.generation_ctx.proofs.Numbers.{numbered_put, ledger_put}
 use Rattle.ctx_blocks.proofs.Numbered.{put_behind}
 use Rattle.ctx_blocks.proofs.Places.{number_is, number_put}
@@ -36,15 +32,15 @@ returns-clause-ok c =
     let here : block_at m number ≡ Some first = put_here l m number first e.block in
     let again = q.block first here in
     let none : last.room ≡ 0 = omega (arith, gap) in
-    let numbered = numbered_add b m number first kept e.same e.fresh e.block refl e.last in
+    let mid = kept_add b m number first kept e.same e.fresh e.block refl e.last e.chunks in
     let not_current : number ≢ b.current = λ z. (let no = rw z at e.fresh in let is = kept.current.is in absurd (cc)) in
     let not_keeper : number ≢ m.keeper = λ z. (let no = rw (z ∙ e.same.keeper) at e.fresh in let is = kept.keeper.is in absurd (cc)) in
     rw (← c.granted-room.ensures.value) (record {
       answer = owned (ledger_of b) room;
       is = grind (arith, e.fits);
       does = record {
-        kept = kept_own (record b { blocks = m }) n _ _ _ _ _ (kept_add b m _ _ kept e.same e.fresh e.block refl e.last e.chunks) here refl q.same again q.chunk q.region refl none refl refl (numbered_put _ _ _ _ _ here again refl numbered q.same q.last) not_keeper not_current (spare_none l _ b.spare number e.fresh kept.spare);
-        ledger = ledger_put (record b { blocks = m }) n _ _ _ here again refl numbered q.last ∙ ap (λ x. put x last) (ledger_add b m _ _ kept e.same e.fresh e.block refl e.last) ∙ rw (put_behind 1 l.last_number l.blocks first last (omega arith) refl kept.numbered.rising, none) refl;
+        kept = kept_own (record b { blocks = m }) n _ _ _ _ _ mid here refl q.same again q.chunk q.region refl none refl refl (numbered_put _ _ _ _ _ here again refl mid.numbered q.same q.last) not_keeper not_current (spare_live l _ b.spare number (λ block is. (let no = e.fresh in absurd (cc))) kept.spare);
+        ledger = ledger_put (record b { blocks = m }) n _ _ _ here again refl mid q.last ∙ ap (λ x. put x last) (ledger_add b m _ _ kept e.same e.fresh e.block refl e.last) ∙ rw (put_behind 1 l.last_number l.blocks first last (omega arith) refl kept.numbered.rising, none) refl;
         fresh = rw (← e.chunks) q.fresh;
         chunk = rw (← e.chunks) q.chunk;
         number = ap (number_of n) q.region ∙ number_put _ _ _ _ _ here again refl number ∙ number_is m number first here;
@@ -54,10 +50,3 @@ returns-clause-ok c =
         keeps = Keeps-more (footprint l) (footprint m) (footprint n) s c.add.new.space c.cut.new.space (stays_live l m e.chunks) c.add.ensures.keeps q.keeps;
       };
     })
-
-pub returns-in_err-number-clause-no_space : goal.returns-in_err-number-clause-no_space
-unfolding take_own
-returns-in_err-number-clause-no_space c = λ e.
-    (let is : c.in_err-number.field-0.0 ≡ NoSpace = let p = err_from_is_err_and c.from_residual.result c.from_residual.ensures.1 in cc in
-    let over = c.in_err-number.ensures.no_space (ap Err is) in
-    rw (← c.granted-room.ensures.value) (grind arith))
