@@ -3,9 +3,9 @@ use Rattle.std.proofs.Common.{◌≡◌, ℕ, ◌+◌, ◌-◌, ◌%◌, ◌^◌
 use Rattle.addr_space.specs.declared.Addr.{Addr}
 use Rattle.chunk_header.specs.declared.Kind.{Kind}
 use Rattle.chunk_header.specs.declared.Kind.TheVariants.{Slab, Generation}
-use Rattle.chunk_header.specs.Header.{IsLeading, IsHeaded, AllHeaded, AllOfKind, space_of, TakesSpace}
-use Rattle.ctx_blocks.specs.Layout.{Layout, start_of, gap_of, header_of, footprint, chunk_at, block_at}
-use Rattle.ctx_blocks.specs.Kept.{IsLaid}
+use Rattle.chunk_header.specs.Header.{IsPackable, IsLeading, IsHeaded, AllHeaded, AllOfKind, space_of, TakesSpace}
+use Rattle.ctx_blocks.specs.Layout.{Layout, start_of, gap_of, header_room, header_of, footprint, chunk_at, block_at}
+use Rattle.ctx_blocks.specs.Kept.{IsLaid, IsSized}
 use Rattle.ctx_blocks.specs.declared.parts.Chunk.{Chunk}
 use Rattle.ctx_blocks.proofs.Laid.{from_live, mark_from_block, mark_from_chunk}
 use Rattle.ctx_blocks.specs.declared.parts.Block.{Block}
@@ -13,6 +13,9 @@ use Rattle.addr_space.proofs.Options.{one_value}
 
 pub start_whole : (l : Layout) (number : ℕ) → start_of l number % 8 ≡ 0
 start_whole l number = grind arith
+
+pub packable : (kind : Kind) (gap dist : ℕ) (chunk : Chunk) → IsSized gap chunk → dist < 2 ^ 32 → dist % 8 ≡ 0 → IsPackable (header_of kind chunk dist)
+packable kind gap dist chunk sized below whole = record { value = let value = sized.value in grind (arith, value); dist = below; whole = whole }
 
 pub leading : (kind : Kind) (chunk : Chunk) (dist : ℕ) → (kind ≡ Slab) ⊎ (kind ≡ Generation) → (gap_of kind ≡ 8) × IsLeading (header_of kind chunk dist)
 leading kind chunk dist (inl slab) = rw slab (refl, tt)
@@ -41,11 +44,7 @@ module _ (l : Layout) (laid : IsLaid l) (is : (l.kind ≡ Slab) ⊎ (l.kind ≡ 
       record {
         header = header_of l.kind chunk dist;
         size = placed.block.size;
-        packable = record {
-          value = let value = placed.sized.value in grind (arith, value);
-          dist = omega (arith, placed.last, filled.small);
-          whole = omega (arith, placed.first, leads.0, placed.whole, start_whole l at.region);
-        };
+        packable = packable l.kind (header_room l) dist chunk placed.sized (omega (arith, placed.last, filled.small)) (omega (arith, placed.first, leads.0, placed.whole, start_whole l at.region));
         leading = leads.1;
         behind = omega (arith, placed.first, leads.0);
         large = omega (arith, placed.first, leads.0, placed.last);
