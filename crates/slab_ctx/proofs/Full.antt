@@ -17,7 +17,7 @@ use Rattle.slab_ctx.proofs.Numbers.{stride_least, stride-some, slots_apart}
 use Rattle.addr_space.proofs.Options.{none_or_some, option_cases}
 use Rattle.addr_space.proofs.Addresses.{same_addr_from}
 use Rattle.ctx_blocks.proofs.Laid.{region_is, from_live}
-use Rattle.slab_ctx.proofs.Places.{start-is, slot-least}
+use Rattle.slab_ctx.proofs.Places.{start-is}
 
 -- what the context has in a space: what the blocks have, and the free chunks
 abbrev pub full : ℕ → Layout → Footprint
@@ -80,7 +80,7 @@ module _ (l : Layout) (size : ℕ) (s : List (ℕ × Vec ℕ)) (slotted : IsSlot
       let it = from_free l size at n free in
       let slot = slot-from size at.offset slotted.least it.slot in
       let front : front_of (start_of l at.region) (block_at l at.region) ≤ start_of l at.region + 40 = rw it.found (omega arith) in
-      omega (arith, front, start-is l size s slotted at.region it.not_keeper, slot-least size at.offset slot.0)
+      omega (arith, front, start-is l size s slotted at.region it.not_keeper, slot.0.at_slot)
 
   pub Agrees-full : (sp : Space) → Agrees (footprint_of l) sp → Agrees (full size l) sp
   Agrees-full sp agrees = Agrees-free (footprint_of l) (free_at size l) sp agrees free_inside free_apart free_behind

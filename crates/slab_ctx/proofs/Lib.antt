@@ -1,6 +1,5 @@
 pub mod Numbers
 pub mod Slotted
-pub mod Stacked
 pub mod Taken
 pub mod Places
 pub mod Trees

@@ -18,10 +18,6 @@ slot-whole size offset is =
     let eighths : stride size ≡ stride size / 8 * 8 = omega (arith, stride-whole size) in
     omega (arith, is.at_slot, ap (λ n. is.slot * n) eighths ∙ sym (mul_assoc is.slot (stride size / 8) 8))
 
--- they begin behind the headers
-pub slot-least : (size offset : ℕ) → IsSlot size offset → 48 ≤ offset
-slot-least size offset is = omega (arith, is.at_slot)
-
 module _ (l : Layout) (size : ℕ) (s : List (ℕ × Vec ℕ)) (slotted : IsSlotted l size s) where
   -- a chunk has a header of 8 bytes
   pub gap-is : header_room l ≡ 8

@@ -1,21 +1,14 @@
 -- Lemmas on the steps of the ledger: a request that is served, and a chunk that is freed.
-use Rattle.std.proofs.Common.{◌≡◌, ◌≢◌, ℕ, ◌+◌, ◌<◌, ◌++◌, List, [], ◌∷◌, map, Option, Some, None, Err, arith, ◌-◌, ◌≤◌, ◌==◌, ◌&&◌, nat_le, if◌then◌else◌, refl}
-use Rattle.chunk_header.specs.declared.CtxError.TheVariants.{WrongSize}
+use Rattle.std.proofs.Common.{◌≡◌, ℕ, ◌+◌, ◌<◌, ◌++◌, List, [], ◌∷◌, map, arith, ◌-◌, ◌≤◌, ◌==◌, ◌&&◌, nat_le, if◌then◌else◌, refl}
 use Rattle.ctx_blocks.specs.Kept.{AreRising}
 use Rattle.ctx_blocks.specs.declared.parts.Block.{Block}
-use Rattle.slab_ctx.specs.Ledger.{SlabLedger, SlabBlock, with_live, serve, empties, without_number, live_in, give}
+use Rattle.slab_ctx.specs.Ledger.{SlabLedger, SlabBlock, with_live, empties, without_number, live_in, give}
 use Rattle.slab_ctx.specs.State.{numbered_of}
 
 -- the last block has one live chunk
 pub live-last : (least most number : ℕ) (es : List (ℕ × Block)) → most < number → AreRising least most es → with_live (map numbered_of es ++ record { number = number; live = 0 } ∷ []) number 1 ≡ map numbered_of es ++ record { number = number; live = 1 } ∷ []
 live-last least most number [] less h = grind arith
 live-last least most number (e ∷ es) less h = grind (arith, live-last (e.1.number + 1) most number es less h.2)
-
--- serving is never refused for the size
-pub serve_not_wrong : (l : SlabLedger) (left : ℕ) (chosen : Option SlabBlock) → serve l left chosen ≢ Err WrongSize
-unfolding serve
-serve_not_wrong l left (Some block) is = grind arith
-serve_not_wrong l left None is = grind arith
 
 -- which block is left out doesn't depend on live chunks
 without-set : (number live : ℕ) (xs : List SlabBlock) → without_number (with_live xs number live) number ≡ without_number xs number

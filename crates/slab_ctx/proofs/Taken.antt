@@ -86,11 +86,9 @@ module _ (l m : Layout) (size : ℕ) (s : List (ℕ × Vec ℕ)) (at : Addr) (sl
         ]
 
     distinct_now : (j k : ℕ) → j < k → k < b.freed + 1 → slice_index (stack_at t at.region) j ≢ slice_index (stack_at t at.region) k
-    distinct_now j k less below =
-        rw (freed_other j (omega arith)) (elim (cases_eq k b.freed) [
-          | inl here ↦ rw (here, freed_last) (λ e. (let none = (was.free j (omega arith)).free in let clash = rw e at none in absurd (cc)))
-          | inr there ↦ rw (freed_other k (omega arith)) (was.distinct j k less (omega arith))
-        ])
+    distinct_now j k less below e =
+        let here : chunk_at l (at_offset at.region at.offset) ≡ Some chunk = has in
+        grind (arith, freed_last, freed_other j (omega arith), freed_other k, was.distinct j k less, (was.free j (omega arith)).free)
 
     pub IsSlotted-removed : (now : Block) → now.size ≡ b.size → now.room ≡ b.room → now.live ≡ b.live - 1 → now.freed ≡ b.freed + 1 → PutsBlock l m at.region now → IsSlotted m size t
     IsSlotted-removed now bytes room live freed put =

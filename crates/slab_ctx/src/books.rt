@@ -230,7 +230,7 @@ impl Books {
     }
 
     // Serves a request.
-    #[tactic(auto, unfolding(crate::specs::Ledger::take), using(crate::proofs::Served::serve_not_wrong))]
+    #[tactic(auto, unfolding(crate::specs::Ledger::take, crate::specs::Ledger::serve))]
     pub fn alloc(&mut self, space: &mut Space, size: u64) -> Result<Addr, CtxError>
         requires kept { IsKept self.old }
         requires agrees { Agrees (footprint (state_of self.old)) space.old }

@@ -2,7 +2,7 @@ use Rattle.std.proofs.Common.{◌+◌, ◌-◌, ap, ◌∙◌, refl, arith}
 use Rattle.addr_space.specs.declared.Addr.{Addr}
 use Rattle.ctx_blocks.specs.declared.parts.Block.{Block}
 use Rattle.slab_ctx.specs.Slots.{IsFree}
-use Rattle.slab_ctx.proofs.Places.{gap-is, start-is, slot-least, slot-whole, depth-few, clear-of}
+use Rattle.slab_ctx.proofs.Places.{gap-is, start-is, slot-whole, depth-few, clear-of}
 use Rattle.slab_ctx.proofs.Taken.{counted, IsSlotted-placed}
 use Rattle.slab_ctx.proofs.slots.Slots.reuse.Goals as goal
 
@@ -23,7 +23,7 @@ place-requires-clause-block c =
 
 pub place-requires-clause-first : goal.place-requires-clause-first
 place-requires-clause-first c =
-    omega (arith, start-is _ _ _ c.requires.slots c.args.number c.requires.not_keeper, gap-is _ _ _ c.requires.slots, slot-least _ c.from.result (free_at c).slot)
+    omega (arith, start-is _ _ _ c.requires.slots c.args.number c.requires.not_keeper, gap-is _ _ _ c.requires.slots, (free_at c).slot.at_slot)
 
 pub place-requires-clause-whole : goal.place-requires-clause-whole
 place-requires-clause-whole c = slot-whole c.args.self.now.size c.from.result (free_at c).slot
