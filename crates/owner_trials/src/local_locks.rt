@@ -1,4 +1,6 @@
 //! Each call once, the rows of the error table, and passing and releasing by owners.
+ghost use Rattle.lock_local.specs.Locks.{Agrees};
+
 use lock_local::{LockError, LockTable};
 use lock_shared::SharedLocks;
 use pgs_step::{EventList, Mode, OwnerId, What};
@@ -23,14 +25,26 @@ fn release(object: u32, mode: Mode, count: u64, owner: u64) -> What {
     }
 }
 
+/// One object by an owner, and twice by another one.
+fn take_thrice(
+    table: &mut LockTable,
+    shared: &mut SharedLocks,
+    out: &mut EventList,
+) -> Result<(), LockError>
+    requires agrees { Agrees table.old shared.old }
+    ensures agrees { Agrees table.new shared.new }
+{
+    table.acquire(shared, ONE, 5, SHARE, out)?;
+    table.acquire(shared, TWO, 5, SHARE, out)?;
+    table.acquire(shared, TWO, 5, SHARE, out)
+}
+
 #[test]
 fn counts_are_passed_and_go_in_one_sum(rt: HostRuntime) -> Result<(), Fail> {
     let mut shared = SharedLocks::new(rt.alloc());
     let mut table = LockTable::new(rt.alloc(), 1);
     let mut out = EventList::new(rt.alloc(), 10)?;
-    table.acquire(&mut shared, ONE, 5, SHARE, &mut out)?;
-    table.acquire(&mut shared, TWO, 5, SHARE, &mut out)?;
-    table.acquire(&mut shared, TWO, 5, SHARE, &mut out)?;
+    take_thrice(&mut table, &mut shared, &mut out)?;
     assert_eq!(rt; table.distinct(), 1);
     table.pass_owner(TWO, ONE, &mut out);
     assert_eq!(rt;
@@ -61,15 +75,27 @@ fn counts_are_passed_and_go_in_one_sum(rt: HostRuntime) -> Result<(), Fail> {
     Ok(())
 }
 
+/// Two objects by an owner, one of them in two modes, and one by another owner.
+fn take_four(
+    table: &mut LockTable,
+    shared: &mut SharedLocks,
+    out: &mut EventList,
+) -> Result<(), LockError>
+    requires agrees { Agrees table.old shared.old }
+    ensures agrees { Agrees table.new shared.new }
+{
+    table.acquire(shared, TWO, 7, SHARE, out)?;
+    table.acquire(shared, TWO, 5, EXCLUSIVE, out)?;
+    table.acquire(shared, TWO, 5, SHARE, out)?;
+    table.acquire(shared, ONE, 5, SHARE, out)
+}
+
 #[test]
 fn an_owner_releases_in_order(rt: HostRuntime) -> Result<(), Fail> {
     let mut shared = SharedLocks::new(rt.alloc());
     let mut table = LockTable::new(rt.alloc(), 1);
     let mut out = EventList::new(rt.alloc(), 10)?;
-    table.acquire(&mut shared, TWO, 7, SHARE, &mut out)?;
-    table.acquire(&mut shared, TWO, 5, EXCLUSIVE, &mut out)?;
-    table.acquire(&mut shared, TWO, 5, SHARE, &mut out)?;
-    table.acquire(&mut shared, ONE, 5, SHARE, &mut out)?;
+    take_four(&mut table, &mut shared, &mut out)?;
     table.release_owner(&mut shared, TWO, &mut out);
     assert_eq!(rt; table.distinct(), 1);
     assert_eq!(rt; out.events().len(), 7);

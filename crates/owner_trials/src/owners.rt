@@ -294,165 +294,229 @@ fn release_phases(session: &mut Session, owner: OwnerId, commit: bool, top: bool
     session.release(owner, Phase::AfterLocks, commit, top);
 }
 
-#[test]
-fn abort_of_two_children_and_their_parent(rt: HostRuntime) -> Result<(), Fail> {
-    let mut session = Session::new(rt.alloc(), 40)?;
+const TOP_PIN: Item = Item {
+    kind: KindId::BUFFER_PIN,
+    key: 7,
+    serial: 1,
+};
+
+const RELATION: Item = Item {
+    kind: KindId::RELCACHE_REFERENCE,
+    key: 9,
+    serial: 2,
+};
+
+const PIN: Item = Item {
+    kind: KindId::BUFFER_PIN,
+    key: 7,
+    serial: 3,
+};
+
+const OTHER_PIN: Item = Item {
+    kind: KindId::BUFFER_PIN,
+    key: 8,
+    serial: 4,
+};
+
+const OPEN_FILE: Item = Item {
+    kind: KindId::FILE,
+    key: 5,
+    serial: 5,
+};
+
+const SNAPSHOT: Item = Item {
+    kind: KindId::SNAPSHOT_REFERENCE,
+    key: 4,
+    serial: 6,
+};
+
+const ABORTED: [What; 22] = [
+    What::Owner(1),
+    What::OwnerIn {
+        owner: 2,
+        parent: 1,
+    },
+    What::OwnerIn {
+        owner: 3,
+        parent: 1,
+    },
+    What::Acquire {
+        item: TOP_PIN,
+        owner: 1,
+    },
+    What::Acquire {
+        item: RELATION,
+        owner: 2,
+    },
+    What::Acquire {
+        item: PIN,
+        owner: 2,
+    },
+    What::Acquire {
+        item: OTHER_PIN,
+        owner: 2,
+    },
+    What::Acquire {
+        item: OPEN_FILE,
+        owner: 3,
+    },
+    What::Acquire {
+        item: SNAPSHOT,
+        owner: 3,
+    },
+    What::Release {
+        item: OTHER_PIN,
+        owner: 2,
+    },
+    What::DescriptorClosed(8),
+    What::Release {
+        item: PIN,
+        owner: 2,
+    },
+    What::DescriptorClosed(7),
+    What::Release {
+        item: RELATION,
+        owner: 2,
+    },
+    What::DescriptorClosed(9),
+    What::Release {
+        item: TOP_PIN,
+        owner: 1,
+    },
+    What::DescriptorClosed(7),
+    What::ReleaseLock {
+        object: ALL_OWNERS,
+        mode: Mode::ShareLock,
+        count: 1,
+        owner: 1,
+    },
+    What::Release {
+        item: SNAPSHOT,
+        owner: 3,
+    },
+    What::DescriptorClosed(4),
+    What::Release {
+        item: OPEN_FILE,
+        owner: 3,
+    },
+    What::DescriptorClosed(5),
+];
+
+const COMMITTED: [What; 21] = [
+    What::NotClosed {
+        item: OTHER_PIN,
+        owner: 2,
+    },
+    What::Release {
+        item: OTHER_PIN,
+        owner: 2,
+    },
+    What::DescriptorClosed(8),
+    What::NotClosed {
+        item: PIN,
+        owner: 2,
+    },
+    What::Release {
+        item: PIN,
+        owner: 2,
+    },
+    What::DescriptorClosed(7),
+    What::NotClosed {
+        item: RELATION,
+        owner: 2,
+    },
+    What::Release {
+        item: RELATION,
+        owner: 2,
+    },
+    What::DescriptorClosed(9),
+    What::PassLock {
+        object: ONE_OWNER,
+        mode: Mode::ShareLock,
+        count: 1,
+        from: 3,
+        to: 2,
+    },
+    What::PassLock {
+        object: ONE_OWNER,
+        mode: Mode::ShareLock,
+        count: 1,
+        from: 2,
+        to: 1,
+    },
+    What::NotClosed {
+        item: SNAPSHOT,
+        owner: 3,
+    },
+    What::Release {
+        item: SNAPSHOT,
+        owner: 3,
+    },
+    What::DescriptorClosed(4),
+    What::NotClosed {
+        item: OPEN_FILE,
+        owner: 3,
+    },
+    What::Release {
+        item: OPEN_FILE,
+        owner: 3,
+    },
+    What::DescriptorClosed(5),
+    What::NotClosed {
+        item: TOP_PIN,
+        owner: 1,
+    },
+    What::Release {
+        item: TOP_PIN,
+        owner: 1,
+    },
+    What::DescriptorClosed(7),
+    What::ReleaseLock {
+        object: ALL_OWNERS,
+        mode: Mode::ShareLock,
+        count: 1,
+        owner: 1,
+    },
+];
+
+/// A parent of two children ends by an abort.
+fn abort_once(session: &mut Session) -> Result<(), OwnerError>
+    requires fresh { session.old ≡ record { rooms = Empty; places = Empty; next_owner = 1; next_serial = 1 } }
+{
     let top = session.create(None)?;
     let older = session.create(Some(top))?;
     let newer = session.create(Some(top))?;
-    fill(&mut session, top, older, newer)?;
-    release_phases(&mut session, top, false, true);
-    let top_pin = item(KindId::BUFFER_PIN, 7, 1);
-    let relation = item(KindId::RELCACHE_REFERENCE, 9, 2);
-    let pin = item(KindId::BUFFER_PIN, 7, 3);
-    let other_pin = item(KindId::BUFFER_PIN, 8, 4);
-    let file = item(KindId::FILE, 5, 5);
-    let snapshot = item(KindId::SNAPSHOT_REFERENCE, 4, 6);
-    let events = [
-        What::Owner(1),
-        What::OwnerIn {
-            owner: 2,
-            parent: 1,
-        },
-        What::OwnerIn {
-            owner: 3,
-            parent: 1,
-        },
-        What::Acquire {
-            item: top_pin,
-            owner: 1,
-        },
-        What::Acquire {
-            item: relation,
-            owner: 2,
-        },
-        What::Acquire {
-            item: pin,
-            owner: 2,
-        },
-        What::Acquire {
-            item: other_pin,
-            owner: 2,
-        },
-        What::Acquire {
-            item: file,
-            owner: 3,
-        },
-        What::Acquire {
-            item: snapshot,
-            owner: 3,
-        },
-        What::Release {
-            item: other_pin,
-            owner: 2,
-        },
-        What::DescriptorClosed(8),
-        What::Release {
-            item: pin,
-            owner: 2,
-        },
-        What::DescriptorClosed(7),
-        What::Release {
-            item: relation,
-            owner: 2,
-        },
-        What::DescriptorClosed(9),
-        What::Release {
-            item: top_pin,
-            owner: 1,
-        },
-        What::DescriptorClosed(7),
-        unlocked(ALL_OWNERS, 1),
-        What::Release {
-            item: snapshot,
-            owner: 3,
-        },
-        What::DescriptorClosed(4),
-        What::Release {
-            item: file,
-            owner: 3,
-        },
-        What::DescriptorClosed(5),
-    ];
-    assert_eq!(rt; session.events(), events.as_slice());
+    fill(session, top, older, newer)?;
+    release_phases(session, top, false, true);
+    Ok(())
+}
+
+#[test]
+fn abort_of_two_children_and_their_parent(rt: HostRuntime) -> Result<(), Fail> {
+    let mut session = Session::new(rt.alloc(), 40)?;
+    abort_once(&mut session)?;
+    assert_eq!(rt; session.events(), ABORTED.as_slice());
+    Ok(())
+}
+
+/// A child ends before its parent, each by a commit.
+fn commit_twice(session: &mut Session) -> Result<(), OwnerError>
+    requires fresh { session.old ≡ record { rooms = Empty; places = Empty; next_owner = 1; next_serial = 1 } }
+{
+    let top = session.create(None)?;
+    let child = session.create(Some(top))?;
+    let low = session.create(Some(child))?;
+    fill(session, top, child, low)?;
+    release_phases(session, child, true, false);
+    release_phases(session, top, true, true);
     Ok(())
 }
 
 #[test]
 fn commit_of_a_child_and_then_of_its_parent(rt: HostRuntime) -> Result<(), Fail> {
     let mut session = Session::new(rt.alloc(), 40)?;
-    let top = session.create(None)?;
-    let child = session.create(Some(top))?;
-    let low = session.create(Some(child))?;
-    fill(&mut session, top, child, low)?;
-    release_phases(&mut session, child, true, false);
-    release_phases(&mut session, top, true, true);
-    let top_pin = item(KindId::BUFFER_PIN, 7, 1);
-    let relation = item(KindId::RELCACHE_REFERENCE, 9, 2);
-    let pin = item(KindId::BUFFER_PIN, 7, 3);
-    let other_pin = item(KindId::BUFFER_PIN, 8, 4);
-    let file = item(KindId::FILE, 5, 5);
-    let snapshot = item(KindId::SNAPSHOT_REFERENCE, 4, 6);
-    let events = [
-        What::NotClosed {
-            item: other_pin,
-            owner: 2,
-        },
-        What::Release {
-            item: other_pin,
-            owner: 2,
-        },
-        What::DescriptorClosed(8),
-        What::NotClosed {
-            item: pin,
-            owner: 2,
-        },
-        What::Release {
-            item: pin,
-            owner: 2,
-        },
-        What::DescriptorClosed(7),
-        What::NotClosed {
-            item: relation,
-            owner: 2,
-        },
-        What::Release {
-            item: relation,
-            owner: 2,
-        },
-        What::DescriptorClosed(9),
-        passed(3, 2),
-        passed(2, 1),
-        What::NotClosed {
-            item: snapshot,
-            owner: 3,
-        },
-        What::Release {
-            item: snapshot,
-            owner: 3,
-        },
-        What::DescriptorClosed(4),
-        What::NotClosed {
-            item: file,
-            owner: 3,
-        },
-        What::Release {
-            item: file,
-            owner: 3,
-        },
-        What::DescriptorClosed(5),
-        What::NotClosed {
-            item: top_pin,
-            owner: 1,
-        },
-        What::Release {
-            item: top_pin,
-            owner: 1,
-        },
-        What::DescriptorClosed(7),
-        unlocked(ALL_OWNERS, 1),
-    ];
-    assert_eq!(rt; session.events().get(9..), Some(events.as_slice()));
+    commit_twice(&mut session)?;
+    assert_eq!(rt; session.events().get(9..), Some(COMMITTED.as_slice()));
     Ok(())
 }
 
@@ -501,18 +565,26 @@ fn deepen(session: &mut Session, owner: OwnerId, times: u32) -> Result<OwnerId, 
     Ok(last)
 }
 
-#[test]
-fn chain_of_1001_owners(rt: HostRuntime) -> Result<(), Fail> {
-    let mut session = Session::new(rt.alloc(), 4_000)?;
+/// A chain of 1,001 owners, of which the last holds two items and the first one: the second ends, and then the first.
+fn end_a_chain(session: &mut Session) -> Result<(), OwnerError>
+    requires fresh { session.old ≡ record { rooms = Empty; places = Empty; next_owner = 1; next_serial = 1 } }
+{
     let top = session.create(None)?;
     let second = session.create(Some(top))?;
-    let last = deepen(&mut session, second, 999)?;
+    let last = deepen(session, second, 999)?;
     session.hold(top, KindId::BUFFER_PIN, 7)?;
     session.hold(last, KindId::BUFFER_PIN, 8)?;
     session.hold(last, KindId::FILE, 5)?;
-    release_phases(&mut session, second, true, false);
-    release_phases(&mut session, top, true, true);
+    release_phases(session, second, true, false);
+    release_phases(session, top, true, true);
     session.discard(top);
+    Ok(())
+}
+
+#[test]
+fn chain_of_1001_owners(rt: HostRuntime) -> Result<(), Fail> {
+    let mut session = Session::new(rt.alloc(), 4_000)?;
+    end_a_chain(&mut session)?;
     let events = session.events();
     assert_eq!(rt; events.len(), 3_015);
     let pin = item(KindId::BUFFER_PIN, 8, 2);
