@@ -107,10 +107,7 @@ Moves-changed f g s t number slot agrees sound account context changes others ow
   };
   account = account;
   context = context;
-  outside = λ n r. elim (cases_eq n number) [
-    | inl same ↦ rw (same, changes.changed) ((λ out. absurd (was r out)), (λ out. absurd (now r out)))
-    | inr differs ↦ rw (changes.others n differs, others n differs) ((λ out. out), (λ out. out))
-  ];
+  outside = λ n r. grind (arith, was r, now r, changes.changed, changes.others n, others n);
   accounts = changes.accounts;
   limit = changes.limit;
   held = holds;
