@@ -45,11 +45,7 @@ module _ (init now : Space) (from to : Addr) (n done : ℕ) (inside_from : IsIns
 
   -- the source has its length
   len_source : length (bytes_of (region_at now from.region)) ≡ length source
-  len_source =
-      elim (cases_eq from.region to.region) [
-        | inl same ↦ rw (same, target.1) len_target
-        | inr differs ↦ rw (changes.others from.region differs) refl
-      ]
+  len_source = grind (arith, len_target, target.1, changes.others from.region)
 
   -- the next piece goes into the target
   pub piece_inside : (step : ℕ) → done + step ≤ n → IsInside now (record { region = to.region; offset = to.offset + done }) step

@@ -78,10 +78,7 @@ IsSound-changed xs ys n accounts a entry sound below others was now moved =
     let sums = λ (b : ℕ). sum_by-changed (share b) (share-none b) xs ys n others in
     record {
       few = rw length-set sound.few;
-      counted = λ k region found. rw length-set (elim (cases_eq k n) [
-        | inl same ↦ rw (now region (rw same at found)) below
-        | inr differs ↦ sound.counted k region (sym (others k differs) ∙ found)
-      ]);
+      counted = λ k region found. rw length-set (grind (arith, now region, others k, sound.counted k region));
       held = λ b within. elim (cases_eq b a) [
         | inl same ↦ rw (same, get_or-set_same accounts a entry no_account below) (omega (arith, moved, sums a))
         | inr differs ↦
