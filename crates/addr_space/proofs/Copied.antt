@@ -37,11 +37,7 @@ module _ (init now : Space) (from to : Addr) (n done : ℕ) (inside_from : IsIns
 
   -- what is still to be copied is as it was
   pub rest_same : (k : ℕ) → from.offset + done ≤ k → k < from.offset + n → byte_at now from.region k ≡ byte_at init from.region k
-  rest_same k above below =
-      elim (cases_eq from.region to.region) [
-        | inl same ↦ let far = apart same in rw (same, now_is, target.1) (grind (arith, places))
-        | inr differs ↦ rw (changes.others from.region differs) refl
-      ]
+  rest_same k above below = grind (arith, places, now_is, target.1, changes.others from.region)
 
   -- the source has its length
   len_source : length (bytes_of (region_at now from.region)) ≡ length source

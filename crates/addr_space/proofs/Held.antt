@@ -79,12 +79,9 @@ IsSound-changed xs ys n accounts a entry sound below others was now moved =
     record {
       few = rw length-set sound.few;
       counted = λ k region found. rw length-set (grind (arith, now region, others k, sound.counted k region));
-      held = λ b within. elim (cases_eq b a) [
-        | inl same ↦ rw (same, get_or-set_same accounts a entry no_account below) (omega (arith, moved, sums a))
-        | inr differs ↦
-            rw (get_or-set_other accounts a b entry no_account differs)
-            (omega (arith, sums b, sound.held b (rw length-set at within), share-other (get_or xs n None) a b was differs, share-other (get_or ys n None) a b now differs))
-      ];
+      held = λ b within.
+          let same = get_or-set_same accounts a entry no_account below in
+          grind (arith, length-set, sums b, get_or-set_other accounts a b entry no_account, sound.held b, share-other (get_or xs n None) a b was, share-other (get_or ys n None) a b now);
     }
 
 -- the counts of what was taken, where one account took more
