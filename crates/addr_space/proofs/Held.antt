@@ -2,9 +2,7 @@
 use Rattle.std.proofs.Common.{◌≡◌, ◌≢◌, ℕ, zero, suc, ◌+◌, ◌<◌, ◌≤◌, List, [], ◌∷◌, length, get_or, set, map, Option, Some, None, sum_by, refl, sym, ap, ◌∙◌, arith, ◌==◌, if◌then◌else◌}
 use Rattle.std.proofs.lemmas.List.Sums.{sum_by-cons, get_or-le-sum_by}
 use Rattle.std.proofs.lemmas.List.{length-set, get_or-set_same, get_or-set_other, length-replicate, get_or-map, map-set, get_or_past, set-get_or}
-use Rattle.std.proofs.lemmas.Bool.{cases_eq}
 use Rattle.std.proofs.lemmas.Bool.Decides.{nat_tests}
-use Rattle.std.proofs.Common.{inl, inr}
 use Rattle.addr_space.specs.Space.{Region, Space, share, held, region_at, Changes, unwritten, raised, risen}
 use Rattle.addr_space.specs.Sound.{IsSound, account_at, no_account}
 use Rattle.addr_space.specs.declared.Account.{Account}

@@ -1,5 +1,5 @@
 -- Lemmas on a space after bytes were written in a region.
-use Rattle.std.proofs.Common.{◌≡◌, ℕ, ◌+◌, ◌<◌, ◌≤◌, ◌⊎◌, ◌++◌, List, length, map, take, drop, Option, Some, None, refl, sym, ap, ◌∙◌, inl, inr, arith, rules, ◌==◌, if◌then◌else◌}
+use Rattle.std.proofs.Common.{◌≡◌, ℕ, ◌+◌, ◌<◌, ◌≤◌, ◌⊎◌, ◌++◌, List, length, map, take, drop, Option, Some, None, sym, ap, ◌∙◌, inl, inr, arith, rules, ◌==◌, if◌then◌else◌}
 use Rattle.std.proofs.lemmas.Bool.{cases_eq}
 use Rattle.std.proofs.lemmas.List.{places, length-map, get_or-map}
 use Rattle.addr_space.specs.declared.Addr.{Addr}

@@ -1,5 +1,5 @@
 -- Lemmas on a word that a context writes in a region of its own, and on a region that it takes and gives back.
-use Rattle.std.proofs.Common.{◌≡◌, ◌≢◌, ℕ, ◌+◌, ◌<◌, ◌≤◌, ◌⊎◌, ◌==◌, if◌then◌else◌, List, length, map, Some, None, refl, ap, ◌∙◌, inl, inr, arith}
+use Rattle.std.proofs.Common.{◌≡◌, ◌≢◌, ℕ, ◌+◌, ◌<◌, ◌≤◌, ◌⊎◌, ◌==◌, if◌then◌else◌, List, length, map, Some, None, refl, ◌∙◌, arith}
 use Rattle.std.proofs.lemmas.List.{length-replicate}
 use Rattle.std.proofs.lemmas.Bool.Decides.{nat_tests}
 use Rattle.addr_space.specs.declared.Addr.{Addr}
@@ -62,8 +62,8 @@ module _ (f g : Footprint) (s m t : Space) (at : Addr) (size : ℕ) (word : List
   pub Keeps-taken : Keeps f g s t
   Keeps-taken b p n k live again below short =
       let within = agrees.sound.live_inside b p live in
-      let there = (agrees.regions b.region within.0 within.1).1 in
-      rw (both.others b.region (λ same. let clash = ap (region_at s) same in absurd (cc))) refl
+      let there = agrees.regions b.region within.0 within.1 in
+      grind (arith, both.others b.region)
 
 -- what a region of the context counts for an account
 pub share-owned : (s : Space) (owner number size account : ℕ) → HasRegion s number owner size → share account (region_at s number) ≡ (if owner == account then size else 0)
@@ -83,5 +83,4 @@ Moves-gone f g s t number size agrees sound account context total changes owned 
 -- and the chunks that are still live are elsewhere
 pub Keeps-give : (f g : Footprint) (s t : Space) (number : ℕ) → IsSound g → g.region number ≡ None → Changes s t number None → Keeps f g s t
 Keeps-give f g s t number sound gone changes b m n k live again below short =
-    let within = sound.live_inside b n again in
-    rw (changes.others b.region (λ same. let clash = ap g.region same in absurd (cc))) refl
+    let within = sound.live_inside b n again in grind (arith, changes.others b.region)
