@@ -17,9 +17,7 @@ module _ (f g other : Footprint) (s t : Space) (moves : Moves f g s t) (disjoint
   kept : (number len : ℕ) → other.region number ≡ Some len → (region_at t number ≡ region_at s number) × (g.region number ≡ None)
   kept number len owns =
       let has = agrees.regions number len owns in
-      let none = AreDisjoint-sym f other disjoint number len owns in
-      let now = (moves.outside number has.0).0 (has.1, none) in
-      (now.0 ∙ sym has.1, now.1)
+      grind (arith, moves.outside number has.0, AreDisjoint-sym f other disjoint number len owns)
 
   byte_kept : (at : Addr) (n k : ℕ) → IsWithin other at n → byte_at t at.region k ≡ byte_at s at.region k
   byte_kept at n k within = ap (λ r. get_or (bytes_of r) k None) (kept at.region within.0 within.1).0

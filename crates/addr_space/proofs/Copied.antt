@@ -1,6 +1,5 @@
 -- Lemmas on bytes that are copied within a space.
-use Rattle.std.proofs.Common.{◌≡◌, ℕ, ◌+◌, ◌<◌, ◌≤◌, List, length, map, Option, Some, None, IsSome, refl, ap, ◌∙◌, arith, inl, inr}
-use Rattle.std.proofs.lemmas.Bool.{cases_eq}
+use Rattle.std.proofs.Common.{◌≡◌, ℕ, ◌+◌, ◌<◌, ◌≤◌, List, length, map, Option, Some, None, IsSome, refl, ap, ◌∙◌, arith}
 use Rattle.std.proofs.lemmas.List.{places}
 use Rattle.addr_space.specs.declared.Addr.{Addr}
 use Rattle.addr_space.specs.Space.{Region, Space, region_at, bytes_of, byte_at, part, overwritten, Changes, IsApart, IsInside}
@@ -37,19 +36,11 @@ module _ (init now : Space) (from to : Addr) (n done : ℕ) (inside_from : IsIns
 
   -- what is still to be copied is as it was
   pub rest_same : (k : ℕ) → from.offset + done ≤ k → k < from.offset + n → byte_at now from.region k ≡ byte_at init from.region k
-  rest_same k above below =
-      elim (cases_eq from.region to.region) [
-        | inl same ↦ let far = apart same in rw (same, now_is, target.1) (grind (arith, places))
-        | inr differs ↦ rw (changes.others from.region differs) refl
-      ]
+  rest_same k above below = grind (arith, places, now_is, target.1, changes.others from.region)
 
   -- the source has its length
   len_source : length (bytes_of (region_at now from.region)) ≡ length source
-  len_source =
-      elim (cases_eq from.region to.region) [
-        | inl same ↦ rw (same, target.1) len_target
-        | inr differs ↦ rw (changes.others from.region differs) refl
-      ]
+  len_source = grind (arith, len_target, target.1, changes.others from.region)
 
   -- the next piece goes into the target
   pub piece_inside : (step : ℕ) → done + step ≤ n → IsInside now (record { region = to.region; offset = to.offset + done }) step

@@ -2,9 +2,7 @@
 use Rattle.std.proofs.Common.{◌≡◌, ◌≢◌, ℕ, zero, suc, ◌+◌, ◌<◌, ◌≤◌, List, [], ◌∷◌, length, get_or, set, map, Option, Some, None, sum_by, refl, sym, ap, ◌∙◌, arith, ◌==◌, if◌then◌else◌}
 use Rattle.std.proofs.lemmas.List.Sums.{sum_by-cons, get_or-le-sum_by}
 use Rattle.std.proofs.lemmas.List.{length-set, get_or-set_same, get_or-set_other, length-replicate, get_or-map, map-set, get_or_past, set-get_or}
-use Rattle.std.proofs.lemmas.Bool.{cases_eq}
 use Rattle.std.proofs.lemmas.Bool.Decides.{nat_tests}
-use Rattle.std.proofs.Common.{inl, inr}
 use Rattle.addr_space.specs.Space.{Region, Space, share, held, region_at, Changes, unwritten, raised, risen}
 use Rattle.addr_space.specs.Sound.{IsSound, account_at, no_account}
 use Rattle.addr_space.specs.declared.Account.{Account}
@@ -78,16 +76,10 @@ IsSound-changed xs ys n accounts a entry sound below others was now moved =
     let sums = λ (b : ℕ). sum_by-changed (share b) (share-none b) xs ys n others in
     record {
       few = rw length-set sound.few;
-      counted = λ k region found. rw length-set (elim (cases_eq k n) [
-        | inl same ↦ rw (now region (rw same at found)) below
-        | inr differs ↦ sound.counted k region (sym (others k differs) ∙ found)
-      ]);
-      held = λ b within. elim (cases_eq b a) [
-        | inl same ↦ rw (same, get_or-set_same accounts a entry no_account below) (omega (arith, moved, sums a))
-        | inr differs ↦
-            rw (get_or-set_other accounts a b entry no_account differs)
-            (omega (arith, sums b, sound.held b (rw length-set at within), share-other (get_or xs n None) a b was differs, share-other (get_or ys n None) a b now differs))
-      ];
+      counted = λ k region found. rw length-set (grind (arith, now region, others k, sound.counted k region));
+      held = λ b within.
+          let same = get_or-set_same accounts a entry no_account below in
+          grind (arith, length-set, sums b, get_or-set_other accounts a b entry no_account, sound.held b, share-other (get_or xs n None) a b was, share-other (get_or ys n None) a b now);
     }
 
 -- the counts of what was taken, where one account took more

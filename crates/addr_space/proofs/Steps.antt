@@ -100,17 +100,11 @@ Moves-changed f g s t number slot agrees sound account context changes others ow
       | inl same ↦ let it = owned m (rw same at owns) in rw (same, changes.changed) it
       | inr differs ↦ rw (account, changes.others n differs) (agrees.regions n m (sym (others n differs) ∙ owns))
     ];
-    marks = λ at bytes marked. elim (cases_eq at.region number) [
-      | inl same ↦ here at bytes marked same
-      | inr differs ↦ λ k below. rw (changes.others at.region differs) (agrees.marks at bytes (elsewhere at bytes marked differs) k below)
-    ];
+    marks = λ at bytes marked k below. grind (arith, here at bytes marked, elsewhere at bytes marked, changes.others at.region, agrees.marks at bytes);
   };
   account = account;
   context = context;
-  outside = λ n r. elim (cases_eq n number) [
-    | inl same ↦ rw (same, changes.changed) ((λ out. absurd (was r out)), (λ out. absurd (now r out)))
-    | inr differs ↦ rw (changes.others n differs, others n differs) ((λ out. out), (λ out. out))
-  ];
+  outside = λ n r. grind (arith, was r, now r, changes.changed, changes.others n, others n);
   accounts = changes.accounts;
   limit = changes.limit;
   held = holds;

@@ -1,5 +1,5 @@
 -- Lemmas on a space after bytes were written in a region.
-use Rattle.std.proofs.Common.{◌≡◌, ℕ, ◌+◌, ◌<◌, ◌≤◌, ◌⊎◌, ◌++◌, List, length, map, take, drop, Option, Some, None, refl, sym, ap, ◌∙◌, inl, inr, arith, rules, ◌==◌, if◌then◌else◌}
+use Rattle.std.proofs.Common.{◌≡◌, ℕ, ◌+◌, ◌<◌, ◌≤◌, ◌⊎◌, ◌++◌, List, length, map, take, drop, Option, Some, None, sym, ap, ◌∙◌, inl, inr, arith, rules, ◌==◌, if◌then◌else◌}
 use Rattle.std.proofs.lemmas.Bool.{cases_eq}
 use Rattle.std.proofs.lemmas.List.{places, length-map, get_or-map}
 use Rattle.addr_space.specs.declared.Addr.{Addr}
@@ -27,11 +27,7 @@ module _ (s t : Space) (at : Addr) (bytes : List ℕ) (region : Region) (found :
 
   -- every byte elsewhere is as it was
   pub byte_at-apart : (number k : ℕ) → (number ≡ at.region → (k < at.offset) ⊎ (at.offset + length bytes ≤ k)) → byte_at t number k ≡ byte_at s number k
-  byte_at-apart number k apart =
-      elim (cases_eq number at.region) [
-        | inl same ↦ let far = apart same in rw (same, now_is, found) (grind (arith, places, length-map))
-        | inr differs ↦ rw (writes.others number differs) refl
-      ]
+  byte_at-apart number k apart = grind (arith, places, length-map, now_is, found, writes.others number)
 
   -- the bytes stand there
   pub HasBytes-written : HasBytes t at bytes

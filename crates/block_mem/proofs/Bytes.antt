@@ -1,8 +1,8 @@
 -- Lemmas on bytes that are written over a part of others.
-use Rattle.std.proofs.Common.{◌≡◌, ℕ, ◌+◌, ◌<◌, ◌≤◌, List, ◌++◌, length, map, get_or, Option, Some, None, arith, ◌⊎◌, rules}
+use Rattle.std.proofs.Common.{◌≡◌, ℕ, ◌+◌, ◌<◌, ◌≤◌, List, ◌++◌, length, map, get_or, Option, Some, None, arith, rules}
 use Rattle.std.proofs.lemmas.List.{places, same_lists, get_or-map, get_or_default, get_or_past, length-map}
 use Rattle.std.specs.List.{copy_within}
-use Rattle.block_mem.specs.Block.{part, overwritten, resized}
+use Rattle.block_mem.specs.Block.{part, overwritten}
 
 -- the bytes keep their number where a part is overwritten
 pub length-overwritten : {X : Type 0} (bytes new : List X) (offset : ℕ) → offset + length new ≤ length bytes → length (overwritten bytes offset new) ≡ length bytes

@@ -1,7 +1,6 @@
 -- Lemmas on how the bytes of a block lie in memory.
-use Rattle.std.proofs.Common.{◌≡◌, ℕ, ◌+◌, ◌-◌, ◌<◌, ◌≤◌, List, length, map, get_or, take, Option, Some, None, IsSome, refl, sym, ap, ◌∙◌, arith, inl, inr, ◌⊎◌, rules}
-use Rattle.std.proofs.lemmas.List.{places, same_lists, get_or_default, length-map, length-take, get_or-map, get_or-take, get_or_past}
-use Rattle.std.proofs.lemmas.Bool.{cases_lt}
+use Rattle.std.proofs.Common.{◌≡◌, ℕ, ◌+◌, ◌-◌, ◌<◌, ◌≤◌, List, length, map, get_or, take, Option, Some, None, IsSome, refl, sym, ap, ◌∙◌, arith}
+use Rattle.std.proofs.lemmas.List.{places, length-map, length-take, get_or-map, get_or-take, get_or_past}
 use Rattle.block_mem.specs.Block.{part, overwritten, resized, IsKnown}
 use Rattle.block_mem.specs.Cells.{Holds}
 use Rattle.block_mem.proofs.Bytes.{length-part, known-part}

@@ -49,9 +49,9 @@ parts_of-word h w packable same =
 abbrev pub header_in : Kind → ℕ → Header
 header_in kind w = record { kind = kind; own = w / 16 % 2 == 1; value = w / 32 % 0x4000_0000; dist = w / 0x8_0000_0000 * 8 }
 
-pub word_of-header_in : (kind : Kind) (w : ℕ) → kind_code kind ≡ w % 16 → word_of (header_in kind w) ≡ w
+pub word_of_header_in : (kind : Kind) (w : ℕ) → kind_code kind ≡ w % 16 → word_of (header_in kind w) ≡ w
 unfolding word_of
-word_of-header_in kind w code =
+word_of_header_in kind w code =
     let bit : own_bit (w / 16 % 2 == 1) ≡ w / 16 % 2 = grind (arith, nat_tests) in
     omega (arith, bit, code)
 

@@ -1,5 +1,5 @@
 -- Lemmas on a word that a context writes in a region of its own, and on a region that it takes and gives back.
-use Rattle.std.proofs.Common.{◌≡◌, ◌≢◌, ℕ, ◌+◌, ◌<◌, ◌≤◌, ◌⊎◌, ◌==◌, if◌then◌else◌, List, length, map, Some, None, refl, ap, ◌∙◌, inl, inr, arith}
+use Rattle.std.proofs.Common.{◌≡◌, ◌≢◌, ℕ, ◌+◌, ◌<◌, ◌≤◌, ◌⊎◌, ◌==◌, if◌then◌else◌, List, length, map, Some, None, refl, ◌∙◌, arith}
 use Rattle.std.proofs.lemmas.List.{length-replicate}
 use Rattle.std.proofs.lemmas.Bool.Decides.{nat_tests}
 use Rattle.addr_space.specs.declared.Addr.{Addr}
@@ -28,10 +28,8 @@ module _ (f g : Footprint) (s t : Space) (at : Addr) (len : ℕ) (word : List �
       let there = HasRegion-written s t at word target.0 target.1 room writes at.region f.account len target in
       Moves-one f g s t at.region len there.0 agrees sound account context (record { changed = there.1; others = writes.others; limit = writes.limit; accounts = writes.accounts })
       there.2 there.3 (λ none. absurd (cc)) (regions at.region ∙ owned) (λ other differs. regions other)
-      (λ b bytes marked region k below. elim (marks b bytes marked) [
-        | inl new ↦ rw (new.0, ← new.1) (HasBytes-written s t at word target.0 target.1 room writes k (rw (← new.1) at below))
-        | inr old ↦ same_byte b (length bytes) k below old.1 ∙ agrees.marks b bytes old.0 k below
-      ])
+      (λ b bytes marked region k below. let new_or_old = marks b bytes marked in
+      grind (arith, HasBytes-written s t at word target.0 target.1 room writes k, same_byte b (length bytes) k below, agrees.marks b bytes))
       (λ b bytes marked differs. let new_or_old = marks b bytes marked in grind arith)
       (λ a. let counts : (if g.account == a then g.total else 0) ≡ (if f.account == a then f.total else 0) = rw (account, total) refl in omega (arith, held-written s t at word target.0 target.1 room writes a, counts))
 
@@ -54,10 +52,8 @@ module _ (f g : Footprint) (s m t : Space) (at : Addr) (size : ℕ) (word : List
       let there = HasRegion-written m t at word (unwritten f.account size) took.changed room wrote at.region f.account size (unwritten f.account size, took.changed, refl, len) in
       Moves-one f g s t at.region size there.0 agrees sound account context (record { changed = there.1; others = both.others; limit = both.limit; accounts = both.accounts })
       there.2 there.3 (λ none. free) owned others
-      (λ b bytes marked region k below. elim (marks b bytes marked) [
-        | inl new ↦ rw (new.0, ← new.1) (HasBytes-written m t at word (unwritten f.account size) took.changed room wrote k (rw (← new.1) at below))
-        | inr old ↦ absurd (old.0 region)
-      ])
+      (λ b bytes marked region k below. let new_or_old = marks b bytes marked in
+      grind (arith, HasBytes-written m t at word (unwritten f.account size) took.changed room wrote k))
       (λ b bytes marked differs. let new_or_old = marks b bytes marked in grind arith)
       (λ a.
       let counts : (if g.account == a then g.total else 0) ≡ (if f.account == a then f.total + size else 0) = rw (account, total) refl in
@@ -66,8 +62,8 @@ module _ (f g : Footprint) (s m t : Space) (at : Addr) (size : ℕ) (word : List
   pub Keeps-taken : Keeps f g s t
   Keeps-taken b p n k live again below short =
       let within = agrees.sound.live_inside b p live in
-      let there = (agrees.regions b.region within.0 within.1).1 in
-      rw (both.others b.region (λ same. let clash = ap (region_at s) same in absurd (cc))) refl
+      let there = agrees.regions b.region within.0 within.1 in
+      grind (arith, both.others b.region)
 
 -- what a region of the context counts for an account
 pub share-owned : (s : Space) (owner number size account : ℕ) → HasRegion s number owner size → share account (region_at s number) ≡ (if owner == account then size else 0)
@@ -87,5 +83,4 @@ Moves-gone f g s t number size agrees sound account context total changes owned 
 -- and the chunks that are still live are elsewhere
 pub Keeps-give : (f g : Footprint) (s t : Space) (number : ℕ) → IsSound g → g.region number ≡ None → Changes s t number None → Keeps f g s t
 Keeps-give f g s t number sound gone changes b m n k live again below short =
-    let within = sound.live_inside b n again in
-    rw (changes.others b.region (λ same. let clash = ap g.region same in absurd (cc))) refl
+    let within = sound.live_inside b n again in grind (arith, changes.others b.region)

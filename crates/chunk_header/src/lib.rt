@@ -171,6 +171,7 @@ impl Header {
     }
 
     /// The header that a word stands for, or the lowest four bits where they are no kind.
+    #[tactic(auto, using(crate::proofs::Words::word_of_header_in))]
     #[inline]
     pub fn unpack(word: u64) -> Result<Header, BadKind>
         ensures word { IfOk result (λ h. word_of h ≡ word) }

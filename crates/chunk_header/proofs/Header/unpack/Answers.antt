@@ -1,5 +1,5 @@
 use Rattle.std.proofs.Common.{ap, Ok, arith}
-use Rattle.chunk_header.proofs.Words.{word_of-header_in, header_in-word, parts_of-word, kind_code-lt}
+use Rattle.chunk_header.proofs.Words.{header_in-word, parts_of-word, kind_code-lt}
 use Rattle.chunk_header.proofs.Header.unpack.Goals as goal
 
 pub returns-in_default-clause-packed : goal.returns-in_default-clause-packed
@@ -8,9 +8,6 @@ returns-in_default-clause-packed c = λ h packable same.
     let code = kind_code-lt h.kind in
     let none = c.in_default.ensures.none in
     absurd (omega arith)
-
-pub returns-clause-word : goal.returns-clause-word
-returns-clause-word c = word_of-header_in c.in-Some.kind c.args.word c.in-Some.ensures.some
 
 pub returns-clause-packed : goal.returns-clause-packed
 returns-clause-packed c = λ h packable same. ap Ok (header_in-word c.in-Some.kind h c.args.word packable same c.in-Some.ensures.some)
