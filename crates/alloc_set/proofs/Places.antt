@@ -1,8 +1,8 @@
 -- Lemmas on live chunks and their places: which a step puts, and which stay.
-use Rattle.std.proofs.Common.{◌≡◌, ℕ, ◌≤◌, if◌then◌else◌, Bool, true, false, Option, Some, None, Result, Ok, IsTrue, refl, sym, ap, ◌∙◌, arith, inl, inr, option_and_then}
+use Rattle.std.proofs.Common.{◌≡◌, ℕ, ◌≤◌, if◌then◌else◌, Bool, true, false, Option, Some, None, Result, refl, sym, ap, ◌∙◌, arith, inl, inr, option_and_then}
 use Rattle.std.specs.Map.{lookup}
 use Rattle.addr_space.specs.declared.Addr.{Addr}
-use Rattle.addr_space.specs.Space.{Space, Asks}
+use Rattle.addr_space.specs.Space.{Space}
 use Rattle.addr_space.specs.Footprint.{Moves, Keeps}
 use Rattle.addr_space.specs.Live.{same_addr, PutsAt, PutsLive}
 use Rattle.addr_space.proofs.Addresses.{same_addr-cases}

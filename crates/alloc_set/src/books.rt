@@ -235,6 +235,7 @@ impl Books {
     }
 
     // Cuts a free chunk of a class off the active block.
+    #[tactic(auto, unfolding(crate::specs::Ledger::cut_off))]
     fn cut_free(&mut self, space: &mut Space, class: u8)
         requires kept { IsKept self.old }
         requires agrees { Agrees (footprint (state_of self.old)) space.old }

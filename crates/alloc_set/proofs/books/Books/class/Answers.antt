@@ -1,4 +1,4 @@
-use Rattle.std.proofs.Common.{◌≡◌, ℕ, Option, Some, None, IsSome, true, false, refl, sym, ap, ◌∙◌, arith, inl, inr}
+use Rattle.std.proofs.Common.{◌≡◌, ℕ, Option, Some, None, IsSome, true, false, arith, inl, inr}
 use Rattle.addr_space.specs.Space.{HasBytes}
 use Rattle.addr_space.proofs.Options.{from_then, option_cases}
 use Rattle.chunk_header.specs.declared.Header.{Header}

@@ -1,6 +1,6 @@
 use Rattle.std.proofs.Common.{◌≡◌, ◌-◌, ap, ◌∙◌, sym, subst, arith, Some, option_and_then}
 use Rattle.alloc_set.specs.Ledger.{cut_off, class_bytes}
-use Rattle.alloc_set.specs.State.{chunk_at, live_size}
+use Rattle.alloc_set.specs.State.{live_size}
 use Rattle.alloc_set.specs.Kept.{state_of, taken_bytes, is_free, IsSettled, IsShelved}
 use Rattle.alloc_set.specs.declared.books.Books.{Books}
 use Rattle.alloc_set.specs.declared.books.Block.{Block}

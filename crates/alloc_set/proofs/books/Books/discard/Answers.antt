@@ -1,4 +1,4 @@
-use Rattle.std.proofs.Common.{◌≡◌, ◌==◌, ◌+◌, ℕ, List, [], ◌∷◌, length, sum, None, refl, sym, ap, ◌∙◌, arith}
+use Rattle.std.proofs.Common.{◌≡◌, ◌==◌, ℕ, List, [], ◌∷◌, length, sum, refl, sym, ap, ◌∙◌, arith}
 use Rattle.std.specs.Map.{lookup, values_of}
 use Rattle.addr_space.specs.Footprint.{Moves, nothing}
 use Rattle.addr_space.proofs.Steps.{Moves-more, Moves-none, Agrees-nothing}

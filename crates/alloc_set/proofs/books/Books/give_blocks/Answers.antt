@@ -1,8 +1,7 @@
 use Rattle.std.proofs.Common.{ap, ◌∙◌, sym, subst, arith, sum_by}
 use Rattle.std.specs.Map.{values_of}
 use Rattle.addr_space.proofs.Steps.{Moves-more}
-use Rattle.alloc_set.specs.State.{footprint}
-use Rattle.alloc_set.specs.Kept.{state_of, taken_bytes, IsCleared}
+use Rattle.alloc_set.specs.Kept.{taken_bytes, IsCleared}
 use Rattle.alloc_set.specs.declared.books.Block.{Block}
 use Rattle.alloc_set.specs.declared.books.Books.{Books}
 use Rattle.alloc_set.proofs.Regions.{sum-least}

@@ -1,6 +1,6 @@
 use Rattle.std.proofs.Common.{◌+◌, ap, ◌∙◌, arith, refl}
 use Rattle.addr_space.proofs.Steps.{Moves-more, Keeps-then, same_was}
-use Rattle.alloc_set.specs.State.{region_of, footprint, place_at}
+use Rattle.alloc_set.specs.State.{region_of, footprint}
 use Rattle.alloc_set.specs.Kept.{state_of, IsPlaced}
 use Rattle.alloc_set.specs.declared.books.Books.{Books}
 use Rattle.alloc_set.specs.declared.chunk.Chunk.TheVariants.{Own}

@@ -1,12 +1,8 @@
-use Rattle.std.proofs.Common.{◌≡◌, ℕ, ◌+◌, ◌≤◌, min, Err, ap, ◌∙◌, arith, option_and_then}
+use Rattle.std.proofs.Common.{◌≡◌, ℕ, ◌+◌, ◌≤◌, ap, arith, option_and_then}
 use Rattle.std.proofs.lemmas.Bool.Decides.{nat_tests}
-use Rattle.std.proofs.lemmas.Result.{err_from_is_err_and}
 use Rattle.addr_space.specs.Space.{held}
-use Rattle.addr_space.proofs.Options.{if_ok}
-use Rattle.chunk_header.specs.declared.CtxError.TheVariants.{NoSpace}
-use Rattle.alloc_set.specs.Ledger.{SetLedger, SetPlace, Class, Own as OwnPlace, resize, resize_at}
+use Rattle.alloc_set.specs.Ledger.{SetLedger, SetPlace, Own as OwnPlace, resize, resize_at}
 use Rattle.alloc_set.specs.State.{live_size, live_place}
-use Rattle.alloc_set.specs.Kept.{state_of}
 use Rattle.alloc_set.specs.declared.chunk.Chunk.TheVariants.{Live}
 use Rattle.alloc_set.proofs.Places.{Reallocates-in_place}
 use Rattle.alloc_set.proofs.books.Books.realloc.Goals as goal

@@ -1,12 +1,8 @@
-use Rattle.std.proofs.Common.{◌≡◌, ◌≢◌, ℕ, ◌+◌, ◌-◌, ◌*◌, ap, ◌∙◌, sym, subst, arith, rules, Some, None, Err, min, sum_by}
-use Rattle.std.proofs.lemmas.Result.{err_from_is_err_and}
+use Rattle.std.proofs.Common.{◌≡◌, ◌≢◌, ℕ, ◌+◌, ◌-◌, ◌*◌, ap, ◌∙◌, sym, subst, arith, rules, None, min, sum_by}
 use Rattle.std.specs.Map.{values_of}
-use Rattle.addr_space.specs.Space.{held}
 use Rattle.addr_space.specs.Footprint.{Footprint, Keeps}
 use Rattle.addr_space.proofs.Steps.{Moves-more, Keeps-more, same_stays}
-use Rattle.chunk_header.specs.declared.CtxError.TheVariants.{NoSpace}
-use Rattle.chunk_header.specs.Growth.{grown}
-use Rattle.alloc_set.specs.Ledger.{SetLedger, class_size, cut_rest, cut_up, with_own, renewed, block_size, halved}
+use Rattle.alloc_set.specs.Ledger.{SetLedger, cut_rest, cut_up, with_own, renewed, block_size}
 use Rattle.alloc_set.specs.State.{SetState, chunk_at, region_of, footprint}
 use Rattle.alloc_set.specs.Kept.{state_of, taken_bytes}
 use Rattle.alloc_set.specs.declared.books.Books.{Books}

@@ -1,11 +1,9 @@
-use Rattle.std.proofs.Common.{◌≡◌, ◌≢◌, ℕ, ◌+◌, ◌-◌, ◌<◌, Some, Err, sym, ap, ◌∙◌, arith, inl, inr, false, option_and_then}
+use Rattle.std.proofs.Common.{◌≡◌, ◌≢◌, ℕ, ◌+◌, ◌-◌, ◌<◌, Some, sym, ap, ◌∙◌, arith, inl, inr, false, option_and_then}
 use Rattle.std.proofs.lemmas.Bool.Decides.{nat_tests}
-use Rattle.std.proofs.lemmas.Result.{err_from_is_err_and}
 use Rattle.addr_space.specs.Space.{held, byte_at, IsInside, IsKnown}
 use Rattle.addr_space.proofs.Addresses.{put_at-cases}
 use Rattle.addr_space.proofs.Carried.{IsInside-live, Moves-carried, KeepsBut-carried, HasBytesOf-carried}
 use Rattle.addr_space.proofs.Steps.{Moves-more}
-use Rattle.chunk_header.specs.declared.CtxError.TheVariants.{NoSpace}
 use Rattle.chunk_header.proofs.Put.{MovesAt-from, put-here}
 use Rattle.alloc_set.specs.Ledger.{SetLedger, shelved, take, then_shelved, resize_class}
 use Rattle.alloc_set.specs.State.{place_at, live_size, footprint}

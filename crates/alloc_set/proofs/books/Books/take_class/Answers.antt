@@ -1,12 +1,10 @@
-use Rattle.std.proofs.Common.{◌≡◌, ℕ, ◌-◌, ◌<◌, ap, ◌∙◌, refl, subst, arith, None, Err, slice_index}
+use Rattle.std.proofs.Common.{◌≡◌, ℕ, ◌-◌, ◌<◌, ap, ◌∙◌, refl, subst, arith, slice_index}
 use Rattle.std.proofs.lemmas.Bool.Decides.{nat_tests}
-use Rattle.std.proofs.lemmas.Result.{err_from_is_err_and}
 use Rattle.addr_space.specs.Space.{held}
-use Rattle.chunk_header.specs.declared.CtxError.TheVariants.{NoSpace}
-use Rattle.alloc_set.specs.Ledger.{SetLedger, class_bytes, take_class, from_new, of_class, reused, cut_off, renewed, block_size}
+use Rattle.alloc_set.specs.Ledger.{SetLedger, class_bytes, take_class, from_new, of_class, reused, cut_off, renewed}
 use Rattle.alloc_set.specs.State.{SetState}
 use Rattle.alloc_set.specs.Kept.{state_of}
-use Rattle.alloc_set.specs.Cut.{Allocates, Renews}
+use Rattle.alloc_set.specs.Cut.{Allocates}
 use Rattle.alloc_set.proofs.Taken.{Allocates-put, Allocates-after}
 use Rattle.alloc_set.proofs.books.Books.take_class.Goals as goal
 use Rattle.alloc_set.proofs.books.Books.take_class.Goals.{In_ok-make_room}

@@ -1,12 +1,9 @@
-use Rattle.std.proofs.Common.{◌≡◌, ℕ, ◌+◌, ◌-◌, ◌<◌, ap, ◌∙◌, subst, arith, Err, sum_by}
+use Rattle.std.proofs.Common.{◌≡◌, ℕ, ◌+◌, ◌-◌, ap, ◌∙◌, subst, arith}
 use Rattle.std.proofs.lemmas.Bool.Decides.{nat_tests}
-use Rattle.std.proofs.lemmas.Result.{err_from_is_err_and}
-use Rattle.std.specs.Map.{values_of}
 use Rattle.addr_space.specs.Space.{held}
-use Rattle.chunk_header.specs.declared.CtxError.TheVariants.{NoSpace}
-use Rattle.alloc_set.specs.Ledger.{SetLedger, take_own, with_own, own_size, of_own}
+use Rattle.alloc_set.specs.Ledger.{take_own, own_size, of_own}
 use Rattle.alloc_set.specs.State.{SetState, chunk_at, footprint}
-use Rattle.alloc_set.specs.Kept.{state_of, taken_bytes}
+use Rattle.alloc_set.specs.Kept.{state_of}
 use Rattle.alloc_set.specs.Cut.{Allocates}
 use Rattle.alloc_set.specs.declared.books.Books.{Books}
 use Rattle.alloc_set.proofs.Settled.{none_in}
