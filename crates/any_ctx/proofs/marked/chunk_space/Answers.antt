@@ -1,6 +1,6 @@
-use Rattle.std.proofs.Common.{◌+◌, ◌-◌, if◌then◌else◌, sym, ap, ◌∙◌, subst, arith}
+use Rattle.std.proofs.Common.{sym, ap, ◌∙◌, subst, arith}
 use Rattle.chunk_header.specs.declared.Header.{Header}
-use Rattle.chunk_header.specs.Header.{IsLeading, space_of, shared_bytes}
+use Rattle.chunk_header.specs.Header.{IsLeading, space_of}
 use Rattle.any_ctx.proofs.marked.chunk_space.Goals as goal
 use Rattle.chunk_header.proofs.Marks.{marked_by}
 
