@@ -1,10 +1,9 @@
 -- What calls make of the ledger.
-use Rattle.std.proofs.Common.{◌≡◌, ◌≢◌, ℕ, ◌+◌, ◌-◌, ◌*◌, ◌<◌, ◌≤◌, min, Some, None, length, arith, ◌∙◌, ap}
+use Rattle.std.proofs.Common.{◌≡◌, ◌≢◌, ℕ, ◌+◌, ◌-◌, ◌*◌, min, Some, None, length, arith, ◌∙◌, ap}
 use Rattle.ctx_blocks.specs.Layout.{Layout, block_at, total, rooms}
 use Rattle.ctx_blocks.specs.Steps.{PutsBlock}
 use Rattle.ctx_blocks.specs.declared.parts.Block.{Block}
-use Rattle.chunk_header.specs.Growth.{granted}
-use Rattle.bump_ctx.specs.Ledger.{BumpLedger, cut_off, renewed, with_own, take_cut, take_own, take}
+use Rattle.bump_ctx.specs.Ledger.{cut_off, renewed, with_own}
 use Rattle.bump_ctx.specs.Kept.{ledger_of, room_of, room_at, IsKept}
 use Rattle.bump_ctx.specs.declared.books.Books.{Books}
 use Rattle.ctx_blocks.proofs.Totals.{total-same, rooms-same, length-same, rooms-more, length-more, room_within}

@@ -1,5 +1,5 @@
 -- The places of live chunks, once one was put, taken away or moved.
-use Rattle.std.proofs.Common.{◌≡◌, ◌≤◌, ℕ, Option, Some, None, IsSome, IfSome, option_map, refl, ap, inl, inr, ◌∙◌, arith}
+use Rattle.std.proofs.Common.{◌≡◌, ◌≤◌, ℕ, Option, Some, None, IsSome, IfSome, option_map, refl, ap, inl, inr, ◌∙◌}
 use Rattle.addr_space.specs.declared.Addr.{Addr}
 use Rattle.addr_space.specs.Space.{Space}
 use Rattle.addr_space.specs.Footprint.{Agrees}
@@ -12,7 +12,6 @@ use Rattle.ctx_blocks.specs.declared.parts.Chunk.{Chunk}
 use Rattle.ctx_blocks.proofs.Places.{number_stays}
 use Rattle.generation_ctx.specs.Ledger.{GenerationPlace}
 use Rattle.generation_ctx.specs.State.{place_in}
-use Rattle.std.proofs.lemmas.Bool.Decides.{nat_tests}
 
 -- the place of a chunk, by the number of its block
 abbrev pub place : ℕ → Chunk → GenerationPlace
@@ -45,7 +44,3 @@ places_move l m s t agrees now keeps from to chunk there moved here other = elim
     ]
   ]
 ]
-
--- what stands at addresses, seen by a part of it
-pub moves_map : {A B : Type 0} (part : A → B) (f g : Addr → Option A) (from to : Addr) (a : A) → MovesAt f g from to a → MovesAt (λ x. option_map part (f x)) (λ x. option_map part (g x)) from to (part a)
-moves_map part f g from to a moves other = grind (arith, nat_tests, moves other)

@@ -1,6 +1,6 @@
-use Rattle.std.proofs.Common.{◌+◌, ◌-◌, if◌then◌else◌, sym, ap, ◌∙◌, subst, arith}
+use Rattle.std.proofs.Common.{sym, ap, ◌∙◌, subst, arith}
 use Rattle.chunk_header.specs.declared.Header.{Header}
-use Rattle.chunk_header.specs.Header.{IsLeading, space_of, shared_bytes}
+use Rattle.chunk_header.specs.Header.{IsLeading, space_of}
 use Rattle.any_ctx.proofs.marked.chunk_space.Goals as goal
 use Rattle.chunk_header.proofs.Marks.{marked_by}
 
@@ -29,18 +29,14 @@ shared_bytes-requires-clause-leading c =
 pub returns-then-header-clause-marked : goal.returns-then-header-clause-marked
 unfolding space_of
 returns-then-header-clause-marked c = λ context m below.
-    let header = c.header_at-header.ensures m.header m.packable m.word in
-    let own = sym (ap (λ (h : Header). h.own) header) ∙ c.if-header.true in
-    let size = c.block_size.ensures context m header below in
-    c.from.ensures ∙ c.saturating_sub.ensures ∙ ap (λ n. n - 40) size ∙ sym (ap (λ b. if b then m.size - 40 else shared_bytes m.header.kind m.header.value + 8) own)
+    (let header = c.header_at-header.ensures m.header m.packable m.word in
+    grind (arith, c.block_size.ensures context m header below, c.from.ensures, c.saturating_sub.ensures, c.if-header.true))
 
 pub returns-else-header-clause-marked : goal.returns-else-header-clause-marked
 unfolding space_of
 returns-else-header-clause-marked c = λ context m below.
-    let header = c.header_at-header.ensures m.header m.packable m.word in
-    let own = sym (ap (λ (h : Header). h.own) header) ∙ c.if-header.false in
-    c.from-else-header.ensures ∙ ap (λ n. n + 8) (c.shared_bytes.ensures.value ∙ ap (λ (h : Header). shared_bytes h.kind h.value) header)
-    ∙ sym (ap (λ b. if b then m.size - 40 else shared_bytes m.header.kind m.header.value + 8) own)
+    (let header = c.header_at-header.ensures m.header m.packable m.word in
+    grind (arith, c.from-else-header.ensures, c.shared_bytes.ensures.value, c.if-header.false))
 
 pub returns-then-header-clause-live : goal.returns-then-header-clause-live
 returns-then-header-clause-live c = λ f n agrees takes.

@@ -18,8 +18,5 @@ returns-clause-place c =
     let agrees : Agrees (blocks_footprint l) c.args.space.now = rw (← (ap state_of c.deref_mut.ensures.value ∙ c.self.view_is)) at c.requires.agrees in
     rw (← (ap state_of c.deref_mut.ensures.value ∙ c.self.view_is)) (places_put place l m c.args.space.now c.free.new.space agrees f.moves.agrees (numbers_among l m f.among) c.args.at None None f.chunk refl)
 
-pub returns-clause-moves : goal.returns-clause-moves
-returns-clause-moves c = rw (← (ap state_of c.deref_mut.ensures.value ∙ c.self.view_is)) c.free.ensures.frees.moves
-
 pub returns-clause-keeps : goal.returns-clause-keeps
 returns-clause-keeps c = rw (← (ap state_of c.deref_mut.ensures.value ∙ c.self.view_is)) c.free.ensures.frees.keeps

@@ -7,9 +7,6 @@ use Rattle.generation_ctx.specs.State.{place_in}
 use Rattle.generation_ctx.specs.Kept.{state_of}
 use Rattle.generation_ctx.proofs.GenerationCtx.headed.Goals as goal
 
-pub returns-clause-headed : goal.returns-clause-headed
-returns-clause-headed c = rw (← (ap state_of c.deref.ensures ∙ c.self.view_is)) c.headed.ensures.headed
-
 pub returns-clause-kinds : goal.returns-clause-kinds
 returns-clause-kinds c = rw (← (ap state_of c.deref.ensures ∙ c.self.view_is)) c.headed.ensures.kinds
 

@@ -1,13 +1,11 @@
-use Rattle.std.proofs.Common.{◌≡◌, ◌∙◌, ℕ, Some, IsSome, option_map, ap, sym, subst, arith}
+use Rattle.std.proofs.Common.{◌≡◌, ◌∙◌, ℕ, Some, option_map, ap}
 use Rattle.addr_space.specs.Footprint.{Agrees}
 use Rattle.addr_space.proofs.Options.{if_ok, on_ok, on_err, either_way, both_err}
 use Rattle.addr_space.proofs.Steps.{Moves-same, KeepsBut-same}
-use Rattle.ctx_blocks.specs.declared.parts.Chunk.{Chunk}
 use Rattle.generation_ctx.specs.State.{footprint, place_in}
 use Rattle.generation_ctx.specs.Kept.{state_of}
 use Rattle.ctx_blocks.specs.Layout.{chunk_at, footprint as blocks_footprint}
-use Rattle.ctx_blocks.proofs.Changed.{fresh_put}
-use Rattle.generation_ctx.proofs.Places.{chunk_kept, places, places_move, moves_map}
+use Rattle.generation_ctx.proofs.Places.{chunk_kept, places, places_move}
 use Rattle.generation_ctx.proofs.GenerationCtx.realloc.Goals as goal
 
 pub realloc-requires-clause-chunk : goal.realloc-requires-clause-chunk
@@ -30,9 +28,6 @@ returns-clause-resized c =
       asked = had.asked;
       stays = had.stays;
     }))) c.realloc.ensures.ok)
-
-pub returns-clause-live : goal.returns-clause-live
-returns-clause-live c = rw (← (ap state_of c.deref_mut.ensures.value ∙ c.self.view_is)) (if_ok c.realloc.result (λ to had. moves_map (λ (x : Chunk). x.size) (chunk_at c.deref_mut.result.now.blocks) (chunk_at c.realloc.new.self.blocks) c.args.at to _ had.chunk) c.realloc.ensures.ok)
 
 pub returns-clause-moves : goal.returns-clause-moves
 returns-clause-moves c =

@@ -1,7 +1,5 @@
-use Rattle.std.proofs.Common.{◌≡◌, ℕ, ◌-◌, Ok, Err, ap, sym, ◌∙◌, arith}
-use Rattle.std.proofs.lemmas.Result.{err_from_is_err_and}
+use Rattle.std.proofs.Common.{◌≡◌, ℕ, ◌-◌, Ok, ap, sym, ◌∙◌, arith}
 use Rattle.addr_space.specs.Space.{held}
-use Rattle.chunk_header.specs.declared.CtxError.TheVariants.{NoSpace}
 use Rattle.bump_ctx.specs.Ledger.{BumpLedger, cut_off, renewed, served, block_size, take_new, take_cut}
 use Rattle.bump_ctx.specs.Kept.{ledger_of}
 use Rattle.bump_ctx.proofs.Allocated.{allocates_more}
