@@ -1,5 +1,5 @@
 -- Lemmas on lists of live chunks.
-use Rattle.std.proofs.Common.{◌≡◌, ℕ, zero, suc, ◌+◌, ◌⊎◌, ◌++◌, List, [], ◌∷◌, length, Some, None, ap, ◌∙◌, sym, inl, inr, arith}
+use Rattle.std.proofs.Common.{◌≡◌, ℕ, zero, suc, ◌⊎◌, ◌++◌, List, [], ◌∷◌, length, Some, None, ap, ◌∙◌, sym, inl, inr, arith}
 use Rattle.std.specs.Prelude.{slice_get}
 use Rattle.std.proofs.lemmas.List.{length-append}
 use Rattle.std.proofs.lemmas.Option.{slice_get_within}
@@ -33,11 +33,4 @@ held-more f g size chunks at held fresh puts = record {
     ]
     | inr last ↦ absurd (omega (arith, last.1, slice_get_within (chunks ++ at ∷ []) k b second, length-append chunks (at ∷ [])))
   ];
-}
-
--- one is freed
-pub held-less : (f g : Footprint) (size index : ℕ) (chunks : List Addr) (at : Addr) → AreLive f size index chunks → slice_get chunks index ≡ Some at → PutsLive f g at None → AreLive g size (index + 1) chunks
-held-less f g size index chunks at held here puts = record {
-  live = λ k a from got. (let differs = held.apart index k at a (omega arith) here got in let was = held.live k a (omega arith) got in grind (arith, puts a));
-  apart = held.apart;
 }
