@@ -79,26 +79,6 @@ fn blocks_go(rt: HostRuntime) -> Result<(), Fail> {
 }
 
 #[test]
-fn a_block_between_others_goes(rt: HostRuntime) -> Result<(), Fail> {
-    let mut space = Space::new(rt.alloc(), 1, 100_000)?;
-    let mut blocks = Blocks::create(rt.alloc(), &mut space, Kind::Slab, 0, 7, 0, 200)?;
-    let first = blocks.add(&mut space, 1024)?;
-    let second = blocks.add(&mut space, 2048)?;
-    let third = blocks.add(&mut space, 4096)?;
-    let block = blocks.block(second).ok_or("no block")?;
-    assert_eq!(rt; (block.number, block.live), (2, 0));
-    assert!(rt; second != blocks.keeper());
-    blocks.give(&mut space, second);
-    assert_eq!(rt; (blocks.len(), space.held(0)), (3, 5320));
-    assert_eq!(rt; blocks.block(second), None);
-    let last = blocks.block(third).ok_or("no block")?;
-    assert_eq!(rt; (last.number, last.size), (3, 4096));
-    let before = blocks.block(first).ok_or("no block")?;
-    assert_eq!(rt; (before.number, before.size), (1, 1024));
-    Ok(())
-}
-
-#[test]
 fn a_chunk_is_placed(rt: HostRuntime) -> Result<(), Fail> {
     let mut space = Space::new(rt.alloc(), 1, 100_000)?;
     let mut blocks = Blocks::create(rt.alloc(), &mut space, Kind::Slab, 0, 7, 0, 1024)?;
