@@ -10,6 +10,7 @@ use addr_space::{Addr, Space};
 use chunk_header::{CtxError, Header, Kind};
 use ctx_blocks::{Block, Blocks};
 use std::alloc::Global;
+use std::process::Abort;
 use std::test::Fail;
 
 #[test]
@@ -76,6 +77,38 @@ fn blocks_go(rt: HostRuntime) -> Result<(), Fail> {
     blocks.discard(&mut space);
     assert_eq!(rt; space.held(0), 0);
     Ok(())
+}
+
+/// Three blocks come, and the second of them goes.
+fn go_between(rt: &impl Abort, space: &mut Space, blocks: &mut Blocks) -> Result<(), Fail>
+    requires { Agrees (footprint blocks.old) space.old }
+{
+    let first = blocks.add(space, 1024)?;
+    let second = blocks.add(space, 2048)?;
+    let third = blocks.add(space, 4096)?;
+    let block = blocks.block(second).ok_or("no block")?;
+    assert_eq!(rt; block.number, 2);
+    assert_eq!(rt; block.live, 0);
+    assert!(rt; second != blocks.keeper());
+    blocks.give(space, second);
+    assert_eq!(rt; (blocks.len(), blocks.total()), (3, 5320));
+    assert_eq!(rt; blocks.block(second), None);
+    assert_eq!(rt;
+        blocks.block(first).map(|b| (b.number, b.size)),
+        Some((1, 1024))
+    );
+    assert_eq!(rt;
+        blocks.block(third).map(|b| (b.number, b.size)),
+        Some((3, 4096))
+    );
+    Ok(())
+}
+
+#[test]
+fn a_block_between_others_goes(rt: HostRuntime) -> Result<(), Fail> {
+    let mut space = Space::new(rt.alloc(), 1, 100_000)?;
+    let mut blocks = Blocks::create(rt.alloc(), &mut space, Kind::Slab, 0, 7, 0, 200)?;
+    go_between(&rt, &mut space, &mut blocks)
 }
 
 #[test]
