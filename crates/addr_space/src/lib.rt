@@ -18,6 +18,7 @@ use region::Region;
 use slab::Slab;
 use std::alloc::{AllocError, Global};
 use std::marker::Model;
+use thiserror::Error;
 
 /// A place in the space: a region, and how many bytes from its start. It stands for a pointer.
 #[derive(Clone, Copy, PartialEq, Eq, Hash, Debug)]
@@ -29,11 +30,13 @@ pub struct Addr {
 }
 
 /// Why a region could not be had.
-#[derive(Clone, Copy, PartialEq, Eq, Debug)]
+#[derive(Clone, Copy, PartialEq, Eq, Debug, Error)]
 pub enum SpaceError {
     /// The account would hold more than the limit. It comes before `Memory`.
+    #[error("no space: the account would hold more than it may")]
     NoSpace,
     /// There is no memory.
+    #[error("no memory")]
     Memory,
 }
 

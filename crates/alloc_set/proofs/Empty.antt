@@ -4,7 +4,7 @@ use Rattle.std.proofs.lemmas.List.{get_or-replicate}
 use Rattle.addr_space.specs.declared.Addr.{Addr}
 use Rattle.alloc_set.specs.State.{SetState, chunk_at, region_of, start_of}
 use Rattle.alloc_set.specs.Listed.{IsUnique}
-use Rattle.free_list.specs.Shelves.{no_shelf}
+use Rattle.chunk_header.specs.Shelves.{no_shelf}
 use Rattle.alloc_set.specs.Kept.{shelf_at, IsSettled, IsShelved}
 use Rattle.alloc_set.proofs.Listed.{IsUnique-none}
 use Rattle.alloc_set.proofs.Regions.{keeper_owned, keeper_start}

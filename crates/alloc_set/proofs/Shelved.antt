@@ -10,14 +10,14 @@ use Rattle.addr_space.specs.declared.Addr.{Addr}
 use Rattle.alloc_set.specs.State.{SetState, chunk_at}
 use Rattle.alloc_set.specs.Ledger.{class_size, class_bytes}
 use Rattle.alloc_set.specs.Listed.{IsUnique}
-use Rattle.free_list.specs.Shelves.{no_shelf}
+use Rattle.chunk_header.specs.Shelves.{no_shelf}
 use Rattle.alloc_set.specs.Kept.{state_of, IsChain, IsSettled, IsShelved, IsCounted, IsKept, is_free, taken_bytes, shelf_at}
 use Rattle.alloc_set.specs.Links.{IsLinkable}
 use Rattle.alloc_set.specs.declared.books.Books.{Books}
 use Rattle.alloc_set.specs.Steps.{PutsChunk}
 use Rattle.alloc_set.specs.declared.chunk.Chunk.{Chunk}
 use Rattle.alloc_set.specs.declared.chunk.Chunk.TheVariants.{Live, Free, Own}
-use Rattle.free_list.specs.declared.shelves.Shelf.{Shelf}
+use Rattle.chunk_header.specs.declared.shelves.Shelf.{Shelf}
 use Rattle.alloc_set.proofs.Altered.{put_cases}
 
 -- a chain stays while its chunks do

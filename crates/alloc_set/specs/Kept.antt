@@ -7,10 +7,11 @@ use Rattle.alloc_set.specs.Ledger.{class_size, class_bytes, chunk_limit}
 use Rattle.alloc_set.specs.State.{SetState, chunk_at, region_of, start_of, capacity_of}
 use Rattle.alloc_set.specs.declared.chunk.Chunk.{Chunk}
 use Rattle.alloc_set.specs.declared.chunk.Chunk.TheVariants.{Live, Free, Own}
-use Rattle.free_list.specs.declared.shelves.Shelf.{Shelf}
-use Rattle.free_list.specs.Shelves.{no_shelf}
+use Rattle.chunk_header.specs.declared.shelves.Shelf.{Shelf}
+use Rattle.chunk_header.specs.Shelves.{no_shelf}
 use Rattle.alloc_set.specs.declared.books.Books.{Books}
 use Rattle.alloc_set.specs.Listed.{IsUnique}
+use Rattle.chunk_header.specs.declared.TheConstants.{BLOCK_HEADER, CHUNK_HEADER, KEEPER_HEADERS, OWN_HEADERS, LEAST_BLOCK, LARGEST_BLOCK, LAST_CLASS, CLASSES}
 
 -- the books of a new context whose first block is in a region, with the maps of others
 abbrev pub new_books : ℕ → ℕ → Sizes → ℕ → Books → Books
@@ -21,10 +22,10 @@ new_books account context sizes region b = record {
   limit = chunk_limit sizes.max;
   next = sizes.init;
   keeper = region;
-  active = record { region = region; size = sizes.init; room = sizes.init - 240 };
+  active = record { region = region; size = sizes.init; room = sizes.init - KEEPER_HEADERS };
   blocks = b.blocks;
   chunks = b.chunks;
-  shelves = replicate 11 no_shelf;
+  shelves = replicate CLASSES no_shelf;
   total = sizes.init;
   count = 1;
   idle = 0;
@@ -52,8 +53,8 @@ state_of b = record {
 
 -- a chunk's size is within what it may have
 abbrev pub IsSized : Chunk → Type 0
-IsSized (Live class size) = (class ≤ 10) × (size ≤ class_size class)
-IsSized (Free class next) = class ≤ 10
+IsSized (Live class size) = (class ≤ LAST_CLASS) × (size ≤ class_size class)
+IsSized (Free class next) = class ≤ LAST_CLASS
 IsSized (Own size room) = size ≤ room
 
 -- a chunk that has its block for itself is the first of a region that is neither the keeper's nor the active
@@ -61,13 +62,13 @@ IsSized (Own size room) = size ≤ room
 abbrev pub IsAlone : SetState → ℕ → Addr → Chunk → Type 0
 IsAlone s active at (Live class size) = Unit {0}
 IsAlone s active at (Free class next) = Unit {0}
-IsAlone s active at (Own size room) = (at.region ≢ active) × (at.region ≢ s.keeper) × (at.offset ≡ 48) × (region_of s at.region ≡ Some (room + 48))
+IsAlone s active at (Own size room) = (at.region ≢ active) × (at.region ≢ s.keeper) × (at.offset ≡ OWN_HEADERS) × (region_of s at.region ≡ Some (room + OWN_HEADERS))
 
 -- where a chunk is: in a region of the context, behind a header of its own, and below the active block's room
 pub record IsPlaced (s : SetState) (active size : ℕ) (at : Addr) (chunk : Chunk) : Type 0 where
   pub len : ℕ
   pub owned : region_of s at.region ≡ Some len
-  pub first : start_of s at.region + 48 ≤ at.offset
+  pub first : start_of s at.region + OWN_HEADERS ≤ at.offset
   pub last : at.offset + capacity_of chunk ≤ len
   pub whole : at.offset % 8 ≡ 0
   pub below : at.region ≡ active → at.offset + capacity_of chunk + s.ledger.room ≤ size
@@ -77,10 +78,10 @@ pub record IsPlaced (s : SetState) (active size : ℕ) (at : Addr) (chunk : Chun
 -- the blocks and the chunks in them, where the active block is in this region and has this size
 pub record IsSettled (s : SetState) (active size : ℕ) : Type 0 where
   pub active_owned : region_of s active ≡ Some size
-  pub active_room : start_of s active + 40 + s.ledger.room ≤ size
-  pub small : (number len : ℕ) → region_of s number ≡ Some len → (len ≤ 2 ^ 31) × (start_of s number + 40 ≤ len) × (number < 2 ^ 32)
+  pub active_room : start_of s active + BLOCK_HEADER + s.ledger.room ≤ size
+  pub small : (number len : ℕ) → region_of s number ≡ Some len → (len ≤ 2 ^ 31) × (start_of s number + BLOCK_HEADER ≤ len) × (number < 2 ^ 32)
   pub placed : (at : Addr) (chunk : Chunk) → chunk_at s at ≡ Some chunk → IsPlaced s active size at chunk
-  pub apart : (a b : Addr) (first second : Chunk) → chunk_at s a ≡ Some first → chunk_at s b ≡ Some second → a.region ≡ b.region → a.offset < b.offset → a.offset + capacity_of first + 8 ≤ b.offset
+  pub apart : (a b : Addr) (first second : Chunk) → chunk_at s a ≡ Some first → chunk_at s b ≡ Some second → a.region ≡ b.region → a.offset < b.offset → a.offset + capacity_of first + CHUNK_HEADER ≤ b.offset
 
 -- so many free chunks of a class, each of which names the next one
 abbrev pub IsChain : (Addr → Option Chunk) → ℕ → ℕ → Option Addr → Type 0
@@ -99,21 +100,21 @@ abbrev pub shelf_at : List Shelf → ℕ → Shelf
 shelf_at shelves class = slice_index_or shelves class no_shelf
 
 pub record IsShelved (s : SetState) (shelves : List Shelf) : Type 0 where
-  pub eleven : length shelves ≡ 11
-  pub chain : (class : ℕ) → class < 11 → IsChain (chunk_at s) class (shelf_at shelves class).count (shelf_at shelves class).first
-  pub counted : (class : ℕ) → class < 11 → (shelf_at shelves class).count ≡ sum_by (is_free class) (values_of s.chunks)
+  pub eleven : length shelves ≡ CLASSES
+  pub chain : (class : ℕ) → class < CLASSES → IsChain (chunk_at s) class (shelf_at shelves class).count (shelf_at shelves class).first
+  pub counted : (class : ℕ) → class < CLASSES → (shelf_at shelves class).count ≡ sum_by (is_free class) (values_of s.chunks)
   pub unique : IsUnique s.chunks
 
 -- what a chunk takes of the total: its header counts too, and that of its block where it has the block for itself
 abbrev pub taken_bytes : Chunk → ℕ
 taken_bytes (Live class size) = class_bytes class
 taken_bytes (Free class next) = class_bytes class
-taken_bytes (Own size room) = room + 48
+taken_bytes (Own size room) = room + OWN_HEADERS
 
 -- the numbers: no other block has the keeper's, each counts 1, and no byte is taken twice
 pub record IsCounted (b : Books) : Type 0 where
-  pub sizes : (1024 ≤ b.sizes.init) × (b.sizes.init ≤ b.sizes.max) × (b.sizes.max ≤ 8388608) × (b.sizes.init % 8 ≡ 0) × (b.sizes.max % 8 ≡ 0)
-  pub next : (1024 ≤ b.next) × (b.next ≤ b.sizes.max) × (b.next % 8 ≡ 0)
+  pub sizes : (LEAST_BLOCK ≤ b.sizes.init) × (b.sizes.init ≤ b.sizes.max) × (b.sizes.max ≤ LARGEST_BLOCK) × (b.sizes.init % 8 ≡ 0) × (b.sizes.max % 8 ≡ 0)
+  pub next : (LEAST_BLOCK ≤ b.next) × (b.next ≤ b.sizes.max) × (b.next % 8 ≡ 0)
   pub limit : b.limit ≡ chunk_limit b.sizes.max
   pub filled : (b.active.size - b.active.room) % 8 ≡ 0
   pub keeper : lookup (λ n. b.keeper == n) b.blocks.entries ≡ None
@@ -125,9 +126,9 @@ pub record IsCounted (b : Books) : Type 0 where
 -- no chunk is there, and the keeper, with its whole room, is active
 pub record IsCleared (b : Books) : Type 0 where
   pub next : b.next ≡ b.sizes.init
-  pub active : b.active ≡ record { region = b.keeper; size = b.sizes.init; room = b.sizes.init - 240 }
+  pub active : b.active ≡ record { region = b.keeper; size = b.sizes.init; room = b.sizes.init - KEEPER_HEADERS }
   pub chunks : b.chunks.entries ≡ []
-  pub shelves : b.shelves ≡ replicate 11 no_shelf
+  pub shelves : b.shelves ≡ replicate CLASSES no_shelf
   pub idle : b.idle ≡ 0
 
 -- all that the code keeps

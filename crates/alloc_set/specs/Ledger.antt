@@ -5,6 +5,8 @@ use Rattle.chunk_header.specs.declared.CtxError.TheVariants.{TooBig, NoSpace}
 use Rattle.chunk_header.specs.declared.Stats.{Stats}
 use Rattle.chunk_header.specs.Growth.{up8, grown}
 use Rattle.chunk_header.specs.Answers.{Taken, Resized}
+use Rattle.chunk_header.specs.declared.TheConstants.{LARGEST, BLOCK_HEADER, CHUNK_HEADER, KEEPER_HEADERS, OWN_HEADERS, LAST_CLASS, CLASSES}
+use Rattle.alloc_set.specs.declared.books.TheConstants.{LARGE}
 
 -- the sizes that it was created with; the size of the next block; the bytes of all blocks and how many they
 -- are; the room of the active block, off which chunks are cut, and the rooms of all others; and how many free
@@ -31,26 +33,26 @@ class_size class = 8 * 2 ^ class
 
 -- what such a chunk takes in a block, with its header
 abbrev pub class_bytes : ℕ → ℕ
-class_bytes class = class_size class + 8
+class_bytes class = class_size class + CHUNK_HEADER
 
 -- the least class up to a last one whose chunks have this size, and the one behind the last where none has
 unfoldable pub class_up_to : ℕ → ℕ → ℕ
 class_up_to zero size = 0
 class_up_to (suc last) size = if nat_le size (class_size last) then class_up_to last size else suc last
 
--- the class that serves a request: 10 is the last one, of 8,192 bytes
+-- the class that serves a request, which is the last one at most
 unfoldable pub class_of : ℕ → ℕ
-class_of size = class_up_to 10 size
+class_of size = class_up_to LAST_CLASS size
 
 -- the greatest class, from one downwards, of whose chunks a block of the greatest size has four
 unfoldable pub limit_class : ℕ → ℕ → ℕ
 limit_class zero max = 0
-limit_class (suc class) max = if nat_le (class_bytes (suc class)) ((max - 40) / 4) then suc class else limit_class class max
+limit_class (suc class) max = if nat_le (class_bytes (suc class)) ((max - BLOCK_HEADER) / 4) then suc class else limit_class class max
 
--- the greatest request that is served by a class: 8192, halved while it and its header are over a quarter of
+-- the greatest request that is served by a class: that of the last one, halved while it and its header are over a quarter of
 -- what the greatest block has
 unfoldable pub chunk_limit : ℕ → ℕ
-chunk_limit max = class_size (limit_class 10 max)
+chunk_limit max = class_size (limit_class LAST_CLASS max)
 
 -- a new context: one block, the keeper
 unfoldable pub created : ℕ → ℕ → SetLedger
@@ -60,9 +62,9 @@ created init max = record {
   next = init;
   total = init;
   blocks = 1;
-  room = init - 240;
+  room = init - KEEPER_HEADERS;
   idle = 0;
-  free = replicate 11 0;
+  free = replicate CLASSES 0;
 }
 
 -- so many free chunks of a class more
@@ -83,13 +85,13 @@ unfoldable pub cut_rest : ℕ → ℕ → ℕ
 cut_rest zero room = room
 cut_rest (suc class) room = cut_rest class (room % class_bytes class)
 
--- a block's size, halved while it is more than what is left of the account, over 1048576 and would not fall
+-- a block's size, halved while it is more than what is left of the account, over `LARGE` and would not fall
 -- below a need, so many times at most; nothing where it doesn't fit
 unfoldable pub halved_by : ℕ → ℕ → ℕ → ℕ → Option ℕ
 halved_by zero left need size = if nat_le size left then Some size else None
 halved_by (suc times) left need size =
     if nat_le size left then Some size
-    else (if nat_lt 1048576 size then (if nat_le need (size / 2) then halved_by times left need (size / 2) else None) else None)
+    else (if nat_lt LARGE size then (if nat_le need (size / 2) then halved_by times left need (size / 2) else None) else None)
 
 -- the same, as often as it takes
 unfoldable pub halved : ℕ → ℕ → ℕ → Option ℕ
@@ -97,7 +99,7 @@ halved left need size = halved_by size left need size
 
 -- the size of the new block for a chunk, where that is to be had
 unfoldable pub block_size : SetLedger → ℕ → ℕ → Option ℕ
-block_size l left class = halved left (class_size class + 48) (grown l.next (class_size class + 48))
+block_size l left class = halved left (class_size class + OWN_HEADERS) (grown l.next (class_size class + OWN_HEADERS))
 
 -- a new block is had: the rest of the old one is cut up, and the new one is active
 unfoldable pub renewed : SetLedger → ℕ → SetLedger
@@ -107,9 +109,9 @@ renewed l size = record {
   next = min (2 * l.next) l.max;
   total = l.total + size;
   blocks = l.blocks + 1;
-  room = size - 40;
-  idle = l.idle + cut_rest 11 l.room;
-  free = cut_up 11 l.room l.free;
+  room = size - BLOCK_HEADER;
+  idle = l.idle + cut_rest CLASSES l.room;
+  free = cut_up CLASSES l.room l.free;
 }
 
 -- a chunk is cut off the active block
@@ -138,7 +140,7 @@ take_class l left class =
 
 -- the size of an own block for a request
 abbrev pub own_size : ℕ → ℕ
-own_size size = up8 size + 48
+own_size size = up8 size + OWN_HEADERS
 
 -- an own block is had
 unfoldable pub with_own : SetLedger → ℕ → SetLedger
@@ -158,7 +160,7 @@ take_own l left size = if nat_le size left then Ok (of_own l size) else Err NoSp
 -- a request, where so much is left of the account
 unfoldable pub take : SetLedger → ℕ → ℕ → Result (Taken SetLedger SetPlace) CtxError
 take l left size =
-    if nat_lt 1073741823 size then Err TooBig
+    if nat_lt LARGEST size then Err TooBig
     else (if nat_lt (chunk_limit l.max) size then take_own l left (own_size size) else take_class l left (class_of size))
 
 -- a chunk is freed: one of a class is one more free chunk of it, and an own block goes back
@@ -201,7 +203,7 @@ resize_at l held limit (Own old) size = resize_block l held limit old (kept_size
 
 -- the same, up to the greatest size
 unfoldable pub resize : SetLedger → ℕ → ℕ → SetPlace → ℕ → Result (Resized SetLedger SetPlace) CtxError
-resize l held limit place size = if nat_lt 1073741823 size then Err TooBig else resize_at l held limit place size
+resize l held limit place size = if nat_lt LARGEST size then Err TooBig else resize_at l held limit place size
 
 -- all chunks are freed, and all blocks but the keeper go back
 abbrev pub reset : SetLedger → SetLedger
@@ -210,7 +212,7 @@ reset l = created l.init l.max
 -- what a chunk takes in its block, with its header
 abbrev pub chunk_bytes : SetLedger → SetPlace → ℕ
 chunk_bytes l (Class class) = class_bytes class
-chunk_bytes l (Own size) = size - 40
+chunk_bytes l (Own size) = size - BLOCK_HEADER
 
 -- the bytes of the free chunks of a list that begins at a class
 abbrev pub free_bytes : ℕ → List ℕ → ℕ

@@ -11,6 +11,7 @@ use Rattle.alloc_set.specs.Ledger.{SetLedger, SetPlace, Class, Own as OwnPlace, 
 use Rattle.alloc_set.specs.declared.chunk.Chunk.{Chunk}
 use Rattle.alloc_set.specs.declared.chunk.Chunk.TheVariants.{Live, Free, Own}
 use Rattle.addr_space.specs.Live.{same_addr}
+use Rattle.chunk_header.specs.declared.TheConstants.{CONTEXT_BYTES, BLOCK_HEADER, CHUNK_HEADER, OWN_HEADERS}
 
 -- the ledger; the account and the number that it was created with; the region of the keeper; the size of each
 -- other region, by its number; and what stands at each address where a chunk was cut
@@ -32,11 +33,11 @@ region_of s number = if s.keeper == number then Some s.ledger.init else lookup (
 
 -- how many bytes of a region stand before the header of its block
 abbrev pub start_of : SetState → ℕ → ℕ
-start_of s number = if s.keeper == number then 200 else 0
+start_of s number = if s.keeper == number then CONTEXT_BYTES else 0
 
 -- how many first bytes of a region are the context's own: the header of its block ends there
 abbrev pub front_of : SetState → ℕ → ℕ
-front_of s number = if is_some (region_of s number) then start_of s number + 40 else 0
+front_of s number = if is_some (region_of s number) then start_of s number + BLOCK_HEADER else 0
 
 -- the bytes that a chunk may have
 abbrev pub capacity_of : Chunk → ℕ
@@ -55,11 +56,11 @@ free_size (Live class size) = None
 free_size (Free class next) = Some (class_size class)
 free_size (Own size room) = None
 
--- the place of a live chunk: an own block has 48 bytes before the chunk
+-- the place of a live chunk: an own block has two headers before the chunk
 abbrev pub live_place : Chunk → Option SetPlace
 live_place (Live class size) = Some (Class class)
 live_place (Free class next) = None
-live_place (Own size room) = Some (OwnPlace (room + 48))
+live_place (Own size room) = Some (OwnPlace (room + OWN_HEADERS))
 
 abbrev pub place_at : SetState → Addr → Option SetPlace
 place_at s at = option_and_then live_place (chunk_at s at)
@@ -90,7 +91,7 @@ unfoldable pub mark_of : SetState → Addr → Option (List ℕ)
 mark_of s at =
     if at.offset == start_of s at.region then option_map (block_bytes s.context) (region_of s at.region)
     else option_or
-    (option_map (λ chunk. header_bytes (header_of chunk (at.offset - start_of s at.region))) (chunk_at s (record { region = at.region; offset = at.offset + 8 })))
+    (option_map (λ chunk. header_bytes (header_of chunk (at.offset - start_of s at.region))) (chunk_at s (record { region = at.region; offset = at.offset + CHUNK_HEADER })))
     (option_and_then link_of (chunk_at s at))
 
 -- what the context has in a space

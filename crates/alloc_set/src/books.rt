@@ -12,6 +12,8 @@ ghost use Rattle.alloc_set.specs.Kept.{new_books, state_of, taken_bytes, IsSettl
 ghost use Rattle.alloc_set.specs.Listed.{IsUnique};
 ghost use Rattle.alloc_set.specs.State.{start_of, chunk_at, place_at, region_of, mark_of, footprint};
 ghost use Rattle.addr_space.specs.Space.{Space, held, accounts, Asks};
+ghost use Rattle.chunk_header.specs.declared.TheConstants.{LEAST_BLOCK, LAST_CLASS, CLASSES};
+ghost use Rattle.alloc_set.specs.declared.classes.TheConstants.{LAST_SIZE};
 
 use crate::chunk::Chunk;
 use crate::chunks::{Chunks, put};
@@ -19,10 +21,9 @@ use crate::classes::{chunk_limit, class_of, class_size};
 use crate::linking::{link_bytes, next_at};
 use addr_space::{Addr, Space};
 use chunk_header::{
-    BLOCK_HEADER, CHUNK_HEADER, CONTEXT_BYTES, CtxError, Header, Kind, LARGEST, Sizes, Stats,
-    block_header, grown, up8,
+    BLOCK_HEADER, CHUNK_HEADER, CONTEXT_BYTES, CtxError, FreeList, Header, Kind, LARGEST,
+    OWN_HEADERS, Shelf, Shelves, Sizes, Stats, block_header, grown, up8,
 };
-use free_list::{FreeList, Shelf, Shelves};
 use indexmap::IndexMap;
 use std::alloc::Global;
 
@@ -72,12 +73,6 @@ fn note(blocks: &mut IndexMap<u32, u32>, number: u32, size: u32)
     }
 }
 
-// What stands before the chunks of the keeper's block.
-pub const KEEPER_HEADERS: u32 = CONTEXT_BYTES + BLOCK_HEADER;
-
-// What stands before a chunk that has its block for itself.
-pub const OWN_HEADERS: u32 = BLOCK_HEADER + CHUNK_HEADER;
-
 // The greatest total with which a context takes one more block, in bytes.
 pub const MOST: u64 = 1 << 56;
 
@@ -116,7 +111,7 @@ impl Books {
     // Makes them the books of a new context, as if its first block were the region 0.
     #[inline]
     fn begin(&mut self, account: u8, context: u32, sizes: Sizes)
-        requires { (1024 ≤ sizes.init) × (sizes.init ≤ sizes.max) }
+        requires { (LEAST_BLOCK ≤ sizes.init) × (sizes.init ≤ sizes.max) }
         ensures blocks { self.new.blocks.entries ≡ [] }
         ensures chunks { self.new.chunks.entries ≡ [] }
         ensures rest { self.new ≡ new_books account context sizes 0 self.new }
@@ -141,7 +136,7 @@ impl Books {
         context: u32,
         sizes: Sizes,
     ) -> Option<Box<Books>>
-        requires least { 1024 ≤ sizes.init }
+        requires least { LEAST_BLOCK ≤ sizes.init }
         requires order { sizes.init ≤ sizes.max }
         ensures none { IfSome result (λ b. (b.value.blocks.entries ≡ []) × (b.value.chunks.entries ≡ [])) }
         ensures rest { IfSome result (λ b. b.value ≡ new_books account context sizes 0 b.value) }
@@ -175,7 +170,7 @@ impl Books {
         requires filled { (self.old.active.size - self.old.active.room) % 8 ≡ 0 }
         requires agrees { Agrees (footprint (state_of self.old)) space.old }
         requires room { class_bytes class ≤ self.old.active.room }
-        requires class { class ≤ 10 }
+        requires class { class ≤ LAST_CLASS }
         requires size { size ≤ class_size class }
         ensures free { chunk_at (state_of self.old) result ≡ None }
         ensures chunk { PutsChunk (state_of self.old) (state_of self.new) result (Some (Chunk.Live class size)) }
@@ -214,7 +209,7 @@ impl Books {
         requires kept { IsKept self.old }
         requires agrees { Agrees (footprint (state_of self.old)) space.old }
         requires room { class_bytes class ≤ self.old.active.room }
-        requires class { class ≤ 10 }
+        requires class { class ≤ LAST_CLASS }
         requires size { size ≤ class_size class }
         ensures kept { IsKept self.new }
         ensures ledger { (state_of self.new).ledger ≡ cut_off (state_of self.old).ledger class }
@@ -240,7 +235,7 @@ impl Books {
         requires kept { IsKept self.old }
         requires agrees { Agrees (footprint (state_of self.old)) space.old }
         requires room { class_bytes class ≤ self.old.active.room }
-        requires class { class ≤ 10 }
+        requires class { class ≤ LAST_CLASS }
         ensures kept { IsKept self.new }
         ensures ledger { (state_of self.new).ledger ≡ record (state_of self.old).ledger { room = self.old.active.room - class_bytes class; free = with_free (state_of self.old).ledger.free class 1 } }
         ensures active { self.new.active ≡ record self.old.active { room = self.new.active.room } }
@@ -286,9 +281,7 @@ impl Books {
         ensures spare { OnOk result (0 < spare self.new.blocks) }
         ensures only_memory { IfErr result (λ e. e ≡ CtxError.Memory) }
     {
-        if self.blocks.reserve(1).is_err() {
-            return Err(CtxError::Memory);
-        }
+        self.blocks.reserve(1)?;
         Ok(())
     }
 
@@ -297,7 +290,7 @@ impl Books {
     fn add_block(&mut self, space: &mut Space, size: u32) -> Result<u32, CtxError>
         requires kept { IsKept self.old }
         requires agrees { Agrees (footprint (state_of self.old)) space.old }
-        requires least { 48 ≤ size }
+        requires least { OWN_HEADERS ≤ size }
         requires most { size ≤ 2 ^ 31 }
         requires spare { 0 < spare self.old.blocks }
         ensures kept { OnOk result (IsKept self.new) }
@@ -330,10 +323,10 @@ impl Books {
     fn cut_up(&mut self, space: &mut Space)
         requires kept { IsKept self.old }
         requires agrees { Agrees (footprint (state_of self.old)) space.old }
-        requires little { self.old.active.room < class_bytes 11 }
+        requires little { self.old.active.room < class_bytes CLASSES }
         ensures cut { CutsUp self.old self.new }
-        ensures room { self.new.active.room ≡ cut_rest 11 self.old.active.room }
-        ensures free { (state_of self.new).ledger.free ≡ cut_up 11 self.old.active.room (state_of self.old).ledger.free }
+        ensures room { self.new.active.room ≡ cut_rest CLASSES self.old.active.room }
+        ensures free { (state_of self.new).ledger.free ≡ cut_up CLASSES self.old.active.room (state_of self.old).ledger.free }
         ensures moves { Moves (footprint (state_of self.old)) (footprint (state_of self.new)) space.old space.new }
         ensures keeps { Keeps (footprint (state_of self.old)) (footprint (state_of self.new)) space.old space.new }
         ensures asked { space.new.taken ≡ space.old.taken }
@@ -356,7 +349,7 @@ impl Books {
         requires empty { (at : Addr) → at.region ≡ region → chunk_at (state_of self.old) at ≡ None }
         requires counted { self.old.active.room + self.old.idle + sum_by taken_bytes (values_of self.old.chunks.entries) + size ≤ self.old.total }
         ensures kept { IsKept self.new }
-        ensures state { state_of self.new ≡ record (state_of self.old) { ledger = record (state_of self.old).ledger { next = min (2 * self.old.next) self.old.sizes.max; idle = self.old.idle + self.old.active.room; room = size - 40 } } }
+        ensures state { state_of self.new ≡ record (state_of self.old) { ledger = record (state_of self.old).ledger { next = min (2 * self.old.next) self.old.sizes.max; idle = self.old.idle + self.old.active.room; room = size - BLOCK_HEADER } } }
         ensures rest { self.new ≡ record self.old { active = self.new.active; idle = self.new.idle; next = self.new.next } }
         ensures footprint { footprint (state_of self.new) ≡ footprint (state_of self.old) }
     {
@@ -374,7 +367,7 @@ impl Books {
         requires kept { IsKept self.now }
         requires account { self.now.account < accounts space.now }
         requires most { need ≤ 2 ^ 14 }
-        requires least { 48 ≤ need }
+        requires least { OWN_HEADERS ≤ need }
         ensures some { result ≤ space.now.limit - held space.now self.now.account → halved (space.now.limit - held space.now self.now.account) need (grown self.now.next need) ≡ Some result }
         ensures none { space.now.limit - held space.now self.now.account < result → halved (space.now.limit - held space.now self.now.account) need (grown self.now.next need) ≡ None }
         ensures enough { need ≤ result }
@@ -392,7 +385,7 @@ impl Books {
     fn renew(&mut self, space: &mut Space, class: u8) -> Result<(), CtxError>
         requires kept { IsKept self.old }
         requires agrees { Agrees (footprint (state_of self.old)) space.old }
-        requires class { class ≤ 10 }
+        requires class { class ≤ LAST_CLASS }
         requires little { self.old.active.room < class_bytes class }
         requires spare { 0 < spare self.old.blocks }
         ensures renewed { OnOk result (Renews self.old self.new space.old space.new class) }
@@ -415,7 +408,7 @@ impl Books {
     fn reuse(&mut self, space: &Space, class: u8, size: u32) -> Option<Addr>
         requires kept { IsKept self.old }
         requires agrees { Agrees (footprint (state_of self.old)) space.now }
-        requires class { class ≤ 10 }
+        requires class { class ≤ LAST_CLASS }
         requires size { size ≤ class_size class }
         ensures none { IfNone result (self.new ≡ self.old) }
         ensures empty { IfNone result (slice_index (state_of self.old).ledger.free class ≡ 0) }
@@ -447,7 +440,7 @@ impl Books {
     pub fn shelve(&mut self, space: &mut Space, class: u8, at: Addr)
         requires kept { IsKept self.old }
         requires agrees { Agrees (footprint (state_of self.old)) space.old }
-        requires class { class ≤ 10 }
+        requires class { class ≤ LAST_CLASS }
         requires live { (size : ℕ) × (chunk_at (state_of self.old) at ≡ Some (Chunk.Live class size)) }
         ensures kept { IsKept self.new }
         ensures ledger { (state_of self.new).ledger ≡ record (state_of self.old).ledger { free = with_free (state_of self.old).ledger.free class 1 } }
@@ -476,7 +469,7 @@ impl Books {
     fn take_class(&mut self, space: &mut Space, size: u32) -> Result<Addr, CtxError>
         requires kept { IsKept self.old }
         requires agrees { Agrees (footprint (state_of self.old)) space.old }
-        requires size { size ≤ 8192 }
+        requires size { size ≤ LAST_SIZE }
         ensures ok { IfOk result (λ at. Allocates (state_of self.old) self.new space.old space.new size at (take_class (state_of self.old).ledger (space.old.limit - held space.old self.old.account) (class_of size))) }
         ensures no_space { result ≡ Err CtxError.NoSpace → take_class (state_of self.old).ledger (space.old.limit - held space.old self.old.account) (class_of size) ≡ Err CtxError.NoSpace }
         ensures no_other { IfErr result (λ e. (e ≡ CtxError.NoSpace) ⊎ (e ≡ CtxError.Memory)) }
@@ -500,12 +493,12 @@ impl Books {
     fn settle(&mut self, space: &mut Space, region: u32, size: u32, room: u32) -> Addr
         requires kept { IsKept self.old }
         requires agrees { Agrees (footprint (state_of self.old)) space.old }
-        requires owned { region_of (state_of self.old) region ≡ Some (room + 48) }
+        requires owned { region_of (state_of self.old) region ≡ Some (room + OWN_HEADERS) }
         requires not_keeper { region ≢ self.old.keeper }
         requires not_active { region ≢ self.old.active.region }
         requires empty { (other : Addr) → other.region ≡ region → chunk_at (state_of self.old) other ≡ None }
         requires fits { size ≤ room }
-        requires counted { self.old.active.room + self.old.idle + sum_by taken_bytes (values_of self.old.chunks.entries) + room + 48 ≤ self.old.total }
+        requires counted { self.old.active.room + self.old.idle + sum_by taken_bytes (values_of self.old.chunks.entries) + room + OWN_HEADERS ≤ self.old.total }
         ensures kept { IsKept self.new }
         ensures ledger { (state_of self.new).ledger ≡ (state_of self.old).ledger }
         ensures fresh { (footprint (state_of self.old)).live result ≡ None }
@@ -513,7 +506,7 @@ impl Books {
         ensures stays { LeavesLive (state_of self.old) (state_of self.new) }
         ensures moves { Moves (footprint (state_of self.old)) (footprint (state_of self.new)) space.old space.new }
         ensures keeps { Keeps (footprint (state_of self.old)) (footprint (state_of self.new)) space.old space.new }
-        ensures place { place_at (state_of self.new) result ≡ Some (OwnPlace (room + 48)) }
+        ensures place { place_at (state_of self.new) result ≡ Some (OwnPlace (room + OWN_HEADERS)) }
         ensures asked { space.new.taken ≡ space.old.taken }
     {
         let header = Header {
@@ -540,7 +533,7 @@ impl Books {
     fn take_own(&mut self, space: &mut Space, size: u32) -> Result<Addr, CtxError>
         requires kept { IsKept self.old }
         requires agrees { Agrees (footprint (state_of self.old)) space.old }
-        requires size { size ≤ 1073741823 }
+        requires size { size ≤ LARGEST }
         ensures ok { IfOk result (λ at. Allocates (state_of self.old) self.new space.old space.new size at (take_own (state_of self.old).ledger (space.old.limit - held space.old self.old.account) (own_size size))) }
         ensures no_space { result ≡ Err CtxError.NoSpace → take_own (state_of self.old).ledger (space.old.limit - held space.old self.old.account) (own_size size) ≡ Err CtxError.NoSpace }
         ensures no_other { IfErr result (λ e. (e ≡ CtxError.NoSpace) ⊎ (e ≡ CtxError.Memory)) }
@@ -560,7 +553,7 @@ impl Books {
         requires kept { IsKept self.old }
         requires agrees { Agrees (footprint (state_of self.old)) space.old }
         ensures ok { IfOk result (λ at. Allocates (state_of self.old) self.new space.old space.new size at (take (state_of self.old).ledger (space.old.limit - held space.old self.old.account) size)) }
-        ensures too_big { (result ≡ Err CtxError.TooBig) ↔ (1073741823 < size) }
+        ensures too_big { (result ≡ Err CtxError.TooBig) ↔ (LARGEST < size) }
         ensures no_space { result ≡ Err CtxError.NoSpace → take (state_of self.old).ledger (space.old.limit - held space.old self.old.account) size ≡ Err CtxError.NoSpace }
         ensures no_other { IfErr result (λ e. (e ≡ CtxError.TooBig) ⊎ ((e ≡ CtxError.NoSpace) ⊎ (e ≡ CtxError.Memory))) }
         ensures err_state { OnErr result (state_of self.new ≡ state_of self.old) }

@@ -8,12 +8,13 @@ ghost use Rattle.alloc_set.specs.Ledger.{without_own, give};
 ghost use Rattle.addr_space.specs.Live.{PutsAt, PutsLive, SameLive};
 ghost use Rattle.alloc_set.specs.State.{chunk_at, place_at, region_of, emptied, footprint};
 ghost use Rattle.addr_space.specs.Space.{Space};
+ghost use Rattle.chunk_header.specs.declared.TheConstants.{LEAST_BLOCK};
 
-use crate::books::{Block, Books, KEEPER_HEADERS, OWN_HEADERS};
+use crate::books::{Block, Books};
 use crate::chunk::Chunk;
 use crate::chunks::{Chunks, forget};
 use addr_space::{Addr, Space};
-use chunk_header::header_at;
+use chunk_header::{KEEPER_HEADERS, OWN_HEADERS, header_at};
 use indexmap::IndexMap;
 
 // Takes off the size of a block.
@@ -63,7 +64,7 @@ impl Books {
         ensures kept { IsKept self.new }
         ensures rest { self.new ≡ record self.old { chunks = self.new.chunks } }
         ensures empty { (other : Addr) → other.region ≡ at.region → chunk_at (state_of self.new) other ≡ None }
-        ensures counted { self.new.active.room + self.new.idle + sum_by taken_bytes (values_of self.new.chunks.entries) + (room + 48) ≤ self.new.total }
+        ensures counted { self.new.active.room + self.new.idle + sum_by taken_bytes (values_of self.new.chunks.entries) + (room + OWN_HEADERS) ≤ self.new.total }
         ensures live { PutsLive (footprint (state_of self.old)) (footprint (state_of self.new)) at None }
         ensures place { PutsAt (place_at (state_of self.old)) (place_at (state_of self.new)) at None }
         ensures moves { (sp : Space) → Agrees (footprint (state_of self.old)) sp → Moves (footprint (state_of self.old)) (footprint (state_of self.new)) sp sp }
@@ -103,7 +104,7 @@ impl Books {
         requires agrees { Agrees (footprint (state_of self.old)) space.old }
         requires own { (size : ℕ) × (chunk_at (state_of self.old) at ≡ Some (Chunk.Own size room)) }
         ensures kept { IsKept self.new }
-        ensures ledger { (state_of self.new).ledger ≡ without_own (state_of self.old).ledger (room + 48) }
+        ensures ledger { (state_of self.new).ledger ≡ without_own (state_of self.old).ledger (room + OWN_HEADERS) }
         ensures live { PutsLive (footprint (state_of self.old)) (footprint (state_of self.new)) at None }
         ensures moves { Moves (footprint (state_of self.old)) (footprint (state_of self.new)) space.old space.new }
         ensures keeps { Keeps (footprint (state_of self.old)) (footprint (state_of self.new)) space.old space.new }
@@ -137,7 +138,7 @@ impl Books {
     // Takes all chunks off the books, and makes the keeper, with its whole room, the active block.
     #[inline]
     pub fn clear(&mut self)
-        requires least { 1024 ≤ self.old.sizes.init }
+        requires least { LEAST_BLOCK ≤ self.old.sizes.init }
         ensures kept { IsKept self.old → IsKept self.new }
         ensures cleared { IsCleared self.new }
         ensures rest { self.new ≡ record self.old { next = self.new.next; active = self.new.active; chunks = self.new.chunks; shelves = self.new.shelves; idle = self.new.idle } }

@@ -4,6 +4,7 @@
 ghost use Rattle.std.specs.Prelude.{◌≡◌, ◌≢◌, ℕ, ◌+◌, ◌-◌, ◌%◌, ◌^◌, ◌<◌, ◌≤◌, ◌↔◌, ◌⊎◌, Ok, Err, None, Some, IfOk, IfErr, OnOk, OnErr, IsSome, IfSome, min, ◌==◌, if◌then◌else◌};
 ghost use Rattle.addr_space.specs.declared.Addr.{Addr};
 ghost use Rattle.alloc_set.specs.Ledger.{SetPlace, created, take, give, reset, chunk_bytes, stats};
+ghost use Rattle.chunk_header.specs.declared.TheConstants.{LARGEST, LEAST_BLOCK, LARGEST_BLOCK};
 
 mod books;
 mod chunk;
@@ -15,8 +16,7 @@ mod resizing;
 
 use addr_space::{Addr, Space};
 use books::Books;
-use chunk_header::{CONTEXT_BYTES, CtxError, Kind, Sizes, Stats, block_header};
-use free_list::FreeList;
+use chunk_header::{CONTEXT_BYTES, CtxError, FreeList, Kind, Sizes, Stats, block_header};
 use std::alloc::Global;
 use std::marker::Model;
 
@@ -64,9 +64,9 @@ impl AllocSet {
         sizes: Sizes,
     ) -> Result<AllocSet, CtxError>
         requires account { account < accounts space.old }
-        requires least { 1024 ≤ sizes.init }
+        requires least { LEAST_BLOCK ≤ sizes.init }
         requires order { sizes.init ≤ sizes.max }
-        requires most { sizes.max ≤ 8388608 }
+        requires most { sizes.max ≤ LARGEST_BLOCK }
         requires whole_init { sizes.init % 8 ≡ 0 }
         requires whole_max { sizes.max % 8 ≡ 0 }
         ensures ledger { IfOk result (λ a. a.ledger ≡ created sizes.init sizes.max) }
@@ -129,7 +129,7 @@ impl AllocSet {
     /// Takes a chunk of `size` bytes, which may be 0, and answers its address: `AllocSetAlloc`. A chunk that was
     /// freed before has the bytes that stood there, but for the first 8, which may be others.
     ///
-    /// `TooBig`, where `size` is over 1,073,741,823, `NoSpace` and `Memory` are tried in this order. A refused call changes nothing.
+    /// `TooBig`, where `size` is over `LARGEST`, `NoSpace` and `Memory` are tried in this order. A refused call changes nothing.
     pub fn alloc(&mut self, space: &mut Space, size: u64) -> Result<Addr, CtxError>
         requires { Agrees (footprint self.old) space.old }
 
@@ -143,7 +143,7 @@ impl AllocSet {
         ensures moves { Moves (footprint self.old) (footprint self.new) space.old space.new }
         ensures keeps { Keeps (footprint self.old) (footprint self.new) space.old space.new }
 
-        ensures too_big { (result ≡ Err CtxError.TooBig) ↔ (1073741823 < size) }
+        ensures too_big { (result ≡ Err CtxError.TooBig) ↔ (LARGEST < size) }
         ensures no_space { result ≡ Err CtxError.NoSpace → take self.old.ledger (space.old.limit - held space.old self.old.account) size ≡ Err CtxError.NoSpace }
         ensures no_other { IfErr result (λ e. (e ≡ CtxError.TooBig) ⊎ ((e ≡ CtxError.NoSpace) ⊎ (e ≡ CtxError.Memory))) }
         ensures err { OnErr result (self.new ≡ self.old) }
@@ -176,7 +176,7 @@ impl AllocSet {
     /// The chunk stays where its class has the size, or where it has a block for itself, which then gets another length.
     /// Else a new chunk is taken, the known bytes that have room there are copied, and the old chunk is freed.
     ///
-    /// `TooBig`, where `size` is over 1,073,741,823, comes before `NoSpace`, and `Memory` may come in place of
+    /// `TooBig`, where `size` is over `LARGEST`, comes before `NoSpace`, and `Memory` may come in place of
     /// any other. A refused call changes nothing.
     pub fn realloc(
         &mut self,
@@ -202,7 +202,7 @@ impl AllocSet {
         ensures moves { Moves (footprint self.old) (footprint self.new) space.old space.new }
         ensures keeps { KeepsBut at (footprint self.old) (footprint self.new) space.old space.new }
 
-        ensures too_big { (result ≡ Err CtxError.TooBig) ↔ (1073741823 < size) }
+        ensures too_big { (result ≡ Err CtxError.TooBig) ↔ (LARGEST < size) }
         ensures no_space { result ≡ Err CtxError.NoSpace → IfSome (place_at self.old at) (λ place. resize_in self.old space.old place size ≡ Err CtxError.NoSpace) }
         ensures no_other { IfErr result (λ e. (e ≡ CtxError.TooBig) ⊎ ((e ≡ CtxError.NoSpace) ⊎ (e ≡ CtxError.Memory))) }
         ensures err { OnErr result (self.new ≡ self.old) }

@@ -7,13 +7,14 @@ ghost use Rattle.chunk_header.specs.Header.{block_bytes};
 ghost use Rattle.alloc_set.specs.declared.chunk.Chunk.{Chunk};
 ghost use Rattle.alloc_set.specs.Ledger.{SetPlace, Class, Own as OwnPlace, class_size, with_block, resize_class, resize_block, kept_size};
 ghost use Rattle.alloc_set.specs.State.{chunk_at, place_at, footprint};
+ghost use Rattle.chunk_header.specs.declared.TheConstants.{LAST_CLASS};
 
-use crate::books::{Books, MOST, OWN_HEADERS};
+use crate::books::{Books, MOST};
 use crate::chunk::Chunk;
 use crate::chunks::put;
 use crate::classes::class_size;
 use addr_space::{Addr, Space};
-use chunk_header::{CtxError, LARGEST, block_header, up8};
+use chunk_header::{CtxError, LARGEST, OWN_HEADERS, block_header, up8};
 use indexmap::IndexMap;
 
 // Notes another size of a block.
@@ -32,7 +33,7 @@ fn note_again(blocks: &mut IndexMap<u32, u32>, number: u32, size: u32)
 // Makes a block so many bytes long, and writes its header anew.
 fn resize_block(space: &mut Space, context: u32, region: u32, size: u32) -> Result<(), CtxError>
     requires region { IsSome (region_at space.old region) }
-    requires least { 48 ≤ size }
+    requires least { OWN_HEADERS ≤ size }
     requires most { size ≤ 2 ^ 31 }
     ensures changes { OnOk result (Changes space.old space.new region (overwritten (with_length (region_at space.old region) size) 0 (map Some (block_bytes context size)))) }
     ensures length { OnOk result (length (bytes_of (region_at space.new region)) ≡ size) }
@@ -60,7 +61,7 @@ impl Books {
     #[inline]
     fn refit(&mut self, class: u8, at: Addr, size: u32)
         requires kept { IsKept self.old }
-        requires class { class ≤ 10 }
+        requires class { class ≤ LAST_CLASS }
         requires size { size ≤ class_size class }
         requires live { (old : ℕ) × (chunk_at (state_of self.old) at ≡ Some (Chunk.Live class old)) }
         ensures kept { IsKept self.new }
@@ -84,8 +85,8 @@ impl Books {
     ) -> Result<Addr, CtxError>
         requires kept { IsKept self.old }
         requires agrees { Agrees (footprint (state_of self.old)) space.old }
-        requires class { class ≤ 10 }
-        requires size { size ≤ 1073741823 }
+        requires class { class ≤ LAST_CLASS }
+        requires size { size ≤ LARGEST }
         requires over { class_size class < size }
         requires keep { keep ≤ size }
         requires live { (old : ℕ) × (chunk_at (state_of self.old) at ≡ Some (Chunk.Live class old)) × (keep ≤ old) }
@@ -115,8 +116,8 @@ impl Books {
     ) -> Result<Addr, CtxError>
         requires kept { IsKept self.old }
         requires agrees { Agrees (footprint (state_of self.old)) space.old }
-        requires class { class ≤ 10 }
-        requires size { size ≤ 1073741823 }
+        requires class { class ≤ LAST_CLASS }
+        requires size { size ≤ LARGEST }
         requires keep { keep ≤ size }
         requires live { (old : ℕ) × (chunk_at (state_of self.old) at ≡ Some (Chunk.Live class old)) × (keep ≤ old) }
         requires known { IsKnown space.old at keep }
@@ -147,16 +148,16 @@ impl Books {
         requires agrees { Agrees (footprint (state_of self.old)) space.old }
         requires live { (n : ℕ) × (chunk_at (state_of self.old) at ≡ Some (Chunk.Own n old)) }
         requires fits { size ≤ room }
-        requires most { room + 48 ≤ 2 ^ 31 }
+        requires most { room + OWN_HEADERS ≤ 2 ^ 31 }
         ensures kept { OnOk result (IsKept self.new) }
-        ensures ledger { OnOk result ((state_of self.new).ledger ≡ with_block (state_of self.old).ledger (old + 48) (room + 48)) }
-        ensures place { OnOk result (PutsAt (place_at (state_of self.old)) (place_at (state_of self.new)) at (Some (OwnPlace (room + 48)))) }
+        ensures ledger { OnOk result ((state_of self.new).ledger ≡ with_block (state_of self.old).ledger (old + OWN_HEADERS) (room + OWN_HEADERS)) }
+        ensures place { OnOk result (PutsAt (place_at (state_of self.old)) (place_at (state_of self.new)) at (Some (OwnPlace (room + OWN_HEADERS)))) }
         ensures asked { OnOk result (Asks self.old.account (room - old) space.old space.new) }
         ensures live { OnOk result (PutsLive (footprint (state_of self.old)) (footprint (state_of self.new)) at (Some size)) }
         ensures moves { OnOk result (Moves (footprint (state_of self.old)) (footprint (state_of self.new)) space.old space.new) }
         ensures keeps { OnOk result (Keeps (footprint (state_of self.old)) (footprint (state_of self.new)) space.old space.new) }
-        ensures within { OnOk result (held space.old self.old.account - (old + 48) + (room + 48) ≤ space.old.limit) }
-        ensures no_space { result ≡ Err CtxError.NoSpace → space.old.limit < held space.old self.old.account - (old + 48) + (room + 48) }
+        ensures within { OnOk result (held space.old self.old.account - (old + OWN_HEADERS) + (room + OWN_HEADERS) ≤ space.old.limit) }
+        ensures no_space { result ≡ Err CtxError.NoSpace → space.old.limit < held space.old self.old.account - (old + OWN_HEADERS) + (room + OWN_HEADERS) }
         ensures no_other { IfErr result (λ e. (e ≡ CtxError.NoSpace) ⊎ (e ≡ CtxError.Memory)) }
         ensures err { OnErr result (self.new ≡ self.old) }
         ensures err_space { OnErr result (space.new ≡ space.old) }
@@ -178,7 +179,7 @@ impl Books {
         requires fits { size ≤ room }
         ensures kept { IsKept self.new }
         ensures ledger { (state_of self.new).ledger ≡ (state_of self.old).ledger }
-        ensures place { PutsAt (place_at (state_of self.old)) (place_at (state_of self.new)) at (Some (OwnPlace (room + 48))) }
+        ensures place { PutsAt (place_at (state_of self.old)) (place_at (state_of self.new)) at (Some (OwnPlace (room + OWN_HEADERS))) }
         ensures live { PutsLive (footprint (state_of self.old)) (footprint (state_of self.new)) at (Some size) }
         ensures moves { (sp : Space) → Agrees (footprint (state_of self.old)) sp → Moves (footprint (state_of self.old)) (footprint (state_of self.new)) sp sp }
     {
@@ -196,14 +197,14 @@ impl Books {
     ) -> Result<(), CtxError>
         requires kept { IsKept self.old }
         requires agrees { Agrees (footprint (state_of self.old)) space.old }
-        requires size { size ≤ 1073741823 }
+        requires size { size ≤ LARGEST }
         requires live { (n : ℕ) × (chunk_at (state_of self.old) at ≡ Some (Chunk.Own n old)) }
         ensures kept { OnOk result (IsKept self.new) }
-        ensures refits { OnOk result (Refits (resize_block (state_of self.old).ledger (held space.old self.old.account) space.old.limit (old + 48) (kept_size (state_of self.old).ledger size)) (state_of self.old) (state_of self.new) at at space.old space.new) }
+        ensures refits { OnOk result (Refits (resize_block (state_of self.old).ledger (held space.old self.old.account) space.old.limit (old + OWN_HEADERS) (kept_size (state_of self.old).ledger size)) (state_of self.old) (state_of self.new) at at space.old space.new) }
         ensures live { OnOk result (PutsLive (footprint (state_of self.old)) (footprint (state_of self.new)) at (Some size)) }
         ensures moves { OnOk result (Moves (footprint (state_of self.old)) (footprint (state_of self.new)) space.old space.new) }
         ensures keeps { OnOk result (Keeps (footprint (state_of self.old)) (footprint (state_of self.new)) space.old space.new) }
-        ensures no_space { result ≡ Err CtxError.NoSpace → resize_block (state_of self.old).ledger (held space.old self.old.account) space.old.limit (old + 48) (kept_size (state_of self.old).ledger size) ≡ Err CtxError.NoSpace }
+        ensures no_space { result ≡ Err CtxError.NoSpace → resize_block (state_of self.old).ledger (held space.old self.old.account) space.old.limit (old + OWN_HEADERS) (kept_size (state_of self.old).ledger size) ≡ Err CtxError.NoSpace }
         ensures no_other { IfErr result (λ e. (e ≡ CtxError.NoSpace) ⊎ (e ≡ CtxError.Memory)) }
         ensures err { OnErr result (self.new ≡ self.old) }
         ensures err_space { OnErr result (space.new ≡ space.old) }
@@ -231,7 +232,7 @@ impl Books {
         requires keep { IfSome ((footprint (state_of self.old)).live at) (λ n. keep ≤ n) }
         requires known { IsKnown space.old at keep }
         ensures ok { IfOk result (λ to. (place : SetPlace) × (place_at (state_of self.old) at ≡ Some place) × Reallocates (state_of self.old) self.new space.old space.new at to (min keep size) size (resize_in (state_of self.old) space.old place size)) }
-        ensures too_big { (result ≡ Err CtxError.TooBig) ↔ (1073741823 < size) }
+        ensures too_big { (result ≡ Err CtxError.TooBig) ↔ (LARGEST < size) }
         ensures no_space { result ≡ Err CtxError.NoSpace → IfSome (place_at (state_of self.old) at) (λ place. resize_in (state_of self.old) space.old place size ≡ Err CtxError.NoSpace) }
         ensures no_other { IfErr result (λ e. (e ≡ CtxError.TooBig) ⊎ ((e ≡ CtxError.NoSpace) ⊎ (e ≡ CtxError.Memory))) }
         ensures err_state { OnErr result (state_of self.new ≡ state_of self.old) }

@@ -10,11 +10,12 @@ ghost use Rattle.any_ctx.specs.Kinds.{first_size, IsSlabSize, created};
 ghost use Rattle.any_ctx.specs.Contexts.{footprint, ledger, place_at, kind_of};
 ghost use Rattle.any_ctx.specs.Calls.{take_in, Takes, IsWrongSize, resize_in, Resizes, IsUnsupported};
 ghost use Rattle.alloc_set.specs.Ledger as set;
+ghost use Rattle.chunk_header.specs.declared.TheConstants.{LARGEST, LEAST_BLOCK};
 
 use addr_space::{Addr, Space};
 use alloc_set::{AllocSet, SetBoxes};
 use bump_ctx::BumpCtx;
-use chunk_header::{CtxError, Sizes, Stats};
+use chunk_header::{CtxError, LARGEST_BLOCK, Sizes, Stats};
 use generation_ctx::GenerationCtx;
 use slab_ctx::SlabCtx;
 use std::alloc::Global;
@@ -38,10 +39,25 @@ pub enum CtxKind {
     Bump,
 }
 
+/// The size of the first block of most contexts, in bytes: PostgreSQL's `ALLOCSET_DEFAULT_INITSIZE` (memutils.h).
+const DEFAULT_INIT: u32 = 8192;
+
+/// The size of the first block of a context for little, in bytes: PostgreSQL's `ALLOCSET_SMALL_INITSIZE`.
+const SMALL_INIT: u32 = 1024;
+
+/// What the size of its blocks doubles up to: PostgreSQL's `ALLOCSET_SMALL_MAXSIZE`.
+const SMALL_MAX: u32 = 8192;
+
+/// The size of each block of the context that errors are made in: PostgreSQL's `MemoryContextInit` (mcxt.c).
+const ERROR_BLOCK: u32 = 8192;
+
+/// The size of each block of the context that transactions abort in: PostgreSQL's `AtStart_Memory` (xact.c).
+const ABORT_BLOCK: u32 = 32_768;
+
 /// The blocks of a context whose first one has 8,192 bytes and whose greatest has 8,388,608.
 const GREAT: Sizes = Sizes {
-    init: 8192,
-    max: 8_388_608,
+    init: DEFAULT_INIT,
+    max: LARGEST_BLOCK,
 };
 
 /// A memory context of one of the kinds.
@@ -67,9 +83,9 @@ fn set_of(
     sizes: Sizes,
 ) -> Result<AnyCtx, CtxError>
     requires account { account < accounts space.old }
-    requires least { 1024 ≤ sizes.init }
+    requires least { LEAST_BLOCK ≤ sizes.init }
     requires order { sizes.init ≤ sizes.max }
-    requires most { sizes.max ≤ 8388608 }
+    requires most { sizes.max ≤ LARGEST_BLOCK }
     requires whole_init { sizes.init % 8 ≡ 0 }
     requires whole_max { sizes.max % 8 ≡ 0 }
     ensures ledger { IfOk result (λ a. ledger a ≡ OfSet (set.created sizes.init sizes.max)) }
@@ -115,16 +131,16 @@ impl AnyCtx {
         ensures err_space { OnErr result (space.new ≡ space.old) }
     {
         let small = Sizes {
-            init: 1024,
-            max: 8192,
+            init: SMALL_INIT,
+            max: SMALL_MAX,
         };
         let error = Sizes {
-            init: 8192,
-            max: 8192,
+            init: ERROR_BLOCK,
+            max: ERROR_BLOCK,
         };
         let abort = Sizes {
-            init: 32_768,
-            max: 32_768,
+            init: ABORT_BLOCK,
+            max: ABORT_BLOCK,
         };
         match kind {
             CtxKind::Default => set_of(alloc, boxes, space, account, context, GREAT),
@@ -146,7 +162,7 @@ impl AnyCtx {
     /// Takes a chunk of `size` bytes, which may be 0, and answers its address: `MemoryContextAlloc` of PostgreSQL's
     /// mcxt.c.
     ///
-    /// `TooBig`, where `size` is over 1,073,741,823, and `WrongSize`, where a Slab has chunks of another size, come
+    /// `TooBig`, where `size` is over `LARGEST`, and `WrongSize`, where a Slab has chunks of another size, come
     /// before `NoSpace`; `Memory` may come in place of `NoSpace`. A refused call changes nothing.
     pub fn alloc(&mut self, space: &mut Space, size: u64) -> Result<Addr, CtxError>
         requires { Agrees (footprint self.old) space.old }
@@ -155,7 +171,7 @@ impl AnyCtx {
         // chunk keeps its place. It refuses where the call does, but for want of memory.
         ensures taken { IfOk result (λ at. Takes self.old self.new size at space.old space.new) }
         ensures refused { IfErr result (λ e. (e ≡ CtxError.Memory) ⊎ (take_in self.old space.old size ≡ Err e)) }
-        ensures too_big { (result ≡ Err CtxError.TooBig) ↔ (1073741823 < size) }
+        ensures too_big { (result ≡ Err CtxError.TooBig) ↔ (LARGEST < size) }
         ensures wrong_size { (result ≡ Err CtxError.WrongSize) ↔ IsWrongSize self.old space.old size }
 
         // The chunk was not live, and every other chunk keeps its size.
@@ -281,7 +297,7 @@ impl AnyCtx {
     /// Gives a live chunk a size of `size` bytes, which may be 0, and answers where it is now: `repalloc`. `keep` is how
     /// many of its first bytes are known; they are kept, as far as the new size goes.
     ///
-    /// `TooBig`, where `size` is over 1,073,741,823, comes before `Unsupported`, which a Bump answers, and a Slab to
+    /// `TooBig`, where `size` is over `LARGEST`, comes before `Unsupported`, which a Bump answers, and a Slab to
     /// another size, and that before `NoSpace`; `Memory` may come in place of `NoSpace`. A refused call changes nothing.
     pub fn realloc(
         &mut self,
@@ -300,7 +316,7 @@ impl AnyCtx {
         // memory.
         ensures resized { IfOk result (λ to. IfSome (place_at self.old at) (λ place. Resizes self.old self.new place size at to space.old space.new)) }
         ensures refused { IfErr result (λ e. (e ≡ CtxError.Memory) ⊎ IfSome (place_at self.old at) (λ place. resize_in self.old space.old place size ≡ Err e)) }
-        ensures too_big { (result ≡ Err CtxError.TooBig) ↔ (1073741823 < size) }
+        ensures too_big { (result ≡ Err CtxError.TooBig) ↔ (LARGEST < size) }
         ensures unsupported { IfSome (place_at self.old at) (λ place. (result ≡ Err CtxError.Unsupported) ↔ IsUnsupported self.old space.old place size) }
 
         // Where the chunk is at another address, none was live there, and the old address has none. Its first bytes are

@@ -9,7 +9,7 @@ pub trait Tells<X, T> {
     ghost told: { X → List T };
 }
 
-/// It takes no memory and owns none: it says what the clauses of its owner tell.
+/// A list that clauses alone read: what they tell of its owner. The value takes no memory and owns none.
 #[derive(Drop)]
 pub struct Told<T> {
     marker: PhantomData<T>,

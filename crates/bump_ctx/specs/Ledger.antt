@@ -5,6 +5,8 @@ use Rattle.chunk_header.specs.declared.CtxError.TheVariants.{TooBig, NoSpace, Un
 use Rattle.chunk_header.specs.declared.Stats.{Stats}
 use Rattle.chunk_header.specs.Answers.{Taken, Resized}
 use Rattle.chunk_header.specs.Growth.{grown, granted}
+use Rattle.chunk_header.specs.declared.TheConstants.{LARGEST, BLOCK_HEADER, KEEPER_HEADERS}
+use Rattle.bump_ctx.specs.declared.books.TheConstants.{LIMIT}
 
 -- the sizes that it was created with; the size of the next block; the bytes of all blocks and how many they
 -- are; and the room of the newest ordinary block, off which chunks are cut, and the rooms of all others
@@ -39,7 +41,7 @@ created init max = record {
   next = init;
   total = init;
   blocks = 1;
-  room = init - 240;
+  room = init - KEEPER_HEADERS;
   idle = 0;
 }
 
@@ -55,13 +57,13 @@ renewed l size = record {
   next = min (2 * l.next) l.max;
   total = l.total + size;
   blocks = l.blocks + 1;
-  room = size - 40;
+  room = size - BLOCK_HEADER;
   idle = l.idle + l.room;
 }
 
 -- the size of a new block for a chunk that has so many bytes
 unfoldable pub block_size : BumpLedger → ℕ → ℕ
-block_size l room = grown l.next (room + 40)
+block_size l room = grown l.next (room + BLOCK_HEADER)
 
 -- a chunk is cut off a new block of a size, where so much is left of the account
 unfoldable pub take_new : BumpLedger → ℕ → ℕ → ℕ → Result BumpTaken CtxError
@@ -82,12 +84,12 @@ take_own l left size = if nat_le size left then Ok (served (with_own l size) siz
 -- a request, where so much is left of the account
 unfoldable pub take : BumpLedger → ℕ → ℕ → Result BumpTaken CtxError
 take l left size =
-    if nat_lt 1073741823 size then Err TooBig
-    else (if nat_lt 524288 size then take_own l left (granted size + 40) else take_cut l left (granted size))
+    if nat_lt LARGEST size then Err TooBig
+    else (if nat_lt LIMIT size then take_own l left (granted size + BLOCK_HEADER) else take_cut l left (granted size))
 
 -- why no chunk gets another size
 unfoldable pub refusal : ℕ → CtxError
-refusal size = if nat_lt 1073741823 size then TooBig else Unsupported
+refusal size = if nat_lt LARGEST size then TooBig else Unsupported
 
 abbrev pub resize : BumpLedger → ℕ → ℕ → BumpPlace → ℕ → Result BumpResized CtxError
 resize l held limit place size = Err (refusal size)

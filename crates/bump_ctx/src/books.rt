@@ -8,9 +8,10 @@ ghost use Rattle.chunk_header.specs.Growth.{granted};
 ghost use Rattle.bump_ctx.specs.Ledger.{created, cut_off, renewed, block_size, served, take_own, take_cut, take, stats};
 ghost use Rattle.bump_ctx.specs.State.{place_in};
 ghost use Rattle.addr_space.specs.Live.{PutsLive};
+ghost use Rattle.chunk_header.specs.declared.TheConstants.{LEAST_BLOCK, LARGEST_BLOCK};
 
 use addr_space::{Addr, Space};
-use chunk_header::{CtxError, Kind, LARGEST, Sizes, Stats, granted, grown};
+use chunk_header::{BLOCK_HEADER, CtxError, Kind, LARGEST, Sizes, Stats, granted, grown};
 use ctx_blocks::Blocks;
 use std::alloc::Global;
 
@@ -59,9 +60,9 @@ impl Books {
         sizes: Sizes,
     ) -> Result<Books, CtxError>
         requires account { account < accounts space.old }
-        requires least { 1024 ≤ sizes.init }
+        requires least { LEAST_BLOCK ≤ sizes.init }
         requires order { sizes.init ≤ sizes.max }
-        requires most { sizes.max ≤ 8388608 }
+        requires most { sizes.max ≤ LARGEST_BLOCK }
         requires whole_init { sizes.init % 8 ≡ 0 }
         requires whole_max { sizes.max % 8 ≡ 0 }
         ensures kept { IfOk result IsKept }
@@ -130,7 +131,7 @@ impl Books {
         requires kept { IsKept self.old }
         requires agrees { Agrees (footprint self.old.blocks) space.old }
         requires some { 8 ≤ room }
-        requires most { room ≤ 524288 }
+        requires most { room ≤ LIMIT }
         ensures kept { OnOk result (IsKept self.new) }
         ensures ledger { OnOk result (ledger_of self.new ≡ renewed (ledger_of self.old) (block_size (ledger_of self.old) room)) }
         ensures room { OnOk result (room ≤ room_at self.new.blocks self.new.newest) }
@@ -145,7 +146,7 @@ impl Books {
         ensures err { OnErr result (self.new ≡ self.old) }
         ensures err_space { OnErr result (space.new ≡ space.old) }
     {
-        let size = grown(self.next, room + 40);
+        let size = grown(self.next, room + BLOCK_HEADER);
         self.newest = self.blocks.add(space, size)?;
         self.next = (self.next * 2).min(self.sizes.max);
         Ok(())
@@ -156,7 +157,7 @@ impl Books {
     fn take_cut(&mut self, space: &mut Space, size: u32) -> Result<Addr, CtxError>
         requires kept { IsKept self.old }
         requires agrees { Agrees (footprint self.old.blocks) space.old }
-        requires size { size ≤ 524288 }
+        requires size { size ≤ LIMIT }
         ensures ok { IfOk result (λ at. Allocates self.old self.new space.old space.new size at (take_cut (ledger_of self.old) (space.old.limit - held space.old self.old.blocks.account) (granted size))) }
         ensures no_space { result ≡ Err CtxError.NoSpace → take_cut (ledger_of self.old) (space.old.limit - held space.old self.old.blocks.account) (granted size) ≡ Err CtxError.NoSpace }
         ensures no_other { IfErr result (λ e. (e ≡ CtxError.NoSpace) ⊎ (e ≡ CtxError.Memory)) }
@@ -177,14 +178,14 @@ impl Books {
         requires kept { IsKept self.old }
         requires agrees { Agrees (footprint self.old.blocks) space.old }
         requires size { size < 2 ^ 30 }
-        ensures ok { IfOk result (λ at. Allocates self.old self.new space.old space.new size at (take_own (ledger_of self.old) (space.old.limit - held space.old self.old.blocks.account) (granted size + 40))) }
-        ensures no_space { result ≡ Err CtxError.NoSpace → take_own (ledger_of self.old) (space.old.limit - held space.old self.old.blocks.account) (granted size + 40) ≡ Err CtxError.NoSpace }
+        ensures ok { IfOk result (λ at. Allocates self.old self.new space.old space.new size at (take_own (ledger_of self.old) (space.old.limit - held space.old self.old.blocks.account) (granted size + BLOCK_HEADER))) }
+        ensures no_space { result ≡ Err CtxError.NoSpace → take_own (ledger_of self.old) (space.old.limit - held space.old self.old.blocks.account) (granted size + BLOCK_HEADER) ≡ Err CtxError.NoSpace }
         ensures no_other { IfErr result (λ e. (e ≡ CtxError.NoSpace) ⊎ (e ≡ CtxError.Memory)) }
         ensures err { OnErr result (self.new ≡ self.old) }
         ensures err_space { OnErr result (space.new ≡ space.old) }
     {
         let room = granted(size);
-        let number = self.blocks.add(space, room + 40)?;
+        let number = self.blocks.add(space, room + BLOCK_HEADER)?;
         Ok(self.blocks.cut(space, number, size, room, true))
     }
 
@@ -193,7 +194,7 @@ impl Books {
     fn take(&mut self, space: &mut Space, size: u32) -> Result<Addr, CtxError>
         requires kept { IsKept self.old }
         requires agrees { Agrees (footprint self.old.blocks) space.old }
-        requires size { size ≤ 1073741823 }
+        requires size { size ≤ LARGEST }
         ensures ok { IfOk result (λ at. Allocates self.old self.new space.old space.new size at (take (ledger_of self.old) (space.old.limit - held space.old self.old.blocks.account) size)) }
         ensures no_space { result ≡ Err CtxError.NoSpace → take (ledger_of self.old) (space.old.limit - held space.old self.old.blocks.account) size ≡ Err CtxError.NoSpace }
         ensures no_other { IfErr result (λ e. (e ≡ CtxError.NoSpace) ⊎ (e ≡ CtxError.Memory)) }
@@ -211,7 +212,7 @@ impl Books {
         requires kept { IsKept self.old }
         requires agrees { Agrees (footprint self.old.blocks) space.old }
         ensures ok { IfOk result (λ at. Allocates self.old self.new space.old space.new size at (take (ledger_of self.old) (space.old.limit - held space.old self.old.blocks.account) size)) }
-        ensures too_big { (result ≡ Err CtxError.TooBig) ↔ (1073741823 < size) }
+        ensures too_big { (result ≡ Err CtxError.TooBig) ↔ (LARGEST < size) }
         ensures no_space { result ≡ Err CtxError.NoSpace → take (ledger_of self.old) (space.old.limit - held space.old self.old.blocks.account) size ≡ Err CtxError.NoSpace }
         ensures no_other { IfErr result (λ e. (e ≡ CtxError.TooBig) ⊎ ((e ≡ CtxError.NoSpace) ⊎ (e ≡ CtxError.Memory))) }
         ensures err { OnErr result (state_of self.new ≡ state_of self.old) }

@@ -5,6 +5,7 @@
 ghost use Rattle.std.specs.Prelude.{◌≡◌, ℕ, ◌+◌, ◌-◌, ◌%◌, ◌<◌, ◌≤◌, ◌↔◌, ◌⊎◌, Ok, Err, None, Some, IsSome, IfOk, IfErr, OnOk, OnErr};
 ghost use Rattle.addr_space.specs.declared.Addr.{Addr};
 ghost use Rattle.bump_ctx.specs.Ledger.{stats, take};
+ghost use Rattle.chunk_header.specs.declared.TheConstants.{LEAST_BLOCK, LARGEST_BLOCK};
 
 mod books;
 
@@ -55,9 +56,9 @@ impl BumpCtx {
         sizes: Sizes,
     ) -> Result<BumpCtx, CtxError>
         requires account { account < accounts space.old }
-        requires least { 1024 ≤ sizes.init }
+        requires least { LEAST_BLOCK ≤ sizes.init }
         requires order { sizes.init ≤ sizes.max }
-        requires most { sizes.max ≤ 8388608 }
+        requires most { sizes.max ≤ LARGEST_BLOCK }
         requires whole_init { sizes.init % 8 ≡ 0 }
         requires whole_max { sizes.max % 8 ≡ 0 }
         ensures ledger { IfOk result (λ a. a.ledger ≡ created sizes.init sizes.max) }
@@ -98,7 +99,7 @@ impl BumpCtx {
 
     /// Takes a chunk of `size` bytes, which may be 0, and answers its address: `BumpAlloc`.
     ///
-    /// `TooBig`, where `size` is over 1,073,741,823, `NoSpace` and `Memory` are tried in this order. A refused call
+    /// `TooBig`, where `size` is over `LARGEST`, `NoSpace` and `Memory` are tried in this order. A refused call
     /// changes nothing.
     #[inline(never)]
     pub fn alloc(&mut self, space: &mut Space, size: u64) -> Result<Addr, CtxError>
@@ -113,7 +114,7 @@ impl BumpCtx {
         ensures moves { Moves (footprint self.old) (footprint self.new) space.old space.new }
         ensures keeps { Keeps (footprint self.old) (footprint self.new) space.old space.new }
 
-        ensures too_big { (result ≡ Err CtxError.TooBig) ↔ (1073741823 < size) }
+        ensures too_big { (result ≡ Err CtxError.TooBig) ↔ (LARGEST < size) }
         ensures no_space { result ≡ Err CtxError.NoSpace → take self.old.ledger (space.old.limit - held space.old self.old.layout.account) size ≡ Err CtxError.NoSpace }
         ensures no_other { IfErr result (λ e. (e ≡ CtxError.TooBig) ⊎ ((e ≡ CtxError.NoSpace) ⊎ (e ≡ CtxError.Memory))) }
         ensures err { OnErr result (self.new ≡ self.old) }
@@ -134,7 +135,7 @@ impl BumpCtx {
         Err(CtxError::Unsupported)
     }
 
-    /// Refuses to give a live chunk another size: the answer is `TooBig` where `size` is over 1,073,741,823, else
+    /// Refuses to give a live chunk another size: the answer is `TooBig` where `size` is over `LARGEST`, else
     /// `Unsupported`, and nothing changes (`BumpRealloc`).
     #[tactic(auto, unfolding(crate::specs::Ledger::refusal))]
     pub fn realloc(

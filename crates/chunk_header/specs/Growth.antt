@@ -1,5 +1,6 @@
 -- Sizes of chunks and blocks.
 use Rattle.std.specs.Prelude.{◌≡◌, ℕ, zero, suc, ◌+◌, ◌*◌, ◌/◌, ◌%◌, ◌≤◌, max, nat_lt, if◌then◌else◌}
+use Rattle.chunk_header.specs.declared.TheConstants.{LEAST_BLOCK, LARGEST_BLOCK}
 
 -- rounded up to a multiple of 8
 unfoldable pub up8 : ℕ → ℕ
@@ -20,11 +21,11 @@ grown size need = doubled need size need
 
 -- the sizes of a context's blocks, and that of its next one
 pub record AreSizes (init max next : ℕ) : Type 0 where
-  pub least : 1024 ≤ init
+  pub least : LEAST_BLOCK ≤ init
   pub order : init ≤ max
-  pub most : max ≤ 8388608
+  pub most : max ≤ LARGEST_BLOCK
   pub whole_init : init % 8 ≡ 0
   pub whole_max : max % 8 ≡ 0
-  pub next_least : 1024 ≤ next
+  pub next_least : LEAST_BLOCK ≤ next
   pub next_most : next ≤ max
   pub next_whole : next % 8 ≡ 0

@@ -7,6 +7,7 @@ use Rattle.addr_space.specs.Footprint.{Footprint}
 use Rattle.chunk_header.specs.declared.Kind.{Kind}
 use Rattle.chunk_header.specs.declared.Kind.TheVariants.{AllocSet, Slab, Generation, Bump, Aligned}
 use Rattle.chunk_header.specs.declared.Header.{Header}
+use Rattle.chunk_header.specs.declared.TheConstants.{BLOCK_HEADER, CHUNK_HEADER, OWN_HEADERS, LAST_CLASS}
 
 -- the lowest four bits of a header's word
 abbrev pub kind_code : Kind → ℕ
@@ -45,7 +46,7 @@ abbrev pub IsLeading : Header → Type 0
 IsLeading h = IsLeadingKind h.kind h.value
   where
     IsLeadingKind : Kind → ℕ → Type 0
-    IsLeadingKind AllocSet value = value ≤ 10
+    IsLeadingKind AllocSet value = value ≤ LAST_CLASS
     IsLeadingKind Slab value = Unit {0}
     IsLeadingKind Generation value = Unit {0}
     IsLeadingKind Bump value = ⊥
@@ -53,10 +54,10 @@ IsLeading h = IsLeadingKind h.kind h.value
 
 -- where the header of a chunk stands, and the header of its block
 abbrev pub header_place : Addr → Addr
-header_place at = record { region = at.region; offset = at.offset - 8 }
+header_place at = record { region = at.region; offset = at.offset - CHUNK_HEADER }
 
 abbrev pub block_place : Addr → Header → Addr
-block_place at h = record { region = at.region; offset = at.offset - 8 - h.dist }
+block_place at h = record { region = at.region; offset = at.offset - CHUNK_HEADER - h.dist }
 
 -- the bytes before an address lead to a block, and that to the number of a context
 pub record IsMarked (s : Space) (at : Addr) (context : ℕ) : Type 0 where
@@ -64,8 +65,8 @@ pub record IsMarked (s : Space) (at : Addr) (context : ℕ) : Type 0 where
   pub size : ℕ
   pub packable : IsPackable header
   pub leading : IsLeading header
-  pub behind : header.dist + 8 ≤ at.offset
-  pub large : 48 ≤ size
+  pub behind : header.dist + CHUNK_HEADER ≤ at.offset
+  pub large : OWN_HEADERS ≤ size
   pub word : HasBytes s (header_place at) (header_bytes header)
   pub block : HasBytes s (block_place at header) (block_bytes context size)
 
@@ -75,8 +76,8 @@ pub record IsHeaded (f : Footprint) (at : Addr) : Type 0 where
   pub size : ℕ
   pub packable : IsPackable header
   pub leading : IsLeading header
-  pub behind : header.dist + 8 ≤ at.offset
-  pub large : 48 ≤ size
+  pub behind : header.dist + CHUNK_HEADER ≤ at.offset
+  pub large : OWN_HEADERS ≤ size
   pub word : f.mark (header_place at) ≡ Some (header_bytes header)
   pub block : f.mark (block_place at header) ≡ Some (block_bytes f.context size)
 
@@ -99,7 +100,7 @@ shared_bytes Aligned value = value
 -- what a chunk takes in its block, with its header: one that has its block for itself takes all but the header
 -- of the block
 unfoldable pub space_of : Header → ℕ → ℕ
-space_of header size = if header.own then size - 40 else shared_bytes header.kind header.value + 8
+space_of header size = if header.own then size - BLOCK_HEADER else shared_bytes header.kind header.value + CHUNK_HEADER
 
 -- the context's marks say that a chunk takes so many bytes in its block, with its header
 pub record TakesSpace (f : Footprint) (at : Addr) (space : ℕ) : Type 0 where

@@ -1,5 +1,6 @@
 //! The headers of chunks and blocks, the sizes of blocks, and what the calls of all memory contexts answer: their
-//! errors, what they hold, and how a ledger that counts it goes from one call to the next.
+//! errors, what they hold, and how a ledger that counts it goes from one call to the next. Beside these stands what is
+//! kept for the next that need it: the boxes of contexts, and the free chunks of an AllocSet by class.
 #![tactic(auto)]
 
 ghost use Rattle.std.specs.Prelude.{◌≡◌, ℕ, ◌+◌, ◌-◌, ◌*◌, ◌/◌, ◌%◌, ◌^◌, ◌<◌, ◌≤◌, ◌↔◌, ◌⊎◌, Ok, IsErr, IfOk, IfErr, IfSome, IfNone};
@@ -10,10 +11,16 @@ ghost use Rattle.chunk_header.specs.Header.{kind_code, word_of, IsPackable, head
 ghost use Rattle.chunk_header.specs.Growth.{up8, granted, grown};
 ghost use Rattle.chunk_header.specs.Answers.{refusal_of};
 
+mod free_list;
 mod reading;
+mod shelves;
 
 use addr_space::SpaceError;
+pub use free_list::{FreeList, MOST_KEPT};
 pub use reading::{header_at, word_at};
+pub use shelves::{Shelf, Shelves};
+use std::alloc::AllocError;
+use thiserror::Error;
 
 /// The kinds of memory context, as a chunk's header names them: PostgreSQL's `MemoryContextMethodID`
 /// (memutils_internal.h).
@@ -84,17 +91,22 @@ pub struct BadKind(pub u8);
 ///
 /// Each kind of context asks in this order: whether the size is too big, whether the kind serves such a request at
 /// all, whether the account may hold more, and whether there is memory.
-#[derive(Clone, Copy, PartialEq, Eq, Debug)]
+#[derive(Clone, Copy, PartialEq, Eq, Debug, Error)]
 pub enum CtxError {
-    /// The size is over 1,073,741,823.
-    TooBig = 1,
+    /// The size is over `LARGEST`.
+    #[error("the size is too big")]
+    TooBig,
     /// The account would hold more than the space lets it.
+    #[error("no space: the account would hold more than it may")]
     NoSpace,
     /// A context of one size was asked for another.
+    #[error("the context has chunks of another size")]
     WrongSize,
     /// The kind of context has no such call.
+    #[error("the kind of context has no such call")]
     Unsupported,
     /// There is no memory.
+    #[error("no memory")]
     Memory,
 }
 
@@ -124,13 +136,42 @@ pub const BLOCK_HEADER: u32 = 40;
 /// The bytes of a chunk's header: PostgreSQL's `MemoryChunk` (memutils_memorychunk.h).
 pub const CHUNK_HEADER: u32 = 8;
 
+/// The bytes before the room of a context's first block: those of the context, and the block's header.
+pub const KEEPER_HEADERS: u32 = CONTEXT_BYTES + BLOCK_HEADER;
+
+/// The bytes before a chunk that has its block for itself: the block's header, and the chunk's.
+pub const OWN_HEADERS: u32 = BLOCK_HEADER + CHUNK_HEADER;
+
+/// The least size of a context's first block, in bytes.
+pub const LEAST_BLOCK: u32 = 1024;
+
+/// The greatest size that a context's blocks may double up to, in bytes: PostgreSQL's `ALLOCSET_DEFAULT_MAXSIZE`
+/// (memutils.h).
+pub const LARGEST_BLOCK: u32 = 8_388_608;
+
+/// The last class of an AllocSet's chunks. The first one is 0.
+pub const LAST_CLASS: u8 = 10;
+
+/// How many classes there are.
+pub const CLASSES: usize = LAST_CLASS as usize + 1;
+
 /// The sizes of a context's blocks, in bytes: both multiples of 8.
 #[derive(Clone, Copy, PartialEq, Eq, Debug)]
 pub struct Sizes {
-    /// The size of the first block, at least 1,024.
+    /// The size of the first block, at least `LEAST_BLOCK`.
     pub init: u32,
-    /// What the size of a block doubles up to, at least the first one's and at most 8,388,608.
+    /// What the size of a block doubles up to, at least the first one's and at most `LARGEST_BLOCK`.
     pub max: u32,
+}
+
+impl From<AllocError> for CtxError {
+    ghost use Rattle.chunk_header.specs.declared.CtxError.TheVariants.{Memory};
+
+    ghost from_gives = { λ from to. to ≡ Memory };
+
+    fn from(_error: AllocError) -> CtxError {
+        CtxError::Memory
+    }
 }
 
 impl From<SpaceError> for CtxError {

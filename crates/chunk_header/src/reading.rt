@@ -22,7 +22,7 @@ pub fn word_at(space: &Space, at: Addr) -> [u8; 8]
 /// The header that stands in the 8 bytes before a chunk.
 #[inline]
 pub fn header_at(space: &Space, at: Addr) -> Header
-    requires behind { 8 ≤ at.offset }
+    requires behind { CHUNK_HEADER ≤ at.offset }
     requires known { (header : Header) × IsPackable header × HasBytes space.now (header_place at) (header_bytes header) }
     ensures { (header : Header) → IsPackable header → HasBytes space.now (header_place at) (header_bytes header) → result ≡ header }
 {

@@ -8,6 +8,7 @@ use Rattle.ctx_blocks.specs.Steps.{AreUnique}
 use Rattle.ctx_blocks.specs.declared.parts.Block.{Block}
 use Rattle.ctx_blocks.specs.declared.parts.Chunk.{Chunk}
 use Rattle.ctx_blocks.specs.declared.books.Books.{Books}
+use Rattle.chunk_header.specs.declared.TheConstants.{BLOCK_HEADER}
 
 -- the value that contracts see
 abbrev pub layout_of : Books → Layout
@@ -45,7 +46,7 @@ pub record IsSized (gap : ℕ) (chunk : Chunk) : Type 0 where
 pub record IsPlaced (l : Layout) (at : Addr) (chunk : Chunk) : Type 0 where
   pub block : Block
   pub owned : block_at l at.region ≡ Some block
-  pub first : start_of l at.region + 40 + header_room l ≤ at.offset
+  pub first : start_of l at.region + BLOCK_HEADER + header_room l ≤ at.offset
   pub last : at.offset + chunk.room + block.room ≤ block.size
   pub whole : at.offset % 8 ≡ 0
   pub sized : IsSized (header_room l) chunk

@@ -10,6 +10,7 @@ use Rattle.chunk_header.specs.Header.{header_bytes, block_bytes}
 use Rattle.ctx_blocks.specs.declared.parts.Block.{Block}
 use Rattle.ctx_blocks.specs.declared.parts.Chunk.{Chunk}
 use Rattle.addr_space.specs.Live.{same_addr}
+use Rattle.chunk_header.specs.declared.TheConstants.{CONTEXT_BYTES, BLOCK_HEADER, CHUNK_HEADER}
 
 -- the kind of the context; the account and the number that it was created with; the region of the keeper; the
 -- numbers of the keeper and of the block that was taken last; each block by its region, in the order in which they
@@ -50,7 +51,7 @@ count_in l number = sum_by (is_in number) l.chunks
 
 -- how many bytes of a region stand before the header of its block
 abbrev pub start_of : Layout → ℕ → ℕ
-start_of l number = if l.keeper == number then 200 else 0
+start_of l number = if l.keeper == number then CONTEXT_BYTES else 0
 
 -- the bytes of the header of a chunk
 abbrev pub gap_of : Kind → ℕ
@@ -63,7 +64,7 @@ header_room l = gap_of l.kind
 -- the room of a block of so many bytes without chunks, where so many bytes stand before its header; one that has
 -- no place for its header has none
 abbrev pub whole_room : ℕ → ℕ → ℕ
-whole_room start size = size - start - 40
+whole_room start size = size - start - BLOCK_HEADER
 
 abbrev pub whole_of : Layout → ℕ → ℕ → ℕ
 whole_of l number size = whole_room (start_of l number) size
@@ -74,7 +75,7 @@ whole_block number start size = record { number = number; size = size; room = wh
 
 -- the keeper in a region, of a number and of so many bytes, alone
 abbrev pub keeper_alone : ℕ → ℕ → ℕ → List (ℕ × Block)
-keeper_alone keeper number size = (keeper, whole_block number 200 size) ∷ []
+keeper_alone keeper number size = (keeper, whole_block number CONTEXT_BYTES size) ∷ []
 
 -- the header of a chunk, so far from the header of its block
 abbrev pub header_of : Kind → Chunk → ℕ → Header
@@ -87,19 +88,19 @@ chunk_word kind chunk dist = Some (header_bytes (header_of kind chunk dist))
 
 -- the first bytes of a block's header, where the region has room for one
 abbrev pub block_word : ℕ → ℕ → Block → Option (List ℕ)
-block_word context start block = if nat_le (start + 40) block.size then Some (block_bytes context block.size) else None
+block_word context start block = if nat_le (start + BLOCK_HEADER) block.size then Some (block_bytes context block.size) else None
 
 -- the marks: a block's header begins with the context's number and the block's size, and a chunk's header
 -- stands before it
 unfoldable pub mark_of : Layout → Addr → Option (List ℕ)
 mark_of l at =
     if at.offset == start_of l at.region then option_and_then (block_word l.context (start_of l at.region)) (block_at l at.region)
-    else option_and_then (λ chunk. chunk_word l.kind chunk (at.offset - start_of l at.region)) (chunk_at l (record { region = at.region; offset = at.offset + 8 }))
+    else option_and_then (λ chunk. chunk_word l.kind chunk (at.offset - start_of l at.region)) (chunk_at l (record { region = at.region; offset = at.offset + CHUNK_HEADER }))
 
 -- how many first bytes of a region no chunk has: those before the block's header, and that
 abbrev pub front_of : ℕ → Option Block → ℕ
 front_of start None = 0
-front_of start (Some block) = min (start + 40) block.size
+front_of start (Some block) = min (start + BLOCK_HEADER) block.size
 
 -- what the context has in a space
 abbrev pub footprint : Layout → Footprint

@@ -12,11 +12,15 @@ ghost use Rattle.ctx_blocks.specs.declared.parts.Chunk.{Chunk};
 ghost use Rattle.addr_space.specs.Live.{HasBytesOf};
 ghost use Rattle.ctx_blocks.specs.Layout.{Layout, block_at, chunk_at, total, rooms, all_freed, start_of, header_room, gap_of, whole_of, header_of, footprint, keeper_alone, whole_block};
 ghost use Rattle.ctx_blocks.specs.Steps.{with_block, without_block, PutsBlock, DropsBlock, PutsChunk, SameContext, MovesStill};
+ghost use Rattle.chunk_header.specs.declared.TheConstants.{OWN_HEADERS};
 
 use crate::chunks::{self, Chunks};
 use crate::parts::{Block, Chunk};
 use addr_space::{Addr, Space};
-use chunk_header::{CtxError, Header, Kind, block_header, header_at};
+use chunk_header::{
+    BLOCK_HEADER, CHUNK_HEADER, CONTEXT_BYTES, CtxError, Header, KEEPER_HEADERS, Kind,
+    block_header, header_at,
+};
 use indexmap::IndexMap;
 use std::alloc::Global;
 
@@ -79,6 +83,7 @@ impl Books {
     // The books of a context that is to come, as if its first region were 0.
     pub fn unplaced(alloc: Global, kind: Kind) -> Result<Books, CtxError>
         ensures kept { IfOk result IsKept }
+        ensures kind { IfOk result (λ b. b.kind ≡ kind) }
         ensures only_memory { IfErr result (λ e. e ≡ CtxError.Memory) }
     {
         let mut blocks = match IndexMap::with_capacity(alloc, 1) {
@@ -87,7 +92,7 @@ impl Books {
         };
         let block = Block {
             number: 0,
-            size: 200,
+            size: CONTEXT_BYTES,
             room: 0,
             live: 0,
             freed: 0,
@@ -104,7 +109,7 @@ impl Books {
             gained: 0,
             lost: 0,
             chunks: Chunks::none(),
-            total: 200,
+            total: u64::from(CONTEXT_BYTES),
         })
     }
 
@@ -119,10 +124,10 @@ impl Books {
         size: u32,
     ) -> Result<Books, CtxError>
         requires account { account < accounts space.old }
-        requires least { 200 ≤ size }
+        requires least { CONTEXT_BYTES ≤ size }
         requires most { size ≤ 2 ^ 23 }
         requires whole { size % 8 ≡ 0 }
-        requires roomy { (size ≡ 200) ⊎ (240 ≤ size) }
+        requires roomy { (size ≡ CONTEXT_BYTES) ⊎ (KEEPER_HEADERS ≤ size) }
         ensures kept { IfOk result IsKept }
         ensures kind { IfOk result (λ b. b.kind ≡ kind) }
         ensures account { IfOk result (λ b. b.account ≡ account) }
@@ -146,17 +151,17 @@ impl Books {
         };
         let at = space.take(account, size)?;
         let keeper = at.region;
-        if size >= 240 {
+        if size >= KEEPER_HEADERS {
             let place = Addr {
                 region: keeper,
-                offset: 200,
+                offset: CONTEXT_BYTES,
             };
             space.write(place, &block_header(context, size));
         }
         let block = Block {
             number: first,
             size,
-            room: size.saturating_sub(240),
+            room: size.saturating_sub(KEEPER_HEADERS),
             live: 0,
             freed: 0,
         };
@@ -181,7 +186,11 @@ impl Books {
     fn start(&self, number: u32) -> u32
         ensures { result ≡ start_of (layout_of self.now) number }
     {
-        if self.keeper == number { 200 } else { 0 }
+        if self.keeper == number {
+            CONTEXT_BYTES
+        } else {
+            0
+        }
     }
 
     // The bytes of the header of a chunk.
@@ -191,7 +200,7 @@ impl Books {
     {
         match self.kind {
             Kind::Bump => 0,
-            _ => 8,
+            _ => CHUNK_HEADER,
         }
     }
 
@@ -200,7 +209,8 @@ impl Books {
     fn whole(&self, number: u32, size: u32) -> u32
         ensures { result ≡ whole_of (layout_of self.now) number size }
     {
-        size.saturating_sub(self.start(number)).saturating_sub(40)
+        size.saturating_sub(self.start(number))
+            .saturating_sub(BLOCK_HEADER)
     }
 
     // Whether the block of a region stands at a place.
@@ -275,7 +285,7 @@ impl Books {
         requires agrees { Agrees (footprint (layout_of self.now)) space.now }
         requires kind { (self.now.kind ≡ Slab) ⊎ (self.now.kind ≡ Generation) }
         requires chunk { (c : Chunk) × (chunk_at (layout_of self.now) at ≡ Some c) }
-        ensures { (c : Chunk) → chunk_at (layout_of self.now) at ≡ Some c → result ≡ header_of self.now.kind c (at.offset - 8 - start_of (layout_of self.now) at.region) }
+        ensures { (c : Chunk) → chunk_at (layout_of self.now) at ≡ Some c → result ≡ header_of self.now.kind c (at.offset - CHUNK_HEADER - start_of (layout_of self.now) at.region) }
     {
         let _ = &self.blocks;
         header_at(space, at)
@@ -299,13 +309,13 @@ impl Books {
     pub fn add(&mut self, space: &mut Space, size: u32) -> Result<u32, CtxError>
         requires kept { IsKept self.old }
         requires agrees { Agrees (footprint (layout_of self.old)) space.old }
-        requires least { 48 ≤ size }
+        requires least { OWN_HEADERS ≤ size }
         requires most { size ≤ 2 ^ 31 }
         requires whole { size % 8 ≡ 0 }
         ensures kept { IsKept self.new }
         ensures same { OnOk result (SameContext (layout_of self.old) (layout_of self.new)) }
         ensures fresh { IfOk result (λ number. block_at (layout_of self.old) number ≡ None) }
-        ensures block { IfOk result (λ number. PutsBlock (layout_of self.old) (layout_of self.new) number (record { number = (layout_of self.old).last_number + 1; size = size; room = size - 40; live = 0; freed = 0 })) }
+        ensures block { IfOk result (λ number. PutsBlock (layout_of self.old) (layout_of self.new) number (record { number = (layout_of self.old).last_number + 1; size = size; room = size - BLOCK_HEADER; live = 0; freed = 0 })) }
         ensures chunks { OnOk result ((layout_of self.new).chunks ≡ (layout_of self.old).chunks) }
         ensures last { OnOk result ((layout_of self.new).last_number ≡ (layout_of self.old).last_number + 1) }
         ensures total { OnOk result (total (layout_of self.new) ≡ total (layout_of self.old) + size) }
@@ -326,14 +336,14 @@ impl Books {
     fn take(&mut self, space: &mut Space, size: u32) -> Result<u32, CtxError>
         requires kept { IsKept self.old }
         requires agrees { Agrees (footprint (layout_of self.old)) space.old }
-        requires least { 48 ≤ size }
+        requires least { OWN_HEADERS ≤ size }
         requires most { size ≤ 2 ^ 31 }
         requires whole { size % 8 ≡ 0 }
         requires spare { 1 ≤ spare self.old.blocks }
         ensures kept { IsKept self.new }
         ensures same { OnOk result (SameContext (layout_of self.old) (layout_of self.new)) }
         ensures fresh { IfOk result (λ number. block_at (layout_of self.old) number ≡ None) }
-        ensures block { IfOk result (λ number. PutsBlock (layout_of self.old) (layout_of self.new) number (record { number = self.old.last_number + 1; size = size; room = size - 40; live = 0; freed = 0 })) }
+        ensures block { IfOk result (λ number. PutsBlock (layout_of self.old) (layout_of self.new) number (record { number = self.old.last_number + 1; size = size; room = size - BLOCK_HEADER; live = 0; freed = 0 })) }
         ensures chunks { OnOk result (self.new.chunks ≡ self.old.chunks) }
         ensures last { OnOk result (self.new.last_number ≡ self.old.last_number + 1) }
         ensures total { OnOk result (total (layout_of self.new) ≡ total (layout_of self.old) + size) }
@@ -354,7 +364,7 @@ impl Books {
         let block = Block {
             number: self.last_number + 1,
             size,
-            room: size - 40,
+            room: size - BLOCK_HEADER,
             live: 0,
             freed: 0,
         };
@@ -370,12 +380,12 @@ impl Books {
         requires { IsWritten (layout_of self.now) space.old at chunk }
         ensures none { header_room (layout_of self.now) ≡ 0 → space.new ≡ space.old }
         ensures asked { space.new.taken ≡ space.old.taken }
-        ensures some { header_room (layout_of self.now) ≡ 8 → Changes space.old space.new at.region (overwritten (region_at space.old at.region) (at.offset - 8) (map Some (header_bytes (header_of self.now.kind chunk (at.offset - 8 - start_of (layout_of self.now) at.region))))) }
+        ensures some { header_room (layout_of self.now) ≡ CHUNK_HEADER → Changes space.old space.new at.region (overwritten (region_at space.old at.region) (at.offset - CHUNK_HEADER) (map Some (header_bytes (header_of self.now.kind chunk (at.offset - CHUNK_HEADER - start_of (layout_of self.now) at.region))))) }
     {
         if self.gap() == 0 {
             return;
         }
-        let offset = at.offset - 8;
+        let offset = at.offset - CHUNK_HEADER;
         let header = Header {
             kind: self.kind,
             own: chunk.own,
@@ -458,7 +468,7 @@ impl Books {
         requires kept { IsKept self.old }
         requires agrees { Agrees (footprint (layout_of self.old)) space.old }
         requires block { (b : Block) × (block_at (layout_of self.old) at.region ≡ Some b) × (at.offset + room + b.room ≤ b.size) × (1 ≤ b.freed) }
-        requires first { start_of (layout_of self.old) at.region + 40 + header_room (layout_of self.old) ≤ at.offset }
+        requires first { start_of (layout_of self.old) at.region + BLOCK_HEADER + header_room (layout_of self.old) ≤ at.offset }
         requires whole { at.offset % 8 ≡ 0 }
         requires some { 0 < header_room (layout_of self.old) + room }
         requires fits { size ≤ room }

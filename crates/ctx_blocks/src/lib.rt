@@ -8,6 +8,7 @@
 
 ghost use Rattle.std.specs.Prelude.{◌≡◌, ◌≢◌, ℕ, ◌+◌, ◌-◌, ◌*◌, ◌%◌, ◌^◌, ◌<◌, ◌≤◌, ◌↔◌, ◌⊎◌, Ok, Err, Some, None, IfOk, IfErr, OnOk, OnErr, length, [], ◌∷◌, true, false};
 ghost use Rattle.addr_space.specs.declared.Addr.{Addr};
+ghost use Rattle.chunk_header.specs.declared.TheConstants.{CONTEXT_BYTES, BLOCK_HEADER, CHUNK_HEADER, KEEPER_HEADERS, OWN_HEADERS};
 
 mod books;
 mod chunks;
@@ -65,10 +66,10 @@ impl Blocks {
         size: u32,
     ) -> Result<Blocks, CtxError>
         requires account { account < accounts space.old }
-        requires least { 200 ≤ size }
+        requires least { CONTEXT_BYTES ≤ size }
         requires most { size ≤ 2 ^ 23 }
         requires whole { size % 8 ≡ 0 }
-        requires roomy { (size ≡ 200) ⊎ (240 ≤ size) }
+        requires roomy { (size ≡ CONTEXT_BYTES) ⊎ (KEEPER_HEADERS ≤ size) }
         ensures kind { IfOk result (λ b. b.kind ≡ kind) }
         ensures account { IfOk result (λ b. b.account ≡ account) }
         ensures context { IfOk result (λ b. b.context ≡ context) }
@@ -87,7 +88,8 @@ impl Blocks {
 
     /// The blocks of a context that is to come: they stand in no space, and hold the place of those that `create` makes.
     pub fn unplaced(alloc: Global, kind: Kind) -> Result<Blocks, CtxError>
-        ensures { IfErr result (λ e. e ≡ CtxError.Memory) }
+        ensures kind { IfOk result (λ b. b.kind ≡ kind) }
+        ensures only_memory { IfErr result (λ e. e ≡ CtxError.Memory) }
     {
         let books = Books::unplaced(alloc, kind)?;
         Ok(Blocks { books })
@@ -100,12 +102,12 @@ impl Blocks {
     /// call changes nothing.
     pub fn add(&mut self, space: &mut Space, size: u32) -> Result<u32, CtxError>
         requires agrees { Agrees (footprint self.old) space.old }
-        requires least { 48 ≤ size }
+        requires least { OWN_HEADERS ≤ size }
         requires most { size ≤ 2 ^ 31 }
         requires whole { size % 8 ≡ 0 }
         ensures same { OnOk result (SameContext self.old self.new) }
         ensures fresh { IfOk result (λ number. block_at self.old number ≡ None) }
-        ensures block { IfOk result (λ number. PutsBlock self.old self.new number (record { number = self.old.last_number + 1; size = size; room = size - 40; live = 0; freed = 0 })) }
+        ensures block { IfOk result (λ number. PutsBlock self.old self.new number (record { number = self.old.last_number + 1; size = size; room = size - BLOCK_HEADER; live = 0; freed = 0 })) }
         ensures chunks { OnOk result (self.new.chunks ≡ self.old.chunks) }
         ensures last { OnOk result (self.new.last_number ≡ self.old.last_number + 1) }
         ensures total { OnOk result (total self.new ≡ total self.old + size) }
@@ -151,7 +153,7 @@ impl Blocks {
     pub fn place(&mut self, space: &mut Space, at: Addr, size: u32, room: u32)
         requires agrees { Agrees (footprint self.old) space.old }
         requires block { (b : Block) × (block_at self.old at.region ≡ Some b) × (at.offset + room + b.room ≤ b.size) × (1 ≤ b.freed) }
-        requires first { start_of self.old at.region + 40 + header_room self.old ≤ at.offset }
+        requires first { start_of self.old at.region + BLOCK_HEADER + header_room self.old ≤ at.offset }
         requires whole { at.offset % 8 ≡ 0 }
         requires some { 0 < header_room self.old + room }
         requires fits { size ≤ room }
@@ -280,7 +282,7 @@ impl Blocks {
         requires agrees { Agrees (footprint self.now) space.now }
         requires kind { (self.now.kind ≡ Slab) ⊎ (self.now.kind ≡ Generation) }
         requires chunk { (c : Chunk) × (chunk_at self.now at ≡ Some c) }
-        ensures { (c : Chunk) → chunk_at self.now at ≡ Some c → result ≡ header_of self.now.kind c (at.offset - 8 - start_of self.now at.region) }
+        ensures { (c : Chunk) → chunk_at self.now at ≡ Some c → result ≡ header_of self.now.kind c (at.offset - CHUNK_HEADER - start_of self.now at.region) }
     {
         self.books.header(space, at)
     }
@@ -340,8 +342,8 @@ impl Blocks {
         ensures kind { AllOfKind self.now.kind (footprint self.now) }
 
         // What a chunk takes: one with its block for itself takes all of that but its header.
-        ensures shared { (at : Addr) (chunk : Chunk) → chunk_at self.now at ≡ Some chunk → chunk.own ≡ false → TakesSpace (footprint self.now) at (chunk.room + 8) }
-        ensures own { (at : Addr) (chunk : Chunk) (block : Block) → chunk_at self.now at ≡ Some chunk → chunk.own ≡ true → block_at self.now at.region ≡ Some block → TakesSpace (footprint self.now) at (block.size - 40) }
+        ensures shared { (at : Addr) (chunk : Chunk) → chunk_at self.now at ≡ Some chunk → chunk.own ≡ false → TakesSpace (footprint self.now) at (chunk.room + CHUNK_HEADER) }
+        ensures own { (at : Addr) (chunk : Chunk) (block : Block) → chunk_at self.now at ≡ Some chunk → chunk.own ≡ true → block_at self.now at.region ≡ Some block → TakesSpace (footprint self.now) at (block.size - BLOCK_HEADER) }
     {
         let _ = &self.books;
     }

@@ -16,9 +16,7 @@ fn new_pair(alloc: Global, kind: CtxKind, size: u64) -> Result<Pair, CtxError>
     requires { IsSlabSize kind }
     ensures { IfOk result (λ reports. pair (created kind) 1000000 size ≡ Ok reports) }
 {
-    let Ok(mut space) = Space::new(alloc, 1, 1_000_000) else {
-        return Err(CtxError::Memory);
-    };
+    let mut space = Space::new(alloc, 1, 1_000_000)?;
     let mut context = AnyCtx::create(alloc, &mut SetBoxes::new(alloc), &mut space, 0, 7, kind)?;
     let _ = context.stats();
     report_pair(&mut context, &mut space, size)
@@ -37,9 +35,7 @@ fn new_course(
     requires { IsSlabSize kind }
     ensures { IfOk result (λ reports. course (created kind) 1000000 first second third other ≡ Ok reports) }
 {
-    let Ok(mut space) = Space::new(alloc, 1, 1_000_000) else {
-        return Err(CtxError::Memory);
-    };
+    let mut space = Space::new(alloc, 1, 1_000_000)?;
     let mut context = AnyCtx::create(alloc, &mut SetBoxes::new(alloc), &mut space, 0, 7, kind)?;
     let _ = context.stats();
     report_course(&mut context, &mut space, first, second, third, other)

@@ -11,6 +11,7 @@ use Rattle.generation_ctx.specs.State.{GenerationState, number_of}
 use Rattle.generation_ctx.specs.declared.books.Books.{Books}
 use Rattle.chunk_header.specs.Growth.{AreSizes}
 use Rattle.ctx_blocks.specs.Kept.{HasSize, AreRising}
+use Rattle.chunk_header.specs.declared.TheConstants.{OWN_HEADERS}
 
 -- the ledger: its blocks are those that there are, by their numbers
 abbrev pub ledger_of : Books → GenerationLedger
@@ -47,7 +48,7 @@ pub record IsAlone (l : Layout) (current : ℕ) (at : Addr) (chunk : Chunk) : Ty
   pub is : block_at l at.region ≡ Some block
   pub live : block.live ≡ 1
   pub room : block.room ≡ 0
-  pub whole : block.size ≡ chunk.room + 48
+  pub whole : block.size ≡ chunk.room + OWN_HEADERS
   pub not_keeper : at.region ≢ l.keeper
   pub not_current : at.region ≢ current
 

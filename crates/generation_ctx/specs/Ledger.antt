@@ -9,6 +9,8 @@ use Rattle.chunk_header.specs.Growth.{grown, granted}
 use Rattle.ctx_blocks.specs.Layout.{whole_block}
 use Rattle.ctx_blocks.specs.Numbered.{put_at, is_other}
 use Rattle.ctx_blocks.specs.declared.parts.Block.{Block}
+use Rattle.chunk_header.specs.declared.TheConstants.{LARGEST, CONTEXT_BYTES, BLOCK_HEADER, CHUNK_HEADER, OWN_HEADERS}
+use Rattle.generation_ctx.specs.declared.books.TheConstants.{LIMIT}
 
 -- the sizes that it was created with; the size of the next block; how many blocks were taken since it was
 -- created or reset, each of which has its place in that order as its number, so that the keeper is 1; the number
@@ -55,7 +57,7 @@ given l number = record l { blocks = filter (is_other number) l.blocks }
 
 -- how many bytes of its region stand before the header of a block: 200 of the keeper's
 abbrev pub start_of : ℕ → ℕ
-start_of number = if number == 1 then 200 else 0
+start_of number = if number == 1 then CONTEXT_BYTES else 0
 
 -- a block of so many bytes with its whole room
 abbrev pub whole : ℕ → ℕ → Block
@@ -106,7 +108,7 @@ cut_off l bytes = put l (record (block_in l l.current) { room = (block_in l l.cu
 
 -- what the ledger answers where a chunk of so many bytes is cut off the current block, and so many bytes were asked
 unfoldable pub cut : GenerationLedger → ℕ → ℕ → GenerationTaken
-cut l room asked = record { ledger = cut_off l (room + 8); place = record { block = l.current; room = room; own = false }; asked = asked }
+cut l room asked = record { ledger = cut_off l (room + CHUNK_HEADER); place = record { block = l.current; room = room; own = false }; asked = asked }
 
 -- which block becomes current: the spare one, where it has the room
 abbrev pub from_spare : Option ℕ → GenerationLedger → ℕ → Option ℕ
@@ -128,36 +130,36 @@ chosen l bytes = first_of (from_spare l.spare l bytes) (from_keeper l bytes)
 
 -- the size of a new block for so many bytes
 unfoldable pub block_size : GenerationLedger → ℕ → ℕ
-block_size l bytes = grown l.next (bytes + 40)
+block_size l bytes = grown l.next (bytes + BLOCK_HEADER)
 
 -- else a new block of this size, where so much is left of the account
 unfoldable pub take_new : GenerationLedger → ℕ → ℕ → ℕ → Result GenerationTaken CtxError
 take_new l left room size = if nat_le size left then Ok (cut (turned (with_new l size) (l.count + 1)) room size) else Err NoSpace
 
 unfoldable pub take_from : Option ℕ → GenerationLedger → ℕ → ℕ → Result GenerationTaken CtxError
-take_from None l left room = take_new l left room (block_size l (room + 8))
+take_from None l left room = take_new l left room (block_size l (room + CHUNK_HEADER))
 take_from (Some other) l left room = Ok (cut (turned l other) room 0)
 
 -- a chunk is cut off the current block, where that has the room, or else off another one that becomes current
 unfoldable pub take_cut : GenerationLedger → ℕ → ℕ → Result GenerationTaken CtxError
-take_cut l left room = if nat_le (room + 8) (block_in l l.current).room then Ok (cut l room 0) else take_from (chosen l (room + 8)) l left room
+take_cut l left room = if nat_le (room + CHUNK_HEADER) (block_in l l.current).room then Ok (cut l room 0) else take_from (chosen l (room + CHUNK_HEADER)) l left room
 
 -- what the ledger answers where a chunk has a new block for itself, which has no room
 unfoldable pub owned : GenerationLedger → ℕ → GenerationTaken
 owned l room = record {
-  ledger = added l (record { number = l.count + 1; size = room + 48; room = 0; live = 1; freed = 0 });
+  ledger = added l (record { number = l.count + 1; size = room + OWN_HEADERS; room = 0; live = 1; freed = 0 });
   place = record { block = l.count + 1; room = room; own = true };
-  asked = room + 48;
+  asked = room + OWN_HEADERS;
 }
 
 unfoldable pub take_own : GenerationLedger → ℕ → ℕ → Result GenerationTaken CtxError
-take_own l left room = if nat_le (room + 48) left then Ok (owned l room) else Err NoSpace
+take_own l left room = if nat_le (room + OWN_HEADERS) left then Ok (owned l room) else Err NoSpace
 
 -- a request, where so much is left of the account
 unfoldable pub take : GenerationLedger → ℕ → ℕ → Result GenerationTaken CtxError
 take l left size =
-    if nat_lt 1073741823 size then Err TooBig
-    else (if nat_lt 524288 size then take_own l left (granted size) else take_cut l left (granted size))
+    if nat_lt LARGEST size then Err TooBig
+    else (if nat_lt LIMIT size then take_own l left (granted size) else take_cut l left (granted size))
 
 -- the last live chunk of a shared block was freed: the keeper and the current block get their whole room again,
 -- another one becomes the spare with its whole room where there is none, and goes back where there is one
@@ -193,7 +195,7 @@ moved (Err error) old = Err error
 -- that, else a new one is taken
 unfoldable pub resize : GenerationLedger → ℕ → ℕ → GenerationPlace → ℕ → Result GenerationResized CtxError
 resize l held limit place size =
-    if nat_lt 1073741823 size then Err TooBig
+    if nat_lt LARGEST size then Err TooBig
     else (if nat_le size place.room then Ok (record { ledger = l; place = place; asked = 0; stays = true }) else moved (take l (limit - held) size) place)
 
 -- all chunks are freed, and all blocks but the keeper go back
@@ -202,7 +204,7 @@ reset l = created l.init l.max
 
 -- what a chunk takes in its block, with its header
 abbrev pub chunk_bytes : GenerationPlace → ℕ
-chunk_bytes place = place.room + 8
+chunk_bytes place = place.room + CHUNK_HEADER
 
 -- what `stats` answers
 unfoldable pub stats : GenerationLedger → Stats

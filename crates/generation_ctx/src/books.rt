@@ -13,9 +13,12 @@ ghost use Rattle.chunk_header.specs.Growth.{granted};
 ghost use Rattle.generation_ctx.specs.Ledger.{created, is_spare, set_aside, stopped, turned, with_new, cut, from_spare, from_keeper, chosen, block_size, take_own, take_cut, take, emptied, lessened, give, resize, reset, stats};
 ghost use Rattle.ctx_blocks.specs.Numbered.{AreAmong};
 ghost use Rattle.generation_ctx.specs.State.{number_of, place_in};
+ghost use Rattle.chunk_header.specs.declared.TheConstants.{LEAST_BLOCK, LARGEST_BLOCK};
 
 use addr_space::{Addr, Space};
-use chunk_header::{CtxError, Kind, LARGEST, Sizes, Stats, granted, grown};
+use chunk_header::{
+    BLOCK_HEADER, CHUNK_HEADER, CtxError, Kind, LARGEST, OWN_HEADERS, Sizes, Stats, granted, grown,
+};
 use ctx_blocks::{Block, Blocks};
 use std::alloc::Global;
 
@@ -68,9 +71,9 @@ impl Books {
         sizes: Sizes,
     ) -> Result<Books, CtxError>
         requires account { account < accounts space.old }
-        requires least { 1024 ≤ sizes.init }
+        requires least { LEAST_BLOCK ≤ sizes.init }
         requires order { sizes.init ≤ sizes.max }
-        requires most { sizes.max ≤ 8388608 }
+        requires most { sizes.max ≤ LARGEST_BLOCK }
         requires whole_init { sizes.init % 8 ≡ 0 }
         requires whole_max { sizes.max % 8 ≡ 0 }
         ensures kept { IfOk result IsKept }
@@ -204,8 +207,8 @@ impl Books {
     fn cut(&mut self, space: &mut Space, size: u32) -> Addr
         requires kept { IsKept self.old }
         requires agrees { Agrees (footprint self.old.blocks) space.old }
-        requires size { size ≤ 524288 }
-        requires room { (block : Block) × (block_at self.old.blocks self.old.current ≡ Some block) × (granted size + 8 ≤ block.room) }
+        requires size { size ≤ LIMIT }
+        requires room { (block : Block) × (block_at self.old.blocks self.old.current ≡ Some block) × (granted size + CHUNK_HEADER ≤ block.room) }
         ensures allocates { Allocates self.old self.new space.old space.new size result (cut (ledger_of self.old) (granted size) 0) }
         ensures among { AreAmong self.new.blocks self.old.blocks }
         ensures asked { space.new.taken ≡ space.old.taken }
@@ -283,7 +286,7 @@ impl Books {
         ensures err { OnErr result (self.new ≡ self.old) }
         ensures err_space { OnErr result (space.new ≡ space.old) }
     {
-        let size = grown(self.next, bytes + 40);
+        let size = grown(self.next, bytes + BLOCK_HEADER);
         let number = self.blocks.add(space, size)?;
         self.next = (self.next * 2).min(self.sizes.max);
         Ok(number)
@@ -293,15 +296,15 @@ impl Books {
     fn take_other(&mut self, space: &mut Space, size: u32) -> Result<Addr, CtxError>
         requires kept { IsKept self.old }
         requires agrees { Agrees (footprint self.old.blocks) space.old }
-        requires size { size ≤ 524288 }
-        requires little { (block : Block) × (block_at self.old.blocks self.old.current ≡ Some block) × (block.room < granted size + 8) }
+        requires size { size ≤ LIMIT }
+        requires little { (block : Block) × (block_at self.old.blocks self.old.current ≡ Some block) × (block.room < granted size + CHUNK_HEADER) }
         ensures ok { IfOk result (λ at. Serves self.old self.new space.old space.new size at (take_cut (ledger_of self.old) (space.old.limit - held space.old self.old.blocks.account) (granted size))) }
         ensures no_space { result ≡ Err CtxError.NoSpace → take_cut (ledger_of self.old) (space.old.limit - held space.old self.old.blocks.account) (granted size) ≡ Err CtxError.NoSpace }
         ensures no_other { IfErr result (λ e. (e ≡ CtxError.NoSpace) ⊎ (e ≡ CtxError.Memory)) }
         ensures err { OnErr result (self.new ≡ self.old) }
         ensures err_space { OnErr result (space.new ≡ space.old) }
     {
-        let bytes = granted(size) + 8;
+        let bytes = granted(size) + CHUNK_HEADER;
         if let Some(number) = self.choose(bytes) {
             self.turn_to(space, number);
             return Ok(self.cut(space, size));
@@ -315,14 +318,14 @@ impl Books {
     fn take_cut(&mut self, space: &mut Space, size: u32) -> Result<Addr, CtxError>
         requires kept { IsKept self.old }
         requires agrees { Agrees (footprint self.old.blocks) space.old }
-        requires size { size ≤ 524288 }
+        requires size { size ≤ LIMIT }
         ensures ok { IfOk result (λ at. Serves self.old self.new space.old space.new size at (take_cut (ledger_of self.old) (space.old.limit - held space.old self.old.blocks.account) (granted size))) }
         ensures no_space { result ≡ Err CtxError.NoSpace → take_cut (ledger_of self.old) (space.old.limit - held space.old self.old.blocks.account) (granted size) ≡ Err CtxError.NoSpace }
         ensures no_other { IfErr result (λ e. (e ≡ CtxError.NoSpace) ⊎ (e ≡ CtxError.Memory)) }
         ensures err { OnErr result (self.new ≡ self.old) }
         ensures err_space { OnErr result (space.new ≡ space.old) }
     {
-        if self.block(self.current).room >= granted(size) + 8 {
+        if self.block(self.current).room >= granted(size) + CHUNK_HEADER {
             return Ok(self.cut(space, size));
         }
         self.take_other(space, size)
@@ -341,7 +344,7 @@ impl Books {
         ensures err_space { OnErr result (space.new ≡ space.old) }
     {
         let room = granted(size);
-        let number = self.blocks.add(space, room + 48)?;
+        let number = self.blocks.add(space, room + OWN_HEADERS)?;
         Ok(self.blocks.cut(space, number, size, room, true))
     }
 
@@ -350,7 +353,7 @@ impl Books {
     fn take(&mut self, space: &mut Space, size: u32) -> Result<Addr, CtxError>
         requires kept { IsKept self.old }
         requires agrees { Agrees (footprint self.old.blocks) space.old }
-        requires size { size ≤ 1073741823 }
+        requires size { size ≤ LARGEST }
         ensures ok { IfOk result (λ at. Serves self.old self.new space.old space.new size at (take (ledger_of self.old) (space.old.limit - held space.old self.old.blocks.account) size)) }
         ensures no_space { result ≡ Err CtxError.NoSpace → take (ledger_of self.old) (space.old.limit - held space.old self.old.blocks.account) size ≡ Err CtxError.NoSpace }
         ensures no_other { IfErr result (λ e. (e ≡ CtxError.NoSpace) ⊎ (e ≡ CtxError.Memory)) }
@@ -368,7 +371,7 @@ impl Books {
         requires kept { IsKept self.old }
         requires agrees { Agrees (footprint self.old.blocks) space.old }
         ensures ok { IfOk result (λ at. Serves self.old self.new space.old space.new size at (take (ledger_of self.old) (space.old.limit - held space.old self.old.blocks.account) size)) }
-        ensures too_big { (result ≡ Err CtxError.TooBig) ↔ (1073741823 < size) }
+        ensures too_big { (result ≡ Err CtxError.TooBig) ↔ (LARGEST < size) }
         ensures no_space { result ≡ Err CtxError.NoSpace → take (ledger_of self.old) (space.old.limit - held space.old self.old.blocks.account) size ≡ Err CtxError.NoSpace }
         ensures no_other { IfErr result (λ e. (e ≡ CtxError.TooBig) ⊎ ((e ≡ CtxError.NoSpace) ⊎ (e ≡ CtxError.Memory))) }
         ensures err { OnErr result (state_of self.new ≡ state_of self.old) }
@@ -489,7 +492,7 @@ impl Books {
     ) -> Result<Addr, CtxError>
         requires kept { IsKept self.old }
         requires agrees { Agrees (footprint self.old.blocks) space.old }
-        requires size { size ≤ 1073741823 }
+        requires size { size ≤ LARGEST }
         requires chunk { (c : Chunk) × (chunk_at self.old.blocks at ≡ Some c) × (keep ≤ c.size) × (c.room < size) }
         requires keep { keep ≤ size }
         requires known { IsKnown space.old at keep }
@@ -515,7 +518,7 @@ impl Books {
     {
         let header = self.blocks.header(space, at);
         if header.own {
-            return self.block(at.region).size - 48;
+            return self.block(at.region).size - OWN_HEADERS;
         }
         header.value
     }
@@ -524,7 +527,7 @@ impl Books {
     fn set_size(&mut self, space: &Space, at: Addr, keep: u32, size: u32)
         requires kept { IsKept self.old }
         requires agrees { Agrees (footprint self.old.blocks) space.now }
-        requires size { size ≤ 1073741823 }
+        requires size { size ≤ LARGEST }
         requires chunk { (c : Chunk) × (chunk_at self.old.blocks at ≡ Some c) × (size ≤ c.room) }
         ensures { Resizes self.old self.new space.now space.now at at keep size }
     {
@@ -545,7 +548,7 @@ impl Books {
         requires chunk { (c : Chunk) × (chunk_at self.old.blocks at ≡ Some c) × (keep ≤ c.size) }
         requires known { IsKnown space.old at keep }
         ensures ok { IfOk result (λ to. Resizes self.old self.new space.old space.new at to (min keep size) size) }
-        ensures too_big { (result ≡ Err CtxError.TooBig) ↔ (1073741823 < size) }
+        ensures too_big { (result ≡ Err CtxError.TooBig) ↔ (LARGEST < size) }
         ensures no_space { result ≡ Err CtxError.NoSpace → (c : Chunk) → chunk_at self.old.blocks at ≡ Some c → resize (ledger_of self.old) (held space.old self.old.blocks.account) space.old.limit (place_in self.old.blocks at.region c) size ≡ Err CtxError.NoSpace }
         ensures no_other { IfErr result (λ e. (e ≡ CtxError.TooBig) ⊎ ((e ≡ CtxError.NoSpace) ⊎ (e ≡ CtxError.Memory))) }
         ensures err { OnErr result (state_of self.new ≡ state_of self.old) }
@@ -601,7 +604,7 @@ impl Books {
         requires { IsKept self.now }
         ensures headed { AllHeaded (footprint self.now.blocks) }
         ensures kinds { AllOfKind Generation (footprint self.now.blocks) }
-        ensures spaces { (at : Addr) (chunk : Chunk) → chunk_at self.now.blocks at ≡ Some chunk → TakesSpace (footprint self.now.blocks) at (chunk.room + 8) }
+        ensures spaces { (at : Addr) (chunk : Chunk) → chunk_at self.now.blocks at ≡ Some chunk → TakesSpace (footprint self.now.blocks) at (chunk.room + CHUNK_HEADER) }
     {
         self.blocks.headed();
     }

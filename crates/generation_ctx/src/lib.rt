@@ -5,6 +5,7 @@
 ghost use Rattle.std.specs.Prelude.{◌≡◌, ◌≢◌, ℕ, ◌+◌, ◌-◌, ◌%◌, ◌<◌, ◌≤◌, ◌↔◌, ◌⊎◌, min, Ok, Err, None, Some, IsSome, IfSome, IfOk, IfErr, OnOk, OnErr};
 ghost use Rattle.addr_space.specs.declared.Addr.{Addr};
 ghost use Rattle.generation_ctx.specs.Ledger.{stats, take, give, reset, chunk_bytes};
+ghost use Rattle.chunk_header.specs.declared.TheConstants.{LARGEST, LEAST_BLOCK, LARGEST_BLOCK};
 
 mod books;
 
@@ -57,9 +58,9 @@ impl GenerationCtx {
         sizes: Sizes,
     ) -> Result<GenerationCtx, CtxError>
         requires account { account < accounts space.old }
-        requires least { 1024 ≤ sizes.init }
+        requires least { LEAST_BLOCK ≤ sizes.init }
         requires order { sizes.init ≤ sizes.max }
-        requires most { sizes.max ≤ 8388608 }
+        requires most { sizes.max ≤ LARGEST_BLOCK }
         requires whole_init { sizes.init % 8 ≡ 0 }
         requires whole_max { sizes.max % 8 ≡ 0 }
         ensures ledger { IfOk result (λ a. a.ledger ≡ created sizes.init sizes.max) }
@@ -124,7 +125,7 @@ impl GenerationCtx {
         ensures moves { Moves (footprint self.old) (footprint self.new) space.old space.new }
         ensures keeps { Keeps (footprint self.old) (footprint self.new) space.old space.new }
 
-        ensures too_big { (result ≡ Err CtxError.TooBig) ↔ (1073741823 < size) }
+        ensures too_big { (result ≡ Err CtxError.TooBig) ↔ (LARGEST < size) }
         ensures no_space { result ≡ Err CtxError.NoSpace → take self.old.ledger (space.old.limit - held space.old self.old.layout.account) size ≡ Err CtxError.NoSpace }
         ensures no_other { IfErr result (λ e. (e ≡ CtxError.TooBig) ⊎ ((e ≡ CtxError.NoSpace) ⊎ (e ≡ CtxError.Memory))) }
         ensures err { OnErr result (self.new ≡ self.old) }
@@ -157,7 +158,7 @@ impl GenerationCtx {
     /// The chunk stays where it may have the size. Else a new chunk is taken, the first `keep` bytes are copied, and
     /// the old chunk is freed.
     ///
-    /// `TooBig`, where `size` is over 1,073,741,823, comes before `NoSpace`, and `Memory` may come in place of any
+    /// `TooBig`, where `size` is over `LARGEST`, comes before `NoSpace`, and `Memory` may come in place of any
     /// other but `TooBig`. A refused call changes nothing.
     pub fn realloc(
         &mut self,
@@ -182,7 +183,7 @@ impl GenerationCtx {
         ensures moves { Moves (footprint self.old) (footprint self.new) space.old space.new }
         ensures keeps { KeepsBut at (footprint self.old) (footprint self.new) space.old space.new }
 
-        ensures too_big { (result ≡ Err CtxError.TooBig) ↔ (1073741823 < size) }
+        ensures too_big { (result ≡ Err CtxError.TooBig) ↔ (LARGEST < size) }
         ensures no_space { result ≡ Err CtxError.NoSpace → IfSome (place_at self.old at) (λ place. resize_in self.old space.old place size ≡ Err CtxError.NoSpace) }
         ensures no_other { IfErr result (λ e. (e ≡ CtxError.TooBig) ⊎ ((e ≡ CtxError.NoSpace) ⊎ (e ≡ CtxError.Memory))) }
         ensures err { OnErr result (self.new ≡ self.old) }

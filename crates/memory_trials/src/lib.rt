@@ -14,6 +14,8 @@ mod headers;
 #[cfg(test)]
 mod raw_blocks;
 #[cfg(test)]
+mod sets;
+#[cfg(test)]
 mod slabs;
 #[cfg(test)]
 mod spaces;

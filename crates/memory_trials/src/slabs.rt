@@ -3,6 +3,7 @@ ghost use Rattle.std.specs.Prelude.{◌≤◌, ◌<◌, ◌+◌, ◌≡◌, OnOk
 ghost use Rattle.addr_space.specs.Footprint.{Agrees};
 ghost use Rattle.slab_ctx.specs.State.{footprint};
 ghost use Rattle.memory_trials.specs.Held.{AreLive};
+ghost use Rattle.slab_ctx.specs.declared.slots.TheConstants.{LARGEST_CHUNK};
 
 use addr_space::{Addr, Space};
 use chunk_header::{CtxError, Stats};
@@ -12,7 +13,7 @@ use std::test::Fail;
 // What a context with one chunk of a size has.
 fn with_one(rt: &HostRuntime, size: u32) -> Result<Stats, Fail>
     requires least { 1 ≤ size }
-    requires most { size ≤ 1024 }
+    requires most { size ≤ LARGEST_CHUNK }
 {
     let mut space = Space::new(rt.alloc(), 1, 100_000)?;
     let mut slab = SlabCtx::create(rt.alloc(), &mut space, 0, 7, size)?;

@@ -10,6 +10,8 @@ use Rattle.slab_ctx.specs.Ledger.{SlabLedger}
 use Rattle.slab_ctx.specs.State.{SlabState, others, lives_of, blocks_of}
 use Rattle.slab_ctx.specs.Slots.{HasSlots, first_region}
 use Rattle.slab_ctx.specs.declared.books.Books.{Books}
+use Rattle.chunk_header.specs.declared.TheConstants.{CONTEXT_BYTES}
+use Rattle.slab_ctx.specs.declared.slots.TheConstants.{BLOCK_BYTES}
 
 -- how many live chunks each block has
 abbrev pub inner_of : Books → LiveCounts
@@ -41,7 +43,7 @@ pub record IsKeptBut (b : Books) (few : ℕ) : Type 0 where
   pub listed : IsListed b.slots.blocks
   pub empty : b.empty + few ≡ empties (lives_of b.slots.blocks)
   pub free : b.free ≡ free_chunks (inner_of b)
-  pub bytes : total b.slots.blocks ≡ 200 + 8192 * length (lives_of b.slots.blocks)
+  pub bytes : total b.slots.blocks ≡ CONTEXT_BYTES + BLOCK_BYTES * length (lives_of b.slots.blocks)
   pub most : total b.slots.blocks ≤ 2 ^ 62
   pub order : IsOrdered b.ranks b.slots.blocks (per_block b.slots.size)
 

@@ -7,6 +7,9 @@ use Rattle.chunk_header.specs.declared.CtxError.TheVariants.{TooBig, NoSpace, Wr
 use Rattle.chunk_header.specs.declared.Stats.{Stats}
 use Rattle.chunk_header.specs.Answers.{Taken, Resized}
 use Rattle.chunk_header.specs.Growth.{up8}
+use Rattle.chunk_header.specs.declared.TheConstants.{LARGEST, CONTEXT_BYTES, BLOCK_HEADER, CHUNK_HEADER}
+use Rattle.slab_ctx.specs.declared.slots.TheConstants.{BLOCK_BYTES}
+use Rattle.slab_ctx.specs.declared.books.TheConstants.{MOST_EMPTY}
 
 -- a block: its number, and how many live chunks it has
 pub record SlabBlock : Type 0 where
@@ -29,11 +32,11 @@ SlabResized = Resized SlabLedger ℕ
 
 -- what a chunk takes in a block, with its header
 unfoldable pub stride : ℕ → ℕ
-stride size = up8 size + 8
+stride size = up8 size + CHUNK_HEADER
 
 -- how many chunks a block has
 unfoldable pub per_block : ℕ → ℕ
-per_block size = (8192 - 40) / stride size
+per_block size = (BLOCK_BYTES - BLOCK_HEADER) / stride size
 
 -- a new context: no block
 unfoldable pub created : ℕ → SlabLedger
@@ -61,18 +64,18 @@ with_live blocks number live = map (set_live number live) blocks
 unfoldable pub serve : SlabLedger → ℕ → Option SlabBlock → Result SlabTaken CtxError
 serve l left (Some block) = Ok (record { ledger = record l { blocks = with_live l.blocks block.number (block.live + 1) }; place = block.number; asked = 0 })
 serve l left None =
-    if nat_le 8192 left
+    if nat_le BLOCK_BYTES left
     then Ok (record {
       ledger = record l { count = l.count + 1; blocks = l.blocks ++ record { number = l.count + 1; live = 1 } ∷ [] };
       place = l.count + 1;
-      asked = 8192;
+      asked = BLOCK_BYTES;
     })
     else Err NoSpace
 
 -- a request, where so much is left of the account
 unfoldable pub take : SlabLedger → ℕ → ℕ → Result SlabTaken CtxError
 take l left size =
-    if nat_lt 1073741823 size then Err TooBig
+    if nat_lt LARGEST size then Err TooBig
     else (if l.size == size then serve l left (serving (per_block l.size) l.blocks) else Err WrongSize)
 
 -- how many blocks have no live chunk
@@ -94,7 +97,7 @@ without_number blocks number = filter (λ b. not (b.number == number)) blocks
 -- and ten blocks are empty already
 abbrev pub lowered : List SlabBlock → ℕ → ℕ → List SlabBlock
 lowered blocks number live =
-    if (live == 1) && nat_le 10 (empties blocks) then without_number blocks number
+    if (live == 1) && nat_le MOST_EMPTY (empties blocks) then without_number blocks number
     else with_live blocks number (live - 1)
 
 -- a live chunk of the block of a number is freed
@@ -104,7 +107,7 @@ give l number = record l { blocks = lowered l.blocks number (live_in l.blocks nu
 -- a live chunk is to have another size
 unfoldable pub resize : SlabLedger → ℕ → ℕ → ℕ → ℕ → Result SlabResized CtxError
 resize l held limit place size =
-    if nat_lt 1073741823 size then Err TooBig
+    if nat_lt LARGEST size then Err TooBig
     else (if l.size == size then Ok (record { ledger = l; place = place; asked = 0; stays = true }) else Err Unsupported)
 
 -- all chunks are freed, and all blocks go back
@@ -122,7 +125,7 @@ free_chunks l = sum_by (λ b. per_block l.size - b.live) l.blocks
 -- what `stats` answers
 unfoldable pub stats : SlabLedger → Stats
 stats l = record {
-  total = 200 + 8192 * length l.blocks;
+  total = CONTEXT_BYTES + BLOCK_BYTES * length l.blocks;
   blocks = length l.blocks;
   free = stride l.size * free_chunks l;
   chunks = free_chunks l;

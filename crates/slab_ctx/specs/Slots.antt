@@ -9,19 +9,21 @@ use Rattle.ctx_blocks.specs.declared.parts.Block.{Block}
 use Rattle.ctx_blocks.specs.declared.parts.Chunk.{Chunk}
 use Rattle.slab_ctx.specs.Lives.{stride, per_block}
 use Rattle.slab_ctx.specs.declared.slots.Slots.{Slots}
+use Rattle.chunk_header.specs.declared.TheConstants.{CONTEXT_BYTES, BLOCK_HEADER, CHUNK_HEADER, OWN_HEADERS}
+use Rattle.slab_ctx.specs.declared.slots.TheConstants.{BLOCK_BYTES, LARGEST_CHUNK}
 
 -- the first region, which has no room for a block
 abbrev pub first_region : Block
-first_region = record { number = 0; size = 200; room = 0; live = 0; freed = 0 }
+first_region = record { number = 0; size = CONTEXT_BYTES; room = 0; live = 0; freed = 0 }
 
 -- every live chunk
 abbrev pub chunk_of : ℕ → Chunk
-chunk_of size = record { size = size; room = stride size - 8; own = false }
+chunk_of size = record { size = size; room = stride size - CHUNK_HEADER; own = false }
 
 -- chunks stand one behind the other in a block
 pub record IsSlot (size offset : ℕ) : Type 0 where
   pub slot : ℕ
-  pub at_slot : offset ≡ 48 + slot * stride size
+  pub at_slot : offset ≡ OWN_HEADERS + slot * stride size
 
 -- the offsets in the stack of a block
 abbrev pub items_of : Option (Vec ℕ) → List ℕ
@@ -38,13 +40,13 @@ at_offset number offset = record { region = number; offset = offset }
 -- a free chunk was cut off a block at an offset
 pub record IsFree (l : Layout) (size number : ℕ) (block : Block) (offset : ℕ) : Type 0 where
   pub slot : IsSlot size offset
-  pub last : offset + (stride size - 8) + block.room ≤ block.size
+  pub last : offset + (stride size - CHUNK_HEADER) + block.room ≤ block.size
   pub free : chunk_at l (at_offset number offset) ≡ None
 
 -- a block, with the offsets of its freed chunks, which are the first ones of its stack
 pub record IsFilled (l : Layout) (size number : ℕ) (block : Block) (stack : List ℕ) : Type 0 where
-  pub bytes : block.size ≡ 8192
-  pub rest : (block.live + block.freed) * stride size + block.room ≡ 8152
+  pub bytes : block.size ≡ BLOCK_BYTES
+  pub rest : (block.live + block.freed) * stride size + block.room ≡ BLOCK_BYTES - BLOCK_HEADER
   pub long : length stack ≡ per_block size
   pub free : (k : ℕ) → k < block.freed → IsFree l size number block (slice_index stack k)
   pub distinct : (j k : ℕ) → j < k → k < block.freed → slice_index stack j ≢ slice_index stack k
@@ -54,7 +56,7 @@ pub record IsSlotted (l : Layout) (size : ℕ) (stacks : List (ℕ × Vec ℕ)) 
   pub kind : l.kind ≡ Slab
   pub first : l.first_number ≡ 0
   pub least : 1 ≤ size
-  pub most : size ≤ 1024
+  pub most : size ≤ LARGEST_CHUNK
   pub keeper : block_at l l.keeper ≡ Some first_region
   pub filled : (number : ℕ) (block : Block) → number ≢ l.keeper → block_at l number ≡ Some block → IsFilled l size number block (stack_at stacks number)
   pub chunk : (at : Addr) (chunk : Chunk) → chunk_at l at ≡ Some chunk → chunk ≡ chunk_of size

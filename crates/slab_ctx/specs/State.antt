@@ -7,6 +7,8 @@ use Rattle.ctx_blocks.specs.Numbered.{number_of}
 use Rattle.ctx_blocks.specs.declared.parts.Block.{Block}
 use Rattle.ctx_blocks.specs.declared.parts.Chunk.{Chunk}
 use Rattle.slab_ctx.specs.Ledger.{SlabLedger, SlabBlock, stride}
+use Rattle.chunk_header.specs.declared.TheConstants.{CHUNK_HEADER, OWN_HEADERS}
+use Rattle.slab_ctx.specs.declared.slots.TheConstants.{BLOCK_BYTES}
 
 -- the ledger, and the blocks and live chunks
 pub record SlabState : Type 0 where
@@ -47,7 +49,7 @@ place_in (e ∷ es) number = if number == e.0 then 0 else suc (place_in es numbe
 
 -- whether a chunk may stand at an offset of a block
 abbrev pub is_slot : ℕ → ℕ → Bool
-is_slot size offset = (nat_le 48 offset && ((offset - 48) % stride size == 0)) && nat_le (offset + (stride size - 8)) 8192
+is_slot size offset = (nat_le OWN_HEADERS offset && ((offset - OWN_HEADERS) % stride size == 0)) && nat_le (offset + (stride size - CHUNK_HEADER)) BLOCK_BYTES
 
 -- the size of a free chunk at an offset of a block, where no live one stands
 abbrev pub free_slot : ℕ → ℕ → Option Chunk → Option ℕ

@@ -13,6 +13,8 @@ ghost use Rattle.slab_ctx.specs.State.{footprint, lives_of, blocks_of, serving_b
 ghost use Rattle.ctx_blocks.specs.Numbered.{number_of, AreAmong};
 ghost use Rattle.chunk_header.specs.declared.Kind.TheVariants.{Slab};
 ghost use Rattle.slab_ctx.specs.Slots.{chunk_of};
+ghost use Rattle.chunk_header.specs.declared.TheConstants.{CONTEXT_BYTES, BLOCK_HEADER};
+ghost use Rattle.slab_ctx.specs.declared.slots.TheConstants.{BLOCK_BYTES, LARGEST_CHUNK};
 
 use crate::ranks::Ranks;
 use crate::slots::{Slots, per_block, stride};
@@ -87,15 +89,15 @@ impl Books {
     ) -> Result<Books, CtxError>
         requires account { account < accounts space.old }
         requires least { 1 ≤ size }
-        requires most { size ≤ 1024 }
+        requires most { size ≤ LARGEST_CHUNK }
         ensures kept { IfOk result IsKept }
         ensures ledger { IfOk result (λ b. ledger_of b ≡ created size) }
         ensures account { IfOk result (λ b. (state_of b).layout.account ≡ account) }
         ensures context { IfOk result (λ b. (footprint (state_of b)).context ≡ context) }
         ensures chunks { IfOk result (λ b. b.slots.blocks.chunks ≡ []) }
-        ensures asked { OnOk result (Asks account 200 space.old space.new) }
+        ensures asked { OnOk result (Asks account CONTEXT_BYTES space.old space.new) }
         ensures moves { IfOk result (λ b. Moves (nothing account context) (footprint (state_of b)) space.old space.new) }
-        ensures no_space { (result ≡ Err CtxError.NoSpace) ↔ (space.old.limit < held space.old account + 200) }
+        ensures no_space { (result ≡ Err CtxError.NoSpace) ↔ (space.old.limit < held space.old account + CONTEXT_BYTES) }
         ensures no_other { IfErr result (λ e. (e ≡ CtxError.NoSpace) ⊎ (e ≡ CtxError.Memory)) }
         ensures err { OnErr result (space.new ≡ space.old) }
     {
@@ -186,14 +188,14 @@ impl Books {
         ensures blocks { OnOk result (blocks_of self.new.slots.blocks ≡ blocks_of self.old.slots.blocks ++ record { number = self.old.slots.blocks.last_number + 1; live = 0 } ∷ []) }
         ensures last { OnOk result (self.new.slots.blocks.last_number ≡ self.old.slots.blocks.last_number + 1) }
         ensures among { OnOk result (AreAmong self.old.slots.blocks self.new.slots.blocks) }
-        ensures asked { OnOk result (Asks self.old.slots.blocks.account 8192 space.old space.new) }
-        ensures block { IfOk result (λ number. block_at self.new.slots.blocks number ≡ Some (record { number = self.old.slots.blocks.last_number + 1; size = 8192; room = 8152; live = 0; freed = 0 })) }
+        ensures asked { OnOk result (Asks self.old.slots.blocks.account BLOCK_BYTES space.old space.new) }
+        ensures block { IfOk result (λ number. block_at self.new.slots.blocks number ≡ Some (record { number = self.old.slots.blocks.last_number + 1; size = BLOCK_BYTES; room = BLOCK_BYTES - BLOCK_HEADER; live = 0; freed = 0 })) }
         ensures not_keeper { IfOk result (λ number. number ≢ self.new.slots.blocks.keeper) }
         ensures chunks { OnOk result (self.new.slots.blocks.chunks ≡ self.old.slots.blocks.chunks) }
         ensures moves { OnOk result (Moves (blocks_footprint self.old.slots.blocks) (blocks_footprint self.new.slots.blocks) space.old space.new) }
         ensures keeps { OnOk result (Keeps (blocks_footprint self.old.slots.blocks) (blocks_footprint self.new.slots.blocks) space.old space.new) }
-        ensures fits { OnOk result (8192 ≤ space.old.limit - held space.old self.old.slots.blocks.account) }
-        ensures no_space { (result ≡ Err CtxError.NoSpace) → space.old.limit - held space.old self.old.slots.blocks.account < 8192 }
+        ensures fits { OnOk result (BLOCK_BYTES ≤ space.old.limit - held space.old self.old.slots.blocks.account) }
+        ensures no_space { (result ≡ Err CtxError.NoSpace) → space.old.limit - held space.old self.old.slots.blocks.account < BLOCK_BYTES }
         ensures no_other { IfErr result (λ e. (e ≡ CtxError.NoSpace) ⊎ (e ≡ CtxError.Memory)) }
         ensures err { OnErr result (self.new.slots.blocks ≡ self.old.slots.blocks) }
         ensures err_space { OnErr result (space.new ≡ space.old) }
@@ -236,7 +238,7 @@ impl Books {
         requires agrees { Agrees (footprint (state_of self.old)) space.old }
         ensures ok { IfOk result (λ at. Serves (state_of self.old) self.new space.old space.new at (take (ledger_of self.old) (space.old.limit - held space.old self.old.slots.blocks.account) size)) }
         ensures size { OnOk result (size ≡ self.old.slots.size) }
-        ensures too_big { (result ≡ Err CtxError.TooBig) ↔ (1073741823 < size) }
+        ensures too_big { (result ≡ Err CtxError.TooBig) ↔ (LARGEST < size) }
         ensures wrong_size { (result ≡ Err CtxError.WrongSize) ↔ (take (ledger_of self.old) (space.old.limit - held space.old self.old.slots.blocks.account) size ≡ Err CtxError.WrongSize) }
         ensures no_space { result ≡ Err CtxError.NoSpace → take (ledger_of self.old) (space.old.limit - held space.old self.old.slots.blocks.account) size ≡ Err CtxError.NoSpace }
         ensures no_other { IfErr result (λ e. (e ≡ CtxError.TooBig) ⊎ ((e ≡ CtxError.WrongSize) ⊎ ((e ≡ CtxError.NoSpace) ⊎ (e ≡ CtxError.Memory)))) }
@@ -262,7 +264,7 @@ impl Books {
         requires not_keeper { number ≢ self.old.slots.blocks.keeper }
         ensures kept { IsKept self.new }
         ensures size { self.new.slots.size ≡ self.old.slots.size }
-        ensures blocks { (b : Block) → block_at self.old.slots.blocks number ≡ Some b → blocks_of self.new.slots.blocks ≡ (if (b.live == 0) && nat_le 10 self.old.empty then without_number (blocks_of self.old.slots.blocks) b.number else blocks_of self.old.slots.blocks) }
+        ensures blocks { (b : Block) → block_at self.old.slots.blocks number ≡ Some b → blocks_of self.new.slots.blocks ≡ (if (b.live == 0) && nat_le MOST_EMPTY self.old.empty then without_number (blocks_of self.old.slots.blocks) b.number else blocks_of self.old.slots.blocks) }
         ensures last { self.new.slots.blocks.last_number ≡ self.old.slots.blocks.last_number }
         ensures among { AreAmong self.new.slots.blocks self.old.slots.blocks }
         ensures asked { space.new.taken ≡ space.old.taken }
@@ -307,9 +309,9 @@ impl Books {
     // Answers a request for another size of a live chunk.
     #[tactic(auto, unfolding(crate::specs::Ledger::resize))]
     pub fn realloc(&self, at: Addr, size: u64) -> Result<Addr, CtxError>
-        ensures size { OnOk result ((size ≡ self.now.slots.size) × (size ≤ 1073741823)) }
+        ensures size { OnOk result ((size ≡ self.now.slots.size) × (size ≤ LARGEST)) }
         ensures at { IfOk result (λ to. to ≡ at) }
-        ensures too_big { (result ≡ Err CtxError.TooBig) ↔ (1073741823 < size) }
+        ensures too_big { (result ≡ Err CtxError.TooBig) ↔ (LARGEST < size) }
         ensures unsupported { (held limit place : ℕ) → (result ≡ Err CtxError.Unsupported) ↔ (resize (ledger_of self.now) held limit place size ≡ Err CtxError.Unsupported) }
         ensures no_other { IfErr result (λ e. (e ≡ CtxError.TooBig) ⊎ (e ≡ CtxError.Unsupported)) }
     {

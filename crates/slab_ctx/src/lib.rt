@@ -4,6 +4,7 @@
 ghost use Rattle.std.specs.Prelude.{◌≡◌, ℕ, ◌+◌, ◌-◌, ◌<◌, ◌≤◌, ◌↔◌, ◌⊎◌, Ok, Err, None, Some, IsSome, IfOk, IfErr, IfSome, OnOk, OnErr};
 ghost use Rattle.addr_space.specs.declared.Addr.{Addr};
 ghost use Rattle.slab_ctx.specs.Ledger.{stats, take, give, reset, chunk_bytes};
+ghost use Rattle.chunk_header.specs.declared.TheConstants.{LARGEST};
 
 mod books;
 mod ranks;
@@ -12,7 +13,8 @@ mod tree;
 
 use addr_space::{Addr, Space};
 use books::Books;
-use chunk_header::{CtxError, Stats};
+use chunk_header::{CONTEXT_BYTES, CtxError, Stats};
+pub use slots::LARGEST_CHUNK;
 use std::alloc::Global;
 use std::marker::Model;
 
@@ -64,19 +66,19 @@ impl SlabCtx {
     ) -> Result<SlabCtx, CtxError>
         requires account { account < accounts space.old }
         requires least { 1 ≤ size }
-        requires most { size ≤ 1024 }
+        requires most { size ≤ LARGEST_CHUNK }
         ensures ledger { IfOk result (λ a. a.ledger ≡ created size) }
         ensures account { IfOk result (λ a. (footprint a).account ≡ account) }
         ensures context { IfOk result (λ a. (footprint a).context ≡ context) }
         ensures place { IfOk result (λ a. (at : Addr) → place_at a at ≡ None) }
         ensures live { IfOk result (λ a. (at : Addr) → (footprint a).live at ≡ None) }
         ensures moves { IfOk result (λ a. Moves (nothing account context) (footprint a) space.old space.new) }
-        ensures asked { OnOk result (Asks account 200 space.old space.new) }
-        ensures no_space { (result ≡ Err CtxError.NoSpace) ↔ (space.old.limit < held space.old account + 200) }
+        ensures asked { OnOk result (Asks account CONTEXT_BYTES space.old space.new) }
+        ensures no_space { (result ≡ Err CtxError.NoSpace) ↔ (space.old.limit < held space.old account + CONTEXT_BYTES) }
         ensures no_other { IfErr result (λ e. (e ≡ CtxError.NoSpace) ⊎ (e ≡ CtxError.Memory)) }
         ensures err_space { OnErr result (space.new ≡ space.old) }
     {
-        if !space.fits(account, 200) {
+        if !space.fits(account, CONTEXT_BYTES) {
             return Err(CtxError::NoSpace);
         }
         let mut books = Books::unplaced(alloc)?;
@@ -130,7 +132,7 @@ impl SlabCtx {
         ensures moves { Moves (footprint self.old) (footprint self.new) space.old space.new }
         ensures keeps { Keeps (footprint self.old) (footprint self.new) space.old space.new }
 
-        ensures too_big { (result ≡ Err CtxError.TooBig) ↔ (1073741823 < size) }
+        ensures too_big { (result ≡ Err CtxError.TooBig) ↔ (LARGEST < size) }
         ensures wrong_size { (result ≡ Err CtxError.WrongSize) ↔ (take self.old.ledger (space.old.limit - held space.old self.old.layout.account) size ≡ Err CtxError.WrongSize) }
         ensures no_space { result ≡ Err CtxError.NoSpace → take self.old.ledger (space.old.limit - held space.old self.old.layout.account) size ≡ Err CtxError.NoSpace }
         ensures no_other { IfErr result (λ e. (e ≡ CtxError.TooBig) ⊎ ((e ≡ CtxError.WrongSize) ⊎ ((e ≡ CtxError.NoSpace) ⊎ (e ≡ CtxError.Memory)))) }
@@ -160,7 +162,7 @@ impl SlabCtx {
     /// Answers the address of a live chunk that is asked to have `size` bytes, which must be the size of the
     /// context's chunks: it stays where it is (`SlabRealloc`). `keep` is how many of its first bytes are known.
     ///
-    /// `TooBig`, where `size` is over 1,073,741,823, comes before `Unsupported`. The call changes nothing.
+    /// `TooBig`, where `size` is over `LARGEST`, comes before `Unsupported`. The call changes nothing.
     pub fn realloc(
         &mut self,
         space: &mut Space,
@@ -180,7 +182,7 @@ impl SlabCtx {
         ensures moves { Moves (footprint self.old) (footprint self.new) space.old space.new }
         ensures keeps { Keeps (footprint self.old) (footprint self.new) space.old space.new }
 
-        ensures too_big { (result ≡ Err CtxError.TooBig) ↔ (1073741823 < size) }
+        ensures too_big { (result ≡ Err CtxError.TooBig) ↔ (LARGEST < size) }
         ensures unsupported { IfSome (place_at self.old at) (λ place. (result ≡ Err CtxError.Unsupported) ↔ (resize_in self.old space.old place size ≡ Err CtxError.Unsupported)) }
         ensures no_other { IfErr result (λ e. (e ≡ CtxError.TooBig) ⊎ (e ≡ CtxError.Unsupported)) }
         ensures same { self.new ≡ self.old }

@@ -10,13 +10,16 @@ ghost use Rattle.slab_ctx.specs.Lives.{stride, per_block};
 ghost use Rattle.slab_ctx.specs.Slots.{stack_at};
 
 use addr_space::{Addr, Space};
-use chunk_header::{CtxError, Kind, up8};
+use chunk_header::{BLOCK_HEADER, CHUNK_HEADER, CONTEXT_BYTES, CtxError, Kind, up8};
 use ctx_blocks::{Block, Blocks};
 use indexmap::IndexMap;
 use std::alloc::Global;
 
-/// The bytes of a block.
-const BLOCK: u32 = 8192;
+/// The bytes of a block: PostgreSQL's `SLAB_DEFAULT_BLOCK_SIZE` (memutils.h).
+pub const BLOCK_BYTES: u32 = 8192;
+
+/// The greatest size of a Slab's chunks, in bytes.
+pub const LARGEST_CHUNK: u32 = 1024;
 
 /// The blocks, and which of their chunks were freed.
 #[derive(Drop)]
@@ -35,23 +38,23 @@ pub struct Slots {
 #[tactic(auto, unfolding(crate::specs::Ledger::stride))]
 pub fn stride(size: u32) -> u32
     requires least { 1 ≤ size }
-    requires most { size ≤ 1024 }
+    requires most { size ≤ LARGEST_CHUNK }
     ensures value { result ≡ stride size }
     ensures least { 16 ≤ result }
     ensures most { result ≤ 1039 }
 {
-    up8(size) + 8
+    up8(size) + CHUNK_HEADER
 }
 
 // How many chunks a block has.
 #[tactic(auto, unfolding(crate::specs::Ledger::per_block))]
 pub fn per_block(size: u32) -> u32
     requires least { 1 ≤ size }
-    requires most { size ≤ 1024 }
+    requires most { size ≤ LARGEST_CHUNK }
     ensures value { result ≡ per_block size }
     ensures most { result ≤ 509 }
 {
-    (BLOCK - 40) / stride(size)
+    (BLOCK_BYTES - BLOCK_HEADER) / stride(size)
 }
 
 // Notes the stack of a new block, for which room was made.
@@ -156,7 +159,7 @@ impl Slots {
     ) -> Result<Slots, CtxError>
         requires account { account < accounts space.old }
         requires least { 1 ≤ size }
-        requires most { size ≤ 1024 }
+        requires most { size ≤ LARGEST_CHUNK }
         ensures slots { IfOk result HasSlots }
         ensures size { IfOk result (λ s. s.size ≡ size) }
         ensures account { IfOk result (λ s. s.blocks.account ≡ account) }
@@ -164,13 +167,13 @@ impl Slots {
         ensures blocks { IfOk result (λ s. s.blocks.blocks ≡ (s.blocks.keeper, first_region) ∷ []) }
         ensures numbers { IfOk result (λ s. (s.blocks.first_number ≡ 0) × (s.blocks.last_number ≡ 0)) }
         ensures chunks { IfOk result (λ s. s.blocks.chunks ≡ []) }
-        ensures asked { OnOk result (Asks account 200 space.old space.new) }
+        ensures asked { OnOk result (Asks account CONTEXT_BYTES space.old space.new) }
         ensures moves { IfOk result (λ s. Moves (nothing account context) (footprint s.blocks) space.old space.new) }
-        ensures no_space { (result ≡ Err CtxError.NoSpace) ↔ (space.old.limit < held space.old account + 200) }
+        ensures no_space { (result ≡ Err CtxError.NoSpace) ↔ (space.old.limit < held space.old account + CONTEXT_BYTES) }
         ensures no_other { IfErr result (λ e. (e ≡ CtxError.NoSpace) ⊎ (e ≡ CtxError.Memory)) }
         ensures err { OnErr result (space.new ≡ space.old) }
     {
-        let blocks = Blocks::create(alloc, space, Kind::Slab, account, context, 0, 200)?;
+        let blocks = Blocks::create(alloc, space, Kind::Slab, account, context, 0, CONTEXT_BYTES)?;
         Ok(Slots {
             blocks,
             size,
@@ -200,16 +203,16 @@ impl Slots {
         ensures same { OnOk result (SameContext self.old.blocks self.new.blocks) }
         ensures not_keeper { IfOk result (λ number. number ≢ self.old.blocks.keeper) }
         ensures fresh { IfOk result (λ number. block_at self.old.blocks number ≡ None) }
-        ensures block { IfOk result (λ number. PutsBlock self.old.blocks self.new.blocks number (record { number = self.old.blocks.last_number + 1; size = 8192; room = 8152; live = 0; freed = 0 })) }
+        ensures block { IfOk result (λ number. PutsBlock self.old.blocks self.new.blocks number (record { number = self.old.blocks.last_number + 1; size = BLOCK_BYTES; room = BLOCK_BYTES - BLOCK_HEADER; live = 0; freed = 0 })) }
         ensures last { OnOk result (self.new.blocks.last_number ≡ self.old.blocks.last_number + 1) }
-        ensures asked { OnOk result (Asks self.old.blocks.account 8192 space.old space.new) }
+        ensures asked { OnOk result (Asks self.old.blocks.account BLOCK_BYTES space.old space.new) }
         ensures chunks { OnOk result (self.new.blocks.chunks ≡ self.old.blocks.chunks) }
-        ensures total { OnOk result (total self.new.blocks ≡ total self.old.blocks + 8192) }
+        ensures total { OnOk result (total self.new.blocks ≡ total self.old.blocks + BLOCK_BYTES) }
         ensures most { OnOk result (total self.new.blocks ≤ 2 ^ 62) }
         ensures moves { OnOk result (Moves (footprint self.old.blocks) (footprint self.new.blocks) space.old space.new) }
         ensures keeps { OnOk result (Keeps (footprint self.old.blocks) (footprint self.new.blocks) space.old space.new) }
-        ensures fits { OnOk result (8192 ≤ space.old.limit - held space.old self.old.blocks.account) }
-        ensures no_space { (result ≡ Err CtxError.NoSpace) → space.old.limit - held space.old self.old.blocks.account < 8192 }
+        ensures fits { OnOk result (BLOCK_BYTES ≤ space.old.limit - held space.old self.old.blocks.account) }
+        ensures no_space { (result ≡ Err CtxError.NoSpace) → space.old.limit - held space.old self.old.blocks.account < BLOCK_BYTES }
         ensures no_other { IfErr result (λ e. (e ≡ CtxError.NoSpace) ⊎ (e ≡ CtxError.Memory)) }
         ensures err { OnErr result (self.new.blocks ≡ self.old.blocks) }
         ensures err_space { OnErr result (space.new ≡ space.old) }
@@ -221,7 +224,7 @@ impl Slots {
             Ok(stack) => stack,
             Err(_) => return Err(CtxError::Memory),
         };
-        let number = self.blocks.add(space, BLOCK)?;
+        let number = self.blocks.add(space, BLOCK_BYTES)?;
         open(&mut self.stacks, number, stack);
         let _ = self.blocks.total();
         Ok(number)
@@ -251,7 +254,7 @@ impl Slots {
             region: number,
             offset: u32::from(offset_at(&self.stacks, self.last, number, depth)),
         };
-        let room = stride(self.size) - 8;
+        let room = stride(self.size) - CHUNK_HEADER;
         self.blocks.place(space, at, self.size, room);
         at
     }
@@ -275,7 +278,7 @@ impl Slots {
         ensures moves { Moves (footprint self.old.blocks) (footprint self.new.blocks) space.old space.new }
         ensures keeps { Keeps (footprint self.old.blocks) (footprint self.new.blocks) space.old space.new }
     {
-        let room = stride(self.size) - 8;
+        let room = stride(self.size) - CHUNK_HEADER;
         self.blocks.cut(space, number, self.size, room, false)
     }
 
@@ -344,7 +347,7 @@ impl Slots {
         ensures block { DropsBlock self.old.blocks self.new.blocks number }
         ensures last { self.new.blocks.last_number ≡ self.old.blocks.last_number }
         ensures asked { space.new.taken ≡ space.old.taken }
-        ensures total { total self.new.blocks + 8192 ≡ total self.old.blocks }
+        ensures total { total self.new.blocks + BLOCK_BYTES ≡ total self.old.blocks }
         ensures moves { Moves (footprint self.old.blocks) (footprint self.new.blocks) space.old space.new }
         ensures keeps { Keeps (footprint self.old.blocks) (footprint self.new.blocks) space.old space.new }
     {

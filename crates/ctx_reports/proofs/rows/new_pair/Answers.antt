@@ -8,4 +8,4 @@ use Rattle.ctx_reports.proofs.rows.new_pair.Goals as goal
 pub report_pair-requires : goal.report_pair-requires
 report_pair-requires c =
     let total : (footprint c.in_ok-context.context).total ≡ total_of (ledger c.in_ok-context.context) = c.stats.ensures.total ∙ ap (λ (x : Stats). x.total) c.stats.ensures.stats in
-    IsAlone-new c.in_ok-context.context 0 7 c.in-Ok.space c.create.new.space c.in-Ok.ensures.regions c.in_ok-context.ensures.account c.in_ok-context.ensures.moves total
+    IsAlone-new c.in_ok-context.context 0 7 c.in_ok-space.space c.create.new.space c.in_ok-space.ensures.regions c.in_ok-context.ensures.account c.in_ok-context.ensures.moves total

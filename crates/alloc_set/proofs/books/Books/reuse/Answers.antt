@@ -8,7 +8,7 @@ use Rattle.alloc_set.specs.State.{chunk_at, link_bytes, live_size}
 use Rattle.alloc_set.specs.Kept.{state_of, shelf_at, is_free, taken_bytes, IsShelved}
 use Rattle.alloc_set.specs.declared.books.Books.{Books}
 use Rattle.alloc_set.specs.declared.chunk.Chunk.{Chunk}
-use Rattle.free_list.specs.declared.shelves.Shelf.{Shelf}
+use Rattle.chunk_header.specs.declared.shelves.Shelf.{Shelf}
 use Rattle.alloc_set.specs.declared.chunk.Chunk.TheVariants.{Live, Free}
 use Rattle.alloc_set.proofs.Settled.{mark_from_link}
 use Rattle.alloc_set.proofs.Counted.{IsCounted-chunks, SameBlocks-chunks}

@@ -9,7 +9,7 @@ use Rattle.alloc_set.specs.Steps.{PutsChunk}
 use Rattle.alloc_set.specs.declared.books.Books.{Books}
 use Rattle.alloc_set.specs.declared.chunk.Chunk.{Chunk}
 use Rattle.alloc_set.specs.declared.chunk.Chunk.TheVariants.{Live, Free}
-use Rattle.free_list.specs.declared.shelves.Shelf.{Shelf}
+use Rattle.chunk_header.specs.declared.shelves.Shelf.{Shelf}
 use Rattle.alloc_set.proofs.Altered.{put_cases}
 use Rattle.alloc_set.proofs.Counted.{IsCounted-chunks, SameBlocks-chunks}
 use Rattle.alloc_set.proofs.Flipped.{IsSettled-flipped, wrote-flipped}

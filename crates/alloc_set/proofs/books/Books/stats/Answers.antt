@@ -3,7 +3,7 @@ use Rattle.std.proofs.lemmas.List.{drop_more, drop_all, length-map}
 use Rattle.std.proofs.lemmas.List.Sums.{sum_by-cons}
 use Rattle.alloc_set.specs.Ledger.{class_size, class_bytes, free_bytes, stats}
 use Rattle.alloc_set.specs.Kept.{state_of, IsKept, shelf_at}
-use Rattle.free_list.specs.declared.shelves.Shelf.{Shelf}
+use Rattle.chunk_header.specs.declared.shelves.Shelf.{Shelf}
 use Rattle.alloc_set.specs.declared.books.Books.{Books}
 use Rattle.alloc_set.proofs.Shelved.{count_is, count-few, bytes_of}
 use Rattle.alloc_set.proofs.books.Books.stats.Goals as goal

@@ -6,7 +6,7 @@ use Rattle.ctx_blocks.specs.declared.parts.Block.{Block}
 use Rattle.ctx_blocks.specs.declared.books.Books.{Books}
 use Rattle.ctx_blocks.proofs.New.{IsKept-new, Moves-new, Moves-bare}
 use Rattle.ctx_blocks.proofs.books.Books.create.Goals as goal
-use Rattle.ctx_blocks.proofs.books.Books.create.Goals.{then-size-ge240, else-size-ge240}
+use Rattle.ctx_blocks.proofs.books.Books.create.Goals.{then-size-ge-KEEPER_HEADERS, else-size-ge-KEEPER_HEADERS}
 
 pub returns : goal.returns
 returns c =
@@ -40,16 +40,16 @@ returns c =
       last = refl;
       blocks = ap in_order one ∙ grind (arith, c.saturating_sub.ensures);
       chunks = c.none.ensures;
-      moves = elim c.if-size-ge240.branch [
-        | then-size-ge240 w ↦
+      moves = elim c.if-size-ge-KEEPER_HEADERS.branch [
+        | then-size-ge-KEEPER_HEADERS w ↦
             let wrote = rw w.block_header.ensures at w.write.ensures.changes in
-            rw w.space-is (Moves-new l block (ap in_order one) c.none.ensures filled c.args.space.now c.take.new.self c.requires.account c.in_ok-at.ensures.fresh c.in_ok-at.ensures.changes c.in_ok-at.ensures.held w.write.new.self w.if-size-ge240.true wrote)
-        | else-size-ge240 w ↦
-            rw w.space-is (Moves-bare l block (ap in_order one) c.none.ensures filled c.args.space.now c.take.new.self c.requires.account c.in_ok-at.ensures.fresh c.in_ok-at.ensures.changes c.in_ok-at.ensures.held w.if-size-ge240.false)
+            rw w.space-is (Moves-new l block (ap in_order one) c.none.ensures filled c.args.space.now c.take.new.self c.requires.account c.in_ok-at.ensures.fresh c.in_ok-at.ensures.changes c.in_ok-at.ensures.held w.write.new.self w.if-size-ge-KEEPER_HEADERS.true wrote)
+        | else-size-ge-KEEPER_HEADERS w ↦
+            rw w.space-is (Moves-bare l block (ap in_order one) c.none.ensures filled c.args.space.now c.take.new.self c.requires.account c.in_ok-at.ensures.fresh c.in_ok-at.ensures.changes c.in_ok-at.ensures.held w.if-size-ge-KEEPER_HEADERS.false)
       ];
-      asked = elim c.if-size-ge240.branch [
-        | then-size-ge240 w ↦ rw w.space-is (w.write.ensures.taken ∙ c.in_ok-at.ensures.taken)
-        | else-size-ge240 w ↦ rw w.space-is c.in_ok-at.ensures.taken
+      asked = elim c.if-size-ge-KEEPER_HEADERS.branch [
+        | then-size-ge-KEEPER_HEADERS w ↦ rw w.space-is (w.write.ensures.taken ∙ c.in_ok-at.ensures.taken)
+        | else-size-ge-KEEPER_HEADERS w ↦ rw w.space-is c.in_ok-at.ensures.taken
       ];
       no_space = search rules;
       no_other = tt;

@@ -6,8 +6,8 @@ use Rattle.addr_space.proofs.Written.{HasBytes-written}
 use Rattle.addr_space.proofs.Carried.{IsInside-live}
 use Rattle.alloc_set.specs.State.{footprint}
 use Rattle.chunk_header.proofs.Put.{put-here}
-use Rattle.set_trials.proofs.tests.written.Goals as goal
-use Rattle.set_trials.proofs.tests.written.Goals.{After-write}
+use Rattle.memory_trials.proofs.sets.written.Goals as goal
+use Rattle.memory_trials.proofs.sets.written.Goals.{After-write}
 
 -- one context behind another
 record Both (f g : Footprint) (s : Space) : Type 0 where

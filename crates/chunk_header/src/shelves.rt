@@ -1,7 +1,8 @@
 //! The free chunks of an AllocSet, by their class.
 ghost use Rattle.std.specs.Prelude.{◌≡◌, ◌≤◌, replicate, slice_index_or, slice_set};
-ghost use Rattle.free_list.specs.Shelves.{no_shelf};
+ghost use Rattle.chunk_header.specs.Shelves.{no_shelf};
 
+use crate::{CLASSES, LAST_CLASS};
 use addr_space::Addr;
 use std::marker::Model;
 
@@ -20,51 +21,52 @@ const EMPTY: Shelf = Shelf {
 
 /// The free chunks of an AllocSet by class: PostgreSQL's `freelist`.
 ///
-/// Contracts see the list of the eleven shelves.
+/// Contracts see the list of the shelves, one of each class.
 #[derive(Drop)]
 pub struct Shelves {
-    each: [Shelf; 11],
+    each: [Shelf; CLASSES],
     // Whether a shelf was set since all of them were empty.
     used: bool,
 }
 
 impl Model for Shelves {
     ghost use Rattle.std.specs.Prelude.{◌≡◌, List, false, replicate};
-    ghost use Rattle.free_list.specs.declared.shelves.Shelf.{Shelf};
-    ghost use Rattle.free_list.specs.Shelves.{no_shelf};
+    ghost use Rattle.chunk_header.specs.declared.shelves.Shelf.{Shelf};
+    ghost use Rattle.chunk_header.specs.declared.TheConstants.{CLASSES};
+    ghost use Rattle.chunk_header.specs.Shelves.{no_shelf};
 
     ghost Value = { List Shelf };
 
     ghost view = { λ s. s.each };
 
-    ghost invariant = { λ s. s.used ≡ false → s.each ≡ replicate 11 no_shelf };
+    ghost invariant = { λ s. s.used ≡ false → s.each ≡ replicate CLASSES no_shelf };
 }
 
 impl Shelves {
-    /// Eleven shelves without chunks.
+    /// Shelves without chunks.
     #[inline]
     pub fn none() -> Shelves
-        ensures { result ≡ replicate 11 no_shelf }
+        ensures { result ≡ replicate CLASSES no_shelf }
     {
         Shelves {
-            each: [EMPTY; 11],
+            each: [EMPTY; CLASSES],
             used: false,
         }
     }
 
-    /// The shelf of a class, 0 to 10.
+    /// The shelf of a class.
     #[inline]
     pub fn at(&self, class: u8) -> Shelf
-        requires { class ≤ 10 }
+        requires { class ≤ LAST_CLASS }
         ensures { result ≡ slice_index_or self.now class no_shelf }
     {
         self.each[class as usize]
     }
 
-    /// Puts a shelf in the place of that of a class, 0 to 10.
+    /// Puts a shelf in the place of that of a class.
     #[inline]
     pub fn set(&mut self, class: u8, shelf: Shelf)
-        requires { class ≤ 10 }
+        requires { class ≤ LAST_CLASS }
         ensures { self.new ≡ slice_set self.old class shelf }
     {
         self.each[class as usize] = shelf;
@@ -74,10 +76,10 @@ impl Shelves {
     /// Takes all chunks off all shelves. Where none was set since they were empty, nothing is written.
     #[inline]
     pub fn clear(&mut self)
-        ensures { self.new ≡ replicate 11 no_shelf }
+        ensures { self.new ≡ replicate CLASSES no_shelf }
     {
         if self.used {
-            self.each = [EMPTY; 11];
+            self.each = [EMPTY; CLASSES];
             self.used = false;
         }
     }

@@ -2,7 +2,7 @@ use Rattle.std.proofs.Common.{arith}
 use Rattle.std.proofs.lemmas.Bool.Decides.{nat_tests}
 use Rattle.alloc_set.specs.State.{footprint}
 use Rattle.addr_space.proofs.Carried.{IsInside-live}
-use Rattle.set_trials.proofs.tests.a_moved_chunk_keeps_its_bytes.Goals as goal
+use Rattle.memory_trials.proofs.sets.a_moved_chunk_keeps_its_bytes.Goals as goal
 
 pub read-requires-clause-inside : goal.read-requires-clause-inside
 read-requires-clause-inside g c =

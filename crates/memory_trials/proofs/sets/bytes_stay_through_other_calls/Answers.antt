@@ -1,7 +1,7 @@
 use Rattle.std.proofs.Common.{arith}
 use Rattle.alloc_set.specs.State.{footprint}
 use Rattle.addr_space.proofs.Carried.{IsInside-live}
-use Rattle.set_trials.proofs.tests.bytes_stay_through_other_calls.Goals as goal
+use Rattle.memory_trials.proofs.sets.bytes_stay_through_other_calls.Goals as goal
 
 pub read-requires-clause-inside : goal.read-requires-clause-inside
 read-requires-clause-inside g c =

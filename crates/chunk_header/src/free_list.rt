@@ -1,11 +1,6 @@
-//! What is kept for the next that need it: the boxes of contexts, and the free chunks of one by class.
-#![tactic(auto)]
-
+//! The boxes that contexts have left for the next ones.
 ghost use Rattle.std.specs.Prelude.{◌≡◌, ◌⊎◌, ◌≤◌, ◌++◌, [], ◌∷◌, length, option_to_list, IsSome, IsNone, ◌↔◌};
 
-mod shelves;
-
-pub use shelves::{Shelf, Shelves};
 use std::alloc::Global;
 use std::marker::Model;
 

@@ -6,8 +6,8 @@ use Rattle.alloc_set.specs.Ledger.{SetLedger, SetPlace, Own, created, chunk_limi
 use Rattle.alloc_set.specs.State.{place_at}
 use Rattle.alloc_set.proofs.Taken.{take-own, take_own-is}
 use Rattle.chunk_header.proofs.Put.{put-here}
-use Rattle.set_trials.proofs.tests.own_block.Goals as goal
-use Rattle.set_trials.proofs.tests.own_block.Goals.{In_ok-at, In_ok-free}
+use Rattle.memory_trials.proofs.sets.own_block.Goals as goal
+use Rattle.memory_trials.proofs.sets.own_block.Goals.{In_ok-at, In_ok-free}
 
 -- the ledger's answer, whatever is left
 answer_is : (left : ℕ) (answer : Taken SetLedger SetPlace) → take (created 1024 8192) left 2048 ≡ Ok answer → answer ≡ of_own (created 1024 8192) 2096

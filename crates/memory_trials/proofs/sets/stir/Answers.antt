@@ -6,8 +6,8 @@ use Rattle.addr_space.proofs.Apart.{Agrees-other, Keeps-other, AreDisjoint-other
 use Rattle.alloc_set.specs.State.{SetState, footprint}
 use Rattle.addr_space.specs.Live.{PutsLive}
 use Rattle.addr_space.proofs.Addresses.{put_at-cases}
-use Rattle.set_trials.proofs.tests.stir.Goals as goal
-use Rattle.set_trials.proofs.tests.stir.Goals.{After-free}
+use Rattle.memory_trials.proofs.sets.stir.Goals as goal
+use Rattle.memory_trials.proofs.sets.stir.Goals.{After-free}
 
 -- a chunk of 8 known bytes is live, and another context is apart
 record Stands (f g : Footprint) (s : Space) (at : Addr) : Type 0 where

@@ -1,9 +1,11 @@
+//! What AllocSet contexts answer, and what they report.
 ghost use Rattle.std.specs.Prelude.{◌≡◌, ◌≤◌, ◌<◌, ◌%◌, Some, OnOk, IfOk};
 ghost use Rattle.addr_space.specs.declared.Addr.{Addr};
 ghost use Rattle.addr_space.specs.Space.{IsKnown, Asks, accounts};
 ghost use Rattle.addr_space.specs.Footprint.{Agrees, AreDisjoint};
 ghost use Rattle.alloc_set.specs.State.{footprint};
 ghost use Rattle.alloc_set.specs.Ledger.{created};
+ghost use Rattle.chunk_header.specs.declared.TheConstants.{LEAST_BLOCK, LARGEST_BLOCK};
 
 use addr_space::{Addr, Space};
 use alloc_set::{AllocSet, SetBoxes};
@@ -74,9 +76,9 @@ fn small_sizes(rt: HostRuntime) -> Result<(), Fail> {
 // What a context says after a request, after its chunk was freed, and after a second request and a reset; and
 // what its account holds once it is discarded.
 fn course(alloc: Global, sizes: Sizes, size: u64) -> Result<([Stats; 3], u64), Fail>
-    requires least { 1024 ≤ sizes.init }
+    requires least { LEAST_BLOCK ≤ sizes.init }
     requires order { sizes.init ≤ sizes.max }
-    requires most { sizes.max ≤ 8388608 }
+    requires most { sizes.max ≤ LARGEST_BLOCK }
     requires whole_init { sizes.init % 8 ≡ 0 }
     requires whole_max { sizes.max % 8 ≡ 0 }
 {

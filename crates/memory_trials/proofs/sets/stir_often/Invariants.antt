@@ -2,7 +2,7 @@ use Rattle.std.proofs.Common.{◌≡◌, Some}
 use Rattle.addr_space.specs.Space.{IsKnown}
 use Rattle.addr_space.specs.Footprint.{Agrees, AreDisjoint}
 use Rattle.alloc_set.specs.State.{footprint}
-use Rattle.set_trials.proofs.tests.stir_often.Given as goal
+use Rattle.memory_trials.proofs.sets.stir_often.Given as goal
 
 abbrev pub invariant-loop-turn : goal.invariant-loop-turn
 invariant-loop-turn l = record {

@@ -1,2 +1,0 @@
--- What contracts cite: a shelf without chunks.
-pub mod Shelves

@@ -1,6 +1,0 @@
-use Rattle.addr_space.specs.Footprint.{Agrees}
-use Rattle.any_ctx.specs.Contexts.{footprint}
-use Rattle.memory_bench.proofs.Plan.pairs.Given as goal
-
-abbrev pub invariant-loop : goal.invariant-loop
-invariant-loop l = Agrees (footprint l.context) l.space
