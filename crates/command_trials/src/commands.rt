@@ -1,5 +1,9 @@
 //! Each line of the table once, and lines that are nearly one.
-use pgs_command::{BadLine, Command, ContextKind, HexBytes, Line, ReferenceClass, parse_line};
+use pgs_command::{
+    BadLine, ChunkCommand, Command, ContextCommand, ContextKind, HexBytes, ItemCommand, Line,
+    LockCommand, PlanCommand, PortalCommand, ReferenceClass, SnapshotCommand, TellCommand,
+    TransactionCommand, Work, parse_line,
+};
 use pgs_step::{ChunkBytes, Mode, Name};
 use std::process::Abort;
 
@@ -14,7 +18,7 @@ fn bytes<'a>(rt: &impl Abort, digits: &'a [u8]) -> HexBytes<'a> {
 /// The bytes that a line writes.
 fn written(line: &[u8]) -> Option<ChunkBytes> {
     match command(line) {
-        Some(Command::Put { bytes, .. }) => Some(bytes.decoded()),
+        Some(Command::Work(Work::Chunks(ChunkCommand::Put { bytes, .. }))) => Some(bytes.decoded()),
         _ => None,
     }
 }
@@ -40,15 +44,35 @@ fn transactions_are_read(rt: HostRuntime) {
     let s_1 = name(&rt, b"s_1");
     let upper = name(&rt, b"S");
     let s = name(&rt, b"s");
-    assert!(rt; is_read(b"begin", Command::Begin));
-    assert!(rt; is_read(b"commit", Command::Commit));
-    assert!(rt; is_read(b"rollback", Command::Rollback));
-    assert!(rt; is_read(b"savepoint s_1", Command::Savepoint(s_1)));
-    assert!(rt; is_read(b"release S", Command::Release(upper)));
-    assert!(rt; is_read(b"rollback to s", Command::RollbackTo(s)));
-    assert!(rt; is_read(b"raise", Command::Raise));
-    assert!(rt; is_read(b"report", Command::Report));
-    assert!(rt; is_read(b"stat", Command::Stat));
+    assert!(rt; is_read(b"begin", Command::Transaction(TransactionCommand::Begin)));
+    assert!(rt; is_read(b"commit", Command::Transaction(TransactionCommand::Commit)));
+    assert!(rt;
+        is_read(
+            b"rollback",
+            Command::Transaction(TransactionCommand::Rollback)
+        )
+    );
+    assert!(rt;
+        is_read(
+            b"savepoint s_1",
+            Command::Transaction(TransactionCommand::Savepoint(s_1))
+        )
+    );
+    assert!(rt;
+        is_read(
+            b"release S",
+            Command::Transaction(TransactionCommand::Release(upper))
+        )
+    );
+    assert!(rt;
+        is_read(
+            b"rollback to s",
+            Command::Transaction(TransactionCommand::RollbackTo(s))
+        )
+    );
+    assert!(rt; is_read(b"raise", Command::Work(Work::Raise)));
+    assert!(rt; is_read(b"report", Command::Work(Work::Tells(TellCommand::Report))));
+    assert!(rt; is_read(b"stat", Command::Work(Work::Tells(TellCommand::Stat))));
 }
 
 #[test]
@@ -59,60 +83,95 @@ fn contexts_are_read(rt: HostRuntime) {
     assert!(rt;
         is_read(
             b"context w CurTransactionContext default",
-            Command::Context {
+            Command::Work(Work::Contexts(ContextCommand::Create {
                 name: w,
                 parent: current,
                 kind: ContextKind::Default,
-            }
+            }))
         )
     );
     assert!(rt;
         is_read(
             b"context w p small",
-            Command::Context {
+            Command::Work(Work::Contexts(ContextCommand::Create {
                 name: w,
                 parent: p,
                 kind: ContextKind::Small,
-            }
+            }))
         )
     );
     assert!(rt;
         is_read(
             b"context w p slab 1024",
-            Command::Context {
+            Command::Work(Work::Contexts(ContextCommand::Create {
                 name: w,
                 parent: p,
                 kind: ContextKind::Slab(1024),
-            }
+            }))
         )
     );
     assert!(rt;
         is_read(
             b"context w p generation",
-            Command::Context {
+            Command::Work(Work::Contexts(ContextCommand::Create {
                 name: w,
                 parent: p,
                 kind: ContextKind::Generation,
-            }
+            }))
         )
     );
     assert!(rt;
         is_read(
             b"context w p bump",
-            Command::Context {
+            Command::Work(Work::Contexts(ContextCommand::Create {
                 name: w,
                 parent: p,
                 kind: ContextKind::Bump,
-            }
+            }))
         )
     );
-    assert!(rt; is_read(b"switch w", Command::Switch(w)));
-    assert!(rt; is_read(b"onreset w", Command::OnReset(w)));
-    assert!(rt; is_read(b"reset w", Command::Reset(w)));
-    assert!(rt; is_read(b"resetonly w", Command::ResetOnly(w)));
-    assert!(rt; is_read(b"delete w", Command::Delete(w)));
-    assert!(rt; is_read(b"deletechildren w", Command::DeleteChildren(w)));
-    assert!(rt; is_read(b"reparent w p", Command::Reparent { name: w, parent: p }));
+    assert!(rt;
+        is_read(
+            b"switch w",
+            Command::Work(Work::Contexts(ContextCommand::Switch(w)))
+        )
+    );
+    assert!(rt;
+        is_read(
+            b"onreset w",
+            Command::Work(Work::Contexts(ContextCommand::OnReset(w)))
+        )
+    );
+    assert!(rt;
+        is_read(
+            b"reset w",
+            Command::Work(Work::Contexts(ContextCommand::Reset(w)))
+        )
+    );
+    assert!(rt;
+        is_read(
+            b"resetonly w",
+            Command::Work(Work::Contexts(ContextCommand::ResetOnly(w)))
+        )
+    );
+    assert!(rt;
+        is_read(
+            b"delete w",
+            Command::Work(Work::Contexts(ContextCommand::Delete(w)))
+        )
+    );
+    assert!(rt;
+        is_read(
+            b"deletechildren w",
+            Command::Work(Work::Contexts(ContextCommand::DeleteChildren(w)))
+        )
+    );
+    assert!(rt;
+        is_read(
+            b"reparent w p",
+            Command::Work(Work::Contexts(ContextCommand::Reparent { name: w, parent: p }))
+        )
+    );
 }
 
 #[test]
@@ -121,42 +180,52 @@ fn chunks_are_read(rt: HostRuntime) {
     assert!(rt;
         is_read(
             b"alloc a 100",
-            Command::Alloc {
+            Command::Work(Work::Chunks(ChunkCommand::Alloc {
                 chunk: a,
                 size: 100,
-            }
+            }))
         )
     );
-    assert!(rt; is_read(b"alloc0 a 0", Command::AllocZeroed { chunk: a, size: 0 }));
+    assert!(rt;
+        is_read(
+            b"alloc0 a 0",
+            Command::Work(Work::Chunks(ChunkCommand::AllocZeroed { chunk: a, size: 0 }))
+        )
+    );
     assert!(rt;
         is_read(
             b"realloc a 4294967295",
-            Command::Realloc {
+            Command::Work(Work::Chunks(ChunkCommand::Realloc {
                 chunk: a,
                 size: 4294967295,
-            }
+            }))
         )
     );
-    assert!(rt; is_read(b"free a", Command::Free(a)));
+    assert!(rt;
+        is_read(
+            b"free a",
+            Command::Work(Work::Chunks(ChunkCommand::Free(a)))
+        )
+    );
     assert!(rt;
         is_read(
             b"put a 10 0aFF",
-            Command::Put {
+            Command::Work(Work::Chunks(ChunkCommand::Put {
                 chunk: a,
                 at: 10,
                 bytes: bytes(&rt, b"0aFF"),
-            }
+            }))
         )
     );
     assert_eq!(rt; written(b"put a 10 0aFF"), ChunkBytes::new(&[10, 255]));
     assert!(rt;
         is_read(
             b"show a 0 128",
-            Command::Show {
+            Command::Work(Work::Chunks(ChunkCommand::Show {
                 chunk: a,
                 at: 0,
                 length: 128,
-            }
+            }))
         )
     );
 }
@@ -164,113 +233,183 @@ fn chunks_are_read(rt: HostRuntime) {
 #[test]
 fn resources_are_read(rt: HostRuntime) {
     let conn = name(&rt, b"conn");
-    assert!(rt; is_read(b"pin 7", Command::Pin(7)));
-    assert!(rt; is_read(b"unpin 2000", Command::Unpin(2000)));
-    assert!(rt; is_read(b"buffer 7", Command::Buffer(7)));
-    assert!(rt; is_read(b"open 3", Command::Open(3)));
-    assert!(rt; is_read(b"touch 3", Command::Touch(3)));
-    assert!(rt; is_read(b"close 3", Command::Close(3)));
+    assert!(rt; is_read(b"pin 7", Command::Work(Work::Items(ItemCommand::Pin(7)))));
+    assert!(rt;
+        is_read(
+            b"unpin 2000",
+            Command::Work(Work::Items(ItemCommand::Unpin(2000)))
+        )
+    );
+    assert!(rt;
+        is_read(
+            b"buffer 7",
+            Command::Work(Work::Tells(TellCommand::Buffer(7)))
+        )
+    );
+    assert!(rt; is_read(b"open 3", Command::Work(Work::Items(ItemCommand::Open(3)))));
+    assert!(rt;
+        is_read(
+            b"touch 3",
+            Command::Work(Work::Items(ItemCommand::Touch(3)))
+        )
+    );
+    assert!(rt;
+        is_read(
+            b"close 3",
+            Command::Work(Work::Items(ItemCommand::Close(3)))
+        )
+    );
     assert!(rt;
         is_read(
             b"lock 5 AccessShareLock",
-            Command::Lock {
+            Command::Work(Work::Locks(LockCommand::Lock {
                 object: 5,
                 mode: Mode::AccessShareLock,
-            }
+            }))
         )
     );
     assert!(rt;
         is_read(
             b"unlock 5 AccessExclusiveLock",
-            Command::Unlock {
+            Command::Work(Work::Locks(LockCommand::Unlock {
                 object: 5,
                 mode: Mode::AccessExclusiveLock,
-            }
+            }))
         )
     );
     assert!(rt;
         is_read(
             b"ref relcache 9",
-            Command::Reference {
+            Command::Work(Work::Items(ItemCommand::Reference {
                 class: ReferenceClass::Relcache,
                 key: 9,
-            }
+            }))
         )
     );
     assert!(rt;
         is_read(
             b"unref catcache 9",
-            Command::Unreference {
+            Command::Work(Work::Items(ItemCommand::Unreference {
                 class: ReferenceClass::Catcache,
                 key: 9,
-            }
+            }))
         )
     );
     assert!(rt;
         is_read(
             b"ref catlist 9",
-            Command::Reference {
+            Command::Work(Work::Items(ItemCommand::Reference {
                 class: ReferenceClass::CatcacheList,
                 key: 9,
-            }
+            }))
         )
     );
     assert!(rt;
         is_read(
             b"ref tupdesc 9",
-            Command::Reference {
+            Command::Work(Work::Items(ItemCommand::Reference {
                 class: ReferenceClass::TupleDescriptor,
                 key: 9,
-            }
+            }))
         )
     );
-    assert!(rt; is_read(b"acquire conn 4", Command::Acquire { kind: conn, key: 4 }));
-    assert!(rt; is_read(b"drop conn 4", Command::Drop { kind: conn, key: 4 }));
+    assert!(rt;
+        is_read(
+            b"acquire conn 4",
+            Command::Work(Work::Items(ItemCommand::Acquire { kind: conn, key: 4 }))
+        )
+    );
+    assert!(rt;
+        is_read(
+            b"drop conn 4",
+            Command::Work(Work::Items(ItemCommand::Drop { kind: conn, key: 4 }))
+        )
+    );
 }
 
 #[test]
 fn snapshots_plans_and_portals_are_read(rt: HostRuntime) {
     let p = name(&rt, b"p");
-    assert!(rt; is_read(b"snapshot 4", Command::Snapshot(4)));
-    assert!(rt; is_read(b"unsnapshot 4", Command::Unsnapshot(4)));
-    assert!(rt; is_read(b"push 4", Command::Push(4)));
-    assert!(rt; is_read(b"pop", Command::Pop));
-    assert!(rt; is_read(b"plan 4", Command::Plan(4)));
-    assert!(rt; is_read(b"planref 4", Command::PlanReference(4)));
-    assert!(rt; is_read(b"planunref 4", Command::PlanUnreference(4)));
-    assert!(rt; is_read(b"plandrop 4", Command::PlanDrop(4)));
+    assert!(rt;
+        is_read(
+            b"snapshot 4",
+            Command::Work(Work::Items(ItemCommand::Snapshot(4)))
+        )
+    );
+    assert!(rt;
+        is_read(
+            b"unsnapshot 4",
+            Command::Work(Work::Items(ItemCommand::Unsnapshot(4)))
+        )
+    );
+    assert!(rt;
+        is_read(
+            b"push 4",
+            Command::Work(Work::Snapshots(SnapshotCommand::Push(4)))
+        )
+    );
+    assert!(rt; is_read(b"pop", Command::Work(Work::Snapshots(SnapshotCommand::Pop))));
+    assert!(rt;
+        is_read(
+            b"plan 4",
+            Command::Work(Work::Plans(PlanCommand::Create(4)))
+        )
+    );
+    assert!(rt;
+        is_read(
+            b"planref 4",
+            Command::Work(Work::Plans(PlanCommand::Reference(4)))
+        )
+    );
+    assert!(rt;
+        is_read(
+            b"planunref 4",
+            Command::Work(Work::Plans(PlanCommand::Unreference(4)))
+        )
+    );
+    assert!(rt;
+        is_read(
+            b"plandrop 4",
+            Command::Work(Work::Plans(PlanCommand::Drop(4)))
+        )
+    );
     assert!(rt;
         is_read(
             b"portal p 1000000 25",
-            Command::Portal {
+            Command::Work(Work::Portals(PortalCommand::Open {
                 name: p,
                 object: 1000000,
                 rows: 25,
                 bad: None,
-            }
+            }))
         )
     );
     assert!(rt;
         is_read(
             b"portal p 7 25 0",
-            Command::Portal {
+            Command::Work(Work::Portals(PortalCommand::Open {
                 name: p,
                 object: 7,
                 rows: 25,
                 bad: Some(0),
-            }
+            }))
         )
     );
     assert!(rt;
         is_read(
             b"fetch p 1000000",
-            Command::Fetch {
+            Command::Work(Work::Portals(PortalCommand::Fetch {
                 name: p,
                 count: 1000000,
-            }
+            }))
         )
     );
-    assert!(rt; is_read(b"endportal p", Command::EndPortal(p)));
+    assert!(rt;
+        is_read(
+            b"endportal p",
+            Command::Work(Work::Portals(PortalCommand::End(p)))
+        )
+    );
 }
 
 #[test]
@@ -401,7 +540,7 @@ fn a_prefix_names_the_session(rt: HostRuntime) {
         (b"@1 pin 7".as_slice(), 1),
         (b"@8 pin 7".as_slice(), 8),
     ] {
-        let command = Command::Pin(7);
+        let command = Command::Work(Work::Items(ItemCommand::Pin(7)));
         assert_eq!(rt; parse_line(line, false), Ok(Line { session, command }));
     }
 }
@@ -466,7 +605,7 @@ fn names_have_at_most_32_bytes(rt: HostRuntime) {
     line[..5].copy_from_slice(b"free ");
     assert_eq!(rt;
         command(&line[..37]),
-        Some(Command::Free(name(&rt, &[b'n'; 32])))
+        Some(Command::Work(Work::Chunks(ChunkCommand::Free(name(&rt, &[b'n'; 32])))))
     );
     assert_eq!(rt; command(&line), None);
 }
@@ -475,11 +614,11 @@ fn names_have_at_most_32_bytes(rt: HostRuntime) {
 fn lines_write_at_most_128_bytes(rt: HostRuntime) {
     let mut line = [b'e'; 266];
     line[..8].copy_from_slice(b"put a 9 ");
-    let put = Command::Put {
+    let put = Command::Work(Work::Chunks(ChunkCommand::Put {
         chunk: name(&rt, b"a"),
         at: 9,
         bytes: bytes(&rt, &[b'E'; 256]),
-    };
+    }));
     assert_eq!(rt; command(&line[..264]), Some(put));
     assert_eq!(rt; written(&line[..264]), ChunkBytes::new(&[0xee; 128]));
     assert_eq!(rt; command(&line[..265]), None);

@@ -1,13 +1,14 @@
-//! Worked examples on the lines of scripts, on sources, sinks and options, on the lines of a report on contexts, and on reserved names.
+//! Worked examples on the lines of scripts, on the texts of events, on names and modes, on sources and sinks, on the lines of a report on
+//! contexts, and on reserved names.
 #![tactic(auto)]
 
 #[cfg(test)]
 mod commands;
-#[cfg(test)]
-mod options;
 #[cfg(test)]
 mod report_lines;
 #[cfg(test)]
 mod reserved_names;
 #[cfg(test)]
 mod streams;
+#[cfg(test)]
+mod texts;

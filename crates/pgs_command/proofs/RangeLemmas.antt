@@ -12,12 +12,15 @@ use Rattle.hex.specs.declared.error.FromHexError.{FromHexError}
 use Rattle.hex.specs.declared.error.FromHexError.TheVariants.{OddLength}
 use Rattle.pgs_command.specs.Words.{is_text, alone, next, only, pair, behind}
 use Rattle.pgs_command.specs.Values.{name_of, number_of, number_between, bytes_of, length_of, count_of, turns_of, kind_of, plain_kind}
-use Rattle.pgs_command.specs.Table.{Reading, Row, none, one, two, three, with_kind, portal, portal_with_bad, transaction_rows, context_rows, chunk_rows, resource_rows, query_rows, table, look_up, command_of}
+use Rattle.pgs_command.specs.Table.{Reading, Row, none, one, two, three, with_kind, portal_without_bad, portal_with_bad, transaction_rows, item_rows, lock_rows, snapshot_rows, plan_rows, portal_rows, context_rows, chunk_rows, tell_rows, on_chunks, on_contexts, on_portals, on_transactions, table, look_up, command_of}
 use Rattle.pgs_command.specs.Ranges.{IsBetween, IsKindInRange, IsInRange}
 use Rattle.pgs_command.specs.declared.kinds.ContextKind.{ContextKind}
 use Rattle.pgs_command.specs.declared.kinds.ContextKind.TheVariants.{Default, Small, Slab, Generation, Bump}
 use Rattle.pgs_command.specs.declared.commands.Command.{Command}
-use Rattle.pgs_command.specs.declared.commands.Command.TheVariants.{RollbackTo, Context, Put, Show, Portal, Fetch}
+use Rattle.pgs_command.specs.declared.commands.TransactionCommand.TheVariants.{RollbackTo}
+use Rattle.pgs_command.specs.declared.commands.ContextCommand.TheVariants.{Create}
+use Rattle.pgs_command.specs.declared.commands.ChunkCommand.TheVariants.{Put, Show}
+use Rattle.pgs_command.specs.declared.commands.PortalCommand.TheVariants.{Open, Fetch}
 
 -- ---- values
 
@@ -157,9 +160,9 @@ AllKeep-append (r ∷ a) b h k = (h.0, AllKeep-append a b h.1 k)
 
 -- ---- the table
 
-rollback_to-keeps : Keeps (behind (codes "to") (one name_of RollbackTo))
+rollback_to-keeps : Keeps (behind (codes "to") (one name_of (λ name. on_transactions (RollbackTo name))))
 rollback_to-keeps [] = tt
-rollback_to-keeps (word ∷ words) = gate IsInRange (is_text word (codes "to")) (one name_of RollbackTo words) (λ _. one-keeps name_of RollbackTo (λ _. tt) words)
+rollback_to-keeps (word ∷ words) = gate IsInRange (is_text word (codes "to")) (one name_of (λ name. on_transactions (RollbackTo name)) words) (λ _. one-keeps name_of (λ name. on_transactions (RollbackTo name)) (λ _. tt) words)
 
 plain : (a b c d : Bool) → IfSome (cond a (Some Default) (cond b (Some Small) (cond c (Some Generation) (cond d (Some Bump) None)))) IsKindInRange
 plain true b c d = tt
@@ -195,68 +198,91 @@ kind_in_range words =
 
 with_kind-keeps : Keeps with_kind
 with_kind-keeps =
-    next-keeps (λ _. ⊤) IsInRange name_of (λ name. next name_of (λ parent words. option_map (Context name parent) (kind_of words))) (λ word. anything (name_of word))
-    (λ name _. next-keeps (λ _. ⊤) IsInRange name_of (λ parent words. option_map (Context name parent) (kind_of words)) (λ word. anything (name_of word))
-    (λ parent _ words. mapped IsKindInRange (Context name parent) (kind_of words) (kind_in_range words) (λ kind h. h)))
+    next-keeps (λ _. ⊤) IsInRange name_of (λ name. next name_of (λ parent words. option_map (λ kind. on_contexts (Create name parent kind)) (kind_of words))) (λ word. anything (name_of word))
+    (λ name _. next-keeps (λ _. ⊤) IsInRange name_of (λ parent words. option_map (λ kind. on_contexts (Create name parent kind)) (kind_of words)) (λ word. anything (name_of word))
+    (λ parent _ words. mapped IsKindInRange (λ kind. on_contexts (Create name parent kind)) (kind_of words) (kind_in_range words) (λ kind h. h)))
 
-put-keeps : Keeps (three name_of number_of bytes_of Put)
+put-keeps : Keeps (three name_of number_of bytes_of (λ name at bytes. on_chunks (Put name at bytes)))
 put-keeps =
-    three-keeps (λ _. ⊤) (λ _. ⊤) (λ bytes. IsBetween 1 128 (length bytes)) name_of number_of bytes_of Put
+    three-keeps (λ _. ⊤) (λ _. ⊤) (λ bytes. IsBetween 1 128 (length bytes)) name_of number_of bytes_of (λ name at bytes. on_chunks (Put name at bytes))
     (λ word. anything (name_of word)) (λ word. anything (number_of word)) bytes_in_range (λ _ _ _ _ _ h. h)
 
-show-keeps : Keeps (three name_of number_of length_of Show)
+show-keeps : Keeps (three name_of number_of length_of (λ name at count. on_chunks (Show name at count)))
 show-keeps =
-    three-keeps (λ _. ⊤) (λ _. ⊤) (IsBetween 1 128) name_of number_of length_of Show
+    three-keeps (λ _. ⊤) (λ _. ⊤) (IsBetween 1 128) name_of number_of length_of (λ name at count. on_chunks (Show name at count))
     (λ word. anything (name_of word)) (λ word. anything (number_of word)) (number_in_range 1 128) (λ _ _ _ _ _ h. h)
 
 -- a number of OBJECT, ROWS and BAD
 abbrev IsCount : ℕ → Type 0
 IsCount n = IsBetween 0 1000000 n
 
-portal-keeps : Keeps portal
+portal-keeps : Keeps portal_without_bad
 portal-keeps =
-    three-keeps (λ _. ⊤) IsCount IsCount name_of count_of count_of (λ name object rows. Portal name object rows None)
+    three-keeps (λ _. ⊤) IsCount IsCount name_of count_of count_of (λ name object rows. on_portals (Open name object rows None))
     (λ word. anything (name_of word)) (number_in_range 0 1000000) (number_in_range 0 1000000) (λ _ _ _ _ h k. (h.1, k.1, tt))
 
 portal_with_bad-keeps : Keeps portal_with_bad
 portal_with_bad-keeps =
-    next-keeps (λ _. ⊤) IsInRange name_of (λ name. three count_of count_of count_of (λ object rows bad. Portal name object rows (Some bad))) (λ word. anything (name_of word))
-    (λ name _. three-keeps IsCount IsCount IsCount count_of count_of count_of (λ object rows bad. Portal name object rows (Some bad))
+    next-keeps (λ _. ⊤) IsInRange name_of (λ name. three count_of count_of count_of (λ object rows bad. on_portals (Open name object rows (Some bad)))) (λ word. anything (name_of word))
+    (λ name _. three-keeps IsCount IsCount IsCount count_of count_of count_of (λ object rows bad. on_portals (Open name object rows (Some bad)))
     (number_in_range 0 1000000) (number_in_range 0 1000000) (number_in_range 0 1000000) (λ _ _ _ h k l. (h.1, k.1, l.1)))
 
 -- the numbers of these rows take the whole range of their type
 two_free : {A B : Type 0} (read : List ℕ → Option A) (read' : List ℕ → Option B) (make : A → B → Command) → ((a : A) (b : B) → IsInRange (make a b)) → Keeps (two read read' make)
 two_free read read' make h = two-keeps (λ _. ⊤) read read' make (λ word. anything (read' word)) (λ a b _. h a b)
 
-fetch-keeps : Keeps (two name_of turns_of Fetch)
-fetch-keeps = two-keeps (IsBetween 1 1000000) name_of turns_of Fetch (number_in_range 1 1000000) (λ _ _ h. h)
+fetch-keeps : Keeps (two name_of turns_of (λ name count. on_portals (Fetch name count)))
+fetch-keeps = two-keeps (IsBetween 1 1000000) name_of turns_of (λ name count. on_portals (Fetch name count)) (number_in_range 1 1000000) (λ _ _ h. h)
 
 ruleset keeping = (none-keeps, one-keeps, two_free, rollback_to-keeps, with_kind-keeps, put-keeps, show-keeps, portal-keeps, portal_with_bad-keeps, fetch-keeps)
 
 transaction_rows-keep : AllKeep transaction_rows
+unfolding transaction_rows
 transaction_rows-keep = search keeping
 
+item_rows-keep : AllKeep item_rows
+unfolding item_rows
+item_rows-keep = search keeping
+
+lock_rows-keep : AllKeep lock_rows
+unfolding lock_rows
+lock_rows-keep = search keeping
+
+snapshot_rows-keep : AllKeep snapshot_rows
+unfolding snapshot_rows
+snapshot_rows-keep = search keeping
+
+plan_rows-keep : AllKeep plan_rows
+unfolding plan_rows
+plan_rows-keep = search keeping
+
+portal_rows-keep : AllKeep portal_rows
+unfolding portal_rows
+portal_rows-keep = search keeping
+
 context_rows-keep : AllKeep context_rows
+unfolding context_rows
 context_rows-keep = search keeping
 
 chunk_rows-keep : AllKeep chunk_rows
+unfolding chunk_rows
 chunk_rows-keep = search keeping
 
-resource_rows-keep : AllKeep resource_rows
-resource_rows-keep = search keeping
-
-query_rows-keep : AllKeep query_rows
-query_rows-keep = search keeping
+tell_rows-keep : AllKeep tell_rows
+unfolding tell_rows
+tell_rows-keep = search keeping
 
 table-keeps : AllKeep table
 table-keeps =
-    AllKeep-append (transaction_rows ++ context_rows ++ chunk_rows ++ resource_rows) query_rows
-    (AllKeep-append (transaction_rows ++ context_rows ++ chunk_rows) resource_rows
-    (AllKeep-append (transaction_rows ++ context_rows) chunk_rows
-    (AllKeep-append transaction_rows context_rows transaction_rows-keep context_rows-keep)
-    chunk_rows-keep)
-    resource_rows-keep)
-    query_rows-keep
+    AllKeep-append transaction_rows _ transaction_rows-keep
+    (AllKeep-append item_rows _ item_rows-keep
+    (AllKeep-append lock_rows _ lock_rows-keep
+    (AllKeep-append snapshot_rows _ snapshot_rows-keep
+    (AllKeep-append plan_rows _ plan_rows-keep
+    (AllKeep-append portal_rows _ portal_rows-keep
+    (AllKeep-append context_rows _ context_rows-keep
+    (AllKeep-append chunk_rows _ chunk_rows-keep
+    tell_rows-keep)))))))
 
 pub command_of-in_range : (words : List (List ℕ)) → IfSome (command_of words) IsInRange
 unfolding command_of

@@ -5,14 +5,24 @@ use Rattle.hex.proofs.OnLiterals.{hex_on_literals}
 use Rattle.pgs_step.specs.declared.lock_modes.Mode.TheVariants.{AccessShareLock, AccessExclusiveLock}
 use Rattle.pgs_command.specs.Words.{words_of}
 use Rattle.pgs_command.specs.Values.{name_of, number_between, bytes_of, class_of, mode_of, kind_of}
-use Rattle.pgs_command.specs.Table.{command_of}
+use Rattle.pgs_command.specs.Table.{transaction_rows, item_rows, lock_rows, snapshot_rows, plan_rows, portal_rows, context_rows, chunk_rows, tell_rows, command_of, on_chunks, on_contexts, on_items, on_locks, on_plans, on_portals, on_snapshots, on_transactions, tells}
 use Rattle.pgs_command.specs.Lines.{read_line}
 use Rattle.pgs_command.specs.declared.lines.Line.{Line}
 use Rattle.pgs_command.specs.declared.lines.BadLine.{BadLine}
 use Rattle.pgs_command.specs.declared.kinds.ContextKind.TheVariants.{Default, Small, Slab, Generation, Bump}
 use Rattle.pgs_command.specs.declared.kinds.ReferenceClass.TheVariants.{Relcache, Catcache, CatcacheList, TupleDescriptor}
 use Rattle.pgs_command.specs.declared.commands.Command.{Command}
-use Rattle.pgs_command.specs.declared.commands.Command.TheVariants.{Nothing, Begin, Commit, Rollback, Savepoint, Release, RollbackTo, Raise, Report, Stat, Context, Switch, OnReset, Reset, ResetOnly, Delete, DeleteChildren, Reparent, Alloc, AllocZeroed, Realloc, Free, Put, Show, Pin, Unpin, Buffer, Open, Touch, Close, Lock, Unlock, Reference, Unreference, Acquire, Drop, Snapshot, Unsnapshot, Push, Pop, Plan, PlanReference, PlanUnreference, PlanDrop, Portal, Fetch, EndPortal}
+use Rattle.pgs_command.specs.declared.commands.Command.TheVariants.{Nothing, Work}
+use Rattle.pgs_command.specs.declared.commands.Work.TheVariants.{Raise}
+use Rattle.pgs_command.specs.declared.commands.TransactionCommand.TheVariants as transaction
+use Rattle.pgs_command.specs.declared.commands.ContextCommand.TheVariants as context
+use Rattle.pgs_command.specs.declared.commands.ChunkCommand.TheVariants as chunk
+use Rattle.pgs_command.specs.declared.commands.ItemCommand.TheVariants as item
+use Rattle.pgs_command.specs.declared.commands.LockCommand.TheVariants as lock
+use Rattle.pgs_command.specs.declared.commands.SnapshotCommand.TheVariants as snapshot
+use Rattle.pgs_command.specs.declared.commands.PlanCommand.TheVariants as plan
+use Rattle.pgs_command.specs.declared.commands.PortalCommand.TheVariants as portal
+use Rattle.pgs_command.specs.declared.commands.TellCommand.TheVariants as tell
 
 abbrev says : ℕ → Command → Result Line BadLine
 says session command = Ok (record { session = session; command = command })
@@ -30,81 +40,81 @@ AreBad session lines = map read_line lines ≡ map (λ (line : List ℕ). is_bad
 -- ---- each row of the table
 
 pub transactions : SayTheSame (
-    (codes "begin", Begin)
-    ∷ (codes "commit", Commit)
-    ∷ (codes "rollback", Rollback)
-    ∷ (codes "savepoint s_1", Savepoint (codes "s_1"))
-    ∷ (codes "release S", Release (codes "S"))
-    ∷ (codes "rollback to s", RollbackTo (codes "s"))
-    ∷ (codes "raise", Raise)
-    ∷ (codes "report", Report)
-    ∷ (codes "stat", Stat)
+    (codes "begin", on_transactions transaction.Begin)
+    ∷ (codes "commit", on_transactions transaction.Commit)
+    ∷ (codes "rollback", on_transactions transaction.Rollback)
+    ∷ (codes "savepoint s_1", on_transactions (transaction.Savepoint (codes "s_1")))
+    ∷ (codes "release S", on_transactions (transaction.Release (codes "S")))
+    ∷ (codes "rollback to s", on_transactions (transaction.RollbackTo (codes "s")))
+    ∷ (codes "raise", Work Raise)
+    ∷ (codes "report", tells tell.Report)
+    ∷ (codes "stat", tells tell.Stat)
     ∷ [])
-unfolding read_line words_of command_of name_of number_between bytes_of class_of mode_of kind_of hex_on_literals digits
+unfolding read_line words_of command_of transaction_rows item_rows lock_rows snapshot_rows plan_rows portal_rows context_rows chunk_rows tell_rows name_of number_between bytes_of class_of mode_of kind_of hex_on_literals digits
 transactions = refl
 
 pub contexts : SayTheSame (
-    (codes "context w CurTransactionContext default", Context (codes "w") (codes "CurTransactionContext") Default)
-    ∷ (codes "context w p small", Context (codes "w") (codes "p") Small)
-    ∷ (codes "context w p slab 1024", Context (codes "w") (codes "p") (Slab 1024))
-    ∷ (codes "context w p generation", Context (codes "w") (codes "p") Generation)
-    ∷ (codes "context w p bump", Context (codes "w") (codes "p") Bump)
-    ∷ (codes "switch w", Switch (codes "w"))
-    ∷ (codes "onreset w", OnReset (codes "w"))
-    ∷ (codes "reset w", Reset (codes "w"))
-    ∷ (codes "resetonly w", ResetOnly (codes "w"))
-    ∷ (codes "delete w", Delete (codes "w"))
-    ∷ (codes "deletechildren w", DeleteChildren (codes "w"))
-    ∷ (codes "reparent w p", Reparent (codes "w") (codes "p"))
+    (codes "context w CurTransactionContext default", on_contexts (context.Create (codes "w") (codes "CurTransactionContext") Default))
+    ∷ (codes "context w p small", on_contexts (context.Create (codes "w") (codes "p") Small))
+    ∷ (codes "context w p slab 1024", on_contexts (context.Create (codes "w") (codes "p") (Slab 1024)))
+    ∷ (codes "context w p generation", on_contexts (context.Create (codes "w") (codes "p") Generation))
+    ∷ (codes "context w p bump", on_contexts (context.Create (codes "w") (codes "p") Bump))
+    ∷ (codes "switch w", on_contexts (context.Switch (codes "w")))
+    ∷ (codes "onreset w", on_contexts (context.OnReset (codes "w")))
+    ∷ (codes "reset w", on_contexts (context.Reset (codes "w")))
+    ∷ (codes "resetonly w", on_contexts (context.ResetOnly (codes "w")))
+    ∷ (codes "delete w", on_contexts (context.Delete (codes "w")))
+    ∷ (codes "deletechildren w", on_contexts (context.DeleteChildren (codes "w")))
+    ∷ (codes "reparent w p", on_contexts (context.Reparent (codes "w") (codes "p")))
     ∷ [])
-unfolding read_line words_of command_of name_of number_between bytes_of class_of mode_of kind_of hex_on_literals digits
+unfolding read_line words_of command_of transaction_rows item_rows lock_rows snapshot_rows plan_rows portal_rows context_rows chunk_rows tell_rows name_of number_between bytes_of class_of mode_of kind_of hex_on_literals digits
 contexts = refl
 
 pub chunks : SayTheSame (
-    (codes "alloc a 100", Alloc (codes "a") 100)
-    ∷ (codes "alloc0 a 0", AllocZeroed (codes "a") 0)
-    ∷ (codes "realloc a 4294967295", Realloc (codes "a") 4294967295)
-    ∷ (codes "free a", Free (codes "a"))
-    ∷ (codes "put a 10 0aFF", Put (codes "a") 10 (10 ∷ 255 ∷ []))
-    ∷ (codes "show a 0 128", Show (codes "a") 0 128)
+    (codes "alloc a 100", on_chunks (chunk.Alloc (codes "a") 100))
+    ∷ (codes "alloc0 a 0", on_chunks (chunk.AllocZeroed (codes "a") 0))
+    ∷ (codes "realloc a 4294967295", on_chunks (chunk.Realloc (codes "a") 4294967295))
+    ∷ (codes "free a", on_chunks (chunk.Free (codes "a")))
+    ∷ (codes "put a 10 0aFF", on_chunks (chunk.Put (codes "a") 10 (10 ∷ 255 ∷ [])))
+    ∷ (codes "show a 0 128", on_chunks (chunk.Show (codes "a") 0 128))
     ∷ [])
-unfolding read_line words_of command_of name_of number_between bytes_of class_of mode_of kind_of hex_on_literals digits
+unfolding read_line words_of command_of transaction_rows item_rows lock_rows snapshot_rows plan_rows portal_rows context_rows chunk_rows tell_rows name_of number_between bytes_of class_of mode_of kind_of hex_on_literals digits
 chunks = refl
 
 pub shared_resources : SayTheSame (
-    (codes "pin 7", Pin 7)
-    ∷ (codes "unpin 2000", Unpin 2000)
-    ∷ (codes "buffer 7", Buffer 7)
-    ∷ (codes "open 3", Open 3)
-    ∷ (codes "touch 3", Touch 3)
-    ∷ (codes "close 3", Close 3)
-    ∷ (codes "lock 5 AccessShareLock", Lock 5 AccessShareLock)
-    ∷ (codes "unlock 5 AccessExclusiveLock", Unlock 5 AccessExclusiveLock)
-    ∷ (codes "ref relcache 9", Reference Relcache 9)
-    ∷ (codes "unref catcache 9", Unreference Catcache 9)
-    ∷ (codes "ref catlist 9", Reference CatcacheList 9)
-    ∷ (codes "ref tupdesc 9", Reference TupleDescriptor 9)
-    ∷ (codes "acquire conn 4", Acquire (codes "conn") 4)
-    ∷ (codes "drop conn 4", Drop (codes "conn") 4)
+    (codes "pin 7", on_items (item.Pin 7))
+    ∷ (codes "unpin 2000", on_items (item.Unpin 2000))
+    ∷ (codes "buffer 7", tells (tell.Buffer 7))
+    ∷ (codes "open 3", on_items (item.Open 3))
+    ∷ (codes "touch 3", on_items (item.Touch 3))
+    ∷ (codes "close 3", on_items (item.Close 3))
+    ∷ (codes "lock 5 AccessShareLock", on_locks (lock.Lock 5 AccessShareLock))
+    ∷ (codes "unlock 5 AccessExclusiveLock", on_locks (lock.Unlock 5 AccessExclusiveLock))
+    ∷ (codes "ref relcache 9", on_items (item.Reference Relcache 9))
+    ∷ (codes "unref catcache 9", on_items (item.Unreference Catcache 9))
+    ∷ (codes "ref catlist 9", on_items (item.Reference CatcacheList 9))
+    ∷ (codes "ref tupdesc 9", on_items (item.Reference TupleDescriptor 9))
+    ∷ (codes "acquire conn 4", on_items (item.Acquire (codes "conn") 4))
+    ∷ (codes "drop conn 4", on_items (item.Drop (codes "conn") 4))
     ∷ [])
-unfolding read_line words_of command_of name_of number_between bytes_of class_of mode_of kind_of hex_on_literals digits
+unfolding read_line words_of command_of transaction_rows item_rows lock_rows snapshot_rows plan_rows portal_rows context_rows chunk_rows tell_rows name_of number_between bytes_of class_of mode_of kind_of hex_on_literals digits
 shared_resources = refl
 
 pub queries : SayTheSame (
-    (codes "snapshot 4", Snapshot 4)
-    ∷ (codes "unsnapshot 4", Unsnapshot 4)
-    ∷ (codes "push 4", Push 4)
-    ∷ (codes "pop", Pop)
-    ∷ (codes "plan 4", Plan 4)
-    ∷ (codes "planref 4", PlanReference 4)
-    ∷ (codes "planunref 4", PlanUnreference 4)
-    ∷ (codes "plandrop 4", PlanDrop 4)
-    ∷ (codes "portal p 1000000 25", Portal (codes "p") 1000000 25 None)
-    ∷ (codes "portal p 7 25 0", Portal (codes "p") 7 25 (Some 0))
-    ∷ (codes "fetch p 1000000", Fetch (codes "p") 1000000)
-    ∷ (codes "endportal p", EndPortal (codes "p"))
+    (codes "snapshot 4", on_items (item.Snapshot 4))
+    ∷ (codes "unsnapshot 4", on_items (item.Unsnapshot 4))
+    ∷ (codes "push 4", on_snapshots (snapshot.Push 4))
+    ∷ (codes "pop", on_snapshots snapshot.Pop)
+    ∷ (codes "plan 4", on_plans (plan.Create 4))
+    ∷ (codes "planref 4", on_plans (plan.Reference 4))
+    ∷ (codes "planunref 4", on_plans (plan.Unreference 4))
+    ∷ (codes "plandrop 4", on_plans (plan.Drop 4))
+    ∷ (codes "portal p 1000000 25", on_portals (portal.Open (codes "p") 1000000 25 None))
+    ∷ (codes "portal p 7 25 0", on_portals (portal.Open (codes "p") 7 25 (Some 0)))
+    ∷ (codes "fetch p 1000000", on_portals (portal.Fetch (codes "p") 1000000))
+    ∷ (codes "endportal p", on_portals (portal.End (codes "p")))
     ∷ [])
-unfolding read_line words_of command_of name_of number_between bytes_of class_of mode_of kind_of hex_on_literals digits
+unfolding read_line words_of command_of transaction_rows item_rows lock_rows snapshot_rows plan_rows portal_rows context_rows chunk_rows tell_rows name_of number_between bytes_of class_of mode_of kind_of hex_on_literals digits
 queries = refl
 
 -- ---- lines that are nearly in the table
@@ -125,7 +135,7 @@ pub bad_transactions : AreBad 1 (
     ∷ codes "rollback s"
     ∷ codes "rollback to s t"
     ∷ [])
-unfolding read_line words_of command_of name_of number_between bytes_of class_of mode_of kind_of hex_on_literals digits
+unfolding read_line words_of command_of transaction_rows item_rows lock_rows snapshot_rows plan_rows portal_rows context_rows chunk_rows tell_rows name_of number_between bytes_of class_of mode_of kind_of hex_on_literals digits
 bad_transactions = refl
 
 pub bad_contexts : AreBad 1 (
@@ -139,7 +149,7 @@ pub bad_contexts : AreBad 1 (
     ∷ codes "switch"
     ∷ codes "reparent w"
     ∷ [])
-unfolding read_line words_of command_of name_of number_between bytes_of class_of mode_of kind_of hex_on_literals digits
+unfolding read_line words_of command_of transaction_rows item_rows lock_rows snapshot_rows plan_rows portal_rows context_rows chunk_rows tell_rows name_of number_between bytes_of class_of mode_of kind_of hex_on_literals digits
 bad_contexts = refl
 
 pub bad_chunks : AreBad 1 (
@@ -160,7 +170,7 @@ pub bad_chunks : AreBad 1 (
     ∷ codes "show a 0 08"
     ∷ codes "show a 0"
     ∷ [])
-unfolding read_line words_of command_of name_of number_between bytes_of class_of mode_of kind_of hex_on_literals digits
+unfolding read_line words_of command_of transaction_rows item_rows lock_rows snapshot_rows plan_rows portal_rows context_rows chunk_rows tell_rows name_of number_between bytes_of class_of mode_of kind_of hex_on_literals digits
 bad_chunks = refl
 
 pub bad_shared_resources : AreBad 1 (
@@ -179,7 +189,7 @@ pub bad_shared_resources : AreBad 1 (
     ∷ codes "ref plan 9"
     ∷ codes "pop 1"
     ∷ [])
-unfolding read_line words_of command_of name_of number_between bytes_of class_of mode_of kind_of hex_on_literals digits
+unfolding read_line words_of command_of transaction_rows item_rows lock_rows snapshot_rows plan_rows portal_rows context_rows chunk_rows tell_rows name_of number_between bytes_of class_of mode_of kind_of hex_on_literals digits
 bad_shared_resources = refl
 
 pub bad_queries : AreBad 1 (
@@ -193,7 +203,7 @@ pub bad_queries : AreBad 1 (
     ∷ codes "fetch p 1000001"
     ∷ codes "endportal"
     ∷ [])
-unfolding read_line words_of command_of name_of number_between bytes_of class_of mode_of kind_of hex_on_literals digits
+unfolding read_line words_of command_of transaction_rows item_rows lock_rows snapshot_rows plan_rows portal_rows context_rows chunk_rows tell_rows name_of number_between bytes_of class_of mode_of kind_of hex_on_literals digits
 bad_queries = refl
 
 pub bad_words_and_prefixes : AreBad 1 (
@@ -209,7 +219,7 @@ pub bad_words_and_prefixes : AreBad 1 (
     ∷ codes "@ 2 begin"
     ∷ codes "@2begin"
     ∷ [])
-unfolding read_line words_of command_of name_of number_between bytes_of class_of mode_of kind_of hex_on_literals digits
+unfolding read_line words_of command_of transaction_rows item_rows lock_rows snapshot_rows plan_rows portal_rows context_rows chunk_rows tell_rows name_of number_between bytes_of class_of mode_of kind_of hex_on_literals digits
 bad_words_and_prefixes = refl
 
 -- a prefix that is good names the session, whatever stands behind it
@@ -224,32 +234,32 @@ pub bad_behind_prefix : AreBad 2 (
     ∷ codes "@2 pin 01"
     ∷ codes "@2  begin"
     ∷ [])
-unfolding read_line words_of command_of name_of number_between bytes_of class_of mode_of kind_of hex_on_literals digits
+unfolding read_line words_of command_of transaction_rows item_rows lock_rows snapshot_rows plan_rows portal_rows context_rows chunk_rows tell_rows name_of number_between bytes_of class_of mode_of kind_of hex_on_literals digits
 bad_behind_prefix = refl
 
-pub prefixed : map read_line (codes "@1 begin" ∷ codes "@8 pin 7" ∷ []) ≡ says 1 Begin ∷ says 8 (Pin 7) ∷ []
-unfolding read_line words_of command_of name_of number_between bytes_of class_of mode_of kind_of hex_on_literals digits
+pub prefixed : map read_line (codes "@1 begin" ∷ codes "@8 pin 7" ∷ []) ≡ says 1 (on_transactions transaction.Begin) ∷ says 8 (on_items (item.Pin 7)) ∷ []
+unfolding read_line words_of command_of transaction_rows item_rows lock_rows snapshot_rows plan_rows portal_rows context_rows chunk_rows tell_rows name_of number_between bytes_of class_of mode_of kind_of hex_on_literals digits
 prefixed = refl
 
 pub nothing : map read_line ([] ∷ codes "#" ∷ codes "# @2 begin" ∷ []) ≡ says 1 Nothing ∷ says 1 Nothing ∷ says 1 Nothing ∷ []
-unfolding read_line words_of command_of name_of number_between bytes_of class_of mode_of kind_of hex_on_literals digits
+unfolding read_line words_of command_of transaction_rows item_rows lock_rows snapshot_rows plan_rows portal_rows context_rows chunk_rows tell_rows name_of number_between bytes_of class_of mode_of kind_of hex_on_literals digits
 nothing = refl
 
 -- a carriage return and a zero byte are bytes like any other
 pub other_bytes : map read_line ((codes "begin" ++ 13 ∷ []) ∷ (codes "begin" ++ 0 ∷ []) ∷ (codes "release s" ++ 0 ∷ []) ∷ (13 ∷ []) ∷ []) ≡ is_bad 1 ∷ is_bad 1 ∷ is_bad 1 ∷ is_bad 1 ∷ []
-unfolding read_line words_of command_of name_of number_between bytes_of class_of mode_of kind_of hex_on_literals digits
+unfolding read_line words_of command_of transaction_rows item_rows lock_rows snapshot_rows plan_rows portal_rows context_rows chunk_rows tell_rows name_of number_between bytes_of class_of mode_of kind_of hex_on_literals digits
 other_bytes = refl
 
 -- names and bytes of the greatest length, and of one more
-pub longest_name : map read_line ((codes "free " ++ replicate 32 97) ∷ (codes "free " ++ replicate 33 97) ∷ []) ≡ says 1 (Free (replicate 32 97)) ∷ is_bad 1 ∷ []
-unfolding read_line words_of command_of name_of number_between bytes_of class_of mode_of kind_of hex_on_literals digits
+pub longest_name : map read_line ((codes "free " ++ replicate 32 97) ∷ (codes "free " ++ replicate 33 97) ∷ []) ≡ says 1 (on_chunks (chunk.Free (replicate 32 97))) ∷ is_bad 1 ∷ []
+unfolding read_line words_of command_of transaction_rows item_rows lock_rows snapshot_rows plan_rows portal_rows context_rows chunk_rows tell_rows name_of number_between bytes_of class_of mode_of kind_of hex_on_literals digits
 longest_name = refl
 
-pub most_bytes : map read_line ((codes "put a 0 " ++ replicate 256 70) ∷ (codes "put a 0 " ++ replicate 258 70) ∷ []) ≡ says 1 (Put (codes "a") 0 (replicate 128 255)) ∷ is_bad 1 ∷ []
-unfolding read_line words_of command_of name_of number_between bytes_of class_of mode_of kind_of hex_on_literals digits
+pub most_bytes : map read_line ((codes "put a 0 " ++ replicate 256 70) ∷ (codes "put a 0 " ++ replicate 258 70) ∷ []) ≡ says 1 (on_chunks (chunk.Put (codes "a") 0 (replicate 128 255))) ∷ is_bad 1 ∷ []
+unfolding read_line words_of command_of transaction_rows item_rows lock_rows snapshot_rows plan_rows portal_rows context_rows chunk_rows tell_rows name_of number_between bytes_of class_of mode_of kind_of hex_on_literals digits
 most_bytes = refl
 
 -- a line of 512 bytes is read, and one more makes it bad
 pub longest_line : map read_line ((35 ∷ replicate 511 120) ∷ (35 ∷ replicate 512 120) ∷ (codes "@3 " ++ replicate 510 120) ∷ []) ≡ says 1 Nothing ∷ is_bad 1 ∷ is_bad 3 ∷ []
-unfolding read_line words_of command_of name_of number_between bytes_of class_of mode_of kind_of hex_on_literals digits
+unfolding read_line words_of command_of transaction_rows item_rows lock_rows snapshot_rows plan_rows portal_rows context_rows chunk_rows tell_rows name_of number_between bytes_of class_of mode_of kind_of hex_on_literals digits
 longest_line = refl

@@ -10,7 +10,10 @@ mod rows;
 mod values;
 mod words;
 
-pub use commands::Command;
+pub use commands::{
+    ChunkCommand, Command, ContextCommand, ItemCommand, LockCommand, PlanCommand, PortalCommand,
+    SnapshotCommand, TellCommand, TransactionCommand, Work,
+};
 pub use hex_bytes::HexBytes;
 pub use kinds::{ContextKind, ReferenceClass};
 pub use lines::{BadLine, Line, parse_command, parse_command_into, parse_line, parse_session};

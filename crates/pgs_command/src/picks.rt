@@ -14,28 +14,15 @@ macro_rules! by_word {
     }};
 }
 
-/// Writes the value beside the text that the word is, and `None` where it is none of them.
-macro_rules! write_by_word {
-    ($word:expr, $place:expr; $($text:literal => $value:expr),* $(,)?) => {{
-        $(
-            if is_word($word, $text.as_slice()) {
-                *$place = Some($value);
-                return;
-            }
-        )*
-        *$place = None;
-    }};
-}
-
-/// Writes what stands beside the text that the word is, and `None` where it is none of them.
+/// Writes the command of the row whose text the word is, and `None` where it is that of none.
 ///
-/// That is a value of the parts that are read from the words behind it, and `None` where they aren't such parts.
-/// Where no parts are named it is what writes for itself.
+/// A row's value is made of the parts that are read from the words behind it, and is `None` where they aren't such parts; `|made|` says
+/// which command it is. A row that names no parts writes for itself.
 macro_rules! write_by_words {
-    ($word:expr, $place:expr; $($text:literal $(, $parts:pat in $read:expr)? => $written:expr),* $(,)?) => {{
+    ($word:expr, $place:expr, |$made:ident| $command:expr; $($text:literal $(, $parts:pat in $read:expr)? => $written:expr),* $(,)?) => {{
         $(
             if is_word($word, $text.as_slice()) {
-                write_parts! { $place; $written $(, $parts in $read)? }
+                write_parts! { $place, |$made| $command; $written $(, $parts in $read)? }
                 return;
             }
         )*
@@ -43,21 +30,23 @@ macro_rules! write_by_words {
     }};
 }
 
-/// Writes a value of the parts that are read, and `None` where there are none. Without parts it writes for itself.
+/// Writes the command of the parts that are read, and `None` where there are none. Without parts it writes for itself.
 macro_rules! write_parts {
-    ($place:expr; $value:expr, $parts:pat in $read:expr) => {
+    ($place:expr, |$made:ident| $command:expr; $value:expr, $parts:pat in $read:expr) => {
         match $read {
-            Some($parts) => *$place = Some($value),
+            Some($parts) => {
+                let $made = $value;
+                *$place = Some($command);
+            }
             None => *$place = None,
         }
     };
-    ($place:expr; $written:expr) => {
+    ($place:expr, |$made:ident| $command:expr; $written:expr) => {
         $written;
     };
 }
 
 pub(crate) use by_word;
-pub(crate) use write_by_word;
 pub(crate) use write_by_words;
 pub(crate) use write_parts;
 

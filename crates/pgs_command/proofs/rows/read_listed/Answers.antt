@@ -1,29 +1,96 @@
-use Rattle.std.proofs.Common.{None, refl, sym, ◌∙◌}
+use Rattle.std.proofs.Common.{sym, ◌∙◌}
 use Rattle.std.specs.Option.{option_copied}
 use Rattle.pgs_command.specs.Words.{words_in}
-use Rattle.pgs_command.proofs.TableLemmas.{table_told, or_first, is_none}
+use Rattle.pgs_command.specs.Table.{transaction_rows, item_rows, lock_rows, snapshot_rows, plan_rows, portal_rows, context_rows, chunk_rows}
+use Rattle.pgs_command.proofs.TableLemmas.{past, within}
 use Rattle.pgs_command.proofs.rows.read_listed.Goals as goal
+
+pub returns-then-is_some : goal.returns-then-is_some
+returns-then-is_some c =
+    let word = c.args.word.now in
+    let words = words_in (option_copied c.args.rest) in
+    within transaction_rows _ word words _ c.read_transaction.ensures (sym c.is_some.ensures ∙ c.if-is_some.true)
+
+pub returns-then-is_some-2 : goal.returns-then-is_some-2
+returns-then-is_some-2 c =
+    let word = c.args.word.now in
+    let words = words_in (option_copied c.args.rest) in
+    past transaction_rows _ word words _ _ c.read_transaction.ensures (sym c.is_some.ensures ∙ c.if-is_some.false)
+    (within item_rows _ word words _ c.read_item.ensures (sym c.is_some-2.ensures ∙ c.if-is_some-2.true))
 
 pub returns-then-is_some-3 : goal.returns-then-is_some-3
 returns-then-is_some-3 c =
+    let word = c.args.word.now in
     let words = words_in (option_copied c.args.rest) in
-    let no_transaction = is_none c.read_transaction.new.command (sym c.is_some.ensures ∙ c.if-is_some.false) ∙ c.read_transaction.ensures in
-    let no_context = is_none c.read_context.new.command (sym c.is_some-2.ensures ∙ c.if-is_some-2.false) ∙ c.read_context.ensures in
-    or_first c.read_chunk.new.command _ (sym c.is_some-3.ensures ∙ c.if-is_some-3.true) ∙ table_told c.args.word.now words None None c.read_chunk.new.command _ _ no_transaction no_context c.read_chunk.ensures refl refl
+    past transaction_rows _ word words _ _ c.read_transaction.ensures (sym c.is_some.ensures ∙ c.if-is_some.false)
+    (past item_rows _ word words _ _ c.read_item.ensures (sym c.is_some-2.ensures ∙ c.if-is_some-2.false)
+    (within lock_rows _ word words _ c.read_lock.ensures (sym c.is_some-3.ensures ∙ c.if-is_some-3.true)))
 
 pub returns-then-is_some-4 : goal.returns-then-is_some-4
 returns-then-is_some-4 c =
+    let word = c.args.word.now in
     let words = words_in (option_copied c.args.rest) in
-    let no_transaction = is_none c.read_transaction.new.command (sym c.is_some.ensures ∙ c.if-is_some.false) ∙ c.read_transaction.ensures in
-    let no_context = is_none c.read_context.new.command (sym c.is_some-2.ensures ∙ c.if-is_some-2.false) ∙ c.read_context.ensures in
-    let no_chunk = is_none c.read_chunk.new.command (sym c.is_some-3.ensures ∙ c.if-is_some-3.false) ∙ c.read_chunk.ensures in
-    or_first c.read_resource.new.command _ (sym c.is_some-4.ensures ∙ c.if-is_some-4.true) ∙ table_told c.args.word.now words None None None c.read_resource.new.command _ no_transaction no_context no_chunk c.read_resource.ensures refl
+    past transaction_rows _ word words _ _ c.read_transaction.ensures (sym c.is_some.ensures ∙ c.if-is_some.false)
+    (past item_rows _ word words _ _ c.read_item.ensures (sym c.is_some-2.ensures ∙ c.if-is_some-2.false)
+    (past lock_rows _ word words _ _ c.read_lock.ensures (sym c.is_some-3.ensures ∙ c.if-is_some-3.false)
+    (within snapshot_rows _ word words _ c.read_snapshot.ensures (sym c.is_some-4.ensures ∙ c.if-is_some-4.true))))
+
+pub returns-then-is_some-5 : goal.returns-then-is_some-5
+returns-then-is_some-5 c =
+    let word = c.args.word.now in
+    let words = words_in (option_copied c.args.rest) in
+    past transaction_rows _ word words _ _ c.read_transaction.ensures (sym c.is_some.ensures ∙ c.if-is_some.false)
+    (past item_rows _ word words _ _ c.read_item.ensures (sym c.is_some-2.ensures ∙ c.if-is_some-2.false)
+    (past lock_rows _ word words _ _ c.read_lock.ensures (sym c.is_some-3.ensures ∙ c.if-is_some-3.false)
+    (past snapshot_rows _ word words _ _ c.read_snapshot.ensures (sym c.is_some-4.ensures ∙ c.if-is_some-4.false)
+    (within plan_rows _ word words _ c.read_plan.ensures (sym c.is_some-5.ensures ∙ c.if-is_some-5.true)))))
+
+pub returns-then-is_some-6 : goal.returns-then-is_some-6
+returns-then-is_some-6 c =
+    let word = c.args.word.now in
+    let words = words_in (option_copied c.args.rest) in
+    past transaction_rows _ word words _ _ c.read_transaction.ensures (sym c.is_some.ensures ∙ c.if-is_some.false)
+    (past item_rows _ word words _ _ c.read_item.ensures (sym c.is_some-2.ensures ∙ c.if-is_some-2.false)
+    (past lock_rows _ word words _ _ c.read_lock.ensures (sym c.is_some-3.ensures ∙ c.if-is_some-3.false)
+    (past snapshot_rows _ word words _ _ c.read_snapshot.ensures (sym c.is_some-4.ensures ∙ c.if-is_some-4.false)
+    (past plan_rows _ word words _ _ c.read_plan.ensures (sym c.is_some-5.ensures ∙ c.if-is_some-5.false)
+    (within portal_rows _ word words _ c.read_portal.ensures (sym c.is_some-6.ensures ∙ c.if-is_some-6.true))))))
+
+pub returns-then-is_some-7 : goal.returns-then-is_some-7
+returns-then-is_some-7 c =
+    let word = c.args.word.now in
+    let words = words_in (option_copied c.args.rest) in
+    past transaction_rows _ word words _ _ c.read_transaction.ensures (sym c.is_some.ensures ∙ c.if-is_some.false)
+    (past item_rows _ word words _ _ c.read_item.ensures (sym c.is_some-2.ensures ∙ c.if-is_some-2.false)
+    (past lock_rows _ word words _ _ c.read_lock.ensures (sym c.is_some-3.ensures ∙ c.if-is_some-3.false)
+    (past snapshot_rows _ word words _ _ c.read_snapshot.ensures (sym c.is_some-4.ensures ∙ c.if-is_some-4.false)
+    (past plan_rows _ word words _ _ c.read_plan.ensures (sym c.is_some-5.ensures ∙ c.if-is_some-5.false)
+    (past portal_rows _ word words _ _ c.read_portal.ensures (sym c.is_some-6.ensures ∙ c.if-is_some-6.false)
+    (within context_rows _ word words _ c.read_context.ensures (sym c.is_some-7.ensures ∙ c.if-is_some-7.true)))))))
+
+pub returns-then-is_some-8 : goal.returns-then-is_some-8
+returns-then-is_some-8 c =
+    let word = c.args.word.now in
+    let words = words_in (option_copied c.args.rest) in
+    past transaction_rows _ word words _ _ c.read_transaction.ensures (sym c.is_some.ensures ∙ c.if-is_some.false)
+    (past item_rows _ word words _ _ c.read_item.ensures (sym c.is_some-2.ensures ∙ c.if-is_some-2.false)
+    (past lock_rows _ word words _ _ c.read_lock.ensures (sym c.is_some-3.ensures ∙ c.if-is_some-3.false)
+    (past snapshot_rows _ word words _ _ c.read_snapshot.ensures (sym c.is_some-4.ensures ∙ c.if-is_some-4.false)
+    (past plan_rows _ word words _ _ c.read_plan.ensures (sym c.is_some-5.ensures ∙ c.if-is_some-5.false)
+    (past portal_rows _ word words _ _ c.read_portal.ensures (sym c.is_some-6.ensures ∙ c.if-is_some-6.false)
+    (past context_rows _ word words _ _ c.read_context.ensures (sym c.is_some-7.ensures ∙ c.if-is_some-7.false)
+    (within chunk_rows _ word words _ c.read_chunk.ensures (sym c.is_some-8.ensures ∙ c.if-is_some-8.true))))))))
 
 pub returns : goal.returns
 returns c =
+    let word = c.args.word.now in
     let words = words_in (option_copied c.args.rest) in
-    let no_transaction = is_none c.read_transaction.new.command (sym c.is_some.ensures ∙ c.if-is_some.false) ∙ c.read_transaction.ensures in
-    let no_context = is_none c.read_context.new.command (sym c.is_some-2.ensures ∙ c.if-is_some-2.false) ∙ c.read_context.ensures in
-    let no_chunk = is_none c.read_chunk.new.command (sym c.is_some-3.ensures ∙ c.if-is_some-3.false) ∙ c.read_chunk.ensures in
-    let no_resource = is_none c.read_resource.new.command (sym c.is_some-4.ensures ∙ c.if-is_some-4.false) ∙ c.read_resource.ensures in
-    table_told c.args.word.now words None None None None c.read_query.new.command no_transaction no_context no_chunk no_resource c.read_query.ensures
+    past transaction_rows _ word words _ _ c.read_transaction.ensures (sym c.is_some.ensures ∙ c.if-is_some.false)
+    (past item_rows _ word words _ _ c.read_item.ensures (sym c.is_some-2.ensures ∙ c.if-is_some-2.false)
+    (past lock_rows _ word words _ _ c.read_lock.ensures (sym c.is_some-3.ensures ∙ c.if-is_some-3.false)
+    (past snapshot_rows _ word words _ _ c.read_snapshot.ensures (sym c.is_some-4.ensures ∙ c.if-is_some-4.false)
+    (past plan_rows _ word words _ _ c.read_plan.ensures (sym c.is_some-5.ensures ∙ c.if-is_some-5.false)
+    (past portal_rows _ word words _ _ c.read_portal.ensures (sym c.is_some-6.ensures ∙ c.if-is_some-6.false)
+    (past context_rows _ word words _ _ c.read_context.ensures (sym c.is_some-7.ensures ∙ c.if-is_some-7.false)
+    (past chunk_rows _ word words _ _ c.read_chunk.ensures (sym c.is_some-8.ensures ∙ c.if-is_some-8.false)
+    (c.read_tell.ensures))))))))

@@ -7,6 +7,7 @@ use Rattle.pgs_command.proofs.TableLemmas.{or_none}
 use Rattle.pgs_command.proofs.rows.read_transaction.Goals as goal
 
 pub returns-then-is_word-3 : goal.returns-then-is_word-3
+unfolding transaction_rows
 returns-then-is_word-3 c =
     let words = words_in (option_copied c.args.rest) in
     let word : c.args.word.now ≡ codes "rollback" = is_text-means c.args.word.now (codes "rollback") (search rules) in
